@@ -1,0 +1,4 @@
+pub mod Names
+pub mod Chains
+pub mod Entries
+pub mod Fits

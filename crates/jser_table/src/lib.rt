@@ -1,0 +1,9 @@
+//! The table of handles of a stream: which entry each handle names, and the class chain of each
+//! descriptor that has been read.
+#![tactic(auto)]
+
+mod layer;
+mod name;
+
+pub use layer::{BodyKind, Codes, Fit, Layer, LayerKind, Purpose};
+pub use name::Element;
