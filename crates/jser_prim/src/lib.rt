@@ -5,6 +5,7 @@
 #![tactic(auto)]
 
 mod device;
+mod place;
 mod sink;
 mod source;
 
