@@ -1,2 +1,3 @@
 pub mod PlaceLemmas
+pub mod TextLemmas
 pub mod Units
