@@ -143,9 +143,9 @@ accepts_unit len bytes units old byte unit accepted more fits spelled =
 
 -- the byte leaves a unit cut
 pub accepts_part : (len : ℕ) (bytes units : List ℕ) (old : Scan) (byte : ℕ) (next : Place) → HasAccepted len bytes units old → 0 < old.left
-    → CanStand (old.left - 1) next → cut_at next ≡ old.cut ++ byte ∷ []
-    → HasAccepted len (bytes ++ byte ∷ []) units (record { left = old.left - 1; cut = cut_at next; has_failed = false })
-accepts_part len bytes units old byte next accepted more can longer =
+    → CanStand (old.left - 1) next × (cut_at next ≡ old.cut ++ byte ∷ []) × (is_fault next ≡ false)
+    → HasAccepted len (bytes ++ byte ∷ []) (units ++ []) (record { left = old.left - 1; cut = cut_at next; has_failed = is_fault next })
+accepts_part len bytes units old byte next accepted more (can, longer, going) =
     let within = cut_within (old.left - 1) next can (λ none. let l = ap length (sym longer ∙ none) in omega (arith, length-append old.cut (byte ∷ []))) in
     let one : List ℕ = within.cut.unit ∷ [] in
     let are : IsUnits one = units_cons within.cut.unit [] within.cut.is_unit refl in
@@ -157,11 +157,11 @@ accepts_part len bytes units old byte next accepted more can longer =
     let long : length (bytes ++ byte ∷ []) + (old.left - 1) ≡ len = omega (arith, length-append bytes (byte ∷ []), accepted.counted) in
     record {
       begins = begins_longer len (units ++ one) (bytes ++ byte ∷ []) within.cut.rest (units-append units one accepted.are_units are) text (omega (arith, within.fits));
-      spelled = whole;
-      are_units = accepted.are_units;
+      spelled = whole ∙ ap (λ us. modified_utf8 us ++ cut_at next) (sym (append-nil units));
+      are_units = units-append units [] accepted.are_units refl;
       is_cut = within.cut;
       counted = long;
-      going = refl;
+      going = going;
     }
 
 -- where a text goes on after a cut unit, its first unit does

@@ -1,5 +1,5 @@
 -- What the private state of a scan stands for: the bytes of a unit that were read already.
-use Rattle.std.specs.Prelude.{◌≡◌, ◌≢◌, ◌<◌, ◌≤◌, ◌+◌, ◌-◌, ◌/◌, ◌%◌, ℕ, Bool, true, false, nat_lt, if◌then◌else◌, List, [], ◌∷◌, ◌++◌, length, Option, Some, None}
+use Rattle.std.specs.Prelude.{◌≡◌, ◌≢◌, ◌<◌, ◌≤◌, ◌+◌, ◌-◌, ◌/◌, ◌%◌, ℕ, Bool, true, false, nat_lt, if◌then◌else◌, List, [], ◌∷◌, ◌++◌, length}
 use Rattle.jser_prim.specs.ModifiedUtf8.{unit_spelling}
 use Rattle.jser_prim.specs.declared.place.Place.{Place}
 use Rattle.jser_prim.specs.declared.place.Place.TheVariants as place
@@ -36,7 +36,7 @@ pub record BeginsUnit (room : ℕ) (front : List ℕ) : Type 0 where
 
 -- what one more byte makes of a cut unit, where so many bytes come after it: a unit, a longer cut one,
 -- or a fault, where no unit's spelling goes on so
-abbrev pub TakesByte : ℕ → List ℕ → ℕ → Option Taken → Type 0
-TakesByte room cut byte (Some (taken.Unit unit)) = (unit < 0x10000) × (unit_spelling unit ≡ cut ++ byte ∷ [])
-TakesByte room cut byte (Some (taken.Part next)) = CanStand room next × (cut_at next ≡ cut ++ byte ∷ []) × (is_fault next ≡ false)
-TakesByte room cut byte None = BeginsUnit room (cut ++ byte ∷ []) → ⊥
+abbrev pub TakesByte : ℕ → List ℕ → ℕ → Taken → Type 0
+TakesByte room cut byte (taken.Unit unit) = (unit < 0x10000) × (unit_spelling unit ≡ cut ++ byte ∷ [])
+TakesByte room cut byte (taken.Part next) = CanStand room next × (cut_at next ≡ cut ++ byte ∷ []) × (is_fault next ≡ false)
+TakesByte room cut byte taken.Refused = BeginsUnit room (cut ++ byte ∷ []) → ⊥
