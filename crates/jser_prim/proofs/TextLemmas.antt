@@ -1,8 +1,8 @@
 -- Texts: lists of units and their spellings.
-use Rattle.std.proofs.Common.{◌≡◌, ◌≢◌, ℕ, zero, suc, ◌+◌, ◌-◌, ◌*◌, ◌<◌, ◌≤◌, ◌⊎◌, inl, inr, List, [], ◌∷◌, ◌++◌, length, replicate, IsTrue, refl, arith, sym, ap, ◌∙◌, All, rules, tests, append_assoc}
+use Rattle.std.proofs.Common.{◌≡◌, ◌≢◌, ℕ, zero, suc, ◌+◌, ◌-◌, ◌*◌, ◌<◌, ◌≤◌, ◌⊎◌, inl, inr, List, [], ◌∷◌, ◌++◌, length, take, get_or, refl, arith, sym, ap, ◌∙◌, All, rules, tests, append_assoc}
 use Rattle.std.proofs.lemmas.Bool.Decides.{nat_tests}
 use Rattle.std.proofs.lemmas.Bool.{cases_eq, cases_lt}
-use Rattle.std.proofs.lemmas.List.{append-nil, append_cancel_left, length-append, length-replicate}
+use Rattle.std.proofs.lemmas.List.{append-nil, append_cancel_left, length-append, take_more}
 use Rattle.std.proofs.lemmas.List.Elements.{All-append, All-cons, All-nil, All-same}
 use Rattle.jser_prim.specs.ModifiedUtf8.{unit_spelling, modified_utf8, IsUnits}
 use Rattle.jser_prim.proofs.Units.{OneByte, TwoBytes, ThreeBytes, form_of, same_unit, spelling_one}
@@ -129,3 +129,9 @@ length-modified_utf8 (unit ∷ units) are =
     let rest = length-modified_utf8 units (units_tail unit units are) in
     let both = length-append (unit_spelling unit) (modified_utf8 units) in
     record { least = omega (arith, one.some, rest.least); most = omega (arith, one.few, rest.most) }
+
+-- one unit more
+pub modified_utf8_more : (units : List ℕ) (i : ℕ) → i < length units → modified_utf8 (take (i + 1) units) ≡ modified_utf8 (take i units) ++ unit_spelling (get_or units i 0)
+modified_utf8_more units i inside =
+    ap modified_utf8 (take_more units i 0 inside) ∙ modified_utf8-append (take i units) (get_or units i 0 ∷ [])
+    ∙ ap (λ xs. modified_utf8 (take i units) ++ xs) (modified_utf8-one (get_or units i 0))

@@ -11,9 +11,11 @@ mod runs;
 mod scan;
 mod sink;
 mod source;
+mod spelling;
 
 pub use device::Failed;
 pub use number::{read_u16, read_u32, read_u64};
 pub use scan::{TextFault, TextFaultAfter, TextScan};
 pub use sink::{Sink, ToWrite};
 pub use source::{FromRead, Source};
+pub use spelling::{text_bytes, units_of};
