@@ -1,3 +1,4 @@
+pub mod LaneLemmas
 pub mod NumberLemmas
 pub mod PlaceLemmas
 pub mod PushLemmas

@@ -5,6 +5,7 @@
 #![tactic(auto)]
 
 mod device;
+mod lanes;
 mod number;
 mod place;
 mod runs;
