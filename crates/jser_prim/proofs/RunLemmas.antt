@@ -1,11 +1,12 @@
 -- Runs of whole units at the front of some bytes.
 use Rattle.std.proofs.Common.{◌≡◌, ◌≢◌, ℕ, suc, ◌+◌, ◌-◌, ◌*◌, ◌<◌, ◌≤◌, List, [], ◌∷◌, ◌++◌, length, take, drop, get_or, refl, arith, sym, ap, subst, ◌∙◌, append_assoc}
-use Rattle.std.proofs.lemmas.List.{append-nil, length-append, take_all}
+use Rattle.std.proofs.lemmas.List.{get_or-take, length-append, length-take-le, take-append-drop, take_all}
 use Rattle.std.proofs.Math.Seq.{take-append_seam}
 use Rattle.jser_prim.specs.ModifiedUtf8.{unit_spelling, modified_utf8, IsUnits}
-use Rattle.jser_prim.specs.Texts.{AreUnitsSpelled, FollowsUnit, IsUnitSpelled}
+use Rattle.jser_prim.specs.Lanes.{IsAsciiBetween}
+use Rattle.jser_prim.specs.Texts.{AreUnitsSpelled, FollowsUnits, IsUnitSpelled}
 use Rattle.jser_prim.proofs.Units.{spelling_one, spelling_two, spelling_three}
-use Rattle.jser_prim.proofs.TextLemmas.{modified_utf8-append, modified_utf8-one, units-append, units_cons, length-unit_spelling}
+use Rattle.jser_prim.proofs.TextLemmas.{modified_utf8-append, modified_utf8-one, units-append, units_cons}
 
 pub one_is_spelled : (first : ℕ) → 1 ≤ first → first < 0x80 → IsUnitSpelled (first ∷ [])
 one_is_spelled first from to = record { unit = first; is_unit = omega arith; spelled = spelling_one first from to }
@@ -37,22 +38,64 @@ three_are_spelled first second third f f' s s' long t t' =
         ∙ ap (λ b. b ∷ (0x80 + (second - 0x80)) ∷ (0x80 + (third - 0x80)) ∷ []) high ∙ ap (λ b. first ∷ b ∷ (0x80 + (third - 0x80)) ∷ []) middle ∙ ap (λ b. first ∷ second ∷ b ∷ []) low;
     }
 
--- a tail, as a slice pattern gives it
-pub follows_one : (bytes : List ℕ) → 1 ≤ length bytes → IsUnitSpelled (get_or bytes 0 0 ∷ []) → FollowsUnit bytes (take (length bytes - 1) (drop 1 bytes))
-follows_one [] some unit = absurd (omega arith)
-follows_one (a ∷ rest) some unit = record { front = a ∷ []; unit = unit; split = ap (λ xs. a ∷ xs) (sym (take_all (suc (length rest) - 1) rest (omega arith))) }
+-- one unit is some
+one_unit : (front : List ℕ) → IsUnitSpelled front → AreUnitsSpelled front
+one_unit front unit = record { units = unit.unit ∷ []; are_units = units_cons unit.unit [] unit.is_unit refl; spelled = modified_utf8-one unit.unit ∙ unit.spelled }
 
-pub follows_two : (bytes : List ℕ) → 2 ≤ length bytes → IsUnitSpelled (get_or bytes 0 0 ∷ get_or bytes 1 0 ∷ []) → FollowsUnit bytes (take (length bytes - 2) (drop 2 bytes))
+-- units, and then more
+units_joined : (xs ys : List ℕ) → AreUnitsSpelled xs → AreUnitsSpelled ys → AreUnitsSpelled (xs ++ ys)
+units_joined xs ys us vs =
+    let first = us.spelled in
+    let second = vs.spelled in
+    record {
+      units = us.units ++ vs.units;
+      are_units = units-append us.units vs.units us.are_units vs.are_units;
+      spelled = modified_utf8-append us.units vs.units ∙ cc;
+    }
+
+-- plain ASCII is units of one byte each
+ascii_units : (bytes : List ℕ) → ((k : ℕ) → k < length bytes → (1 ≤ get_or bytes k 0) × (get_or bytes k 0 < 0x80)) → AreUnitsSpelled bytes
+ascii_units [] ascii = record { units = []; are_units = refl; spelled = refl }
+ascii_units (b ∷ bytes) ascii =
+    let first = ascii 0 (omega arith) in
+    units_joined (b ∷ []) bytes (one_unit (b ∷ []) (one_is_spelled b first.0 first.1)) (ascii_units bytes (λ k inside. ascii (suc k) (omega arith)))
+
+-- what follows a unit, where a slice pattern gives the tail, and what follows the plain ASCII after it
+follows_unit : (bytes front tail : List ℕ) → IsUnitSpelled front → 0 < length front → bytes ≡ front ++ tail → FollowsUnits bytes tail
+follows_unit bytes front tail unit some split = record { front = front; units = one_unit front unit; some = some; split = split }
+
+pub follows_run : (bytes after : List ℕ) (run : ℕ) → 1 ≤ length bytes → IsUnitSpelled (get_or bytes 0 0 ∷ [])
+    → run ≤ length (take (length bytes - 1) (drop 1 bytes)) → IsAsciiBetween (take (length bytes - 1) (drop 1 bytes)) 0 run
+    → after ≡ drop run (take (length bytes - 1) (drop 1 bytes)) → FollowsUnits bytes after
+follows_run [] after run some unit within ascii is = absurd (omega arith)
+follows_run (a ∷ rest) after run some unit within ascii is =
+    let whole : take (suc (length rest) - 1) rest ≡ rest = take_all (suc (length rest) - 1) rest (omega arith) in
+    let fits : run ≤ length rest = subst (λ xs. run ≤ length xs) whole within in
+    let plain = subst (λ xs. IsAsciiBetween xs 0 run) whole ascii in
+    let units = ascii_units (take run rest) (λ k inside.
+      let before : k < run = omega (arith, inside, length-take-le run rest fits) in
+      subst (λ b. (1 ≤ b) × (b < 0x80)) (sym (get_or-take run rest k 0 before)) (plain k (omega arith) before)) in
+    record {
+      front = a ∷ take run rest;
+      units = units_joined (a ∷ []) (take run rest) (one_unit (a ∷ []) unit) units;
+      some = omega arith;
+      split = ap (λ xs. a ∷ xs) (sym (take-append-drop run rest) ∙ ap (λ xs. take run rest ++ xs) (ap (drop run) (sym whole) ∙ sym is));
+    }
+
+pub follows_two : (bytes : List ℕ) → 2 ≤ length bytes → IsUnitSpelled (get_or bytes 0 0 ∷ get_or bytes 1 0 ∷ []) → FollowsUnits bytes (take (length bytes - 2) (drop 2 bytes))
 follows_two [] some unit = absurd (omega arith)
 follows_two (a ∷ []) some unit = absurd (omega arith)
-follows_two (a ∷ b ∷ rest) some unit = record { front = a ∷ b ∷ []; unit = unit; split = ap (λ xs. a ∷ b ∷ xs) (sym (take_all (suc (suc (length rest)) - 2) rest (omega arith))) }
+follows_two (a ∷ b ∷ rest) some unit =
+    follows_unit (a ∷ b ∷ rest) (a ∷ b ∷ []) (take (suc (suc (length rest)) - 2) rest) unit (omega arith)
+    (ap (λ xs. a ∷ b ∷ xs) (sym (take_all (suc (suc (length rest)) - 2) rest (omega arith))))
 
-pub follows_three : (bytes : List ℕ) → 3 ≤ length bytes → IsUnitSpelled (get_or bytes 0 0 ∷ get_or bytes 1 0 ∷ get_or bytes 2 0 ∷ []) → FollowsUnit bytes (take (length bytes - 3) (drop 3 bytes))
+pub follows_three : (bytes : List ℕ) → 3 ≤ length bytes → IsUnitSpelled (get_or bytes 0 0 ∷ get_or bytes 1 0 ∷ get_or bytes 2 0 ∷ []) → FollowsUnits bytes (take (length bytes - 3) (drop 3 bytes))
 follows_three [] some unit = absurd (omega arith)
 follows_three (a ∷ []) some unit = absurd (omega arith)
 follows_three (a ∷ b ∷ []) some unit = absurd (omega arith)
 follows_three (a ∷ b ∷ c ∷ rest) some unit =
-    record { front = a ∷ b ∷ c ∷ []; unit = unit; split = ap (λ xs. a ∷ b ∷ c ∷ xs) (sym (take_all (suc (suc (suc (length rest))) - 3) rest (omega arith))) }
+    follows_unit (a ∷ b ∷ c ∷ rest) (a ∷ b ∷ c ∷ []) (take (suc (suc (suc (length rest))) - 3) rest) unit (omega arith)
+    (ap (λ xs. a ∷ b ∷ c ∷ xs) (sym (take_all (suc (suc (suc (length rest))) - 3) rest (omega arith))))
 
 -- units were passed, and these bytes are left
 pub record Passed (bytes rest : List ℕ) : Type 0 where
@@ -63,34 +106,15 @@ pub record Passed (bytes rest : List ℕ) : Type 0 where
 pub passed_none : (bytes : List ℕ) → Passed bytes bytes
 passed_none bytes = record { front = []; units = record { units = []; are_units = refl; spelled = refl }; split = refl }
 
-pub units_joined : (xs ys : List ℕ) → AreUnitsSpelled xs → AreUnitsSpelled ys → AreUnitsSpelled (xs ++ ys)
-units_joined xs ys us vs =
-    let first = us.spelled in
-    let second = vs.spelled in
-    record {
-      units = us.units ++ vs.units;
-      are_units = units-append us.units vs.units us.are_units vs.are_units;
-      spelled = modified_utf8-append us.units vs.units ∙ cc;
-    }
-
-unit_joined : (xs ys : List ℕ) → AreUnitsSpelled xs → IsUnitSpelled ys → AreUnitsSpelled (xs ++ ys)
-unit_joined xs ys us unit = units_joined xs ys us (record {
-  units = unit.unit ∷ [];
-  are_units = units_cons unit.unit [] unit.is_unit refl;
-  spelled = modified_utf8-one unit.unit ∙ unit.spelled;
-})
-
-pub passed_unit : (bytes rest tail : List ℕ) → Passed bytes rest → FollowsUnit rest tail → Passed bytes tail
-passed_unit bytes rest tail passed follows = record {
+pub passed_more : (bytes rest tail : List ℕ) → Passed bytes rest → FollowsUnits rest tail → Passed bytes tail
+passed_more bytes rest tail passed follows = record {
   front = passed.front ++ follows.front;
-  units = unit_joined passed.front follows.front passed.units follows.unit;
+  units = units_joined passed.front follows.front passed.units follows.units;
   split = passed.split ∙ ap (λ xs. passed.front ++ xs) follows.split ∙ sym (append_assoc passed.front follows.front tail);
 }
 
-pub shorter_tail : (bytes tail : List ℕ) → FollowsUnit bytes tail → length tail < length bytes
-shorter_tail bytes tail follows =
-    let some = length-unit_spelling follows.unit.unit follows.unit.is_unit in
-    omega (arith, some.some, ap length follows.unit.spelled, ap length follows.split, length-append follows.front tail)
+pub shorter_tail : (bytes tail : List ℕ) → FollowsUnits bytes tail → length tail < length bytes
+shorter_tail bytes tail follows = omega (arith, follows.some, ap length follows.split, length-append follows.front tail)
 
 pub passed_within : (bytes rest : List ℕ) → Passed bytes rest → length rest ≤ length bytes
 passed_within bytes rest passed = omega (arith, ap length passed.split, length-append passed.front rest)

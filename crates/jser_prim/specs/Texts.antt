@@ -15,10 +15,11 @@ pub record IsUnitSpelled (bytes : List ℕ) : Type 0 where
   pub is_unit : unit < 0x10000
   pub spelled : unit_spelling unit ≡ bytes
 
--- these bytes are a unit's spelling, and then the tail
-pub record FollowsUnit (bytes tail : List ℕ) : Type 0 where
+-- these bytes are the spellings of some units, at least one, and then the tail
+pub record FollowsUnits (bytes tail : List ℕ) : Type 0 where
   pub front : List ℕ
-  pub unit : IsUnitSpelled front
+  pub units : AreUnitsSpelled front
+  pub some : 0 < length front
   pub split : bytes ≡ front ++ tail
 
 -- these bytes are the front of a text of `len` bytes

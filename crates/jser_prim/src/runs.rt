@@ -1,27 +1,33 @@
 //! Whole units of a text at once.
 ghost use Rattle.std.specs.Prelude.{◌≡◌, ◌<◌, ◌≤◌, [], ◌∷◌, IsTrue, IfSome, length, take};
-ghost use Rattle.jser_prim.specs.Texts.{AreUnitsSpelled, FollowsUnit, IsUnitSpelled};
+ghost use Rattle.jser_prim.specs.Texts.{AreUnitsSpelled, FollowsUnits, IsUnitSpelled};
+
+use crate::lanes::ascii_len;
 
 /// How many bytes at the front of `bytes` are spellings of whole units. It may stop before their end.
-#[tactic(auto, using(crate::proofs::RunLemmas::passed_none, crate::proofs::RunLemmas::passed_unit, crate::proofs::RunLemmas::shorter_tail, crate::proofs::RunLemmas::passed_within, crate::proofs::RunLemmas::passed_front))]
+#[tactic(auto, using(crate::proofs::RunLemmas::passed_none, crate::proofs::RunLemmas::passed_more, crate::proofs::RunLemmas::shorter_tail, crate::proofs::RunLemmas::passed_within, crate::proofs::RunLemmas::passed_front))]
 pub(crate) fn spelled_len(bytes: &[u8]) -> usize
     ensures within { result ≤ length bytes.now }
     ensures spelled { AreUnitsSpelled (take result bytes.now) }
 {
     let mut rest = bytes;
-    'units: while let Some(tail) = after_unit(rest) {
+    'units: while let Some(tail) = after_units(rest) {
         rest = tail;
     }
     bytes.len() - rest.len()
 }
 
-/// What follows the unit whose spelling is at the front of `bytes`, if one is.
-#[tactic(auto, using(crate::proofs::RunLemmas::follows_one, crate::proofs::RunLemmas::follows_two, crate::proofs::RunLemmas::follows_three))]
-fn after_unit(bytes: &[u8]) -> Option<&[u8]>
-    ensures { IfSome result (λ tail. FollowsUnit bytes.now tail.now) }
+/// What follows the run of units of one byte, or the one longer unit, that is at the front of `bytes`, if
+/// one is.
+#[tactic(auto, using(crate::proofs::RunLemmas::follows_run, crate::proofs::RunLemmas::follows_two, crate::proofs::RunLemmas::follows_three))]
+fn after_units(bytes: &[u8]) -> Option<&[u8]>
+    ensures { IfSome result (λ tail. FollowsUnits bytes.now tail.now) }
 {
     match bytes {
-        [first, tail @ ..] if is_one(*first) => Some(tail),
+        [first, tail @ ..] if is_one(*first) => {
+            let (_, after) = tail.split_at(ascii_len(tail));
+            Some(after)
+        }
         [first, second, tail @ ..] if is_two(*first, *second) => Some(tail),
         [first, second, third, tail @ ..] if is_three(*first, *second, *third) => Some(tail),
         _ => None,
