@@ -46,7 +46,8 @@ impl Model for TextScan {
 impl TextScan {
     /// A scan of a text of `len` bytes.
     pub fn new(len: u64) -> TextScan
-        ensures { HasAccepted len [] [] result }
+        ensures accepted { HasAccepted len [] [] result }
+        ensures left { result.left ≡ len }
     {
         TextScan {
             left: len,
@@ -115,6 +116,7 @@ impl TextScan {
             → OnOk result (HasAcceptedAfter len (before ++ bytes.now) units self.new) }
         ensures fault { (len : ℕ) (before units : List ℕ) → HasAccepted len before units self.old
             → IfErr result (λ fault. FaultsAfter len before bytes.now fault.accepted) }
+        ensures within { IfErr result (λ fault. fault.accepted < length bytes.now) }
         ensures left { OnOk result (self.new.left + length bytes.now ≡ self.old.left) }
         ensures failed { OnErr result (self.new.has_failed ≡ true) }
         ensures stays { self.old.has_failed ≡ true → self.new ≡ self.old }
@@ -168,3 +170,6 @@ impl TextScan {
         len
     }
 }
+
+#[cfg(test)]
+mod tests;
