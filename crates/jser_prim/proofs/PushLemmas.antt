@@ -151,14 +151,14 @@ pushed_none scan bytes = record { front = []; split = refl; pushes = pushes_noth
 -- more of them were pushed
 pub pushed_more : (old now new : Scan) (bytes rest tail : List ℕ) (count : ℕ) → Pushed old now bytes rest → PushesFront now rest count new
     → tail ≡ drop count rest → Pushed old new bytes tail
-pushed_more old now new bytes rest tail count before turn is = 
+pushed_more old now new bytes rest tail count before turn is =
     let long : length (take count rest) ≡ count = length-take-le count rest turn.within in
     record {
       front = before.front ++ take count rest;
       split = before.split ∙ ap (λ xs. before.front ++ xs) (sym (take-append-drop count rest)) ∙ sym (append_assoc before.front (take count rest) (drop count rest))
-        ∙ ap (λ xs. (before.front ++ take count rest) ++ xs) (sym is);
+          ∙ ap (λ xs. (before.front ++ take count rest) ++ xs) (sym is);
       pushes = subst (λ n. Pushes old (before.front ++ take count rest) n new) (sym (length-append before.front (take count rest)))
-        (pushes_on old now new before.front (take count rest) (length (take count rest)) before.pushes (subst (λ n. Pushes now (take count rest) n new) (sym long) turn.pushes));
+          (pushes_on old now new before.front (take count rest) (length (take count rest)) before.pushes (subst (λ n. Pushes now (take count rest) n new) (sym long) turn.pushes));
     }
 
 -- the next of them is a fault
@@ -170,7 +170,7 @@ pushed_to_fault old now new bytes rest count before turn =
     record {
       within = omega (arith, turn.within);
       pushes = subst (λ n. Pushes old bytes n new) at (subst (λ xs. Pushes old xs (length before.front + count) new) (sym before.split)
-        (pushes_on old now new before.front rest count before.pushes turn.pushes));
+          (pushes_on old now new before.front rest count before.pushes turn.pushes));
     }
 
 -- all of them were pushed
@@ -202,7 +202,7 @@ skips_units left at bytes count is room within spelled =
     subst P (sym is) (record {
       within = within;
       pushes = subst (λ n. Pushes (record { left = left; cut = []; has_failed = false }) (take count bytes) n (record { left = left - n; cut = []; has_failed = false })) long
-        (pushes_units (record { left = left; cut = []; has_failed = false }) (take count bytes) refl refl (omega arith) spelled);
+          (pushes_units (record { left = left; cut = []; has_failed = false }) (take count bytes) refl refl (omega arith) spelled);
     })
 
 -- the bytes up to one of them
@@ -222,7 +222,7 @@ front_and_byte old mid new bytes tail count front is some turn =
     record {
       within = split.1;
       pushes = subst (λ xs. Pushes old xs (count + 1) new) (sym split.0) (subst (λ n. Pushes old (take count bytes ++ get_or tail 0 0 ∷ []) (n + 1) new) long
-        (pushes_on old mid new (take count bytes) (get_or tail 0 0 ∷ []) 1 (subst (λ n. Pushes old (take count bytes) n mid) (sym long) front.pushes) turn));
+          (pushes_on old mid new (take count bytes) (get_or tail 0 0 ∷ []) 1 (subst (λ n. Pushes old (take count bytes) n mid) (sym long) front.pushes) turn));
     }
 
 pub front_and_fault : (old mid new : Scan) (bytes tail : List ℕ) (count : ℕ) → PushesFront old bytes count mid → tail ≡ drop count bytes → 0 < length tail
@@ -232,9 +232,9 @@ front_and_fault old mid new bytes tail count front is some turn =
     let split = split_one bytes tail count is some front.within in
     let upto : Pushes old (take (count + 1) bytes) count new =
     subst (λ xs. Pushes old xs count new) (sym split.0) (subst (λ n. Pushes old (take count bytes ++ get_or tail 0 0 ∷ []) n new) (omega (arith, long))
-      (pushes_on old mid new (take count bytes) (get_or tail 0 0 ∷ []) 0 (subst (λ n. Pushes old (take count bytes) n mid) (sym long) front.pushes) turn)) in
+    (pushes_on old mid new (take count bytes) (get_or tail 0 0 ∷ []) 0 (subst (λ n. Pushes old (take count bytes) n mid) (sym long) front.pushes) turn)) in
     record {
       within = omega (arith, split.1);
       pushes = subst (λ xs. Pushes old xs count new) (take-append-drop (count + 1) bytes)
-        (pushes_stop old new (take (count + 1) bytes) (drop (count + 1) bytes) count (omega (arith, length-take-le (count + 1) bytes split.1)) upto);
+          (pushes_stop old new (take (count + 1) bytes) (drop (count + 1) bytes) count (omega (arith, length-take-le (count + 1) bytes split.1)) upto);
     }

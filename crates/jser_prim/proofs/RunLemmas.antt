@@ -2,7 +2,6 @@
 use Rattle.std.proofs.Common.{◌≡◌, ◌≢◌, ℕ, suc, ◌+◌, ◌-◌, ◌*◌, ◌<◌, ◌≤◌, List, [], ◌∷◌, ◌++◌, length, take, drop, get_or, refl, arith, sym, ap, subst, ◌∙◌, append_assoc}
 use Rattle.std.proofs.lemmas.List.{get_or-take, length-append, length-take-le, take-append-drop, take_all}
 use Rattle.std.proofs.Math.Seq.{take-append_seam}
-use Rattle.jser_prim.specs.ModifiedUtf8.{unit_spelling, modified_utf8, IsUnits}
 use Rattle.jser_prim.specs.Lanes.{IsAsciiBetween}
 use Rattle.jser_prim.specs.Texts.{AreUnitsSpelled, FollowsUnits, IsUnitSpelled}
 use Rattle.jser_prim.proofs.Units.{spelling_one, spelling_two, spelling_three}
@@ -21,7 +20,7 @@ two_are_spelled first second f f' not_ascii s s' null =
       unit = unit;
       is_unit = omega arith;
       spelled = spelling_two (first - 0xC0) (second - 0x80) unit refl (omega arith) (omega arith) (λ e. not_ascii (omega arith)) (λ e. let z = null (omega arith) in omega arith)
-        ∙ ap (λ b. b ∷ (0x80 + (second - 0x80)) ∷ []) high ∙ ap (λ b. first ∷ b ∷ []) low;
+          ∙ ap (λ b. b ∷ (0x80 + (second - 0x80)) ∷ []) high ∙ ap (λ b. first ∷ b ∷ []) low;
     }
 
 pub three_are_spelled : (first second third : ℕ) → 0xE0 ≤ first → first < 0xF0 → 0x80 ≤ second → second < 0xC0 → (first ≡ 0xE0 → 0xA0 ≤ second) → 0x80 ≤ third → third < 0xC0
@@ -35,7 +34,7 @@ three_are_spelled first second third f f' s s' long t t' =
       unit = unit;
       is_unit = omega arith;
       spelled = spelling_three (first - 0xE0) (second - 0x80) (third - 0x80) unit refl (omega arith) (omega arith) (omega arith) (grind arith)
-        ∙ ap (λ b. b ∷ (0x80 + (second - 0x80)) ∷ (0x80 + (third - 0x80)) ∷ []) high ∙ ap (λ b. first ∷ b ∷ (0x80 + (third - 0x80)) ∷ []) middle ∙ ap (λ b. first ∷ second ∷ b ∷ []) low;
+          ∙ ap (λ b. b ∷ (0x80 + (second - 0x80)) ∷ (0x80 + (third - 0x80)) ∷ []) high ∙ ap (λ b. first ∷ b ∷ (0x80 + (third - 0x80)) ∷ []) middle ∙ ap (λ b. first ∷ second ∷ b ∷ []) low;
     }
 
 -- one unit is some
@@ -73,8 +72,8 @@ follows_run (a ∷ rest) after run some unit within ascii is =
     let fits : run ≤ length rest = subst (λ xs. run ≤ length xs) whole within in
     let plain = subst (λ xs. IsAsciiBetween xs 0 run) whole ascii in
     let units = ascii_units (take run rest) (λ k inside.
-      let before : k < run = omega (arith, inside, length-take-le run rest fits) in
-      subst (λ b. (1 ≤ b) × (b < 0x80)) (sym (get_or-take run rest k 0 before)) (plain k (omega arith) before)) in
+    let before : k < run = omega (arith, inside, length-take-le run rest fits) in
+    subst (λ b. (1 ≤ b) × (b < 0x80)) (sym (get_or-take run rest k 0 before)) (plain k (omega arith) before)) in
     record {
       front = a ∷ take run rest;
       units = units_joined (a ∷ []) (take run rest) (one_unit (a ∷ []) unit) units;

@@ -1,16 +1,15 @@
 -- What a scan has accepted begins a text, one byte after another.
-use Rattle.std.proofs.Common.{◌≡◌, ◌≢◌, ℕ, zero, suc, ◌+◌, ◌-◌, ◌*◌, ◌<◌, ◌≤◌, ◌⊎◌, inl, inr, List, [], ◌∷◌, ◌++◌, length, replicate, refl, arith, sym, ap, subst, ◌∙◌, Bool, true, false, rules, append_assoc}
-use Rattle.std.proofs.lemmas.List.{append-nil, append_cancel_left, length-append, length-replicate, nil_from_length}
-use Rattle.std.proofs.lemmas.Bool.Decides.{nat_tests}
+use Rattle.std.proofs.Common.{◌≡◌, ◌≢◌, ℕ, zero, suc, ◌+◌, ◌-◌, ◌*◌, ◌<◌, ◌≤◌, inl, inr, List, [], ◌∷◌, ◌++◌, length, replicate, refl, arith, sym, ap, ◌∙◌, false, append_assoc}
+use Rattle.std.proofs.lemmas.List.{append-nil, length-append, length-replicate, nil_from_length}
 use Rattle.std.proofs.lemmas.Bool.{cases_lt}
 use Rattle.jser_prim.specs.ModifiedUtf8.{unit_spelling, modified_utf8, IsUnits}
 use Rattle.jser_prim.specs.Texts.{BeginsText, IsCutUnit, Scan, HasAccepted}
 use Rattle.jser_prim.specs.Places.{cut_at, is_fault, CanStand, BeginsUnit}
 use Rattle.jser_prim.specs.declared.place.Place.{Place}
 use Rattle.jser_prim.specs.declared.place.Place.TheVariants as place
-use Rattle.jser_prim.proofs.Units.{same_unit, spelling_one, spelling_two, spelling_three}
+use Rattle.jser_prim.proofs.Units.{same_unit, spelling_one, spelling_three}
 use Rattle.jser_prim.proofs.PlaceLemmas.{last_unit}
-use Rattle.jser_prim.proofs.TextLemmas.{GoesOn, text_goes_on, modified_utf8-append, modified_utf8-one, units-append, units_cons, units_head, units_tail}
+use Rattle.jser_prim.proofs.TextLemmas.{text_goes_on, modified_utf8-append, modified_utf8-one, units-append, units_cons, units_head}
 
 -- ---- texts that begin so
 
@@ -93,7 +92,9 @@ cut_middle room high fits enough =
 cut_last : (room high : ℕ) → high < 1024 → high ≢ 1 → 1 ≤ room → CutWithin room (cut_at (place.Last high))
 cut_last room high fits not_ascii enough = record {
   cut = record {
-    unit = 64 * high; rest = 0x80 ∷ []; is_unit = omega arith;
+    unit = 64 * high;
+    rest = 0x80 ∷ [];
+    is_unit = omega arith;
     spelled = last_unit high 0x80 (64 * high) fits not_ascii (omega arith) (omega arith) (λ _. refl) (omega arith);
     goes_on = omega arith;
   };
@@ -111,7 +112,7 @@ no_text_is_cut : (cut units : List ℕ) → IsCutUnit cut → IsUnits units → 
 no_text_is_cut cut [] is_cut are e = sym e
 no_text_is_cut cut (w ∷ ws) is_cut are e =
     let same = same_unit is_cut.unit w [] (modified_utf8 ws ++ is_cut.rest) is_cut.is_unit (units_head w ws are)
-      (append-nil (unit_spelling is_cut.unit) ∙ is_cut.spelled ∙ ap (λ xs. xs ++ is_cut.rest) (sym e) ∙ append_assoc (unit_spelling w) (modified_utf8 ws) is_cut.rest) in
+    (append-nil (unit_spelling is_cut.unit) ∙ is_cut.spelled ∙ ap (λ xs. xs ++ is_cut.rest) (sym e) ∙ append_assoc (unit_spelling w) (modified_utf8 ws) is_cut.rest) in
     absurd (omega (arith, ap length same.1, length-append (modified_utf8 ws) is_cut.rest, is_cut.goes_on))
 
 -- ---- one byte more
@@ -182,7 +183,7 @@ goes_on_in_unit room cut byte (w ∷ ws) rest is_cut are e fits = elim (cases_lt
   | inr within ↦
       let reach = reaches cut (byte ∷ rest) (unit_spelling w) (modified_utf8 ws) (sym (append_assoc cut (byte ∷ []) rest) ∙ sym e) within in
       let same = same_unit is_cut.unit w [] (reach.over ++ is_cut.rest) is_cut.is_unit (units_head w ws are)
-        (append-nil (unit_spelling is_cut.unit) ∙ is_cut.spelled ∙ ap (λ xs. xs ++ is_cut.rest) reach.longer ∙ append_assoc (unit_spelling w) reach.over is_cut.rest) in
+      (append-nil (unit_spelling is_cut.unit) ∙ is_cut.spelled ∙ ap (λ xs. xs ++ is_cut.rest) reach.longer ∙ append_assoc (unit_spelling w) reach.over is_cut.rest) in
       absurd (omega (arith, ap length same.1, length-append reach.over is_cut.rest, is_cut.goes_on))
 ]
 

@@ -1,11 +1,9 @@
 -- Texts: lists of units and their spellings.
-use Rattle.std.proofs.Common.{◌≡◌, ◌≢◌, ℕ, zero, suc, ◌+◌, ◌-◌, ◌*◌, ◌<◌, ◌≤◌, ◌⊎◌, inl, inr, List, [], ◌∷◌, ◌++◌, length, take, get_or, refl, arith, sym, ap, ◌∙◌, All, rules, tests, append_assoc}
-use Rattle.std.proofs.lemmas.Bool.Decides.{nat_tests}
-use Rattle.std.proofs.lemmas.Bool.{cases_eq, cases_lt}
-use Rattle.std.proofs.lemmas.List.{append-nil, append_cancel_left, length-append, take_more}
+use Rattle.std.proofs.Common.{◌≡◌, ℕ, ◌+◌, ◌*◌, ◌<◌, ◌≤◌, inl, inr, List, [], ◌∷◌, ◌++◌, length, take, get_or, refl, arith, sym, ap, ◌∙◌, All, rules, tests, append_assoc}
+use Rattle.std.proofs.lemmas.List.{append-nil, length-append, take_more}
 use Rattle.std.proofs.lemmas.List.Elements.{All-append, All-cons, All-nil, All-same}
 use Rattle.jser_prim.specs.ModifiedUtf8.{unit_spelling, modified_utf8, IsUnits}
-use Rattle.jser_prim.proofs.Units.{OneByte, TwoBytes, ThreeBytes, form_of, same_unit, spelling_one}
+use Rattle.jser_prim.proofs.Units.{form_of, same_unit}
 
 -- of a list of units the first and the rest are units
 pub units_head : (unit : ℕ) (units : List ℕ) → IsUnits (unit ∷ units) → unit < 0x10000
@@ -39,9 +37,9 @@ pub length-unit_spelling : (unit : ℕ) → unit < 0x10000 → HasOneToThree (un
 length-unit_spelling unit fits = elim (form_of unit fits) [
   | inl one ↦ let e = ap length one.spelled in record { some = omega arith; few = omega arith }
   | inr more ↦ elim more [
-      | inl two ↦ let e = ap length two.spelled in record { some = omega arith; few = omega arith }
-      | inr three ↦ let e = ap length three.spelled in record { some = omega arith; few = omega arith }
-    ]
+    | inl two ↦ let e = ap length two.spelled in record { some = omega arith; few = omega arith }
+    | inr three ↦ let e = ap length three.spelled in record { some = omega arith; few = omega arith }
+  ]
 ]
 
 -- a text with units has bytes
@@ -64,7 +62,7 @@ text_goes_on [] vs xs are-us are-vs e = record { more = vs; are_units = are-vs; 
 text_goes_on (u ∷ us) [] xs are-us are-vs e = absurd (some_bytes u us xs are-us (sym e))
 text_goes_on (u ∷ us) (v ∷ vs) xs are-us are-vs e =
     let parts = same_unit v u (modified_utf8 vs) (modified_utf8 us ++ xs) (units_head v vs are-vs) (units_head u us are-us)
-      (e ∙ append_assoc (unit_spelling u) (modified_utf8 us) xs) in
+    (e ∙ append_assoc (unit_spelling u) (modified_utf8 us) xs) in
     let rest = text_goes_on us vs xs (units_tail u us are-us) (units_tail v vs are-vs) parts.1 in
     let head : v ≡ u = parts.0 in
     let tail : vs ≡ us ++ rest.more = rest.whole in
@@ -75,18 +73,18 @@ pub same_units : (us vs xs ys : List ℕ) → IsUnits us → IsUnits vs → leng
     → modified_utf8 us ++ xs ≡ modified_utf8 vs ++ ys → (us ≡ vs) × (xs ≡ ys)
 same_units [] [] xs ys are-us are-vs long e = (refl, e)
 same_units [] (v ∷ vs) xs ys are-us are-vs long e = absurd (
-  let some = length-unit_spelling v (units_head v vs are-vs) in
-  omega (arith, length-append (unit_spelling v) (modified_utf8 vs), some.some))
+    let some = length-unit_spelling v (units_head v vs are-vs) in
+    omega (arith, length-append (unit_spelling v) (modified_utf8 vs), some.some))
 same_units (u ∷ us) [] xs ys are-us are-vs long e = absurd (
-  let some = length-unit_spelling u (units_head u us are-us) in
-  omega (arith, length-append (unit_spelling u) (modified_utf8 us), some.some))
+    let some = length-unit_spelling u (units_head u us are-us) in
+    omega (arith, length-append (unit_spelling u) (modified_utf8 us), some.some))
 same_units (u ∷ us) (v ∷ vs) xs ys are-us are-vs long e =
     let parts = same_unit u v (modified_utf8 us ++ xs) (modified_utf8 vs ++ ys) (units_head u us are-us) (units_head v vs are-vs)
-      (sym (append_assoc (unit_spelling u) (modified_utf8 us) xs) ∙ e ∙ append_assoc (unit_spelling v) (modified_utf8 vs) ys) in
+    (sym (append_assoc (unit_spelling u) (modified_utf8 us) xs) ∙ e ∙ append_assoc (unit_spelling v) (modified_utf8 vs) ys) in
     let head : u ≡ v = parts.0 in
     let heads : length (unit_spelling u) ≡ length (unit_spelling v) = ap (λ w. length (unit_spelling w)) head in
     let tails = same_units us vs xs ys (units_tail u us are-us) (units_tail v vs are-vs)
-      (omega (arith, heads, length-append (unit_spelling u) (modified_utf8 us), length-append (unit_spelling v) (modified_utf8 vs))) parts.1 in
+    (omega (arith, heads, length-append (unit_spelling u) (modified_utf8 us), length-append (unit_spelling v) (modified_utf8 vs))) parts.1 in
     let rest : us ≡ vs = tails.0 in
     (cc, tails.1)
 
@@ -102,14 +100,14 @@ unit_spelling-fits unit fits = elim (form_of unit fits) [
   | inl one ↦ All-same (λ b. b < 256) (unit_spelling unit) (unit ∷ []) one.spelled
       (All-cons (λ b. b < 256) unit [] (omega (arith, one.below)) (All-nil (λ b. b < 256)))
   | inr more ↦ elim more [
-      | inl two ↦ All-same (λ b. b < 256) (unit_spelling unit) ((0xC0 + two.high) ∷ (0x80 + two.low) ∷ []) two.spelled
-          (All-cons (λ b. b < 256) (0xC0 + two.high) ((0x80 + two.low) ∷ []) (omega (arith, two.high_fits))
-            (All-cons (λ b. b < 256) (0x80 + two.low) [] (omega (arith, two.low_fits)) (All-nil (λ b. b < 256))))
-      | inr three ↦ All-same (λ b. b < 256) (unit_spelling unit) ((0xE0 + three.high) ∷ (0x80 + three.middle) ∷ (0x80 + three.low) ∷ []) three.spelled
-          (All-cons (λ b. b < 256) (0xE0 + three.high) ((0x80 + three.middle) ∷ (0x80 + three.low) ∷ []) (omega (arith, three.high_fits))
-            (All-cons (λ b. b < 256) (0x80 + three.middle) ((0x80 + three.low) ∷ []) (omega (arith, three.middle_fits))
-              (All-cons (λ b. b < 256) (0x80 + three.low) [] (omega (arith, three.low_fits)) (All-nil (λ b. b < 256)))))
-    ]
+    | inl two ↦ All-same (λ b. b < 256) (unit_spelling unit) ((0xC0 + two.high) ∷ (0x80 + two.low) ∷ []) two.spelled
+        (All-cons (λ b. b < 256) (0xC0 + two.high) ((0x80 + two.low) ∷ []) (omega (arith, two.high_fits))
+        (All-cons (λ b. b < 256) (0x80 + two.low) [] (omega (arith, two.low_fits)) (All-nil (λ b. b < 256))))
+    | inr three ↦ All-same (λ b. b < 256) (unit_spelling unit) ((0xE0 + three.high) ∷ (0x80 + three.middle) ∷ (0x80 + three.low) ∷ []) three.spelled
+        (All-cons (λ b. b < 256) (0xE0 + three.high) ((0x80 + three.middle) ∷ (0x80 + three.low) ∷ []) (omega (arith, three.high_fits))
+        (All-cons (λ b. b < 256) (0x80 + three.middle) ((0x80 + three.low) ∷ []) (omega (arith, three.middle_fits))
+        (All-cons (λ b. b < 256) (0x80 + three.low) [] (omega (arith, three.low_fits)) (All-nil (λ b. b < 256)))))
+  ]
 ]
 
 pub modified_utf8-fits : (units : List ℕ) → IsUnits units → All (λ b. b < 256) (modified_utf8 units)

@@ -1,5 +1,5 @@
 -- The three forms of a unit's spelling, and that no spelling is the front of another.
-use Rattle.std.proofs.Common.{◌≡◌, ◌≢◌, ℕ, ◌+◌, ◌-◌, ◌*◌, ◌/◌, ◌%◌, ◌<◌, ◌≤◌, ◌⊎◌, inl, inr, List, [], ◌∷◌, ◌++◌, Option, Some, None, refl, sym, ap, ◌∙◌, arith, cond, ltb}
+use Rattle.std.proofs.Common.{◌≡◌, ◌≢◌, ℕ, ◌+◌, ◌-◌, ◌*◌, ◌/◌, ◌%◌, ◌<◌, ◌≤◌, ◌⊎◌, inl, inr, List, [], ◌∷◌, ◌++◌, refl, sym, ap, ◌∙◌, arith, cond, ltb}
 use Rattle.std.proofs.lemmas.Bool.{cases_lt, cases_eq}
 use Rattle.std.proofs.lemmas.Bool.Decides.{nat_tests}
 use Rattle.jser_prim.specs.ModifiedUtf8.{unit_spelling}
@@ -59,24 +59,41 @@ spelling_three high middle low unit is h m l long =
 pub form_of : (unit : ℕ) → unit < 0x10000 → OneByte unit ⊎ (TwoBytes unit ⊎ ThreeBytes unit)
 form_of unit fits = elim (cases_lt unit 0x80) [
   | inl ascii ↦ elim (cases_eq unit 0) [
-      | inl null ↦ inr (inl (record {
-          high = 0; low = 0; value = null; high_fits = omega arith; low_fits = omega arith; not_ascii = omega arith;
-          only_null = λ _. refl; spelled = spelling_two 0 0 unit null (omega arith) (omega arith) (omega arith) (λ _. refl)
-        }))
-      | inr some ↦ inl (record { above = omega arith; below = ascii; spelled = spelling_one unit (omega arith) ascii })
-    ]
+    | inl null ↦ inr (inl (record {
+      high = 0;
+      low = 0;
+      value = null;
+      high_fits = omega arith;
+      low_fits = omega arith;
+      not_ascii = omega arith;
+      only_null = λ _. refl;
+      spelled = spelling_two 0 0 unit null (omega arith) (omega arith) (omega arith) (λ _. refl);
+    }))
+    | inr some ↦ inl (record { above = omega arith; below = ascii; spelled = spelling_one unit (omega arith) ascii })
+  ]
   | inr above ↦ elim (cases_lt unit 0x800) [
-      | inl short ↦ inr (inl (record {
-          high = unit / 64; low = unit % 64; value = omega arith; high_fits = omega arith; low_fits = omega arith; not_ascii = omega arith;
-          only_null = λ z. absurd (omega arith);
-          spelled = spelling_two (unit / 64) (unit % 64) unit (omega arith) (omega arith) (omega arith) (omega arith) (λ z. absurd (omega arith))
-        }))
-      | inr long ↦ inr (inr (record {
-          high = unit / 4096; middle = unit / 64 % 64; low = unit % 64; value = omega arith; high_fits = omega arith; middle_fits = omega arith;
-          low_fits = omega arith; not_shorter = omega arith;
-          spelled = spelling_three (unit / 4096) (unit / 64 % 64) (unit % 64) unit (omega arith) (omega arith) (omega arith) (omega arith) (omega arith)
-        }))
-    ]
+    | inl short ↦ inr (inl (record {
+      high = unit / 64;
+      low = unit % 64;
+      value = omega arith;
+      high_fits = omega arith;
+      low_fits = omega arith;
+      not_ascii = omega arith;
+      only_null = λ z. absurd (omega arith);
+      spelled = spelling_two (unit / 64) (unit % 64) unit (omega arith) (omega arith) (omega arith) (omega arith) (λ z. absurd (omega arith));
+    }))
+    | inr long ↦ inr (inr (record {
+      high = unit / 4096;
+      middle = unit / 64 % 64;
+      low = unit % 64;
+      value = omega arith;
+      high_fits = omega arith;
+      middle_fits = omega arith;
+      low_fits = omega arith;
+      not_shorter = omega arith;
+      spelled = spelling_three (unit / 4096) (unit / 64 % 64) (unit % 64) unit (omega arith) (omega arith) (omega arith) (omega arith) (omega arith);
+    }))
+  ]
 ]
 
 -- what is read off the front of some bytes: nothing, or a unit, and the bytes after it
@@ -102,13 +119,13 @@ unfolding two_at three_at unit_at
 unit_at-unit_spelling unit rest fits = elim (form_of unit fits) [
   | inl one ↦ let below = one.below in rw (one.spelled) (grind (arith, nat_tests))
   | inr more ↦ elim more [
-      | inl two ↦
-          let value : 64 * (0xC0 + two.high - 0xC0) + (0x80 + two.low - 0x80) ≡ unit = omega arith in
-          rw (two.spelled) (grind (arith, nat_tests))
-      | inr three ↦
-          let value : 64 * (64 * (0xE0 + three.high - 0xE0) + (0x80 + three.middle - 0x80)) + (0x80 + three.low - 0x80) ≡ unit = omega arith in
-          rw (three.spelled) (grind (arith, nat_tests))
-    ]
+    | inl two ↦
+        let value : 64 * (0xC0 + two.high - 0xC0) + (0x80 + two.low - 0x80) ≡ unit = omega arith in
+        rw (two.spelled) (grind (arith, nat_tests))
+    | inr three ↦
+        let value : 64 * (64 * (0xE0 + three.high - 0xE0) + (0x80 + three.middle - 0x80)) + (0x80 + three.low - 0x80) ≡ unit = omega arith in
+        rw (three.spelled) (grind (arith, nat_tests))
+  ]
 ]
 
 -- no spelling is the front of another

@@ -1,5 +1,5 @@
 -- What the private state of a scan stands for: the bytes of a unit that were read already.
-use Rattle.std.specs.Prelude.{◌≡◌, ◌≢◌, ◌<◌, ◌≤◌, ◌+◌, ◌-◌, ◌/◌, ◌%◌, ℕ, Bool, true, false, nat_lt, if◌then◌else◌, List, [], ◌∷◌, ◌++◌, length}
+use Rattle.std.specs.Prelude.{◌≡◌, ◌≢◌, ◌<◌, ◌≤◌, ◌+◌, ◌/◌, ◌%◌, ℕ, Bool, true, false, nat_lt, if◌then◌else◌, List, [], ◌∷◌, ◌++◌, length}
 use Rattle.jser_prim.specs.ModifiedUtf8.{unit_spelling}
 use Rattle.jser_prim.specs.declared.place.Place.{Place}
 use Rattle.jser_prim.specs.declared.place.Place.TheVariants as place

@@ -1,4 +1,4 @@
-use super::{TextFault, TextScan};
+use super::{TextFault, TextFaultAfter, TextScan};
 use crate::text_bytes;
 use std::process::Abort;
 use std::test::Fail;
@@ -89,7 +89,10 @@ fn right_by_table(text: &[u8]) -> usize {
             return at;
         }
         unit = text.get(start..at + 1).unwrap_or(&[]);
-        if unit.first().is_none_or(|first| unit.len() >= unit_len(*first)) {
+        if unit
+            .first()
+            .is_none_or(|first| unit.len() >= unit_len(*first))
+        {
             unit = &[];
             start = at + 1;
         }
@@ -120,13 +123,107 @@ fn each_two_and_three_bytes_by_table(rt: HostRuntime) {
     for first in 0..=u8::MAX {
         for second in 0..=u8::MAX {
             let pair = [first, second];
-            assert_eq!(rt; pushed_alone(&pair), right_by_table(&pair), "{first:02x} {second:02x}");
+            assert_eq!(rt;
+                pushed_alone(&pair),
+                right_by_table(&pair),
+                "{first:02x} {second:02x}"
+            );
             for third in 0..=u8::MAX {
                 let triple = [first, second, third];
                 let right = right_by_table(&triple);
-                assert_eq!(rt; pushed_alone(&triple), right, "{first:02x} {second:02x} {third:02x}");
-                assert_eq!(rt; pushed_in_two(&triple, 0), right, "{first:02x} {second:02x} {third:02x}");
+                assert_eq!(rt;
+                    pushed_alone(&triple),
+                    right,
+                    "{first:02x} {second:02x} {third:02x}"
+                );
+                assert_eq!(rt;
+                    pushed_in_two(&triple, 0),
+                    right,
+                    "{first:02x} {second:02x} {third:02x}"
+                );
             }
         }
     }
+}
+
+/// Bytes that texts of one kind of unit repeat.
+const PATTERNS: [[u8; 6]; 4] = [
+    *b"serial",
+    [0xC3, 0xA9, 0xC3, 0xA9, 0xC3, 0xA9],
+    [0xE4, 0xB8, 0x80, 0xE4, 0xB8, 0x80],
+    [0x61, 0xC3, 0xA9, 0xE4, 0xB8, 0x80],
+];
+
+#[test]
+fn slices_mean_the_bytes_one_by_one(rt: HostRuntime) {
+    for pattern in PATTERNS {
+        let mut text = [0u8; 70];
+        for (at, byte) in text.iter_mut().enumerate() {
+            *byte = pattern[at % 6];
+        }
+        for len in 0..=text.len() {
+            for place in 0..len {
+                let usual = text[place];
+                for odd in 0..=u8::MAX {
+                    text[place] = odd;
+                    let accepted = pushed_alone(&text[..len]);
+                    assert_eq!(rt;
+                        pushed_in_two(&text[..len], 0),
+                        accepted,
+                        "{len} {place} {odd:02x}"
+                    );
+                    assert_eq!(rt;
+                        pushed_in_two(&text[..len], place),
+                        accepted,
+                        "{len} {place} {odd:02x}"
+                    );
+                }
+                text[place] = usual;
+            }
+        }
+    }
+}
+
+#[test]
+fn each_cut_of_a_text_gives_the_same(rt: HostRuntime) {
+    for pattern in PATTERNS {
+        let mut text = [0u8; 72];
+        for (at, byte) in text.iter_mut().enumerate() {
+            *byte = pattern[at % 6];
+        }
+        for cut in 0..=text.len() {
+            assert_eq!(rt; pushed_in_two(&text, cut), text.len(), "{cut}");
+        }
+    }
+}
+
+#[test]
+fn each_unit_comes_back_from_its_spelling(rt: HostRuntime) -> Result<(), Fail> {
+    let mut units = Vec::new(rt.alloc());
+    for unit in 0..=u16::MAX {
+        units.push(unit)?;
+    }
+    let bytes = text_bytes(rt.alloc(), &units)?;
+    assert_eq!(rt; bytes.len(), 2 + 127 + 2 * 1920 + 3 * 63488);
+    let mut scan = TextScan::new(bytes.len() as u64);
+    let mut read = Vec::new(rt.alloc());
+    for byte in &bytes {
+        if let Some(unit) = push(&rt, &mut scan, *byte)? {
+            read.push(unit)?;
+        }
+    }
+    assert!(rt; scan.is_done());
+    assert_eq!(rt; read, units);
+    Ok(())
+}
+
+#[test]
+fn a_fault_in_a_slice_stays(rt: HostRuntime) {
+    let mut scan = TextScan::new(4);
+    assert_eq!(rt;
+        scan.push_all(b"ab\0c"),
+        Err(TextFaultAfter { accepted: 2 })
+    );
+    assert!(rt; !scan.is_done());
+    assert_eq!(rt; push(&rt, &mut scan, b'c'), Err(TextFault));
 }

@@ -11,4 +11,4 @@ pub returns-in-Err-clause-fault : goal.returns-in-Err-clause-fault
 returns-in-Err-clause-fault c =
     front_and_fault _ _ _ _ _ _ c.skip_units-whole.ensures c.split_at.ensures.back c.in-len1-up.len_at_least
     (pushes_none _ _ _ c.in-Err.ensures.fault.1 c.in-Err.ensures.fault.0 (λ failed. (c.in-Err.ensures.failed failed).1)
-      (λ len bytes units accepted begins. let ok = (c.in-Err.ensures.accepts len bytes units accepted).1 begins in absurd cc))
+    (λ len bytes units accepted begins. let ok = (c.in-Err.ensures.accepts len bytes units accepted).1 begins in absurd cc))
