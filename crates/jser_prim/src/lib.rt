@@ -20,3 +20,6 @@ pub use scan::{TextFault, TextFaultAfter, TextScan};
 pub use sink::{Sink, ToWrite};
 pub use source::{FromRead, Source};
 pub use spelling::{text_bytes, units_of};
+
+#[cfg(test)]
+mod tests;

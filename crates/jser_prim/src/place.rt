@@ -3,7 +3,7 @@ ghost use Rattle.std.specs.Prelude.{◌≡◌, ◌≢◌, ◌<◌, ◌≤◌, �
 ghost use Rattle.jser_prim.specs.Places.{CanStand, TakesByte, cut_at, is_fault};
 
 /// Where in a unit's spelling the next byte of a text stands.
-#[derive(Clone, Copy)]
+#[derive(Clone, Copy, Debug)]
 pub(crate) enum Place {
     /// It is the first byte of a unit.
     First,

@@ -27,7 +27,7 @@ pub struct TextFaultAfter {
 }
 
 /// A scan of one text of modified UTF-8, whose length in bytes was given.
-#[derive(Drop)]
+#[derive(Debug, Drop)]
 pub struct TextScan {
     left: u64,
     place: Place,

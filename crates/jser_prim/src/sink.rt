@@ -36,7 +36,7 @@ pub trait Sink {
 /// some bytes.
 ///
 /// It allocates nothing. Memory that the writer takes is the writer's own.
-#[derive(Drop)]
+#[derive(Debug, Drop)]
 pub struct ToWrite<W: Write> {
     writer: W,
     failed: bool,

@@ -35,7 +35,7 @@ pub trait Source {
 /// A source of what a reader gives. Every `Err` of the reader is a failure, an interrupted read too.
 ///
 /// It allocates nothing. Memory that the reader takes is the reader's own.
-#[derive(Drop)]
+#[derive(Debug, Drop)]
 pub struct FromRead<R: Read> {
     reader: R,
     failed: bool,

@@ -18,3 +18,25 @@ fn units_of_two(rt: HostRuntime) -> Result<(), Fail> {
     assert_eq!(rt; units.as_slice(), [0x0061, 0xD83D, 0xDE00].as_slice());
     Ok(())
 }
+
+/// Where a growth is refused, want of memory is the answer, and no other answer changes. (With memory at
+/// hand this shows nothing that the tests above do not: run it with refused allocations.)
+#[test]
+fn refused_growth_changes_no_answer(rt: HostRuntime) -> Result<(), Fail> {
+    for text in ["", "a", "serial", "\u{0}\u{e9}\u{4e00}\u{1F600}"] {
+        let Ok(units) = units_of(rt.alloc(), text) else {
+            return Ok(());
+        };
+        let Ok(bytes) = text_bytes(rt.alloc(), &units) else {
+            return Ok(());
+        };
+        let spelling: &[u8] = match text {
+            "" => b"",
+            "a" => b"a",
+            "serial" => b"serial",
+            _ => b"\xC0\x80\xC3\xA9\xE4\xB8\x80\xED\xA0\xBD\xED\xB8\x80",
+        };
+        assert_eq!(rt; bytes.as_slice(), spelling, "{text:?}");
+    }
+    Ok(())
+}
