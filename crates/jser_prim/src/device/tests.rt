@@ -82,7 +82,7 @@ fn each_error_of_the_reader_is_a_failure(rt: HostRuntime) {
 
 #[test]
 fn the_writer_gets_the_bytes(rt: HostRuntime) -> Result<(), Fail> {
-    let mut written = Vec::new(rt.alloc());
+    let mut written = Vec::with_capacity(rt.alloc(), 3)?;
     let mut sink = ToWrite::new(&mut written);
     assert_eq!(rt; sink.give(b"ab"), Ok(2));
     assert_eq!(rt; sink.give(b""), Ok(0));

@@ -123,24 +123,17 @@ fn each_two_and_three_bytes_by_table(rt: HostRuntime) {
     for first in 0..=u8::MAX {
         for second in 0..=u8::MAX {
             let pair = [first, second];
-            assert_eq!(rt;
-                pushed_alone(&pair),
-                right_by_table(&pair),
-                "{first:02x} {second:02x}"
-            );
+            let right = right_by_table(&pair);
+            assert_eq!(rt; pushed_alone(&pair), right, "{first:02x} {second:02x}");
+            assert_eq!(rt; pushed_in_two(&pair, 1), right, "{first:02x} {second:02x}");
             for third in 0..=u8::MAX {
                 let triple = [first, second, third];
                 let right = right_by_table(&triple);
-                assert_eq!(rt;
-                    pushed_alone(&triple),
-                    right,
-                    "{first:02x} {second:02x} {third:02x}"
-                );
-                assert_eq!(rt;
-                    pushed_in_two(&triple, 0),
-                    right,
-                    "{first:02x} {second:02x} {third:02x}"
-                );
+                assert_eq!(rt; pushed_alone(&triple), right, "{first:02x} {second:02x} {third:02x}");
+                // Where a byte before it is wrong already, no third one is looked at.
+                if right < 2 {
+                    break;
+                }
             }
         }
     }
@@ -154,6 +147,11 @@ const PATTERNS: [[u8; 6]; 4] = [
     [0x61, 0xC3, 0xA9, 0xE4, 0xB8, 0x80],
 ];
 
+/// Bytes at the ends of the ranges of those that may stand somewhere, and beside them.
+const ODD_BYTES: [u8; 16] = [
+    0x00, 0x01, 0x7F, 0x80, 0x9F, 0xA0, 0xBF, 0xC0, 0xC1, 0xC2, 0xDF, 0xE0, 0xE1, 0xED, 0xEF, 0xF0,
+];
+
 #[test]
 fn slices_mean_the_bytes_one_by_one(rt: HostRuntime) {
     for pattern in PATTERNS {
@@ -164,7 +162,7 @@ fn slices_mean_the_bytes_one_by_one(rt: HostRuntime) {
         for len in 0..=text.len() {
             for place in 0..len {
                 let usual = text[place];
-                for odd in 0..=u8::MAX {
+                for odd in ODD_BYTES {
                     text[place] = odd;
                     let accepted = pushed_alone(&text[..len]);
                     assert_eq!(rt;
