@@ -43,7 +43,7 @@ impl Place {
 }
 
 /// The first byte of a unit, with `room` bytes after it in the text.
-#[tactic(auto, using(crate::proofs::PlaceLemmas::is_first, crate::proofs::Units::spelling_one))]
+#[tactic(auto, using(crate::proofs::Units::spelling_one))]
 fn take_first(byte: u8, room: u64) -> Taken
     ensures { TakesByte room [] byte result }
 {
