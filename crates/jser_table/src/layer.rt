@@ -1,4 +1,5 @@
 //! Layers: what an object's data needs of each class of a chain.
+ghost use Rattle.std.specs.Prelude.{◌≡◌};
 
 use std::marker::Model;
 
@@ -58,6 +59,29 @@ impl Model for Codes {
     ghost Value = { List ℕ };
 
     ghost view = { λ a. a.codes.items };
+}
+
+impl Codes {
+    /// These codes. Takes no memory.
+    pub fn new(codes: Vec<u8>) -> Codes
+        ensures { result ≡ codes.items }
+    {
+        Codes { codes }
+    }
+
+    /// The codes, in order.
+    pub fn as_slice(&self) -> &[u8]
+        ensures { result.now ≡ self.now }
+    {
+        self.codes.as_slice()
+    }
+
+    /// Gives the vector back. Takes no memory.
+    pub fn into_vec(self) -> Vec<u8>
+        ensures { result.items ≡ self }
+    {
+        self.codes
+    }
 }
 
 /// One class of a chain, as far as the data of its objects depends on it.

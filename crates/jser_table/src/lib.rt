@@ -6,4 +6,4 @@ mod layer;
 mod name;
 
 pub use layer::{BodyKind, Codes, Fit, Layer, LayerKind, Purpose};
-pub use name::Element;
+pub use name::{Element, element_of, layer_kind_of};
