@@ -1,5 +1,6 @@
 //! Layers: what an object's data needs of each class of a chain.
 ghost use Rattle.std.specs.Prelude.{◌≡◌};
+ghost use Rattle.jser_table.specs.Chains.{is_filled, is_serial};
 
 use std::marker::Model;
 
@@ -93,4 +94,21 @@ pub struct Layer {
     pub flags: u8,
     /// The type codes of its fields, in order; none for a proxy.
     pub codes: Codes,
+}
+
+impl Layer {
+    /// Whether an object holds something to read for this class: fields, or an annotation.
+    pub fn is_filled(&self) -> bool
+        ensures { result ≡ is_filled self.now }
+    {
+        !self.codes.as_slice().is_empty() || self.flags & 0x01 != 0
+    }
+
+    #[tactic(auto, using(crate::proofs::FlagLemmas::serializable_bit))]
+    /// Whether the class is a proxy or has the flag `SC_SERIALIZABLE`.
+    pub fn is_serial(&self) -> bool
+        ensures { result ≡ is_serial self.now }
+    {
+        self.kind == LayerKind::Proxy || self.flags & 0x02 != 0
+    }
 }

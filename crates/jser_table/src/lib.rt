@@ -2,6 +2,8 @@
 //! descriptor that has been read.
 #![tactic(auto)]
 
+mod chains;
+mod descriptor;
 mod layer;
 mod name;
 
