@@ -9,7 +9,10 @@ use Rattle.jser_table.specs.declared.descriptor.Links.{Links}
 use Rattle.jser_table.specs.declared.descriptor.Descriptor.{Descriptor}
 use Rattle.jser_table.specs.declared.descriptor.Counted.{Counted}
 use Rattle.jser_table.specs.declared.descriptor.Counted.TheVariants as counted
-use Rattle.jser_table.specs.Chains.{all_serial, is_serial, is_filled}
+use Rattle.jser_table.specs.declared.layer.Purpose.{Purpose}
+use Rattle.jser_table.specs.declared.layer.Fit.{Fit}
+use Rattle.jser_table.specs.Fits.{class_fit, fit_of_own, fit_of}
+use Rattle.jser_table.specs.Chains.{own_layer, all_serial, is_serial, is_filled}
 use Rattle.jser_table.specs.Descriptors.{chain_in, chain_above, with_chain, chains_of, IsFront, front_of, count_of, AreLinks, Knows, IsTold, AreTold, LinksTo, LinkUnder, IsUnder, chain_of_parent, KnowsBelow}
 
 chains_of-push : (ds : List Descriptor) (d : Descriptor) → chains_of (ds ++ d ∷ []) ≡ with_chain (chains_of ds) d
@@ -165,3 +168,16 @@ under_parent ds parent number jump layer above d told inside read is jump_in fro
       known = rw is known;
       within = omega (arith, known.layers, length_push (chain_in (chains_of ds) number) layer, at_parent.known.layers, at_parent.within, length_chains_of ds);
     }
+
+-- own layers
+
+own_layer_push : (chain : List Layer) (layer : Layer) → own_layer (chain ++ layer ∷ []) ≡ Some layer
+own_layer_push [] layer = refl
+own_layer_push (first ∷ []) layer = refl
+own_layer_push (first ∷ second ∷ chain) layer = own_layer_push (second ∷ chain) layer
+
+-- whether a class fits, by what its descriptor tells
+pub fit_told : (chains : List (List Layer)) (place : ℕ) (d : Descriptor) (purpose : Purpose) (fit : Fit) → IsTold chains place d → fit ≡ class_fit purpose d.layer d.is_serial → fit ≡ fit_of purpose (chain_in chains place)
+fit_told chains place d purpose fit told is =
+    is ∙ ap (class_fit purpose d.layer) told.known.serial
+    ∙ sym (ap (λ own. fit_of_own purpose own (chain_in chains place)) (ap own_layer told.own ∙ own_layer_push (chain_above chains d.links) d.layer))

@@ -2,11 +2,11 @@
 //!
 //! Each descriptor keeps a link to its parent and one that jumps further up, so a chain takes no memory
 //! beyond its own layer, and any layer of it is found in a number of steps in the order of its logarithm.
-ghost use Rattle.std.specs.Prelude.{◌≡◌, ◌+◌, ◌<◌, ◌≤◌, ◌^◌, [], ◌∷◌, ◌++◌, length, slice_get, Some, OnOk, OnErr, IfSome, IfNone, None, IsSomeAnd, ◌-◌};
+ghost use Rattle.std.specs.Prelude.{take, count_by, ◌≡◌, ◌+◌, ◌<◌, ◌≤◌, ◌^◌, [], ◌∷◌, ◌++◌, length, slice_get, Some, OnOk, OnErr, IfSome, IfNone, None, IsSomeAnd, ◌-◌};
 ghost use Rattle.std.specs.Option.{ForSome};
-ghost use Rattle.jser_table.specs.Chains.{all_serial, next_filled};
+ghost use Rattle.jser_table.specs.Chains.{all_serial, next_filled, is_filled};
 ghost use Rattle.jser_table.specs.Fits.{fit_of};
-ghost use Rattle.jser_table.specs.Descriptors.{AreTold, IsHighest, GoesUp, LinksTo, IsFront, IsUnder, chains_of, chain_in, chain_of_parent, count_of, front_of};
+ghost use Rattle.jser_table.specs.Descriptors.{AreTold, IsHighest, GoesUp, LinksTo, IsFront, IsUnder, IsTold, chains_of, chain_in, chain_of_parent, count_of, front_of};
 
 use std::alloc::{AllocError, Global};
 use std::marker::Model;
@@ -79,6 +79,53 @@ impl Chains {
         }
     }
 
+    /// How many layers the chain has.
+    #[tactic(auto, using(crate::proofs::ChainLemmas::length_chains_of))]
+    pub(crate) fn layers(&self, number: u32) -> usize
+        requires { number < length self.now.listed }
+        ensures { result ≡ length (chain_in self.now.listed number) }
+    {
+        descriptor_at(&self.descriptors, number as usize).count(Counted::Layers)
+    }
+
+    /// The layer of the chain at this index.
+    #[tactic(auto, using(crate::proofs::ChainLemmas::length_chains_of))]
+    pub(crate) fn layer(&self, number: u32, index: usize) -> &Layer
+        requires number_in { number < length self.now.listed }
+        requires index_in { index < length (chain_in self.now.listed number) }
+        ensures { slice_get (chain_in self.now.listed number) index ≡ Some result.now }
+    {
+        layer_at(&self.descriptors, number as usize, index)
+    }
+
+    /// The index of the first layer at `from` or after it that has something to read.
+    #[tactic(auto, using(crate::proofs::ChainLemmas::length_chains_of))]
+    pub(crate) fn next_filled(&self, number: u32, from: usize) -> Option<usize>
+        requires { number < length self.now.listed }
+        ensures { result ≡ next_filled (chain_in self.now.listed number) from }
+    {
+        next_filled_at(&self.descriptors, number as usize, from)
+    }
+
+    /// Whether each layer of the chain is a proxy or serializable.
+    #[tactic(auto, using(crate::proofs::ChainLemmas::length_chains_of))]
+    pub(crate) fn all_serial(&self, number: u32) -> bool
+        requires { number < length self.now.listed }
+        ensures { result ≡ all_serial (chain_in self.now.listed number) }
+    {
+        descriptor_at(&self.descriptors, number as usize).is_serial
+    }
+
+    /// Whether the class fits the purpose.
+    #[tactic(auto, using(crate::proofs::ChainLemmas::length_chains_of))]
+    pub(crate) fn fit(&self, number: u32, purpose: Purpose) -> Fit
+        requires { number < length self.now.listed }
+        ensures { result ≡ fit_of purpose (chain_in self.now.listed number) }
+    {
+        let class = descriptor_at(&self.descriptors, number as usize);
+        class.layer.fit(purpose, class.is_serial)
+    }
+
     /// Forgets all chains, and keeps the room.
     #[tactic(auto, using(crate::proofs::ChainLemmas::chains_of_none))]
     pub(crate) fn clear(&mut self)
@@ -127,8 +174,67 @@ fn jump_from(descriptors: &[Descriptor], parent: u32) -> u32
     }
 }
 
+/// The descriptor at this place, with all that it tells.
+fn descriptor_at(descriptors: &[Descriptor], place: usize) -> &Descriptor
+    requires told { AreTold descriptors.now }
+    requires place_in { place < length descriptors.now }
+    ensures { IsTold (chains_of descriptors.now) place result.now }
+{
+    &descriptors[place]
+}
+
+/// The layer at this index of the chain at `start`.
+#[tactic(auto, using(crate::proofs::WalkLemmas::layer_found))]
+fn layer_at(descriptors: &[Descriptor], start: usize, index: usize) -> &Layer
+    requires told { AreTold descriptors.now }
+    requires start_in { start < length descriptors.now }
+    requires index_in { index < length (chain_in (chains_of descriptors.now) start) }
+    ensures { slice_get (chain_in (chains_of descriptors.now) start) index ≡ Some result.now }
+{
+    let place = highest(descriptors, start, Counted::Layers, index);
+    &descriptor_at(descriptors, place).layer
+}
+
+/// The index of the first layer, at `from` or after it, that has something to read.
+#[tactic(auto, using(
+    crate::proofs::WalkLemmas::none_filled,
+    crate::proofs::WalkLemmas::past_filled,
+    crate::proofs::WalkLemmas::filled_found
+))]
+fn next_filled_at(descriptors: &[Descriptor], start: usize, from: usize) -> Option<usize>
+    requires told { AreTold descriptors.now }
+    requires start_in { start < length descriptors.now }
+    ensures { result ≡ next_filled (chain_in (chains_of descriptors.now) start) from }
+{
+    let class = descriptor_at(descriptors, start);
+    if from >= class.count(Counted::Layers) {
+        return None;
+    }
+    let before = filled_before(descriptors, start, from);
+    if class.count(Counted::Filled) <= before {
+        return None;
+    }
+    let place = highest(descriptors, start, Counted::Filled, before);
+    Some(descriptor_at(descriptors, place).count(Counted::Layers) - 1)
+}
+
+/// How many of the layers before this index have something to read.
+#[tactic(auto, using(crate::proofs::WalkLemmas::count_before))]
+fn filled_before(descriptors: &[Descriptor], start: usize, index: usize) -> usize
+    requires told { AreTold descriptors.now }
+    requires start_in { start < length descriptors.now }
+    requires index_in { index < length (chain_in (chains_of descriptors.now) start) }
+    ensures { result ≡ count_by is_filled (take index (chain_in (chains_of descriptors.now) start)) }
+{
+    if index == 0 {
+        return 0;
+    }
+    let place = highest(descriptors, start, Counted::Layers, index - 1);
+    descriptor_at(descriptors, place).count(Counted::Filled)
+}
+
 /// The highest class of the chain at `start`, itself included, whose count is over the bound.
-fn highest(descriptors: &[Descriptor], start: usize, counted: Counted, bound: u32) -> usize
+fn highest(descriptors: &[Descriptor], start: usize, counted: Counted, bound: usize) -> usize
     requires told { AreTold descriptors.now }
     requires start_in { start < length descriptors.now }
     requires over { bound < count_of counted (chain_in (chains_of descriptors.now) start) }
@@ -143,7 +249,7 @@ fn highest(descriptors: &[Descriptor], start: usize, counted: Counted, bound: u3
 }
 
 /// The superclass that the longest link leads to whose count is over the bound, if there is one.
-fn step_up(descriptors: &[Descriptor], place: usize, counted: Counted, bound: u32) -> Option<usize>
+fn step_up(descriptors: &[Descriptor], place: usize, counted: Counted, bound: usize) -> Option<usize>
     requires told { AreTold descriptors.now }
     requires place_in { place < length descriptors.now }
     ensures up { IfSome result (λ higher. GoesUp counted bound (chains_of descriptors.now) place higher) }

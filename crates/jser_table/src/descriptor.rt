@@ -70,12 +70,12 @@ impl Descriptor {
     }
 
     /// How many layers of the chain count.
-    pub(crate) fn count(&self, counted: Counted) -> u32
+    pub(crate) fn count(&self, counted: Counted) -> usize
         ensures { result ≡ told_count counted self.now }
     {
         match counted {
-            Counted::Layers => self.layers,
-            Counted::Filled => self.filled,
+            Counted::Layers => self.layers as usize,
+            Counted::Filled => self.filled as usize,
         }
     }
 }
