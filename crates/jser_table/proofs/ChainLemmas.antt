@@ -46,7 +46,7 @@ IsFront-refl xs = IsFront-from xs [] xs (rw append-nil refl)
 pub IsFront-trans : (xs ys zs : List Layer) → IsFront xs ys → IsFront ys zs → IsFront xs zs
 IsFront-trans xs ys zs f g =
     IsFront-from xs (drop (length xs) ys ++ drop (length ys) zs) zs
-        (g.rest ∙ ap (λ front. front ++ drop (length ys) zs) f.rest ∙ append_assoc xs (drop (length xs) ys) (drop (length ys) zs))
+    (g.rest ∙ ap (λ front. front ++ drop (length ys) zs) f.rest ∙ append_assoc xs (drop (length xs) ys) (drop (length ys) zs))
 
 -- one more layer at the end of a chain
 
@@ -103,10 +103,11 @@ AreLinks-new chains (Some parent) (Some links) layer under =
     let chain : List Layer = chain_in chains links.parent ++ layer ∷ [] in
     let here : chain_in (chains ++ chain ∷ []) (length chains) ≡ chain = get_or_push chains chain [] (length chains) refl in
     let jump_same : chain_in (chains ++ chain ∷ []) links.jump ≡ chain_in chains links.jump = get_or_append_left chains (chain ∷ []) [] links.jump under.jump_in in
-    let front : IsFront (chain_in chains links.jump) (chain_in chains links.parent) = rw under.parent_is under.jump_front in
-    ( rw under.parent_is under.parent_in
-    , under.jump_in
-    , rw (jump_same, here) (IsFront-trans _ _ _ front (IsFront-append (chain_in chains links.parent) (layer ∷ []))) )
+    let front : IsFront (chain_in chains links.jump) (chain_in chains links.parent) = rw under.parent_is under.jump_front in (
+      rw under.parent_is under.parent_in,
+      under.jump_in,
+      rw (jump_same, here) (IsFront-trans _ _ _ front (IsFront-append (chain_in chains links.parent) (layer ∷ []))),
+    )
 
 IsTold-new : (chains : List (List Layer)) (parent : Option ℕ) (layer : Layer) (d : Descriptor) → IsUnder chains parent layer d → IsTold (with_chain chains d) (length chains) d
 IsTold-new chains parent layer d under =
@@ -115,7 +116,7 @@ IsTold-new chains parent layer d under =
     let links : AreLinks (with_chain chains d) (length chains) d.links = AreLinks-new chains parent d.links d.layer under.links in
     let above : chain_above (with_chain chains d) d.links ≡ chain_above chains d.links = chain_above-push chains (with_chain chains d) chain (length chains) d.links links (omega arith) in
     let is_chain : chain_of_parent chains parent ++ layer ∷ [] ≡ chain =
-        rw (above_of_parent chains parent d.links under.links, under.layer_is) refl
+    rw (above_of_parent chains parent d.links under.links, under.layer_is) refl
     in
     record {
       own = here ∙ ap (λ (front : List Layer). front ++ d.layer ∷ []) (sym above);
@@ -127,16 +128,16 @@ IsTold-new chains parent layer d under =
 pub told_push : (old new : List Descriptor) (d : Descriptor) (parent : Option ℕ) (layer : Layer) → AreTold old → new ≡ old ++ d ∷ [] → IsUnder (chains_of old) parent layer d → AreTold new
 told_push old new d parent layer told is under =
     subst AreTold (sym is) (λ place x inside read.
-        rw (chains_of-push old d)
-        (elim (cases_lt place (length old)) [
-            inl before ↦
-                IsTold-push (chains_of old) _ place x (rw (length_chains_of old) before)
-                    (told place x before (read ∙ get_or_append_left old (d ∷ []) x place before))
-          | inr after ↦
-                let last : length old ≡ place = omega (arith, length_push old d) in
-                let same : x ≡ d = read ∙ get_or_push old d x place last in
-                rw (same, sym last, ← length_chains_of old) (IsTold-new (chains_of old) parent layer d under)
-        ]))
+    rw (chains_of-push old d)
+    (elim (cases_lt place (length old)) [
+      | inl before ↦
+          IsTold-push (chains_of old) _ place x (rw (length_chains_of old) before)
+          (told place x before (read ∙ get_or_append_left old (d ∷ []) x place before))
+      | inr after ↦
+          let last : length old ≡ place = omega (arith, length_push old d) in
+          let same : x ≡ d = read ∙ get_or_push old d x place last in
+          rw (same, sym last, ← length_chains_of old) (IsTold-new (chains_of old) parent layer d under)
+    ]))
 
 pub chains_push : (old new : List Descriptor) (d : Descriptor) (parent : Option ℕ) (layer : Layer) → new ≡ old ++ d ∷ [] → IsUnder (chains_of old) parent layer d → chains_of new ≡ chains_of old ++ (chain_of_parent (chains_of old) parent ++ layer ∷ []) ∷ []
 chains_push old new d parent layer is under =
@@ -149,10 +150,10 @@ knows_root layer d layers filled serial = record { layers = layers; filled = fil
 
 pub knows_below : (parent d : Descriptor) (layer : Layer) → d.layers ≡ parent.layers + 1 → d.filled ≡ parent.filled + cond (is_filled layer) 1 0 → d.is_serial ≡ (parent.is_serial && is_serial layer) → KnowsBelow parent layer d
 knows_below parent d layer layers filled serial = λ chain known. record {
-    layers = layers ∙ ap (λ n. n + 1) known.layers ∙ sym (length_push chain layer);
-    filled = filled ∙ ap (λ n. n + cond (is_filled layer) 1 0) known.filled ∙ sym (count_by_push chain layer);
-    serial = serial ∙ ap (λ b. b && is_serial layer) known.serial ∙ sym (all_serial_push chain layer);
-  }
+  layers = layers ∙ ap (λ n. n + 1) known.layers ∙ sym (length_push chain layer);
+  filled = filled ∙ ap (λ n. n + cond (is_filled layer) 1 0) known.filled ∙ sym (count_by_push chain layer);
+  serial = serial ∙ ap (λ b. b && is_serial layer) known.serial ∙ sym (all_serial_push chain layer);
+}
 
 -- the descriptor that is made of a parent, a jump and a layer
 pub under_parent : (ds : List Descriptor) (parent : Option ℕ) (number jump : ℕ) (layer : Layer) (above d : Descriptor) → AreTold ds → number < length ds → above ≡ get_or ds number above → parent ≡ Some number → jump < length ds → IsFront (chain_in (chains_of ds) jump) (chain_in (chains_of ds) number) → d.layer ≡ layer → d.links ≡ Some record { parent = number; jump = jump } → KnowsBelow above layer d → IsUnder (chains_of ds) parent layer d
@@ -160,7 +161,7 @@ under_parent ds parent number jump layer above d told inside read is jump_in fro
     let at_parent : IsTold (chains_of ds) number above = told number above inside read in
     let known : Knows (chain_in (chains_of ds) number ++ layer ∷ []) d = below (chain_in (chains_of ds) number) at_parent.known in
     let links : LinksTo (chains_of ds) number record { parent = number; jump = jump } =
-        record { parent_is = refl; parent_in = rw (length_chains_of ds) inside; jump_in = rw (length_chains_of ds) jump_in; jump_front = front }
+    record { parent_is = refl; parent_in = rw (length_chains_of ds) inside; jump_in = rw (length_chains_of ds) jump_in; jump_front = front }
     in
     record {
       layer_is = layer_is;

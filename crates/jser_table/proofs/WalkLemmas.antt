@@ -95,7 +95,7 @@ count_before chains place k d whole told highest =
     let ends : EndsIn front above d.layer = record { is = told.own } in
     let long : length front ≡ k + 1 = ap length told.own ∙ length_push above d.layer ∙ ap (λ n. n + 1) (above_length k whole front above d.layer highest ends) in
     let same : take (k + 1) whole ≡ front =
-        ap (λ chain. take (k + 1) chain) highest.is_front.rest ∙ take_at front (drop (length front) whole) (k + 1) long
+    ap (λ chain. take (k + 1) chain) highest.is_front.rest ∙ take_at front (drop (length front) whole) (k + 1) long
     in
     told.known.filled ∙ sym (ap (count_by is_filled) same)
 
@@ -121,10 +121,10 @@ not_before : (above : List Layer) (layer : Layer) (rest : List Layer) (k before 
 not_before above layer rest k before is over =
     let n : ℕ = length above + 1 in
     let front : take n (above ++ layer ∷ rest) ≡ above ++ layer ∷ [] =
-        ap (λ chain. take n chain) (sym (append_assoc above (layer ∷ []) rest)) ∙ take_at (above ++ layer ∷ []) rest n (length_push above layer)
+    ap (λ chain. take n chain) (sym (append_assoc above (layer ∷ []) rest)) ∙ take_at (above ++ layer ∷ []) rest n (length_push above layer)
     in
     elim (cases_lt (length above) k) [
-        inl longer ↦ absurd (omega (arith, count_le (above ++ layer ∷ rest) n k (omega arith), ap (count_by is_filled) front))
+      | inl longer ↦ absurd (omega (arith, count_le (above ++ layer ∷ rest) n k (omega arith), ap (count_by is_filled) front))
       | inr within ↦ within
     ]
 
@@ -142,14 +142,14 @@ filled_found chains place k before d whole told is highest =
     let same : before ≡ count_by is_filled (take k above) = is_before ∙ ap (count_by is_filled) (take-append-le k above (d.layer ∷ rest) within) in
     let none : count_by is_filled (drop k above) ≡ 0 = omega (arith, count_drop above k) in
     let pushed : count_by is_filled (above ++ d.layer ∷ []) ≡ count_by is_filled above + (cond (is_filled d.layer) 1 0 + 0) =
-        count_by-append is_filled above (d.layer ∷ []) ∙ ap (λ n. count_by is_filled above + n) (count_by-cons is_filled d.layer [])
+    count_by-append is_filled above (d.layer ∷ []) ∙ ap (λ n. count_by is_filled above + n) (count_by-cons is_filled d.layer [])
     in
     let here : is_filled d.layer ≡ true = something_added (is_filled d.layer) (count_by is_filled above) before least (omega arith) in
     let long : d.layers ≡ length above + 1 = told.known.layers ∙ ap length told.own ∙ length_push above d.layer in
     let found : position is_filled (drop k whole) ≡ Some (length (drop k above)) =
-        ap (λ chain. position is_filled (drop k chain)) split
-        ∙ ap (position is_filled) (drop-append-le k above (d.layer ∷ rest) within)
-        ∙ position-at is_filled (drop k above) d.layer rest none here
+    ap (λ chain. position is_filled (drop k chain)) split
+    ∙ ap (position is_filled) (drop-append-le k above (d.layer ∷ rest) within)
+    ∙ position-at is_filled (drop k above) d.layer rest none here
     in
     let index : d.layers - 1 ≡ k + length (drop k above) = omega (arith, length-drop k above) in
     ap Some index ∙ sym (ap (option_map (λ j. k + j)) found)

@@ -4,3 +4,4 @@ pub mod Entries
 pub mod Fits
 pub mod Descriptors
 pub mod Stored
+pub mod Tables

@@ -8,11 +8,10 @@ ghost use Rattle.jser_table.specs.Chains.{all_serial, next_filled, is_filled};
 ghost use Rattle.jser_table.specs.Fits.{fit_of};
 ghost use Rattle.jser_table.specs.Descriptors.{AreTold, IsHighest, GoesUp, LinksTo, IsFront, IsUnder, IsTold, chains_of, chain_in, chain_of_parent, count_of, front_of};
 
-use std::alloc::{AllocError, Global};
-use std::marker::Model;
-
 use crate::descriptor::{Counted, Descriptor, Links};
 use crate::layer::{Fit, Layer, Purpose};
+use std::alloc::{AllocError, Global};
+use std::marker::Model;
 
 /// The chains of the closed descriptors, numbered in the order in which they were added.
 #[derive(Drop)]
@@ -29,8 +28,8 @@ impl Model for Chains {
     ghost use Rattle.jser_table.specs.Descriptors.{AreTold, chains_of};
 
     ghost view = { λ a. record {
-        listed = chains_of a.descriptors.items;
-        room = vec_capacity a.descriptors - vec_len a.descriptors;
+      listed = chains_of a.descriptors.items;
+      room = vec_capacity a.descriptors - vec_len a.descriptors;
     } };
 
     ghost invariant = { λ a. AreTold a.descriptors.items };
@@ -58,11 +57,7 @@ impl Chains {
 
     /// Adds the chain of the parent, if there is one, with this layer at its end, and gives its number.
     /// Takes no memory.
-    #[tactic(auto, using(
-        crate::proofs::ChainLemmas::length_chains_of,
-        crate::proofs::ChainLemmas::told_push,
-        crate::proofs::ChainLemmas::chains_push
-    ))]
+    #[tactic(auto, using(crate::proofs::ChainLemmas::length_chains_of, crate::proofs::ChainLemmas::told_push, crate::proofs::ChainLemmas::chains_push))]
     pub(crate) fn add(&mut self, layer: Layer, parent: Option<u32>) -> u32
         requires room { 0 < self.old.room }
         requires fewer { length self.old.listed < 2 ^ 32 - 1 }
@@ -196,11 +191,7 @@ fn layer_at(descriptors: &[Descriptor], start: usize, index: usize) -> &Layer
 }
 
 /// The index of the first layer, at `from` or after it, that has something to read.
-#[tactic(auto, using(
-    crate::proofs::WalkLemmas::none_filled,
-    crate::proofs::WalkLemmas::past_filled,
-    crate::proofs::WalkLemmas::filled_found
-))]
+#[tactic(auto, using(crate::proofs::WalkLemmas::none_filled, crate::proofs::WalkLemmas::past_filled, crate::proofs::WalkLemmas::filled_found))]
 fn next_filled_at(descriptors: &[Descriptor], start: usize, from: usize) -> Option<usize>
     requires told { AreTold descriptors.now }
     requires start_in { start < length descriptors.now }
@@ -249,7 +240,12 @@ fn highest(descriptors: &[Descriptor], start: usize, counted: Counted, bound: us
 }
 
 /// The superclass that the longest link leads to whose count is over the bound, if there is one.
-fn step_up(descriptors: &[Descriptor], place: usize, counted: Counted, bound: usize) -> Option<usize>
+fn step_up(
+    descriptors: &[Descriptor],
+    place: usize,
+    counted: Counted,
+    bound: usize,
+) -> Option<usize>
     requires told { AreTold descriptors.now }
     requires place_in { place < length descriptors.now }
     ensures up { IfSome result (λ higher. GoesUp counted bound (chains_of descriptors.now) place higher) }

@@ -6,9 +6,13 @@ ghost use Rattle.jser_table.specs.Fits.{class_fit, object_fit};
 use std::marker::Model;
 
 const SC_WRITE_METHOD: u8 = 0x01;
+
 const SC_SERIALIZABLE: u8 = 0x02;
+
 const SC_EXTERNALIZABLE: u8 = 0x04;
+
 const SC_BLOCK_DATA: u8 = 0x08;
+
 const SC_ENUM: u8 = 0x10;
 
 /// What the elements of an array are.
@@ -177,9 +181,17 @@ impl Layer {
             return Fit::WrongClass;
         }
         if self.is_externalizable() {
-            return if self.has_block_data() { Fit::Fits } else { Fit::ExternalRaw };
+            return if self.has_block_data() {
+                Fit::Fits
+            } else {
+                Fit::ExternalRaw
+            };
         }
-        if all_serial { Fit::Fits } else { Fit::NotSerializable }
+        if all_serial {
+            Fit::Fits
+        } else {
+            Fit::NotSerializable
+        }
     }
 
     fn is_array(&self) -> bool

@@ -4,8 +4,12 @@
 
 mod chains;
 mod descriptor;
+mod entry;
 mod layer;
 mod name;
+mod table;
 
+pub use entry::{Closed, Entry, Kind};
 pub use layer::{BodyKind, Codes, Fit, Layer, LayerKind, Purpose};
 pub use name::{Element, element_of, layer_kind_of};
+pub use table::{Table, TableFault};

@@ -6,7 +6,7 @@ abbrev pub invariant-walk : goal.invariant-walk
 invariant-walk l = record {
   inside : l.place < length l.descriptors;
   front : IsFront (chain_in (chains_of l.descriptors) l.place) (chain_in (chains_of l.descriptors) l.start);
-  over : l.bound < count_of l.counted (chain_in (chains_of l.descriptors) l.place)
+  over : l.bound < count_of l.counted (chain_in (chains_of l.descriptors) l.place);
 }
 
 abbrev pub decreases-walk : goal.decreases-walk
