@@ -50,7 +50,7 @@ IsFront-trans xs ys zs f g =
 
 -- one more layer at the end of a chain
 
-count_by_push : (chain : List Layer) (layer : Layer) → count_by is_filled (chain ++ layer ∷ []) ≡ count_by is_filled chain + cond (is_filled layer) 1 0
+pub count_by_push : (chain : List Layer) (layer : Layer) → count_by is_filled (chain ++ layer ∷ []) ≡ count_by is_filled chain + cond (is_filled layer) 1 0
 count_by_push chain layer = sum_by-append (λ l. cond (is_filled l) 1 0) chain (layer ∷ []) ∙ omega arith
 
 and_true : (b : Bool) → (b && true) ≡ (true && b)
@@ -61,7 +61,7 @@ and_assoc_test : (a b c : Bool) → (a && (b && c)) ≡ (a && b && c)
 and_assoc_test true b c = refl
 and_assoc_test false b c = refl
 
-all_serial_push : (chain : List Layer) (layer : Layer) → all_serial (chain ++ layer ∷ []) ≡ (all_serial chain && is_serial layer)
+pub all_serial_push : (chain : List Layer) (layer : Layer) → all_serial (chain ++ layer ∷ []) ≡ (all_serial chain && is_serial layer)
 all_serial_push [] layer = and_true (is_serial layer)
 all_serial_push (first ∷ chain) layer = ap (λ rest. is_serial first && rest) (all_serial_push chain layer) ∙ and_assoc_test (is_serial first) (all_serial chain) (is_serial layer)
 
@@ -172,10 +172,15 @@ under_parent ds parent number jump layer above d told inside read is jump_in fro
 
 -- own layers
 
-own_layer_push : (chain : List Layer) (layer : Layer) → own_layer (chain ++ layer ∷ []) ≡ Some layer
+pub own_layer_push : (chain : List Layer) (layer : Layer) → own_layer (chain ++ layer ∷ []) ≡ Some layer
 own_layer_push [] layer = refl
 own_layer_push (first ∷ []) layer = refl
 own_layer_push (first ∷ second ∷ chain) layer = own_layer_push (second ∷ chain) layer
+
+-- whether a class fits, by its own layer and whether the classes above it are serial
+pub fit_of_push : (purpose : Purpose) (chain : List Layer) (layer : Layer) → fit_of purpose (chain ++ layer ∷ []) ≡ class_fit purpose layer (all_serial chain && is_serial layer)
+fit_of_push purpose chain layer =
+    ap (λ own. fit_of_own purpose own (chain ++ layer ∷ [])) (own_layer_push chain layer) ∙ ap (class_fit purpose layer) (all_serial_push chain layer)
 
 -- whether a class fits, by what its descriptor tells
 pub fit_told : (chains : List (List Layer)) (place : ℕ) (d : Descriptor) (purpose : Purpose) (fit : Fit) → IsTold chains place d → fit ≡ class_fit purpose d.layer d.is_serial → fit ≡ fit_of purpose (chain_in chains place)
