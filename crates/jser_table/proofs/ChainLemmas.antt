@@ -1,19 +1,17 @@
 -- Chains of closed descriptors: one more descriptor, fronts of chains, and what the links of a descriptor
 -- lead to.
-use Rattle.std.proofs.Common.{◌≡◌, ℕ, ◌+◌, ◌-◌, ◌<◌, ◌≤◌, Bool, true, false, ◌&&◌, cond, List, [], ◌∷◌, ◌++◌, length, take, drop, fold, count_by, get_or, Option, Some, None, refl, ap, sym, ◌∙◌, subst, arith, append_assoc, length-append, append-nil, inl, inr}
+use Rattle.std.proofs.Common.{◌≡◌, ℕ, ◌+◌, ◌<◌, ◌≤◌, Bool, true, false, ◌&&◌, cond, List, [], ◌∷◌, ◌++◌, length, drop, fold, count_by, get_or, Option, Some, None, refl, ap, sym, ◌∙◌, subst, arith, append_assoc, append-nil, inl, inr}
 use Rattle.std.proofs.lemmas.Bool.{cases_lt}
-use Rattle.std.proofs.lemmas.List.{get_or_append_left, get_or_push, drop_at, take_at, length_push}
+use Rattle.std.proofs.lemmas.List.{get_or_append_left, get_or_push, drop_at, length_push}
 use Rattle.std.proofs.lemmas.List.Sums.{fold_push, sum_by-append}
 use Rattle.jser_table.specs.declared.layer.Layer.{Layer}
 use Rattle.jser_table.specs.declared.descriptor.Links.{Links}
 use Rattle.jser_table.specs.declared.descriptor.Descriptor.{Descriptor}
-use Rattle.jser_table.specs.declared.descriptor.Counted.{Counted}
-use Rattle.jser_table.specs.declared.descriptor.Counted.TheVariants as counted
 use Rattle.jser_table.specs.declared.layer.Purpose.{Purpose}
 use Rattle.jser_table.specs.declared.layer.Fit.{Fit}
 use Rattle.jser_table.specs.Fits.{class_fit, fit_of_own, fit_of}
 use Rattle.jser_table.specs.Chains.{own_layer, all_serial, is_serial, is_filled}
-use Rattle.jser_table.specs.Descriptors.{chain_in, chain_above, with_chain, chains_of, IsFront, front_of, count_of, AreLinks, Knows, IsTold, AreTold, LinksTo, LinkUnder, IsUnder, chain_of_parent, KnowsBelow}
+use Rattle.jser_table.specs.Descriptors.{chain_in, chain_above, with_chain, chains_of, IsFront, AreLinks, Knows, IsTold, AreTold, LinksTo, LinkUnder, IsUnder, chain_of_parent, KnowsBelow}
 
 chains_of-push : (ds : List Descriptor) (d : Descriptor) → chains_of (ds ++ d ∷ []) ≡ with_chain (chains_of ds) d
 unfolding chains_of

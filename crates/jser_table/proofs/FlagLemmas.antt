@@ -1,5 +1,5 @@
 -- Flags: a test of one bit of a number is a test of its digit in base 2.
-use Rattle.std.proofs.Common.{zero, suc, ◌≡◌, ℕ, ◌*◌, ◌/◌, ◌%◌, ◌^◌, ◌<◌, Bool, not, nat_eq, ◌==◌, refl, bit_and, arith}
+use Rattle.std.proofs.Common.{zero, suc, ◌≡◌, ℕ, ◌*◌, ◌/◌, ◌%◌, ◌^◌, ◌<◌, not, nat_eq, ◌==◌, refl, bit_and, arith}
 use Rattle.std.proofs.lemmas.Nat.Bits.{and_pow}
 use Rattle.std.proofs.lemmas.Bool.{ne_eqb}
 use Rattle.std.proofs.Math.Nat.{zero-mul, one-mul}

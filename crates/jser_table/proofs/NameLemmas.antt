@@ -1,5 +1,5 @@
 -- Names: the last unit of a name, and that the kind of a layer goes with the element of its name.
-use Rattle.std.proofs.Common.{◌≡◌, ℕ, Bool, true, false, ◌==◌, cond, List, [], ◌∷◌, ◌++◌, length, Option, Some, None, refl, ap, sym, ◌∙◌, subst, ne_eqb, eq-eqb, eqb, arith}
+use Rattle.std.proofs.Common.{◌≡◌, ℕ, Bool, true, false, ◌==◌, cond, List, [], ◌∷◌, ◌++◌, length, Option, Some, None, refl, ap, sym, ◌∙◌, ne_eqb}
 use Rattle.jser_table.specs.declared.layer.BodyKind.TheVariants.{Prim, Values}
 use Rattle.jser_table.specs.declared.layer.LayerKind.{LayerKind}
 use Rattle.jser_table.specs.declared.layer.LayerKind.TheVariants as kind
@@ -115,7 +115,7 @@ array_kind_is_array : (units : List ℕ) → IsArrayKind (array_kind units)
 array_kind_is_array [] = tt
 array_kind_is_array (c ∷ units) =
     of_either (c == 0x5B) _ _ (arrays_is_array (array_kind units))
-        (of_either (c == 0x4C) _ _ (of_either (ends_in 0x3B units) _ _ tt tt) (primitive_is_array c units))
+    (of_either (c == 0x4C) _ _ (of_either (ends_in 0x3B units) _ _ tt tt) (primitive_is_array c units))
 
 arrays_malformed : (name : NameKind) → IsArrayKind name → is_malformed_kind (array_of_arrays name) ≡ is_malformed_kind name
 arrays_malformed plain_name is = absurd is
@@ -130,10 +130,10 @@ array_malformed : (units : List ℕ) → is_malformed_kind (array_kind units) �
 array_malformed [] = refl
 array_malformed (c ∷ units) =
     by_cond is_malformed_kind is_malformed_element (c == 0x5B) _ _ _ _
-        (arrays_malformed (array_kind units) (array_kind_is_array units) ∙ array_malformed units)
-        (by_cond is_malformed_kind is_malformed_element (c == 0x4C) _ _ _ _
-            (by_cond is_malformed_kind is_malformed_element (ends_in 0x3B units) _ _ _ _ refl refl)
-            (primitive_malformed c units))
+    (arrays_malformed (array_kind units) (array_kind_is_array units) ∙ array_malformed units)
+    (by_cond is_malformed_kind is_malformed_element (c == 0x4C) _ _ _ _
+    (by_cond is_malformed_kind is_malformed_element (ends_in 0x3B units) _ _ _ _ refl refl)
+    (primitive_malformed c units))
 
 never_malformed : (test : Bool) (units : List ℕ) → false ≡ is_malformed_element (cond test primitive_element (element units))
 never_malformed true units = refl

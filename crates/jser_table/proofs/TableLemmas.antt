@@ -1,19 +1,18 @@
 -- The entries of a table, seen through the numbers of their chains.
-use Rattle.std.proofs.Common.{◌≡◌, ℕ, zero, suc, ◌+◌, ◌-◌, ◌<◌, ◌≤◌, Bool, true, false, cond, IsTrue, List, [], ◌∷◌, ◌++◌, length, map, set, get_or, slice_get, count_by, Option, Some, None, option_map, refl, ap, sym, ◌∙◌, subst, arith, length-append}
+use Rattle.std.proofs.Common.{◌≡◌, ℕ, zero, suc, ◌+◌, ◌-◌, ◌<◌, ◌≤◌, cond, IsTrue, List, [], ◌∷◌, ◌++◌, length, map, set, slice_get, count_by, Option, Some, None, option_map, refl, ap, sym, ◌∙◌, subst, arith}
 use Rattle.std.specs.List.{All}
 use Rattle.std.proofs.lemmas.Bool.{false≢true}
 use Rattle.std.proofs.lemmas.Option.{slice_get-map, get_or_from_slice_get, slice_get_within}
 use Rattle.std.proofs.lemmas.List.{get_or_append_left, get_or_push, map-set, length-set, length_push}
 use Rattle.std.proofs.lemmas.List.Elements.{All-set, All-head, All-tail, All-weaker}
-use Rattle.std.proofs.lemmas.List.Sums.{sum_by-set, sum_by-cons}
+use Rattle.std.proofs.lemmas.List.Sums.{sum_by-cons}
 use Rattle.jser_table.specs.declared.layer.Layer.{Layer}
-use Rattle.jser_table.specs.declared.entry.Closed.{Closed}
 use Rattle.jser_table.specs.declared.entry.Entry.{Entry}
 use Rattle.jser_table.specs.declared.entry.Entry.TheVariants as entry
-use Rattle.jser_table.specs.Entries.{TableEntry, text_entry, other_entry, pending_entry, closed_entry, chain_of, chain_at, is_text, is_pending, is_closed}
+use Rattle.jser_table.specs.Entries.{closed_entry, chain_of, chain_at, is_pending, is_closed}
 use Rattle.jser_table.specs.Descriptors.{chain_in, chain_of_parent}
 use Rattle.jser_table.specs.Stored.{ChainList}
-use Rattle.jser_table.specs.Tables.{TableView, view_entry, closed_under, parent_chain, closed_kept, is_pending_kept, is_text_entry, is_pending_entry, is_closed_entry, IsAmong, IsNumberOf, IsSound}
+use Rattle.jser_table.specs.Tables.{TableView, view_entry, closed_under, parent_chain, closed_kept, is_pending_kept, is_pending_entry, is_closed_entry, IsAmong, IsNumberOf, IsSound}
 
 count_by_pending : (e : Entry) (entries : List Entry) → count_by is_pending_kept (e ∷ entries) ≡ cond (is_pending_kept e) 1 0 + count_by is_pending_kept entries
 count_by_pending e entries = sum_by-cons (λ x. cond (is_pending_kept x) 1 0) e entries

@@ -1,17 +1,15 @@
 -- Walks up a chain: what the class at the end of a walk says of the chain where it began.
-use Rattle.std.proofs.Common.{◌≡◌, ℕ, zero, suc, ◌+◌, ◌-◌, ◌<◌, ◌≤◌, Bool, true, false, not, cond, ltb, eqb, List, [], ◌∷◌, ◌++◌, length, take, drop, count_by, get_or, slice_get, position, Option, Some, None, option_map, refl, ap, sym, ◌∙◌, subst, inl, inr, arith, append_assoc, length-append, append-nil}
+use Rattle.std.proofs.Common.{◌≡◌, ℕ, suc, ◌+◌, ◌-◌, ◌<◌, ◌≤◌, Bool, true, false, cond, List, [], ◌∷◌, ◌++◌, length, take, drop, count_by, slice_get, position, Some, None, option_map, refl, ap, sym, ◌∙◌, inl, inr, arith, append_assoc, length-append}
 use Rattle.std.specs.List.{position_or_len}
 use Rattle.std.proofs.lemmas.Bool.{cases_lt, lt-ltb, le-ltb}
-use Rattle.std.proofs.lemmas.Bool.Decides.{nat_tests}
 use Rattle.std.proofs.lemmas.Option.{slice_get-get_or}
-use Rattle.std.proofs.lemmas.List.{get_or_at, drop_at, take_at, length_push, take-take, take-append-le, drop-append-le, take-append-drop, length-drop, length-take-le, drop_all}
+use Rattle.std.proofs.lemmas.List.{get_or_at, take_at, length_push, take-take, take-append-le, drop-append-le, take-append-drop, length-drop, drop_all}
 use Rattle.std.proofs.lemmas.List.Sums.{sum_by-append, sum_by-cons}
 use Rattle.jser_table.specs.declared.layer.Layer.{Layer}
 use Rattle.jser_table.specs.declared.descriptor.Descriptor.{Descriptor}
-use Rattle.jser_table.specs.declared.descriptor.Counted.{Counted}
 use Rattle.jser_table.specs.declared.descriptor.Counted.TheVariants as counted
 use Rattle.jser_table.specs.Chains.{is_filled, next_filled}
-use Rattle.jser_table.specs.Descriptors.{chain_in, chain_above, IsFront, front_of, count_of, Knows, IsTold, IsHighest}
+use Rattle.jser_table.specs.Descriptors.{chain_in, chain_above, IsFront, front_of, IsTold, IsHighest}
 
 count_by-append : (p : Layer → Bool) (xs ys : List Layer) → count_by p (xs ++ ys) ≡ count_by p xs + count_by p ys
 count_by-append p xs ys = sum_by-append (λ x. cond (p x) 1 0) xs ys

@@ -1,7 +1,6 @@
 -- Chains of classes. A chain is the whole list of a class's layers, the highest superclass first and its
 -- own layer last; each layer has the flags of its descriptor (`java.io.ObjectStreamConstants`, SC_*).
 use Rattle.std.specs.Prelude.{ℕ, ◌+◌, ◌/◌, ◌%◌, Bool, true, false, not, ◌==◌, ◌&&◌, ◌||◌, List, [], ◌∷◌, drop, position, Option, Some, None, option_map}
-use Rattle.jser_table.specs.declared.layer.BodyKind.{BodyKind}
 use Rattle.jser_table.specs.declared.layer.LayerKind.{LayerKind}
 use Rattle.jser_table.specs.declared.layer.LayerKind.TheVariants as kind
 use Rattle.jser_table.specs.declared.layer.Layer.{Layer}

@@ -1,5 +1,5 @@
 -- Which classes may stand in the class place of an object, an array and an enum constant.
-use Rattle.std.specs.Prelude.{ℕ, Bool, true, false, not, ◌&&◌, if◌then◌else◌, List, Option, Some, None}
+use Rattle.std.specs.Prelude.{Bool, true, false, not, ◌&&◌, if◌then◌else◌, List, Option, Some, None}
 use Rattle.jser_table.specs.declared.layer.Layer.{Layer}
 use Rattle.jser_table.specs.declared.layer.Purpose.{Purpose}
 use Rattle.jser_table.specs.declared.layer.Purpose.TheVariants as purpose

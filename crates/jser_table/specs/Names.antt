@@ -1,7 +1,7 @@
 -- Names of classes, as lists of 16-bit units. A name that begins with `[` is that of an array class
 -- (`java.lang.Class.getName`): one or more `[`, and then a letter of BCDFIJSZ for elements of a primitive
 -- type, or `L`, any units and `;`.
-use Rattle.std.specs.Prelude.{ℕ, Bool, true, false, ◌||◌, ◌==◌, if◌then◌else◌, codes, List, [], ◌∷◌, Option, Some, None}
+use Rattle.std.specs.Prelude.{ℕ, Bool, false, ◌||◌, ◌==◌, if◌then◌else◌, codes, List, [], ◌∷◌, Option, Some, None}
 use Rattle.std.specs.List.{list_any}
 use Rattle.std.specs.Str.{bytes_eq}
 use Rattle.jser_table.specs.declared.layer.BodyKind.{BodyKind}

@@ -1,9 +1,8 @@
 -- What contracts see of a table of handles: the list of its entries, and how many it may have.
-use Rattle.std.specs.Prelude.{ℕ, ◌^◌, slice_get, ◌≡◌, ◌+◌, ◌<◌, ◌≤◌, Bool, true, false, List, [], ◌∷◌, ◌++◌, length, map, All, count_by, Option, Some, None}
+use Rattle.std.specs.Prelude.{ℕ, ◌^◌, slice_get, ◌≡◌, ◌+◌, ◌<◌, ◌≤◌, Bool, true, false, List, [], ◌∷◌, ◌++◌, length, All, count_by, Option, Some, None}
 use Rattle.jser_table.specs.declared.layer.Layer.{Layer}
 use Rattle.jser_table.specs.declared.entry.Kind.{Kind}
 use Rattle.jser_table.specs.declared.entry.Kind.TheVariants as kind
-use Rattle.jser_table.specs.declared.entry.Closed.{Closed}
 use Rattle.jser_table.specs.declared.entry.Entry.{Entry}
 use Rattle.jser_table.specs.declared.entry.Entry.TheVariants as entry
 use Rattle.jser_table.specs.Entries.{TableEntry, text_entry, other_entry, pending_entry, closed_entry, chain_at}

@@ -8,6 +8,8 @@ mod entry;
 mod layer;
 mod name;
 mod table;
+#[cfg(test)]
+mod tests;
 
 pub use entry::{Closed, Entry, Kind};
 pub use layer::{BodyKind, Codes, Fit, Layer, LayerKind, Purpose};

@@ -1,4 +1,3 @@
-use Rattle.std.proofs.Common.{◌≡◌}
 use Rattle.jser_table.specs.Descriptors.{IsUnder, chains_of}
 use Rattle.jser_table.proofs.ChainLemmas.{told_push}
 use Rattle.jser_table.proofs.chains.Chains.add.Goals as goal

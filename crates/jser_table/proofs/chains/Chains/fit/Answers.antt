@@ -1,4 +1,3 @@
-use Rattle.std.proofs.Common.{◌≡◌}
 use Rattle.jser_table.proofs.ChainLemmas.{fit_told}
 use Rattle.jser_table.proofs.chains.Chains.fit.Goals as goal
 

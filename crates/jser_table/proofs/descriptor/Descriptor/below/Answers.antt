@@ -1,4 +1,4 @@
-use Rattle.std.proofs.Common.{◌≡◌, refl, rules}
+use Rattle.std.proofs.Common.{refl, rules}
 use Rattle.jser_table.proofs.ChainLemmas.{knows_below}
 use Rattle.jser_table.proofs.descriptor.Descriptor.below.Goals as goal
 
