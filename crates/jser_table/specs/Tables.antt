@@ -1,10 +1,12 @@
 -- What contracts see of a table of handles: the list of its entries, and how many it may have.
-use Rattle.std.specs.Prelude.{ℕ, ◌^◌, slice_get, ◌≡◌, ◌+◌, ◌<◌, ◌≤◌, Bool, true, false, List, [], ◌∷◌, ◌++◌, length, All, count_by, Option, Some, None}
+use Rattle.std.specs.Prelude.{codes, ℕ, ◌^◌, slice_get, ◌≡◌, ◌+◌, ◌<◌, ◌≤◌, Bool, true, false, List, [], ◌∷◌, ◌++◌, length, All, count_by, Option, Some, None}
 use Rattle.jser_table.specs.declared.layer.Layer.{Layer}
 use Rattle.jser_table.specs.declared.entry.Kind.{Kind}
 use Rattle.jser_table.specs.declared.entry.Kind.TheVariants as kind
 use Rattle.jser_table.specs.declared.entry.Entry.{Entry}
 use Rattle.jser_table.specs.declared.entry.Entry.TheVariants as entry
+use Rattle.jser_table.specs.declared.table.TableFault.{TableFault}
+use Rattle.jser_table.specs.declared.table.TableFault.TheVariants as fault
 use Rattle.jser_table.specs.Entries.{TableEntry, text_entry, other_entry, pending_entry, closed_entry, chain_at}
 use Rattle.jser_table.specs.Descriptors.{chain_in}
 use Rattle.jser_table.specs.Stored.{ChainList}
@@ -13,6 +15,11 @@ use Rattle.jser_table.specs.Stored.{ChainList}
 pub record TableView : Type 0 where
   pub entries : List TableEntry
   pub max : ℕ
+
+-- what a fault is printed as
+abbrev pub text_of : TableFault → List ℕ
+text_of fault.Full = codes "the table of handles is full"
+text_of fault.OutOfMemory = codes "out of memory"
 
 -- the entry that a new handle is given
 abbrev pub new_entry : Kind → TableEntry

@@ -14,7 +14,7 @@ use std::alloc::{AllocError, Global};
 use std::marker::Model;
 
 /// The chains of the closed descriptors, numbered in the order in which they were added.
-#[derive(Drop)]
+#[derive(Debug, Drop)]
 pub(crate) struct Chains {
     descriptors: Vec<Descriptor>,
 }

@@ -7,14 +7,14 @@ use crate::layer::Layer;
 /// Where a descriptor's superclasses stand in the list of closed descriptors: the parent, and an ancestor
 /// further up. The jumps are those of a skew-binary list (E. Myers, "An applicative random-access stack",
 /// 1983), so a walk to any ancestor takes a number of links in the order of the logarithm of the chain.
-#[derive(Clone, Copy)]
+#[derive(Clone, Copy, Debug)]
 pub(crate) struct Links {
     pub(crate) parent: u32,
     pub(crate) jump: u32,
 }
 
 /// A closed descriptor.
-#[derive(Drop)]
+#[derive(Debug, Drop)]
 pub(crate) struct Descriptor {
     pub(crate) layer: Layer,
     /// None for a class with no superclass.
@@ -28,7 +28,7 @@ pub(crate) struct Descriptor {
 }
 
 /// What a walk up a chain counts: all layers, or those that have something to read.
-#[derive(Clone, Copy)]
+#[derive(Clone, Copy, Debug)]
 pub(crate) enum Counted {
     Layers,
     Filled,

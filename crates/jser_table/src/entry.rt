@@ -26,6 +26,8 @@ pub enum Entry {
     Closed(Closed),
 }
 
+const _: () = prove!(size_of::<Entry>() == 8);
+
 /// The number of a chain, in the order in which descriptors were closed.
 #[derive(Clone, Copy, PartialEq, Eq, Debug)]
 pub struct Closed {

@@ -1,6 +1,6 @@
 //! Layers: what an object's data needs of each class of a chain.
 ghost use Rattle.std.specs.Prelude.{◌≡◌};
-ghost use Rattle.jser_table.specs.Chains.{has_write_method, is_serializable, is_externalizable, has_block_data, is_enum, is_filled, is_serial, is_array_kind};
+ghost use Rattle.jser_table.specs.Chains.{has_write_method, is_serializable, is_externalizable, has_block_data, is_enum, is_empty, is_filled, is_serial, is_array_kind};
 ghost use Rattle.jser_table.specs.Fits.{class_fit, object_fit};
 
 use std::marker::Model;
@@ -60,7 +60,7 @@ pub enum Fit {
 }
 
 /// The type codes of a class's fields, in the order of its descriptor.
-#[derive(Drop)]
+#[derive(Debug, Drop)]
 pub struct Codes {
     codes: Vec<u8>,
 }
@@ -78,7 +78,7 @@ impl Codes {
     pub fn new(codes: Vec<u8>) -> Codes
         ensures { result ≡ codes.items }
     {
-        Codes { codes }
+        Self { codes }
     }
 
     /// The codes, in order.
@@ -88,16 +88,24 @@ impl Codes {
         self.codes.as_slice()
     }
 
+    /// Whether there are none.
+    pub fn is_empty(&self) -> bool
+        ensures { result ≡ is_empty self.now }
+    {
+        self.as_slice().is_empty()
+    }
+
     /// Gives the vector back. Takes no memory.
     pub fn into_vec(self) -> Vec<u8>
         ensures { result.items ≡ self }
     {
-        self.codes
+        let Codes { codes } = self;
+        codes
     }
 }
 
 /// One class of a chain, as far as the data of its objects depends on it.
-#[derive(Drop)]
+#[derive(Debug, Drop)]
 pub struct Layer {
     /// What the class is.
     pub kind: LayerKind,
@@ -151,7 +159,7 @@ impl Layer {
     pub fn is_filled(&self) -> bool
         ensures { result ≡ is_filled self.now }
     {
-        !self.codes.as_slice().is_empty() || self.has_write_method()
+        !self.codes.is_empty() || self.has_write_method()
     }
 
     /// Whether the class is a proxy or has the flag `SC_SERIALIZABLE`.

@@ -7,7 +7,7 @@ ghost use Rattle.std.specs.Option.{ForSome, option_copied};
 ghost use Rattle.jser_table.specs.Chains.{all_serial, next_filled};
 ghost use Rattle.jser_table.specs.Entries.{is_text, is_pending, is_closed, chain_at};
 ghost use Rattle.jser_table.specs.Fits.{fit_of};
-ghost use Rattle.jser_table.specs.Tables.{new_entry, closed_under, is_text_entry, is_pending_entry, is_closed_entry, closed_kept, IsNumberOf};
+ghost use Rattle.jser_table.specs.Tables.{new_entry, closed_under, is_text_entry, is_pending_entry, is_closed_entry, closed_kept, IsNumberOf, text_of};
 
 use crate::chains::Chains;
 use crate::entry::{Closed, Entry, Kind, new_entry};
@@ -27,6 +27,8 @@ pub enum TableFault {
 }
 
 impl fmt::Display for TableFault {
+    ghost output = { λ fault. Some (text_of fault) };
+
     fn fmt<W: fmt::Write>(&self, f: &mut fmt::Formatter<W>) -> fmt::Result {
         match self {
             TableFault::Full => write!(f, "the table of handles is full"),
@@ -38,7 +40,7 @@ impl fmt::Display for TableFault {
 impl Error for TableFault {}
 
 /// The entries of one epoch, in the order of their handles.
-#[derive(Drop)]
+#[derive(Debug, Drop)]
 pub struct Table {
     entries: Vec<Entry>,
     chains: Chains,
