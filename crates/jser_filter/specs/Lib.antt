@@ -1,3 +1,5 @@
 pub mod Cuts
 pub mod Patterns
 pub mod Limits
+pub mod Pieces
+pub mod Tables

@@ -3,6 +3,12 @@
 #![tactic(auto)]
 
 mod cut;
+mod fault;
 mod limit;
+mod modules;
 mod pattern;
+mod piece;
 mod units;
+
+pub use fault::{FilterCause, FilterFault, ModulesCause, ModulesFault};
+pub use modules::Modules;
