@@ -3,3 +3,4 @@ pub mod Patterns
 pub mod Limits
 pub mod Pieces
 pub mod Tables
+pub mod Filters

@@ -4,6 +4,7 @@ use Rattle.std.specs.Prelude.{ℕ, ◌+◌, ◌-◌, ◌*◌, Bool, true, false,
 use Rattle.std.specs.List.{list_all}
 use Rattle.std.specs.Str.{bytes_eq}
 use Rattle.jser_filter.specs.declared.limit.Limit.{Limit}
+use Rattle.jser_filter.specs.declared.limit.Limits.{Limits}
 use Rattle.jser_filter.specs.declared.limit.Limit.TheVariants as limit
 
 -- the limits and their names
@@ -41,3 +42,10 @@ limit_value (unit ∷ units) =
     if unit == 0x2B then number_up_to 9223372036854775807 units
     else (if unit == 0x2D then number_up_to 0 units
     else number_up_to 9223372036854775807 (unit ∷ units))
+
+-- the limits with this value of one of them
+abbrev pub with_limit : Limits → Limit → ℕ → Limits
+with_limit limits limit.Depth value = record limits { depth = Some value }
+with_limit limits limit.Refs value = record limits { refs = Some value }
+with_limit limits limit.Bytes value = record limits { bytes = Some value }
+with_limit limits limit.Array value = record limits { array = Some value }

@@ -2,7 +2,6 @@
 -- pattern string is a sequence of patterns separated by `;`"). White space counts, and an empty piece says
 -- nothing.
 use Rattle.std.specs.Prelude.{ℕ, ◌≡◌, Bool, true, false, ◌==◌, ◌||◌, if◌then◌else◌, List, [], ◌∷◌, map, codes, Option, Some, None}
-use Rattle.std.specs.List.{slice_split}
 use Rattle.std.specs.Str.{bytes_eq}
 use Rattle.jser_filter.specs.declared.limit.Limit.{Limit}
 use Rattle.jser_filter.specs.declared.fault.FilterCause.{FilterCause}
@@ -10,7 +9,7 @@ use Rattle.jser_filter.specs.declared.fault.FilterCause.TheVariants as cause
 use Rattle.jser_filter.specs.declared.piece.Pattern.{Pattern as KeptPattern}
 use Rattle.jser_filter.specs.declared.piece.Piece.{Piece as KeptPiece}
 use Rattle.jser_filter.specs.declared.piece.Piece.TheVariants as kept
-use Rattle.jser_filter.specs.Cuts.{cut}
+use Rattle.jser_filter.specs.Cuts.{cut, parts}
 use Rattle.jser_filter.specs.Patterns.{NamePattern, name_pattern, view_name}
 use Rattle.jser_filter.specs.Limits.{limit_named, limit_value}
 
@@ -67,10 +66,6 @@ read_cut units (Some parts) = read_limit parts
 abbrev pub read_piece : List ℕ → Piece
 read_piece [] = empty_piece
 read_piece (unit ∷ units) = read_cut (unit ∷ units) (cut 0x3D (unit ∷ units))
-
--- the parts of a text, cut at each such unit
-abbrev pub parts : ℕ → List ℕ → List (List ℕ)
-parts at units = slice_split (λ unit. unit == at) units
 
 -- what the pieces of a text say, in their order
 abbrev pub pieces_of : List ℕ → List Piece

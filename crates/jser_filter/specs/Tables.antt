@@ -6,9 +6,8 @@ use Rattle.std.specs.Str.{bytes_eq}
 use Rattle.jser_filter.specs.declared.fault.ModulesCause.{ModulesCause}
 use Rattle.jser_filter.specs.declared.fault.ModulesCause.TheVariants as cause
 use Rattle.jser_filter.specs.declared.modules.Entry.{Entry as KeptEntry}
-use Rattle.jser_filter.specs.Cuts.{cut}
+use Rattle.jser_filter.specs.Cuts.{cut, parts}
 use Rattle.jser_filter.specs.Patterns.{package_of}
-use Rattle.jser_filter.specs.Pieces.{parts}
 
 -- a package and its module
 pub record Entry : Type 0 where

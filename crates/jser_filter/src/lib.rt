@@ -4,11 +4,16 @@
 
 mod cut;
 mod fault;
+mod filter;
 mod limit;
 mod modules;
 mod pattern;
 mod piece;
 mod units;
+mod verdict;
 
 pub use fault::{FilterCause, FilterFault, ModulesCause, ModulesFault};
+pub use filter::Filter;
+pub use limit::Limits;
 pub use modules::Modules;
+pub use verdict::Verdict;

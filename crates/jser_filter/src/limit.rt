@@ -1,6 +1,6 @@
 //! Limits: their names and values.
 ghost use Rattle.std.specs.Prelude.{◌≡◌, ◌+◌, ◌*◌, ◌<◌, ◌≤◌, ◌^◌, IfSome, IfNone};
-ghost use Rattle.jser_filter.specs.Limits.{limit_named, limit_value, number_up_to, digit_value};
+ghost use Rattle.jser_filter.specs.Limits.{limit_named, limit_value, number_up_to, digit_value, with_limit};
 
 use crate::units::is_text;
 
@@ -11,6 +11,34 @@ pub(crate) enum Limit {
     Refs,
     Bytes,
     Array,
+}
+
+/// The limits that a filter's text gives, each the last value that it gives that limit.
+#[derive(Clone, Copy, PartialEq, Eq, Debug, Default)]
+pub struct Limits {
+    /// The greatest depth of a place: `maxdepth`.
+    pub depth: Option<u64>,
+    /// The greatest number of places: `maxrefs`.
+    pub refs: Option<u64>,
+    /// The greatest number of bytes: `maxbytes`.
+    pub bytes: Option<u64>,
+    /// The greatest length of an array: `maxarray`.
+    pub array: Option<u64>,
+}
+
+impl Limits {
+    /// The limits with this value of one of them.
+    pub(crate) fn with(self, limit: Limit, value: u64) -> Limits
+        ensures { result ≡ with_limit self limit value }
+    {
+        let value = Some(value);
+        match limit {
+            Limit::Depth => Limits { depth: value, ..self },
+            Limit::Refs => Limits { refs: value, ..self },
+            Limit::Bytes => Limits { bytes: value, ..self },
+            Limit::Array => Limits { array: value, ..self },
+        }
+    }
 }
 
 /// The greatest value of a limit.

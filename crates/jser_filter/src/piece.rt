@@ -1,6 +1,8 @@
 //! The pieces of a filter's text: limits, patterns and empty ones.
 ghost use Rattle.std.specs.Prelude.{◌≡◌, IfOk, IfErr, option_map};
-ghost use Rattle.jser_filter.specs.Pieces.{read_piece, read_limit, read_pattern, read_named, read_name, lacks_package, view_piece, IsCauseOf};
+ghost use Rattle.jser_filter.specs.Pieces.{read_piece, read_limit, read_pattern, read_named, read_name, lacks_package, view_piece, view_pattern, IsCauseOf};
+ghost use Rattle.jser_filter.specs.Cuts.{part_now};
+ghost use Rattle.jser_filter.specs.Filters.{matches_piece, matches_pattern, is_in_module};
 
 use std::alloc::Global;
 
@@ -42,6 +44,35 @@ impl Piece {
         match cut(units, EQUALS) {
             Some((name, value)) => read_limit(name, value),
             None => read_pattern(alloc, units),
+        }
+    }
+
+    /// Whether this is a pattern that matches the name, which is in this module, if in any.
+    pub(crate) fn matches(&self, module: Option<&[u16]>, name: &[u16]) -> bool
+        ensures { result ≡ matches_piece (option_map part_now module) name.now (view_piece self.now) }
+    {
+        match self {
+            Piece::Empty | Piece::Limit(..) => false,
+            Piece::Pattern(pattern) => pattern.matches(module, name),
+        }
+    }
+}
+
+impl Pattern {
+    fn matches(&self, module: Option<&[u16]>, name: &[u16]) -> bool
+        ensures { result ≡ matches_pattern (option_map part_now module) name.now (view_pattern self.now) }
+    {
+        self.is_in(module) && self.name.matches(name)
+    }
+
+    /// Whether this module is the one that the pattern asks for, if it asks for one.
+    fn is_in(&self, module: Option<&[u16]>) -> bool
+        ensures { result ≡ is_in_module (option_map part_now module) self.now.in_module }
+    {
+        match (&self.in_module, module) {
+            (None, _) => true,
+            (Some(_), None) => false,
+            (Some(wanted), Some(found)) => found == wanted.as_slice(),
         }
     }
 }
