@@ -26,7 +26,7 @@ from_le value (digit ∷ digits) = omega (arith, from_le (next_value value digit
 decimal_front_le : (digits : List ℕ) (n : ℕ) → decimal (take n digits) ≤ decimal digits
 decimal_front_le digits n =
     let whole : decimal digits ≡ fold next_value (decimal (take n digits)) (drop n digits) =
-        ap decimal (sym (take-append-drop n digits)) ∙ fold-append next_value 0 (take n digits) (drop n digits)
+    ap decimal (sym (take-append-drop n digits)) ∙ fold-append next_value 0 (take n digits) (drop n digits)
     in
     omega (arith, whole, from_le (decimal (take n digits)) (drop n digits))
 
@@ -50,7 +50,7 @@ pub decimal_next : (digits : List ℕ) (index unit value digit next most : ℕ) 
 decimal_next digits index unit value digit next most read inside here is next_is within =
     let told = chosen (is_digit unit) unit digit is in
     let more : list_all is_digit (take (index + 1) digits) ≡ (list_all is_digit (take index digits) && is_digit unit) =
-        list_all_more is_digit digits index unit inside ∙ ap (λ u. list_all is_digit (take index digits) && is_digit u) (sym here)
+    list_all_more is_digit digits index unit inside ∙ ap (λ u. list_all is_digit (take index digits) && is_digit u) (sym here)
     in
     let last : get_or digits index 0 ≡ unit = get_or_default digits index 0 unit inside ∙ sym here in
     record {
@@ -70,7 +70,7 @@ no_number_above digits index unit value digit most read inside here is above =
     let told = chosen (is_digit unit) unit digit is in
     let last : get_or digits index 0 ≡ unit = get_or_default digits index 0 unit inside ∙ sym here in
     let large : most < decimal digits =
-        omega (arith, told.1, decimal_more digits index inside, last, read.value_is, decimal_front_le digits (index + 1))
+    omega (arith, told.1, decimal_more digits index inside, last, read.value_is, decimal_front_le digits (index + 1))
     in
     rw (lt-leb (decimal digits) most large, and_false (are_digits digits)) refl
 

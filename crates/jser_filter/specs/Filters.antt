@@ -91,7 +91,16 @@ limits_of pieces = record {
   depth = last_value limit.Depth pieces;
   refs = last_value limit.Refs pieces;
   bytes = last_value limit.Bytes pieces;
-  array = last_value limit.Array pieces
+  array = last_value limit.Array pieces;
+}
+
+-- the limits behind one more piece
+abbrev pub limits_after : Limits → Piece → Limits
+limits_after limits piece = record {
+  depth = later_or (value_in limit.Depth piece) limits.depth;
+  refs = later_or (value_in limit.Refs piece) limits.refs;
+  bytes = later_or (value_in limit.Bytes piece) limits.bytes;
+  array = later_or (value_in limit.Array piece) limits.array;
 }
 
 -- Faults.

@@ -2,14 +2,9 @@
 ghost use Rattle.std.specs.Prelude.{◌≡◌, ◌≢◌, slice_get, ◌++◌, [], ◌∷◌, length, map, position, option_map, OnOk, IfOk, IfErr};
 ghost use Rattle.jser_table.specs.Names.{element, element_of, malformed_element};
 ghost use Rattle.jser_filter.specs.Pieces.{pieces_of, read_piece, view_piece, IsCauseOf};
-ghost use Rattle.jser_filter.specs.Filters.{IsFirstFault, AreSound, rejects, limits_of, verdict_of, verdict_by, matches_piece};
+ghost use Rattle.jser_filter.specs.Filters.{IsFirstFault, AreSound, rejects, limits_of, limits_after, verdict_of, verdict_by, verdict_at, matches_piece};
 ghost use Rattle.jser_filter.specs.Cuts.{part_now};
 ghost use Rattle.jser_filter.specs.Tables.{module_of_class};
-
-use std::alloc::Global;
-use std::marker::Model;
-
-use jser_table::{Element, element_of};
 
 use crate::cut::next_part;
 use crate::fault::{FilterCause, FilterFault};
@@ -17,6 +12,9 @@ use crate::limit::{Limit, Limits};
 use crate::modules::Modules;
 use crate::piece::Piece;
 use crate::verdict::Verdict;
+use jser_table::{Element, element_of};
+use std::alloc::Global;
+use std::marker::Model;
 
 /// A filter of class names and limits.
 #[derive(Debug, Drop)]
@@ -74,15 +72,21 @@ impl Filter {
     fn judge_class(&self, class: &[u16]) -> Verdict
         ensures { result ≡ verdict_by self.now (element class.now) }
     {
-        let module = self.modules.of_class(class);
-        let Some(index) = first_match(&self.pieces, module, class) else {
-            return Verdict::Undecided;
-        };
-        if rejects(&self.pieces, index) {
-            Verdict::Rejected(index)
-        } else {
-            Verdict::Allowed(index)
-        }
+        judge_by(&self.pieces, self.modules.of_class(class), class)
+    }
+}
+
+/// What the pieces say of a name, whose package is in the module that was found, if in any.
+fn judge_by(pieces: &[Piece], found: Option<&[u16]>, name: &[u16]) -> Verdict
+    ensures { result ≡ verdict_at (map view_piece pieces.now) (position (matches_piece (option_map part_now found.entry) name.now) (map view_piece pieces.now)) }
+{
+    let Some(index) = first_match(pieces, found, name) else {
+        return Verdict::Undecided;
+    };
+    if rejects(pieces, index) {
+        Verdict::Rejected(index)
+    } else {
+        Verdict::Allowed(index)
     }
 }
 
@@ -94,16 +98,25 @@ fn rejects(pieces: &[Piece], index: usize) -> bool
 }
 
 /// The last value that the pieces give each limit.
+
 fn limits_in(pieces: &[Piece]) -> Limits
     ensures { result ≡ limits_of (map view_piece pieces.now) }
 {
     let mut limits = Limits::default();
     for piece in pieces {
-        if let Piece::Limit(limit, value) = piece {
-            limits = limits.with(*limit, *value);
-        }
+        limits = limits_after(limits, piece);
     }
     limits
+}
+
+/// The limits behind a piece.
+fn limits_after(limits: Limits, piece: &Piece) -> Limits
+    ensures { result ≡ limits_after limits (view_piece piece.now) }
+{
+    match piece {
+        Piece::Limit(limit, value) => limits.with(*limit, *value),
+        Piece::Empty | Piece::Pattern(_) => limits,
+    }
 }
 
 /// Reads the pieces of a filter's text.
@@ -144,8 +157,8 @@ fn add_piece(alloc: Global, pieces: &mut Vec<Piece>, units: &[u16]) -> Result<()
 }
 
 /// The index of the first piece whose pattern matches the name.
-fn first_match(pieces: &[Piece], module: Option<&[u16]>, name: &[u16]) -> Option<usize>
-    ensures { result ≡ position (matches_piece (option_map part_now module) name.now) (map view_piece pieces.now) }
+fn first_match(pieces: &[Piece], found: Option<&[u16]>, name: &[u16]) -> Option<usize>
+    ensures { result ≡ position (λ piece. matches_piece (option_map part_now found.entry) name.now (view_piece piece)) pieces.now }
 {
-    pieces.iter().position(|piece| piece.matches(module, name))
+    pieces.iter().position(|piece| piece.matches(found, name))
 }

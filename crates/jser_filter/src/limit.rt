@@ -33,10 +33,22 @@ impl Limits {
     {
         let value = Some(value);
         match limit {
-            Limit::Depth => Limits { depth: value, ..self },
-            Limit::Refs => Limits { refs: value, ..self },
-            Limit::Bytes => Limits { bytes: value, ..self },
-            Limit::Array => Limits { array: value, ..self },
+            Limit::Depth => Limits {
+                depth: value,
+                ..self
+            },
+            Limit::Refs => Limits {
+                refs: value,
+                ..self
+            },
+            Limit::Bytes => Limits {
+                bytes: value,
+                ..self
+            },
+            Limit::Array => Limits {
+                array: value,
+                ..self
+            },
         }
     }
 }
@@ -76,17 +88,15 @@ pub(crate) fn limit_value(units: &[u16]) -> Option<u64>
 }
 
 const PLUS: u16 = 0x2B;
+
 const MINUS: u16 = 0x2D;
+
 const ZERO: u16 = 0x30;
+
 const NINE: u16 = 0x39;
 
 /// The number that these digits write, if it is at most `most`.
-#[tactic(auto, using(
-    crate::proofs::LimitLemmas::decimal_next,
-    crate::proofs::LimitLemmas::no_number_other,
-    crate::proofs::LimitLemmas::no_number_above,
-    crate::proofs::LimitLemmas::number_is
-))]
+#[tactic(auto, using(crate::proofs::LimitLemmas::decimal_next, crate::proofs::LimitLemmas::no_number_other, crate::proofs::LimitLemmas::no_number_above, crate::proofs::LimitLemmas::number_is))]
 fn number_up_to(most: u64, digits: &[u16]) -> Option<u64>
     requires { most < 2 ^ 63 }
     ensures { result ≡ number_up_to most digits.now }

@@ -3,11 +3,10 @@ ghost use Rattle.std.specs.Prelude.{◌≡◌, ◌≢◌, ℕ, ◌<◌, [], leng
 ghost use Rattle.jser_filter.specs.Cuts.{part_now};
 ghost use Rattle.jser_filter.specs.Tables.{module_of, module_of_class, view_entry};
 
-use std::alloc::{AllocError, Global};
-use std::marker::Model;
-
 use crate::cut::before_last;
 use crate::units::Units;
+use std::alloc::{AllocError, Global};
+use std::marker::Model;
 
 /// A package and its module.
 #[derive(Debug, Drop)]

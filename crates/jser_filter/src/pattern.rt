@@ -2,9 +2,8 @@
 ghost use Rattle.std.specs.Prelude.{◌≡◌, ◌≤◌, length, IfOk};
 ghost use Rattle.jser_filter.specs.Patterns.{name_pattern, matches_name, view_name, has_dot, without_last};
 
-use std::alloc::{AllocError, Global};
-
 use crate::units::Units;
+use std::alloc::{AllocError, Global};
 
 /// A name pattern, read once: the units are those in front of its stars, or all.
 #[derive(Debug, Drop)]
@@ -20,8 +19,11 @@ pub(crate) enum NamePattern {
 }
 
 const DOT: u16 = 0x2E;
+
 const STAR: u16 = 0x2A;
+
 const BELOW: [u16; 3] = [DOT, STAR, STAR];
+
 const INSIDE: [u16; 2] = [DOT, STAR];
 
 impl NamePattern {

@@ -4,13 +4,12 @@ ghost use Rattle.jser_filter.specs.Pieces.{read_piece, read_limit, read_pattern,
 ghost use Rattle.jser_filter.specs.Cuts.{part_now};
 ghost use Rattle.jser_filter.specs.Filters.{matches_piece, matches_pattern, is_in_module};
 
-use std::alloc::Global;
-
 use crate::cut::cut;
 use crate::fault::FilterCause;
 use crate::limit::{Limit, limit_value};
 use crate::pattern::NamePattern;
 use crate::units::{Units, is_text};
+use std::alloc::Global;
 
 /// A pattern of names.
 #[derive(Debug, Drop)]
@@ -29,7 +28,9 @@ pub(crate) enum Piece {
 }
 
 const EQUALS: u16 = 0x3D;
+
 const REJECTS: u16 = 0x21;
+
 const SLASH: u16 = 0x2F;
 
 impl Piece {
@@ -47,29 +48,30 @@ impl Piece {
         }
     }
 
-    /// Whether this is a pattern that matches the name, which is in this module, if in any.
-    pub(crate) fn matches(&self, module: Option<&[u16]>, name: &[u16]) -> bool
-        ensures { result ≡ matches_piece (option_map part_now module) name.now (view_piece self.now) }
+    /// Whether this is a pattern that matches the name, whose package is in the module that was found, if
+    /// in any.
+    pub(crate) fn matches(&self, found: Option<&[u16]>, name: &[u16]) -> bool
+        ensures { result ≡ matches_piece (option_map part_now found.entry) name.now (view_piece self.now) }
     {
         match self {
             Piece::Empty | Piece::Limit(..) => false,
-            Piece::Pattern(pattern) => pattern.matches(module, name),
+            Piece::Pattern(pattern) => pattern.matches(found, name),
         }
     }
 }
 
 impl Pattern {
-    fn matches(&self, module: Option<&[u16]>, name: &[u16]) -> bool
-        ensures { result ≡ matches_pattern (option_map part_now module) name.now (view_pattern self.now) }
+    fn matches(&self, found: Option<&[u16]>, name: &[u16]) -> bool
+        ensures { result ≡ matches_pattern (option_map part_now found.entry) name.now (view_pattern self.now) }
     {
-        self.is_in(module) && self.name.matches(name)
+        self.is_in(found) && self.name.matches(name)
     }
 
-    /// Whether this module is the one that the pattern asks for, if it asks for one.
-    fn is_in(&self, module: Option<&[u16]>) -> bool
-        ensures { result ≡ is_in_module (option_map part_now module) self.now.in_module }
+    /// Whether the module that was found is the one that the pattern asks for, if it asks for one.
+    fn is_in(&self, found: Option<&[u16]>) -> bool
+        ensures { result ≡ is_in_module (option_map part_now found.entry) self.now.in_module }
     {
-        match (&self.in_module, module) {
+        match (&self.in_module, found) {
             (None, _) => true,
             (Some(_), None) => false,
             (Some(wanted), Some(found)) => found == wanted.as_slice(),

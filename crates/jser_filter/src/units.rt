@@ -41,7 +41,8 @@ pub(crate) fn is_text(units: &[u16], text: &[u8]) -> bool
 {
     match (units, text) {
         ([], []) => true,
-        ([unit, units @ ..], [byte, text @ ..]) => *unit == u16::from(*byte) && is_text(units, text),
+        ([unit, units @ ..], [byte, text @ ..]) => *unit == u16::from(*byte)
+            && is_text(units, text),
         _ => false,
     }
 }

@@ -8,4 +8,4 @@ returns-in_default-appended c =
     let digits = c.args.digits.now in
     let index = c.loop-unit.unit-index in
     no_number_above digits index (get_or digits index 0) c.loop-unit.value c.in-Some.digit c.args.most
-        c.loop-unit.invariant c.loop-unit-test.true (get_or_default digits index 0 _ c.loop-unit-test.true) c.in-Some.ensures.value c.in_default-appended.ensures.above
+    c.loop-unit.invariant c.loop-unit-test.true (get_or_default digits index 0 _ c.loop-unit-test.true) c.in-Some.ensures.value c.in_default-appended.ensures.above
