@@ -1,3 +1,4 @@
 pub mod CutLemmas
 pub mod LimitLemmas
 pub mod FilterLemmas
+pub mod ModulesLemmas

@@ -1,10 +1,10 @@
 -- Tables of modules: lines `package=module`, parted by line feeds. White space counts, and an empty line says
 -- nothing.
-use Rattle.std.specs.Prelude.{ℕ, ◌≡◌, Bool, true, false, ◌==◌, ◌||◌, not, if◌then◌else◌, List, [], ◌∷◌, ◌++◌, map, take, slice_get, Option, Some, None, option_and_then, is_some}
-use Rattle.std.specs.List.{list_any}
+use Rattle.std.specs.Prelude.{ℕ, ◌≡◌, ◌<◌, length, Bool, true, false, ◌==◌, ◌||◌, not, if◌then◌else◌, List, [], ◌∷◌, ◌++◌, map, take, slice_get, Option, Some, None, option_and_then, is_some}
 use Rattle.std.specs.Str.{bytes_eq}
 use Rattle.jser_filter.specs.declared.fault.ModulesCause.{ModulesCause}
 use Rattle.jser_filter.specs.declared.fault.ModulesCause.TheVariants as cause
+use Rattle.jser_filter.specs.declared.fault.ModulesFault.{ModulesFault}
 use Rattle.jser_filter.specs.declared.modules.Entry.{Entry as KeptEntry}
 use Rattle.jser_filter.specs.Cuts.{cut, parts}
 use Rattle.jser_filter.specs.Patterns.{package_of}
@@ -33,7 +33,7 @@ pub data Line : Type 0 where
   entry_line : Entry → Line
 
 abbrev pub has_equals : List ℕ → Bool
-has_equals units = list_any (λ unit. unit == 0x3D) units
+has_equals units = is_some (cut 0x3D units)
 
 -- exactly one `=`, and no side of it is empty
 abbrev pub read_sides : Option (List ℕ × List ℕ) → Line
@@ -71,3 +71,24 @@ line_fault lines number = option_and_then (fault_in (table_of (take number lines
 -- a kept entry
 abbrev pub view_entry : KeptEntry → Entry
 view_entry entry = record { package_name = entry.package; module_name = entry.module }
+
+-- the sides of a line that has them
+abbrev pub view_sides : Option (List ℕ × List ℕ) → Line
+view_sides None = bad_line
+view_sides (Some (front, back)) = entry_line record { package_name = front; module_name = back }
+
+-- the cause is the one that the line has, or memory ran out
+abbrev pub IsLineCause : Option ModulesCause → ModulesCause → Type 0
+IsLineCause told cause.OutOfMemory = Unit {0}
+IsLineCause told cause.BadLine = told ≡ Some cause.BadLine
+IsLineCause told cause.PackageTwice = told ≡ Some cause.PackageTwice
+
+-- no line before this one is faulty
+abbrev pub NoFaultBefore : List Line → ℕ → Type 0
+NoFaultBefore lines number = (earlier : ℕ) → earlier < number → line_fault lines earlier ≡ None
+
+-- The fault is that of the line that it names, or memory ran out there; and no earlier line is faulty.
+pub record IsFirstLineFault (lines : List Line) (fault : ModulesFault) : Type 0 where
+  pub inside : fault.line < length lines
+  pub here : IsLineCause (line_fault lines fault.line) fault.cause
+  pub before : NoFaultBefore lines fault.line
