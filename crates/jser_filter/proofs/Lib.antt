@@ -2,3 +2,4 @@ pub mod CutLemmas
 pub mod LimitLemmas
 pub mod FilterLemmas
 pub mod ModulesLemmas
+pub mod LawLemmas

@@ -4,3 +4,4 @@ pub mod Limits
 pub mod Pieces
 pub mod Tables
 pub mod Filters
+pub mod Laws

@@ -5,6 +5,7 @@
 mod cut;
 mod fault;
 mod filter;
+pub mod laws;
 mod limit;
 mod modules;
 mod pattern;
