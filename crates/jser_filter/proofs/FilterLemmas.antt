@@ -1,0 +1,114 @@
+-- Filters: reading a text piece by piece, and what the kept pieces say.
+use denote.Bor.{Bor}
+use Rattle.std.proofs.Common.{◌≡◌, ℕ, zero, suc, ◌+◌, ◌<◌, Bool, true, false, ◌||◌, cond, List, [], ◌∷◌, ◌++◌, length, map, take, get_or, slice_get, not, position, Option, Some, None, refl, ap, sym, ◌∙◌, subst, arith, append_assoc, length-append}
+use Rattle.std.specs.List.{list_any, prefix_len}
+use Rattle.std.proofs.lemmas.List.{take_at, length-map, map_more}
+use Rattle.jser_filter.specs.declared.fault.FilterFault.{FilterFault}
+use Rattle.jser_filter.specs.declared.piece.Piece.{Piece as KeptPiece}
+use Rattle.jser_filter.specs.declared.piece.Piece.TheVariants as kept
+use Rattle.jser_filter.specs.Cuts.{parts, parts_with}
+use Rattle.jser_filter.specs.Pieces.{Piece, pieces_of, read_piece, view_piece, IsCauseOf}
+use Rattle.jser_filter.specs.Filters.{IsFirstFault, AreSound, is_faulty, later_or, value_in, last_value, limits_of, limits_after, rejects, verdict_at}
+use Rattle.jser_filter.specs.declared.verdict.Verdict.TheVariants as verdict
+use Rattle.jser_filter.specs.declared.limit.Limit.{Limit}
+use Rattle.jser_filter.specs.declared.limit.Limit.TheVariants as limit
+use Rattle.jser_filter.specs.declared.limit.Limits.{Limits}
+
+-- the pieces of the text that is left, if any is
+abbrev pub left_pieces : Option (Bor (List ℕ)) → List Piece
+left_pieces None = []
+left_pieces (Some text) = pieces_of text.now
+
+-- how much is left
+abbrev pub left_length : Option (Bor (List ℕ)) → ℕ
+left_length None = 0
+left_length (Some text) = length text.now + 1
+
+left_after : (text : List ℕ) (part : Bor (List ℕ)) (rest : Option (Bor (List ℕ))) → parts 0x3B text ≡ parts_with 0x3B (part, rest) → pieces_of text ≡ read_piece part.now ∷ left_pieces rest
+left_after text part None is = ap (map read_piece) is
+left_after text part (Some rest) is = ap (map read_piece) is
+
+-- kept pieces are sound
+pub view_sound : (pieces : List KeptPiece) → AreSound (map view_piece pieces)
+view_sound [] = refl
+view_sound (kept.Empty ∷ pieces) = view_sound pieces
+view_sound (kept.Limit limit value ∷ pieces) = view_sound pieces
+view_sound (kept.Pattern pattern ∷ pieces) = view_sound pieces
+
+pub piece_read : (whole : List Piece) (old new : List KeptPiece) (text : List ℕ) (part : Bor (List ℕ)) (rest : Option (Bor (List ℕ))) → map view_piece old ++ pieces_of text ≡ whole → parts 0x3B text ≡ parts_with 0x3B (part, rest) → map view_piece new ≡ map view_piece old ++ read_piece part.now ∷ [] → map view_piece new ++ left_pieces rest ≡ whole
+piece_read whole old new text part rest is split added =
+    ap (λ front. front ++ left_pieces rest) added
+    ∙ append_assoc (map view_piece old) (read_piece part.now ∷ []) (left_pieces rest)
+    ∙ ap (λ back. map view_piece old ++ back) (sym (left_after text part rest split))
+    ∙ is
+
+slice_get-at : (front : List Piece) (piece : Piece) (back : List Piece) → slice_get (front ++ piece ∷ back) (length front) ≡ Some piece
+slice_get-at [] piece back = refl
+slice_get-at (first ∷ front) piece back = slice_get-at front piece back
+
+some_injective : (x y : Piece) → Some x ≡ Some y → x ≡ y
+some_injective x y e = cc
+
+pub fault_found : (whole : List Piece) (old : List KeptPiece) (text : List ℕ) (part : Bor (List ℕ)) (rest : Option (Bor (List ℕ))) (fault : FilterFault) → map view_piece old ++ pieces_of text ≡ whole → parts 0x3B text ≡ parts_with 0x3B (part, rest) → fault.pattern ≡ length old → IsCauseOf (read_piece part.now) fault.cause → IsFirstFault whole fault
+fault_found whole old text part rest fault is split pattern cause =
+    let front : List Piece = map view_piece old in
+    let split_whole : front ++ read_piece part.now ∷ left_pieces rest ≡ whole = ap (λ back. front ++ back) (sym (left_after text part rest split)) ∙ is in
+    let place : fault.pattern ≡ length front = pattern ∙ sym (length-map old view_piece) in
+    record {
+      inside = omega (arith, ap length split_whole, length-append front (read_piece part.now ∷ left_pieces rest));
+      here = λ piece found.
+          let same : read_piece part.now ≡ piece =
+          some_injective (read_piece part.now) piece (sym (slice_get-at front (read_piece part.now) (left_pieces rest)) ∙ ap (λ i. slice_get (front ++ read_piece part.now ∷ left_pieces rest) i) (sym place) ∙ ap (λ pieces. slice_get pieces fault.pattern) split_whole ∙ found)
+          in
+          subst (λ (p : Piece). IsCauseOf p fault.cause) same cause;
+      before = ap (λ pieces. list_any is_faulty (take fault.pattern pieces)) (sym split_whole)
+          ∙ ap (list_any is_faulty) (take_at front (read_piece part.now ∷ left_pieces rest) fault.pattern (sym place))
+          ∙ view_sound old;
+    }
+
+-- limits
+
+or_none : (value : Option ℕ) → later_or None value ≡ later_or value None
+or_none None = refl
+or_none (Some value) = refl
+
+or_assoc : (a b c : Option ℕ) → later_or (later_or a b) c ≡ later_or a (later_or b c)
+or_assoc None b c = refl
+or_assoc (Some a) b c = refl
+
+last_value-push : (wanted : Limit) (pieces : List Piece) (piece : Piece) → last_value wanted (pieces ++ piece ∷ []) ≡ later_or (value_in wanted piece) (last_value wanted pieces)
+last_value-push wanted [] piece = or_none (value_in wanted piece)
+last_value-push wanted (first ∷ pieces) piece =
+    ap (λ last. later_or last (value_in wanted first)) (last_value-push wanted pieces piece)
+    ∙ or_assoc (value_in wanted piece) (last_value wanted pieces) (value_in wanted first)
+
+limits_of-push : (pieces : List Piece) (piece : Piece) → limits_of (pieces ++ piece ∷ []) ≡ limits_after (limits_of pieces) piece
+limits_of-push pieces piece =
+    let depth = last_value-push limit.Depth pieces piece in
+    let refs = last_value-push limit.Refs pieces piece in
+    let bytes = last_value-push limit.Bytes pieces piece in
+    let array = last_value-push limit.Array pieces piece in
+    cc
+
+pub limits_more : (pieces : List KeptPiece) (index : ℕ) (piece : KeptPiece) (limits next : Limits) → limits ≡ limits_of (map view_piece (take index pieces)) → index < length pieces → piece ≡ get_or pieces index piece → next ≡ limits_after limits (view_piece piece) → next ≡ limits_of (map view_piece (take (index + 1) pieces))
+limits_more pieces index piece limits next so_far inside here is =
+    let more : map view_piece (take (index + 1) pieces) ≡ map view_piece (take index pieces) ++ view_piece piece ∷ [] =
+    map_more view_piece pieces index piece inside ∙ ap (λ p. map view_piece (take index pieces) ++ view_piece p ∷ []) (sym here)
+    in
+    is ∙ ap (λ l. limits_after l (view_piece piece)) so_far ∙ sym (limits_of-push (map view_piece (take index pieces)) (view_piece piece)) ∙ sym (ap limits_of more)
+
+-- the first match
+
+prefix_len-map : (test : Piece → Bool) (pieces : List KeptPiece) → prefix_len (λ piece. not (test (view_piece piece))) pieces ≡ prefix_len (λ piece. not (test piece)) (map view_piece pieces)
+prefix_len-map test [] = refl
+prefix_len-map test (piece ∷ pieces) = ap (λ n. cond (not (test (view_piece piece))) (1 + n) 0) (prefix_len-map test pieces)
+
+position_view : (test : Piece → Bool) (pieces : List KeptPiece) → position (λ piece. test (view_piece piece)) pieces ≡ position test (map view_piece pieces)
+position_view test pieces = rw (prefix_len-map test pieces, length-map pieces view_piece) refl
+
+pub undecided : (test : Piece → Bool) (pieces : List KeptPiece) → None ≡ position (λ piece. test (view_piece piece)) pieces → verdict.Undecided ≡ verdict_at (map view_piece pieces) (position test (map view_piece pieces))
+undecided test pieces is = ap (verdict_at (map view_piece pieces)) (is ∙ position_view test pieces)
+
+pub decided : (test : Piece → Bool) (pieces : List KeptPiece) (index : ℕ) (told : Bool) → Some index ≡ position (λ piece. test (view_piece piece)) pieces → told ≡ rejects (slice_get (map view_piece pieces) index) → cond told (verdict.Rejected index) (verdict.Allowed index) ≡ verdict_at (map view_piece pieces) (position test (map view_piece pieces))
+decided test pieces index told is says =
+    ap (λ b. cond b (verdict.Rejected index) (verdict.Allowed index)) says ∙ ap (verdict_at (map view_piece pieces)) (is ∙ position_view test pieces)

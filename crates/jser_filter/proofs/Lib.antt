@@ -1,0 +1,5 @@
+pub mod CutLemmas
+pub mod LimitLemmas
+pub mod FilterLemmas
+pub mod ModulesLemmas
+pub mod LawLemmas

@@ -1,0 +1,99 @@
+-- Tables of modules: reading a text line by line.
+use denote.Bor.{Bor}
+use Rattle.std.proofs.Common.{◌≡◌, ℕ, zero, suc, ◌+◌, ◌-◌, ◌<◌, ◌≤◌, List, [], ◌∷◌, ◌++◌, length, map, take, drop, get_or, slice_get, Option, Some, None, option_and_then, refl, ap, sym, ◌∙◌, subst, inl, inr, arith, append_assoc, length-append}
+use Rattle.std.specs.Prelude.{IfSome}
+use Rattle.std.proofs.lemmas.Bool.{cases_lt}
+use Rattle.std.proofs.lemmas.Option.{slice_get-get_or}
+use Rattle.std.proofs.lemmas.List.{length-drop, drop_more, take_more, take_all}
+use Rattle.jser_filter.specs.declared.fault.ModulesCause.{ModulesCause}
+use Rattle.jser_filter.specs.declared.fault.ModulesFault.{ModulesFault}
+use Rattle.jser_filter.specs.declared.modules.Entry.{Entry as KeptEntry}
+use Rattle.jser_filter.specs.Cuts.{parts, parts_with}
+use Rattle.jser_filter.specs.Tables.{Entry, ModuleTable, Line, empty_line, bad_line, entry_line, read_line, lines_of, table_of, fault_in, line_fault, view_entry, IsLineCause, NoFaultBefore, IsFirstLineFault}
+use Rattle.jser_filter.proofs.FilterLemmas.{left_length}
+
+-- the lines of the text that is left, if any is
+abbrev pub left_lines : Option (Bor (List ℕ)) → List Line
+left_lines None = []
+left_lines (Some text) = lines_of text.now
+
+-- the first `number` lines have been read, and made these entries
+pub record HasRead (units : List ℕ) (entries : List KeptEntry) (rest : Option (Bor (List ℕ))) (number : ℕ) : Type 0 where
+  pub left : drop number (lines_of units) ≡ left_lines rest
+  pub table : map view_entry entries ≡ table_of (take number (lines_of units))
+  pub sound : NoFaultBefore (lines_of units) number
+  pub count : number + left_length rest ≤ length units + 1
+
+left_after : (text : List ℕ) (part : Bor (List ℕ)) (rest : Option (Bor (List ℕ))) → parts 0x0A text ≡ parts_with 0x0A (part, rest) → lines_of text ≡ read_line part.now ∷ left_lines rest
+left_after text part None is = ap (map read_line) is
+left_after text part (Some rest) is = ap (map read_line) is
+
+table_of-append : (front back : List Line) → table_of (front ++ back) ≡ table_of front ++ table_of back
+table_of-append [] back = refl
+table_of-append (empty_line ∷ front) back = table_of-append front back
+table_of-append (bad_line ∷ front) back = table_of-append front back
+table_of-append (entry_line entry ∷ front) back = ap (λ table. entry ∷ table) (table_of-append front back)
+
+-- one more line
+record IsNext (lines : List Line) (number : ℕ) (line : Line) (left : List Line) : Type 0 where
+  inside : number < length lines
+  here : slice_get lines number ≡ Some line
+  behind : drop (number + 1) lines ≡ left
+  upto : take (number + 1) lines ≡ take number lines ++ line ∷ []
+
+next_line : (lines : List Line) (number : ℕ) (line : Line) (left : List Line) → drop number lines ≡ line ∷ left → IsNext lines number line left
+next_line lines number line left is =
+    let inside : number < length lines = omega (arith, ap length is, length-drop number lines) in
+    let split = drop_more lines number line inside in
+    let same : get_or lines number line ≡ line = cc in
+    let behind : drop (number + 1) lines ≡ left = cc in
+    record {
+      inside = inside;
+      here = slice_get-get_or lines number line inside ∙ ap Some same;
+      behind = behind;
+      upto = take_more lines number line inside ∙ ap (λ last. take number lines ++ last ∷ []) same;
+    }
+
+read_next : (units text : List ℕ) (number : ℕ) (part : Bor (List ℕ)) (rest : Option (Bor (List ℕ))) → drop number (lines_of units) ≡ lines_of text → parts 0x0A text ≡ parts_with 0x0A (part, rest) → IsNext (lines_of units) number (read_line part.now) (left_lines rest)
+read_next units text number part rest left split = next_line (lines_of units) number (read_line part.now) (left_lines rest) (left ∙ left_after text part rest split)
+
+fault_here : (lines : List Line) (number : ℕ) (line : Line) (table : ModuleTable) → slice_get lines number ≡ Some line → table ≡ table_of (take number lines) → line_fault lines number ≡ fault_in table line
+fault_here lines number line table here is =
+    ap (option_and_then (fault_in (table_of (take number lines)))) here ∙ ap (λ t. fault_in t line) (sym is)
+
+sound_more : (lines : List Line) (number : ℕ) → NoFaultBefore lines number → line_fault lines number ≡ None → NoFaultBefore lines (number + 1)
+sound_more lines number before here = λ earlier below.
+    elim (cases_lt earlier number) [
+        inl less ↦ before earlier less
+      | inr more ↦ let same : number ≡ earlier = omega arith in subst (λ n. line_fault lines n ≡ None) same here
+    ]
+
+pub line_read : (units : List ℕ) (old new : List KeptEntry) (number : ℕ) (text part : Bor (List ℕ)) (rest : Option (Bor (List ℕ))) → HasRead units old (Some text) number → parts 0x0A text.now ≡ parts_with 0x0A (part, rest) → map view_entry new ≡ map view_entry old ++ table_of (read_line part.now ∷ []) → fault_in (map view_entry old) (read_line part.now) ≡ None → left_length rest ≤ length text.now → HasRead units new rest (number + 1)
+line_read units old new number text part rest read split added sound less =
+    let next = read_next units text.now number part rest read.left split in
+    record {
+      left = next.behind;
+      table = added ∙ ap (λ table. table ++ table_of (read_line part.now ∷ [])) read.table ∙ sym (table_of-append (take number (lines_of units)) (read_line part.now ∷ [])) ∙ sym (ap table_of next.upto);
+      sound = sound_more (lines_of units) number read.sound (fault_here (lines_of units) number (read_line part.now) (map view_entry old) next.here read.table ∙ sound);
+      count = omega (arith, read.count);
+    }
+
+pub line_faulty : (units : List ℕ) (old : List KeptEntry) (number : ℕ) (text part : Bor (List ℕ)) (rest : Option (Bor (List ℕ))) (fault : ModulesFault) → HasRead units old (Some text) number → parts 0x0A text.now ≡ parts_with 0x0A (part, rest) → fault.line ≡ number → IsLineCause (fault_in (map view_entry old) (read_line part.now)) fault.cause → IsFirstLineFault (lines_of units) fault
+line_faulty units old number text part rest fault read split line cause =
+    let next = read_next units text.now number part rest read.left split in
+    let here = fault_here (lines_of units) number (read_line part.now) (map view_entry old) next.here read.table in
+    record {
+      inside = omega (arith, next.inside);
+      here = rw (line, here) cause;
+      before = rw line read.sound;
+    }
+
+-- at the end all lines have been read
+pub all_read : (units : List ℕ) (entries : List KeptEntry) (number : ℕ) → HasRead units entries None number → (map view_entry entries ≡ table_of (lines_of units)) × NoFaultBefore (lines_of units) (length (lines_of units))
+all_read units entries number read =
+    let past : length (lines_of units) ≤ number = omega (arith, ap length read.left, length-drop number (lines_of units)) in
+    (read.table ∙ ap table_of (take_all number (lines_of units) past), λ earlier below. read.sound earlier (omega arith))
+
+pub left_less : (text : Bor (List ℕ)) (rest : Option (Bor (List ℕ))) → IfSome rest (λ r. length r.now < length text.now) → left_length rest ≤ length text.now
+left_less text None less = omega arith
+left_less text (Some rest) less = omega (arith, less)

@@ -1,0 +1,84 @@
+//! What is wrong with a filter's text or a table of modules, and where.
+use std::alloc::AllocError;
+use std::fmt;
+
+/// What is wrong with a piece of a filter's text. Where several faults hold, the first of these is told.
+#[derive(Clone, Copy, PartialEq, Eq, Debug)]
+pub enum FilterCause {
+    /// A limit with none of the names `maxdepth`, `maxrefs`, `maxbytes` and `maxarray`.
+    UnknownLimit,
+    /// The value of a limit is no number from 0 to 2^63 - 1.
+    BadLimit,
+    /// Nothing stands before the first `/`.
+    ModuleMissing,
+    /// The name pattern is empty.
+    NameMissing,
+    /// The name pattern is `.*` or `.**` alone.
+    PackageMissing,
+    /// There was no memory for the piece.
+    OutOfMemory,
+}
+
+/// The first faulty piece of a filter's text, counted from 0 with empty pieces and limits included.
+#[derive(Clone, Copy, PartialEq, Eq, Debug)]
+pub struct FilterFault {
+    /// The piece.
+    pub pattern: usize,
+    /// What is wrong with it.
+    pub cause: FilterCause,
+}
+
+impl From<AllocError> for FilterCause {
+    ghost use Rattle.std.specs.Prelude.{◌≡◌};
+    ghost use Rattle.jser_filter.specs.declared.fault.FilterCause.TheVariants.{OutOfMemory};
+
+    ghost from_gives = { λ _ cause. cause ≡ OutOfMemory };
+
+    fn from(_error: AllocError) -> FilterCause {
+        FilterCause::OutOfMemory
+    }
+}
+
+impl fmt::Display for FilterCause {
+    fn fmt<W: fmt::Write>(&self, f: &mut fmt::Formatter<W>) -> fmt::Result {
+        match self {
+            FilterCause::UnknownLimit => write!(f, "UnknownLimit"),
+            FilterCause::BadLimit => write!(f, "BadLimit"),
+            FilterCause::ModuleMissing => write!(f, "ModuleMissing"),
+            FilterCause::NameMissing => write!(f, "NameMissing"),
+            FilterCause::PackageMissing => write!(f, "PackageMissing"),
+            FilterCause::OutOfMemory => write!(f, "OutOfMemory"),
+        }
+    }
+}
+
+/// What is wrong with a line of a table of modules. Where both faults hold, the first is told.
+#[derive(Clone, Copy, PartialEq, Eq, Debug)]
+pub enum ModulesCause {
+    /// Not exactly one `=`, or an empty side.
+    BadLine,
+    /// The package stands in an earlier line.
+    PackageTwice,
+    /// There was no memory for the line.
+    OutOfMemory,
+}
+
+/// The first faulty line of a table of modules, counted from 0 with empty lines included.
+#[derive(Clone, Copy, PartialEq, Eq, Debug)]
+pub struct ModulesFault {
+    /// The line.
+    pub line: usize,
+    /// What is wrong with it.
+    pub cause: ModulesCause,
+}
+
+impl From<AllocError> for ModulesCause {
+    ghost use Rattle.std.specs.Prelude.{◌≡◌};
+    ghost use Rattle.jser_filter.specs.declared.fault.ModulesCause.TheVariants.{OutOfMemory};
+
+    ghost from_gives = { λ _ cause. cause ≡ OutOfMemory };
+
+    fn from(_error: AllocError) -> ModulesCause {
+        ModulesCause::OutOfMemory
+    }
+}

@@ -1,0 +1,20 @@
+//! Filter texts of class names and limits, in the language of `ObjectInputFilter.Config.createFilter`:
+//! what a text means, and what it says of a name.
+#![tactic(auto)]
+
+mod cut;
+mod fault;
+mod filter;
+pub mod laws;
+mod limit;
+mod modules;
+mod pattern;
+mod piece;
+mod units;
+mod verdict;
+
+pub use fault::{FilterCause, FilterFault, ModulesCause, ModulesFault};
+pub use filter::Filter;
+pub use limit::Limits;
+pub use modules::Modules;
+pub use verdict::Verdict;

@@ -1,0 +1,151 @@
+//! The pieces of a filter's text: limits, patterns and empty ones.
+ghost use Rattle.std.specs.Prelude.{◌≡◌, IfOk, IfErr, option_map};
+ghost use Rattle.jser_filter.specs.Pieces.{read_piece, read_limit, read_pattern, read_named, read_name, lacks_package, view_piece, view_pattern, IsCauseOf};
+ghost use Rattle.jser_filter.specs.Cuts.{part_now};
+ghost use Rattle.jser_filter.specs.Filters.{matches_piece, matches_pattern, is_in_module};
+
+use crate::cut::cut;
+use crate::fault::FilterCause;
+use crate::limit::{Limit, limit_value};
+use crate::pattern::NamePattern;
+use crate::units::{Units, is_text};
+use std::alloc::Global;
+
+/// A pattern of names.
+#[derive(Debug, Drop)]
+pub(crate) struct Pattern {
+    pub(crate) rejects: bool,
+    pub(crate) in_module: Option<Units>,
+    pub(crate) name: NamePattern,
+}
+
+/// What a piece says. An empty one says nothing, and keeps its place in the order.
+#[derive(Debug, Drop)]
+pub(crate) enum Piece {
+    Empty,
+    Limit(Limit, u64),
+    Pattern(Pattern),
+}
+
+const EQUALS: u16 = 0x3D;
+
+const REJECTS: u16 = 0x21;
+
+const SLASH: u16 = 0x2F;
+
+impl Piece {
+    /// Reads a piece, or tells what is wrong with it.
+    pub(crate) fn read(alloc: Global, units: &[u16]) -> Result<Piece, FilterCause>
+        ensures piece { IfOk result (λ piece. view_piece piece ≡ read_piece units.now) }
+        ensures cause { IfErr result (IsCauseOf (read_piece units.now)) }
+    {
+        if units.is_empty() {
+            return Ok(Piece::Empty);
+        }
+        match cut(units, EQUALS) {
+            Some((name, value)) => read_limit(name, value),
+            None => read_pattern(alloc, units),
+        }
+    }
+
+    /// Whether this is a pattern that matches the name, whose package is in the module that was found, if
+    /// in any.
+    pub(crate) fn matches(&self, found: Option<&[u16]>, name: &[u16]) -> bool
+        ensures { result ≡ matches_piece (option_map part_now found.entry) name.now (view_piece self.now) }
+    {
+        match self {
+            Piece::Empty | Piece::Limit(..) => false,
+            Piece::Pattern(pattern) => pattern.matches(found, name),
+        }
+    }
+}
+
+impl Pattern {
+    fn matches(&self, found: Option<&[u16]>, name: &[u16]) -> bool
+        ensures { result ≡ matches_pattern (option_map part_now found.entry) name.now (view_pattern self.now) }
+    {
+        self.is_in(found) && self.name.matches(name)
+    }
+
+    /// Whether the module that was found is the one that the pattern asks for, if it asks for one.
+    fn is_in(&self, found: Option<&[u16]>) -> bool
+        ensures { result ≡ is_in_module (option_map part_now found.entry) self.now.in_module }
+    {
+        match (&self.in_module, found) {
+            (None, _) => true,
+            (Some(_), None) => false,
+            (Some(wanted), Some(found)) => found == wanted.as_slice(),
+        }
+    }
+}
+
+/// Reads `name=value`.
+fn read_limit(name: &[u16], value: &[u16]) -> Result<Piece, FilterCause>
+    ensures piece { IfOk result (λ piece. view_piece piece ≡ read_limit (name.now, value.now)) }
+    ensures cause { IfErr result (IsCauseOf (read_limit (name.now, value.now))) }
+{
+    let Some(limit) = Limit::named(name) else {
+        return Err(FilterCause::UnknownLimit);
+    };
+    let Some(value) = limit_value(value) else {
+        return Err(FilterCause::BadLimit);
+    };
+    Ok(Piece::Limit(limit, value))
+}
+
+/// Reads a pattern: one leading `!` makes it a rejecting one.
+fn read_pattern(alloc: Global, units: &[u16]) -> Result<Piece, FilterCause>
+    ensures piece { IfOk result (λ piece. view_piece piece ≡ read_pattern units.now) }
+    ensures cause { IfErr result (IsCauseOf (read_pattern units.now)) }
+{
+    match units {
+        [REJECTS, units @ ..] => read_named(alloc, true, units),
+        _ => read_named(alloc, false, units),
+    }
+}
+
+/// Reads `module/name`, or a name pattern alone.
+fn read_named(alloc: Global, rejects: bool, units: &[u16]) -> Result<Piece, FilterCause>
+    ensures piece { IfOk result (λ piece. view_piece piece ≡ read_named rejects units.now) }
+    ensures cause { IfErr result (IsCauseOf (read_named rejects units.now)) }
+{
+    match cut(units, SLASH) {
+        None => read_name(alloc, rejects, None, units),
+        Some(([], _)) => Err(FilterCause::ModuleMissing),
+        Some((module, name)) => {
+            let module = Units::copy_of(alloc, module)?;
+            read_name(alloc, rejects, Some(module), name)
+        }
+    }
+}
+
+/// Reads a name pattern.
+fn read_name(
+    alloc: Global,
+    rejects: bool,
+    in_module: Option<Units>,
+    units: &[u16],
+) -> Result<Piece, FilterCause>
+    ensures piece { IfOk result (λ piece. view_piece piece ≡ read_name rejects in_module units.now) }
+    ensures cause { IfErr result (IsCauseOf (read_name rejects in_module units.now)) }
+{
+    if units.is_empty() {
+        return Err(FilterCause::NameMissing);
+    }
+    if lacks_package(units) {
+        return Err(FilterCause::PackageMissing);
+    }
+    let name = NamePattern::read(alloc, units)?;
+    Ok(Piece::Pattern(Pattern {
+        rejects,
+        in_module,
+        name,
+    }))
+}
+
+/// Whether the name pattern is `.*` or `.**` alone.
+fn lacks_package(units: &[u16]) -> bool
+    ensures { result ≡ lacks_package units.now }
+{
+    is_text(units, b".*") || is_text(units, b".**")
+}
