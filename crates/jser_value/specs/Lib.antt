@@ -1,0 +1,10 @@
+pub mod Codes
+pub mod Trees
+pub mod View
+pub mod Spelling
+pub mod TableAfter
+pub mod Parts
+pub mod WellFormed
+pub mod Streams
+pub mod CheckedNames
+pub mod Counts
