@@ -1,6 +1,7 @@
 -- What may stand in the parts of a tree: texts, names, flags, references, fields, raw values and blocks
 -- (Java Object Serialization Specification, sections 6.2 and 6.4).
-use Rattle.std.specs.Prelude.{ℕ, ◌+◌, ◌^◌, ◌<◌, ◌≡◌, Bool, true, false, ◌&&◌, ◌||◌, IsTrue, IsFalse, All, List, [], ◌∷◌, length, slice_get, Option, Some, None, is_some}
+use Rattle.std.specs.Prelude.{ℕ, ◌+◌, ◌^◌, ◌<◌, ◌≡◌, Bool, true, false, ◌&&◌, ◌||◌, IsTrue, IsFalse, nat_lt, List, [], ◌∷◌, length, slice_get, Option, Some, None, is_some}
+use Rattle.std.specs.List.{list_all}
 use Rattle.jser_prim.specs.ModifiedUtf8.{modified_utf8, IsUnits}
 use Rattle.jser_table.specs.declared.layer.Layer.{Layer}
 use Rattle.jser_table.specs.declared.layer.LayerKind.{LayerKind}
@@ -30,6 +31,10 @@ is_malformed malformed_name = true
 
 abbrev pub IsClassName : List ℕ → Type 0
 IsClassName name = IsText false name × IsFalse (is_malformed (name_kind name))
+
+abbrev pub AreClassNames : List (List ℕ) → Type 0
+AreClassNames [] = Unit {0}
+AreClassNames (name ∷ names) = IsClassName name × AreClassNames names
 
 -- no bit of E0, and not SC_SERIALIZABLE together with SC_EXTERNALIZABLE
 abbrev pub IsFlags : ℕ → Type 0
@@ -71,6 +76,11 @@ WellFormedFields T seen (f ∷ fs) =
 abbrev pub IsPrimOf : PrimCode → PrimTree → Type 0
 IsPrimOf c p = (p.code ≡ c) × (p.bits < 256 ^ size_of c)
 
+-- raw values of this type
+abbrev pub ArePrimsOf : PrimCode → List PrimTree → Type 0
+ArePrimsOf c [] = Unit {0}
+ArePrimsOf c (p ∷ ps) = IsPrimOf c p × ArePrimsOf c ps
+
 -- one raw value for each code, in order
 abbrev pub ArePrims : List PrimCode → List PrimTree → Type 0
 ArePrims [] [] = Unit {0}
@@ -78,13 +88,17 @@ ArePrims [] (p ∷ ps) = ⊥
 ArePrims (c ∷ cs) [] = ⊥
 ArePrims (c ∷ cs) (p ∷ ps) = IsPrimOf c p × ArePrims cs ps
 
+-- these numbers are bytes
+abbrev pub IsBytes : List ℕ → Type 0
+IsBytes bytes = IsTrue (list_all (λ b. nat_lt b 0x100) bytes)
+
 -- the size of block data in 1 byte, or in 4 bytes with the highest bit 0
 abbrev pub block_bound : Bool → ℕ
 block_bound false = 2 ^ 8
 block_bound true = 2 ^ 31
 
 abbrev pub IsBlock : Bool → List ℕ → Type 0
-IsBlock long bytes = All (λ b. b < 256) bytes × (length bytes < block_bound long)
+IsBlock long bytes = IsBytes bytes × (length bytes < block_bound long)
 
 -- the elements of an array of this class: raw values of one type, or values
 abbrev pub elements_of_body : BodyKind → Option PrimCode

@@ -1,7 +1,7 @@
 -- Which trees obey the format (Java Object Serialization Specification, sections 6.2 and 6.4): each part is
 -- taken with the table of handles at its own moment. `IsTrue (fits ..)` are the conditions on the class of an
 -- object, an array and an enum constant.
-use Rattle.std.specs.Prelude.{ℕ, ◌^◌, ◌<◌, ◌≡◌, Bool, true, false, IsTrue, IsFalse, MatchBool, All, List, [], ◌∷◌, length, Option, Some, None}
+use Rattle.std.specs.Prelude.{ℕ, ◌^◌, ◌<◌, ◌≡◌, Bool, true, false, IsTrue, IsFalse, MatchBool, List, [], ◌∷◌, length, Option, Some, None}
 use Rattle.jser_table.specs.declared.layer.Layer.{Layer}
 use Rattle.jser_table.specs.declared.layer.Purpose.TheVariants as purpose
 use Rattle.jser_table.specs.Chains.{has_write_method}
@@ -10,7 +10,7 @@ use Rattle.jser_table.specs.Fits.{fits}
 use Rattle.jser_value.specs.Codes.{PrimCode, primitive_codes, object_count}
 use Rattle.jser_value.specs.Trees.{ValueTree, null, back, string, descriptor, class_object, array, enum_constant, object, DescTree, plain, proxy, ClassPlaceTree, no_class, back_class, new_class, BodyTree, raw_body, value_body, ValueTrees, no_values, value_and, value_count, SectionTree, section, SectionTrees, no_sections, section_and, NotesTree, no_notes, annotation, ContentTree, block, reset, content, ContentTrees, no_contents, content_and}
 use Rattle.jser_value.specs.TableAfter.{Entries, add, after_fields, after_value, after_class, after_values, after_notes, after_contents, chain_of_class}
-use Rattle.jser_value.specs.Parts.{IsText, IsClassName, IsFlags, IsBack, IsBackToClass, WellFormedText, WellFormedFields, IsPrimOf, ArePrims, IsBlock, elements_of, is_external}
+use Rattle.jser_value.specs.Parts.{IsText, IsClassName, AreClassNames, IsFlags, IsBack, IsBackToClass, WellFormedText, WellFormedFields, ArePrimsOf, ArePrims, IsBlock, elements_of, is_external}
 
 abbrev mutual
   pub WellFormedValue : Entries → ValueTree → Type 0
@@ -39,7 +39,7 @@ abbrev mutual
       × WellFormedNotes behind_fields notes
       × WellFormedSuperclass (after_contents behind_fields notes) parent
   WellFormedDesc T (proxy interfaces notes parent) =
-      (length interfaces < 2 ^ 31) × All IsClassName interfaces
+      (length interfaces < 2 ^ 31) × AreClassNames interfaces
       × WellFormedNotes (add T pending_entry) notes
       × WellFormedSuperclass (after_contents (add T pending_entry) notes) parent
 
@@ -57,7 +57,7 @@ abbrev mutual
 
   pub WellFormedBody : Entries → BodyTree → Option PrimCode → Type 0
   WellFormedBody T (raw_body ps) None = ⊥
-  WellFormedBody T (raw_body ps) (Some c) = (length ps < 2 ^ 31) × All (IsPrimOf c) ps
+  WellFormedBody T (raw_body ps) (Some c) = (length ps < 2 ^ 31) × ArePrimsOf c ps
   WellFormedBody T (value_body vs) None = (value_count vs < 2 ^ 31) × WellFormedValues T vs
   WellFormedBody T (value_body vs) (Some c) = ⊥
 
