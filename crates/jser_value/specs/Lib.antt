@@ -8,3 +8,11 @@ pub mod WellFormed
 pub mod Streams
 pub mod CheckedNames
 pub mod Counts
+pub mod Roles
+pub mod Moments
+pub mod Labels
+pub mod Fields
+pub mod FieldBytes
+pub mod Goals
+pub mod Accepts
+pub mod Machine
