@@ -93,7 +93,6 @@ may_follow seen code = if is_object_code code then true else (is_some (prim_code
 -- the format takes this field there
 abbrev pub AcceptsAt : Position → Moment → StreamField → Type 0
 AcceptsAt header_at m header_field = Unit {0}
-
 -- any value, block data, and at the top a reset
 AcceptsAt top_at m (tag_field tag) = Unit {0}
 AcceptsAt top_at m (block_tag_field long) = Unit {0}
@@ -102,7 +101,6 @@ AcceptsAt annotation_at m (tag_field tag) = Unit {0}
 AcceptsAt annotation_at m (block_tag_field long) = Unit {0}
 AcceptsAt annotation_at m end_tag_field = Unit {0}
 AcceptsAt value_at m (tag_field tag) = Unit {0}
-
 -- a descriptor or a reference, and for a superclass null
 AcceptsAt (class_place_at owner) m (tag_field reference_tag) = Unit {0}
 AcceptsAt (class_place_at owner) m (tag_field class_desc_tag) = Unit {0}
@@ -111,25 +109,21 @@ AcceptsAt (superclass_place_at owner strict) m (tag_field null_tag) = Unit {0}
 AcceptsAt (superclass_place_at owner strict) m (tag_field reference_tag) = Unit {0}
 AcceptsAt (superclass_place_at owner strict) m (tag_field class_desc_tag) = Unit {0}
 AcceptsAt (superclass_place_at owner strict) m (tag_field proxy_desc_tag) = Unit {0}
-
 -- a string or a reference
 AcceptsAt text_place_at m (tag_field reference_tag) = Unit {0}
 AcceptsAt text_place_at m (tag_field string_tag) = Unit {0}
 AcceptsAt text_place_at m (tag_field long_string_tag) = Unit {0}
-
 -- the handle of a reference
 AcceptsAt back_handle_at m (handle_field n) = IsBack m.table n
 AcceptsAt text_handle_at m (handle_field n) = IsBackToText m.table n
 AcceptsAt (class_handle_at owner) m (handle_field n) = IsBackToClass m.table n × FitsOwner owner (chain_at m.table n)
 AcceptsAt (superclass_handle_at owner strict) m (handle_field n) = IsBackToClass m.table n × FitsRole (superclass owner strict) (chain_at m.table n)
-
 -- texts
 AcceptsAt (string_at false) m (text_field false units) = IsText false units
 AcceptsAt (string_at true) m (text_field true units) = IsText true units
 AcceptsAt (class_name_at role) m (text_field false units) = IsClassName units × NameFits role (name_kind units)
 AcceptsAt field_name_at m (text_field false units) = IsText false units
 AcceptsAt interface_name_at m (text_field false units) = IsClassName units
-
 -- numbers
 AcceptsAt suid_at m (suid_field n) = n < 2 ^ 64
 AcceptsAt (flags_at role) m (flags_field n) = IsFlags n × FlagsFit role n
@@ -139,11 +133,9 @@ AcceptsAt array_length_at m (array_length_field n) = n < 2 ^ 31
 AcceptsAt (type_code_at seen) m (code_field n) = IsTrue (may_follow seen n)
 AcceptsAt (block_length_at false) m (block_length_field false n) = n < block_bound false
 AcceptsAt (block_length_at true) m (block_length_field true n) = n < block_bound true
-
 -- raw values and bytes, never none
 AcceptsAt (raw_at c (suc n)) m (prims_field ps) = (length ps ≡ suc n) × ArePrimsOf c ps
 AcceptsAt (bytes_at (suc n)) m (bytes_field bytes) = IsBytes bytes × (length bytes ≡ suc n)
-
 -- and nothing else
 AcceptsAt _ m _ = ⊥
 

@@ -79,7 +79,7 @@ abbrev mutual
   cut_value d m (array c b) rest =
       let made = assign (past_class (tick m) c) other_entry in
       cut_class array_owner d (tick m) c
-        (at array_length_at d made (array_length_field (array_length b)) ∷ cut_body d made (elements_of (chain_of_class m.table c)) b rest)
+      (at array_length_at d made (array_length_field (array_length b)) ∷ cut_body d made (elements_of (chain_of_class m.table c)) b rest)
   cut_value d m (enum_constant c t) rest =
       cut_class enum_owner d (tick m) c (cut_text_place d (assign (past_class (tick m) c) other_entry) t rest)
   cut_value d m (object c ss) rest =
@@ -95,13 +95,13 @@ abbrev mutual
       at (class_name_at role) d m (text_field false name) ∷ at suid_at d m (suid_field suid)
       ∷ at (flags_at role) d opened (flags_field flags) ∷ at field_count_at d opened (field_count_field (length fields))
       ∷ cut_fields d false opened fields
-        (cut_annotation d behind_fields notes
-          (cut_superclass (owner_of role) (is_strict_above role flags) (suc d) (past_contents behind_fields notes) parent rest))
+      (cut_annotation d behind_fields notes
+      (cut_superclass (owner_of role) (is_strict_above role flags) (suc d) (past_contents behind_fields notes) parent rest))
   cut_desc role d m (proxy interfaces notes parent) rest =
       let opened = assign m pending_entry in
       at interface_count_at d opened (interface_count_field (length interfaces))
       ∷ cut_interfaces d opened interfaces
-        (cut_annotation d opened notes (cut_superclass (owner_of role) (is_strict_above role 0) (suc d) (past_contents opened notes) parent rest))
+      (cut_annotation d opened notes (cut_superclass (owner_of role) (is_strict_above role 0) (suc d) (past_contents opened notes) parent rest))
 
   pub cut_class : Owner → ℕ → Moment → ClassPlaceTree → List Piece → List Piece
   cut_class owner d m no_class rest = rest
@@ -132,7 +132,7 @@ abbrev mutual
   cut_sections d m [] (section_and s ss) rest = rest
   cut_sections d m (l ∷ ls) (section_and (section ps vs n) ss) rest =
       cut_prims d m (primitive_codes l.codes) ps
-        (cut_values d m vs (cut_notes d (past_values m vs) n (cut_sections d (past_notes (past_values m vs) n) ls ss rest)))
+      (cut_values d m vs (cut_notes d (past_values m vs) n (cut_sections d (past_notes (past_values m vs) n) ls ss rest)))
 
   pub cut_notes : ℕ → Moment → NotesTree → List Piece → List Piece
   cut_notes d m no_notes rest = rest

@@ -16,3 +16,4 @@ pub mod FieldBytes
 pub mod Goals
 pub mod Accepts
 pub mod Machine
+pub mod Laws

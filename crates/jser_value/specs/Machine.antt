@@ -36,7 +36,6 @@ type_goals false d goals = goals
 -- behind a field that the goal takes
 abbrev pub advance_at : Moment → Goal → List Goal → StreamField → State
 advance_at m header_goal goals header_field = (m, goals)
-
 -- contents
 advance_at m top_goal goals (tag_field tag) = begin 1 m tag (top_goal ∷ goals)
 advance_at m top_goal goals (block_tag_field long) = (m, block_length_goal long 0 ∷ top_goal ∷ goals)
@@ -46,7 +45,6 @@ advance_at m (annotation_goal d) goals (block_tag_field long) = (m, block_length
 advance_at m (annotation_goal d) goals end_tag_field = (m, goals)
 advance_at m (block_length_goal long d) goals (block_length_field long' n) = (m, block_goal d n ∷ goals)
 advance_at m (block_goal d (suc n)) goals (bytes_field bytes) = (m, goals)
-
 -- references, strings and text places
 advance_at m (back_handle_goal d) goals (handle_field n) = (m, goals)
 advance_at m (text_handle_goal d) goals (handle_field n) = (m, goals)
@@ -54,12 +52,10 @@ advance_at m (string_goal long d) goals (text_field long' units) = (m, goals)
 advance_at m (text_place_goal d) goals (tag_field reference_tag) = (m, text_handle_goal d ∷ goals)
 advance_at m (text_place_goal d) goals (tag_field string_tag) = (assign m text_entry, string_goal false d ∷ goals)
 advance_at m (text_place_goal d) goals (tag_field long_string_tag) = (assign m text_entry, string_goal true d ∷ goals)
-
 -- sections and bodies
 advance_at m (parts_goal d (raw_part c (suc n) ∷ parts)) goals (prims_field ps) = (m, parts_goal d parts ∷ goals)
 advance_at m (parts_goal d (value_part ∷ parts)) goals (tag_field tag) = begin (suc d) m tag (parts_goal d parts ∷ goals)
 advance_at m (array_length_goal elements d) goals (array_length_field n) = (m, parts_goal d (body_parts elements n) ∷ goals)
-
 -- class places: the entry of the owner is made when the class has been read
 advance_at m (class_goal owner d) goals (tag_field class_desc_tag) =
     (m, class_name_goal (own_class (Some owner)) d ∷ made_goal owner d (next_number m) ∷ goals)
@@ -67,7 +63,6 @@ advance_at m (class_goal owner d) goals (tag_field proxy_desc_tag) =
     open_proxy (own_class (Some owner)) d m (made_goal owner d (next_number m) ∷ goals)
 advance_at m (class_goal owner d) goals (tag_field reference_tag) = (m, class_handle_goal owner d ∷ goals)
 advance_at m (class_handle_goal owner d) goals (handle_field n) = (m, made_goal owner d n ∷ goals)
-
 -- superclass places: the descriptor is closed when its superclass has been read
 advance_at m (superclass_goal owner strict d number layer) goals (tag_field null_tag) = (closing (tick m) number (layer ∷ []), goals)
 advance_at m (superclass_goal owner strict d number layer) goals (tag_field class_desc_tag) =
@@ -77,7 +72,6 @@ advance_at m (superclass_goal owner strict d number layer) goals (tag_field prox
 advance_at m (superclass_goal owner strict d number layer) goals (tag_field reference_tag) =
     (tick m, superclass_handle_goal owner strict d number layer ∷ goals)
 advance_at m (superclass_handle_goal owner strict d number layer) goals (handle_field n) = (m, close_goal number n layer ∷ goals)
-
 -- a plain descriptor, whose handle its suid assigns
 advance_at m (class_name_goal role d) goals (text_field long units) = (m, suid_goal role d (name_kind units) ∷ goals)
 advance_at m (suid_goal role d kind) goals (suid_field n) = (assign m pending_entry, flags_goal role d (next_number m) kind ∷ goals)
@@ -86,7 +80,6 @@ advance_at m (field_count_goal role d number kind flags) goals (field_count_fiel
 advance_at m (fields_goal role d number kind flags seen codes (suc n)) goals (code_field c) =
     (m, field_name_goal d ∷ type_goals (is_object_code c) d (fields_goal role d number kind flags (seen || is_object_code c) (c ∷ codes) n ∷ goals))
 advance_at m (field_name_goal d) goals (text_field long units) = (m, goals)
-
 -- a proxy descriptor
 advance_at m (interface_count_goal role d number) goals (interface_count_field n) = (m, interfaces_goal role d number n ∷ goals)
 advance_at m (interfaces_goal role d number (suc n)) goals (text_field long units) = (m, interfaces_goal role d number n ∷ goals)

@@ -3,6 +3,7 @@
 //! section 6.4; `laws` has what holds of them alone.
 #![tactic(auto)]
 
+pub mod laws;
 mod tree;
 
 pub use tree::{Body, ClassPlace, Content, Desc, Field, Prim, Section, Text, TextPlace, Value};
