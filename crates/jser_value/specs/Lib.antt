@@ -16,4 +16,5 @@ pub mod FieldBytes
 pub mod Goals
 pub mod Accepts
 pub mod Machine
+pub mod ComesNext
 pub mod Laws
