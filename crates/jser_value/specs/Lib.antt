@@ -18,3 +18,4 @@ pub mod Accepts
 pub mod Machine
 pub mod ComesNext
 pub mod Laws
+pub mod ByteLaws
