@@ -19,3 +19,5 @@ pub mod Machine
 pub mod ComesNext
 pub mod Laws
 pub mod ByteLaws
+pub mod Scanner
+pub mod WalkLaws
