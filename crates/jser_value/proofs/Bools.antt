@@ -1,6 +1,5 @@
 -- Tests and what they say.
 use Rattle.std.proofs.Common.{◌≡◌, Bool, true, false, ◌&&◌, refl, sym, IsTrue, true≢false}
-
 pub and_left : (a b : Bool) → IsTrue (a && b) → IsTrue a
 and_left true b h = refl
 and_left false b h = h
@@ -22,9 +21,9 @@ and-true true = refl
 and-true false = refl
 
 -- a test that fails proves anything when it holds
-pub no : {A : Type 0} → IsTrue false → A
-no h = absurd (true≢false (sym h))
+pub untrue : {A : Type 0} → IsTrue false → A
+untrue h = absurd (true≢false (sym h))
 
 pub both_ways : {A : Type 0} → (b : Bool) → b ≡ true → b ≡ false → A
 both_ways true h k = absurd (true≢false k)
-both_ways false h k = no h
+both_ways false h k = untrue h

@@ -5,7 +5,7 @@ use Rattle.jser_value.proofs.Vocabulary.{is_serializable, is_externalizable, has
 use Rattle.jser_table.specs.declared.layer.Purpose.TheVariants as purpose
 use Rattle.jser_table.specs.declared.layer.Fit.TheVariants as fit
 use Rattle.jser_table.specs.Fits.{fit_of_own}
-use Rattle.jser_value.proofs.Bools.{and_left, and_right, and_both, and-assoc, and-true, no}
+use Rattle.jser_value.proofs.Bools.{and_left, and_right, and_both, and-assoc, and-true, untrue}
 
 -- a plain layer, by what its name says
 abbrev pub layer_of : NameKind → ℕ → List ℕ → Layer
@@ -68,7 +68,7 @@ object_choice : (c : List Layer) (kind : NameKind) (f : ℕ) (codes : List ℕ) 
 object_choice c kind f codes h =
     let l = layer_of kind f codes in
     rw (← is_serial_kind-plain kind f)
-    (and_right (not (is_array_kind l.kind)) (cond (is_externalizable f) (has_block_data f) (all_serial c && is_serial_kind l.kind f)) (sym (object_fits-snoc c l) ∙ h))
+      (and_right (not (is_array_kind l.kind)) (cond (is_externalizable f) (has_block_data f) (all_serial c && is_serial_kind l.kind f)) (sym (object_fits-snoc c l) ∙ h))
 
 own_choice : (e b s a : Bool) → IsTrue (cond e b (a && s)) → IsTrue (cond e b s)
 own_choice true b s a h = h
@@ -87,8 +87,8 @@ pub name_fits_of : (role : Role) (c : List Layer) (kind : NameKind) (f : ℕ) (c
 name_fits_of role c malformed_name f codes n h = absurd (true≢false n)
 name_fits_of (own_class None) c kind f codes n h = tt
 name_fits_of (own_class (Some object_owner)) c plain_name f codes n h = tt
-name_fits_of (own_class (Some object_owner)) c (array_name b) f codes n h = no (sym (object_fits-snoc c (layer_of (array_name b) f codes)) ∙ h)
-name_fits_of (own_class (Some array_owner)) c plain_name f codes n h = no (sym (array_fits-snoc c (layer_of plain_name f codes)) ∙ h)
+name_fits_of (own_class (Some object_owner)) c (array_name b) f codes n h = untrue (sym (object_fits-snoc c (layer_of (array_name b) f codes)) ∙ h)
+name_fits_of (own_class (Some array_owner)) c plain_name f codes n h = untrue (sym (array_fits-snoc c (layer_of plain_name f codes)) ∙ h)
 name_fits_of (own_class (Some array_owner)) c (array_name b) f codes n h = tt
 name_fits_of (own_class (Some enum_owner)) c kind f codes n h = tt
 name_fits_of (own_class (Some class_owner)) c kind f codes n h = tt
@@ -139,8 +139,8 @@ plain_fits (superclass owner true) c kind f codes n h k =
 pub proxy_fits_of : (role : Role) (c : List Layer) → FitsRole role (c ++ (proxy_layer ∷ [])) → ProxyFits role
 proxy_fits_of (own_class None) c h = tt
 proxy_fits_of (own_class (Some object_owner)) c h = tt
-proxy_fits_of (own_class (Some array_owner)) c h = no (sym (array_fits-snoc c proxy_layer) ∙ h)
-proxy_fits_of (own_class (Some enum_owner)) c h = no (sym (enum_fits-snoc c proxy_layer) ∙ h)
+proxy_fits_of (own_class (Some array_owner)) c h = untrue (sym (array_fits-snoc c proxy_layer) ∙ h)
+proxy_fits_of (own_class (Some enum_owner)) c h = untrue (sym (enum_fits-snoc c proxy_layer) ∙ h)
 proxy_fits_of (own_class (Some class_owner)) c h = tt
 proxy_fits_of (superclass owner strict) c h = tt
 
