@@ -28,3 +28,7 @@ NoFaultPassed = (gate : FieldGate) (verdict : VerdictOn) → IsScanner gate verd
 abbrev pub CutShort : Type 0
 CutShort = (gate : FieldGate) (verdict : VerdictOn) → IsScanner gate verdict → (bytes cut : List ℕ) (s : State) →
     walk verdict begin_state [] bytes ≡ ended s cut → (list : ContentTrees) → IsStreamOf bytes list → IsDone (settled s) × (cut ≡ [])
+
+-- None of this is said of nothing: each gate has such a verdict.
+abbrev pub EachGateHasAVerdict : Type 0
+EachGateHasAVerdict = (gate : FieldGate) → (verdict : VerdictOn) × IsScanner gate verdict
