@@ -5,6 +5,7 @@
 ghost use Rattle.jser_value.specs.Laws.{Exact, NextIsTold};
 ghost use Rattle.jser_value.specs.ByteLaws.{OneReading, NoPrefix, Spelled};
 ghost use Rattle.jser_value.specs.WalkLaws.{AcceptsExactly, RefusesFirst, NoFaultPassed, CutShort, EachGateHasAVerdict};
+ghost use Rattle.jser_value.specs.Limits.{Limited};
 
 /// Of a byte list at most one content list makes a stream.
 pub fn one_reading()
@@ -64,5 +65,12 @@ pub fn cut_short()
 /// Each gate has a verdict that goes with it, so the laws of the walk speak of something.
 pub fn each_gate_has_a_verdict()
     ensures { EachGateHasAVerdict }
+{
+}
+
+/// A gate's limits on depth, places, array lengths, handles of each epoch and checked names, asked field by field,
+/// hold exactly where the counts and the names of the list are within them.
+pub fn limited()
+    ensures { Limited }
 {
 }
