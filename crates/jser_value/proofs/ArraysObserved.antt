@@ -68,8 +68,8 @@ mutual
       let chain = chain_of_class m.table c in
       arrays_class c object_owner d (tick m) (if is_external chain then cut_external d made ss rest else cut_sections d made chain ss rest) h.0
       ∙ ap (λ z. arrays_in_class c ++ z)
-          (arrays_by_class (is_external chain) (WellFormedExternal made.table ss) (WellFormedSections made.table ss chain) (cut_external d made ss rest) (cut_sections d made chain ss rest)
-            (arrays_in_sections ss ++ lengths_in rest) h.2 (λ w. arrays_external ss d made rest w) (λ w. arrays_sections ss chain d made rest w))
+      (arrays_by_class (is_external chain) (WellFormedExternal made.table ss) (WellFormedSections made.table ss chain) (cut_external d made ss rest) (cut_sections d made chain ss rest)
+      (arrays_in_sections ss ++ lengths_in rest) h.2 (λ w. arrays_external ss d made rest w) (λ w. arrays_sections ss chain d made rest w))
       ∙ two (arrays_in_class c) (arrays_in_sections ss) (lengths_in rest)
 
   arrays_desc : (x : DescTree) (role : Role) (d : ℕ) (m : Moment) (rest : List Piece) → WellFormedDesc m.table x → lengths_in (cut_desc role d m x rest) ≡ arrays_in_desc x ++ lengths_in rest

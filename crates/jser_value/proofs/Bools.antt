@@ -1,5 +1,6 @@
 -- Tests and what they say.
 use Rattle.std.proofs.Common.{◌≡◌, Bool, true, false, ◌&&◌, refl, sym, IsTrue, true≢false}
+
 pub and_left : (a b : Bool) → IsTrue (a && b) → IsTrue a
 and_left true b h = refl
 and_left false b h = h

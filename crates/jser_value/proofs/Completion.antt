@@ -2,7 +2,7 @@
 -- for a handle may have none that fits, and every other goal has a field that finishes it. The fields are those of
 -- the emptiest stream: empty texts and counts, suid 0, zero raw values, null values, ends of annotations.
 use Rattle.std.proofs.Common.{◌≡◌, ℕ, zero, suc, ◌^◌, ◌<◌, Bool, true, false, ◌||◌, List, [], ◌∷◌, ◌++◌, length, refl, ap, Option, Some, None}
-use Rattle.jser_value.proofs.Vocabulary.{text_entry, other_entry, pending_entry, chain_at, NameKind, name_kind, Layer, PrimCode, byte_code, char_code, double_code, float_code, int_code, long_code, short_code, boolean_code, size_of, PrimTree, array, proxy_layer, IsClassName, IsFlags, ArePrimsOf, IsBytes, elements_of, is_external, Owner, object_owner, array_owner, enum_owner, class_owner, ChainOwner, Role, own_class, superclass, owner_of, is_strict_above, NameFits, FlagsFit, Moment, tick, assign, closing, next_number, null_tag, class_desc_tag, string_tag, StreamField, header_field, tag_field, end_tag_field, suid_field, flags_field, field_count_field, interface_count_field, array_length_field, code_field, text_field, block_length_field, prims_field, bytes_field, header_at, annotation_at, value_at, text_place_at, class_place_at, superclass_place_at, string_at, class_name_at, field_name_at, interface_name_at, suid_at, field_count_at, interface_count_at, array_length_at, flags_at, type_code_at, block_length_at, raw_at, bytes_at, Piece, piece, at, Part, raw_part, value_part, annotation_part, Goal, header_goal, top_goal, annotation_goal, back_handle_goal, text_place_goal, text_handle_goal, field_name_goal, string_goal, block_length_goal, block_goal, array_length_goal, parts_goal, class_goal, class_handle_goal, made_goal, superclass_goal, superclass_handle_goal, close_goal, class_name_goal, suid_goal, flags_goal, field_count_goal, fields_goal, interface_count_goal, interfaces_goal, State, object_parts, body_parts, read_layer, ending, settled, label_of, Accepts, advance, IsDone, Reads}
+use Rattle.jser_value.proofs.Vocabulary.{text_entry, other_entry, pending_entry, chain_at, NameKind, name_kind, Layer, PrimCode, byte_code, char_code, double_code, float_code, int_code, long_code, short_code, boolean_code, size_of, PrimTree, proxy_layer, IsClassName, IsFlags, ArePrimsOf, IsBytes, elements_of, is_external, Owner, object_owner, array_owner, enum_owner, class_owner, ChainOwner, Role, own_class, superclass, owner_of, is_strict_above, NameFits, FlagsFit, Moment, tick, assign, closing, next_number, null_tag, class_desc_tag, string_tag, StreamField, header_field, tag_field, end_tag_field, suid_field, flags_field, field_count_field, interface_count_field, array_length_field, code_field, text_field, block_length_field, prims_field, bytes_field, header_at, annotation_at, value_at, text_place_at, class_place_at, superclass_place_at, string_at, class_name_at, field_name_at, interface_name_at, suid_at, field_count_at, interface_count_at, array_length_at, flags_at, type_code_at, block_length_at, raw_at, bytes_at, Piece, piece, at, Part, raw_part, value_part, annotation_part, Goal, header_goal, top_goal, annotation_goal, back_handle_goal, text_place_goal, text_handle_goal, field_name_goal, string_goal, block_length_goal, block_goal, array_length_goal, parts_goal, class_goal, class_handle_goal, made_goal, superclass_goal, superclass_handle_goal, close_goal, class_name_goal, suid_goal, flags_goal, field_count_goal, fields_goal, interface_count_goal, interfaces_goal, State, object_parts, body_parts, read_layer, ending, settled, label_of, Accepts, advance, IsDone, Reads}
 use Rattle.std.proofs.Common.{lit<}
 use Rattle.jser_prim.specs.ModifiedUtf8.{unit_spelling}
 use Rattle.jser_value.proofs.TreeToMachine.{resettle, reads_made, owner_goals}

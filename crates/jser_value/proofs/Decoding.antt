@@ -1,7 +1,7 @@
 -- Fields out of their bytes: numbers, the units of modified UTF-8, tags and raw values are found again.
 use Rattle.std.proofs.Common.{◌≡◌, ℕ, zero, suc, ◌+◌, ◌-◌, ◌*◌, ◌/◌, ◌%◌, ◌^◌, ◌<◌, ◌≤◌, Bool, true, false, cond, ◌&&◌, List, [], ◌∷◌, ◌++◌, length, refl, sym, ◌∙◌, ap, ap₂, arith, rules, Option, Some, None, nat_lt, nat_eq}
-use Rattle.jser_value.proofs.Vocabulary.{big_bytes, modified_utf8, IsUnits, PrimCode, byte_code, char_code, double_code, float_code, int_code, long_code, short_code, boolean_code, size_of, PrimTree, ArePrimsOf, Tag, null_tag, reference_tag, class_desc_tag, object_tag, string_tag, array_tag, class_tag, long_string_tag, proxy_desc_tag, enum_tag, StreamField, tag_field, block_tag_field, end_tag_field, reset_tag_field, at}
-use Rattle.std.proofs.Common.{take, drop, length-append, eqb-true, leb-true, le-leb}
+use Rattle.jser_value.proofs.Vocabulary.{big_bytes, modified_utf8, IsUnits, PrimCode, byte_code, char_code, double_code, float_code, int_code, long_code, short_code, boolean_code, size_of, PrimTree, ArePrimsOf, Tag, null_tag, reference_tag, class_desc_tag, object_tag, string_tag, array_tag, class_tag, long_string_tag, proxy_desc_tag, enum_tag, StreamField, tag_field, block_tag_field, end_tag_field, reset_tag_field}
+use Rattle.std.proofs.Common.{take, drop, length-append, leb-true, le-leb}
 use Rattle.std.specs.Prelude.{nat_le}
 use Rattle.std.specs.List.{list_all}
 use Rattle.std.proofs.lemmas.List.{take_at, drop_at}
@@ -45,8 +45,8 @@ units_in zero p = []
 units_in (suc k) [] = []
 units_in (suc k) (b ∷ bs) =
     cond (nat_lt b 128) (b ∷ units_in k bs)
-      (cond (nat_lt b 224) (((b - 192) * 64 + (first bs - 128)) ∷ units_in k (behind bs))
-        (((b - 224) * 4096 + (first bs - 128) * 64 + (first (behind bs) - 128)) ∷ units_in k (behind (behind bs))))
+    (cond (nat_lt b 224) (((b - 192) * 64 + (first bs - 128)) ∷ units_in k (behind bs))
+    (((b - 224) * 4096 + (first bs - 128) * 64 + (first (behind bs) - 128)) ∷ units_in k (behind (behind bs))))
 
 pub not_lt : (a b : ℕ) → b ≤ a → nat_lt a b ≡ false
 not_lt a b h = search rules
@@ -62,12 +62,14 @@ unit_back u k rest h = go (nat_le 1 u) (nat_lt u 128) (nat_lt u 2048) refl refl 
         let e2 : nat_lt (192 + u / 64) 224 ≡ true = le-leb (suc (192 + u / 64)) 224 (omega arith) in
         let e3 : (192 + u / 64 - 192) * 64 + (128 + u % 64 - 128) ≡ u = omega arith in
         rw (e, ez, e1, e2, e3) refl
+
     three : nat_lt u 2048 ≡ false → (nat_le 1 u && nat_lt u 128) ≡ false → units_in (suc k) (unit_spelling u ++ rest) ≡ u ∷ units_in k rest
     three ez e =
         let e1 : nat_lt (224 + u / 4096) 128 ≡ false = not_lt (224 + u / 4096) 128 (omega arith) in
         let e2 : nat_lt (224 + u / 4096) 224 ≡ false = not_lt (224 + u / 4096) 224 (omega arith) in
         let e3 : (224 + u / 4096 - 224) * 4096 + (128 + u / 64 % 64 - 128) * 64 + (128 + u % 64 - 128) ≡ u = omega arith in
         rw (e, ez, e1, e2, e3) refl
+
     go : (x y z : Bool) → nat_le 1 u ≡ x → nat_lt u 128 ≡ y → nat_lt u 2048 ≡ z → units_in (suc k) (unit_spelling u ++ rest) ≡ u ∷ units_in k rest
     go true true z ex ey ez = rw (ex, ey) (rw ey refl)
     go true false true ex ey ez = two ez (rw (ex, ey) refl)
@@ -93,17 +95,17 @@ units_back (u ∷ us) (suc k) h l =
     let a : u < 65536 = leb-true (suc u) 65536 (and_left (nat_lt u 65536) (list_all (λ unit. nat_lt unit 0x10000) us) h) in
     unit_back u k (modified_utf8 us) a
     ∙ ap (λ z. u ∷ z) (units_back us k (and_right (nat_lt u 65536) (list_all (λ unit. nat_lt unit 0x10000) us) h)
-        (omega (arith, length-append (unit_spelling u) (modified_utf8 us), some_unit u)))
+    (omega (arith, length-append (unit_spelling u) (modified_utf8 us), some_unit u)))
 
 -- tags
 
 pub tag_from : ℕ → Option StreamField
 tag_from b =
     cond (nat_eq b 0x70) (Some (tag_field null_tag)) (cond (nat_eq b 0x71) (Some (tag_field reference_tag)) (cond (nat_eq b 0x72) (Some (tag_field class_desc_tag))
-      (cond (nat_eq b 0x73) (Some (tag_field object_tag)) (cond (nat_eq b 0x74) (Some (tag_field string_tag)) (cond (nat_eq b 0x75) (Some (tag_field array_tag))
-        (cond (nat_eq b 0x76) (Some (tag_field class_tag)) (cond (nat_eq b 0x77) (Some (block_tag_field false)) (cond (nat_eq b 0x78) (Some end_tag_field)
-          (cond (nat_eq b 0x79) (Some reset_tag_field) (cond (nat_eq b 0x7A) (Some (block_tag_field true)) (cond (nat_eq b 0x7C) (Some (tag_field long_string_tag))
-            (cond (nat_eq b 0x7D) (Some (tag_field proxy_desc_tag)) (cond (nat_eq b 0x7E) (Some (tag_field enum_tag)) None)))))))))))))
+    (cond (nat_eq b 0x73) (Some (tag_field object_tag)) (cond (nat_eq b 0x74) (Some (tag_field string_tag)) (cond (nat_eq b 0x75) (Some (tag_field array_tag))
+    (cond (nat_eq b 0x76) (Some (tag_field class_tag)) (cond (nat_eq b 0x77) (Some (block_tag_field false)) (cond (nat_eq b 0x78) (Some end_tag_field)
+    (cond (nat_eq b 0x79) (Some reset_tag_field) (cond (nat_eq b 0x7A) (Some (block_tag_field true)) (cond (nat_eq b 0x7C) (Some (tag_field long_string_tag))
+    (cond (nat_eq b 0x7D) (Some (tag_field proxy_desc_tag)) (cond (nat_eq b 0x7E) (Some (tag_field enum_tag)) None)))))))))))))
 
 pub tag_back : (tag : Tag) → tag_from (tag_byte tag) ≡ Some (tag_field tag)
 unfolding tag_from
@@ -154,9 +156,9 @@ prims_back c (p ∷ ps) h =
     let ec : p.code ≡ c = h.0.0 in
     let s : prim_spelling p ≡ big_bytes (size_of c) p.bits = ap (λ k. big_bytes (size_of k) p.bits) ec in
     let t : take (size_of c) (prim_spelling p ++ prims_spelling ps) ≡ big_bytes (size_of c) p.bits =
-          ap (λ z. take (size_of c) (z ++ prims_spelling ps)) s ∙ take_at (big_bytes (size_of c) p.bits) (prims_spelling ps) (size_of c) (length-big_bytes (size_of c) p.bits) in
+    ap (λ z. take (size_of c) (z ++ prims_spelling ps)) s ∙ take_at (big_bytes (size_of c) p.bits) (prims_spelling ps) (size_of c) (length-big_bytes (size_of c) p.bits) in
     let d : drop (size_of c) (prim_spelling p ++ prims_spelling ps) ≡ prims_spelling ps =
-          ap (λ z. drop (size_of c) (z ++ prims_spelling ps)) s ∙ drop_at (big_bytes (size_of c) p.bits) (prims_spelling ps) (size_of c) (length-big_bytes (size_of c) p.bits) in
+    ap (λ z. drop (size_of c) (z ++ prims_spelling ps)) s ∙ drop_at (big_bytes (size_of c) p.bits) (prims_spelling ps) (size_of c) (length-big_bytes (size_of c) p.bits) in
     let q : number_of (take (size_of c) (prim_spelling p ++ prims_spelling ps)) ≡ p.bits = ap number_of t ∙ number_prim c p.bits h.0.1 in
     let r : prims_in c (length ps) (drop (size_of c) (prim_spelling p ++ prims_spelling ps)) ≡ ps = ap (prims_in c (length ps)) d ∙ prims_back c ps h.1 in
     ap₂ (λ x y. x ∷ y) (λ i. record { code = sym ec i; bits = q i }) r

@@ -1,12 +1,11 @@
 -- The laws of the walk: it accepts exactly the streams that pass, it refuses at the first fault, and where it
 -- refuses nothing there is none.
 use Rattle.std.proofs.Common.{◌≡◌, ℕ, ◌≤◌, Bool, true, false, List, [], ◌∷◌, ◌++◌, length, refl, sym, ◌∙◌, ap, subst, arith, IsFalse, append_assoc, append-nil, ◌⊎◌, inl, inr}
-use Rattle.jser_value.proofs.Vocabulary.{ContentTrees, WellFormed, StreamField, Label, Piece, piece, at, fields_of, State, settled, label_of, Accepts, advance, begin_state, IsDone, Runs, left, Reads}
+use Rattle.jser_value.proofs.Vocabulary.{ContentTrees, WellFormed, StreamField, Label, Piece, piece, fields_of, State, settled, label_of, Accepts, advance, begin_state, IsDone, Runs, left, Reads}
 use Rattle.std.proofs.Common.{length-append}
 use Rattle.jser_value.specs.FieldBytes.{bytes_of, joined}
-use Rattle.jser_value.specs.ComesNext.{ComesNext}
 use Rattle.jser_value.specs.Streams.{IsStreamOf}
-use Rattle.jser_value.specs.Scanner.{Verdict, more, good, bad, VerdictOn, FieldGate, IsUndecided, IsScanner, Outcome, ended, refused, walk, AllPass, PassesBy, HasNoField, IsFaultBy}
+use Rattle.jser_value.specs.Scanner.{VerdictOn, FieldGate, IsScanner, ended, refused, walk, AllPass, PassesBy, IsFaultBy}
 use Rattle.jser_value.specs.WalkLaws.{AcceptsExactly, RefusesFirst, NoFaultPassed, CutShort}
 use Rattle.jser_value.proofs.Exact.{exact_law}
 use Rattle.jser_value.proofs.Fronts.{reads_split, Reads-append}
@@ -19,7 +18,6 @@ runs_all : (fs : List Piece) → Reads begin_state fs → Runs begin_state fs ×
 runs_all fs h = reads_split fs [] begin_state (subst (λ ps. Reads begin_state ps) (sym (append-nil fs)) h)
 
 module _ (gate : FieldGate) (verdict : VerdictOn) (sc : IsScanner gate verdict) where
-
   walk_all : (fs : List Piece) → Runs begin_state fs → AllPass gate fs → walk verdict begin_state [] (joined fs) ≡ ended (left begin_state fs) []
   walk_all fs r g = ap (λ z. walk verdict begin_state [] z) (sym (append-nil (joined fs))) ∙ walk_front gate verdict sc fs begin_state [] r g
 
@@ -64,6 +62,7 @@ module _ (gate : FieldGate) (verdict : VerdictOn) (sc : IsScanner gate verdict) 
     where
       x : Runs begin_state front × (l ≡ label_of (settled (left begin_state front)))
       x = (next_law front l).0 nx
+
       go : AllPass gate front ⊎ Stopped begin_state front → RefusesBy gate verdict sc begin_state [] bs rest
       go (inl g) = let y = refuses_by gate verdict sc front wrong rest r x.0 g (rw x.1 at v) (rw x.1 at u) in (y.0, y.1, y.2, rw eb y.3, y.4)
       go (inr (a, b, f, eq, ra, ga, ac, np)) =
@@ -72,10 +71,14 @@ module _ (gate : FieldGate) (verdict : VerdictOn) (sc : IsScanner gate verdict) 
           let tail : List ℕ = joined b ++ (wrong ++ rest) in
           let e1 : joined front ≡ joined a ++ (bytes_of f ++ joined b) = ap joined eq ∙ joined-append a (piece l' f ∷ b) in
           let e2 : bs ≡ joined a ++ (y.0 ++ (y.1 ++ tail)) =
-                eb ∙ ap (λ z. z ++ (wrong ++ rest)) e1 ∙ append_assoc (joined a) (bytes_of f ++ joined b) (wrong ++ rest)
-                ∙ ap (λ z. joined a ++ z) (append_assoc (bytes_of f) (joined b) (wrong ++ rest) ∙ ap (λ z. z ++ tail) y.3 ∙ append_assoc y.0 y.1 tail) in
-          (y.0, y.1 ++ tail, y.2, rw e2 (refuses gate verdict sc a y.0 (y.1 ++ tail) y.2 ra ga y.4 y.5),
-            omega (arith, length-append y.1 tail, length-append (joined b) (wrong ++ rest), length-append wrong rest))
+          eb ∙ ap (λ z. z ++ (wrong ++ rest)) e1 ∙ append_assoc (joined a) (bytes_of f ++ joined b) (wrong ++ rest)
+          ∙ ap (λ z. joined a ++ z) (append_assoc (bytes_of f) (joined b) (wrong ++ rest) ∙ ap (λ z. z ++ tail) y.3 ∙ append_assoc y.0 y.1 tail) in (
+            y.0,
+            y.1 ++ tail,
+            y.2,
+            rw e2 (refuses gate verdict sc a y.0 (y.1 ++ tail) y.2 ra ga y.4 y.5),
+            omega (arith, length-append y.1 tail, length-append (joined b) (wrong ++ rest), length-append wrong rest),
+          )
 
   least : (bs wrong rest : List ℕ) (r : ℕ) → walk verdict begin_state [] bs ≡ refused wrong rest r
       → (wrong' rest' : List ℕ) (r' : ℕ) → IsFaultBy verdict bs wrong' rest' r' → length rest' ≤ length rest
@@ -96,8 +99,10 @@ module _ (gate : FieldGate) (verdict : VerdictOn) (sc : IsScanner gate verdict) 
     where
       eb : bs ≡ joined (fields_of list)
       eb = st.0 ∙ sym (spelled_law list st.1)
+
       x : Runs begin_state (fields_of list) × IsDone (settled (left begin_state (fields_of list)))
       x = runs_all (fields_of list) ((exact_law (fields_of list)).1 (list, st.1, refl))
+
       go : AllPass gate (fields_of list) ⊎ Stopped begin_state (fields_of list) → IsDone (settled s) × (cut ≡ [])
       go (inl g) =
           let y = right_yes bs list (st, g) in

@@ -16,7 +16,7 @@ cut_fields-append [] d seen m r s = refl
 cut_fields-append (f ∷ fs) d seen m r s =
     let later = seen || is_object_code f.code in
     ap (λ z. at (type_code_at seen) d m (code_field f.code) ∷ at field_name_at d m (text_field false f.name) ∷ z)
-      (ap (λ z. cut_type d m f.text z) (cut_fields-append fs d later (past_type m f.text) r s) ∙ cut_type-append f.text d m (cut_fields d later (past_type m f.text) fs r) s)
+    (ap (λ z. cut_type d m f.text z) (cut_fields-append fs d later (past_type m f.text) r s) ∙ cut_type-append f.text d m (cut_fields d later (past_type m f.text) fs r) s)
 
 cut_interfaces-append : (names : List (List ℕ)) (d : ℕ) (m : Moment) (r s : List Piece) → cut_interfaces d m names (r ++ s) ≡ cut_interfaces d m names r ++ s
 cut_interfaces-append [] d m r s = refl
@@ -59,8 +59,8 @@ mutual
       let made = assign (past_class (tick m) c) other_entry in
       let ch = chain_of_class m.table c in
       ap (λ z. cut_class object_owner d (tick m) c z)
-        (if-append (is_external ch) (cut_external d made ss (r ++ s)) (cut_sections d made ch ss (r ++ s)) (cut_external d made ss r) (cut_sections d made ch ss r) s
-          (cut_external-append ss d made r s) (cut_sections-append ss ch d made r s))
+      (if-append (is_external ch) (cut_external d made ss (r ++ s)) (cut_sections d made ch ss (r ++ s)) (cut_external d made ss r) (cut_sections d made ch ss r) s
+      (cut_external-append ss d made r s) (cut_sections-append ss ch d made r s))
       ∙ cut_class-append c object_owner d (tick m) (if is_external ch then cut_external d made ss r else cut_sections d made ch ss r) s
 
   cut_desc-append : (x : DescTree) (role : Role) (d : ℕ) (m : Moment) (r s : List Piece) → cut_desc role d m x (r ++ s) ≡ cut_desc role d m x r ++ s
@@ -74,7 +74,7 @@ mutual
       let e2 = ap (λ z. cut_annotation d m2 notes z) e3 ∙ cut_annotation-append notes d m2 up s in
       let e1 = ap (λ z. cut_fields d false m1 fields z) e2 ∙ cut_fields-append fields d false m1 (cut_annotation d m2 notes up) s in
       ap (λ z. at (class_name_at role) d m (text_field false name) ∷ at suid_at d m (suid_field suid) ∷ at (flags_at role) d m1 (flags_field flags)
-        ∷ at field_count_at d m1 (field_count_field (length fields)) ∷ z) e1
+      ∷ at field_count_at d m1 (field_count_field (length fields)) ∷ z) e1
   cut_desc-append (proxy interfaces notes parent) role d m r s =
       let m1 = assign m pending_entry in
       let m3 = past_contents m1 notes in
@@ -106,7 +106,7 @@ mutual
   cut_values-append no_values d m r s = refl
   cut_values-append (value_and v vs) d m r s =
       ap (λ z. at value_at (suc d) m (tag_field (tag_of v)) ∷ z)
-        (ap (λ z. cut_value (suc d) m v z) (cut_values-append vs d (past_value m v) r s) ∙ cut_value-append v (suc d) m (cut_values d (past_value m v) vs r) s)
+      (ap (λ z. cut_value (suc d) m v z) (cut_values-append vs d (past_value m v) r s) ∙ cut_value-append v (suc d) m (cut_values d (past_value m v) vs r) s)
 
   cut_external-append : (ss : SectionTrees) (d : ℕ) (m : Moment) (r s : List Piece) → cut_external d m ss (r ++ s) ≡ cut_external d m ss r ++ s
   cut_external-append no_sections d m r s = refl
@@ -120,8 +120,8 @@ mutual
       let m2 = past_notes m1 n in
       let rest = cut_sections d m2 ls ss r in
       ap (λ z. cut_prims d m (primitive_codes l.codes) ps z)
-        (ap (λ z. cut_values d m vs z) (ap (λ z. cut_notes d m1 n z) (cut_sections-append ss ls d m2 r s) ∙ cut_notes-append n d m1 rest s)
-          ∙ cut_values-append vs d m (cut_notes d m1 n rest) s)
+      (ap (λ z. cut_values d m vs z) (ap (λ z. cut_notes d m1 n z) (cut_sections-append ss ls d m2 r s) ∙ cut_notes-append n d m1 rest s)
+      ∙ cut_values-append vs d m (cut_notes d m1 n rest) s)
       ∙ cut_prims-append (primitive_codes l.codes) ps d m (cut_values d m vs (cut_notes d m1 n rest)) s
 
   cut_notes-append : (n : NotesTree) (d : ℕ) (m : Moment) (r s : List Piece) → cut_notes d m n (r ++ s) ≡ cut_notes d m n r ++ s
@@ -132,8 +132,8 @@ mutual
   cut_annotation-append no_contents d m r s = refl
   cut_annotation-append (content_and (block long b) cs) d m r s =
       ap (λ z. at annotation_at (suc d) m (block_tag_field long) ∷ at (block_length_at long) d m (block_length_field long (length b)) ∷ z)
-        (ap (λ z. cut_bytes d m b z) (cut_annotation-append cs d m r s) ∙ cut_bytes-append b d m (cut_annotation d m cs r) s)
+      (ap (λ z. cut_bytes d m b z) (cut_annotation-append cs d m r s) ∙ cut_bytes-append b d m (cut_annotation d m cs r) s)
   cut_annotation-append (content_and reset cs) d m r s = cut_annotation-append cs d m r s
   cut_annotation-append (content_and (content v) cs) d m r s =
       ap (λ z. at annotation_at (suc d) m (tag_field (tag_of v)) ∷ z)
-        (ap (λ z. cut_value (suc d) m v z) (cut_annotation-append cs d (past_value m v) r s) ∙ cut_value-append v (suc d) m (cut_annotation d (past_value m v) cs r) s)
+      (ap (λ z. cut_value (suc d) m v z) (cut_annotation-append cs d (past_value m v) r s) ∙ cut_value-append v (suc d) m (cut_annotation d (past_value m v) cs r) s)

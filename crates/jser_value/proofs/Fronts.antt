@@ -1,7 +1,7 @@
 -- Fronts of fields: what the machine takes in two parts, and which stacks it passes on the way. A stack stays open
 -- but for the tag of a reference, and the handle that is taken there opens it again.
 use Rattle.std.proofs.Common.{◌≡◌, ℕ, zero, suc, Bool, true, false, ◌||◌, List, [], ◌∷◌, ◌++◌, refl, ◌⊎◌, inl, inr}
-use Rattle.jser_value.proofs.Vocabulary.{other_entry, chain_at, Layer, is_object_code, object, is_external, Owner, object_owner, array_owner, enum_owner, class_owner, ChainOwner, Moment, tick, assign, closing, Tag, null_tag, reference_tag, class_desc_tag, object_tag, string_tag, array_tag, class_tag, long_string_tag, proxy_desc_tag, enum_tag, StreamField, header_field, tag_field, block_tag_field, end_tag_field, reset_tag_field, handle_field, suid_field, flags_field, field_count_field, interface_count_field, array_length_field, code_field, text_field, block_length_field, prims_field, bytes_field, back_handle_at, Piece, piece, Part, raw_part, value_part, annotation_part, Goal, header_goal, top_goal, annotation_goal, back_handle_goal, text_place_goal, text_handle_goal, field_name_goal, string_goal, block_length_goal, block_goal, array_length_goal, parts_goal, class_goal, class_handle_goal, made_goal, superclass_goal, superclass_handle_goal, close_goal, class_name_goal, suid_goal, flags_goal, field_count_goal, fields_goal, interface_count_goal, interfaces_goal, State, object_parts, settle_parts, settle, settled, label_of, Accepts, begin, type_goals, advance_at, advance, Runs, left, Reads}
+use Rattle.jser_value.proofs.Vocabulary.{other_entry, chain_at, Layer, is_object_code, is_external, Owner, object_owner, array_owner, enum_owner, class_owner, ChainOwner, Moment, tick, assign, closing, Tag, null_tag, reference_tag, class_desc_tag, object_tag, string_tag, array_tag, class_tag, long_string_tag, proxy_desc_tag, enum_tag, StreamField, header_field, tag_field, block_tag_field, end_tag_field, reset_tag_field, handle_field, suid_field, flags_field, field_count_field, interface_count_field, array_length_field, code_field, text_field, block_length_field, prims_field, bytes_field, back_handle_at, Piece, piece, Part, raw_part, value_part, annotation_part, Goal, header_goal, top_goal, annotation_goal, back_handle_goal, text_place_goal, text_handle_goal, field_name_goal, string_goal, block_length_goal, block_goal, array_length_goal, parts_goal, class_goal, class_handle_goal, made_goal, superclass_goal, superclass_handle_goal, close_goal, class_name_goal, suid_goal, flags_goal, field_count_goal, fields_goal, interface_count_goal, interfaces_goal, State, object_parts, settle_parts, settle, settled, label_of, Accepts, begin, type_goals, advance_at, advance, Runs, left, Reads}
 use Rattle.jser_value.specs.ComesNext.{handle_label}
 use Rattle.jser_value.proofs.Completion.{Open}
 
@@ -27,7 +27,7 @@ open_settle (block_goal d (suc n) ∷ gs) m o = o
 open_settle (parts_goal d parts ∷ gs) m o = open_parts parts d m gs (settle m gs) o (open_settle gs m o)
 open_settle (made_goal object_owner d number ∷ gs) m o =
     open_parts (object_parts (is_external (chain_at m.table number)) (chain_at m.table number)) d (assign m other_entry) gs (settle (assign m other_entry) gs) o
-      (open_settle gs (assign m other_entry) o)
+    (open_settle gs (assign m other_entry) o)
 open_settle (made_goal array_owner d number ∷ gs) m o = o
 open_settle (made_goal enum_owner d number ∷ gs) m o = o
 open_settle (made_goal class_owner d number ∷ gs) m o = open_settle gs (assign m other_entry) o
@@ -56,7 +56,7 @@ Moved f s t = Open t.1 ⊎ ((f ≡ tag_field reference_tag) × Waits t.1 × (lab
 moved_value : (tag : Tag) (d : ℕ) (m : Moment) (gs : List Goal) → Open gs
     → Open (begin d m tag gs).1
     ⊎ ((tag_field tag ≡ tag_field reference_tag) × Waits (begin d m tag gs).1
-       × (label_of (begin d m tag gs) ≡ record { position = back_handle_at; depth = d; moment = tick m }))
+    × (label_of (begin d m tag gs) ≡ record { position = back_handle_at; depth = d; moment = tick m }))
 moved_value null_tag d m gs o = inl o
 moved_value reference_tag d m gs o = inr (refl, o, refl)
 moved_value class_desc_tag d m gs o = inl o

@@ -4,7 +4,7 @@ use Rattle.jser_value.proofs.Vocabulary.{has_write_method, text_entry, other_ent
 use Rattle.jser_value.specs.Counts.{array_length, epochs_from, epoch_handles}
 use Rattle.jser_value.specs.Limits.{assigns_handle}
 use Rattle.jser_value.proofs.Observed.{seen_if, most_handles}
-use Rattle.jser_value.proofs.TableLemmas.{length-add, length-close, grows_value, grows_desc, grows_class, grows_body, grows_values, grows_sections, grows_notes, grows_contents, grows_fields}
+use Rattle.jser_value.proofs.TableLemmas.{length-add, length-close, grows_value, grows_class, grows_values, grows_notes, grows_contents, grows_fields}
 
 -- the tag of a string or a proxy descriptor assigns a handle, whatever it is read for
 abbrev by_tag : Tag → Entries → ℕ
@@ -124,8 +124,13 @@ mutual
   assigns_value (array c b) d m rest h =
       let made = assign (past_class (tick m) c) other_entry in
       let elements = elements_of (chain_of_class m.table c) in
-      omega (arith, assigns_class c array_owner d (tick m) (at array_length_at d made (array_length_field (array_length b)) ∷ cut_body d made elements b rest) h.0,
-        assigns_body b elements d made rest h.2, length-add (after_class m.table c) other_entry, grows_class c m.table)
+      omega (
+        arith,
+        assigns_class c array_owner d (tick m) (at array_length_at d made (array_length_field (array_length b)) ∷ cut_body d made elements b rest) h.0,
+        assigns_body b elements d made rest h.2,
+        length-add (after_class m.table c) other_entry,
+        grows_class c m.table,
+      )
   assigns_value (enum_constant c t) d m rest h =
       let made = assign (past_class (tick m) c) other_entry in
       omega (arith, assigns_class c enum_owner d (tick m) (cut_text_place d made t rest) h.0, assigns_text t d made rest, length-add (after_class m.table c) other_entry, grows_class c m.table)
@@ -135,10 +140,10 @@ mutual
       let behind = if is_external ch then cut_external d made ss rest else cut_sections d made ch ss rest in
       let q = assigns_class c object_owner d (tick m) behind h.0 in
       let r = assigns_by_class (is_external ch) (WellFormedExternal made.table ss) (WellFormedSections made.table ss ch) (length made.table) (length (after_sections made.table ss))
-                (cut_external d made ss rest) (cut_sections d made ch ss rest) rest h.2
-                (λ w. assigns_external ss d made rest w) (λ w. assigns_sections ss ch d made rest w) in
+      (cut_external d made ss rest) (cut_sections d made ch ss rest) rest h.2
+      (λ w. assigns_external ss d made rest w) (λ w. assigns_sections ss ch d made rest w) in
       joins (length m.table) (length (after_class m.table c)) (length made.table) (length (after_sections made.table ss)) (most_handles (cut_class object_owner d (tick m) c behind))
-        (most_handles behind) (most_handles rest) q (length-add (after_class m.table c) other_entry) r
+      (most_handles behind) (most_handles rest) q (length-add (after_class m.table c) other_entry) r
     where
       joins : (k a b n p q r : ℕ) → max k p ≡ max (suc a) q → b ≡ suc a → max b q ≡ max n r → max k (max 0 p) ≡ max n r
       joins k a b n p q r e f g = omega arith
@@ -152,18 +157,31 @@ mutual
       let m2 = past_fields m1 fields in
       let m3 = past_contents m2 notes in
       let up = cut_superclass (owner_of role) (is_strict_above role flags) (suc d) m3 parent rest in
-      omega (arith, length-add m.table pending_entry, assigns_fields fields d false m1 (cut_annotation d m2 notes up), grows_fields fields m1.table,
-        assigns_annotation notes d m2 up h.5, grows_contents notes m2.table,
-        assigns_superclass parent (owner_of role) (is_strict_above role flags) (suc d) m3 rest h.6, grows_class parent m3.table,
-        length-close (after_class m3.table parent) (length m.table) (chain_of_class m3.table parent ++ (plain_layer name flags fields ∷ [])))
+      omega (
+        arith,
+        length-add m.table pending_entry,
+        assigns_fields fields d false m1 (cut_annotation d m2 notes up),
+        grows_fields fields m1.table,
+        assigns_annotation notes d m2 up h.5,
+        grows_contents notes m2.table,
+        assigns_superclass parent (owner_of role) (is_strict_above role flags) (suc d) m3 rest h.6,
+        grows_class parent m3.table,
+        length-close (after_class m3.table parent) (length m.table) (chain_of_class m3.table parent ++ (plain_layer name flags fields ∷ [])),
+      )
   assigns_desc (proxy interfaces notes parent) role d m rest h =
       let m1 = assign m pending_entry in
       let m3 = past_contents m1 notes in
       let up = cut_superclass (owner_of role) (is_strict_above role 0) (suc d) m3 parent rest in
-      omega (arith, length-add m.table pending_entry, assigns_interfaces interfaces d m1 (cut_annotation d m1 notes up),
-        assigns_annotation notes d m1 up h.2, grows_contents notes m1.table,
-        assigns_superclass parent (owner_of role) (is_strict_above role 0) (suc d) m3 rest h.3, grows_class parent m3.table,
-        length-close (after_class m3.table parent) (length m.table) (chain_of_class m3.table parent ++ (proxy_layer ∷ [])))
+      omega (
+        arith,
+        length-add m.table pending_entry,
+        assigns_interfaces interfaces d m1 (cut_annotation d m1 notes up),
+        assigns_annotation notes d m1 up h.2,
+        grows_contents notes m1.table,
+        assigns_superclass parent (owner_of role) (is_strict_above role 0) (suc d) m3 rest h.3,
+        grows_class parent m3.table,
+        length-close (after_class m3.table parent) (length m.table) (chain_of_class m3.table parent ++ (proxy_layer ∷ [])),
+      )
 
   assigns_class : (c : ClassPlaceTree) (owner : Owner) (d : ℕ) (m : Moment) (rest : List Piece) → WellFormedClass m.table c
       → Assigns (length m.table) (suc (length (after_class m.table c))) (cut_class owner d m c rest) rest
@@ -205,8 +223,15 @@ mutual
       let m1 = past_values m vs in
       let m2 = past_notes m1 n in
       let after = cut_sections d m2 ls ss rest in
-      omega (arith, assigns_prims (primitive_codes l.codes) ps d m (cut_values d m vs (cut_notes d m1 n after)), assigns_values vs d m (cut_notes d m1 n after) h.2,
-        assigns_notes n (has_write_method l.flags) d m1 after h.3, assigns_sections ss ls d m2 rest h.4, grows_values vs m.table, grows_notes n m1.table)
+      omega (
+        arith,
+        assigns_prims (primitive_codes l.codes) ps d m (cut_values d m vs (cut_notes d m1 n after)),
+        assigns_values vs d m (cut_notes d m1 n after) h.2,
+        assigns_notes n (has_write_method l.flags) d m1 after h.3,
+        assigns_sections ss ls d m2 rest h.4,
+        grows_values vs m.table,
+        grows_notes n m1.table,
+      )
 
   assigns_notes : (n : NotesTree) (expected : Bool) (d : ℕ) (m : Moment) (rest : List Piece) → WellFormedNotesIf m.table n expected
       → Assigns (length m.table) (length (after_notes m.table n)) (cut_notes d m n rest) rest
@@ -219,8 +244,13 @@ mutual
   assigns_annotation (content_and (block long b) cs) d m rest h = omega (arith, assigns_bytes b d m (cut_annotation d m cs rest), assigns_annotation cs d m rest h.1)
   assigns_annotation (content_and reset cs) d m rest h = absurd h
   assigns_annotation (content_and (content v) cs) d m rest h =
-      omega (arith, by_tag_at_annotation (tag_of v) m.table, assigns_value v (suc d) m (cut_annotation d (past_value m v) cs rest) h.0,
-        assigns_annotation cs d (past_value m v) rest h.1, grows_value v m.table)
+      omega (
+        arith,
+        by_tag_at_annotation (tag_of v) m.table,
+        assigns_value v (suc d) m (cut_annotation d (past_value m v) cs rest) h.0,
+        assigns_annotation cs d (past_value m v) rest h.1,
+        grows_value v m.table,
+      )
 
 -- the greatest of some numbers
 abbrev pub greatest : List ℕ → ℕ

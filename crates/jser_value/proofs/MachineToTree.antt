@@ -2,11 +2,9 @@
 -- lemma for each goal, by cases on the field that it is read by; then an induction along the fields.
 use Rattle.std.proofs.Common.{◌≡◌, ℕ, zero, suc, ◌<◌, Bool, true, false, not, ◌&&◌, ◌||◌, List, [], ◌∷◌, ◌++◌, refl, sym, ◌∙◌, ap, ap₂, subst, Option, Some, None, IsTrue, IsFalse, is_some}
 use Rattle.jser_value.proofs.Vocabulary.{other_entry, NameKind, Layer, PrimCode, prim_code_of, is_object_code, new_text, back_text, ValueTree, null, back, string, descriptor, class_object, array, enum_constant, object, no_class, back_class, new_class, block, reset, content, no_contents, content_and, chain_of_class, block_bound, elements_of, is_external, WellFormedValue, Owner, object_owner, array_owner, enum_owner, ChainOwner, Role, own_class, superclass, FitsRole, Moment, tick, assign, closing, next_number, past_value, past_desc, past_class, Tag, null_tag, reference_tag, class_desc_tag, object_tag, string_tag, array_tag, class_tag, long_string_tag, proxy_desc_tag, enum_tag, StreamField, header_field, tag_field, block_tag_field, end_tag_field, reset_tag_field, handle_field, suid_field, flags_field, field_count_field, interface_count_field, array_length_field, code_field, text_field, block_length_field, prims_field, bytes_field, header_at, top_at, annotation_at, value_at, text_place_at, class_place_at, superclass_place_at, back_handle_at, text_handle_at, class_handle_at, superclass_handle_at, string_at, class_name_at, field_name_at, interface_name_at, suid_at, field_count_at, interface_count_at, array_length_at, flags_at, type_code_at, block_length_at, Piece, piece, at, tag_of, cut_value, cut_class, Part, raw_part, value_part, annotation_part, Goal, header_goal, top_goal, annotation_goal, back_handle_goal, text_place_goal, text_handle_goal, field_name_goal, string_goal, block_length_goal, block_goal, array_length_goal, parts_goal, class_goal, class_handle_goal, made_goal, superclass_goal, superclass_handle_goal, close_goal, class_name_goal, suid_goal, flags_goal, field_count_goal, fields_goal, interface_count_goal, interfaces_goal, State, settle, position_of_parts, position_of, depth_of_parts, label_of, may_follow, AcceptsAt, Accepts, begin, type_goals, advance_at, advance, IsDone, Reads}
-use Rattle.std.proofs.Common.{eqb-true}
-use Rattle.jser_value.specs.Counts.{array_length}
 use Rattle.jser_value.proofs.Bools.{and_left, and_right, untrue}
 use Rattle.jser_value.proofs.TableLemmas.{chain_at-after_desc}
-use Rattle.jser_value.proofs.Remaining.{Behind, RemainsAnnotation, RemainsParts, RemainsText, RemainsBody, RemainsOwner, RemainsTop, RemainsBytes, RemainsBlock, RemainsString, RemainsSuperclass, RemainsFields, RemainsFieldCount, RemainsFlags, RemainsSuid, RemainsName, RemainsInterfaces, RemainsInterfaceCount, RemainsDesc, RemainsAt, Remains, RemainsOf, unsettle}
+use Rattle.jser_value.proofs.Remaining.{RemainsAnnotation, RemainsParts, RemainsText, RemainsBody, RemainsOwner, RemainsTop, RemainsBytes, RemainsBlock, RemainsString, RemainsSuperclass, RemainsFields, RemainsFieldCount, RemainsFlags, RemainsSuid, RemainsName, RemainsInterfaces, RemainsInterfaceCount, RemainsDesc, RemainsAt, Remains, RemainsOf, unsettle}
 use Rattle.jser_value.proofs.TreesOfParts.{bytes_remain, object_remains, body_remains, plain_remains, proxy_remains}
 
 -- Back over the tag of a value.
@@ -19,9 +17,14 @@ begun_array : (d : ℕ) (m : Moment) (gs : List Goal) (fs : List Piece) → Rema
 begun_array d m gs fs (c, r, w, f, e, (n, r2, a, e2, h)) =
     let made = assign (past_class (tick m) c) other_entry in
     let elements = elements_of (chain_of_class m.table c) in
-    let x = body_remains elements n d made (Remains gs) r2 a h in
-    (array c x.0, x.1, refl, (w, f, x.3),
-      e ∙ ap (λ y. cut_class array_owner d (tick m) c y) (e2 ∙ ap₂ (λ k y. at array_length_at d made (array_length_field k) ∷ y) (sym x.2) x.4), x.5)
+    let x = body_remains elements n d made (Remains gs) r2 a h in (
+      array c x.0,
+      x.1,
+      refl,
+      (w, f, x.3),
+      e ∙ ap (λ y. cut_class array_owner d (tick m) c y) (e2 ∙ ap₂ (λ k y. at array_length_at d made (array_length_field k) ∷ y) (sym x.2) x.4),
+      x.5,
+    )
 
 begun_object : (d : ℕ) (m : Moment) (gs : List Goal) (fs : List Piece) → RemainsAt (class_goal object_owner d) (tick m) (Remains gs) fs → Begun object_tag d m gs fs
 begun_object d m gs fs (c, r, w, f, e, h) =
@@ -143,9 +146,14 @@ back_array_length _ elements d m gs fs a h = absurd a
 class_remains : (tag : Tag) (owner : Owner) (d : ℕ) (m : Moment) (gs : List Goal) (fs : List Piece)
     → RemainsDesc tag (own_class (Some owner)) d m (Remains (made_goal owner d (next_number m) ∷ gs)) fs
     → RemainsAt (class_goal owner d) m (Remains gs) (at (class_place_at owner) d m (tag_field tag) ∷ fs)
-class_remains tag owner d m gs fs (x, r, et, w, f, e, k) =
-    (new_class x, r, w, f, rw (← et, e) refl,
-      subst (λ c. RemainsOwner owner d c (assign (past_desc m x) other_entry) (Remains gs) r) (chain_at-after_desc x m.table) k)
+class_remains tag owner d m gs fs (x, r, et, w, f, e, k) = (
+  new_class x,
+  r,
+  w,
+  f,
+  rw (← et, e) refl,
+  subst (λ c. RemainsOwner owner d c (assign (past_desc m x) other_entry) (Remains gs) r) (chain_at-after_desc x m.table) k,
+)
 
 back_class_place : (f : StreamField) (owner : Owner) (d : ℕ) (m : Moment) (gs : List Goal) (fs : List Piece) → AcceptsAt (class_place_at owner) m f
     → RemainsOf (advance_at m (class_goal owner d) gs f) fs → RemainsAt (class_goal owner d) m (Remains gs) (at (class_place_at owner) d m f ∷ fs)
@@ -165,9 +173,14 @@ back_class_handle _ owner d m gs fs a h = absurd a
 superclass_remains : (tag : Tag) (owner : ChainOwner) (strict : Bool) (d number : ℕ) (l : Layer) (m : Moment) (gs : List Goal) (fs : List Piece)
     → RemainsDesc tag (superclass owner strict) d (tick m) (Remains (close_goal number (next_number m) l ∷ gs)) fs
     → RemainsSuperclass owner strict d number l m (Remains gs) (at (superclass_place_at owner strict) d m (tag_field tag) ∷ fs)
-superclass_remains tag owner strict d number l m gs fs (x, r, et, w, f, e, h) =
-    (new_class x, r, w, f, rw (← et, e) refl,
-      subst (λ c. Remains gs (closing (past_desc (tick m) x) number (c ++ (l ∷ []))) r) (chain_at-after_desc x m.table) h)
+superclass_remains tag owner strict d number l m gs fs (x, r, et, w, f, e, h) = (
+  new_class x,
+  r,
+  w,
+  f,
+  rw (← et, e) refl,
+  subst (λ c. Remains gs (closing (past_desc (tick m) x) number (c ++ (l ∷ []))) r) (chain_at-after_desc x m.table) h,
+)
 
 fits_none : (owner : ChainOwner) (strict : Bool) → FitsRole (superclass owner strict) []
 fits_none owner true = refl
@@ -179,10 +192,10 @@ back_superclass_place : (f : StreamField) (owner : ChainOwner) (strict : Bool) (
 back_superclass_place (tag_field null_tag) owner strict d number l m gs fs a h = (no_class, fs, tt, fits_none owner strict, refl, h)
 back_superclass_place (tag_field class_desc_tag) owner strict d number l m gs fs a h =
     superclass_remains class_desc_tag owner strict d number l m gs fs
-      (plain_remains (superclass owner strict) d (tick m) (Remains (close_goal number (next_number m) l ∷ gs)) fs h)
+    (plain_remains (superclass owner strict) d (tick m) (Remains (close_goal number (next_number m) l ∷ gs)) fs h)
 back_superclass_place (tag_field proxy_desc_tag) owner strict d number l m gs fs a h =
     superclass_remains proxy_desc_tag owner strict d number l m gs fs
-      (proxy_remains (superclass owner strict) d (tick m) (Remains (close_goal number (next_number m) l ∷ gs)) fs tt h)
+    (proxy_remains (superclass owner strict) d (tick m) (Remains (close_goal number (next_number m) l ∷ gs)) fs tt h)
 back_superclass_place (tag_field reference_tag) owner strict d number l m gs fs a (n, r, b, e, h) =
     (back_class n, r, b.0, b.1, ap (λ y. at (superclass_place_at owner strict) d m (tag_field reference_tag) ∷ y) e, h)
 back_superclass_place _ owner strict d number l m gs fs a h = absurd a
@@ -222,9 +235,14 @@ field_remains : (object : Bool) (c : ℕ) (role : Role) (d number : ℕ) (kind :
 field_remains true c role d number kind flags seen codes n m gs fs o a (u, r, b, e, (t, r2, wt, e2, (xs, r', el, wx, e', h))) =
     (record { code = c; name = u; text = Some t } ∷ xs, r', ap (λ n. suc n) el, (b, (o, wt), wx), rw (e, e2, e') refl, h)
 field_remains false c role d number kind flags seen codes n m gs fs o a (u, r, b, e, (xs, r', el, wx, e', h)) =
-    let prim : IsTrue (is_some (prim_code_of c) && not seen) = rw o at a in
-    (record { code = c; name = u; text = None } ∷ xs, r', ap (λ n. suc n) el,
-      (b, (and_left (is_some (prim_code_of c)) (not seen) prim, unseen seen (and_right (is_some (prim_code_of c)) (not seen) prim)), wx), rw (e, e') refl, h)
+    let prim : IsTrue (is_some (prim_code_of c) && not seen) = rw o at a in (
+      record { code = c; name = u; text = None } ∷ xs,
+      r',
+      ap (λ n. suc n) el,
+      (b, (and_left (is_some (prim_code_of c)) (not seen) prim, unseen seen (and_right (is_some (prim_code_of c)) (not seen) prim)), wx),
+      rw (e, e') refl,
+      h,
+    )
   where
     unseen : (s : Bool) → IsTrue (not s) → IsFalse s
     unseen true h = untrue h

@@ -68,8 +68,8 @@ mutual
       let chain = chain_of_class m.table c in
       names_class c object_owner d (tick m) (if is_external chain then cut_external d made ss rest else cut_sections d made chain ss rest) h.0
       ∙ ap (λ z. names_in_class c ++ z)
-          (names_by_class (is_external chain) (WellFormedExternal made.table ss) (WellFormedSections made.table ss chain) (cut_external d made ss rest) (cut_sections d made chain ss rest)
-            (names_in_sections ss ++ names_in rest) h.2 (λ w. names_external ss d made rest w) (λ w. names_sections ss chain d made rest w))
+      (names_by_class (is_external chain) (WellFormedExternal made.table ss) (WellFormedSections made.table ss chain) (cut_external d made ss rest) (cut_sections d made chain ss rest)
+      (names_in_sections ss ++ names_in rest) h.2 (λ w. names_external ss d made rest w) (λ w. names_sections ss chain d made rest w))
       ∙ two (names_in_class c) (names_in_sections ss) (names_in rest)
 
   names_desc : (x : DescTree) (role : Role) (d : ℕ) (m : Moment) (rest : List Piece) → WellFormedDesc m.table x → names_in (cut_desc role d m x rest) ≡ names_in_desc x ++ names_in rest
@@ -79,16 +79,16 @@ mutual
       let m3 = past_contents m2 notes in
       let up = cut_superclass (owner_of role) (is_strict_above role flags) (suc d) m3 parent rest in
       ap (λ z. name ∷ z)
-        (names_fields fields d false m1 (cut_annotation d m2 notes up) ∙ names_annotation notes d m2 up h.5
-        ∙ ap (λ z. names_in_contents notes ++ z) (names_superclass parent (owner_of role) (is_strict_above role flags) (suc d) m3 rest h.6)
-        ∙ two (names_in_contents notes) (names_in_class parent) (names_in rest))
+      (names_fields fields d false m1 (cut_annotation d m2 notes up) ∙ names_annotation notes d m2 up h.5
+      ∙ ap (λ z. names_in_contents notes ++ z) (names_superclass parent (owner_of role) (is_strict_above role flags) (suc d) m3 rest h.6)
+      ∙ two (names_in_contents notes) (names_in_class parent) (names_in rest))
   names_desc (proxy interfaces notes parent) role d m rest h =
       let m1 = assign m pending_entry in
       let m3 = past_contents m1 notes in
       let up = cut_superclass (owner_of role) (is_strict_above role 0) (suc d) m3 parent rest in
       names_interfaces interfaces d m1 (cut_annotation d m1 notes up)
       ∙ ap (λ z. interfaces ++ z) (names_annotation notes d m1 up h.2
-        ∙ ap (λ z. names_in_contents notes ++ z) (names_superclass parent (owner_of role) (is_strict_above role 0) (suc d) m3 rest h.3))
+      ∙ ap (λ z. names_in_contents notes ++ z) (names_superclass parent (owner_of role) (is_strict_above role 0) (suc d) m3 rest h.3))
       ∙ three interfaces (names_in_contents notes) (names_in_class parent) (names_in rest)
 
   names_class : (c : ClassPlaceTree) (owner : Owner) (d : ℕ) (m : Moment) (rest : List Piece) → WellFormedClass m.table c → names_in (cut_class owner d m c rest) ≡ names_in_class c ++ names_in rest

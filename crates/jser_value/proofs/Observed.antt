@@ -1,11 +1,11 @@
 -- What is observed along fields: the depth and the number of each place, the length of each array, the number of
 -- each handle, each checked name. A gate lets fields through exactly where what is observed is within its limits.
 use Rattle.std.proofs.Common.{ℕ, suc, ◌≤◌, max, Bool, true, false, not, ◌&&◌, ◌||◌, List, [], ◌∷◌, length, refl, arith, IsTrue, nat_lt}
-use Rattle.jser_value.proofs.Vocabulary.{array, StreamField, array_length_field, text_field, Position, class_name_at, interface_name_at, Piece, piece}
-use Rattle.std.proofs.Common.{nat_le, le-leb, leb-true, ◌↔◌}
+use Rattle.jser_value.proofs.Vocabulary.{StreamField, array_length_field, text_field, Position, class_name_at, interface_name_at, Piece, piece}
+use Rattle.std.proofs.Common.{nat_le, le-leb, leb-true}
 use Rattle.jser_value.specs.Scanner.{AllPass}
 use Rattle.jser_value.specs.Limits.{Limits, begins_place, assigns_handle, array_is_within, name_passes, gate_of, Each}
-use Rattle.jser_value.proofs.Bools.{and_left, and_right, and_both, untrue}
+use Rattle.jser_value.proofs.Bools.{and_left, and_right, and_both}
 
 abbrev pub seen_if : Bool → ℕ → ℕ
 seen_if true n = n
@@ -128,13 +128,14 @@ observed_passes limits (piece l f ∷ ps) h =
     let p = max_below (seen_if (begins_place l.position f) (suc l.moment.places)) (most_places ps) limits.refs h.refs in
     let t = max_below (seen_if (assigns_handle l.position f) (suc (length l.moment.table))) (most_handles ps) limits.handles h.handles in
     let a = length_from f limits.array (lengths_in ps) h.array in
-    let n = name_from l.position f limits.passes (names_in ps) h.names in
-    (and_both (place && array && handle) name
-      (and_both (place && array) handle
-        (and_both place array (both_from (begins_place l.position f) l.depth l.moment.places limits.depth limits.refs d.0 p.0) a.0)
-        (one_from (assigns_handle l.position f) (length l.moment.table) limits.handles t.0))
-      n.0,
-     observed_passes limits ps (record { depth = d.1; refs = p.1; array = a.1; handles = t.1; names = n.1 }))
+    let n = name_from l.position f limits.passes (names_in ps) h.names in (
+      and_both (place && array && handle) name
+          (and_both (place && array) handle
+          (and_both place array (both_from (begins_place l.position f) l.depth l.moment.places limits.depth limits.refs d.0 p.0) a.0)
+          (one_from (assigns_handle l.position f) (length l.moment.table) limits.handles t.0))
+          n.0,
+      observed_passes limits ps (record { depth = d.1; refs = p.1; array = a.1; handles = t.1; names = n.1 }),
+    )
   where
     max_below : (x y D : ℕ) → max x y ≤ D → (x ≤ D) × (y ≤ D)
     max_below x y D h = (omega arith, omega arith)

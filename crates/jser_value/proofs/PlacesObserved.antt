@@ -1,6 +1,6 @@
 -- The depth and the number of the places along the fields of a tree: the greatest ones are the counts of the tree.
 use Rattle.std.proofs.Common.{◌≡◌, ℕ, suc, ◌+◌, ◌≤◌, max, Bool, true, false, ◌||◌, if◌then◌else◌, List, [], ◌∷◌, refl, ◌∙◌, arith, Option, Some, None, MatchBool}
-use Rattle.jser_value.proofs.Vocabulary.{has_write_method, other_entry, pending_entry, Layer, PrimCode, is_object_code, primitive_codes, TextPlaceTree, new_text, back_text, FieldTree, PrimTree, ValueTree, null, back, string, descriptor, class_object, array, enum_constant, object, DescTree, plain, proxy, ClassPlaceTree, no_class, back_class, new_class, BodyTree, raw_body, value_body, ValueTrees, no_values, value_and, section, SectionTrees, no_sections, section_and, NotesTree, no_notes, annotation, block, reset, content, ContentTrees, no_contents, content_and, chain_of_class, elements_of, is_external, WellFormedValue, WellFormedDesc, WellFormedClass, WellFormedSuperclass, WellFormedBody, WellFormedValues, WellFormedExternal, WellFormedSections, WellFormedNotesIf, WellFormedNotes, WellFormedContents, WellFormed, Owner, object_owner, array_owner, enum_owner, class_owner, ChainOwner, Role, own_class, superclass, owner_of, is_strict_above, Moment, beginning, tick, assign, emptied, places_value, places_desc, places_class, places_body, places_values, places_sections, places_notes, places_contents, past_type, past_fields, past_value, past_class, past_values, past_notes, past_contents, array_length_field, array_length_at, Piece, at, cut_text_place, cut_type, cut_fields, cut_interfaces, cut_bytes, cut_raw, cut_prims, cut_value, cut_desc, cut_class, cut_superclass, cut_body, cut_values, cut_external, cut_sections, cut_notes, cut_annotation, cut_top, fields_of, begin}
+use Rattle.jser_value.proofs.Vocabulary.{has_write_method, other_entry, pending_entry, Layer, PrimCode, is_object_code, primitive_codes, TextPlaceTree, new_text, back_text, FieldTree, PrimTree, ValueTree, null, back, string, descriptor, class_object, array, enum_constant, object, DescTree, plain, proxy, ClassPlaceTree, no_class, back_class, new_class, BodyTree, raw_body, value_body, ValueTrees, no_values, value_and, section, SectionTrees, no_sections, section_and, NotesTree, no_notes, annotation, block, reset, content, ContentTrees, no_contents, content_and, chain_of_class, elements_of, is_external, WellFormedValue, WellFormedDesc, WellFormedClass, WellFormedSuperclass, WellFormedBody, WellFormedValues, WellFormedExternal, WellFormedSections, WellFormedNotesIf, WellFormedNotes, WellFormedContents, WellFormed, Owner, object_owner, array_owner, enum_owner, class_owner, ChainOwner, Role, own_class, superclass, owner_of, is_strict_above, Moment, beginning, tick, assign, emptied, places_value, places_desc, places_class, places_body, places_values, places_sections, places_notes, places_contents, past_type, past_fields, past_value, past_class, past_values, past_notes, past_contents, array_length_field, array_length_at, Piece, at, cut_text_place, cut_type, cut_fields, cut_interfaces, cut_bytes, cut_raw, cut_prims, cut_value, cut_desc, cut_class, cut_superclass, cut_body, cut_values, cut_external, cut_sections, cut_notes, cut_annotation, cut_top, fields_of}
 use Rattle.jser_value.specs.Counts.{array_length, refs_in_value, refs_in_desc, refs_in_class, refs_in_body, refs_in_values, refs_in_sections, refs_in_notes, refs_in_contents, depth_of_value, depth_in_desc, depth_in_class, depth_in_body, depth_in_values, depth_in_sections, depth_in_notes, depth_in_contents, refs_of, depth_of}
 use Rattle.jser_value.proofs.Observed.{deepest, most_places}
 
@@ -125,14 +125,16 @@ mutual
       let behind = if is_external ch then cut_external (suc d) made ss rest else cut_sections (suc d) made ch ss rest in
       let q = adds_class c object_owner (suc d) (tick m) behind h.0 in
       let r = adds_by_class (is_external ch) (WellFormedExternal made.table ss) (WellFormedSections made.table ss ch) (suc d) (depth_in_sections ss) made.places (places_sections made.places ss)
-                (cut_external (suc d) made ss rest) (cut_sections (suc d) made ch ss rest) rest h.2
-                (λ w. adds_external ss (suc d) made rest w) (λ w. adds_sections ss ch (suc d) made rest w) in
-      (max_two (suc d) d (depth_in_class c) (depth_in_sections ss) (deepest (cut_class object_owner (suc d) (tick m) c behind)) (deepest behind) (deepest rest) q.0 r.0,
+      (cut_external (suc d) made ss rest) (cut_sections (suc d) made ch ss rest) rest h.2
+      (λ w. adds_external ss (suc d) made rest w) (λ w. adds_sections ss ch (suc d) made rest w) in (
+        max_two (suc d) d (depth_in_class c) (depth_in_sections ss) (deepest (cut_class object_owner (suc d) (tick m) c behind)) (deepest behind) (deepest rest) q.0 r.0,
         max_more (suc m.places) (places_class (suc m.places) c) (places_sections (places_class (suc m.places) c) ss) (most_places (cut_class object_owner (suc d) (tick m) c behind))
-          (most_places behind) (most_places rest) (omega (arith, counted_class c (suc m.places))) q.1 r.1)
+            (most_places behind) (most_places rest) (omega (arith, counted_class c (suc m.places))) q.1 r.1,
+      )
     where
       max_two : (D d x y p q r : ℕ) → max (suc d) p ≡ max (suc d + x) q → max (suc d) q ≡ max (suc d + y) r → max (suc d) p ≡ max (d + suc (max x y)) r
       max_two D d x y p q r e f = omega arith
+
       max_more : (k l n p q r : ℕ) → k ≤ l → max k p ≡ max l q → max l q ≡ max n r → max k p ≡ max n r
       max_more k l n p q r h e f = e ∙ f
 

@@ -1,11 +1,11 @@
 -- A plain verdict: wait for as many bytes as the field needs, find the field in them, and compare its bytes. It
 -- tells no early fault and knows one reason, but it meets the premise of the byte laws, for every gate.
 use Rattle.std.proofs.Common.{◌≡◌, ℕ, zero, suc, ◌+◌, ◌-◌, ◌*◌, ◌<◌, ◌≤◌, Bool, true, false, cond, List, [], ◌∷◌, ◌++◌, length, refl, sym, ◌∙◌, ap, subst, arith, Option, Some, None, IsTrue, IsFalse, nat_lt, append-nil, true≢false}
-use Rattle.jser_value.proofs.Vocabulary.{big_bytes, modified_utf8, IsUnits, byte_code, char_code, double_code, float_code, int_code, long_code, short_code, boolean_code, size_of, IsText, IsHandle, Moment, StreamField, header_field, tag_field, block_tag_field, end_tag_field, reset_tag_field, handle_field, suid_field, flags_field, field_count_field, interface_count_field, array_length_field, code_field, text_field, block_length_field, prims_field, bytes_field, Position, nowhere, header_at, top_at, annotation_at, value_at, text_place_at, class_place_at, superclass_place_at, back_handle_at, text_handle_at, class_handle_at, superclass_handle_at, string_at, class_name_at, field_name_at, interface_name_at, suid_at, field_count_at, interface_count_at, array_length_at, flags_at, type_code_at, block_length_at, raw_at, bytes_at, Label, at, AcceptsAt, Accepts}
-use Rattle.std.proofs.Common.{take, drop, length-append, eqb-true, leb-true, le-leb, ltb-false}
+use Rattle.jser_value.proofs.Vocabulary.{big_bytes, modified_utf8, IsUnits, byte_code, char_code, double_code, float_code, int_code, long_code, short_code, boolean_code, size_of, IsText, IsHandle, Moment, StreamField, header_field, tag_field, block_tag_field, end_tag_field, reset_tag_field, handle_field, suid_field, flags_field, field_count_field, interface_count_field, array_length_field, code_field, text_field, block_length_field, prims_field, bytes_field, Position, nowhere, header_at, top_at, annotation_at, value_at, text_place_at, class_place_at, superclass_place_at, back_handle_at, text_handle_at, class_handle_at, superclass_handle_at, string_at, class_name_at, field_name_at, interface_name_at, suid_at, field_count_at, interface_count_at, array_length_at, flags_at, type_code_at, block_length_at, raw_at, bytes_at, Label, AcceptsAt, Accepts}
+use Rattle.std.proofs.Common.{take, drop, length-append, leb-true, le-leb, ltb-false}
 use Rattle.std.proofs.lemmas.List.{take_at, drop_at, take-append-le}
 use Rattle.jser_value.specs.Spelling.{utf, long_utf, prims_spelling}
-use Rattle.jser_value.specs.FieldBytes.{tag_byte, bytes_of}
+use Rattle.jser_value.specs.FieldBytes.{bytes_of}
 use Rattle.jser_value.specs.Scanner.{Verdict, more, good, bad, FieldGate, IsUndecided, IsScanner}
 use Rattle.jser_value.specs.WalkLaws.{EachGateHasAVerdict}
 use Rattle.jser_value.proofs.Deciding.{decide_at, decide_bytes}
@@ -132,7 +132,7 @@ text_parts k u us nh =
     let lh : length head ≡ k = length-big_bytes k n in
     let le : length (modified_utf8 u) ≤ length (head ++ modified_utf8 u) = omega (arith, length-append head (modified_utf8 u)) in
     let d : units_in (length (head ++ modified_utf8 u)) (drop k (head ++ modified_utf8 u)) ≡ u =
-          ap (units_in (length (head ++ modified_utf8 u))) (drop_at head (modified_utf8 u) k lh) ∙ units_back u (length (head ++ modified_utf8 u)) us le in
+    ap (units_in (length (head ++ modified_utf8 u))) (drop_at head (modified_utf8 u) k lh) ∙ units_back u (length (head ++ modified_utf8 u)) us le in
     let w : size_by_head k (head ++ modified_utf8 u) ≡ k + n = size_whole k n head (modified_utf8 u) lh nh refl in
     (d, omega (arith, w, length-append head (modified_utf8 u), lh), λ a c b e. size_front k n head (modified_utf8 u) a c b lh nh refl e)
 
@@ -154,10 +154,10 @@ text_whole w false u h d n =
 
 fixed : (w : Position) (f : StreamField) (k : ℕ) → field_in w (bytes_of f) ≡ Some f → length (bytes_of f) ≡ k → ((p : List ℕ) → size_in w p ≡ k) → Whole w f
 fixed w f k d l n = record {
-    found = d;
-    enough = omega (arith, n (bytes_of f), l);
-    fronts = λ a c b e. omega (arith, n a, l, shorter (bytes_of f) a c b e);
-  }
+  found = d;
+  enough = omega (arith, n (bytes_of f), l);
+  fronts = λ a c b e. omega (arith, n a, l, shorter (bytes_of f) a c b e);
+}
 
 handle_whole : (w : Position) (n : ℕ) → IsHandle n → ((p : List ℕ) → field_in w p ≡ Some (handle_field (number_of p - 0x7E0000))) → ((p : List ℕ) → size_in w p ≡ 4) → Whole w (handle_field n)
 handle_whole w n h d k =
@@ -205,8 +205,8 @@ whole (block_length_at false) m (block_length_field false n) a =
     fixed (block_length_at false) (block_length_field false n) 1 (ap (λ k. Some (block_length_field false k)) (number_1 n (omega arith))) (length-big_bytes 1 n) (λ p. refl)
 whole (raw_at c (suc n)) m (prims_field ps) a =
     fixed (raw_at c (suc n)) (prims_field ps) (suc n * size_of c)
-      (ap (λ k. Some (prims_field (prims_in c k (prims_spelling ps)))) (sym a.0) ∙ ap (λ q. Some (prims_field q)) (prims_back c ps a.1))
-      (length-prims_spelling c ps a.1 ∙ ap (λ k. k * size_of c) a.0) (λ p. refl)
+    (ap (λ k. Some (prims_field (prims_in c k (prims_spelling ps)))) (sym a.0) ∙ ap (λ q. Some (prims_field q)) (prims_back c ps a.1))
+    (length-prims_spelling c ps a.1 ∙ ap (λ k. k * size_of c) a.0) (λ p. refl)
 whole (bytes_at (suc n)) m (bytes_field b) a = fixed (bytes_at (suc n)) (bytes_field b) (suc n) refl a.1 (λ p. refl)
 whole (string_at true) m _ a = absurd a
 whole (string_at false) m _ a = absurd a
@@ -254,7 +254,6 @@ judge_stop f (yes a) false e q = refl
 judge_stop f (no k) b e q = refl
 
 module _ (gate : FieldGate) where
-
   at_end : (l : Label) (f : StreamField) → Accepts l f → plain_verdict gate l (bytes_of f) ≡ judged gate l (Some f) (bytes_of f)
   at_end l f h =
       let w = whole l.position l.moment f h in
@@ -274,13 +273,19 @@ module _ (gate : FieldGate) where
 
   pub scanner : IsScanner gate (plain_verdict gate)
   scanner = record {
-      nothing_yet = λ l. ap (λ b. cond b more (judged gate l (field_in l.position []) [])) (le-leb 1 (size_in l.position []) (some_size l.position));
-      good_is = λ l p f e. good_one l p f e;
-      is_good = λ l f h g. at_end l f h ∙ judge_yes f (decide_at l.position l.moment f) (gate l f) (decide_bytes (bytes_of f) (bytes_of f)) h g refl;
-      before_end = λ l f h g. in_front l f h;
-      stops = λ l f h g. (bytes_of f, [], 0, sym (append-nil (bytes_of f)),
-        at_end l f h ∙ judge_stop f (decide_at l.position l.moment f) (gate l f) (decide_bytes (bytes_of f) (bytes_of f)) g, in_front l f h);
-    }
+    nothing_yet = λ l. ap (λ b. cond b more (judged gate l (field_in l.position []) [])) (le-leb 1 (size_in l.position []) (some_size l.position));
+    good_is = λ l p f e. good_one l p f e;
+    is_good = λ l f h g. at_end l f h ∙ judge_yes f (decide_at l.position l.moment f) (gate l f) (decide_bytes (bytes_of f) (bytes_of f)) h g refl;
+    before_end = λ l f h g. in_front l f h;
+    stops = λ l f h g. (
+      bytes_of f,
+      [],
+      0,
+      sym (append-nil (bytes_of f)),
+      at_end l f h ∙ judge_stop f (decide_at l.position l.moment f) (gate l f) (decide_bytes (bytes_of f) (bytes_of f)) g,
+      in_front l f h,
+    );
+  }
     where
       good_one : (l : Label) (p : List ℕ) (f : StreamField) → plain_verdict gate l p ≡ good f → (p ≡ bytes_of f) × Accepts l f × IsTrue (gate l f)
       good_one l p f e = go (nat_lt (length p) (size_in l.position p)) e

@@ -1,7 +1,6 @@
 -- One reading, for a verdict and its gate: bytes are cut into fields in one way, and fields are those of one tree.
 use Rattle.std.proofs.Common.{◌≡◌, ℕ, List, [], ◌∷◌, ◌++◌, refl, sym, ◌∙◌, ap₂, IsTrue, append_assoc, append-nil, ◌⊎◌, inl, inr}
-use Rattle.jser_value.proofs.Vocabulary.{ValueTree, ContentTrees, WellFormedValue, WellFormed, Moment, StreamField, tag_field, value_at, Label, Piece, piece, at, tag_of, cut_value, fields_of, value_part, top_goal, parts_goal, State, settled, label_of, Accepts, begin, advance, begin_state, Reads}
-use Rattle.std.proofs.Common.{length-append}
+use Rattle.jser_value.proofs.Vocabulary.{ValueTree, ContentTrees, WellFormedValue, WellFormed, Moment, StreamField, tag_field, value_at, Label, Piece, piece, at, tag_of, cut_value, fields_of, value_part, top_goal, parts_goal, State, settled, label_of, Accepts, advance, begin_state, Reads}
 use Rattle.jser_value.specs.FieldBytes.{bytes_of, joined}
 use Rattle.jser_value.specs.Scanner.{more, good, VerdictOn, FieldGate, IsScanner, AllPass}
 use Rattle.jser_value.proofs.TreeToMachine.{reads_value}
@@ -18,8 +17,8 @@ fronts (c ∷ a) (c' ∷ b) x y e =
     let ec : c ≡ c' = cc in
     let et : a ++ x ≡ b ++ y = cc in
     elim (fronts a b x y et) [
-      inl h ↦ inl (h.0, ap₂ (λ n q. n ∷ q) ec h.1, h.2)
-    | inr h ↦ inr (h.0, h.1, ap₂ (λ n q. n ∷ q) (sym ec) h.2)
+      | inl h ↦ inl (h.0, ap₂ (λ n q. n ∷ q) ec h.1, h.2)
+      | inr h ↦ inr (h.0, h.1, ap₂ (λ n q. n ∷ q) (sym ec) h.2)
     ]
 
 -- the fields of a value alone
@@ -27,7 +26,6 @@ abbrev pub fields_of_value : Moment → ValueTree → List Piece
 fields_of_value m v = at value_at 1 m (tag_field (tag_of v)) ∷ cut_value 1 m v []
 
 module _ (gate : FieldGate) (verdict : VerdictOn) (sc : IsScanner gate verdict) where
-
   same_field : (l : Label) (f g : StreamField) (x y : List ℕ) → Accepts l f → IsTrue (gate l f) → Accepts l g → IsTrue (gate l g)
       → bytes_of f ++ x ≡ bytes_of g ++ y → (f ≡ g) × (x ≡ y)
   same_field l f g x y h hp k kp e = go (fronts (bytes_of f) (bytes_of g) x y e)
@@ -88,7 +86,7 @@ module _ (gate : FieldGate) (verdict : VerdictOn) (sc : IsScanner gate verdict) 
       → joined (fields_of list) ≡ joined (fields_of other) → list ≡ other
   same_by_bytes list other w w' g g' e =
       same_list list other w w'
-        (same_pieces (fields_of list) (fields_of other) begin_state ((exact_law (fields_of list)).1 (list, w, refl)) ((exact_law (fields_of other)).1 (other, w', refl)) g g' e)
+      (same_pieces (fields_of list) (fields_of other) begin_state ((exact_law (fields_of list)).1 (list, w, refl)) ((exact_law (fields_of other)).1 (other, w', refl)) g g' e)
 
   -- and so are two values, where the bytes of one begin those of the other
   pub same_value_by_bytes : (m : Moment) (v u : ValueTree) (rest : List ℕ) → WellFormedValue m.table v → WellFormedValue m.table u

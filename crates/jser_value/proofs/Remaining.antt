@@ -1,7 +1,7 @@
 -- What a stack of goals still asks for: the fields of well-formed trees, one for each goal. `K` says what comes
 -- behind. These are no definitions of the format: they state the way from the machine back to trees.
 use Rattle.std.proofs.Common.{◌≡◌, ℕ, zero, suc, ◌^◌, ◌<◌, Bool, false, List, [], ◌∷◌, ◌++◌, length, refl, Option}
-use Rattle.jser_value.proofs.Vocabulary.{other_entry, pending_entry, chain_at, NameKind, name_kind, layer_kind, Layer, PrimCode, TextPlaceTree, FieldTree, PrimTree, ValueTree, descriptor, DescTree, ClassPlaceTree, ContentTrees, codes_of, proxy_layer, chain_of_class, chain_of_desc, IsText, IsClassName, AreClassNames, IsFlags, IsBack, IsBackToText, IsBackToClass, WellFormedText, WellFormedFields, ArePrimsOf, IsBytes, IsBlock, elements_of, is_external, WellFormedValue, WellFormedDesc, WellFormedClass, WellFormedSuperclass, WellFormedNotes, WellFormedContents, Owner, object_owner, array_owner, enum_owner, class_owner, ChainOwner, Role, superclass, owner_of, is_strict_above, FitsOwner, FitsRole, NameFits, FlagsFit, Moment, tick, assign, closing, next_number, past_text, past_fields, past_value, past_desc, past_class, past_contents, Tag, header_field, tag_field, handle_field, suid_field, flags_field, field_count_field, interface_count_field, array_length_field, text_field, block_length_field, prims_field, bytes_field, header_at, value_at, back_handle_at, text_handle_at, class_handle_at, superclass_handle_at, string_at, class_name_at, field_name_at, suid_at, field_count_at, interface_count_at, array_length_at, flags_at, block_length_at, raw_at, bytes_at, Piece, at, tag_of_desc, tag_of, cut_text_place, cut_fields, cut_interfaces, cut_bytes, cut_value, cut_desc, cut_class, cut_superclass, cut_annotation, cut_top, Part, raw_part, value_part, annotation_part, Goal, header_goal, top_goal, annotation_goal, back_handle_goal, text_place_goal, text_handle_goal, field_name_goal, string_goal, block_length_goal, block_goal, array_length_goal, parts_goal, class_goal, class_handle_goal, made_goal, superclass_goal, superclass_handle_goal, close_goal, class_name_goal, suid_goal, flags_goal, field_count_goal, fields_goal, interface_count_goal, interfaces_goal, State, object_parts, body_parts, in_order, settle_parts, settle}
+use Rattle.jser_value.proofs.Vocabulary.{other_entry, pending_entry, chain_at, NameKind, name_kind, layer_kind, Layer, PrimCode, TextPlaceTree, FieldTree, PrimTree, ValueTree, DescTree, ClassPlaceTree, ContentTrees, codes_of, proxy_layer, chain_of_class, chain_of_desc, IsText, IsClassName, AreClassNames, IsFlags, IsBack, IsBackToText, IsBackToClass, WellFormedText, WellFormedFields, ArePrimsOf, IsBytes, IsBlock, elements_of, is_external, WellFormedValue, WellFormedDesc, WellFormedClass, WellFormedSuperclass, WellFormedNotes, WellFormedContents, Owner, object_owner, array_owner, enum_owner, class_owner, ChainOwner, Role, superclass, owner_of, is_strict_above, FitsOwner, FitsRole, NameFits, FlagsFit, Moment, tick, assign, closing, next_number, past_text, past_fields, past_value, past_desc, past_class, past_contents, Tag, header_field, tag_field, handle_field, suid_field, flags_field, field_count_field, interface_count_field, array_length_field, text_field, block_length_field, prims_field, bytes_field, header_at, value_at, back_handle_at, text_handle_at, class_handle_at, superclass_handle_at, string_at, class_name_at, field_name_at, suid_at, field_count_at, interface_count_at, array_length_at, flags_at, block_length_at, raw_at, bytes_at, Piece, at, tag_of_desc, tag_of, cut_text_place, cut_fields, cut_interfaces, cut_bytes, cut_value, cut_desc, cut_class, cut_superclass, cut_annotation, cut_top, Part, raw_part, value_part, annotation_part, Goal, header_goal, top_goal, annotation_goal, back_handle_goal, text_place_goal, text_handle_goal, field_name_goal, string_goal, block_length_goal, block_goal, array_length_goal, parts_goal, class_goal, class_handle_goal, made_goal, superclass_goal, superclass_handle_goal, close_goal, class_name_goal, suid_goal, flags_goal, field_count_goal, fields_goal, interface_count_goal, interfaces_goal, State, object_parts, body_parts, in_order, settle_parts, settle}
 use Rattle.jser_value.proofs.TreeToMachine.{past_top}
 
 abbrev pub Behind : Type 1

@@ -1,7 +1,7 @@
 -- A chain fits its role exactly where its own layer's name and flags do, or its proxy, and the chain of its
 -- superclasses fits the role above. So a condition on the whole chain is told at the field where it shows.
 use Rattle.std.proofs.Common.{◌≡◌, ℕ, Bool, true, false, not, cond, ◌&&◌, if◌then◌else◌, List, [], ◌∷◌, ◌++◌, refl, sym, ◌∙◌, ap, Some, None, IsTrue, IsFalse, true≢false}
-use Rattle.jser_value.proofs.Vocabulary.{is_serializable, is_externalizable, has_block_data, is_enum, is_proxy_kind, is_array_kind, own_layer, is_serial_kind, all_serial, does_fit, fits, NameKind, plain_name, array_name, malformed_name, layer_kind, Layer, object, plain, proxy, proxy_layer, is_malformed, object_owner, array_owner, enum_owner, class_owner, ChainOwner, Role, own_class, superclass, owner_of, is_strict_above, FitsRole, NameFits, FlagsFit, ProxyFits}
+use Rattle.jser_value.proofs.Vocabulary.{is_serializable, is_externalizable, has_block_data, is_enum, is_proxy_kind, is_array_kind, own_layer, is_serial_kind, all_serial, does_fit, fits, NameKind, plain_name, array_name, malformed_name, layer_kind, Layer, proxy_layer, is_malformed, object_owner, array_owner, enum_owner, class_owner, ChainOwner, Role, own_class, superclass, owner_of, is_strict_above, FitsRole, NameFits, FlagsFit, ProxyFits}
 use Rattle.jser_table.specs.declared.layer.Purpose.TheVariants as purpose
 use Rattle.jser_table.specs.declared.layer.Fit.TheVariants as fit
 use Rattle.jser_table.specs.Fits.{fit_of_own}
@@ -68,7 +68,7 @@ object_choice : (c : List Layer) (kind : NameKind) (f : ℕ) (codes : List ℕ) 
 object_choice c kind f codes h =
     let l = layer_of kind f codes in
     rw (← is_serial_kind-plain kind f)
-      (and_right (not (is_array_kind l.kind)) (cond (is_externalizable f) (has_block_data f) (all_serial c && is_serial_kind l.kind f)) (sym (object_fits-snoc c l) ∙ h))
+    (and_right (not (is_array_kind l.kind)) (cond (is_externalizable f) (has_block_data f) (all_serial c && is_serial_kind l.kind f)) (sym (object_fits-snoc c l) ∙ h))
 
 own_choice : (e b s a : Bool) → IsTrue (cond e b (a && s)) → IsTrue (cond e b s)
 own_choice true b s a h = h

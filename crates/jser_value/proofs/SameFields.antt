@@ -3,7 +3,7 @@
 use Rattle.std.proofs.Common.{◌≡◌, ℕ, suc, Bool, true, false, ◌||◌, if◌then◌else◌, List, [], ◌∷◌, length, refl, sym, ◌∙◌, ap, ap₂, arith, Option, Some, None, MatchBool}
 use Rattle.jser_value.proofs.Vocabulary.{has_write_method, other_entry, pending_entry, Layer, PrimCode, is_object_code, primitive_codes, TextTree, TextPlaceTree, new_text, back_text, FieldTree, PrimTree, ValueTree, null, back, string, descriptor, class_object, array, enum_constant, object, DescTree, plain, proxy, ClassPlaceTree, no_class, back_class, new_class, BodyTree, raw_body, value_body, ValueTrees, no_values, value_and, section, SectionTrees, no_sections, section_and, NotesTree, no_notes, annotation, block, reset, content, ContentTrees, no_contents, content_and, value_count, after_type, after_value, after_values, after_notes, chain_of_class, WellFormedType, WellFormedFields, ArePrims, elements_of, is_external, WellFormedValue, WellFormedDesc, WellFormedClass, WellFormedSuperclass, WellFormedBody, WellFormedValues, WellFormedExternal, WellFormedSections, WellFormedNotesIf, WellFormedNotes, WellFormedContents, WellFormed, Owner, object_owner, array_owner, enum_owner, class_owner, ChainOwner, Role, own_class, superclass, owner_of, is_strict_above, Moment, beginning, tick, assign, emptied, past_type, past_fields, past_value, past_class, past_values, past_notes, past_contents, Tag, null_tag, reference_tag, class_desc_tag, object_tag, string_tag, array_tag, class_tag, long_string_tag, proxy_desc_tag, enum_tag, array_length_field, array_length_at, Piece, at, tag_of_string, tag_of_desc, tag_of, cut_text_place, cut_type, cut_fields, cut_interfaces, cut_bytes, cut_raw, cut_prims, cut_value, cut_desc, cut_class, cut_superclass, cut_body, cut_values, cut_external, cut_sections, cut_notes, cut_annotation, cut_top, fields_of}
 use Rattle.jser_value.specs.Counts.{array_length}
-use Rattle.jser_value.proofs.Bools.{untrue, both_ways}
+use Rattle.jser_value.proofs.Bools.{both_ways}
 use Rattle.jser_value.proofs.TreeToMachine.{not_object}
 
 -- records, by their parts
@@ -165,7 +165,7 @@ mutual
       let elements = elements_of (chain_of_class m.table c) in
       let elements' = elements_of (chain_of_class m.table c') in
       let q = same_class c c' array_owner d (tick m) (at array_length_at d made (array_length_field (array_length b)) ∷ cut_body d made elements b x)
-                (at array_length_at d made' (array_length_field (array_length b')) ∷ cut_body d made' elements' b' y) h.0 k.0 e in
+      (at array_length_at d made' (array_length_field (array_length b')) ∷ cut_body d made' elements' b' y) h.0 k.0 e in
       let qq = q.1 in
       let n : array_length b ≡ array_length b' = cc in
       let e1 : cut_body d made elements b x ≡ cut_body d made' elements' b' y = cc in
@@ -186,12 +186,12 @@ mutual
       let ch = chain_of_class m.table c in
       let ch' = chain_of_class m.table c' in
       let q = same_class c c' object_owner d (tick m) (if is_external ch then cut_external d made ss x else cut_sections d made ch ss x)
-                (if is_external ch' then cut_external d made' zs y else cut_sections d made' ch' zs y) h.0 k.0 e in
+      (if is_external ch' then cut_external d made' zs y else cut_sections d made' ch' zs y) h.0 k.0 e in
       let k' : MatchBool (is_external ch) (WellFormedExternal made.table zs) (WellFormedSections made.table zs ch) = rw q.0 k.2 in
       let e' : (if is_external ch then cut_external d made ss x else cut_sections d made ch ss x) ≡ (if is_external ch then cut_external d made zs y else cut_sections d made ch zs y) = q.1 ∙ rw q.0 refl in
       let r = same_by_class (is_external ch) (WellFormedExternal made.table ss) (WellFormedSections made.table ss ch) (WellFormedExternal made.table zs) (WellFormedSections made.table zs ch) ss zs
-                (cut_external d made ss x) (cut_sections d made ch ss x) (cut_external d made zs y) (cut_sections d made ch zs y) x y h.2 k' e'
-                (λ a b f. same_external ss zs d made x y a b f) (λ a b f. same_sections ss zs ch d made x y a b f) in
+      (cut_external d made ss x) (cut_sections d made ch ss x) (cut_external d made zs y) (cut_sections d made ch zs y) x y h.2 k' e'
+      (λ a b f. same_external ss zs d made x y a b f) (λ a b f. same_sections ss zs ch d made x y a b f) in
       (ap₂ object q.0 r.0, r.1)
   same_value v u d m x y h k t e = let z : shape v ≡ shape u = sym (shape_tag v) ∙ ap shape_of t ∙ shape_tag u in absurd (cc)
 

@@ -3,7 +3,7 @@
 use Rattle.std.proofs.Common.{◌≡◌, ℕ, suc, Bool, true, false, ◌||◌, if◌then◌else◌, List, [], ◌∷◌, ◌++◌, length, refl, sym, ◌∙◌, ap, Option, Some, None, append_assoc, append-nil, MatchBool}
 use Rattle.jser_value.proofs.Vocabulary.{has_write_method, other_entry, pending_entry, Layer, big_bytes, PrimCode, is_object_code, primitive_codes, TextPlaceTree, new_text, back_text, FieldTree, PrimTree, ValueTree, null, back, string, descriptor, class_object, array, enum_constant, object, DescTree, plain, proxy, ClassPlaceTree, no_class, back_class, new_class, BodyTree, raw_body, value_body, ValueTrees, no_values, value_and, section, SectionTrees, no_sections, section_and, NotesTree, no_notes, annotation, block, reset, content, ContentTrees, no_contents, content_and, value_count, chain_of_class, ArePrims, elements_of, is_external, WellFormedValue, WellFormedDesc, WellFormedClass, WellFormedSuperclass, WellFormedBody, WellFormedValues, WellFormedExternal, WellFormedSections, WellFormedNotesIf, WellFormedNotes, WellFormedContents, Owner, object_owner, array_owner, enum_owner, class_owner, ChainOwner, Role, own_class, superclass, owner_of, is_strict_above, Moment, beginning, tick, assign, emptied, past_type, past_fields, past_value, past_class, past_values, past_notes, past_contents, block_tag_field, array_length_field, text_field, block_length_field, Position, top_at, annotation_at, array_length_at, block_length_at, Piece, at, tag_of_string, tag_of_desc, tag_of, cut_text_place, cut_type, cut_fields, cut_interfaces, cut_bytes, cut_raw, cut_prims, cut_value, cut_desc, cut_class, cut_superclass, cut_body, cut_values, cut_external, cut_sections, cut_notes, cut_annotation, cut_top}
 use Rattle.jser_value.specs.Counts.{array_length}
-use Rattle.jser_value.specs.Spelling.{utf, long_utf, reference, string_spelling, text_place_spelling, type_spelling, fields_spelling, interfaces_spelling, prim_spelling, prims_spelling, block_head, value_spelling, desc_spelling, class_spelling, body_spelling, values_spelling, sections_spelling, notes_spelling, annotation_spelling, content_spelling, contents_spelling, spelling}
+use Rattle.jser_value.specs.Spelling.{utf, string_spelling, text_place_spelling, type_spelling, fields_spelling, interfaces_spelling, prim_spelling, prims_spelling, block_head, value_spelling, desc_spelling, class_spelling, body_spelling, values_spelling, sections_spelling, notes_spelling, annotation_spelling, contents_spelling}
 use Rattle.jser_value.specs.FieldBytes.{tag_byte, bytes_of, joined}
 use Rattle.jser_value.specs.ByteLaws.{Spelled}
 
@@ -36,7 +36,7 @@ spelled_fields [] d seen m rest = refl
 spelled_fields (f ∷ fs) d seen m rest =
     let later = seen || is_object_code f.code in
     ap (λ z. f.code ∷ (utf f.name ++ z))
-      (spelled_type f.text d m (cut_fields d later (past_type m f.text) fs rest) ∙ ap (λ z. type_spelling f.text ++ z) (spelled_fields fs d later (past_type m f.text) rest))
+    (spelled_type f.text d m (cut_fields d later (past_type m f.text) fs rest) ∙ ap (λ z. type_spelling f.text ++ z) (spelled_fields fs d later (past_type m f.text) rest))
     ∙ ap (λ z. f.code ∷ z) (three (utf f.name) (type_spelling f.text) (fields_spelling fs) (joined rest))
 
 spelled_interfaces : (names : List (List ℕ)) (d : ℕ) (m : Moment) (rest : List Piece) → joined (cut_interfaces d m names rest) ≡ interfaces_spelling names ++ joined rest
@@ -84,19 +84,19 @@ mutual
       let made = assign (past_class (tick m) c) other_entry in
       let elements = elements_of (chain_of_class m.table c) in
       ap (λ z. 0x75 ∷ z) (spelled_class c array_owner d (tick m) (at array_length_at d made (array_length_field (array_length b)) ∷ cut_body d made elements b rest) h.0
-        ∙ ap (λ z. class_spelling c ++ z) (spelled_body b elements d made rest h.2) ∙ two (class_spelling c) (body_spelling b) (joined rest))
+      ∙ ap (λ z. class_spelling c ++ z) (spelled_body b elements d made rest h.2) ∙ two (class_spelling c) (body_spelling b) (joined rest))
   spelled_value (enum_constant c t) d m rest h =
       let made = assign (past_class (tick m) c) other_entry in
       ap (λ z. 0x7E ∷ z) (spelled_class c enum_owner d (tick m) (cut_text_place d made t rest) h.0
-        ∙ ap (λ z. class_spelling c ++ z) (spelled_text_place t d made rest) ∙ two (class_spelling c) (text_place_spelling t) (joined rest))
+      ∙ ap (λ z. class_spelling c ++ z) (spelled_text_place t d made rest) ∙ two (class_spelling c) (text_place_spelling t) (joined rest))
   spelled_value (object c ss) d m rest h =
       let made = assign (past_class (tick m) c) other_entry in
       let chain = chain_of_class m.table c in
       ap (λ z. 0x73 ∷ z) (spelled_class c object_owner d (tick m) (if is_external chain then cut_external d made ss rest else cut_sections d made chain ss rest) h.0
-        ∙ ap (λ z. class_spelling c ++ z)
-            (spelled_by_class (is_external chain) (WellFormedExternal made.table ss) (WellFormedSections made.table ss chain) (cut_external d made ss rest) (cut_sections d made chain ss rest)
-              (sections_spelling ss ++ joined rest) h.2 (λ w. spelled_external ss d made rest w) (λ w. spelled_sections ss chain d made rest w))
-        ∙ two (class_spelling c) (sections_spelling ss) (joined rest))
+      ∙ ap (λ z. class_spelling c ++ z)
+      (spelled_by_class (is_external chain) (WellFormedExternal made.table ss) (WellFormedSections made.table ss chain) (cut_external d made ss rest) (cut_sections d made chain ss rest)
+      (sections_spelling ss ++ joined rest) h.2 (λ w. spelled_external ss d made rest w) (λ w. spelled_sections ss chain d made rest w))
+      ∙ two (class_spelling c) (sections_spelling ss) (joined rest))
 
   spelled_desc : (x : DescTree) (role : Role) (d : ℕ) (m : Moment) (rest : List Piece) → WellFormedDesc m.table x
       → tag_byte (tag_of_desc x) ∷ joined (cut_desc role d m x rest) ≡ desc_spelling x ++ joined rest
@@ -161,8 +161,8 @@ mutual
       let after = cut_sections d behind ls ss rest in
       spelled_prims (primitive_codes l.codes) ps d m (cut_values d m vs (cut_notes d (past_values m vs) n after)) h.0
       ∙ ap (λ z. prims_spelling ps ++ z) (spelled_values vs d m (cut_notes d (past_values m vs) n after) h.2
-        ∙ ap (λ z. values_spelling vs ++ z) (spelled_notes n (has_write_method l.flags) d (past_values m vs) after h.3
-          ∙ ap (λ z. notes_spelling n ++ z) (spelled_sections ss ls d behind rest h.4)))
+      ∙ ap (λ z. values_spelling vs ++ z) (spelled_notes n (has_write_method l.flags) d (past_values m vs) after h.3
+      ∙ ap (λ z. notes_spelling n ++ z) (spelled_sections ss ls d behind rest h.4)))
       ∙ four (prims_spelling ps) (values_spelling vs) (notes_spelling n) (sections_spelling ss) (joined rest)
 
   spelled_notes : (n : NotesTree) (expected : Bool) (d : ℕ) (m : Moment) (rest : List Piece) → WellFormedNotesIf m.table n expected

@@ -46,13 +46,24 @@ mutual
       let opened = add T pending_entry in
       let behind = after_fields opened fields in
       let inside = after_contents behind notes in
-      omega (arith, grows_add T pending_entry, grows_fields fields opened, grows_contents notes behind, grows_class parent inside,
-        length-close (after_class inside parent) (length T) (chain_of_class inside parent ++ (plain_layer name flags fields ∷ [])))
+      omega (
+        arith,
+        grows_add T pending_entry,
+        grows_fields fields opened,
+        grows_contents notes behind,
+        grows_class parent inside,
+        length-close (after_class inside parent) (length T) (chain_of_class inside parent ++ (plain_layer name flags fields ∷ [])),
+      )
   grows_desc (proxy interfaces notes parent) T =
       let opened = add T pending_entry in
       let inside = after_contents opened notes in
-      omega (arith, grows_add T pending_entry, grows_contents notes opened, grows_class parent inside,
-        length-close (after_class inside parent) (length T) (chain_of_class inside parent ++ (proxy_layer ∷ [])))
+      omega (
+        arith,
+        grows_add T pending_entry,
+        grows_contents notes opened,
+        grows_class parent inside,
+        length-close (after_class inside parent) (length T) (chain_of_class inside parent ++ (proxy_layer ∷ [])),
+      )
 
   pub grows_class : (c : ClassPlaceTree) (T : Entries) → length T ≤ length (after_class T c)
   grows_class no_class T = omega arith
@@ -89,9 +100,9 @@ chain_at-after_desc (plain name suid flags fields notes parent) T =
     let behind = after_fields opened fields in
     let inside = after_contents behind notes in
     ap chain_of (slice_get-slice_set (after_class inside parent) (length T) (closed_entry (chain_of_class inside parent ++ (plain_layer name flags fields ∷ [])))
-      (omega (arith, length-add T pending_entry, grows_fields fields opened, grows_contents notes behind, grows_class parent inside)))
+    (omega (arith, length-add T pending_entry, grows_fields fields opened, grows_contents notes behind, grows_class parent inside)))
 chain_at-after_desc (proxy interfaces notes parent) T =
     let opened = add T pending_entry in
     let inside = after_contents opened notes in
     ap chain_of (slice_get-slice_set (after_class inside parent) (length T) (closed_entry (chain_of_class inside parent ++ (proxy_layer ∷ [])))
-      (omega (arith, length-add T pending_entry, grows_contents notes opened, grows_class parent inside)))
+    (omega (arith, length-add T pending_entry, grows_contents notes opened, grows_class parent inside)))

@@ -82,11 +82,17 @@ reads_fields : (fs : List FieldTree) (role : Role) (d number : ℕ) (kind : Name
 reads_fields [] role d number kind flags seen codes m gs rest h k =
     resettle rest (m, ending role d number flags (read_layer kind flags codes) gs) (m, fields_goal role d number kind flags seen codes 0 ∷ gs) refl k
 reads_fields (f ∷ fs) role d number kind flags seen codes m gs rest h k =
-    let later = seen || is_object_code f.code in
-    (refl, follows f.text m.table seen f.code h.1, (refl, h.0,
-      reads_type f.text (is_object_code f.code) seen f.code d m (fields_goal role d number kind flags later (f.code ∷ codes) (length fs) ∷ gs)
-        (cut_fields d later (past_type m f.text) fs rest) refl h.1
-        (reads_fields fs role d number kind flags later (f.code ∷ codes) (past_type m f.text) gs rest h.2 k)))
+    let later = seen || is_object_code f.code in (
+      refl,
+      follows f.text m.table seen f.code h.1,
+      (
+        refl,
+        h.0,
+        reads_type f.text (is_object_code f.code) seen f.code d m (fields_goal role d number kind flags later (f.code ∷ codes) (length fs) ∷ gs)
+            (cut_fields d later (past_type m f.text) fs rest) refl h.1
+            (reads_fields fs role d number kind flags later (f.code ∷ codes) (past_type m f.text) gs rest h.2 k),
+      ),
+    )
 
 reads_interfaces : (names : List (List ℕ)) (role : Role) (d number : ℕ) (m : Moment) (gs : List Goal) (rest : List Piece)
     → AreClassNames names → Reads (m, ending role d number 0 proxy_layer gs) rest
@@ -163,7 +169,7 @@ mutual
       let made = assign (past_class (tick m) c) other_entry in
       let chain = chain_of_class m.table c in
       reads_class c array_owner d (tick m) gs (at array_length_at d made (array_length_field (array_length b)) ∷ cut_body d made (elements_of chain) b rest) h.0 h.1
-        (reads_body b (elements_of chain) d made gs rest h.2 k)
+      (reads_body b (elements_of chain) d made gs rest h.2 k)
   reads_value (enum_constant c t) d m gs rest h k =
       let made = assign (past_class (tick m) c) other_entry in
       reads_class c enum_owner d (tick m) gs (cut_text_place d made t rest) h.0 h.1 (reads_text_place t d made gs rest h.2 k)
@@ -171,8 +177,8 @@ mutual
       let made = assign (past_class (tick m) c) other_entry in
       let chain = chain_of_class m.table c in
       reads_class c object_owner d (tick m) gs (if is_external chain then cut_external d made ss rest else cut_sections d made chain ss rest) h.0 h.1
-        (reads_object (is_external chain) (WellFormedExternal made.table ss) (WellFormedSections made.table ss chain) chain d made gs (cut_external d made ss rest) (cut_sections d made chain ss rest) h.2
-          (λ w. reads_external ss d made gs rest w k) (λ w. reads_sections ss chain d made gs rest w k))
+      (reads_object (is_external chain) (WellFormedExternal made.table ss) (WellFormedSections made.table ss chain) chain d made gs (cut_external d made ss rest) (cut_sections d made chain ss rest) h.2
+      (λ w. reads_external ss d made gs rest w k) (λ w. reads_sections ss chain d made gs rest w k))
 
   pub reads_desc : (x : DescTree) (role : Role) (d : ℕ) (m : Moment) (gs : List Goal) (rest : List Piece)
       → WellFormedDesc m.table x → FitsRole role (chain_of_desc m.table x) → Reads (past_desc m x, gs) rest
@@ -186,22 +192,38 @@ mutual
       let chain = chain_of_class inside.table parent in
       let strict = is_strict_above role flags in
       let up : List Goal = superclass_goal (owner_of role) strict (suc d) (next_number m) l ∷ gs in
-      let ends = cut_superclass (owner_of role) strict (suc d) inside parent rest in
-      (refl, (h.0, name_fits_of role chain kind flags (codes_of fields) h.0.1 f),
-      (refl, h.1, (refl, (h.2, flags_fit_of role chain kind flags (codes_of fields) f), (refl, h.3,
-        reads_fields fields role d (next_number m) kind flags false [] opened gs (cut_annotation d behind notes ends) h.4
-          (reads_annotation notes d behind up ends h.5
-            (reads_superclass parent (owner_of role) strict (suc d) (next_number m) l inside gs rest h.6 (above_fits_of role chain kind flags (codes_of fields) f) k))))))
+      let ends = cut_superclass (owner_of role) strict (suc d) inside parent rest in (
+        refl,
+        (h.0, name_fits_of role chain kind flags (codes_of fields) h.0.1 f),
+        (
+          refl,
+          h.1,
+          (
+            refl,
+            (h.2, flags_fit_of role chain kind flags (codes_of fields) f),
+            (
+              refl,
+              h.3,
+              reads_fields fields role d (next_number m) kind flags false [] opened gs (cut_annotation d behind notes ends) h.4
+                  (reads_annotation notes d behind up ends h.5
+                  (reads_superclass parent (owner_of role) strict (suc d) (next_number m) l inside gs rest h.6 (above_fits_of role chain kind flags (codes_of fields) f) k)),
+            ),
+          ),
+        ),
+      )
   reads_desc (proxy interfaces notes parent) role d m gs rest h f k =
       let opened = assign m pending_entry in
       let inside = past_contents opened notes in
       let strict = is_strict_above role 0 in
       let up : List Goal = superclass_goal (owner_of role) strict (suc d) (next_number m) proxy_layer ∷ gs in
-      let ends = cut_superclass (owner_of role) strict (suc d) inside parent rest in
-      (refl, h.0, reads_interfaces interfaces role d (next_number m) opened gs (cut_annotation d opened notes ends) h.1
-        (reads_annotation notes d opened up ends h.2
-          (reads_superclass parent (owner_of role) strict (suc d) (next_number m) proxy_layer inside gs rest h.3
-            (above_proxy_fits_of role (chain_of_class inside.table parent) f) k)))
+      let ends = cut_superclass (owner_of role) strict (suc d) inside parent rest in (
+        refl,
+        h.0,
+        reads_interfaces interfaces role d (next_number m) opened gs (cut_annotation d opened notes ends) h.1
+            (reads_annotation notes d opened up ends h.2
+            (reads_superclass parent (owner_of role) strict (suc d) (next_number m) proxy_layer inside gs rest h.3
+            (above_proxy_fits_of role (chain_of_class inside.table parent) f) k)),
+      )
 
   pub reads_class : (c : ClassPlaceTree) (owner : Owner) (d : ℕ) (m : Moment) (gs : List Goal) (rest : List Piece)
       → WellFormedClass m.table c → FitsOwner owner (chain_of_class m.table c)
@@ -211,22 +233,28 @@ mutual
   reads_class (back_class n) owner d m gs rest h f k = (refl, tt, (refl, (h, f), reads_made owner d n m gs rest k))
   reads_class (new_class x) owner d m gs rest h f k =
       enter_class x owner d m gs (cut_desc (own_class (Some owner)) d m x rest) f
-        (reads_desc x (own_class (Some owner)) d m (made_goal owner d (next_number m) ∷ gs) rest h f
-          (reads_made owner d (next_number m) (past_desc m x) gs rest (rw chain_at-after_desc k)))
+      (reads_desc x (own_class (Some owner)) d m (made_goal owner d (next_number m) ∷ gs) rest h f
+      (reads_made owner d (next_number m) (past_desc m x) gs rest (rw chain_at-after_desc k)))
 
   pub reads_superclass : (c : ClassPlaceTree) (owner : ChainOwner) (strict : Bool) (d number : ℕ) (l : Layer) (m : Moment) (gs : List Goal) (rest : List Piece)
       → WellFormedSuperclass m.table c → FitsRole (superclass owner strict) (chain_of_class m.table c)
       → Reads (closing (past_class (tick m) c) number (chain_of_class m.table c ++ (l ∷ [])), gs) rest
       → Reads (m, superclass_goal owner strict d number l ∷ gs) (cut_superclass owner strict d m c rest)
   reads_superclass no_class owner strict d number l m gs rest h f k = (refl, tt, k)
-  reads_superclass (back_class n) owner strict d number l m gs rest h f k =
-      (refl, tt, (refl, (h, f),
-        resettle rest (closing (tick m) number (chain_at m.table n ++ (l ∷ [])), gs) (tick m, close_goal number n l ∷ gs) refl k))
+  reads_superclass (back_class n) owner strict d number l m gs rest h f k = (
+    refl,
+    tt,
+    (
+      refl,
+      (h, f),
+      resettle rest (closing (tick m) number (chain_at m.table n ++ (l ∷ [])), gs) (tick m, close_goal number n l ∷ gs) refl k,
+    ),
+  )
   reads_superclass (new_class x) owner strict d number l m gs rest h f k =
       enter_superclass x owner strict d number l m gs (cut_desc (superclass owner strict) d (tick m) x rest)
-        (reads_desc x (superclass owner strict) d (tick m) (close_goal number (next_number m) l ∷ gs) rest h f
-          (resettle rest (closing (past_desc (tick m) x) number (chain_at (after_desc m.table x) (next_number m) ++ (l ∷ [])), gs)
-            (past_desc (tick m) x, close_goal number (next_number m) l ∷ gs) refl (rw (chain_at-after_desc x m.table) k)))
+      (reads_desc x (superclass owner strict) d (tick m) (close_goal number (next_number m) l ∷ gs) rest h f
+      (resettle rest (closing (past_desc (tick m) x) number (chain_at (after_desc m.table x) (next_number m) ++ (l ∷ [])), gs)
+      (past_desc (tick m) x, close_goal number (next_number m) l ∷ gs) refl (rw (chain_at-after_desc x m.table) k)))
 
   pub reads_body : (b : BodyTree) (elements : Option PrimCode) (d : ℕ) (m : Moment) (gs : List Goal) (rest : List Piece)
       → WellFormedBody m.table b elements → Reads (past_body m b, gs) rest
@@ -241,16 +269,19 @@ mutual
       → WellFormedValues m.table vs → Reads (past_values m vs, parts_goal d parts ∷ gs) rest
       → Reads (m, parts_goal d (value_parts (value_count vs) parts) ∷ gs) (cut_values d m vs rest)
   reads_values no_values parts d m gs rest h k = k
-  reads_values (value_and v vs) parts d m gs rest h k =
-      (refl, tt, reads_value v (suc d) m (parts_goal d (value_parts (value_count vs) parts) ∷ gs) (cut_values d (past_value m v) vs rest) h.0
-        (reads_values vs parts d (past_value m v) gs rest h.1 k))
+  reads_values (value_and v vs) parts d m gs rest h k = (
+    refl,
+    tt,
+    reads_value v (suc d) m (parts_goal d (value_parts (value_count vs) parts) ∷ gs) (cut_values d (past_value m v) vs rest) h.0
+        (reads_values vs parts d (past_value m v) gs rest h.1 k),
+  )
 
   pub reads_external : (ss : SectionTrees) (d : ℕ) (m : Moment) (gs : List Goal) (rest : List Piece)
       → WellFormedExternal m.table ss → Reads (past_sections m ss, gs) rest
       → Reads (m, parts_goal d (annotation_part ∷ []) ∷ gs) (cut_external d m ss rest)
   reads_external (section_and (section [] no_values (annotation notes)) no_sections) d m gs rest h k =
       resettle (cut_annotation d m notes rest) (m, annotation_goal d ∷ parts_goal d [] ∷ gs) (m, parts_goal d (annotation_part ∷ []) ∷ gs) refl
-        (reads_annotation notes d m (parts_goal d [] ∷ gs) rest h (resettle rest (past_contents m notes, gs) (past_contents m notes, parts_goal d [] ∷ gs) refl k))
+      (reads_annotation notes d m (parts_goal d [] ∷ gs) rest h (resettle rest (past_contents m notes, gs) (past_contents m notes, parts_goal d [] ∷ gs) refl k))
   reads_external _ d m gs rest h k = absurd h
 
   pub reads_sections : (ss : SectionTrees) (chain : List Layer) (d : ℕ) (m : Moment) (gs : List Goal) (rest : List Piece)
@@ -264,9 +295,9 @@ mutual
       let noted = annotation_if (has_write_method l.flags) (section_parts ls) in
       let after = cut_sections d behind ls ss rest in
       let notes_read : Reads (past_values m vs, parts_goal d noted ∷ gs) (cut_notes d (past_values m vs) n after) =
-            reads_notes n (has_write_method l.flags) (section_parts ls) d (past_values m vs) gs after h.3 (reads_sections ss ls d behind gs rest h.4 k) in
+      reads_notes n (has_write_method l.flags) (section_parts ls) d (past_values m vs) gs after h.3 (reads_sections ss ls d behind gs rest h.4 k) in
       reads_prims (primitive_codes l.codes) ps (value_parts (object_count l.codes) noted) d m gs (cut_values d m vs (cut_notes d (past_values m vs) n after)) h.0
-        (rw (← h.1) (reads_values vs noted d m gs (cut_notes d (past_values m vs) n after) h.2 notes_read))
+      (rw (← h.1) (reads_values vs noted d m gs (cut_notes d (past_values m vs) n after) h.2 notes_read))
 
   pub reads_notes : (n : NotesTree) (expected : Bool) (parts : List Part) (d : ℕ) (m : Moment) (gs : List Goal) (rest : List Piece)
       → WellFormedNotesIf m.table n expected → Reads (past_notes m n, parts_goal d parts ∷ gs) rest
@@ -275,7 +306,7 @@ mutual
   reads_notes no_notes true parts d m gs rest h k = absurd (true≢false h)
   reads_notes (annotation notes) true parts d m gs rest h k =
       resettle (cut_annotation d m notes rest) (m, annotation_goal d ∷ parts_goal d parts ∷ gs) (m, parts_goal d (annotation_part ∷ parts) ∷ gs) refl
-        (reads_annotation notes d m (parts_goal d parts ∷ gs) rest h.1 k)
+      (reads_annotation notes d m (parts_goal d parts ∷ gs) rest h.1 k)
   reads_notes (annotation notes) false parts d m gs rest h k = untrue h.0
 
   pub reads_annotation : (cs : ContentTrees) (d : ℕ) (m : Moment) (gs : List Goal) (rest : List Piece)
@@ -284,9 +315,12 @@ mutual
   reads_annotation (content_and (block long bytes) cs) d m gs rest h k =
       (refl, tt, reads_block long bytes d m (annotation_goal d ∷ gs) (cut_annotation d m cs rest) h.0 (reads_annotation cs d m gs rest h.1 k))
   reads_annotation (content_and reset cs) d m gs rest h k = absurd h
-  reads_annotation (content_and (content v) cs) d m gs rest h k =
-      (refl, tt, reads_value v (suc d) m (annotation_goal d ∷ gs) (cut_annotation d (past_value m v) cs rest) h.0
-        (reads_annotation cs d (past_value m v) gs rest h.1 k))
+  reads_annotation (content_and (content v) cs) d m gs rest h k = (
+    refl,
+    tt,
+    reads_value v (suc d) m (annotation_goal d ∷ gs) (cut_annotation d (past_value m v) cs rest) h.0
+        (reads_annotation cs d (past_value m v) gs rest h.1 k),
+  )
 
 -- the moment behind a content list
 abbrev pub past_top : Moment → ContentTrees → Moment

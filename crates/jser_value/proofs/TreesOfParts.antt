@@ -3,7 +3,7 @@ use Rattle.std.proofs.Common.{◌≡◌, ℕ, zero, suc, ◌^◌, ◌<◌, Bool,
 use Rattle.jser_value.proofs.Vocabulary.{has_write_method, pending_entry, name_kind, Layer, PrimCode, primitive_codes, object_count, PrimTree, plain, proxy, BodyTree, raw_body, value_body, ValueTrees, no_values, value_and, section, SectionTrees, no_sections, section_and, NotesTree, no_notes, annotation, value_count, add, codes_of, after_fields, after_contents, chain_of_class, ArePrims, IsBytes, WellFormedBody, WellFormedValues, WellFormedExternal, WellFormedSections, WellFormedNotesIf, Role, ProxyFits, Moment, assign, next_number, past_value, past_body, past_values, past_sections, past_notes, class_desc_tag, proxy_desc_tag, tag_field, prims_field, value_at, raw_at, Piece, at, tag_of, cut_bytes, cut_prims, cut_value, cut_body, cut_values, cut_external, cut_sections, cut_notes, Part, prim_parts, value_parts, annotation_if, section_parts, object_parts, body_parts}
 use Rattle.jser_value.specs.Counts.{array_length}
 use Rattle.jser_value.proofs.RoleLemmas.{plain_fits, proxy_fits}
-use Rattle.jser_value.proofs.Remaining.{Behind, RemainsAnnotation, RemainsParts, RemainsBytes, RemainsName, RemainsInterfaceCount, RemainsDesc}
+use Rattle.jser_value.proofs.Remaining.{Behind, RemainsParts, RemainsBytes, RemainsName, RemainsInterfaceCount, RemainsDesc}
 
 pub bytes_remain : (n d : ℕ) (m : Moment) (K : Behind) (fs : List Piece) → RemainsBytes d n m K fs
     → (bytes : List ℕ) × (r : List Piece) × IsBytes bytes × (length bytes ≡ n) × (fs ≡ cut_bytes d m bytes r) × K m r
@@ -40,14 +40,18 @@ sections_remain (l ∷ ls) d m K fs h =
     let x = prims_remain (primitive_codes l.codes) (value_parts (object_count l.codes) noted) d m K fs h in
     let y = values_remain (object_count l.codes) noted d m K x.1 x.4 in
     let n = notes_remain (has_write_method l.flags) (section_parts ls) d (past_values m y.0) K y.1 y.5 in
-    let z = sections_remain ls d (past_notes (past_values m y.0) n.0) K n.1 n.4 in
-    (section_and (section x.0 y.0 n.0) z.0, z.1, (x.2, y.2, y.3, n.2, z.2),
+    let z = sections_remain ls d (past_notes (past_values m y.0) n.0) K n.1 n.4 in (
+      section_and (section x.0 y.0 n.0) z.0,
+      z.1,
+      (x.2, y.2, y.3, n.2, z.2),
       x.3 ∙ ap (λ r. cut_prims d m (primitive_codes l.codes) x.0 r)
-        (y.4 ∙ ap (λ r. cut_values d m y.0 r) (n.3 ∙ ap (λ r. cut_notes d (past_values m y.0) n.0 r) z.3)), z.4)
+          (y.4 ∙ ap (λ r. cut_values d m y.0 r) (n.3 ∙ ap (λ r. cut_notes d (past_values m y.0) n.0 r) z.3)),
+      z.4,
+    )
 
 pub object_remains : (external : Bool) (chain : List Layer) (d : ℕ) (m : Moment) (K : Behind) (fs : List Piece) → RemainsParts d (object_parts external chain) m K fs
     → (ss : SectionTrees) × (r : List Piece) × MatchBool external (WellFormedExternal m.table ss) (WellFormedSections m.table ss chain)
-      × (fs ≡ (if external then cut_external d m ss r else cut_sections d m chain ss r)) × K (past_sections m ss) r
+    × (fs ≡ (if external then cut_external d m ss r else cut_sections d m chain ss r)) × K (past_sections m ss) r
 object_remains true chain d m K fs (cs, r, w, e, k) = (section_and (section [] no_values (annotation cs)) no_sections, r, w, e, k)
 object_remains false chain d m K fs h = sections_remain chain d m K fs h
 
@@ -62,15 +66,24 @@ body_remains None n d m K fs l h =
 
 pub plain_remains : (role : Role) (d : ℕ) (m : Moment) (K : Behind) (fs : List Piece) → RemainsName role d m K fs → RemainsDesc class_desc_tag role d m K fs
 plain_remains role d m K fs (u, r1, a1, e1, (sn, r2, a2, e2, (f, r3, a3, e3, (n, r4, a4, e4, (xs, r5, el, wx, e5, (notes, r6, wn, e6, (parent, r7, wp, fp, e7, k))))))) =
-    let kind = name_kind u in
-    (plain u sn f xs notes parent, r7, refl,
+    let kind = name_kind u in (
+      plain u sn f xs notes parent,
+      r7,
+      refl,
       (a1.0, a2, a3.0, rw el a4, wx, wn, wp),
       plain_fits role (chain_of_class (after_contents (after_fields (add m.table pending_entry) xs) notes) parent) kind f (codes_of xs) a1.1 a3.1 fp,
-      rw (e1, e2, e3, e4, ← el, e5, e6, e7) refl, k)
+      rw (e1, e2, e3, e4, ← el, e5, e6, e7) refl,
+      k,
+    )
 
 pub proxy_remains : (role : Role) (d : ℕ) (m : Moment) (K : Behind) (fs : List Piece) → ProxyFits role
     → RemainsInterfaceCount role d (next_number m) (assign m pending_entry) K fs → RemainsDesc proxy_desc_tag role d m K fs
-proxy_remains role d m K fs pf (n, r1, a1, e1, (names, r2, el, wi, e2, (notes, r3, wn, e3, (parent, r4, wp, fp, e4, k)))) =
-    (proxy names notes parent, r4, refl, (rw el a1, wi, wn, wp),
-      proxy_fits role (chain_of_class (after_contents (add m.table pending_entry) notes) parent) pf fp,
-      rw (e1, ← el, e2, e3, e4) refl, k)
+proxy_remains role d m K fs pf (n, r1, a1, e1, (names, r2, el, wi, e2, (notes, r3, wn, e3, (parent, r4, wp, fp, e4, k)))) = (
+  proxy names notes parent,
+  r4,
+  refl,
+  (rw el a1, wi, wn, wp),
+  proxy_fits role (chain_of_class (after_contents (add m.table pending_entry) notes) parent) pf fp,
+  rw (e1, ← el, e2, e3, e4) refl,
+  k,
+)

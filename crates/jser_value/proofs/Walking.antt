@@ -1,7 +1,7 @@
 -- The walk over bytes, for one verdict and its gate: whole fields are taken, refused bytes are told, and what was
 -- taken on the way are whole fields.
 use Rattle.std.proofs.Common.{◌≡◌, ℕ, ◌≤◌, Bool, true, false, List, [], ◌∷◌, ◌++◌, length, refl, sym, ◌∙◌, ap, ap₂, arith, IsTrue, append_assoc, append-nil}
-use Rattle.jser_value.proofs.Vocabulary.{StreamField, Label, Piece, piece, at, State, settled, label_of, Accepts, advance, begin_state, Runs, left}
+use Rattle.jser_value.proofs.Vocabulary.{StreamField, Label, Piece, piece, State, settled, label_of, Accepts, advance, begin_state, Runs, left}
 use Rattle.std.proofs.Common.{length-append}
 use Rattle.jser_value.specs.FieldBytes.{bytes_of, joined}
 use Rattle.jser_value.specs.Scanner.{Verdict, more, good, bad, VerdictOn, FieldGate, IsUndecided, IsScanner, Outcome, ended, refused, by_verdict, walk, AllPass, HasNoField}
@@ -27,7 +27,6 @@ joined-append [] b = refl
 joined-append (piece l f ∷ a) b = ap (λ x. bytes_of f ++ x) (joined-append a b) ∙ sym (append_assoc (bytes_of f) (joined a) (joined b))
 
 module _ (gate : FieldGate) (verdict : VerdictOn) (sc : IsScanner gate verdict) where
-
   -- a whole field is taken
   walk_field_from : (b : List ℕ) (c : ℕ) (a : List ℕ) (s : State) (f : StreamField) (bs : List ℕ) → Accepts (label_of (settled s)) f → IsTrue (gate (label_of (settled s)) f)
       → bytes_of f ≡ a ++ (c ∷ b) → walk verdict s a (c ∷ (b ++ bs)) ≡ walk verdict (advance (settled s) f) [] bs
@@ -88,6 +87,7 @@ module _ (gate : FieldGate) (verdict : VerdictOn) (sc : IsScanner gate verdict) 
     where
       l : Label
       l = label_of (settled s)
+
       go : (x : Verdict) → verdict l (a ++ (c ∷ [])) ≡ x → RefusesBy s (a ++ (c ∷ [])) (c' ∷ (b ++ rest)) rest → RefusesBy s a (c ∷ ((c' ∷ b) ++ rest)) rest
       go more e (w, q, k, ew, lq) = (w, q, k, rw e ew, lq)
       go (good f) e z =
@@ -138,6 +138,7 @@ module _ (gate : FieldGate) (verdict : VerdictOn) (sc : IsScanner gate verdict) 
     where
       l : Label
       l = label_of (settled s)
+
       go : (v : Verdict) → verdict l (p ++ (b ∷ [])) ≡ v
           → (verdict l (p ++ (b ∷ [])) ≡ more → Found s ((p ++ (b ∷ [])) ++ bs) (walk verdict s (p ++ (b ∷ [])) bs))
           → ((f : StreamField) → Found (advance (settled s) f) bs (walk verdict (advance (settled s) f) [] bs))

@@ -1,10 +1,8 @@
 -- A gate's limits, asked field by field, hold exactly where the counts and the names of the list are within them.
 use Rattle.std.proofs.Common.{ℕ, ◌≤◌, List, [], ◌∷◌, sym, subst, arith, IsTrue}
-use Rattle.jser_value.proofs.Vocabulary.{array, ContentTrees, WellFormed, fields_of}
-use Rattle.jser_value.specs.CheckedNames.{checked_names}
-use Rattle.jser_value.specs.Counts.{array_lengths, epoch_handles}
-use Rattle.jser_value.specs.Scanner.{AllPass}
-use Rattle.jser_value.specs.Limits.{Limits, gate_of, Each, IsWithin, Limited}
+use Rattle.jser_value.proofs.Vocabulary.{ContentTrees, WellFormed, fields_of}
+use Rattle.jser_value.specs.Counts.{epoch_handles}
+use Rattle.jser_value.specs.Limits.{Limits, Each, IsWithin, Limited}
 use Rattle.jser_value.proofs.Observed.{IsObserved, observed, observed_passes}
 use Rattle.jser_value.proofs.NamesObserved.{names_observed}
 use Rattle.jser_value.proofs.ArraysObserved.{arrays_observed}
@@ -26,9 +24,13 @@ within limits list w o =
     let t = handles_observed list w in
     let od = o.depth in
     let op = o.refs in
-    let ot = o.handles in
-    (omega arith, omega arith, subst (λ ns. Each (λ n. n ≤ limits.array) ns) (arrays_observed list w) o.array,
-     each_below (epoch_handles list) limits.handles (omega arith), subst (λ ns. Each (λ n. IsTrue (limits.passes n)) ns) (names_observed list w) o.names)
+    let ot = o.handles in (
+      omega arith,
+      omega arith,
+      subst (λ ns. Each (λ n. n ≤ limits.array) ns) (arrays_observed list w) o.array,
+      each_below (epoch_handles list) limits.handles (omega arith),
+      subst (λ ns. Each (λ n. IsTrue (limits.passes n)) ns) (names_observed list w) o.names,
+    )
 
 without : (limits : Limits) (list : ContentTrees) → WellFormed list → IsWithin limits list → IsObserved limits (fields_of list)
 without limits list w (d, p, a, t, n) =

@@ -1,13 +1,13 @@
 -- Which field a goal is read by, and which fields the format takes there: the tables "Which tag may stand
 -- where" of the grammar (Java Object Serialization Specification, section 6.4.2), clause by clause.
-use Rattle.std.specs.Prelude.{ℕ, zero, suc, ◌+◌, ◌<◌, ◌≡◌, ◌^◌, ◌||◌, ◌&&◌, not, Bool, true, false, IsTrue, IsFalse, if◌then◌else◌, List, [], ◌∷◌, length, Option, Some, None, is_some}
+use Rattle.std.specs.Prelude.{ℕ, zero, suc, ◌<◌, ◌≡◌, ◌^◌, ◌&&◌, not, Bool, true, false, IsTrue, if◌then◌else◌, List, [], ◌∷◌, length, is_some}
 use Rattle.jser_table.specs.Entries.{chain_at}
 use Rattle.jser_table.specs.Names.{name_kind}
-use Rattle.jser_value.specs.Codes.{PrimCode, prim_code_of, is_object_code}
+use Rattle.jser_value.specs.Codes.{prim_code_of, is_object_code}
 use Rattle.jser_value.specs.Parts.{IsText, IsClassName, IsFlags, IsBack, IsBackToText, IsBackToClass, ArePrimsOf, IsBytes, block_bound}
-use Rattle.jser_value.specs.Roles.{FitsOwner, FitsRole, superclass, own_class, NameFits, FlagsFit, ProxyFitsOwner}
+use Rattle.jser_value.specs.Roles.{FitsOwner, FitsRole, superclass, NameFits, FlagsFit, ProxyFitsOwner}
 use Rattle.jser_value.specs.Moments.{Moment}
-use Rattle.jser_value.specs.Labels.{Tag, null_tag, reference_tag, class_desc_tag, object_tag, string_tag, array_tag, class_tag, long_string_tag, proxy_desc_tag, enum_tag, StreamField, header_field, tag_field, block_tag_field, end_tag_field, reset_tag_field, handle_field, suid_field, flags_field, field_count_field, interface_count_field, array_length_field, code_field, text_field, block_length_field, prims_field, bytes_field, Position, nowhere, header_at, top_at, annotation_at, value_at, text_place_at, class_place_at, superclass_place_at, back_handle_at, text_handle_at, class_handle_at, superclass_handle_at, string_at, class_name_at, field_name_at, interface_name_at, suid_at, field_count_at, interface_count_at, array_length_at, flags_at, type_code_at, block_length_at, raw_at, bytes_at, Label}
+use Rattle.jser_value.specs.Labels.{null_tag, reference_tag, class_desc_tag, string_tag, long_string_tag, proxy_desc_tag, StreamField, header_field, tag_field, block_tag_field, end_tag_field, reset_tag_field, handle_field, suid_field, flags_field, field_count_field, interface_count_field, array_length_field, code_field, text_field, block_length_field, prims_field, bytes_field, Position, nowhere, header_at, top_at, annotation_at, value_at, text_place_at, class_place_at, superclass_place_at, back_handle_at, text_handle_at, class_handle_at, superclass_handle_at, string_at, class_name_at, field_name_at, interface_name_at, suid_at, field_count_at, interface_count_at, array_length_at, flags_at, type_code_at, block_length_at, raw_at, bytes_at, Label}
 use Rattle.jser_value.specs.Goals.{Part, raw_part, value_part, annotation_part, Goal, header_goal, top_goal, annotation_goal, back_handle_goal, text_place_goal, text_handle_goal, field_name_goal, string_goal, block_length_goal, block_goal, array_length_goal, parts_goal, class_goal, class_handle_goal, made_goal, superclass_goal, superclass_handle_goal, close_goal, class_name_goal, suid_goal, flags_goal, field_count_goal, fields_goal, interface_count_goal, interfaces_goal, State}
 
 abbrev pub position_of_parts : List Part → Position

@@ -1,7 +1,7 @@
 -- Type codes, the first byte of a field in a class descriptor (Java Object Serialization Specification,
 -- section 6.4.2: prim_typecode and obj_typecode). The eight letters of primitive types stand for raw
 -- values of a size in bytes, `[` and `L` for a value.
-use Rattle.std.specs.Prelude.{ℕ, zero, suc, ◌==◌, ◌||◌, Bool, if◌then◌else◌, List, [], ◌∷◌, Option, Some, None}
+use Rattle.std.specs.Prelude.{ℕ, suc, ◌==◌, ◌||◌, Bool, if◌then◌else◌, List, [], ◌∷◌, Option, Some, None}
 
 -- B, C, D, F, I, J, S, Z
 pub data PrimCode : Type 0 where

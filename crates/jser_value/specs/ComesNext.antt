@@ -1,9 +1,9 @@
 -- Which field may come next behind a front of fields, told by whole streams alone: no machine occurs here.
-use Rattle.std.specs.Prelude.{ℕ, Bool, ◌≡◌, ◌⊎◌, List, [], ◌∷◌, ◌++◌}
+use Rattle.std.specs.Prelude.{◌≡◌, ◌⊎◌, List, [], ◌∷◌, ◌++◌}
 use Rattle.jser_value.specs.Trees.{ContentTrees}
 use Rattle.jser_value.specs.WellFormed.{WellFormed}
 use Rattle.jser_value.specs.Moments.{Moment, tick}
-use Rattle.jser_value.specs.Labels.{Tag, reference_tag, StreamField, tag_field, Position, nowhere, header_at, top_at, annotation_at, value_at, text_place_at, class_place_at, superclass_place_at, back_handle_at, text_handle_at, class_handle_at, superclass_handle_at, Label, Piece, piece}
+use Rattle.jser_value.specs.Labels.{reference_tag, StreamField, tag_field, Position, nowhere, top_at, annotation_at, value_at, text_place_at, class_place_at, superclass_place_at, back_handle_at, text_handle_at, class_handle_at, superclass_handle_at, Label, Piece, piece}
 use Rattle.jser_value.specs.Fields.{fields_of}
 use Rattle.jser_value.specs.Accepts.{Accepts}
 
@@ -38,4 +38,4 @@ handle_label label = record { position = handle_position label.position; depth =
 abbrev pub ComesNext : List Piece → Label → Type 0
 ComesNext front label = BeginsSome front label
     ⊎ ((before : List Piece) × (tag_label : Label) × BeginsSome before tag_label × Accepts tag_label (tag_field reference_tag)
-       × (front ≡ before ++ (piece tag_label (tag_field reference_tag) ∷ [])) × (label ≡ handle_label tag_label))
+    × (front ≡ before ++ (piece tag_label (tag_field reference_tag) ∷ [])) × (label ≡ handle_label tag_label))

@@ -1,5 +1,5 @@
 -- The bytes of a field (Java Object Serialization Specification, section 6.4.2), and of several, joined.
-use Rattle.std.specs.Prelude.{ℕ, ◌+◌, Bool, true, false, List, [], ◌∷◌, ◌++◌}
+use Rattle.std.specs.Prelude.{ℕ, ◌+◌, true, false, List, [], ◌∷◌, ◌++◌}
 use Rattle.jser_prim.specs.Bytes.{big_bytes}
 use Rattle.jser_value.specs.Spelling.{utf, long_utf, prims_spelling}
 use Rattle.jser_value.specs.Labels.{Tag, null_tag, reference_tag, class_desc_tag, object_tag, string_tag, array_tag, class_tag, long_string_tag, proxy_desc_tag, enum_tag, StreamField, header_field, tag_field, block_tag_field, end_tag_field, reset_tag_field, handle_field, suid_field, flags_field, field_count_field, interface_count_field, array_length_field, code_field, text_field, block_length_field, prims_field, bytes_field, Piece, piece}

@@ -5,7 +5,7 @@ use Rattle.std.specs.Prelude.{ℕ, suc, ◌||◌, Bool, true, false, if◌then�
 use Rattle.jser_table.specs.declared.layer.Layer.{Layer}
 use Rattle.jser_table.specs.Entries.{text_entry, other_entry, pending_entry}
 use Rattle.jser_value.specs.Codes.{PrimCode, is_object_code, primitive_codes}
-use Rattle.jser_value.specs.Trees.{TextPlaceTree, new_text, back_text, FieldTree, PrimTree, ValueTree, null, back, string, descriptor, class_object, array, enum_constant, object, DescTree, plain, proxy, ClassPlaceTree, no_class, back_class, new_class, BodyTree, raw_body, value_body, ValueTrees, no_values, value_and, SectionTree, section, SectionTrees, no_sections, section_and, NotesTree, no_notes, annotation, ContentTree, block, reset, content, ContentTrees, no_contents, content_and}
+use Rattle.jser_value.specs.Trees.{TextPlaceTree, new_text, back_text, FieldTree, PrimTree, ValueTree, null, back, string, descriptor, class_object, array, enum_constant, object, DescTree, plain, proxy, ClassPlaceTree, no_class, back_class, new_class, BodyTree, raw_body, value_body, ValueTrees, no_values, value_and, section, SectionTrees, no_sections, section_and, NotesTree, no_notes, annotation, block, reset, content, ContentTrees, no_contents, content_and}
 use Rattle.jser_value.specs.TableAfter.{chain_of_class}
 use Rattle.jser_value.specs.Parts.{elements_of, is_external}
 use Rattle.jser_value.specs.Counts.{array_length}

@@ -2,7 +2,7 @@
 -- and leads to others. Some goals take no field, and are settled as soon as they are next: parts that are empty,
 -- a class that has been read (the entry of its owner is added), a descriptor whose superclass has been read (its
 -- entry is closed). `d` is the depth, `number` the number of an entry in the table.
-use Rattle.std.specs.Prelude.{ℕ, zero, suc, ◌||◌, Bool, true, false, if◌then◌else◌, List, [], ◌∷◌, ◌++◌, Option, Some, None}
+use Rattle.std.specs.Prelude.{ℕ, zero, suc, Bool, true, false, List, [], ◌∷◌, ◌++◌, Option, Some, None}
 use Rattle.jser_table.specs.declared.layer.Layer.{Layer}
 use Rattle.jser_table.specs.Chains.{has_write_method}
 use Rattle.jser_table.specs.Entries.{other_entry, chain_at}

@@ -1,11 +1,11 @@
 -- What a gate limits, asked field by field, and what it limits in a list (JEP 290: maxdepth, maxrefs, maxarray and
 -- the names of classes; and how many handles an epoch may have).
-use Rattle.std.specs.Prelude.{ℕ, ◌≤◌, ◌↔◌, ◌&&◌, ◌||◌, not, Bool, true, false, IsTrue, nat_le, nat_lt, List, [], ◌∷◌, length, Option, Some, None}
+use Rattle.std.specs.Prelude.{ℕ, ◌≤◌, ◌↔◌, ◌&&◌, ◌||◌, not, Bool, true, false, IsTrue, nat_le, nat_lt, List, [], ◌∷◌, length, Some}
 use Rattle.jser_value.specs.Trees.{ContentTrees}
 use Rattle.jser_value.specs.WellFormed.{WellFormed}
 use Rattle.jser_value.specs.CheckedNames.{checked_names}
 use Rattle.jser_value.specs.Counts.{depth_of, refs_of, array_lengths, epoch_handles}
-use Rattle.jser_value.specs.Labels.{Tag, null_tag, string_tag, long_string_tag, proxy_desc_tag, StreamField, tag_field, handle_field, suid_field, array_length_field, text_field, Position, top_at, annotation_at, value_at, superclass_place_at, class_handle_at, superclass_handle_at, class_name_at, interface_name_at, Label}
+use Rattle.jser_value.specs.Labels.{null_tag, string_tag, long_string_tag, proxy_desc_tag, StreamField, tag_field, handle_field, suid_field, array_length_field, text_field, Position, top_at, annotation_at, value_at, superclass_place_at, class_handle_at, superclass_handle_at, class_name_at, interface_name_at}
 use Rattle.jser_value.specs.Fields.{fields_of}
 use Rattle.jser_value.specs.Scanner.{FieldGate, AllPass}
 

@@ -1,14 +1,13 @@
 -- The reading machine, on fields: an LL(1) parser of the grammar. At each state the next field has one label,
 -- which tells what the format takes there, and a field that it takes leads to one state.
-use Rattle.std.specs.Prelude.{ℕ, zero, suc, ◌≡◌, ◌||◌, Bool, true, false, List, [], ◌∷◌, Option, Some, None}
-use Rattle.jser_table.specs.declared.layer.Layer.{Layer}
+use Rattle.std.specs.Prelude.{ℕ, suc, ◌≡◌, ◌||◌, Bool, true, false, List, [], ◌∷◌, Some, None}
 use Rattle.jser_table.specs.Entries.{text_entry, pending_entry}
-use Rattle.jser_table.specs.Names.{NameKind, name_kind}
+use Rattle.jser_table.specs.Names.{name_kind}
 use Rattle.jser_value.specs.Codes.{is_object_code}
-use Rattle.jser_value.specs.Roles.{Owner, object_owner, array_owner, enum_owner, class_owner, Role, own_class, superclass}
+use Rattle.jser_value.specs.Roles.{object_owner, array_owner, enum_owner, class_owner, Role, own_class, superclass}
 use Rattle.jser_value.specs.Moments.{Moment, beginning, tick, assign, closing, emptied, next_number}
 use Rattle.jser_value.specs.Labels.{Tag, null_tag, reference_tag, class_desc_tag, object_tag, string_tag, array_tag, class_tag, long_string_tag, proxy_desc_tag, enum_tag, StreamField, header_field, tag_field, block_tag_field, end_tag_field, reset_tag_field, handle_field, suid_field, flags_field, field_count_field, interface_count_field, array_length_field, code_field, text_field, block_length_field, prims_field, bytes_field, Piece, piece}
-use Rattle.jser_value.specs.Goals.{Part, raw_part, value_part, body_parts, Goal, header_goal, top_goal, annotation_goal, back_handle_goal, text_place_goal, text_handle_goal, field_name_goal, string_goal, block_length_goal, block_goal, array_length_goal, parts_goal, class_goal, class_handle_goal, made_goal, superclass_goal, superclass_handle_goal, close_goal, class_name_goal, suid_goal, flags_goal, field_count_goal, fields_goal, interface_count_goal, interfaces_goal, State, settled}
+use Rattle.jser_value.specs.Goals.{raw_part, value_part, body_parts, Goal, header_goal, top_goal, annotation_goal, back_handle_goal, text_place_goal, text_handle_goal, field_name_goal, string_goal, block_length_goal, block_goal, array_length_goal, parts_goal, class_goal, class_handle_goal, made_goal, superclass_goal, superclass_handle_goal, close_goal, class_name_goal, suid_goal, flags_goal, field_count_goal, fields_goal, interface_count_goal, interfaces_goal, State, settled}
 use Rattle.jser_value.specs.Accepts.{label_of, Accepts}
 
 -- behind the tag of a proxy descriptor, which assigns its handle

@@ -1,9 +1,9 @@
 -- A moment in the reading of a stream: the table of handles, and the number of places whose tags went before.
 -- Each part of a tree takes one moment to the next.
-use Rattle.std.specs.Prelude.{ℕ, suc, List, [], ◌∷◌, length, Option}
+use Rattle.std.specs.Prelude.{ℕ, suc, List, [], length, Option}
 use Rattle.jser_table.specs.declared.layer.Layer.{Layer}
 use Rattle.jser_table.specs.Entries.{TableEntry}
-use Rattle.jser_value.specs.Trees.{TextPlaceTree, FieldTree, ValueTree, null, back, string, descriptor, class_object, array, enum_constant, object, DescTree, plain, proxy, ClassPlaceTree, no_class, back_class, new_class, BodyTree, raw_body, value_body, ValueTrees, no_values, value_and, SectionTree, section, SectionTrees, no_sections, section_and, NotesTree, no_notes, annotation, ContentTree, block, reset, content, ContentTrees, no_contents, content_and}
+use Rattle.jser_value.specs.Trees.{TextPlaceTree, FieldTree, ValueTree, null, back, string, descriptor, class_object, array, enum_constant, object, DescTree, plain, proxy, ClassPlaceTree, no_class, back_class, new_class, BodyTree, raw_body, value_body, ValueTrees, no_values, value_and, section, SectionTrees, no_sections, section_and, NotesTree, no_notes, annotation, block, reset, content, ContentTrees, no_contents, content_and}
 use Rattle.jser_value.specs.TableAfter.{Entries, add, close, after_type, after_text_place, after_fields, after_value, after_desc, after_class, after_body, after_values, after_sections, after_notes, after_contents}
 
 pub record Moment : Type 0 where

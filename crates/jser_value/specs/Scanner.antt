@@ -53,9 +53,9 @@ abbrev pub walk : VerdictOn → State → (cut bytes : List ℕ) → Outcome
 walk verdict s cut [] = ended s cut
 walk verdict s cut (b ∷ bytes) =
     by_verdict (verdict (label_of (settled s)) (cut ++ (b ∷ [])))
-      (walk verdict s (cut ++ (b ∷ [])) bytes)
-      (λ field. walk verdict (advance (settled s) field) [] bytes)
-      (λ reason. refused (cut ++ (b ∷ [])) bytes reason)
+    (walk verdict s (cut ++ (b ∷ [])) bytes)
+    (λ field. walk verdict (advance (settled s) field) [] bytes)
+    (λ reason. refused (cut ++ (b ∷ [])) bytes reason)
 
 abbrev pub AllPass : FieldGate → List Piece → Type 0
 AllPass gate [] = Unit {0}

@@ -5,7 +5,7 @@ use Rattle.std.specs.Prelude.{ℕ, ◌+◌, Bool, true, false, List, [], ◌∷�
 use Rattle.jser_prim.specs.Bytes.{big_bytes}
 use Rattle.jser_prim.specs.ModifiedUtf8.{modified_utf8}
 use Rattle.jser_value.specs.Codes.{size_of}
-use Rattle.jser_value.specs.Trees.{TextTree, TextPlaceTree, new_text, back_text, FieldTree, PrimTree, ValueTree, null, back, string, descriptor, class_object, array, enum_constant, object, DescTree, plain, proxy, ClassPlaceTree, no_class, back_class, new_class, BodyTree, raw_body, value_body, ValueTrees, no_values, value_and, value_count, SectionTree, section, SectionTrees, no_sections, section_and, NotesTree, no_notes, annotation, ContentTree, block, reset, content, ContentTrees, no_contents, content_and}
+use Rattle.jser_value.specs.Trees.{TextPlaceTree, new_text, back_text, FieldTree, PrimTree, ValueTree, null, back, string, descriptor, class_object, array, enum_constant, object, DescTree, plain, proxy, ClassPlaceTree, no_class, back_class, new_class, BodyTree, raw_body, value_body, ValueTrees, no_values, value_and, value_count, section, SectionTrees, no_sections, section_and, NotesTree, no_notes, annotation, ContentTree, block, reset, content, ContentTrees, no_contents, content_and}
 
 -- (utf): the length of the modified UTF-8 in 2 bytes, and the modified UTF-8
 abbrev pub utf : List ℕ → List ℕ

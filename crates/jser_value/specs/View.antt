@@ -1,6 +1,6 @@
 -- The tree that a value of the public types stands for: the same data, without where it lies in memory.
 -- One step for each type, with what is inside already seen as a tree; the folds put them together.
-use Rattle.std.specs.Prelude.{ℕ, List, [], ◌∷◌, map, Option, Some, None, Vec}
+use Rattle.std.specs.Prelude.{List, [], ◌∷◌, map, Option, Some, None, Vec}
 use Rattle.std.specs.Option.{option_map}
 use Rattle.std.specs.declared.alloc.Global.{Global}
 use Rattle.jser_value.specs.declared.tree.Text.{Text}

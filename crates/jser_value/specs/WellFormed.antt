@@ -1,14 +1,14 @@
 -- Which trees obey the format (Java Object Serialization Specification, sections 6.2 and 6.4): each part is
 -- taken with the table of handles at its own moment. `IsTrue (fits ..)` are the conditions on the class of an
 -- object, an array and an enum constant.
-use Rattle.std.specs.Prelude.{ℕ, ◌^◌, ◌<◌, ◌≡◌, Bool, true, false, IsTrue, IsFalse, MatchBool, List, [], ◌∷◌, length, Option, Some, None}
+use Rattle.std.specs.Prelude.{◌^◌, ◌<◌, ◌≡◌, Bool, false, IsTrue, IsFalse, MatchBool, List, [], ◌∷◌, length, Option, Some, None}
 use Rattle.jser_table.specs.declared.layer.Layer.{Layer}
 use Rattle.jser_table.specs.declared.layer.Purpose.TheVariants as purpose
 use Rattle.jser_table.specs.Chains.{has_write_method}
 use Rattle.jser_table.specs.Entries.{pending_entry, other_entry}
 use Rattle.jser_table.specs.Fits.{fits}
 use Rattle.jser_value.specs.Codes.{PrimCode, primitive_codes, object_count}
-use Rattle.jser_value.specs.Trees.{ValueTree, null, back, string, descriptor, class_object, array, enum_constant, object, DescTree, plain, proxy, ClassPlaceTree, no_class, back_class, new_class, BodyTree, raw_body, value_body, ValueTrees, no_values, value_and, value_count, SectionTree, section, SectionTrees, no_sections, section_and, NotesTree, no_notes, annotation, ContentTree, block, reset, content, ContentTrees, no_contents, content_and}
+use Rattle.jser_value.specs.Trees.{ValueTree, null, back, string, descriptor, class_object, array, enum_constant, object, DescTree, plain, proxy, ClassPlaceTree, no_class, back_class, new_class, BodyTree, raw_body, value_body, ValueTrees, no_values, value_and, value_count, section, SectionTrees, no_sections, section_and, NotesTree, no_notes, annotation, block, reset, content, ContentTrees, no_contents, content_and}
 use Rattle.jser_value.specs.TableAfter.{Entries, add, after_fields, after_value, after_class, after_values, after_notes, after_contents, chain_of_class}
 use Rattle.jser_value.specs.Parts.{IsText, IsClassName, AreClassNames, IsFlags, IsBack, IsBackToClass, WellFormedText, WellFormedFields, ArePrimsOf, ArePrims, IsBlock, elements_of, is_external}
 
