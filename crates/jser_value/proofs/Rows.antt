@@ -8,17 +8,17 @@ use Rattle.jser_value.specs.Spelling.{spelling}
 use Rattle.jser_value.specs.WellFormed.{WellFormed}
 use Rattle.jser_value.specs.Counts.{refs_of, depth_of, epoch_handles, content_count}
 
-abbrev int_value : ℕ → PrimTree
+abbrev pub int_value : ℕ → PrimTree
 int_value n = record { code = int_code; bits = n }
 
-abbrev byte_value : ℕ → PrimTree
+abbrev pub byte_value : ℕ → PrimTree
 byte_value n = record { code = byte_code; bits = n }
 
-abbrev short_text : List ℕ → TextTree
+abbrev pub short_text : List ℕ → TextTree
 short_text units = record { long = false; units = units }
 
 -- a field of a primitive type, and one of a class
-abbrev field_of : ℕ → List ℕ → FieldTree
+abbrev pub field_of : ℕ → List ℕ → FieldTree
 field_of code name = record { code = code; name = name; text = None }
 
 abbrev object_field_of : List ℕ → List ℕ → FieldTree
