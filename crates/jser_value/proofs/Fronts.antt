@@ -184,3 +184,7 @@ Reads-append (piece l f ∷ a) b s h k = (h.0, h.1, Reads-append a b (advance (s
 pub reads_split : (a b : List Piece) (s : State) → Reads s (a ++ b) → Runs s a × Reads (left s a) b
 reads_split [] b s h = (tt, h)
 reads_split (piece l f ∷ a) b s h = let k = reads_split a b (advance (settled s) f) h.2 in ((h.0, h.1, k.0), k.1)
+
+pub reads_runs : (a : List Piece) (s : State) → Reads s a → Runs s a
+reads_runs [] s h = tt
+reads_runs (piece l f ∷ a) s h = (h.0, h.1, reads_runs a (advance (settled s) f) h.2)

@@ -5,26 +5,18 @@ use Rattle.jser_value.proofs.Vocabulary.{StreamField, array_length_field, text_f
 use Rattle.std.proofs.Common.{nat_le, le-leb, leb-true}
 use Rattle.jser_value.specs.Scanner.{AllPass}
 use Rattle.jser_value.specs.Limits.{Limits, begins_place, assigns_handle, array_is_within, name_passes, gate_of, Each}
+use Rattle.jser_value.specs.Totals.{number_if, deepest}
 use Rattle.jser_value.proofs.Bools.{and_left, and_right, and_both}
-
-abbrev pub seen_if : Bool → ℕ → ℕ
-seen_if true n = n
-seen_if false n = 0
-
--- the greatest depth of a place
-abbrev pub deepest : List Piece → ℕ
-deepest [] = 0
-deepest (piece l f ∷ ps) = max (seen_if (begins_place l.position f) l.depth) (deepest ps)
 
 -- the greatest number of places, the place itself counted
 abbrev pub most_places : List Piece → ℕ
 most_places [] = 0
-most_places (piece l f ∷ ps) = max (seen_if (begins_place l.position f) (suc l.moment.places)) (most_places ps)
+most_places (piece l f ∷ ps) = max (number_if (begins_place l.position f) (suc l.moment.places)) (most_places ps)
 
 -- the greatest number of handles in a table, the new one counted
 abbrev pub most_handles : List Piece → ℕ
 most_handles [] = 0
-most_handles (piece l f ∷ ps) = max (seen_if (assigns_handle l.position f) (suc (length l.moment.table))) (most_handles ps)
+most_handles (piece l f ∷ ps) = max (number_if (assigns_handle l.position f) (suc (length l.moment.table))) (most_handles ps)
 
 abbrev pub length_in : StreamField → List ℕ → List ℕ
 length_in (array_length_field n) ns = n ∷ ns
@@ -45,23 +37,23 @@ names_in (piece l f ∷ ps) = name_in l.position f (names_in ps)
 
 -- tests and what they say
 
-le_to : (b c : Bool) (x D : ℕ) → IsTrue (not b || (nat_le x D && c)) → seen_if b x ≤ D
+le_to : (b c : Bool) (x D : ℕ) → IsTrue (not b || (nat_le x D && c)) → number_if b x ≤ D
 le_to true c x D h = leb-true x D (and_left (nat_le x D) c h)
 le_to false c x D h = omega arith
 
-lt_to : (b c : Bool) (x D : ℕ) → IsTrue (not b || (c && nat_lt x D)) → seen_if b (suc x) ≤ D
+lt_to : (b c : Bool) (x D : ℕ) → IsTrue (not b || (c && nat_lt x D)) → number_if b (suc x) ≤ D
 lt_to true c x D h = leb-true (suc x) D (and_right c (nat_lt x D) h)
 lt_to false c x D h = omega arith
 
-both_from : (b : Bool) (x y D R : ℕ) → seen_if b x ≤ D → seen_if b (suc y) ≤ R → IsTrue (not b || (nat_le x D && nat_lt y R))
+both_from : (b : Bool) (x y D R : ℕ) → number_if b x ≤ D → number_if b (suc y) ≤ R → IsTrue (not b || (nat_le x D && nat_lt y R))
 both_from true x y D R h k = and_both (nat_le x D) (nat_lt y R) (le-leb x D h) (le-leb (suc y) R k)
 both_from false x y D R h k = refl
 
-one_to : (b : Bool) (x D : ℕ) → IsTrue (not b || nat_lt x D) → seen_if b (suc x) ≤ D
+one_to : (b : Bool) (x D : ℕ) → IsTrue (not b || nat_lt x D) → number_if b (suc x) ≤ D
 one_to true x D h = leb-true (suc x) D h
 one_to false x D h = omega arith
 
-one_from : (b : Bool) (x D : ℕ) → seen_if b (suc x) ≤ D → IsTrue (not b || nat_lt x D)
+one_from : (b : Bool) (x D : ℕ) → number_if b (suc x) ≤ D → IsTrue (not b || nat_lt x D)
 one_from true x D h = le-leb (suc x) D h
 one_from false x D h = refl
 
@@ -107,10 +99,10 @@ observed limits (piece l f ∷ ps) h =
     let p = lt_to (begins_place l.position f) (nat_le l.depth limits.depth) l.moment.places limits.refs (and_left place array h2) in
     let t = one_to (assigns_handle l.position f) (length l.moment.table) limits.handles (and_right (place && array) handle h3) in
     record {
-      depth = both_below (seen_if (begins_place l.position f) l.depth) (deepest ps) limits.depth d r.depth;
-      refs = both_below (seen_if (begins_place l.position f) (suc l.moment.places)) (most_places ps) limits.refs p r.refs;
+      depth = both_below (number_if (begins_place l.position f) l.depth) (deepest ps) limits.depth d r.depth;
+      refs = both_below (number_if (begins_place l.position f) (suc l.moment.places)) (most_places ps) limits.refs p r.refs;
       array = length_to f limits.array (lengths_in ps) (and_right place array h2) r.array;
-      handles = both_below (seen_if (assigns_handle l.position f) (suc (length l.moment.table))) (most_handles ps) limits.handles t r.handles;
+      handles = both_below (number_if (assigns_handle l.position f) (suc (length l.moment.table))) (most_handles ps) limits.handles t r.handles;
       names = name_to l.position f limits.passes (names_in ps) (and_right (place && array && handle) name h.0) r.names;
     }
   where
@@ -124,9 +116,9 @@ observed_passes limits (piece l f ∷ ps) h =
     let array = array_is_within limits.array f in
     let handle = not (assigns_handle l.position f) || nat_lt (length l.moment.table) limits.handles in
     let name = name_passes limits.passes l.position f in
-    let d = max_below (seen_if (begins_place l.position f) l.depth) (deepest ps) limits.depth h.depth in
-    let p = max_below (seen_if (begins_place l.position f) (suc l.moment.places)) (most_places ps) limits.refs h.refs in
-    let t = max_below (seen_if (assigns_handle l.position f) (suc (length l.moment.table))) (most_handles ps) limits.handles h.handles in
+    let d = max_below (number_if (begins_place l.position f) l.depth) (deepest ps) limits.depth h.depth in
+    let p = max_below (number_if (begins_place l.position f) (suc l.moment.places)) (most_places ps) limits.refs h.refs in
+    let t = max_below (number_if (assigns_handle l.position f) (suc (length l.moment.table))) (most_handles ps) limits.handles h.handles in
     let a = length_from f limits.array (lengths_in ps) h.array in
     let n = name_from l.position f limits.passes (names_in ps) h.names in (
       and_both (place && array && handle) name

@@ -28,5 +28,5 @@ spelled_alone m v w = spelled_value v 1 m [] w ∙ append-nil (value_spelling v)
 pub no_prefix_law : NoPrefix
 no_prefix_law T value other rest w w' e =
     let m : Moment = record { table = T; places = 0 } in
-    same_value_by_bytes open_gate (plain_verdict open_gate) (scanner open_gate) m value other rest w w' (all_pass (fields_of_value m value)) (all_pass (fields_of_value m other))
+    same_value_by_bytes open_gate (plain_verdict open_gate) (scanner open_gate) m value other rest w w' (all_pass (fields_of_value m value))
     (ap (λ z. z ++ rest) (spelled_alone m value w) ∙ e ∙ sym (spelled_alone m other w'))

@@ -2,12 +2,13 @@
 use Rattle.std.proofs.Common.{◌≡◌, ℕ, suc, ◌+◌, ◌≤◌, max, Bool, true, false, ◌||◌, if◌then◌else◌, List, [], ◌∷◌, refl, ◌∙◌, arith, Option, Some, None, MatchBool}
 use Rattle.jser_value.proofs.Vocabulary.{has_write_method, other_entry, pending_entry, Layer, PrimCode, is_object_code, primitive_codes, TextPlaceTree, new_text, back_text, FieldTree, PrimTree, ValueTree, null, back, string, descriptor, class_object, array, enum_constant, object, DescTree, plain, proxy, ClassPlaceTree, no_class, back_class, new_class, BodyTree, raw_body, value_body, ValueTrees, no_values, value_and, section, SectionTrees, no_sections, section_and, NotesTree, no_notes, annotation, block, reset, content, ContentTrees, no_contents, content_and, chain_of_class, elements_of, is_external, WellFormedValue, WellFormedDesc, WellFormedClass, WellFormedSuperclass, WellFormedBody, WellFormedValues, WellFormedExternal, WellFormedSections, WellFormedNotesIf, WellFormedNotes, WellFormedContents, WellFormed, Owner, object_owner, array_owner, enum_owner, class_owner, ChainOwner, Role, own_class, superclass, owner_of, is_strict_above, Moment, beginning, tick, assign, emptied, places_value, places_desc, places_class, places_body, places_values, places_sections, places_notes, places_contents, past_type, past_fields, past_value, past_class, past_values, past_notes, past_contents, array_length_field, array_length_at, Piece, at, cut_text_place, cut_type, cut_fields, cut_interfaces, cut_bytes, cut_raw, cut_prims, cut_value, cut_desc, cut_class, cut_superclass, cut_body, cut_values, cut_external, cut_sections, cut_notes, cut_annotation, cut_top, fields_of}
 use Rattle.jser_value.specs.Counts.{array_length, refs_in_value, refs_in_desc, refs_in_class, refs_in_body, refs_in_values, refs_in_sections, refs_in_notes, refs_in_contents, depth_of_value, depth_in_desc, depth_in_class, depth_in_body, depth_in_values, depth_in_sections, depth_in_notes, depth_in_contents, refs_of, depth_of}
-use Rattle.jser_value.proofs.Observed.{deepest, most_places}
+use Rattle.jser_value.proofs.Observed.{most_places}
+use Rattle.jser_value.specs.Totals.{deepest}
 
 -- the number of places after a tree is that before it and those in it
 
 mutual
-  counted_value : (v : ValueTree) (k : ℕ) → places_value k v ≡ k + refs_in_value v
+  pub counted_value : (v : ValueTree) (k : ℕ) → places_value k v ≡ k + refs_in_value v
   counted_value null k = omega arith
   counted_value (back n) k = omega arith
   counted_value (string t) k = omega arith
@@ -43,7 +44,7 @@ mutual
   counted_notes no_notes k = omega arith
   counted_notes (annotation cs) k = counted_contents cs k
 
-  counted_contents : (cs : ContentTrees) (k : ℕ) → places_contents k cs ≡ k + refs_in_contents cs
+  pub counted_contents : (cs : ContentTrees) (k : ℕ) → places_contents k cs ≡ k + refs_in_contents cs
   counted_contents no_contents k = omega arith
   counted_contents (content_and (block long b) cs) k = counted_contents cs k
   counted_contents (content_and reset cs) k = counted_contents cs k

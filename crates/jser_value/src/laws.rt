@@ -4,8 +4,9 @@
 
 ghost use Rattle.jser_value.specs.Laws.{Exact, NextIsTold};
 ghost use Rattle.jser_value.specs.ByteLaws.{OneReading, NoPrefix, Spelled};
-ghost use Rattle.jser_value.specs.WalkLaws.{AcceptsExactly, RefusesFirst, NoFaultPassed, CutShort, EachGateHasAVerdict};
+ghost use Rattle.jser_value.specs.WalkLaws.{AcceptsExactly, RefusesFirst, NoFaultPassed, CutShort, FieldsAreTold, EachGateHasAVerdict};
 ghost use Rattle.jser_value.specs.Limits.{Limited};
+ghost use Rattle.jser_value.specs.Totals.{Totalled};
 
 /// Of a byte list at most one content list makes a stream.
 pub fn one_reading()
@@ -53,6 +54,11 @@ pub fn cut_short()
     ensures { CutShort }
 {}
 
+/// What the walk has taken when it ends are the first fields of every stream that begins with its bytes.
+pub fn fields_are_told()
+    ensures { FieldsAreTold }
+{}
+
 /// Each gate has a verdict that goes with it, so the laws of the walk speak of something.
 pub fn each_gate_has_a_verdict()
     ensures { EachGateHasAVerdict }
@@ -62,4 +68,9 @@ pub fn each_gate_has_a_verdict()
 /// hold exactly where the counts and the names of the list are within them.
 pub fn limited()
     ensures { Limited }
+{}
+
+/// Along the fields of a list one counts its contents, places, depth and handles.
+pub fn totalled()
+    ensures { Totalled }
 {}
