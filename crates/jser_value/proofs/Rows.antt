@@ -3,7 +3,7 @@
 use Rattle.std.proofs.Common.{◌≡◌, ℕ, false, List, [], ◌∷◌, Some, None, refl, lit<, codes}
 use Rattle.jser_prim.specs.ModifiedUtf8.{unit_spelling}
 use Rattle.jser_value.specs.Codes.{byte_code, int_code}
-use Rattle.jser_value.specs.Trees.{TextTree, new_text, FieldTree, PrimTree, null, back, string, enum_constant, object, DescTree, plain, proxy, no_class, back_class, new_class, no_values, value_and, section, no_sections, section_and, no_notes, annotation, block, reset, content, ContentTrees, no_contents, content_and}
+use Rattle.jser_value.specs.Trees.{TextTree, new_text, FieldTree, PrimTree, array, raw_body, null, back, string, enum_constant, object, DescTree, plain, proxy, no_class, back_class, new_class, no_values, value_and, section, no_sections, section_and, no_notes, annotation, block, reset, content, ContentTrees, no_contents, content_and}
 use Rattle.jser_value.specs.Spelling.{spelling}
 use Rattle.jser_value.specs.WellFormed.{WellFormed}
 use Rattle.jser_value.specs.Counts.{refs_of, depth_of, epoch_handles, content_count}
@@ -226,3 +226,46 @@ reset_epochs_bytes = refl
 
 reset_epochs_counts : (content_count reset_epochs ≡ 4) × (refs_of reset_epochs ≡ 3) × (depth_of reset_epochs ≡ 1) × (epoch_handles reset_epochs ≡ 1 ∷ 1 ∷ [])
 reset_epochs_counts = (refl, refl, refl, refl)
+
+-- int[] {1, -1}
+abbrev pub int_array : ContentTrees
+int_array =
+    content_and (content (array (new_class (plain (codes "[I") 0x4DBA602676EAB2A5 2 [] no_contents no_class)) (raw_body (int_value 1 ∷ int_value 0xFFFFFFFF ∷ []))))
+    no_contents
+
+int_array_is_right : WellFormed int_array
+unfolding unit_spelling
+int_array_is_right = (((((refl, lit< tt), refl), lit< tt, (lit< tt, refl), lit< tt, tt, tt, tt), refl, (lit< tt, ((refl, lit< tt), ((refl, lit< tt), tt)))), tt)
+
+int_array_bytes : spelling int_array ≡ 0xAC ∷ 0xED ∷ 0x00 ∷ 0x05 ∷ 0x75 ∷ 0x72 ∷ 0x00 ∷ 0x02 ∷ 0x5B ∷ 0x49 ∷ 0x4D ∷ 0xBA ∷ 0x60 ∷ 0x26 ∷ 0x76 ∷ 0xEA ∷ 0xB2 ∷ 0xA5 ∷ 0x02 ∷ 0x00
+    ∷ 0x00 ∷ 0x78 ∷ 0x70 ∷ 0x00 ∷ 0x00 ∷ 0x00 ∷ 0x02 ∷ 0x00 ∷ 0x00 ∷ 0x00 ∷ 0x01 ∷ 0xFF ∷ 0xFF ∷ 0xFF ∷ 0xFF ∷ []
+unfolding unit_spelling
+int_array_bytes = refl
+
+int_array_counts : (content_count int_array ≡ 1) × (refs_of int_array ≡ 2) × (depth_of int_array ≡ 2) × (epoch_handles int_array ≡ 2 ∷ [])
+int_array_counts = (refl, refl, refl, refl)
+
+-- a java.util.ArrayList that holds "a": its writeObject puts block data and a value behind its field
+abbrev pub array_list : ContentTrees
+array_list =
+    content_and (content (object
+      (new_class (plain (codes "java.util.ArrayList") 0x7881D21D99C7619D 3 (field_of 0x49 (codes "size") ∷ []) no_contents no_class))
+      (section_and (section (int_value 1 ∷ []) no_values
+        (annotation (content_and (block false (0 ∷ 0 ∷ 0 ∷ 1 ∷ [])) (content_and (content (string (short_text (codes "a")))) no_contents)))) no_sections)))
+    no_contents
+
+array_list_is_right : WellFormed array_list
+unfolding unit_spelling
+array_list_is_right =
+    (((((refl, lit< tt), refl), lit< tt, (lit< tt, refl), lit< tt, ((refl, lit< tt), (refl, refl), tt), tt, tt), refl,
+      (((refl, lit< tt), tt), refl, tt, (refl, ((refl, lit< tt), ((refl, lit< tt), tt))), tt)), tt)
+
+array_list_bytes : spelling array_list ≡ 0xAC ∷ 0xED ∷ 0x00 ∷ 0x05 ∷ 0x73 ∷ 0x72 ∷ 0x00 ∷ 0x13 ∷ 0x6A ∷ 0x61 ∷ 0x76 ∷ 0x61 ∷ 0x2E ∷ 0x75 ∷ 0x74 ∷ 0x69 ∷ 0x6C ∷ 0x2E ∷ 0x41 ∷ 0x72
+    ∷ 0x72 ∷ 0x61 ∷ 0x79 ∷ 0x4C ∷ 0x69 ∷ 0x73 ∷ 0x74 ∷ 0x78 ∷ 0x81 ∷ 0xD2 ∷ 0x1D ∷ 0x99 ∷ 0xC7 ∷ 0x61 ∷ 0x9D ∷ 0x03 ∷ 0x00 ∷ 0x01 ∷ 0x49 ∷ 0x00
+    ∷ 0x04 ∷ 0x73 ∷ 0x69 ∷ 0x7A ∷ 0x65 ∷ 0x78 ∷ 0x70 ∷ 0x00 ∷ 0x00 ∷ 0x00 ∷ 0x01 ∷ 0x77 ∷ 0x04 ∷ 0x00 ∷ 0x00 ∷ 0x00 ∷ 0x01 ∷ 0x74 ∷ 0x00 ∷ 0x01
+    ∷ 0x61 ∷ 0x78 ∷ []
+unfolding unit_spelling
+array_list_bytes = refl
+
+array_list_counts : (content_count array_list ≡ 1) × (refs_of array_list ≡ 3) × (depth_of array_list ≡ 2) × (epoch_handles array_list ≡ 3 ∷ [])
+array_list_counts = (refl, refl, refl, refl)
