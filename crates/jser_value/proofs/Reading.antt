@@ -70,6 +70,7 @@ module _ (gate : FieldGate) (verdict : VerdictOn) (sc : IsScanner gate verdict) 
               let n : verdict l (bytes_of f) ≡ more = u (bytes_of f) c d e1 in
               let w = sc.is_good l f h hp in
               cc
+
       go : (b : Bool) → gate l g ≡ b → (f ≡ g) × (x ≡ y)
       go true kp = same_field l f g x y h hp k kp e
       go false kp = let z = sc.stops l g k kp in absurd (stopped z.0 z.1 z.2 z.3 z.4 z.5)

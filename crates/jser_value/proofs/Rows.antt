@@ -249,16 +249,21 @@ int_array_counts = (refl, refl, refl, refl)
 abbrev pub array_list : ContentTrees
 array_list =
     content_and (content (object
-      (new_class (plain (codes "java.util.ArrayList") 0x7881D21D99C7619D 3 (field_of 0x49 (codes "size") ∷ []) no_contents no_class))
-      (section_and (section (int_value 1 ∷ []) no_values
-        (annotation (content_and (block false (0 ∷ 0 ∷ 0 ∷ 1 ∷ [])) (content_and (content (string (short_text (codes "a")))) no_contents)))) no_sections)))
+    (new_class (plain (codes "java.util.ArrayList") 0x7881D21D99C7619D 3 (field_of 0x49 (codes "size") ∷ []) no_contents no_class))
+    (section_and (section (int_value 1 ∷ []) no_values
+    (annotation (content_and (block false (0 ∷ 0 ∷ 0 ∷ 1 ∷ [])) (content_and (content (string (short_text (codes "a")))) no_contents)))) no_sections)))
     no_contents
 
 array_list_is_right : WellFormed array_list
 unfolding unit_spelling
-array_list_is_right =
-    (((((refl, lit< tt), refl), lit< tt, (lit< tt, refl), lit< tt, ((refl, lit< tt), (refl, refl), tt), tt, tt), refl,
-      (((refl, lit< tt), tt), refl, tt, (refl, ((refl, lit< tt), ((refl, lit< tt), tt))), tt)), tt)
+array_list_is_right = (
+  (
+    (((refl, lit< tt), refl), lit< tt, (lit< tt, refl), lit< tt, ((refl, lit< tt), (refl, refl), tt), tt, tt),
+    refl,
+    (((refl, lit< tt), tt), refl, tt, (refl, ((refl, lit< tt), ((refl, lit< tt), tt))), tt),
+  ),
+  tt,
+)
 
 array_list_bytes : spelling array_list ≡ 0xAC ∷ 0xED ∷ 0x00 ∷ 0x05 ∷ 0x73 ∷ 0x72 ∷ 0x00 ∷ 0x13 ∷ 0x6A ∷ 0x61 ∷ 0x76 ∷ 0x61 ∷ 0x2E ∷ 0x75 ∷ 0x74 ∷ 0x69 ∷ 0x6C ∷ 0x2E ∷ 0x41 ∷ 0x72
     ∷ 0x72 ∷ 0x61 ∷ 0x79 ∷ 0x4C ∷ 0x69 ∷ 0x73 ∷ 0x74 ∷ 0x78 ∷ 0x81 ∷ 0xD2 ∷ 0x1D ∷ 0x99 ∷ 0xC7 ∷ 0x61 ∷ 0x9D ∷ 0x03 ∷ 0x00 ∷ 0x01 ∷ 0x49 ∷ 0x00

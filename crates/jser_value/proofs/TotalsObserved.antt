@@ -142,11 +142,13 @@ mutual
       let behind = if is_external ch then cut_external d made ss rest else cut_sections d made ch ss rest in
       let q = counts_class c object_owner d (tick m) behind h.0 in
       let r = counts_by_class (is_external ch) (WellFormedExternal made.table ss) (WellFormedSections made.table ss ch) made (past_sections made ss)
-                (cut_external d made ss rest) (cut_sections d made ch ss rest) rest h.2
-                (λ w. counts_external ss d made rest w) (λ w. counts_sections ss ch d made rest w) in
-      (q.0 ∙ r.0, q.1 ∙ r.1,
+      (cut_external d made ss rest) (cut_sections d made ch ss rest) rest h.2
+      (λ w. counts_external ss d made rest w) (λ w. counts_sections ss ch d made rest w) in (
+        q.0 ∙ r.0,
+        q.1 ∙ r.1,
         joins (length m.table) (length (after_class m.table c)) (length made.table) (length (after_sections made.table ss)) (handles_in (cut_class object_owner d (tick m) c behind))
-          (handles_in behind) (handles_in rest) q.2 (length-add (after_class m.table c) other_entry) r.2)
+            (handles_in behind) (handles_in rest) q.2 (length-add (after_class m.table c) other_entry) r.2,
+      )
     where
       joins : (k a b n p q r : ℕ) → k + p ≡ a + 1 + q → b ≡ suc a → b + q ≡ n + r → k + 0 + p ≡ n + r
       joins k a b n p q r e f g = omega arith
@@ -162,20 +164,30 @@ mutual
       let up = cut_superclass (owner_of role) (is_strict_above role flags) (suc d) m3 parent rest in
       let q = counts_fields fields d false m1 (cut_annotation d m2 notes up) in
       let w = counts_annotation notes d m2 up h.5 in
-      let r = counts_superclass parent (owner_of role) (is_strict_above role flags) (suc d) m3 rest h.6 in
-      (q.0 ∙ w.0 ∙ r.0, q.1 ∙ w.1 ∙ r.1,
-        omega (arith, length-add m.table pending_entry,
-          length-close (after_class m3.table parent) (length m.table) (chain_of_class m3.table parent ++ (plain_layer name flags fields ∷ []))))
+      let r = counts_superclass parent (owner_of role) (is_strict_above role flags) (suc d) m3 rest h.6 in (
+        q.0 ∙ w.0 ∙ r.0,
+        q.1 ∙ w.1 ∙ r.1,
+        omega (
+          arith,
+          length-add m.table pending_entry,
+          length-close (after_class m3.table parent) (length m.table) (chain_of_class m3.table parent ++ (plain_layer name flags fields ∷ [])),
+        ),
+      )
   counts_desc (proxy interfaces notes parent) role d m rest h =
       let m1 = assign m pending_entry in
       let m3 = past_contents m1 notes in
       let up = cut_superclass (owner_of role) (is_strict_above role 0) (suc d) m3 parent rest in
       let q = counts_interfaces interfaces d m1 (cut_annotation d m1 notes up) in
       let w = counts_annotation notes d m1 up h.2 in
-      let r = counts_superclass parent (owner_of role) (is_strict_above role 0) (suc d) m3 rest h.3 in
-      (q.0 ∙ w.0 ∙ r.0, q.1 ∙ w.1 ∙ r.1,
-        omega (arith, length-add m.table pending_entry,
-          length-close (after_class m3.table parent) (length m.table) (chain_of_class m3.table parent ++ (proxy_layer ∷ []))))
+      let r = counts_superclass parent (owner_of role) (is_strict_above role 0) (suc d) m3 rest h.3 in (
+        q.0 ∙ w.0 ∙ r.0,
+        q.1 ∙ w.1 ∙ r.1,
+        omega (
+          arith,
+          length-add m.table pending_entry,
+          length-close (after_class m3.table parent) (length m.table) (chain_of_class m3.table parent ++ (proxy_layer ∷ [])),
+        ),
+      )
 
   counts_class : (c : ClassPlaceTree) (owner : Owner) (d : ℕ) (m : Moment) (rest : List Piece) → WellFormedClass m.table c
       → CountsOwned (Some owner) m (past_class m c) (cut_class owner d m c rest) rest

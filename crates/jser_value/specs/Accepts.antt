@@ -1,5 +1,5 @@
--- Which field a goal is read by, and which fields the format takes there: the tables "Which tag may stand
--- where" of the grammar (Java Object Serialization Specification, section 6.4.2), clause by clause.
+-- Which field a goal is read by, and which fields the format takes there, clause by clause: which tag may stand
+-- where, which handle, text and number (Java Object Serialization Specification, section 6.4.1).
 use Rattle.std.specs.Prelude.{ℕ, zero, suc, ◌<◌, ◌≡◌, ◌^◌, ◌&&◌, not, Bool, true, false, IsTrue, if◌then◌else◌, List, [], ◌∷◌, length, is_some}
 use Rattle.jser_table.specs.Entries.{chain_at}
 use Rattle.jser_table.specs.Names.{name_kind}
@@ -117,7 +117,8 @@ AcceptsAt text_place_at m (tag_field long_string_tag) = Unit {0}
 AcceptsAt back_handle_at m (handle_field n) = IsBack m.table n
 AcceptsAt text_handle_at m (handle_field n) = IsBackToText m.table n
 AcceptsAt (class_handle_at owner) m (handle_field n) = IsBackToClass m.table n × FitsOwner owner (chain_at m.table n)
-AcceptsAt (superclass_handle_at owner strict) m (handle_field n) = IsBackToClass m.table n × FitsRole (superclass owner strict) (chain_at m.table n)
+AcceptsAt (superclass_handle_at owner strict) m (handle_field n) =
+    IsBackToClass m.table n × FitsRole (superclass owner strict) (chain_at m.table n)
 -- texts
 AcceptsAt (string_at false) m (text_field false units) = IsText false units
 AcceptsAt (string_at true) m (text_field true units) = IsText true units

@@ -14,7 +14,8 @@ Spelled = (list : ContentTrees) → WellFormed list → joined (fields_of list) 
 
 -- One reading: of a byte list at most one content list makes a stream ..
 abbrev pub OneReading : Type 0
-OneReading = (bytes : List ℕ) (list other : ContentTrees) → IsStreamOf bytes list → IsStreamOf bytes other → list ≡ other
+OneReading =
+    (bytes : List ℕ) (list other : ContentTrees) → IsStreamOf bytes list → IsStreamOf bytes other → list ≡ other
 
 -- .. and of two values that obey the format from the same table, one whose spelling begins the other's is equal to it.
 abbrev pub NoPrefix : Type 0

@@ -34,7 +34,8 @@ abbrev mutual
 
   pub names_in_sections : SectionTrees → List (List ℕ)
   names_in_sections no_sections = []
-  names_in_sections (section_and (section ps vs n) ss) = names_in_values vs ++ (names_in_notes n ++ names_in_sections ss)
+  names_in_sections (section_and (section ps vs n) ss) =
+      names_in_values vs ++ (names_in_notes n ++ names_in_sections ss)
 
   pub names_in_notes : NotesTree → List (List ℕ)
   names_in_notes no_notes = []

@@ -1,5 +1,5 @@
 -- Type codes, the first byte of a field in a class descriptor (Java Object Serialization Specification,
--- section 6.4.2: prim_typecode and obj_typecode). The eight letters of primitive types stand for raw
+-- section 6.4.1: prim_typecode and obj_typecode). The eight letters of primitive types stand for raw
 -- values of a size in bytes, `[` and `L` for a value.
 use Rattle.std.specs.Prelude.{ℕ, suc, ◌==◌, ◌||◌, Bool, if◌then◌else◌, List, [], ◌∷◌, Option, Some, None}
 

@@ -10,7 +10,8 @@ use Rattle.jser_value.specs.Accepts.{Accepts}
 -- some stream has these first fields, and a next one with this label
 abbrev pub BeginsSome : List Piece → Label → Type 0
 BeginsSome front label =
-    (list : ContentTrees) × (field : StreamField) × (rest : List Piece) × WellFormed list × (fields_of list ≡ front ++ (piece label field ∷ rest))
+    (list : ContentTrees) × (field : StreamField) × (rest : List Piece) × WellFormed list
+    × (fields_of list ≡ front ++ (piece label field ∷ rest))
 
 -- the label of the handle behind the tag of a reference
 
@@ -31,11 +32,13 @@ handle_moment (superclass_place_at owner strict) m = tick m
 handle_moment _ m = m
 
 abbrev pub handle_label : Label → Label
-handle_label label = record { position = handle_position label.position; depth = label.depth; moment = handle_moment label.position label.moment }
+handle_label label =
+    record { position = handle_position label.position; depth = label.depth; moment = handle_moment label.position label.moment }
 
 -- A field with this label may come next: in some stream it does; or a reference's tag, which may stand there,
 -- went just before, and the label is that of its handle. Then there may be no handle that fits, and no stream.
 abbrev pub ComesNext : List Piece → Label → Type 0
 ComesNext front label = BeginsSome front label
-    ⊎ ((before : List Piece) × (tag_label : Label) × BeginsSome before tag_label × Accepts tag_label (tag_field reference_tag)
+    ⊎ ((before : List Piece) × (tag_label : Label) × BeginsSome before tag_label
+    × Accepts tag_label (tag_field reference_tag)
     × (front ≡ before ++ (piece tag_label (tag_field reference_tag) ∷ [])) × (label ≡ handle_label tag_label))

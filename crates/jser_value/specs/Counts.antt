@@ -63,7 +63,8 @@ abbrev mutual
   depth_of_value (object c ss) = suc (max (depth_in_class c) (depth_in_sections ss))
 
   pub depth_in_desc : DescTree → ℕ
-  depth_in_desc (plain name suid flags fields notes parent) = max (depth_in_contents notes) (suc (depth_in_class parent))
+  depth_in_desc (plain name suid flags fields notes parent) =
+      max (depth_in_contents notes) (suc (depth_in_class parent))
   depth_in_desc (proxy interfaces notes parent) = max (depth_in_contents notes) (suc (depth_in_class parent))
 
   pub depth_in_class : ClassPlaceTree → ℕ
@@ -81,7 +82,8 @@ abbrev mutual
 
   pub depth_in_sections : SectionTrees → ℕ
   depth_in_sections no_sections = 0
-  depth_in_sections (section_and (section ps vs n) ss) = max (depth_in_values vs) (max (depth_in_notes n) (depth_in_sections ss))
+  depth_in_sections (section_and (section ps vs n) ss) =
+      max (depth_in_values vs) (max (depth_in_notes n) (depth_in_sections ss))
 
   pub depth_in_notes : NotesTree → ℕ
   depth_in_notes no_notes = 0
@@ -128,7 +130,8 @@ abbrev mutual
 
   pub arrays_in_sections : SectionTrees → List ℕ
   arrays_in_sections no_sections = []
-  arrays_in_sections (section_and (section ps vs n) ss) = arrays_in_values vs ++ (arrays_in_notes n ++ arrays_in_sections ss)
+  arrays_in_sections (section_and (section ps vs n) ss) =
+      arrays_in_values vs ++ (arrays_in_notes n ++ arrays_in_sections ss)
 
   pub arrays_in_notes : NotesTree → List ℕ
   arrays_in_notes no_notes = []

@@ -33,8 +33,10 @@ tag_of (object c ss) = object_tag
 
 abbrev pub cut_text_place : ℕ → Moment → TextPlaceTree → List Piece → List Piece
 cut_text_place d m (new_text t) rest =
-    at text_place_at d m (tag_field (tag_of_string t.long)) ∷ at (string_at t.long) d (assign m text_entry) (text_field t.long t.units) ∷ rest
-cut_text_place d m (back_text n) rest = at text_place_at d m (tag_field reference_tag) ∷ at text_handle_at d m (handle_field n) ∷ rest
+    at text_place_at d m (tag_field (tag_of_string t.long))
+    ∷ at (string_at t.long) d (assign m text_entry) (text_field t.long t.units) ∷ rest
+cut_text_place d m (back_text n) rest =
+    at text_place_at d m (tag_field reference_tag) ∷ at text_handle_at d m (handle_field n) ∷ rest
 
 abbrev pub cut_type : ℕ → Moment → Option TextPlaceTree → List Piece → List Piece
 cut_type d m None rest = rest
@@ -48,7 +50,8 @@ cut_fields d seen m (f ∷ fs) rest =
 
 abbrev pub cut_interfaces : ℕ → Moment → List (List ℕ) → List Piece → List Piece
 cut_interfaces d m [] rest = rest
-cut_interfaces d m (name ∷ names) rest = at interface_name_at d m (text_field false name) ∷ cut_interfaces d m names rest
+cut_interfaces d m (name ∷ names) rest =
+    at interface_name_at d m (text_field false name) ∷ cut_interfaces d m names rest
 
 -- raw bytes and raw values are no field where there are none
 
@@ -73,19 +76,22 @@ abbrev mutual
   pub cut_value : ℕ → Moment → ValueTree → List Piece → List Piece
   cut_value d m null rest = rest
   cut_value d m (back n) rest = at back_handle_at d (tick m) (handle_field n) ∷ rest
-  cut_value d m (string t) rest = at (string_at t.long) d (assign (tick m) text_entry) (text_field t.long t.units) ∷ rest
+  cut_value d m (string t) rest =
+      at (string_at t.long) d (assign (tick m) text_entry) (text_field t.long t.units) ∷ rest
   cut_value d m (descriptor x) rest = cut_desc (own_class None) d (tick m) x rest
   cut_value d m (class_object c) rest = cut_class class_owner d (tick m) c rest
   cut_value d m (array c b) rest =
       let made = assign (past_class (tick m) c) other_entry in
       cut_class array_owner d (tick m) c
-      (at array_length_at d made (array_length_field (array_length b)) ∷ cut_body d made (elements_of (chain_of_class m.table c)) b rest)
+      (at array_length_at d made (array_length_field (array_length b))
+      ∷ cut_body d made (elements_of (chain_of_class m.table c)) b rest)
   cut_value d m (enum_constant c t) rest =
       cut_class enum_owner d (tick m) c (cut_text_place d (assign (past_class (tick m) c) other_entry) t rest)
   cut_value d m (object c ss) rest =
       let made = assign (past_class (tick m) c) other_entry in
       let chain = chain_of_class m.table c in
-      cut_class object_owner d (tick m) c (if is_external chain then cut_external d made ss rest else cut_sections d made chain ss rest)
+      cut_class object_owner d (tick m) c
+      (if is_external chain then cut_external d made ss rest else cut_sections d made chain ss rest)
 
   -- a descriptor behind its tag
   pub cut_desc : Role → ℕ → Moment → DescTree → List Piece → List Piece
@@ -96,24 +102,30 @@ abbrev mutual
       ∷ at (flags_at role) d opened (flags_field flags) ∷ at field_count_at d opened (field_count_field (length fields))
       ∷ cut_fields d false opened fields
       (cut_annotation d behind_fields notes
-      (cut_superclass (owner_of role) (is_strict_above role flags) (suc d) (past_contents behind_fields notes) parent rest))
+      (cut_superclass (owner_of role) (is_strict_above role flags) (suc d)
+      (past_contents behind_fields notes) parent rest))
   cut_desc role d m (proxy interfaces notes parent) rest =
       let opened = assign m pending_entry in
       at interface_count_at d opened (interface_count_field (length interfaces))
       ∷ cut_interfaces d opened interfaces
-      (cut_annotation d opened notes (cut_superclass (owner_of role) (is_strict_above role 0) (suc d) (past_contents opened notes) parent rest))
+      (cut_annotation d opened notes
+      (cut_superclass (owner_of role) (is_strict_above role 0) (suc d) (past_contents opened notes) parent rest))
 
   pub cut_class : Owner → ℕ → Moment → ClassPlaceTree → List Piece → List Piece
   cut_class owner d m no_class rest = rest
-  cut_class owner d m (back_class n) rest = at (class_place_at owner) d m (tag_field reference_tag) ∷ at (class_handle_at owner) d m (handle_field n) ∷ rest
-  cut_class owner d m (new_class x) rest = at (class_place_at owner) d m (tag_field (tag_of_desc x)) ∷ cut_desc (own_class (Some owner)) d m x rest
+  cut_class owner d m (back_class n) rest =
+      at (class_place_at owner) d m (tag_field reference_tag) ∷ at (class_handle_at owner) d m (handle_field n) ∷ rest
+  cut_class owner d m (new_class x) rest =
+      at (class_place_at owner) d m (tag_field (tag_of_desc x)) ∷ cut_desc (own_class (Some owner)) d m x rest
 
   pub cut_superclass : ChainOwner → Bool → ℕ → Moment → ClassPlaceTree → List Piece → List Piece
   cut_superclass owner strict d m no_class rest = at (superclass_place_at owner strict) d m (tag_field null_tag) ∷ rest
   cut_superclass owner strict d m (back_class n) rest =
-      at (superclass_place_at owner strict) d m (tag_field reference_tag) ∷ at (superclass_handle_at owner strict) d (tick m) (handle_field n) ∷ rest
+      at (superclass_place_at owner strict) d m (tag_field reference_tag)
+      ∷ at (superclass_handle_at owner strict) d (tick m) (handle_field n) ∷ rest
   cut_superclass owner strict d m (new_class x) rest =
-      at (superclass_place_at owner strict) d m (tag_field (tag_of_desc x)) ∷ cut_desc (superclass owner strict) d (tick m) x rest
+      at (superclass_place_at owner strict) d m (tag_field (tag_of_desc x))
+      ∷ cut_desc (superclass owner strict) d (tick m) x rest
 
   pub cut_body : ℕ → Moment → Option PrimCode → BodyTree → List Piece → List Piece
   cut_body d m elements (raw_body ps) rest = cut_raw d m elements ps rest
@@ -121,7 +133,8 @@ abbrev mutual
 
   pub cut_values : ℕ → Moment → ValueTrees → List Piece → List Piece
   cut_values d m no_values rest = rest
-  cut_values d m (value_and v vs) rest = at value_at (suc d) m (tag_field (tag_of v)) ∷ cut_value (suc d) m v (cut_values d (past_value m v) vs rest)
+  cut_values d m (value_and v vs) rest =
+      at value_at (suc d) m (tag_field (tag_of v)) ∷ cut_value (suc d) m v (cut_values d (past_value m v) vs rest)
 
   pub cut_external : ℕ → Moment → SectionTrees → List Piece → List Piece
   cut_external d m no_sections rest = rest
@@ -132,7 +145,8 @@ abbrev mutual
   cut_sections d m [] (section_and s ss) rest = rest
   cut_sections d m (l ∷ ls) (section_and (section ps vs n) ss) rest =
       cut_prims d m (primitive_codes l.codes) ps
-      (cut_values d m vs (cut_notes d (past_values m vs) n (cut_sections d (past_notes (past_values m vs) n) ls ss rest)))
+      (cut_values d m vs (cut_notes d (past_values m vs) n
+      (cut_sections d (past_notes (past_values m vs) n) ls ss rest)))
 
   pub cut_notes : ℕ → Moment → NotesTree → List Piece → List Piece
   cut_notes d m no_notes rest = rest
@@ -142,18 +156,22 @@ abbrev mutual
   pub cut_annotation : ℕ → Moment → ContentTrees → List Piece → List Piece
   cut_annotation d m no_contents rest = at annotation_at (suc d) m end_tag_field ∷ rest
   cut_annotation d m (content_and (block long bytes) cs) rest =
-      at annotation_at (suc d) m (block_tag_field long) ∷ at (block_length_at long) d m (block_length_field long (length bytes))
+      at annotation_at (suc d) m (block_tag_field long)
+      ∷ at (block_length_at long) d m (block_length_field long (length bytes))
       ∷ cut_bytes d m bytes (cut_annotation d m cs rest)
   cut_annotation d m (content_and reset cs) rest = cut_annotation d m cs rest
   cut_annotation d m (content_and (content v) cs) rest =
-      at annotation_at (suc d) m (tag_field (tag_of v)) ∷ cut_value (suc d) m v (cut_annotation d (past_value m v) cs rest)
+      at annotation_at (suc d) m (tag_field (tag_of v))
+      ∷ cut_value (suc d) m v (cut_annotation d (past_value m v) cs rest)
 
 abbrev pub cut_top : Moment → ContentTrees → List Piece → List Piece
 cut_top m no_contents rest = rest
 cut_top m (content_and (block long bytes) cs) rest =
-    at top_at 1 m (block_tag_field long) ∷ at (block_length_at long) 0 m (block_length_field long (length bytes)) ∷ cut_bytes 0 m bytes (cut_top m cs rest)
+    at top_at 1 m (block_tag_field long) ∷ at (block_length_at long) 0 m (block_length_field long (length bytes))
+    ∷ cut_bytes 0 m bytes (cut_top m cs rest)
 cut_top m (content_and reset cs) rest = at top_at 1 m reset_tag_field ∷ cut_top (emptied m) cs rest
-cut_top m (content_and (content v) cs) rest = at top_at 1 m (tag_field (tag_of v)) ∷ cut_value 1 m v (cut_top (past_value m v) cs rest)
+cut_top m (content_and (content v) cs) rest =
+    at top_at 1 m (tag_field (tag_of v)) ∷ cut_value 1 m v (cut_top (past_value m v) cs rest)
 
 -- the fields of a stream with these contents
 abbrev pub fields_of : ContentTrees → List Piece

@@ -56,7 +56,9 @@ annotation_if false parts = parts
 
 abbrev pub section_parts : List Layer → List Part
 section_parts [] = []
-section_parts (l ∷ ls) = prim_parts (primitive_codes l.codes) (value_parts (object_count l.codes) (annotation_if (has_write_method l.flags) (section_parts ls)))
+section_parts (l ∷ ls) =
+    prim_parts (primitive_codes l.codes)
+    (value_parts (object_count l.codes) (annotation_if (has_write_method l.flags) (section_parts ls)))
 
 abbrev pub object_parts : Bool → List Layer → List Part
 object_parts true chain = annotation_part ∷ []
@@ -93,8 +95,10 @@ settle_block d zero m goals settled = settled
 settle_block d (suc n) m goals settled = (m, block_goal d (suc n) ∷ goals)
 
 abbrev pub settle_fields : Role → ℕ → ℕ → NameKind → ℕ → Bool → List ℕ → ℕ → Moment → List Goal → State
-settle_fields role d number kind flags seen codes zero m goals = (m, ending role d number flags (read_layer kind flags codes) goals)
-settle_fields role d number kind flags seen codes (suc n) m goals = (m, fields_goal role d number kind flags seen codes (suc n) ∷ goals)
+settle_fields role d number kind flags seen codes zero m goals =
+    (m, ending role d number flags (read_layer kind flags codes) goals)
+settle_fields role d number kind flags seen codes (suc n) m goals =
+    (m, fields_goal role d number kind flags seen codes (suc n) ∷ goals)
 
 abbrev pub settle_interfaces : Role → ℕ → ℕ → ℕ → Moment → List Goal → State
 settle_interfaces role d number zero m goals = (m, ending role d number 0 proxy_layer goals)
@@ -109,11 +113,14 @@ settle m (made_goal object_owner d number ∷ goals) =
     let made = assign m other_entry in
     let chain = chain_at m.table number in
     settle_parts d (object_parts (is_external chain) chain) made goals (settle made goals)
-settle m (made_goal array_owner d number ∷ goals) = (assign m other_entry, array_length_goal (elements_of (chain_at m.table number)) d ∷ goals)
+settle m (made_goal array_owner d number ∷ goals) =
+    (assign m other_entry, array_length_goal (elements_of (chain_at m.table number)) d ∷ goals)
 settle m (made_goal enum_owner d number ∷ goals) = (assign m other_entry, text_place_goal d ∷ goals)
 settle m (made_goal class_owner d number ∷ goals) = settle (assign m other_entry) goals
-settle m (close_goal number parent layer ∷ goals) = settle (closing m number (chain_at m.table parent ++ (layer ∷ []))) goals
-settle m (fields_goal role d number kind flags seen codes n ∷ goals) = settle_fields role d number kind flags seen codes n m goals
+settle m (close_goal number parent layer ∷ goals) =
+    settle (closing m number (chain_at m.table parent ++ (layer ∷ []))) goals
+settle m (fields_goal role d number kind flags seen codes n ∷ goals) =
+    settle_fields role d number kind flags seen codes n m goals
 settle m (interfaces_goal role d number n ∷ goals) = settle_interfaces role d number n m goals
 settle m (goal ∷ goals) = (m, goal ∷ goals)
 

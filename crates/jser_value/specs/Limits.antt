@@ -49,7 +49,8 @@ name_passes passes _ field = true
 -- the gate of these limits
 abbrev pub gate_of : Limits → FieldGate
 gate_of limits label field =
-    (not (begins_place label.position field) || (nat_le label.depth limits.depth && nat_lt label.moment.places limits.refs))
+    (not (begins_place label.position field)
+    || (nat_le label.depth limits.depth && nat_lt label.moment.places limits.refs))
     && array_is_within limits.array field
     && (not (assigns_handle label.position field) || nat_lt (length label.moment.table) limits.handles)
     && name_passes limits.passes label.position field
@@ -67,4 +68,6 @@ IsWithin limits list =
 
 -- The gate lets through each field of a list that obeys the format exactly where the list is within the limits.
 abbrev pub Limited : Type 0
-Limited = (limits : Limits) (list : ContentTrees) → WellFormed list → AllPass (gate_of limits) (fields_of list) ↔ IsWithin limits list
+Limited =
+    (limits : Limits) (list : ContentTrees) → WellFormed list
+    → AllPass (gate_of limits) (fields_of list) ↔ IsWithin limits list

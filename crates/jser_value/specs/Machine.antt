@@ -40,7 +40,8 @@ advance_at m top_goal goals (tag_field tag) = begin 1 m tag (top_goal ∷ goals)
 advance_at m top_goal goals (block_tag_field long) = (m, block_length_goal long 0 ∷ top_goal ∷ goals)
 advance_at m top_goal goals reset_tag_field = (emptied m, top_goal ∷ goals)
 advance_at m (annotation_goal d) goals (tag_field tag) = begin (suc d) m tag (annotation_goal d ∷ goals)
-advance_at m (annotation_goal d) goals (block_tag_field long) = (m, block_length_goal long d ∷ annotation_goal d ∷ goals)
+advance_at m (annotation_goal d) goals (block_tag_field long) =
+    (m, block_length_goal long d ∷ annotation_goal d ∷ goals)
 advance_at m (annotation_goal d) goals end_tag_field = (m, goals)
 advance_at m (block_length_goal long d) goals (block_length_field long' n) = (m, block_goal d n ∷ goals)
 advance_at m (block_goal d (suc n)) goals (bytes_field bytes) = (m, goals)
@@ -53,8 +54,10 @@ advance_at m (text_place_goal d) goals (tag_field string_tag) = (assign m text_e
 advance_at m (text_place_goal d) goals (tag_field long_string_tag) = (assign m text_entry, string_goal true d ∷ goals)
 -- sections and bodies
 advance_at m (parts_goal d (raw_part c (suc n) ∷ parts)) goals (prims_field ps) = (m, parts_goal d parts ∷ goals)
-advance_at m (parts_goal d (value_part ∷ parts)) goals (tag_field tag) = begin (suc d) m tag (parts_goal d parts ∷ goals)
-advance_at m (array_length_goal elements d) goals (array_length_field n) = (m, parts_goal d (body_parts elements n) ∷ goals)
+advance_at m (parts_goal d (value_part ∷ parts)) goals (tag_field tag) =
+    begin (suc d) m tag (parts_goal d parts ∷ goals)
+advance_at m (array_length_goal elements d) goals (array_length_field n) =
+    (m, parts_goal d (body_parts elements n) ∷ goals)
 -- class places: the entry of the owner is made when the class has been read
 advance_at m (class_goal owner d) goals (tag_field class_desc_tag) =
     (m, class_name_goal (own_class (Some owner)) d ∷ made_goal owner d (next_number m) ∷ goals)
@@ -63,25 +66,35 @@ advance_at m (class_goal owner d) goals (tag_field proxy_desc_tag) =
 advance_at m (class_goal owner d) goals (tag_field reference_tag) = (m, class_handle_goal owner d ∷ goals)
 advance_at m (class_handle_goal owner d) goals (handle_field n) = (m, made_goal owner d n ∷ goals)
 -- superclass places: the descriptor is closed when its superclass has been read
-advance_at m (superclass_goal owner strict d number layer) goals (tag_field null_tag) = (closing (tick m) number (layer ∷ []), goals)
+advance_at m (superclass_goal owner strict d number layer) goals (tag_field null_tag) =
+    (closing (tick m) number (layer ∷ []), goals)
 advance_at m (superclass_goal owner strict d number layer) goals (tag_field class_desc_tag) =
     (tick m, class_name_goal (superclass owner strict) d ∷ close_goal number (next_number m) layer ∷ goals)
 advance_at m (superclass_goal owner strict d number layer) goals (tag_field proxy_desc_tag) =
     open_proxy (superclass owner strict) d (tick m) (close_goal number (next_number m) layer ∷ goals)
 advance_at m (superclass_goal owner strict d number layer) goals (tag_field reference_tag) =
     (tick m, superclass_handle_goal owner strict d number layer ∷ goals)
-advance_at m (superclass_handle_goal owner strict d number layer) goals (handle_field n) = (m, close_goal number n layer ∷ goals)
+advance_at m (superclass_handle_goal owner strict d number layer) goals (handle_field n) =
+    (m, close_goal number n layer ∷ goals)
 -- a plain descriptor, whose handle its suid assigns
 advance_at m (class_name_goal role d) goals (text_field long units) = (m, suid_goal role d (name_kind units) ∷ goals)
-advance_at m (suid_goal role d kind) goals (suid_field n) = (assign m pending_entry, flags_goal role d (next_number m) kind ∷ goals)
-advance_at m (flags_goal role d number kind) goals (flags_field flags) = (m, field_count_goal role d number kind flags ∷ goals)
-advance_at m (field_count_goal role d number kind flags) goals (field_count_field n) = (m, fields_goal role d number kind flags false [] n ∷ goals)
-advance_at m (fields_goal role d number kind flags seen codes (suc n)) goals (code_field c) =
-    (m, field_name_goal d ∷ type_goals (is_object_code c) d (fields_goal role d number kind flags (seen || is_object_code c) (c ∷ codes) n ∷ goals))
+advance_at m (suid_goal role d kind) goals (suid_field n) =
+    (assign m pending_entry, flags_goal role d (next_number m) kind ∷ goals)
+advance_at m (flags_goal role d number kind) goals (flags_field flags) =
+    (m, field_count_goal role d number kind flags ∷ goals)
+advance_at m (field_count_goal role d number kind flags) goals (field_count_field n) =
+    (m, fields_goal role d number kind flags false [] n ∷ goals)
+advance_at m (fields_goal role d number kind flags seen codes (suc n)) goals (code_field c) = (
+  m,
+  field_name_goal d ∷ type_goals (is_object_code c) d
+      (fields_goal role d number kind flags (seen || is_object_code c) (c ∷ codes) n ∷ goals),
+)
 advance_at m (field_name_goal d) goals (text_field long units) = (m, goals)
 -- a proxy descriptor
-advance_at m (interface_count_goal role d number) goals (interface_count_field n) = (m, interfaces_goal role d number n ∷ goals)
-advance_at m (interfaces_goal role d number (suc n)) goals (text_field long units) = (m, interfaces_goal role d number n ∷ goals)
+advance_at m (interface_count_goal role d number) goals (interface_count_field n) =
+    (m, interfaces_goal role d number n ∷ goals)
+advance_at m (interfaces_goal role d number (suc n)) goals (text_field long units) =
+    (m, interfaces_goal role d number n ∷ goals)
 advance_at m goal goals field = (m, goal ∷ goals)
 
 abbrev pub advance : State → StreamField → State
@@ -99,7 +112,8 @@ IsDone (m, goals) = goals ≡ top_goal ∷ []
 -- the machine takes these fields, each with its label
 abbrev pub Runs : State → List Piece → Type 0
 Runs s [] = Unit {0}
-Runs s (piece label field ∷ rest) = (label ≡ label_of (settled s)) × Accepts (label_of (settled s)) field × Runs (advance (settled s) field) rest
+Runs s (piece label field ∷ rest) =
+    (label ≡ label_of (settled s)) × Accepts (label_of (settled s)) field × Runs (advance (settled s) field) rest
 
 -- the state behind them
 abbrev pub left : State → List Piece → State
@@ -109,4 +123,5 @@ left s (piece label field ∷ rest) = left (advance (settled s) field) rest
 -- it takes them all, and may end
 abbrev pub Reads : State → List Piece → Type 0
 Reads s [] = IsDone (settled s)
-Reads s (piece label field ∷ rest) = (label ≡ label_of (settled s)) × Accepts (label_of (settled s)) field × Reads (advance (settled s) field) rest
+Reads s (piece label field ∷ rest) =
+    (label ≡ label_of (settled s)) × Accepts (label_of (settled s)) field × Reads (advance (settled s) field) rest

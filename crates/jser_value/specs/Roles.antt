@@ -66,7 +66,8 @@ NameFits (superclass owner strict) kind = Unit {0}
 
 -- the flags of a plain descriptor fit its role
 abbrev pub FlagsFitOwner : Owner → ℕ → Type 0
-FlagsFitOwner object_owner flags = IsTrue (if is_externalizable flags then has_block_data flags else is_serializable flags)
+FlagsFitOwner object_owner flags =
+    IsTrue (if is_externalizable flags then has_block_data flags else is_serializable flags)
 FlagsFitOwner array_owner flags = Unit {0}
 FlagsFitOwner enum_owner flags = IsTrue (is_enum flags)
 FlagsFitOwner class_owner flags = Unit {0}

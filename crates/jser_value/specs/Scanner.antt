@@ -25,7 +25,8 @@ FieldGate = Label → StreamField → Bool
 
 -- every front of these bytes, short of all, wants more
 abbrev pub IsUndecided : VerdictOn → Label → List ℕ → Type 0
-IsUndecided verdict label bytes = (front : List ℕ) (b : ℕ) (rest : List ℕ) → bytes ≡ front ++ (b ∷ rest) → verdict label front ≡ more
+IsUndecided verdict label bytes =
+    (front : List ℕ) (b : ℕ) (rest : List ℕ) → bytes ≡ front ++ (b ∷ rest) → verdict label front ≡ more
 
 -- A verdict on fields, as it must be for a gate: it finds exactly the fields that are taken and let through, wants
 -- more before their end, and refuses a field that the gate stops at its end or within.
@@ -33,10 +34,13 @@ pub record IsScanner (gate : FieldGate) (verdict : VerdictOn) : Type 0 where
   pub nothing_yet : (label : Label) → verdict label [] ≡ more
   pub good_is : (label : Label) (bytes : List ℕ) (field : StreamField) → verdict label bytes ≡ good field
       → (bytes ≡ bytes_of field) × Accepts label field × IsTrue (gate label field)
-  pub is_good : (label : Label) (field : StreamField) → Accepts label field → IsTrue (gate label field) → verdict label (bytes_of field) ≡ good field
-  pub before_end : (label : Label) (field : StreamField) → Accepts label field → IsTrue (gate label field) → IsUndecided verdict label (bytes_of field)
+  pub is_good : (label : Label) (field : StreamField) → Accepts label field → IsTrue (gate label field)
+      → verdict label (bytes_of field) ≡ good field
+  pub before_end : (label : Label) (field : StreamField) → Accepts label field → IsTrue (gate label field)
+      → IsUndecided verdict label (bytes_of field)
   pub stops : (label : Label) (field : StreamField) → Accepts label field → IsFalse (gate label field)
-      → (front rest : List ℕ) × (reason : ℕ) × (bytes_of field ≡ front ++ rest) × (verdict label front ≡ bad reason) × IsUndecided verdict label front
+      → (front rest : List ℕ) × (reason : ℕ) × (bytes_of field ≡ front ++ rest) × (verdict label front ≡ bad reason)
+      × IsUndecided verdict label front
 
 -- the walk ended in a state, with some bytes of its next field; or it refused bytes of a field, with others behind
 pub data Outcome : Type 0 where
@@ -67,7 +71,9 @@ PassesBy gate bytes list = IsStreamOf bytes list × AllPass gate (fields_of list
 
 -- no front of these bytes, short of all, is a whole field with this label
 abbrev pub HasNoField : Label → List ℕ → Type 0
-HasNoField label bytes = (front : List ℕ) (b : ℕ) (rest : List ℕ) (field : StreamField) → bytes ≡ front ++ (b ∷ rest) → Accepts label field → front ≡ bytes_of field → ⊥
+HasNoField label bytes =
+    (front : List ℕ) (b : ℕ) (rest : List ℕ) (field : StreamField) → bytes ≡ front ++ (b ∷ rest) → Accepts label field
+    → front ≡ bytes_of field → ⊥
 
 -- A fault: whole fields, then bytes that are refused for a field that may come next, of which no front is a whole
 -- field. `rest` are the bytes behind it; the longer they are, the fewer bytes decide.

@@ -1,6 +1,7 @@
--- The bytes of a tree, by the layouts of the grammar alone (Java Object Serialization Specification,
--- section 6.4.2): each rule is its tag and the bytes of its parts, one after another; a newHandle takes no
--- bytes. No table occurs here. Numbers and texts are those of `java.io.DataOutput`.
+-- The bytes of a tree, by the layouts of the grammar alone (Java Object Serialization Specification, sections
+-- 6.4.1, "Rules of the Grammar", and 6.4.2, "Terminal Symbols and Constants"): each rule is its tag and the bytes
+-- of its parts, one after another; a newHandle takes no bytes. No table occurs here. Numbers and texts are those
+-- of `java.io.DataOutput`.
 use Rattle.std.specs.Prelude.{ℕ, ◌+◌, Bool, true, false, List, [], ◌∷◌, ◌++◌, length, Option, Some, None}
 use Rattle.jser_prim.specs.Bytes.{big_bytes}
 use Rattle.jser_prim.specs.ModifiedUtf8.{modified_utf8}
@@ -71,9 +72,11 @@ abbrev mutual
   -- TC_PROXYCLASSDESC newHandle (int)count proxyInterfaceName[count] classAnnotation superClassDesc
   pub desc_spelling : DescTree → List ℕ
   desc_spelling (plain name suid flags fields notes parent) =
-      0x72 ∷ (utf name ++ (big_bytes 8 suid ++ (flags ∷ (big_bytes 2 (length fields) ++ (fields_spelling fields ++ (annotation_spelling notes ++ class_spelling parent))))))
+      0x72 ∷ (utf name ++ (big_bytes 8 suid ++ (flags ∷ (big_bytes 2 (length fields) ++ (fields_spelling fields
+      ++ (annotation_spelling notes ++ class_spelling parent))))))
   desc_spelling (proxy interfaces notes parent) =
-      0x7D ∷ (big_bytes 4 (length interfaces) ++ (interfaces_spelling interfaces ++ (annotation_spelling notes ++ class_spelling parent)))
+      0x7D ∷ (big_bytes 4 (length interfaces) ++ (interfaces_spelling interfaces
+      ++ (annotation_spelling notes ++ class_spelling parent)))
 
   pub class_spelling : ClassPlaceTree → List ℕ
   class_spelling no_class = 0x70 ∷ []
@@ -91,7 +94,8 @@ abbrev mutual
 
   pub sections_spelling : SectionTrees → List ℕ
   sections_spelling no_sections = []
-  sections_spelling (section_and (section ps vs n) ss) = prims_spelling ps ++ (values_spelling vs ++ (notes_spelling n ++ sections_spelling ss))
+  sections_spelling (section_and (section ps vs n) ss) =
+      prims_spelling ps ++ (values_spelling vs ++ (notes_spelling n ++ sections_spelling ss))
 
   pub notes_spelling : NotesTree → List ℕ
   notes_spelling no_notes = []

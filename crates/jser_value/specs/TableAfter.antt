@@ -1,4 +1,4 @@
--- The table of handles after a tree (Java Object Serialization Specification, section 6.4.2: "newHandle:
+-- The table of handles after a tree (Java Object Serialization Specification, section 6.4.1: "newHandle:
 -- the next number in sequence is assigned to the object being serialized or deserialized"). An entry is
 -- added at the end of the list; its number is the handle less 0x7E0000.
 use Rattle.std.specs.Prelude.{ℕ, List, [], ◌∷◌, ◌++◌, length, slice_set, Option, Some, None}
@@ -58,7 +58,8 @@ abbrev mutual
   pub after_desc : Entries → DescTree → Entries
   after_desc T (plain name suid flags fields notes parent) =
       let inside = after_contents (after_fields (add T pending_entry) fields) notes in
-      close (after_class inside parent) (length T) (chain_of_class inside parent ++ (plain_layer name flags fields ∷ []))
+      close (after_class inside parent) (length T)
+      (chain_of_class inside parent ++ (plain_layer name flags fields ∷ []))
   after_desc T (proxy interfaces notes parent) =
       let inside = after_contents (add T pending_entry) notes in
       close (after_class inside parent) (length T) (chain_of_class inside parent ++ (proxy_layer ∷ []))
@@ -99,7 +100,8 @@ abbrev mutual
 
   pub chain_of_desc : Entries → DescTree → List Layer
   chain_of_desc T (plain name suid flags fields notes parent) =
-      chain_of_class (after_contents (after_fields (add T pending_entry) fields) notes) parent ++ (plain_layer name flags fields ∷ [])
+      chain_of_class (after_contents (after_fields (add T pending_entry) fields) notes) parent
+      ++ (plain_layer name flags fields ∷ [])
   chain_of_desc T (proxy interfaces notes parent) =
       chain_of_class (after_contents (add T pending_entry) notes) parent ++ (proxy_layer ∷ [])
 

@@ -60,7 +60,8 @@ abbrev pub body_step : Body-F BodyTree ClassPlaceTree ContentTree DescTree Value
 body_step (Body-F.Prims ps) = raw_body (map view_prim ps.items)
 body_step (Body-F.Values vs) = value_body (values_of vs.items)
 
-abbrev pub class_place_step : ClassPlace-F BodyTree ClassPlaceTree ContentTree DescTree ValueTree SectionTree → ClassPlaceTree
+abbrev pub class_place_step : ClassPlace-F BodyTree ClassPlaceTree ContentTree DescTree ValueTree SectionTree
+    → ClassPlaceTree
 class_place_step (ClassPlace-F.New d) = new_class d.value
 class_place_step (ClassPlace-F.ClassPlace::Back n) = back_class n
 class_place_step ClassPlace-F.ClassPlace::Null = no_class
@@ -71,8 +72,10 @@ content_step Content-F.Reset = reset
 content_step (Content-F.Value v) = content v
 
 abbrev pub desc_step : Desc-F BodyTree ClassPlaceTree ContentTree DescTree ValueTree SectionTree → DescTree
-desc_step (Desc-F.Plain name suid flags fields notes parent) = plain name.items suid flags (map view_field fields.items) (contents_of notes.items) parent
-desc_step (Desc-F.Proxy interfaces notes parent) = proxy (map (λ name. name.items) interfaces.items) (contents_of notes.items) parent
+desc_step (Desc-F.Plain name suid flags fields notes parent) =
+    plain name.items suid flags (map view_field fields.items) (contents_of notes.items) parent
+desc_step (Desc-F.Proxy interfaces notes parent) =
+    proxy (map (λ name. name.items) interfaces.items) (contents_of notes.items) parent
 
 abbrev pub value_step : Value-F BodyTree ClassPlaceTree ContentTree DescTree ValueTree SectionTree → ValueTree
 value_step Value-F.Value::Null = null
@@ -88,22 +91,34 @@ abbrev pub section_step : Section-F BodyTree ClassPlaceTree ContentTree DescTree
 section_step s = section (map view_prim s.prims.items) (values_of s.values.items) (notes_of s.notes)
 
 abbrev pub view_body : Body → BodyTree
-view_body = fold-Body BodyTree ClassPlaceTree ContentTree DescTree ValueTree SectionTree body_step class_place_step content_step desc_step value_step section_step
+view_body =
+    fold-Body BodyTree ClassPlaceTree ContentTree DescTree ValueTree SectionTree
+    body_step class_place_step content_step desc_step value_step section_step
 
 abbrev pub view_class_place : ClassPlace → ClassPlaceTree
-view_class_place = fold-ClassPlace BodyTree ClassPlaceTree ContentTree DescTree ValueTree SectionTree body_step class_place_step content_step desc_step value_step section_step
+view_class_place =
+    fold-ClassPlace BodyTree ClassPlaceTree ContentTree DescTree ValueTree SectionTree
+    body_step class_place_step content_step desc_step value_step section_step
 
 abbrev pub view_content : Content → ContentTree
-view_content = fold-Content BodyTree ClassPlaceTree ContentTree DescTree ValueTree SectionTree body_step class_place_step content_step desc_step value_step section_step
+view_content =
+    fold-Content BodyTree ClassPlaceTree ContentTree DescTree ValueTree SectionTree
+    body_step class_place_step content_step desc_step value_step section_step
 
 abbrev pub view_desc : Desc → DescTree
-view_desc = fold-Desc BodyTree ClassPlaceTree ContentTree DescTree ValueTree SectionTree body_step class_place_step content_step desc_step value_step section_step
+view_desc =
+    fold-Desc BodyTree ClassPlaceTree ContentTree DescTree ValueTree SectionTree
+    body_step class_place_step content_step desc_step value_step section_step
 
 abbrev pub view_value : Value → ValueTree
-view_value = fold-Value BodyTree ClassPlaceTree ContentTree DescTree ValueTree SectionTree body_step class_place_step content_step desc_step value_step section_step
+view_value =
+    fold-Value BodyTree ClassPlaceTree ContentTree DescTree ValueTree SectionTree
+    body_step class_place_step content_step desc_step value_step section_step
 
 abbrev pub view_section : Section → SectionTree
-view_section = fold-Section BodyTree ClassPlaceTree ContentTree DescTree ValueTree SectionTree body_step class_place_step content_step desc_step value_step section_step
+view_section =
+    fold-Section BodyTree ClassPlaceTree ContentTree DescTree ValueTree SectionTree
+    body_step class_place_step content_step desc_step value_step section_step
 
 -- lists
 abbrev pub view_values : List Value → ValueTrees

@@ -12,25 +12,31 @@ use Rattle.jser_value.specs.Scanner.{VerdictOn, FieldGate, IsScanner, ended, ref
 -- The walk ends at the top with no cut field exactly where the bytes are a stream that the gate lets through.
 abbrev pub AcceptsExactly : Type 0
 AcceptsExactly = (gate : FieldGate) (verdict : VerdictOn) → IsScanner gate verdict → (bytes : List ℕ) →
-    ((s : State) × IsDone (settled s) × (walk verdict begin_state [] bytes ≡ ended s []) → (list : ContentTrees) × PassesBy gate bytes list)
-    × ((list : ContentTrees) × PassesBy gate bytes list → (s : State) × IsDone (settled s) × (walk verdict begin_state [] bytes ≡ ended s []))
+    ((s : State) × IsDone (settled s) × (walk verdict begin_state [] bytes ≡ ended s []) → (list : ContentTrees)
+    × PassesBy gate bytes list)
+    × ((list : ContentTrees) × PassesBy gate bytes list → (s : State) × IsDone (settled s)
+    × (walk verdict begin_state [] bytes ≡ ended s []))
 
 -- What it refuses is a fault, and no fault is decided by fewer bytes.
 abbrev pub RefusesFirst : Type 0
-RefusesFirst = (gate : FieldGate) (verdict : VerdictOn) → IsScanner gate verdict → (bytes wrong rest : List ℕ) (reason : ℕ) →
+RefusesFirst =
+    (gate : FieldGate) (verdict : VerdictOn) → IsScanner gate verdict → (bytes wrong rest : List ℕ) (reason : ℕ) →
     walk verdict begin_state [] bytes ≡ refused wrong rest reason →
     IsFaultBy verdict bytes wrong rest reason
-    × ((wrong' rest' : List ℕ) (reason' : ℕ) → IsFaultBy verdict bytes wrong' rest' reason' → length rest' ≤ length rest)
+    × ((wrong' rest' : List ℕ) (reason' : ℕ) → IsFaultBy verdict bytes wrong' rest' reason'
+    → length rest' ≤ length rest)
 
 -- Where it refuses nothing, there is no fault.
 abbrev pub NoFaultPassed : Type 0
 NoFaultPassed = (gate : FieldGate) (verdict : VerdictOn) → IsScanner gate verdict → (bytes cut : List ℕ) (s : State) →
-    walk verdict begin_state [] bytes ≡ ended s cut → (wrong rest : List ℕ) (reason : ℕ) → IsFaultBy verdict bytes wrong rest reason → ⊥
+    walk verdict begin_state [] bytes ≡ ended s cut → (wrong rest : List ℕ) (reason : ℕ)
+    → IsFaultBy verdict bytes wrong rest reason → ⊥
 
 -- Where it ends within a field, or short of the top, the bytes are no stream.
 abbrev pub CutShort : Type 0
 CutShort = (gate : FieldGate) (verdict : VerdictOn) → IsScanner gate verdict → (bytes cut : List ℕ) (s : State) →
-    walk verdict begin_state [] bytes ≡ ended s cut → (list : ContentTrees) → IsStreamOf bytes list → IsDone (settled s) × (cut ≡ [])
+    walk verdict begin_state [] bytes ≡ ended s cut → (list : ContentTrees) → IsStreamOf bytes list
+    → IsDone (settled s) × (cut ≡ [])
 
 -- None of this is said of nothing: each gate has such a verdict.
 abbrev pub EachGateHasAVerdict : Type 0
@@ -41,5 +47,7 @@ EachGateHasAVerdict = (gate : FieldGate) → (verdict : VerdictOn) × IsScanner 
 abbrev pub FieldsAreTold : Type 0
 FieldsAreTold = (gate : FieldGate) (verdict : VerdictOn) → IsScanner gate verdict → (bytes cut : List ℕ) (s : State) →
     walk verdict begin_state [] bytes ≡ ended s cut →
-    (front : List Piece) × Runs begin_state front × AllPass gate front × (left begin_state front ≡ s) × (bytes ≡ joined front ++ cut)
-    × ((behind : List ℕ) (list : ContentTrees) → IsStreamOf (bytes ++ behind) list → (rest : List Piece) × (fields_of list ≡ front ++ rest))
+    (front : List Piece) × Runs begin_state front × AllPass gate front × (left begin_state front ≡ s)
+    × (bytes ≡ joined front ++ cut)
+    × ((behind : List ℕ) (list : ContentTrees) → IsStreamOf (bytes ++ behind) list → (rest : List Piece)
+    × (fields_of list ≡ front ++ rest))
