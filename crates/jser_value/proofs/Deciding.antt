@@ -20,7 +20,9 @@ decide_both (yes a) (no h) = no (λ p. h p.1)
 decide_both (no h) b = no (λ p. h p.0)
 
 decide_text : (long : Bool) (units : List ℕ) → Dec (IsText long units)
-decide_text long units = decide_both (decide_true (list_all (λ unit. nat_lt unit 0x10000) units)) (dec_lt (length (modified_utf8 units)) (text_bound long))
+decide_text long units =
+    decide_both (decide_true (list_all (λ unit. nat_lt unit 0x10000) units))
+    (dec_lt (length (modified_utf8 units)) (text_bound long))
 
 decide_class_name : (units : List ℕ) → Dec (IsClassName units)
 decide_class_name units = decide_both (decide_text false units) (decide_false (is_malformed (name_kind units)))
@@ -55,7 +57,8 @@ decide_name (superclass owner strict) kind = yes tt
 
 decide_flags : (role : Role) (flags : ℕ) → Dec (FlagsFit role flags)
 decide_flags (own_class None) flags = yes tt
-decide_flags (own_class (Some object_owner)) flags = decide_true (if is_externalizable flags then has_block_data flags else is_serializable flags)
+decide_flags (own_class (Some object_owner)) flags =
+    decide_true (if is_externalizable flags then has_block_data flags else is_serializable flags)
 decide_flags (own_class (Some array_owner)) flags = yes tt
 decide_flags (own_class (Some enum_owner)) flags = decide_true (is_enum flags)
 decide_flags (own_class (Some class_owner)) flags = yes tt
@@ -111,15 +114,19 @@ decide_at text_place_at m (tag_field string_tag) = yes tt
 decide_at text_place_at m (tag_field long_string_tag) = yes tt
 decide_at back_handle_at m (handle_field n) = decide_both (dec_lt n (length m.table)) (decide_handle n)
 decide_at text_handle_at m (handle_field n) = decide_both (decide_true (is_text (slice_get m.table n))) (decide_handle n)
-decide_at (class_handle_at owner) m (handle_field n) = decide_both (decide_class m.table n) (decide_owner owner (chain_at m.table n))
-decide_at (superclass_handle_at owner strict) m (handle_field n) = decide_both (decide_class m.table n) (decide_superclass owner strict (chain_at m.table n))
+decide_at (class_handle_at owner) m (handle_field n) =
+    decide_both (decide_class m.table n) (decide_owner owner (chain_at m.table n))
+decide_at (superclass_handle_at owner strict) m (handle_field n) =
+    decide_both (decide_class m.table n) (decide_superclass owner strict (chain_at m.table n))
 decide_at (string_at false) m (text_field false units) = decide_text false units
 decide_at (string_at true) m (text_field true units) = decide_text true units
-decide_at (class_name_at role) m (text_field false units) = decide_both (decide_class_name units) (decide_name role (name_kind units))
+decide_at (class_name_at role) m (text_field false units) =
+    decide_both (decide_class_name units) (decide_name role (name_kind units))
 decide_at field_name_at m (text_field false units) = decide_text false units
 decide_at interface_name_at m (text_field false units) = decide_class_name units
 decide_at suid_at m (suid_field n) = dec_lt n (2 ^ 64)
-decide_at (flags_at role) m (flags_field n) = decide_both (decide_both (dec_lt n 32) (decide_false (is_serializable n && is_externalizable n))) (decide_flags role n)
+decide_at (flags_at role) m (flags_field n) =
+    decide_both (decide_both (dec_lt n 32) (decide_false (is_serializable n && is_externalizable n))) (decide_flags role n)
 decide_at field_count_at m (field_count_field n) = dec_lt n (2 ^ 15)
 decide_at interface_count_at m (interface_count_field n) = dec_lt n (2 ^ 31)
 decide_at array_length_at m (array_length_field n) = dec_lt n (2 ^ 31)
@@ -127,7 +134,8 @@ decide_at (type_code_at seen) m (code_field n) = decide_true (may_follow seen n)
 decide_at (block_length_at false) m (block_length_field false n) = dec_lt n (block_bound false)
 decide_at (block_length_at true) m (block_length_field true n) = dec_lt n (block_bound true)
 decide_at (raw_at c (suc n)) m (prims_field ps) = decide_both (ℕ_discrete (length ps) (suc n)) (decide_prims c ps)
-decide_at (bytes_at (suc n)) m (bytes_field bytes) = decide_both (decide_true (list_all (λ b. nat_lt b 0x100) bytes)) (ℕ_discrete (length bytes) (suc n))
+decide_at (bytes_at (suc n)) m (bytes_field bytes) =
+    decide_both (decide_true (list_all (λ b. nat_lt b 0x100) bytes)) (ℕ_discrete (length bytes) (suc n))
 decide_at (string_at false) m _ = no (λ h. h)
 decide_at (string_at true) m _ = no (λ h. h)
 decide_at (block_length_at false) m _ = no (λ h. h)

@@ -55,7 +55,8 @@ unit_back : (u k : ℕ) (rest : List ℕ) → u < 65536 → units_in (suc k) (un
 unfolding units_in unit_spelling
 unit_back u k rest h = go (nat_le 1 u) (nat_lt u 128) (nat_lt u 2048) refl refl refl
   where
-    two : nat_lt u 2048 ≡ true → (nat_le 1 u && nat_lt u 128) ≡ false → units_in (suc k) (unit_spelling u ++ rest) ≡ u ∷ units_in k rest
+    two : nat_lt u 2048 ≡ true → (nat_le 1 u && nat_lt u 128) ≡ false
+        → units_in (suc k) (unit_spelling u ++ rest) ≡ u ∷ units_in k rest
     two ez e =
         let lo : u < 2048 = leb-true (suc u) 2048 ez in
         let e1 : nat_lt (192 + u / 64) 128 ≡ false = not_lt (192 + u / 64) 128 (omega arith) in
@@ -63,14 +64,16 @@ unit_back u k rest h = go (nat_le 1 u) (nat_lt u 128) (nat_lt u 2048) refl refl 
         let e3 : (192 + u / 64 - 192) * 64 + (128 + u % 64 - 128) ≡ u = omega arith in
         rw (e, ez, e1, e2, e3) refl
 
-    three : nat_lt u 2048 ≡ false → (nat_le 1 u && nat_lt u 128) ≡ false → units_in (suc k) (unit_spelling u ++ rest) ≡ u ∷ units_in k rest
+    three : nat_lt u 2048 ≡ false → (nat_le 1 u && nat_lt u 128) ≡ false
+        → units_in (suc k) (unit_spelling u ++ rest) ≡ u ∷ units_in k rest
     three ez e =
         let e1 : nat_lt (224 + u / 4096) 128 ≡ false = not_lt (224 + u / 4096) 128 (omega arith) in
         let e2 : nat_lt (224 + u / 4096) 224 ≡ false = not_lt (224 + u / 4096) 224 (omega arith) in
         let e3 : (224 + u / 4096 - 224) * 4096 + (128 + u / 64 % 64 - 128) * 64 + (128 + u % 64 - 128) ≡ u = omega arith in
         rw (e, ez, e1, e2, e3) refl
 
-    go : (x y z : Bool) → nat_le 1 u ≡ x → nat_lt u 128 ≡ y → nat_lt u 2048 ≡ z → units_in (suc k) (unit_spelling u ++ rest) ≡ u ∷ units_in k rest
+    go : (x y z : Bool) → nat_le 1 u ≡ x → nat_lt u 128 ≡ y → nat_lt u 2048 ≡ z
+        → units_in (suc k) (unit_spelling u ++ rest) ≡ u ∷ units_in k rest
     go true true z ex ey ez = rw (ex, ey) (rw ey refl)
     go true false true ex ey ez = two ez (rw (ex, ey) refl)
     go true false false ex ey ez = three ez (rw (ex, ey) refl)
@@ -101,10 +104,14 @@ units_back (u ∷ us) (suc k) h l =
 
 pub tag_from : ℕ → Option StreamField
 tag_from b =
-    cond (nat_eq b 0x70) (Some (tag_field null_tag)) (cond (nat_eq b 0x71) (Some (tag_field reference_tag)) (cond (nat_eq b 0x72) (Some (tag_field class_desc_tag))
-    (cond (nat_eq b 0x73) (Some (tag_field object_tag)) (cond (nat_eq b 0x74) (Some (tag_field string_tag)) (cond (nat_eq b 0x75) (Some (tag_field array_tag))
-    (cond (nat_eq b 0x76) (Some (tag_field class_tag)) (cond (nat_eq b 0x77) (Some (block_tag_field false)) (cond (nat_eq b 0x78) (Some end_tag_field)
-    (cond (nat_eq b 0x79) (Some reset_tag_field) (cond (nat_eq b 0x7A) (Some (block_tag_field true)) (cond (nat_eq b 0x7C) (Some (tag_field long_string_tag))
+    cond (nat_eq b 0x70) (Some (tag_field null_tag))
+    (cond (nat_eq b 0x71) (Some (tag_field reference_tag)) (cond (nat_eq b 0x72) (Some (tag_field class_desc_tag))
+    (cond (nat_eq b 0x73) (Some (tag_field object_tag))
+    (cond (nat_eq b 0x74) (Some (tag_field string_tag)) (cond (nat_eq b 0x75) (Some (tag_field array_tag))
+    (cond (nat_eq b 0x76) (Some (tag_field class_tag))
+    (cond (nat_eq b 0x77) (Some (block_tag_field false)) (cond (nat_eq b 0x78) (Some end_tag_field)
+    (cond (nat_eq b 0x79) (Some reset_tag_field)
+    (cond (nat_eq b 0x7A) (Some (block_tag_field true)) (cond (nat_eq b 0x7C) (Some (tag_field long_string_tag))
     (cond (nat_eq b 0x7D) (Some (tag_field proxy_desc_tag)) (cond (nat_eq b 0x7E) (Some (tag_field enum_tag)) None)))))))))))))
 
 pub tag_back : (tag : Tag) → tag_from (tag_byte tag) ≡ Some (tag_field tag)
@@ -156,14 +163,21 @@ prims_back c (p ∷ ps) h =
     let ec : p.code ≡ c = h.0.0 in
     let s : prim_spelling p ≡ big_bytes (size_of c) p.bits = ap (λ k. big_bytes (size_of k) p.bits) ec in
     let t : take (size_of c) (prim_spelling p ++ prims_spelling ps) ≡ big_bytes (size_of c) p.bits =
-    ap (λ z. take (size_of c) (z ++ prims_spelling ps)) s ∙ take_at (big_bytes (size_of c) p.bits) (prims_spelling ps) (size_of c) (length-big_bytes (size_of c) p.bits) in
+    ap (λ z. take (size_of c) (z
+    ++ prims_spelling ps)) s ∙ take_at (big_bytes (size_of c) p.bits) (prims_spelling ps) (size_of c)
+    (length-big_bytes (size_of c) p.bits) in
     let d : drop (size_of c) (prim_spelling p ++ prims_spelling ps) ≡ prims_spelling ps =
-    ap (λ z. drop (size_of c) (z ++ prims_spelling ps)) s ∙ drop_at (big_bytes (size_of c) p.bits) (prims_spelling ps) (size_of c) (length-big_bytes (size_of c) p.bits) in
-    let q : number_of (take (size_of c) (prim_spelling p ++ prims_spelling ps)) ≡ p.bits = ap number_of t ∙ number_prim c p.bits h.0.1 in
-    let r : prims_in c (length ps) (drop (size_of c) (prim_spelling p ++ prims_spelling ps)) ≡ ps = ap (prims_in c (length ps)) d ∙ prims_back c ps h.1 in
+    ap (λ z. drop (size_of c) (z
+    ++ prims_spelling ps)) s ∙ drop_at (big_bytes (size_of c) p.bits) (prims_spelling ps) (size_of c)
+    (length-big_bytes (size_of c) p.bits) in
+    let q : number_of (take (size_of c) (prim_spelling p ++ prims_spelling ps)) ≡ p.bits =
+    ap number_of t ∙ number_prim c p.bits h.0.1 in
+    let r : prims_in c (length ps) (drop (size_of c) (prim_spelling p ++ prims_spelling ps)) ≡ ps =
+    ap (prims_in c (length ps)) d ∙ prims_back c ps h.1 in
     ap₂ (λ x y. x ∷ y) (λ i. record { code = sym ec i; bits = q i }) r
 
-pub length-prims_spelling : (c : PrimCode) (ps : List PrimTree) → ArePrimsOf c ps → length (prims_spelling ps) ≡ length ps * size_of c
+pub length-prims_spelling : (c : PrimCode) (ps : List PrimTree) → ArePrimsOf c ps
+    → length (prims_spelling ps) ≡ length ps * size_of c
 length-prims_spelling c [] h = omega arith
 length-prims_spelling c (p ∷ ps) h =
     let l : length (prim_spelling p) ≡ size_of c = length-big_bytes (size_of p.code) p.bits ∙ ap size_of h.0.0 in

@@ -13,7 +13,8 @@ Waits (class_handle_goal owner d ∷ gs) = Open gs
 Waits (superclass_handle_goal owner strict d number l ∷ gs) = Open gs
 Waits _ = ⊥
 
-open_parts : (parts : List Part) (d : ℕ) (m : Moment) (gs : List Goal) (s : State) → Open gs → Open s.1 → Open (settle_parts d parts m gs s).1
+open_parts : (parts : List Part) (d : ℕ) (m : Moment) (gs : List Goal) (s : State) → Open gs → Open s.1
+    → Open (settle_parts d parts m gs s).1
 open_parts [] d m gs s o h = h
 open_parts (raw_part c zero ∷ parts) d m gs s o h = open_parts parts d m gs s o h
 open_parts (raw_part c (suc n) ∷ parts) d m gs s o h = o
@@ -26,7 +27,8 @@ open_settle (block_goal d zero ∷ gs) m o = open_settle gs m o
 open_settle (block_goal d (suc n) ∷ gs) m o = o
 open_settle (parts_goal d parts ∷ gs) m o = open_parts parts d m gs (settle m gs) o (open_settle gs m o)
 open_settle (made_goal object_owner d number ∷ gs) m o =
-    open_parts (object_parts (is_external (chain_at m.table number)) (chain_at m.table number)) d (assign m other_entry) gs (settle (assign m other_entry) gs) o
+    open_parts (object_parts (is_external (chain_at m.table number)) (chain_at m.table number)) d (assign m other_entry) gs
+    (settle (assign m other_entry) gs) o
     (open_settle gs (assign m other_entry) o)
 open_settle (made_goal array_owner d number ∷ gs) m o = o
 open_settle (made_goal enum_owner d number ∷ gs) m o = o
@@ -68,7 +70,8 @@ moved_value long_string_tag d m gs o = inl o
 moved_value proxy_desc_tag d m gs o = inl o
 moved_value enum_tag d m gs o = inl o
 
-moved_text : (tag : Tag) (d : ℕ) (m : Moment) (gs : List Goal) → Open gs → Moved (tag_field tag) (m, text_place_goal d ∷ gs) (advance_at m (text_place_goal d) gs (tag_field tag))
+moved_text : (tag : Tag) (d : ℕ) (m : Moment) (gs : List Goal) → Open gs
+    → Moved (tag_field tag) (m, text_place_goal d ∷ gs) (advance_at m (text_place_goal d) gs (tag_field tag))
 moved_text reference_tag d m gs o = inr (refl, o, refl)
 moved_text string_tag d m gs o = inl o
 moved_text long_string_tag d m gs o = inl o
@@ -81,8 +84,10 @@ moved_class class_desc_tag owner d m gs o = inl o
 moved_class proxy_desc_tag owner d m gs o = inl o
 moved_class tag owner d m gs o = inl o
 
-moved_superclass : (tag : Tag) (owner : ChainOwner) (strict : Bool) (d number : ℕ) (l : Layer) (m : Moment) (gs : List Goal) → Open gs
-    → Moved (tag_field tag) (m, superclass_goal owner strict d number l ∷ gs) (advance_at m (superclass_goal owner strict d number l) gs (tag_field tag))
+moved_superclass : (tag : Tag) (owner : ChainOwner) (strict : Bool) (d number : ℕ) (l : Layer) (m : Moment) (gs : List Goal)
+    → Open gs
+    → Moved (tag_field tag) (m, superclass_goal owner strict d number l ∷ gs)
+    (advance_at m (superclass_goal owner strict d number l) gs (tag_field tag))
 moved_superclass reference_tag owner strict d number l m gs o = inr (refl, o, refl)
 moved_superclass class_desc_tag owner strict d number l m gs o = inl o
 moved_superclass proxy_desc_tag owner strict d number l m gs o = inl o
@@ -130,7 +135,8 @@ moved_of (m, []) f o = absurd o
 moved_of (m, g ∷ gs) f o = moved g f m gs o
 
 -- a handle that is taken leaves the stack open
-waited : (g : Goal) (f : StreamField) (m : Moment) (gs : List Goal) → Waits (g ∷ gs) → Accepts (label_of (m, g ∷ gs)) f → Open (advance_at m g gs f).1
+waited : (g : Goal) (f : StreamField) (m : Moment) (gs : List Goal) → Waits (g ∷ gs) → Accepts (label_of (m, g ∷ gs)) f
+    → Open (advance_at m g gs f).1
 waited (back_handle_goal d) (handle_field n) m gs w a = w
 waited (text_handle_goal d) (handle_field n) m gs w a = w
 waited (class_handle_goal owner d) (handle_field n) m gs w a = w
@@ -163,7 +169,8 @@ handle_next (interfaces_goal role d number zero) m gs a = absurd a
 handle_next (parts_goal d []) m gs a = absurd a
 handle_next _ m gs a = absurd a
 
-pub handle_next_of : (s : State) → Accepts (label_of s) (tag_field reference_tag) → label_of (settled (advance s (tag_field reference_tag))) ≡ handle_label (label_of s)
+pub handle_next_of : (s : State) → Accepts (label_of s) (tag_field reference_tag)
+    → label_of (settled (advance s (tag_field reference_tag))) ≡ handle_label (label_of s)
 handle_next_of (m, []) a = absurd a
 handle_next_of (m, g ∷ gs) a = handle_next g m gs a
 

@@ -10,7 +10,8 @@ use Rattle.jser_value.proofs.Fronts.{Waits, open_settle, settled_waits, moved_of
 -- where the machine stands: it can go on to a whole list, or before the last tag it could
 abbrev Sound : List Piece → State → Type 0
 Sound front s = Open s.1
-    ⊎ ((before : List Piece) × (l : Label) × (front ≡ before ++ (piece l (tag_field reference_tag) ∷ [])) × Runs begin_state before
+    ⊎ ((before : List Piece) × (l : Label) × (front ≡ before ++ (piece l (tag_field reference_tag) ∷ []))
+    × Runs begin_state before
     × (l ≡ label_of (settled (left begin_state before))) × Accepts l (tag_field reference_tag) × Open (left begin_state before).1
     × Waits s.1 × (label_of s ≡ handle_label l))
 
@@ -44,20 +45,25 @@ sound (piece l f ∷ fs) front r h (el, a, k) =
     let one : Sound (front ++ p) (left begin_state (front ++ p)) = rw (e, el) (sound_step f front r h a) in
     rw (← append_assoc front p fs) (sound fs (front ++ p) (Runs-append front p begin_state r (el, a, tt)) one (rw e k))
 
-begins_open : (front : List Piece) → Runs begin_state front → Open (left begin_state front).1 → BeginsSome front (label_of (settled (left begin_state front)))
+begins_open : (front : List Piece) → Runs begin_state front → Open (left begin_state front).1
+    → BeginsSome front (label_of (settled (left begin_state front)))
 begins_open front r o =
     let s : State = left begin_state front in
     let x = complete s.1 o s.0 in
     let y = complete_more s x.0 x.1 in
-    let z = (exact_law (front ++ (piece (label_of (settled s)) y.0 ∷ y.1))).0 (Reads-append front (piece (label_of (settled s)) y.0 ∷ y.1) begin_state r y.2) in
+    let z =
+    (exact_law (front ++ (piece (label_of (settled s)) y.0 ∷ y.1))).0
+    (Reads-append front (piece (label_of (settled s)) y.0 ∷ y.1) begin_state r y.2) in
     (z.0, y.0, y.1, z.1, sym z.2)
 
-told : (front : List Piece) (l : Label) → BeginsSome front l → Runs begin_state front × (l ≡ label_of (settled (left begin_state front)))
+told : (front : List Piece) (l : Label) → BeginsSome front l → Runs begin_state front
+    × (l ≡ label_of (settled (left begin_state front)))
 told front l (list, f, rest, w, e) =
     let x = reads_split front (piece l f ∷ rest) begin_state ((exact_law (front ++ (piece l f ∷ rest))).1 (list, w, sym e)) in
     (x.0, x.1.0)
 
-next_told : (front : List Piece) (l : Label) → ComesNext front l → Runs begin_state front × (l ≡ label_of (settled (left begin_state front)))
+next_told : (front : List Piece) (l : Label) → ComesNext front l → Runs begin_state front
+    × (l ≡ label_of (settled (left begin_state front)))
 next_told front l (inl b) = told front l b
 next_told front l (inr (before, l', b, a, ef, el)) =
     let x = told before l' b in
@@ -69,7 +75,8 @@ next_told front l (inr (before, l', b, a, ef, el)) =
       rw (ef, e) (el ∙ ap handle_label x.1 ∙ sym (handle_next_of s a')),
     )
 
-next_of : (front : List Piece) (l : Label) → Runs begin_state front → (l ≡ label_of (settled (left begin_state front))) → Sound front (left begin_state front) → ComesNext front l
+next_of : (front : List Piece) (l : Label) → Runs begin_state front → (l ≡ label_of (settled (left begin_state front)))
+    → Sound front (left begin_state front) → ComesNext front l
 next_of front l r e (inl o) = inl (rw e (begins_open front r o))
 next_of front l r e (inr (before, l', ef, rb, el, al, ob, w, eh)) =
     inr (before, l', rw el (begins_open before rb ob), al, ef, e ∙ ap label_of (settled_waits (left begin_state front) w) ∙ eh)

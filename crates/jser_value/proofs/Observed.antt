@@ -57,21 +57,25 @@ one_from : (b : Bool) (x D : ℕ) → number_if b (suc x) ≤ D → IsTrue (not 
 one_from true x D h = le-leb (suc x) D h
 one_from false x D h = refl
 
-length_to : (f : StreamField) (A : ℕ) (ns : List ℕ) → IsTrue (array_is_within A f) → Each (λ n. n ≤ A) ns → Each (λ n. n ≤ A) (length_in f ns)
+length_to : (f : StreamField) (A : ℕ) (ns : List ℕ) → IsTrue (array_is_within A f) → Each (λ n. n ≤ A) ns
+    → Each (λ n. n ≤ A) (length_in f ns)
 length_to (array_length_field n) A ns h k = (leb-true n A h, k)
 length_to _ A ns h k = k
 
-length_from : (f : StreamField) (A : ℕ) (ns : List ℕ) → Each (λ n. n ≤ A) (length_in f ns) → IsTrue (array_is_within A f) × Each (λ n. n ≤ A) ns
+length_from : (f : StreamField) (A : ℕ) (ns : List ℕ) → Each (λ n. n ≤ A) (length_in f ns) → IsTrue (array_is_within A f)
+    × Each (λ n. n ≤ A) ns
 length_from (array_length_field n) A ns h = (le-leb n A h.0, h.1)
 length_from _ A ns h = (refl, h)
 
-name_to : (w : Position) (f : StreamField) (passes : List ℕ → Bool) (ns : List (List ℕ)) → IsTrue (name_passes passes w f) → Each (λ n. IsTrue (passes n)) ns
+name_to : (w : Position) (f : StreamField) (passes : List ℕ → Bool) (ns : List (List ℕ)) → IsTrue (name_passes passes w f)
+    → Each (λ n. IsTrue (passes n)) ns
     → Each (λ n. IsTrue (passes n)) (name_in w f ns)
 name_to (class_name_at role) (text_field long units) passes ns h k = (h, k)
 name_to interface_name_at (text_field long units) passes ns h k = (h, k)
 name_to _ f passes ns h k = k
 
-name_from : (w : Position) (f : StreamField) (passes : List ℕ → Bool) (ns : List (List ℕ)) → Each (λ n. IsTrue (passes n)) (name_in w f ns)
+name_from : (w : Position) (f : StreamField) (passes : List ℕ → Bool) (ns : List (List ℕ))
+    → Each (λ n. IsTrue (passes n)) (name_in w f ns)
     → IsTrue (name_passes passes w f) × Each (λ n. IsTrue (passes n)) ns
 name_from (class_name_at role) (text_field long units) passes ns h = h
 name_from interface_name_at (text_field long units) passes ns h = h
@@ -95,14 +99,18 @@ observed limits (piece l f ∷ ps) h =
     let h3 = and_left (place && array && handle) name h.0 in
     let h2 = and_left (place && array) handle h3 in
     let r = observed limits ps h.1 in
-    let d = le_to (begins_place l.position f) (nat_lt l.moment.places limits.refs) l.depth limits.depth (and_left place array h2) in
-    let p = lt_to (begins_place l.position f) (nat_le l.depth limits.depth) l.moment.places limits.refs (and_left place array h2) in
+    let d =
+    le_to (begins_place l.position f) (nat_lt l.moment.places limits.refs) l.depth limits.depth (and_left place array h2) in
+    let p =
+    lt_to (begins_place l.position f) (nat_le l.depth limits.depth) l.moment.places limits.refs (and_left place array h2) in
     let t = one_to (assigns_handle l.position f) (length l.moment.table) limits.handles (and_right (place && array) handle h3) in
     record {
       depth = both_below (number_if (begins_place l.position f) l.depth) (deepest ps) limits.depth d r.depth;
       refs = both_below (number_if (begins_place l.position f) (suc l.moment.places)) (most_places ps) limits.refs p r.refs;
       array = length_to f limits.array (lengths_in ps) (and_right place array h2) r.array;
-      handles = both_below (number_if (assigns_handle l.position f) (suc (length l.moment.table))) (most_handles ps) limits.handles t r.handles;
+      handles =
+          both_below (number_if (assigns_handle l.position f) (suc (length l.moment.table)))
+          (most_handles ps) limits.handles t r.handles;
       names = name_to l.position f limits.passes (names_in ps) (and_right (place && array && handle) name h.0) r.names;
     }
   where
@@ -118,12 +126,15 @@ observed_passes limits (piece l f ∷ ps) h =
     let name = name_passes limits.passes l.position f in
     let d = max_below (number_if (begins_place l.position f) l.depth) (deepest ps) limits.depth h.depth in
     let p = max_below (number_if (begins_place l.position f) (suc l.moment.places)) (most_places ps) limits.refs h.refs in
-    let t = max_below (number_if (assigns_handle l.position f) (suc (length l.moment.table))) (most_handles ps) limits.handles h.handles in
+    let t =
+    max_below (number_if (assigns_handle l.position f) (suc (length l.moment.table)))
+    (most_handles ps) limits.handles h.handles in
     let a = length_from f limits.array (lengths_in ps) h.array in
     let n = name_from l.position f limits.passes (names_in ps) h.names in (
       and_both (place && array && handle) name
           (and_both (place && array) handle
-          (and_both place array (both_from (begins_place l.position f) l.depth l.moment.places limits.depth limits.refs d.0 p.0) a.0)
+          (and_both place array
+          (both_from (begins_place l.position f) l.depth l.moment.places limits.depth limits.refs d.0 p.0) a.0)
           (one_from (assigns_handle l.position f) (length l.moment.table) limits.handles t.0))
           n.0,
       observed_passes limits ps (record { depth = d.1; refs = p.1; array = a.1; handles = t.1; names = n.1 }),

@@ -18,7 +18,8 @@ all_pass (piece label field ∷ pieces) = (refl, all_pass pieces)
 
 pub one_reading_law : OneReading
 one_reading_law bytes list other (e, w) (e', w') =
-    same_by_bytes open_gate (plain_verdict open_gate) (scanner open_gate) list other w w' (all_pass (fields_of list)) (all_pass (fields_of other))
+    same_by_bytes open_gate (plain_verdict open_gate) (scanner open_gate) list other w w' (all_pass (fields_of list))
+    (all_pass (fields_of other))
     (spelled_law list w ∙ sym e ∙ e' ∙ sym (spelled_law other w'))
 
 -- the bytes of a value's fields are its spelling
@@ -28,5 +29,6 @@ spelled_alone m v w = spelled_value v 1 m [] w ∙ append-nil (value_spelling v)
 pub no_prefix_law : NoPrefix
 no_prefix_law T value other rest w w' e =
     let m : Moment = record { table = T; places = 0 } in
-    same_value_by_bytes open_gate (plain_verdict open_gate) (scanner open_gate) m value other rest w w' (all_pass (fields_of_value m value))
+    same_value_by_bytes open_gate (plain_verdict open_gate) (scanner open_gate) m value other rest w w'
+    (all_pass (fields_of_value m value))
     (ap (λ z. z ++ rest) (spelled_alone m value w) ∙ e ∙ sym (spelled_alone m other w'))

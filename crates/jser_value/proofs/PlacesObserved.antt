@@ -19,8 +19,10 @@ mutual
   counted_value (object c ss) k = omega (arith, counted_class c (suc k), counted_sections ss (places_class (suc k) c))
 
   counted_desc : (x : DescTree) (k : ℕ) → places_desc k x ≡ k + refs_in_desc x
-  counted_desc (plain name suid flags fields notes parent) k = omega (arith, counted_contents notes k, counted_class parent (suc (places_contents k notes)))
-  counted_desc (proxy interfaces notes parent) k = omega (arith, counted_contents notes k, counted_class parent (suc (places_contents k notes)))
+  counted_desc (plain name suid flags fields notes parent) k =
+      omega (arith, counted_contents notes k, counted_class parent (suc (places_contents k notes)))
+  counted_desc (proxy interfaces notes parent) k =
+      omega (arith, counted_contents notes k, counted_class parent (suc (places_contents k notes)))
 
   counted_class : (c : ClassPlaceTree) (k : ℕ) → places_class k c ≡ k + refs_in_class c
   counted_class no_class k = omega arith
@@ -38,7 +40,13 @@ mutual
   counted_sections : (ss : SectionTrees) (k : ℕ) → places_sections k ss ≡ k + refs_in_sections ss
   counted_sections no_sections k = omega arith
   counted_sections (section_and (section ps vs n) ss) k =
-      omega (arith, counted_values vs k, counted_notes n (places_values k vs), counted_sections ss (places_notes (places_values k vs) n))
+      omega (
+        arith,
+        counted_values vs k,
+        counted_notes n (places_values k vs),
+        counted_sections ss
+            (places_notes (places_values k vs) n),
+      )
 
   counted_notes : (n : NotesTree) (k : ℕ) → places_notes k n ≡ k + refs_in_notes n
   counted_notes no_notes k = omega arith
@@ -63,7 +71,8 @@ shows_type : (t : Option TextPlaceTree) (d : ℕ) (m : Moment) (rest : List Piec
 shows_type None d m rest = (refl, refl)
 shows_type (Some t) d m rest = shows_text t d m rest
 
-shows_fields : (fs : List FieldTree) (d : ℕ) (seen : Bool) (m : Moment) (rest : List Piece) → Shows (cut_fields d seen m fs rest) rest
+shows_fields : (fs : List FieldTree) (d : ℕ) (seen : Bool) (m : Moment) (rest : List Piece)
+    → Shows (cut_fields d seen m fs rest) rest
 shows_fields [] d seen m rest = (refl, refl)
 shows_fields (f ∷ fs) d seen m rest =
     let later = seen || is_object_code f.code in
@@ -79,12 +88,14 @@ shows_bytes : (b : List ℕ) (d : ℕ) (m : Moment) (rest : List Piece) → Show
 shows_bytes [] d m rest = (refl, refl)
 shows_bytes (x ∷ b) d m rest = (omega arith, omega arith)
 
-shows_raw : (elements : Option PrimCode) (ps : List PrimTree) (d : ℕ) (m : Moment) (rest : List Piece) → Shows (cut_raw d m elements ps rest) rest
+shows_raw : (elements : Option PrimCode) (ps : List PrimTree) (d : ℕ) (m : Moment) (rest : List Piece)
+    → Shows (cut_raw d m elements ps rest) rest
 shows_raw None ps d m rest = (refl, refl)
 shows_raw (Some c) [] d m rest = (refl, refl)
 shows_raw (Some c) (p ∷ ps) d m rest = (omega arith, omega arith)
 
-shows_prims : (cs : List PrimCode) (ps : List PrimTree) (d : ℕ) (m : Moment) (rest : List Piece) → Shows (cut_prims d m cs ps rest) rest
+shows_prims : (cs : List PrimCode) (ps : List PrimTree) (d : ℕ) (m : Moment) (rest : List Piece)
+    → Shows (cut_prims d m cs ps rest) rest
 shows_prims [] ps d m rest = (refl, refl)
 shows_prims (c ∷ cs) [] d m rest = (refl, refl)
 shows_prims (c ∷ cs) (p ∷ ps) d m rest = let r = shows_prims cs ps d m rest in (omega arith, omega arith)
@@ -112,7 +123,9 @@ mutual
   adds_value (array c b) d m rest h =
       let made = assign (past_class (tick m) c) other_entry in
       let elements = elements_of (chain_of_class m.table c) in
-      let q = adds_class c array_owner (suc d) (tick m) (at array_length_at (suc d) made (array_length_field (array_length b)) ∷ cut_body (suc d) made elements b rest) h.0 in
+      let q =
+      adds_class c array_owner (suc d) (tick m) (at array_length_at (suc d) made (array_length_field (array_length b))
+      ∷ cut_body (suc d) made elements b rest) h.0 in
       let r = adds_body b elements (suc d) made rest h.2 in
       (omega arith, omega (arith, counted_class c (suc m.places)))
   adds_value (enum_constant c t) d m rest h =
@@ -125,15 +138,20 @@ mutual
       let ch = chain_of_class m.table c in
       let behind = if is_external ch then cut_external (suc d) made ss rest else cut_sections (suc d) made ch ss rest in
       let q = adds_class c object_owner (suc d) (tick m) behind h.0 in
-      let r = adds_by_class (is_external ch) (WellFormedExternal made.table ss) (WellFormedSections made.table ss ch) (suc d) (depth_in_sections ss) made.places (places_sections made.places ss)
+      let r =
+      adds_by_class (is_external ch) (WellFormedExternal made.table ss) (WellFormedSections made.table ss ch) (suc d)
+      (depth_in_sections ss) made.places (places_sections made.places ss)
       (cut_external (suc d) made ss rest) (cut_sections (suc d) made ch ss rest) rest h.2
       (λ w. adds_external ss (suc d) made rest w) (λ w. adds_sections ss ch (suc d) made rest w) in (
-        max_two (suc d) d (depth_in_class c) (depth_in_sections ss) (deepest (cut_class object_owner (suc d) (tick m) c behind)) (deepest behind) (deepest rest) q.0 r.0,
-        max_more (suc m.places) (places_class (suc m.places) c) (places_sections (places_class (suc m.places) c) ss) (most_places (cut_class object_owner (suc d) (tick m) c behind))
+        max_two (suc d) d (depth_in_class c) (depth_in_sections ss) (deepest (cut_class object_owner (suc d) (tick m) c behind))
+            (deepest behind) (deepest rest) q.0 r.0,
+        max_more (suc m.places) (places_class (suc m.places) c) (places_sections (places_class (suc m.places) c) ss)
+            (most_places (cut_class object_owner (suc d) (tick m) c behind))
             (most_places behind) (most_places rest) (omega (arith, counted_class c (suc m.places))) q.1 r.1,
       )
     where
-      max_two : (D d x y p q r : ℕ) → max (suc d) p ≡ max (suc d + x) q → max (suc d) q ≡ max (suc d + y) r → max (suc d) p ≡ max (d + suc (max x y)) r
+      max_two : (D d x y p q r : ℕ) → max (suc d) p ≡ max (suc d + x) q → max (suc d) q ≡ max (suc d + y) r
+          → max (suc d) p ≡ max (d + suc (max x y)) r
       max_two D d x y p q r e f = omega arith
 
       max_more : (k l n p q r : ℕ) → k ≤ l → max k p ≡ max l q → max l q ≡ max n r → max k p ≡ max n r
@@ -163,17 +181,21 @@ mutual
       → Adds d (depth_in_class c) m.places (places_class m.places c) (cut_class owner d m c rest) rest
   adds_class no_class owner d m rest h = absurd h
   adds_class (back_class n) owner d m rest h = (omega arith, omega arith)
-  adds_class (new_class x) owner d m rest h = let r = adds_desc x (own_class (Some owner)) d m rest h in (omega arith, omega arith)
+  adds_class (new_class x) owner d m rest h =
+      let r = adds_desc x (own_class (Some owner)) d m rest h in (omega arith, omega arith)
 
   -- a superclass place within a place of depth d
-  adds_superclass : (c : ClassPlaceTree) (owner : ChainOwner) (strict : Bool) (d : ℕ) (m : Moment) (rest : List Piece) → WellFormedSuperclass m.table c
-      → Adds d (suc (depth_in_class c)) m.places (places_class (suc m.places) c) (cut_superclass owner strict (suc d) m c rest) rest
+  adds_superclass : (c : ClassPlaceTree) (owner : ChainOwner) (strict : Bool) (d : ℕ) (m : Moment) (rest : List Piece)
+      → WellFormedSuperclass m.table c
+      → Adds d (suc (depth_in_class c)) m.places (places_class (suc m.places) c)
+      (cut_superclass owner strict (suc d) m c rest) rest
   adds_superclass no_class owner strict d m rest h = (omega arith, omega arith)
   adds_superclass (back_class n) owner strict d m rest h = (omega arith, omega arith)
   adds_superclass (new_class x) owner strict d m rest h =
       let r = adds_desc x (superclass owner strict) (suc d) (tick m) rest h in (omega arith, omega arith)
 
-  adds_body : (b : BodyTree) (elements : Option PrimCode) (d : ℕ) (m : Moment) (rest : List Piece) → WellFormedBody m.table b elements
+  adds_body : (b : BodyTree) (elements : Option PrimCode) (d : ℕ) (m : Moment) (rest : List Piece)
+      → WellFormedBody m.table b elements
       → Adds d (depth_in_body b) m.places (places_body m.places b) (cut_body d m elements b rest) rest
   adds_body (raw_body ps) elements d m rest h = let r = shows_raw elements ps d m rest in (omega arith, omega arith)
   adds_body (value_body vs) None d m rest h = adds_values vs d m rest h.1
@@ -189,10 +211,12 @@ mutual
 
   adds_external : (ss : SectionTrees) (d : ℕ) (m : Moment) (rest : List Piece) → WellFormedExternal m.table ss
       → Adds d (depth_in_sections ss) m.places (places_sections m.places ss) (cut_external d m ss rest) rest
-  adds_external (section_and (section [] no_values (annotation notes)) no_sections) d m rest h = let r = adds_annotation notes d m rest h in (omega arith, r.1)
+  adds_external (section_and (section [] no_values (annotation notes)) no_sections) d m rest h =
+      let r = adds_annotation notes d m rest h in (omega arith, r.1)
   adds_external _ d m rest h = absurd h
 
-  adds_sections : (ss : SectionTrees) (chain : List Layer) (d : ℕ) (m : Moment) (rest : List Piece) → WellFormedSections m.table ss chain
+  adds_sections : (ss : SectionTrees) (chain : List Layer) (d : ℕ) (m : Moment) (rest : List Piece)
+      → WellFormedSections m.table ss chain
       → Adds d (depth_in_sections ss) m.places (places_sections m.places ss) (cut_sections d m chain ss rest) rest
   adds_sections no_sections [] d m rest h = (omega arith, omega arith)
   adds_sections no_sections (l ∷ ls) d m rest h = absurd h
@@ -225,7 +249,8 @@ mutual
       (omega arith, omega (arith, counted_value v m.places))
 
 adds_top : (cs : ContentTrees) (m : Moment) → WellFormedContents m.table cs
-    → (deepest (cut_top m cs []) ≡ depth_in_contents cs) × (max m.places (most_places (cut_top m cs [])) ≡ places_contents m.places cs)
+    → (deepest (cut_top m cs []) ≡ depth_in_contents cs)
+    × (max m.places (most_places (cut_top m cs [])) ≡ places_contents m.places cs)
 adds_top no_contents m h = (refl, omega arith)
 adds_top (content_and (block long b) cs) m h =
     let q = shows_bytes b 0 m (cut_top m cs []) in

@@ -10,7 +10,8 @@ use Rattle.jser_value.proofs.SameFields.{same_value, same_list}
 use Rattle.jser_value.proofs.FieldsAppend.{cut_value-append}
 
 -- one of two fronts of a list is a front of the other
-fronts : (a b x y : List ℕ) → a ++ x ≡ b ++ y → (((d : List ℕ) × (a ≡ b ++ d) × (y ≡ d ++ x)) ⊎ ((c : ℕ) × (d : List ℕ) × (b ≡ a ++ (c ∷ d))))
+fronts : (a b x y : List ℕ) → a ++ x ≡ b ++ y
+    → (((d : List ℕ) × (a ≡ b ++ d) × (y ≡ d ++ x)) ⊎ ((c : ℕ) × (d : List ℕ) × (b ≡ a ++ (c ∷ d))))
 fronts [] [] x y e = inl ([], refl, sym e)
 fronts [] (c ∷ b) x y e = inr (c, b, refl)
 fronts (c ∷ a) [] x y e = inl (c ∷ a, refl, sym e)
@@ -31,7 +32,8 @@ module _ (gate : FieldGate) (verdict : VerdictOn) (sc : IsScanner gate verdict) 
       → bytes_of f ++ x ≡ bytes_of g ++ y → (f ≡ g) × (x ≡ y)
   same_field l f g x y h hp k kp e = go (fronts (bytes_of f) (bytes_of g) x y e)
     where
-      go : (((d : List ℕ) × (bytes_of f ≡ bytes_of g ++ d) × (y ≡ d ++ x)) ⊎ ((c : ℕ) × (d : List ℕ) × (bytes_of g ≡ bytes_of f ++ (c ∷ d)))) → (f ≡ g) × (x ≡ y)
+      go : (((d : List ℕ) × (bytes_of f ≡ bytes_of g ++ d) × (y ≡ d ++ x))
+          ⊎ ((c : ℕ) × (d : List ℕ) × (bytes_of g ≡ bytes_of f ++ (c ∷ d)))) → (f ≡ g) × (x ≡ y)
       go (inl ([], e1, e2)) =
           let u = sc.is_good l f h hp in
           let w = sc.is_good l g k kp in
@@ -54,14 +56,16 @@ module _ (gate : FieldGate) (verdict : VerdictOn) (sc : IsScanner gate verdict) 
       go (c ∷ w) e k = cc
 
   -- a field that is let through, and another one, with bytes that begin alike
-  same_front_field : (l : Label) (f g : StreamField) (x y : List ℕ) → Accepts l f → IsTrue (gate l f) → Accepts l g → bytes_of f ++ x ≡ bytes_of g ++ y
+  same_front_field : (l : Label) (f g : StreamField) (x y : List ℕ) → Accepts l f → IsTrue (gate l f) → Accepts l g → bytes_of f
+      ++ x ≡ bytes_of g ++ y
       → (f ≡ g) × (x ≡ y)
   same_front_field l f g x y h hp k e = go (gate l g) refl
     where
       stopped : (p q : List ℕ) (r : ℕ) → bytes_of g ≡ p ++ q → verdict l p ≡ bad r → IsUndecided verdict l p → ⊥
       stopped p q r eg v u = cut (fronts (bytes_of f) p x (q ++ y) (e ∙ ap (λ z. z ++ y) eg ∙ append_assoc p q y))
         where
-          cut : (((d : List ℕ) × (bytes_of f ≡ p ++ d) × (q ++ y ≡ d ++ x)) ⊎ ((c : ℕ) × (d : List ℕ) × (p ≡ bytes_of f ++ (c ∷ d)))) → ⊥
+          cut : (((d : List ℕ) × (bytes_of f ≡ p ++ d) × (q ++ y ≡ d ++ x))
+              ⊎ ((c : ℕ) × (d : List ℕ) × (p ≡ bytes_of f ++ (c ∷ d)))) → ⊥
           cut (inl ([], e1, e2)) =
               let n : verdict l p ≡ good f = rw (← append-nil p, ← e1) (sc.is_good l f h hp) in
               cc
@@ -76,13 +80,17 @@ module _ (gate : FieldGate) (verdict : VerdictOn) (sc : IsScanner gate verdict) 
       go false kp = let z = sc.stops l g k kp in absurd (stopped z.0 z.1 z.2 z.3 z.4 z.5)
 
   -- fields that the machine takes, and whose bytes begin those of others that it reads, begin those
-  pub begin_pieces : (a b : List Piece) (s : State) (z : List ℕ) → Runs s a → Reads s b → AllPass gate a → joined a ++ z ≡ joined b
+  pub begin_pieces : (a b : List Piece) (s : State) (z : List ℕ) → Runs s a → Reads s b → AllPass gate a → joined a
+      ++ z ≡ joined b
       → (behind : List Piece) × (b ≡ a ++ behind)
   begin_pieces [] b s z h k ga e = (b, refl)
   begin_pieces (piece l f ∷ a) [] s z h k ga e =
-      absurd (some_bytes (label_of (settled s)) f (joined a ++ z) h.1 (rw (← h.0) ga.0) (sym (append_assoc (bytes_of f) (joined a) z) ∙ e))
+      absurd (some_bytes (label_of (settled s)) f (joined a
+      ++ z) h.1 (rw (← h.0) ga.0) (sym (append_assoc (bytes_of f) (joined a) z) ∙ e))
   begin_pieces (piece l f ∷ a) (piece l' g ∷ b) s z h k ga e =
-      let x = same_front_field (label_of (settled s)) f g (joined a ++ z) (joined b) h.1 (rw (← h.0) ga.0) k.1 (sym (append_assoc (bytes_of f) (joined a) z) ∙ e) in
+      let x =
+      same_front_field (label_of (settled s)) f g (joined a
+      ++ z) (joined b) h.1 (rw (← h.0) ga.0) k.1 (sym (append_assoc (bytes_of f) (joined a) z) ∙ e) in
       let k' : Reads (advance (settled s) f) b = rw x.0 k.2 in
       let r = begin_pieces a b (advance (settled s) f) z h.2 k' ga.1 x.1 in
       let fg : f ≡ g = x.0 in
@@ -91,9 +99,11 @@ module _ (gate : FieldGate) (verdict : VerdictOn) (sc : IsScanner gate verdict) 
       let q : b ≡ a ++ r.0 = r.1 in
       (r.0, cc)
 
-  pub same_pieces : (a b : List Piece) (s : State) → Reads s a → Reads s b → AllPass gate a → AllPass gate b → joined a ≡ joined b → a ≡ b
+  pub same_pieces : (a b : List Piece) (s : State) → Reads s a → Reads s b → AllPass gate a → AllPass gate b
+      → joined a ≡ joined b → a ≡ b
   same_pieces [] [] s h k ga gb e = refl
-  same_pieces [] (piece l f ∷ b) s h k ga gb e = absurd (some_bytes (label_of (settled s)) f (joined b) k.1 (rw (← k.0) gb.0) (sym e))
+  same_pieces [] (piece l f ∷ b) s h k ga gb e =
+      absurd (some_bytes (label_of (settled s)) f (joined b) k.1 (rw (← k.0) gb.0) (sym e))
   same_pieces (piece l f ∷ a) [] s h k ga gb e = absurd (some_bytes (label_of (settled s)) f (joined a) h.1 (rw (← h.0) ga.0) e)
   same_pieces (piece l f ∷ a) (piece l' g ∷ b) s h k ga gb e =
       let x = same_field (label_of (settled s)) f g (joined a) (joined b) h.1 (rw (← h.0) ga.0) k.1 (rw (← k.0) gb.0) e in
@@ -105,11 +115,13 @@ module _ (gate : FieldGate) (verdict : VerdictOn) (sc : IsScanner gate verdict) 
       cc
 
   -- two lists whose fields pass and have the same bytes are equal
-  pub same_by_bytes : (list other : ContentTrees) → WellFormed list → WellFormed other → AllPass gate (fields_of list) → AllPass gate (fields_of other)
+  pub same_by_bytes : (list other : ContentTrees) → WellFormed list → WellFormed other → AllPass gate (fields_of list)
+      → AllPass gate (fields_of other)
       → joined (fields_of list) ≡ joined (fields_of other) → list ≡ other
   same_by_bytes list other w w' g g' e =
       same_list list other w w'
-      (same_pieces (fields_of list) (fields_of other) begin_state ((exact_law (fields_of list)).1 (list, w, refl)) ((exact_law (fields_of other)).1 (other, w', refl)) g g' e)
+      (same_pieces (fields_of list) (fields_of other) begin_state ((exact_law (fields_of list)).1 (list, w, refl))
+      ((exact_law (fields_of other)).1 (other, w', refl)) g g' e)
 
   -- and so are two values, where the bytes of one begin those of the other
   pub same_value_by_bytes : (m : Moment) (v u : ValueTree) (rest : List ℕ) → WellFormedValue m.table v → WellFormedValue m.table u

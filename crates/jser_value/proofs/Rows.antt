@@ -25,14 +25,18 @@ abbrev object_field_of : List ℕ → List ℕ → FieldTree
 object_field_of name type = record { code = 0x4C; name = name; text = Some (new_text (short_text type)) }
 
 abbrev list_class : DescTree
-list_class = plain (codes "List") 0x69C88A154016AE68 2 (field_of 0x49 (codes "value") ∷ object_field_of (codes "next") (codes "LList;") ∷ []) no_contents no_class
+list_class =
+    plain (codes "List") 0x69C88A154016AE68 2
+    (field_of 0x49 (codes "value") ∷ object_field_of (codes "next") (codes "LList;") ∷ []) no_contents no_class
 
 -- two linked List objects, and a reference to the second
 abbrev pub linked_pair : ContentTrees
 linked_pair =
     content_and (content (object (new_class list_class)
     (section_and (section (int_value 0x11 ∷ [])
-    (value_and (object (back_class 0) (section_and (section (int_value 0x13 ∷ []) (value_and null no_values) no_notes) no_sections)) no_values) no_notes) no_sections)))
+    (value_and (object (back_class 0)
+    (section_and (section (int_value 0x13 ∷ [])
+    (value_and null no_values) no_notes) no_sections)) no_values) no_notes) no_sections)))
     (content_and (content (back 3)) no_contents)
 
 linked_pair_is_right : WellFormed linked_pair
@@ -67,14 +71,16 @@ linked_pair_bytes : spelling linked_pair ≡ 0xAC ∷ 0xED ∷ 0x00 ∷ 0x05 ∷
 unfolding unit_spelling
 linked_pair_bytes = refl
 
-linked_pair_counts : (content_count linked_pair ≡ 2) × (refs_of linked_pair ≡ 5) × (depth_of linked_pair ≡ 3) × (epoch_handles linked_pair ≡ 4 ∷ [])
+linked_pair_counts : (content_count linked_pair ≡ 2) × (refs_of linked_pair ≡ 5) × (depth_of linked_pair ≡ 3)
+    × (epoch_handles linked_pair ≡ 4 ∷ [])
 linked_pair_counts = (refl, refl, refl, refl)
 
 -- an externalizable class over a serializable one: one section, of notes alone
 abbrev pub external_over_serial : ContentTrees
 external_over_serial =
     content_and (content (object
-    (new_class (plain (codes "A") 1 0x0C [] no_contents (new_class (plain (codes "B") 2 2 (field_of 0x49 (codes "n") ∷ []) no_contents no_class))))
+    (new_class (plain (codes "A") 1 0x0C [] no_contents
+    (new_class (plain (codes "B") 2 2 (field_of 0x49 (codes "n") ∷ []) no_contents no_class))))
     (section_and (section [] no_values (annotation (content_and (block false (5 ∷ [])) no_contents))) no_sections)))
     no_contents
 
@@ -103,15 +109,18 @@ external_over_serial_bytes : spelling external_over_serial ≡ 0xAC ∷ 0xED ∷
 unfolding unit_spelling
 external_over_serial_bytes = refl
 
-external_over_serial_counts : (content_count external_over_serial ≡ 1) × (refs_of external_over_serial ≡ 3) × (depth_of external_over_serial ≡ 3) × (epoch_handles external_over_serial ≡ 3 ∷ [])
+external_over_serial_counts : (content_count external_over_serial ≡ 1) × (refs_of external_over_serial ≡ 3)
+    × (depth_of external_over_serial ≡ 3) × (epoch_handles external_over_serial ≡ 3 ∷ [])
 external_over_serial_counts = (refl, refl, refl, refl)
 
 -- superclass data first
 abbrev pub superclass_first : ContentTrees
 superclass_first =
     content_and (content (object
-    (new_class (plain (codes "B") 2 2 (field_of 0x49 (codes "i") ∷ []) no_contents (new_class (plain (codes "A") 1 3 (field_of 0x42 (codes "b") ∷ []) no_contents no_class))))
-    (section_and (section (byte_value 7 ∷ []) no_values (annotation no_contents)) (section_and (section (int_value 9 ∷ []) no_values no_notes) no_sections))))
+    (new_class (plain (codes "B") 2 2 (field_of 0x49 (codes "i") ∷ []) no_contents
+    (new_class (plain (codes "A") 1 3 (field_of 0x42 (codes "b") ∷ []) no_contents no_class))))
+    (section_and (section (byte_value 7 ∷ []) no_values (annotation no_contents))
+    (section_and (section (int_value 9 ∷ []) no_values no_notes) no_sections))))
     no_contents
 
 superclass_first_is_right : WellFormed superclass_first
@@ -139,14 +148,16 @@ superclass_first_bytes : spelling superclass_first ≡ 0xAC ∷ 0xED ∷ 0x00 �
 unfolding unit_spelling
 superclass_first_bytes = refl
 
-superclass_first_counts : (content_count superclass_first ≡ 1) × (refs_of superclass_first ≡ 3) × (depth_of superclass_first ≡ 3) × (epoch_handles superclass_first ≡ 3 ∷ [])
+superclass_first_counts : (content_count superclass_first ≡ 1) × (refs_of superclass_first ≡ 3)
+    × (depth_of superclass_first ≡ 3) × (epoch_handles superclass_first ≡ 3 ∷ [])
 superclass_first_counts = (refl, refl, refl, refl)
 
 -- an enum constant
 abbrev pub enum_constant_row : ContentTrees
 enum_constant_row =
     content_and (content (enum_constant
-    (new_class (plain (codes "E") 0 0x12 [] no_contents (new_class (plain (codes "java.lang.Enum") 0 0x12 [] no_contents no_class))))
+    (new_class (plain (codes "E") 0 0x12 [] no_contents
+    (new_class (plain (codes "java.lang.Enum") 0 0x12 [] no_contents no_class))))
     (new_text (short_text (codes "A")))))
     no_contents
 
@@ -175,7 +186,8 @@ enum_constant_row_bytes : spelling enum_constant_row ≡ 0xAC ∷ 0xED ∷ 0x00 
 unfolding unit_spelling
 enum_constant_row_bytes = refl
 
-enum_constant_row_counts : (content_count enum_constant_row ≡ 1) × (refs_of enum_constant_row ≡ 3) × (depth_of enum_constant_row ≡ 3) × (epoch_handles enum_constant_row ≡ 4 ∷ [])
+enum_constant_row_counts : (content_count enum_constant_row ≡ 1) × (refs_of enum_constant_row ≡ 3)
+    × (depth_of enum_constant_row ≡ 3) × (epoch_handles enum_constant_row ≡ 4 ∷ [])
 enum_constant_row_counts = (refl, refl, refl, refl)
 
 -- a proxy object: its superclass has the one field
@@ -191,7 +203,12 @@ proxy_row_is_right : WellFormed proxy_row
 unfolding unit_spelling
 proxy_row_is_right = (
   (
-    (lit< tt, (((refl, lit< tt), refl), tt), tt, (((refl, lit< tt), refl), lit< tt, (lit< tt, refl), lit< tt, ((refl, lit< tt), (refl, (refl, lit< tt)), tt), tt, tt)),
+    (
+      lit< tt,
+      (((refl, lit< tt), refl), tt),
+      tt,
+      (((refl, lit< tt), refl), lit< tt, (lit< tt, refl), lit< tt, ((refl, lit< tt), (refl, (refl, lit< tt)), tt), tt, tt),
+    ),
     refl,
     (tt, refl, (tt, tt), refl, (tt, refl, tt, refl, tt)),
   ),
@@ -206,7 +223,8 @@ proxy_row_bytes : spelling proxy_row ≡ 0xAC ∷ 0xED ∷ 0x00 ∷ 0x05 ∷ 0x7
 unfolding unit_spelling
 proxy_row_bytes = refl
 
-proxy_row_counts : (content_count proxy_row ≡ 1) × (refs_of proxy_row ≡ 4) × (depth_of proxy_row ≡ 3) × (epoch_handles proxy_row ≡ 4 ∷ [])
+proxy_row_counts : (content_count proxy_row ≡ 1) × (refs_of proxy_row ≡ 4) × (depth_of proxy_row ≡ 3)
+    × (epoch_handles proxy_row ≡ 4 ∷ [])
 proxy_row_counts = (refl, refl, refl, refl)
 
 -- a reset: the handles begin anew
@@ -224,34 +242,47 @@ reset_epochs_bytes : spelling reset_epochs ≡ 0xAC ∷ 0xED ∷ 0x00 ∷ 0x05 �
 unfolding unit_spelling
 reset_epochs_bytes = refl
 
-reset_epochs_counts : (content_count reset_epochs ≡ 4) × (refs_of reset_epochs ≡ 3) × (depth_of reset_epochs ≡ 1) × (epoch_handles reset_epochs ≡ 1 ∷ 1 ∷ [])
+reset_epochs_counts : (content_count reset_epochs ≡ 4) × (refs_of reset_epochs ≡ 3) × (depth_of reset_epochs ≡ 1)
+    × (epoch_handles reset_epochs ≡ 1 ∷ 1 ∷ [])
 reset_epochs_counts = (refl, refl, refl, refl)
 
 -- int[] {1, -1}
 abbrev pub int_array : ContentTrees
 int_array =
-    content_and (content (array (new_class (plain (codes "[I") 0x4DBA602676EAB2A5 2 [] no_contents no_class)) (raw_body (int_value 1 ∷ int_value 0xFFFFFFFF ∷ []))))
+    content_and (content (array
+    (new_class (plain (codes "[I") 0x4DBA602676EAB2A5 2 [] no_contents no_class))
+    (raw_body (int_value 1 ∷ int_value 0xFFFFFFFF ∷ []))))
     no_contents
 
 int_array_is_right : WellFormed int_array
 unfolding unit_spelling
-int_array_is_right = (((((refl, lit< tt), refl), lit< tt, (lit< tt, refl), lit< tt, tt, tt, tt), refl, (lit< tt, ((refl, lit< tt), ((refl, lit< tt), tt)))), tt)
+int_array_is_right = (
+  (
+    (((refl, lit< tt), refl), lit< tt, (lit< tt, refl), lit< tt, tt, tt, tt),
+    refl,
+    (lit< tt, ((refl, lit< tt), ((refl, lit< tt), tt))),
+  ),
+  tt,
+)
 
 int_array_bytes : spelling int_array ≡ 0xAC ∷ 0xED ∷ 0x00 ∷ 0x05 ∷ 0x75 ∷ 0x72 ∷ 0x00 ∷ 0x02 ∷ 0x5B ∷ 0x49 ∷ 0x4D ∷ 0xBA ∷ 0x60 ∷ 0x26 ∷ 0x76 ∷ 0xEA ∷ 0xB2 ∷ 0xA5 ∷ 0x02 ∷ 0x00
     ∷ 0x00 ∷ 0x78 ∷ 0x70 ∷ 0x00 ∷ 0x00 ∷ 0x00 ∷ 0x02 ∷ 0x00 ∷ 0x00 ∷ 0x00 ∷ 0x01 ∷ 0xFF ∷ 0xFF ∷ 0xFF ∷ 0xFF ∷ []
 unfolding unit_spelling
 int_array_bytes = refl
 
-int_array_counts : (content_count int_array ≡ 1) × (refs_of int_array ≡ 2) × (depth_of int_array ≡ 2) × (epoch_handles int_array ≡ 2 ∷ [])
+int_array_counts : (content_count int_array ≡ 1) × (refs_of int_array ≡ 2) × (depth_of int_array ≡ 2)
+    × (epoch_handles int_array ≡ 2 ∷ [])
 int_array_counts = (refl, refl, refl, refl)
 
 -- a java.util.ArrayList that holds "a": its writeObject puts block data and a value behind its field
 abbrev pub array_list : ContentTrees
 array_list =
     content_and (content (object
-    (new_class (plain (codes "java.util.ArrayList") 0x7881D21D99C7619D 3 (field_of 0x49 (codes "size") ∷ []) no_contents no_class))
+    (new_class (plain (codes "java.util.ArrayList") 0x7881D21D99C7619D 3
+    (field_of 0x49 (codes "size") ∷ []) no_contents no_class))
     (section_and (section (int_value 1 ∷ []) no_values
-    (annotation (content_and (block false (0 ∷ 0 ∷ 0 ∷ 1 ∷ [])) (content_and (content (string (short_text (codes "a")))) no_contents)))) no_sections)))
+    (annotation (content_and (block false (0 ∷ 0 ∷ 0 ∷ 1 ∷ []))
+    (content_and (content (string (short_text (codes "a")))) no_contents)))) no_sections)))
     no_contents
 
 array_list_is_right : WellFormed array_list
@@ -272,5 +303,6 @@ array_list_bytes : spelling array_list ≡ 0xAC ∷ 0xED ∷ 0x00 ∷ 0x05 ∷ 0
 unfolding unit_spelling
 array_list_bytes = refl
 
-array_list_counts : (content_count array_list ≡ 1) × (refs_of array_list ≡ 3) × (depth_of array_list ≡ 2) × (epoch_handles array_list ≡ 3 ∷ [])
+array_list_counts : (content_count array_list ≡ 1) × (refs_of array_list ≡ 3) × (depth_of array_list ≡ 2)
+    × (epoch_handles array_list ≡ 3 ∷ [])
 array_list_counts = (refl, refl, refl, refl)

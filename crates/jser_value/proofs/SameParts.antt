@@ -19,16 +19,20 @@ pub no_reference_text : (long : Bool) → tag_of_string long ≡ reference_tag �
 no_reference_text true e = cc
 no_reference_text false e = cc
 
-pub same_text_place : (t u : TextPlaceTree) (d : ℕ) (m : Moment) (x y : List Piece) → cut_text_place d m t x ≡ cut_text_place d m u y → (t ≡ u) × (x ≡ y)
+pub same_text_place : (t u : TextPlaceTree) (d : ℕ) (m : Moment) (x y : List Piece)
+    → cut_text_place d m t x ≡ cut_text_place d m u y → (t ≡ u) × (x ≡ y)
 same_text_place (new_text t) (new_text u) d m x y e =
     let el : t.long ≡ u.long = cc in
     let eu : t.units ≡ u.units = cc in
     (ap new_text (same_text t u el eu), cc)
 same_text_place (back_text a) (back_text b) d m x y e = (cc, cc)
-same_text_place (new_text t) (back_text b) d m x y e = let z : tag_of_string t.long ≡ reference_tag = cc in absurd (no_reference_text t.long z)
-same_text_place (back_text a) (new_text u) d m x y e = let z : reference_tag ≡ tag_of_string u.long = cc in absurd (no_reference_text u.long (sym z))
+same_text_place (new_text t) (back_text b) d m x y e =
+    let z : tag_of_string t.long ≡ reference_tag = cc in absurd (no_reference_text t.long z)
+same_text_place (back_text a) (new_text u) d m x y e =
+    let z : reference_tag ≡ tag_of_string u.long = cc in absurd (no_reference_text u.long (sym z))
 
-pub same_type : (t u : Option TextPlaceTree) (code : ℕ) (seen : Bool) (d : ℕ) (m : Moment) (x y : List Piece) → WellFormedType m.table seen code t → WellFormedType m.table seen code u
+pub same_type : (t u : Option TextPlaceTree) (code : ℕ) (seen : Bool) (d : ℕ) (m : Moment) (x y : List Piece)
+    → WellFormedType m.table seen code t → WellFormedType m.table seen code u
     → cut_type d m t x ≡ cut_type d m u y → (t ≡ u) × (x ≡ y)
 same_type None None code seen d m x y h k e = (refl, e)
 same_type (Some t) (Some u) code seen d m x y h k e = let q = same_text_place t u d m x y e in (ap (λ z. Some z) q.0, q.1)
@@ -36,7 +40,8 @@ same_type None (Some u) code seen d m x y h k e = both_ways (is_object_code code
 same_type (Some t) None code seen d m x y h k e = both_ways (is_object_code code) h.0 (not_object code k.0)
 
 pub same_fields : (fs gs : List FieldTree) (d : ℕ) (seen : Bool) (m : Moment) (x y : List Piece) → length fs ≡ length gs
-    → WellFormedFields m.table seen fs → WellFormedFields m.table seen gs → cut_fields d seen m fs x ≡ cut_fields d seen m gs y → (fs ≡ gs) × (x ≡ y)
+    → WellFormedFields m.table seen fs → WellFormedFields m.table seen gs → cut_fields d seen m fs x ≡ cut_fields d seen m gs y
+    → (fs ≡ gs) × (x ≡ y)
 same_fields [] [] d seen m x y l h k e = (refl, e)
 same_fields (f ∷ fs) (g ∷ gs) d seen m x y l h k e =
     let ec : f.code ≡ g.code = cc in
@@ -63,7 +68,8 @@ same_interfaces (n ∷ ns) (k ∷ ks) d m x y l e =
 same_interfaces [] (k ∷ ks) d m x y l e = absurd (omega arith)
 same_interfaces (n ∷ ns) [] d m x y l e = absurd (omega arith)
 
-pub same_bytes : (a b : List ℕ) (d : ℕ) (m : Moment) (x y : List Piece) → length a ≡ length b → cut_bytes d m a x ≡ cut_bytes d m b y → (a ≡ b) × (x ≡ y)
+pub same_bytes : (a b : List ℕ) (d : ℕ) (m : Moment) (x y : List Piece) → length a ≡ length b
+    → cut_bytes d m a x ≡ cut_bytes d m b y → (a ≡ b) × (x ≡ y)
 same_bytes [] [] d m x y l e = (refl, e)
 same_bytes (n ∷ a) (k ∷ b) d m x y l e = (cc, cc)
 same_bytes [] (k ∷ b) d m x y l e = absurd (omega arith)
@@ -76,7 +82,8 @@ same_raw c (p ∷ ps) (q ∷ qs) d m x y l e = (cc, cc)
 same_raw c [] (q ∷ qs) d m x y l e = absurd (omega arith)
 same_raw c (p ∷ ps) [] d m x y l e = absurd (omega arith)
 
-pub same_prims : (cs : List PrimCode) (ps qs : List PrimTree) (d : ℕ) (m : Moment) (x y : List Piece) → ArePrims cs ps → ArePrims cs qs
+pub same_prims : (cs : List PrimCode) (ps qs : List PrimTree) (d : ℕ) (m : Moment) (x y : List Piece) → ArePrims cs ps
+    → ArePrims cs qs
     → cut_prims d m cs ps x ≡ cut_prims d m cs qs y → (ps ≡ qs) × (x ≡ y)
 same_prims [] [] [] d m x y h k e = (refl, e)
 same_prims [] (p ∷ ps) qs d m x y h k e = absurd h
@@ -139,7 +146,8 @@ no_null_desc (plain name suid flags fields notes parent) e = cc
 no_null_desc (proxy interfaces notes parent) e = cc
 
 -- the sections of two objects of one class
-pub same_by_class : (external : Bool) (E S E' S' : Type 0) (ss zs : SectionTrees) (a b a' b' x y : List Piece) → MatchBool external E S → MatchBool external E' S'
+pub same_by_class : (external : Bool) (E S E' S' : Type 0) (ss zs : SectionTrees) (a b a' b' x y : List Piece)
+    → MatchBool external E S → MatchBool external E' S'
     → (if external then a else b) ≡ (if external then a' else b')
     → (E → E' → a ≡ a' → (ss ≡ zs) × (x ≡ y)) → (S → S' → b ≡ b' → (ss ≡ zs) × (x ≡ y)) → (ss ≡ zs) × (x ≡ y)
 same_by_class true E S E' S' ss zs a b a' b' x y h k e f g = f h k e

@@ -37,9 +37,18 @@ mutual
   grows_value (string t) T = grows_add T text_entry
   grows_value (descriptor x) T = grows_desc x T
   grows_value (class_object c) T = omega (arith, grows_class c T, grows_add (after_class T c) other_entry)
-  grows_value (array c b) T = omega (arith, grows_class c T, grows_add (after_class T c) other_entry, grows_body b (add (after_class T c) other_entry))
-  grows_value (enum_constant c t) T = omega (arith, grows_class c T, grows_add (after_class T c) other_entry, grows_text t (add (after_class T c) other_entry))
-  grows_value (object c ss) T = omega (arith, grows_class c T, grows_add (after_class T c) other_entry, grows_sections ss (add (after_class T c) other_entry))
+  grows_value (array c b) T =
+      omega (arith, grows_class c T, grows_add (after_class T c) other_entry, grows_body b (add (after_class T c) other_entry))
+  grows_value (enum_constant c t) T =
+      omega (arith, grows_class c T, grows_add (after_class T c) other_entry, grows_text t (add (after_class T c) other_entry))
+  grows_value (object c ss) T =
+      omega (
+        arith,
+        grows_class c T,
+        grows_add (after_class T c) other_entry,
+        grows_sections ss
+            (add (after_class T c) other_entry),
+      )
 
   pub grows_desc : (x : DescTree) (T : Entries) → length T ≤ length (after_desc T x)
   grows_desc (plain name suid flags fields notes parent) T =
@@ -52,7 +61,8 @@ mutual
         grows_fields fields opened,
         grows_contents notes behind,
         grows_class parent inside,
-        length-close (after_class inside parent) (length T) (chain_of_class inside parent ++ (plain_layer name flags fields ∷ [])),
+        length-close (after_class inside parent) (length T) (chain_of_class inside parent
+            ++ (plain_layer name flags fields ∷ [])),
       )
   grows_desc (proxy interfaces notes parent) T =
       let opened = add T pending_entry in
@@ -99,10 +109,12 @@ chain_at-after_desc (plain name suid flags fields notes parent) T =
     let opened = add T pending_entry in
     let behind = after_fields opened fields in
     let inside = after_contents behind notes in
-    ap chain_of (slice_get-slice_set (after_class inside parent) (length T) (closed_entry (chain_of_class inside parent ++ (plain_layer name flags fields ∷ [])))
+    ap chain_of (slice_get-slice_set (after_class inside parent) (length T) (closed_entry (chain_of_class inside parent
+    ++ (plain_layer name flags fields ∷ [])))
     (omega (arith, length-add T pending_entry, grows_fields fields opened, grows_contents notes behind, grows_class parent inside)))
 chain_at-after_desc (proxy interfaces notes parent) T =
     let opened = add T pending_entry in
     let inside = after_contents opened notes in
-    ap chain_of (slice_get-slice_set (after_class inside parent) (length T) (closed_entry (chain_of_class inside parent ++ (proxy_layer ∷ [])))
+    ap chain_of (slice_get-slice_set (after_class inside parent) (length T) (closed_entry (chain_of_class inside parent
+    ++ (proxy_layer ∷ [])))
     (omega (arith, length-add T pending_entry, grows_contents notes opened, grows_class parent inside)))

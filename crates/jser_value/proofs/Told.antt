@@ -12,9 +12,11 @@ use Rattle.jser_value.proofs.Reading.{begin_pieces}
 
 begins : (gate : FieldGate) (verdict : VerdictOn) → IsScanner gate verdict → (bytes cut : List ℕ) (front : List Piece)
     → Runs begin_state front → AllPass gate front → bytes ≡ joined front ++ cut
-    → (behind : List ℕ) (list : ContentTrees) → IsStreamOf (bytes ++ behind) list → (rest : List Piece) × (fields_of list ≡ front ++ rest)
+    → (behind : List ℕ) (list : ContentTrees) → IsStreamOf (bytes ++ behind) list → (rest : List Piece)
+    × (fields_of list ≡ front ++ rest)
 begins gate verdict sc bytes cut front r g e behind list (es, w) =
-    begin_pieces gate verdict sc front (fields_of list) begin_state (cut ++ behind) r ((exact_law (fields_of list)).1 (list, w, refl)) g
+    begin_pieces gate verdict sc front (fields_of list) begin_state (cut
+    ++ behind) r ((exact_law (fields_of list)).1 (list, w, refl)) g
     (sym (append_assoc (joined front) cut behind) ∙ ap (λ z. z ++ behind) (sym e) ∙ es ∙ sym (spelled_law list w))
 
 pub fields_told_law : FieldsAreTold

@@ -40,19 +40,23 @@ abbrev by_tag : Tag → ℕ
 by_tag tag = one_more_if (assigns_handle value_at (tag_field tag)) 0
 
 counts_new_text : (long : Bool) (units : List ℕ) (d : ℕ) (m : Moment) (rest : List Piece)
-    → Counts m (assign m text_entry) (at text_place_at d m (tag_field (tag_of_string long)) ∷ at (string_at long) d (assign m text_entry) (text_field long units) ∷ rest) rest
+    → Counts m (assign m text_entry) (at text_place_at d m (tag_field (tag_of_string long))
+    ∷ at (string_at long) d (assign m text_entry) (text_field long units) ∷ rest) rest
 counts_new_text true units d m rest = (refl, refl, omega (arith, length-add m.table text_entry))
 counts_new_text false units d m rest = (refl, refl, omega (arith, length-add m.table text_entry))
 
-counts_text : (t : TextPlaceTree) (d : ℕ) (m : Moment) (rest : List Piece) → Counts m (past_text m t) (cut_text_place d m t rest) rest
+counts_text : (t : TextPlaceTree) (d : ℕ) (m : Moment) (rest : List Piece)
+    → Counts m (past_text m t) (cut_text_place d m t rest) rest
 counts_text (new_text t) d m rest = counts_new_text t.long t.units d m rest
 counts_text (back_text n) d m rest = (refl, refl, refl)
 
-counts_type : (t : Option TextPlaceTree) (d : ℕ) (m : Moment) (rest : List Piece) → Counts m (past_type m t) (cut_type d m t rest) rest
+counts_type : (t : Option TextPlaceTree) (d : ℕ) (m : Moment) (rest : List Piece)
+    → Counts m (past_type m t) (cut_type d m t rest) rest
 counts_type None d m rest = (refl, refl, refl)
 counts_type (Some t) d m rest = counts_text t d m rest
 
-counts_fields : (fs : List FieldTree) (d : ℕ) (seen : Bool) (m : Moment) (rest : List Piece) → Counts m (past_fields m fs) (cut_fields d seen m fs rest) rest
+counts_fields : (fs : List FieldTree) (d : ℕ) (seen : Bool) (m : Moment) (rest : List Piece)
+    → Counts m (past_fields m fs) (cut_fields d seen m fs rest) rest
 counts_fields [] d seen m rest = (refl, refl, refl)
 counts_fields (f ∷ fs) d seen m rest =
     let later = seen || is_object_code f.code in
@@ -68,17 +72,20 @@ counts_bytes : (b : List ℕ) (d : ℕ) (m : Moment) (rest : List Piece) → Cou
 counts_bytes [] d m rest = (refl, refl, refl)
 counts_bytes (x ∷ b) d m rest = (refl, refl, refl)
 
-counts_raw : (elements : Option PrimCode) (ps : List PrimTree) (d : ℕ) (m : Moment) (rest : List Piece) → Counts m m (cut_raw d m elements ps rest) rest
+counts_raw : (elements : Option PrimCode) (ps : List PrimTree) (d : ℕ) (m : Moment) (rest : List Piece)
+    → Counts m m (cut_raw d m elements ps rest) rest
 counts_raw None ps d m rest = (refl, refl, refl)
 counts_raw (Some c) [] d m rest = (refl, refl, refl)
 counts_raw (Some c) (p ∷ ps) d m rest = (refl, refl, refl)
 
-counts_prims : (cs : List PrimCode) (ps : List PrimTree) (d : ℕ) (m : Moment) (rest : List Piece) → Counts m m (cut_prims d m cs ps rest) rest
+counts_prims : (cs : List PrimCode) (ps : List PrimTree) (d : ℕ) (m : Moment) (rest : List Piece)
+    → Counts m m (cut_prims d m cs ps rest) rest
 counts_prims [] ps d m rest = (refl, refl, refl)
 counts_prims (c ∷ cs) [] d m rest = (refl, refl, refl)
 counts_prims (c ∷ cs) (p ∷ ps) d m rest = counts_prims cs ps d m rest
 
-counts_by_class : (external : Bool) (E S : Type 0) (m m' : Moment) (a b rest : List Piece) → MatchBool external E S → (E → Counts m m' a rest) → (S → Counts m m' b rest)
+counts_by_class : (external : Bool) (E S : Type 0) (m m' : Moment) (a b rest : List Piece) → MatchBool external E S
+    → (E → Counts m m' a rest) → (S → Counts m m' b rest)
     → Counts m m' (if external then a else b) rest
 counts_by_class true E S m m' a b rest h f g = f h
 counts_by_class false E S m m' a b rest h f g = g h
@@ -86,7 +93,8 @@ counts_by_class false E S m m' a b rest h f g = g h
 -- tags of values and descriptors, by their position
 
 count_tag : (tag : Tag) (n : ℕ) → (one_more_if (assigns_handle top_at (tag_field tag)) n ≡ by_tag tag + n)
-    × (one_more_if (assigns_handle annotation_at (tag_field tag)) n ≡ by_tag tag + n) × (one_more_if (assigns_handle value_at (tag_field tag)) n ≡ by_tag tag + n)
+    × (one_more_if (assigns_handle annotation_at (tag_field tag)) n ≡ by_tag tag + n)
+    × (one_more_if (assigns_handle value_at (tag_field tag)) n ≡ by_tag tag + n)
 count_tag null_tag n = (omega arith, omega arith, omega arith)
 count_tag reference_tag n = (omega arith, omega arith, omega arith)
 count_tag class_desc_tag n = (omega arith, omega arith, omega arith)
@@ -102,7 +110,8 @@ count_string : (long : Bool) → by_tag (tag_of_string long) ≡ 1
 count_string true = refl
 count_string false = refl
 
-count_class_tag : (x : DescTree) (owner : Owner) (n : ℕ) → one_more_if (assigns_handle (class_place_at owner) (tag_field (tag_of_desc x))) n ≡ by_tag (tag_of_desc x) + n
+count_class_tag : (x : DescTree) (owner : Owner) (n : ℕ)
+    → one_more_if (assigns_handle (class_place_at owner) (tag_field (tag_of_desc x))) n ≡ by_tag (tag_of_desc x) + n
 count_class_tag (plain name suid flags fields notes parent) owner n = omega arith
 count_class_tag (proxy interfaces notes parent) owner n = omega arith
 
@@ -118,17 +127,22 @@ mutual
   counts_value : (v : ValueTree) (d : ℕ) (m : Moment) (rest : List Piece) → WellFormedValue m.table v
       → (contents_in (cut_value d m v rest) ≡ contents_in rest)
       × (suc m.places + places_in (cut_value d m v rest) ≡ places_value m.places v + places_in rest)
-      × (length m.table + by_tag (tag_of v) + handles_in (cut_value d m v rest) ≡ length (after_value m.table v) + handles_in rest)
+      × (length m.table + by_tag (tag_of v) + handles_in (cut_value d m v rest) ≡ length
+      (after_value m.table v) + handles_in rest)
   counts_value null d m rest h = (refl, refl, omega arith)
   counts_value (back n) d m rest h = (refl, refl, omega arith)
   counts_value (string t) d m rest h = (refl, refl, omega (arith, count_string t.long, length-add m.table text_entry))
   counts_value (descriptor x) d m rest h = let r = counts_desc x (own_class None) d (tick m) rest h in (r.0, r.1, omega arith)
   counts_value (class_object c) d m rest h =
-      let r = counts_class c class_owner d (tick m) rest h in (r.0, r.1, omega (arith, length-add (after_class m.table c) other_entry))
+      let r =
+      counts_class c class_owner d (tick m) rest h in
+      (r.0, r.1, omega (arith, length-add (after_class m.table c) other_entry))
   counts_value (array c b) d m rest h =
       let made = assign (past_class (tick m) c) other_entry in
       let elements = elements_of (chain_of_class m.table c) in
-      let q = counts_class c array_owner d (tick m) (at array_length_at d made (array_length_field (array_length b)) ∷ cut_body d made elements b rest) h.0 in
+      let q =
+      counts_class c array_owner d (tick m) (at array_length_at d made (array_length_field (array_length b))
+      ∷ cut_body d made elements b rest) h.0 in
       let r = counts_body b elements d made rest h.2 in
       (q.0 ∙ r.0, q.1 ∙ r.1, omega (arith, length-add (after_class m.table c) other_entry))
   counts_value (enum_constant c t) d m rest h =
@@ -141,12 +155,15 @@ mutual
       let ch = chain_of_class m.table c in
       let behind = if is_external ch then cut_external d made ss rest else cut_sections d made ch ss rest in
       let q = counts_class c object_owner d (tick m) behind h.0 in
-      let r = counts_by_class (is_external ch) (WellFormedExternal made.table ss) (WellFormedSections made.table ss ch) made (past_sections made ss)
+      let r =
+      counts_by_class (is_external ch) (WellFormedExternal made.table ss) (WellFormedSections made.table ss ch) made
+      (past_sections made ss)
       (cut_external d made ss rest) (cut_sections d made ch ss rest) rest h.2
       (λ w. counts_external ss d made rest w) (λ w. counts_sections ss ch d made rest w) in (
         q.0 ∙ r.0,
         q.1 ∙ r.1,
-        joins (length m.table) (length (after_class m.table c)) (length made.table) (length (after_sections made.table ss)) (handles_in (cut_class object_owner d (tick m) c behind))
+        joins (length m.table) (length (after_class m.table c)) (length made.table) (length (after_sections made.table ss))
+            (handles_in (cut_class object_owner d (tick m) c behind))
             (handles_in behind) (handles_in rest) q.2 (length-add (after_class m.table c) other_entry) r.2,
       )
     where
@@ -156,7 +173,8 @@ mutual
   counts_desc : (x : DescTree) (role : Role) (d : ℕ) (m : Moment) (rest : List Piece) → WellFormedDesc m.table x
       → (contents_in (cut_desc role d m x rest) ≡ contents_in rest)
       × (m.places + places_in (cut_desc role d m x rest) ≡ places_desc m.places x + places_in rest)
-      × (length m.table + by_tag (tag_of_desc x) + handles_in (cut_desc role d m x rest) ≡ length (after_desc m.table x) + owned (owner_of role) + handles_in rest)
+      × (length m.table + by_tag (tag_of_desc x) + handles_in (cut_desc role d m x rest) ≡ length (after_desc m.table x) + owned
+      (owner_of role) + handles_in rest)
   counts_desc (plain name suid flags fields notes parent) role d m rest h =
       let m1 = assign m pending_entry in
       let m2 = past_fields m1 fields in
@@ -170,7 +188,8 @@ mutual
         omega (
           arith,
           length-add m.table pending_entry,
-          length-close (after_class m3.table parent) (length m.table) (chain_of_class m3.table parent ++ (plain_layer name flags fields ∷ [])),
+          length-close (after_class m3.table parent) (length m.table) (chain_of_class m3.table parent
+              ++ (plain_layer name flags fields ∷ [])),
         ),
       )
   counts_desc (proxy interfaces notes parent) role d m rest h =
@@ -197,23 +216,30 @@ mutual
       let r = counts_desc x (own_class (Some owner)) d m rest h in
       (r.0, r.1, omega (arith, count_class_tag x owner (handles_in (cut_desc (own_class (Some owner)) d m x rest))))
 
-  counts_superclass : (c : ClassPlaceTree) (owner : ChainOwner) (strict : Bool) (d : ℕ) (m : Moment) (rest : List Piece) → WellFormedSuperclass m.table c
+  counts_superclass : (c : ClassPlaceTree) (owner : ChainOwner) (strict : Bool) (d : ℕ) (m : Moment) (rest : List Piece)
+      → WellFormedSuperclass m.table c
       → CountsOwned owner m (past_class (tick m) c) (cut_superclass owner strict d m c rest) rest
   counts_superclass no_class None strict d m rest h = (refl, omega arith, omega arith)
   counts_superclass no_class (Some owner) strict d m rest h = (refl, omega arith, omega arith)
   counts_superclass (back_class n) None strict d m rest h = (refl, omega arith, omega arith)
   counts_superclass (back_class n) (Some owner) strict d m rest h = (refl, omega arith, omega arith)
   counts_superclass (new_class x) owner strict d m rest h =
-      let r = counts_desc x (superclass owner strict) d (tick m) rest h in
-      (r.0, omega arith, omega (arith, count_superclass_tag x owner strict (handles_in (cut_desc (superclass owner strict) d (tick m) x rest))))
+      let r = counts_desc x (superclass owner strict) d (tick m) rest h in (
+        r.0,
+        omega arith,
+        omega
+            (arith, count_superclass_tag x owner strict (handles_in (cut_desc (superclass owner strict) d (tick m) x rest))),
+      )
 
-  counts_body : (b : BodyTree) (elements : Option PrimCode) (d : ℕ) (m : Moment) (rest : List Piece) → WellFormedBody m.table b elements
+  counts_body : (b : BodyTree) (elements : Option PrimCode) (d : ℕ) (m : Moment) (rest : List Piece)
+      → WellFormedBody m.table b elements
       → Counts m (past_body m b) (cut_body d m elements b rest) rest
   counts_body (raw_body ps) elements d m rest h = counts_raw elements ps d m rest
   counts_body (value_body vs) None d m rest h = counts_values vs d m rest h.1
   counts_body (value_body vs) (Some c) d m rest h = absurd h
 
-  counts_values : (vs : ValueTrees) (d : ℕ) (m : Moment) (rest : List Piece) → WellFormedValues m.table vs → Counts m (past_values m vs) (cut_values d m vs rest) rest
+  counts_values : (vs : ValueTrees) (d : ℕ) (m : Moment) (rest : List Piece) → WellFormedValues m.table vs
+      → Counts m (past_values m vs) (cut_values d m vs rest) rest
   counts_values no_values d m rest h = (refl, refl, refl)
   counts_values (value_and v vs) d m rest h =
       let q = counts_value v (suc d) m (cut_values d (past_value m v) vs rest) h.0 in
@@ -221,11 +247,14 @@ mutual
       let t = (count_tag (tag_of v) (handles_in (cut_value (suc d) m v (cut_values d (past_value m v) vs rest)))).2 in
       (q.0 ∙ r.0, omega arith, omega arith)
 
-  counts_external : (ss : SectionTrees) (d : ℕ) (m : Moment) (rest : List Piece) → WellFormedExternal m.table ss → Counts m (past_sections m ss) (cut_external d m ss rest) rest
-  counts_external (section_and (section [] no_values (annotation notes)) no_sections) d m rest h = counts_annotation notes d m rest h
+  counts_external : (ss : SectionTrees) (d : ℕ) (m : Moment) (rest : List Piece) → WellFormedExternal m.table ss
+      → Counts m (past_sections m ss) (cut_external d m ss rest) rest
+  counts_external (section_and (section [] no_values (annotation notes)) no_sections) d m rest h =
+      counts_annotation notes d m rest h
   counts_external _ d m rest h = absurd h
 
-  counts_sections : (ss : SectionTrees) (chain : List Layer) (d : ℕ) (m : Moment) (rest : List Piece) → WellFormedSections m.table ss chain
+  counts_sections : (ss : SectionTrees) (chain : List Layer) (d : ℕ) (m : Moment) (rest : List Piece)
+      → WellFormedSections m.table ss chain
       → Counts m (past_sections m ss) (cut_sections d m chain ss rest) rest
   counts_sections no_sections [] d m rest h = (refl, refl, refl)
   counts_sections no_sections (l ∷ ls) d m rest h = absurd h
@@ -240,11 +269,13 @@ mutual
       let r = counts_sections ss ls d m2 rest h.4 in
       (p.0 ∙ q.0 ∙ w.0 ∙ r.0, p.1 ∙ q.1 ∙ w.1 ∙ r.1, p.2 ∙ q.2 ∙ w.2 ∙ r.2)
 
-  counts_notes : (n : NotesTree) (expected : Bool) (d : ℕ) (m : Moment) (rest : List Piece) → WellFormedNotesIf m.table n expected → Counts m (past_notes m n) (cut_notes d m n rest) rest
+  counts_notes : (n : NotesTree) (expected : Bool) (d : ℕ) (m : Moment) (rest : List Piece)
+      → WellFormedNotesIf m.table n expected → Counts m (past_notes m n) (cut_notes d m n rest) rest
   counts_notes no_notes expected d m rest h = (refl, refl, refl)
   counts_notes (annotation cs) expected d m rest h = counts_annotation cs d m rest h.1
 
-  counts_annotation : (cs : ContentTrees) (d : ℕ) (m : Moment) (rest : List Piece) → WellFormedNotes m.table cs → Counts m (past_contents m cs) (cut_annotation d m cs rest) rest
+  counts_annotation : (cs : ContentTrees) (d : ℕ) (m : Moment) (rest : List Piece) → WellFormedNotes m.table cs
+      → Counts m (past_contents m cs) (cut_annotation d m cs rest) rest
   counts_annotation no_contents d m rest h = (refl, refl, refl)
   counts_annotation (content_and (block long b) cs) d m rest h =
       let q = counts_bytes b d m (cut_annotation d m cs rest) in

@@ -26,29 +26,37 @@ resettle [] s t e h = rw (← e) h
 resettle (piece label field ∷ rest) s t e h = rw (← e) h
 
 pub reads_made : (owner : Owner) (d number : ℕ) (m : Moment) (gs : List Goal) (rest : List Piece)
-    → Reads (assign m other_entry, owner_goals owner d (chain_at m.table number) gs) rest → Reads (m, made_goal owner d number ∷ gs) rest
+    → Reads (assign m other_entry, owner_goals owner d (chain_at m.table number) gs) rest
+    → Reads (m, made_goal owner d number ∷ gs) rest
 reads_made object_owner d number m gs rest k =
-    resettle rest (assign m other_entry, owner_goals object_owner d (chain_at m.table number) gs) (m, made_goal object_owner d number ∷ gs) refl k
+    resettle rest (assign m other_entry, owner_goals object_owner d (chain_at m.table number) gs)
+    (m, made_goal object_owner d number ∷ gs) refl k
 reads_made array_owner d number m gs rest k =
-    resettle rest (assign m other_entry, owner_goals array_owner d (chain_at m.table number) gs) (m, made_goal array_owner d number ∷ gs) refl k
+    resettle rest (assign m other_entry, owner_goals array_owner d (chain_at m.table number) gs)
+    (m, made_goal array_owner d number ∷ gs) refl k
 reads_made enum_owner d number m gs rest k =
-    resettle rest (assign m other_entry, owner_goals enum_owner d (chain_at m.table number) gs) (m, made_goal enum_owner d number ∷ gs) refl k
-reads_made class_owner d number m gs rest k = resettle rest (assign m other_entry, gs) (m, made_goal class_owner d number ∷ gs) refl k
+    resettle rest (assign m other_entry, owner_goals enum_owner d (chain_at m.table number) gs)
+    (m, made_goal enum_owner d number ∷ gs) refl k
+reads_made class_owner d number m gs rest k =
+    resettle rest (assign m other_entry, gs) (m, made_goal class_owner d number ∷ gs) refl k
 
 -- texts, fields and interfaces
 
-reads_string : (long : Bool) (units : List ℕ) (d : ℕ) (m : Moment) (gs : List Goal) (rest : List Piece) → IsText long units → Reads (m, gs) rest
+reads_string : (long : Bool) (units : List ℕ) (d : ℕ) (m : Moment) (gs : List Goal) (rest : List Piece) → IsText long units
+    → Reads (m, gs) rest
     → Reads (m, string_goal long d ∷ gs) (at (string_at long) d m (text_field long units) ∷ rest)
 reads_string true units d m gs rest h k = (refl, h, k)
 reads_string false units d m gs rest h k = (refl, h, k)
 
 reads_new_text : (long : Bool) (units : List ℕ) (d : ℕ) (m : Moment) (gs : List Goal) (rest : List Piece) → IsText long units
     → Reads (assign m text_entry, gs) rest
-    → Reads (m, text_place_goal d ∷ gs) (at text_place_at d m (tag_field (tag_of_string long)) ∷ at (string_at long) d (assign m text_entry) (text_field long units) ∷ rest)
+    → Reads (m, text_place_goal d ∷ gs) (at text_place_at d m (tag_field (tag_of_string long))
+    ∷ at (string_at long) d (assign m text_entry) (text_field long units) ∷ rest)
 reads_new_text true units d m gs rest h k = (refl, tt, (refl, h, k))
 reads_new_text false units d m gs rest h k = (refl, tt, (refl, h, k))
 
-pub reads_text_place : (t : TextPlaceTree) (d : ℕ) (m : Moment) (gs : List Goal) (rest : List Piece) → WellFormedText m.table t → Reads (past_text m t, gs) rest
+pub reads_text_place : (t : TextPlaceTree) (d : ℕ) (m : Moment) (gs : List Goal) (rest : List Piece) → WellFormedText m.table t
+    → Reads (past_text m t, gs) rest
     → Reads (m, text_place_goal d ∷ gs) (cut_text_place d m t rest)
 reads_text_place (new_text t) d m gs rest h k = reads_new_text t.long t.units d m gs rest h k
 reads_text_place (back_text n) d m gs rest h k = (refl, tt, (refl, h, k))
@@ -63,7 +71,8 @@ not_object code h = go (nat_eq code 0x5B) (nat_eq code 0x4C) refl refl
     go false false ex ey = rw (ex, ey) refl
 
 -- the code, and the type text that it asks for
-reads_type : (t : Option TextPlaceTree) (object : Bool) (seen : Bool) (code : ℕ) (d : ℕ) (m : Moment) (gs : List Goal) (rest : List Piece)
+reads_type : (t : Option TextPlaceTree) (object : Bool) (seen : Bool) (code : ℕ) (d : ℕ) (m : Moment) (gs : List Goal)
+    (rest : List Piece)
     → is_object_code code ≡ object → WellFormedType m.table seen code t → Reads (past_type m t, gs) rest
     → Reads (m, type_goals object d gs) (cut_type d m t rest)
 reads_type None false seen code d m gs rest e h k = k
@@ -71,16 +80,23 @@ reads_type None true seen code d m gs rest e h k = both_ways (is_object_code cod
 reads_type (Some t) true seen code d m gs rest e h k = reads_text_place t d m gs rest h.1 k
 reads_type (Some t) false seen code d m gs rest e h k = both_ways (is_object_code code) h.0 e
 
-pub follows : (t : Option TextPlaceTree) (T : Entries) (seen : Bool) (code : ℕ) → WellFormedType T seen code t → IsTrue (may_follow seen code)
+pub follows : (t : Option TextPlaceTree) (T : Entries) (seen : Bool) (code : ℕ) → WellFormedType T seen code t
+    → IsTrue (may_follow seen code)
 follows None T seen code h = rw (not_object code h.0, h.0, h.1) refl
 follows (Some t) T seen code h = rw h.0 refl
 
-reads_fields : (fs : List FieldTree) (role : Role) (d number : ℕ) (kind : NameKind) (flags : ℕ) (seen : Bool) (codes : List ℕ) (m : Moment) (gs : List Goal) (rest : List Piece)
+reads_fields : (fs : List FieldTree) (role : Role) (d number : ℕ) (kind : NameKind) (flags : ℕ) (seen : Bool) (codes : List ℕ)
+    (m : Moment) (gs : List Goal) (rest : List Piece)
     → WellFormedFields m.table seen fs
-    → Reads (past_fields m fs, ending role d number flags (record { kind = layer_kind kind; flags = flags; codes = in_order codes (codes_of fs) }) gs) rest
+    → Reads (
+      past_fields m fs,
+      ending role d number flags
+          (record { kind = layer_kind kind; flags = flags; codes = in_order codes (codes_of fs) }) gs,
+    ) rest
     → Reads (m, fields_goal role d number kind flags seen codes (length fs) ∷ gs) (cut_fields d seen m fs rest)
 reads_fields [] role d number kind flags seen codes m gs rest h k =
-    resettle rest (m, ending role d number flags (read_layer kind flags codes) gs) (m, fields_goal role d number kind flags seen codes 0 ∷ gs) refl k
+    resettle rest (m, ending role d number flags (read_layer kind flags codes) gs)
+    (m, fields_goal role d number kind flags seen codes 0 ∷ gs) refl k
 reads_fields (f ∷ fs) role d number kind flags seen codes m gs rest h k =
     let later = seen || is_object_code f.code in (
       refl,
@@ -88,7 +104,8 @@ reads_fields (f ∷ fs) role d number kind flags seen codes m gs rest h k =
       (
         refl,
         h.0,
-        reads_type f.text (is_object_code f.code) seen f.code d m (fields_goal role d number kind flags later (f.code ∷ codes) (length fs) ∷ gs)
+        reads_type f.text (is_object_code f.code) seen f.code d m
+            (fields_goal role d number kind flags later (f.code ∷ codes) (length fs) ∷ gs)
             (cut_fields d later (past_type m f.text) fs rest) refl h.1
             (reads_fields fs role d number kind flags later (f.code ∷ codes) (past_type m f.text) gs rest h.2 k),
       ),
@@ -97,7 +114,8 @@ reads_fields (f ∷ fs) role d number kind flags seen codes m gs rest h k =
 reads_interfaces : (names : List (List ℕ)) (role : Role) (d number : ℕ) (m : Moment) (gs : List Goal) (rest : List Piece)
     → AreClassNames names → Reads (m, ending role d number 0 proxy_layer gs) rest
     → Reads (m, interfaces_goal role d number (length names) ∷ gs) (cut_interfaces d m names rest)
-reads_interfaces [] role d number m gs rest h k = resettle rest (m, ending role d number 0 proxy_layer gs) (m, interfaces_goal role d number 0 ∷ gs) refl k
+reads_interfaces [] role d number m gs rest h k =
+    resettle rest (m, ending role d number 0 proxy_layer gs) (m, interfaces_goal role d number 0 ∷ gs) refl k
 reads_interfaces (name ∷ names) role d number m gs rest h k = (refl, h.0, reads_interfaces names role d number m gs rest h.1 k)
 
 -- raw bytes and raw values
@@ -107,17 +125,21 @@ reads_bytes : (bytes : List ℕ) (d : ℕ) (m : Moment) (gs : List Goal) (rest :
 reads_bytes [] d m gs rest h k = resettle rest (m, gs) (m, block_goal d 0 ∷ gs) refl k
 reads_bytes (b ∷ bs) d m gs rest h k = (refl, (h, refl), k)
 
-pub reads_block : (long : Bool) (bytes : List ℕ) (d : ℕ) (m : Moment) (gs : List Goal) (rest : List Piece) → IsBlock long bytes → Reads (m, gs) rest
-    → Reads (m, block_length_goal long d ∷ gs) (at (block_length_at long) d m (block_length_field long (length bytes)) ∷ cut_bytes d m bytes rest)
+pub reads_block : (long : Bool) (bytes : List ℕ) (d : ℕ) (m : Moment) (gs : List Goal) (rest : List Piece) → IsBlock long bytes
+    → Reads (m, gs) rest
+    → Reads (m, block_length_goal long d ∷ gs) (at (block_length_at long) d m (block_length_field long (length bytes))
+    ∷ cut_bytes d m bytes rest)
 reads_block true bytes d m gs rest h k = (refl, h.1, reads_bytes bytes d m gs rest h.0 k)
 reads_block false bytes d m gs rest h k = (refl, h.1, reads_bytes bytes d m gs rest h.0 k)
 
-reads_raw : (c : PrimCode) (ps : List PrimTree) (d : ℕ) (m : Moment) (gs : List Goal) (rest : List Piece) → ArePrimsOf c ps → Reads (m, gs) rest
+reads_raw : (c : PrimCode) (ps : List PrimTree) (d : ℕ) (m : Moment) (gs : List Goal) (rest : List Piece) → ArePrimsOf c ps
+    → Reads (m, gs) rest
     → Reads (m, parts_goal d (raw_part c (length ps) ∷ []) ∷ gs) (cut_raw d m (Some c) ps rest)
 reads_raw c [] d m gs rest h k = resettle rest (m, gs) (m, parts_goal d (raw_part c 0 ∷ []) ∷ gs) refl k
 reads_raw c (p ∷ ps) d m gs rest h k = (refl, (refl, h), resettle rest (m, gs) (m, parts_goal d [] ∷ gs) refl k)
 
-reads_prims : (cs : List PrimCode) (ps : List PrimTree) (parts : List Part) (d : ℕ) (m : Moment) (gs : List Goal) (rest : List Piece) → ArePrims cs ps
+reads_prims : (cs : List PrimCode) (ps : List PrimTree) (parts : List Part) (d : ℕ) (m : Moment) (gs : List Goal)
+    (rest : List Piece) → ArePrims cs ps
     → Reads (m, parts_goal d parts ∷ gs) rest → Reads (m, parts_goal d (prim_parts cs parts) ∷ gs) (cut_prims d m cs ps rest)
 reads_prims [] [] parts d m gs rest h k = k
 reads_prims [] (p ∷ ps) parts d m gs rest h k = absurd h
@@ -126,26 +148,31 @@ reads_prims (c ∷ cs) (p ∷ ps) parts d m gs rest h k = (refl, (refl, (h.0, tt
 
 -- the tag of a descriptor
 
-enter_value : (x : DescTree) (d : ℕ) (m : Moment) (gs : List Goal) (rest : List Piece) → Reads (desc_state (own_class None) d (tick m) x gs) rest
+enter_value : (x : DescTree) (d : ℕ) (m : Moment) (gs : List Goal) (rest : List Piece)
+    → Reads (desc_state (own_class None) d (tick m) x gs) rest
     → Reads (begin d m (tag_of_desc x) gs) rest
 enter_value (plain name suid flags fields notes parent) d m gs rest k = k
 enter_value (proxy interfaces notes parent) d m gs rest k = k
 
-enter_class : (x : DescTree) (owner : Owner) (d : ℕ) (m : Moment) (gs : List Goal) (rest : List Piece) → FitsOwner owner (chain_of_desc m.table x)
+enter_class : (x : DescTree) (owner : Owner) (d : ℕ) (m : Moment) (gs : List Goal) (rest : List Piece)
+    → FitsOwner owner (chain_of_desc m.table x)
     → Reads (desc_state (own_class (Some owner)) d m x (made_goal owner d (next_number m) ∷ gs)) rest
     → Reads (m, class_goal owner d ∷ gs) (at (class_place_at owner) d m (tag_field (tag_of_desc x)) ∷ rest)
 enter_class (plain name suid flags fields notes parent) owner d m gs rest f k = (refl, tt, k)
 enter_class (proxy interfaces notes parent) owner d m gs rest f k =
     (refl, proxy_fits_of (own_class (Some owner)) (chain_of_class (after_contents (add m.table pending_entry) notes) parent) f, k)
 
-enter_superclass : (x : DescTree) (owner : ChainOwner) (strict : Bool) (d number : ℕ) (l : Layer) (m : Moment) (gs : List Goal) (rest : List Piece)
+enter_superclass : (x : DescTree) (owner : ChainOwner) (strict : Bool) (d number : ℕ) (l : Layer) (m : Moment) (gs : List Goal)
+    (rest : List Piece)
     → Reads (desc_state (superclass owner strict) d (tick m) x (close_goal number (next_number m) l ∷ gs)) rest
-    → Reads (m, superclass_goal owner strict d number l ∷ gs) (at (superclass_place_at owner strict) d m (tag_field (tag_of_desc x)) ∷ rest)
+    → Reads (m, superclass_goal owner strict d number l ∷ gs)
+    (at (superclass_place_at owner strict) d m (tag_field (tag_of_desc x)) ∷ rest)
 enter_superclass (plain name suid flags fields notes parent) owner strict d number l m gs rest k = (refl, tt, k)
 enter_superclass (proxy interfaces notes parent) owner strict d number l m gs rest k = (refl, tt, k)
 
 -- an externalizable class has one section, of notes alone; any other one for each layer
-reads_object : (external : Bool) (E S : Type 0) (chain : List Layer) (d : ℕ) (m : Moment) (gs : List Goal) (x y : List Piece) → MatchBool external E S
+reads_object : (external : Bool) (E S : Type 0) (chain : List Layer) (d : ℕ) (m : Moment) (gs : List Goal) (x y : List Piece)
+    → MatchBool external E S
     → (E → Reads (m, parts_goal d (annotation_part ∷ []) ∷ gs) x) → (S → Reads (m, parts_goal d (section_parts chain) ∷ gs) y)
     → Reads (m, parts_goal d (object_parts external chain) ∷ gs) (if external then x else y)
 reads_object true E S chain d m gs x y h f g = f h
@@ -159,7 +186,8 @@ mutual
   reads_value (string t) d m gs rest h k = begin_string t.long t.units h k
     where
       begin_string : (long : Bool) (units : List ℕ) → IsText long units → Reads (assign (tick m) text_entry, gs) rest
-          → Reads (begin d m (tag_of_string long) gs) (at (string_at long) d (assign (tick m) text_entry) (text_field long units) ∷ rest)
+          → Reads (begin d m (tag_of_string long) gs)
+          (at (string_at long) d (assign (tick m) text_entry) (text_field long units) ∷ rest)
       begin_string true units a b = (refl, a, b)
       begin_string false units a b = (refl, a, b)
   reads_value (descriptor x) d m gs rest h k =
@@ -168,7 +196,8 @@ mutual
   reads_value (array c b) d m gs rest h k =
       let made = assign (past_class (tick m) c) other_entry in
       let chain = chain_of_class m.table c in
-      reads_class c array_owner d (tick m) gs (at array_length_at d made (array_length_field (array_length b)) ∷ cut_body d made (elements_of chain) b rest) h.0 h.1
+      reads_class c array_owner d (tick m) gs (at array_length_at d made (array_length_field (array_length b))
+      ∷ cut_body d made (elements_of chain) b rest) h.0 h.1
       (reads_body b (elements_of chain) d made gs rest h.2 k)
   reads_value (enum_constant c t) d m gs rest h k =
       let made = assign (past_class (tick m) c) other_entry in
@@ -176,8 +205,11 @@ mutual
   reads_value (object c ss) d m gs rest h k =
       let made = assign (past_class (tick m) c) other_entry in
       let chain = chain_of_class m.table c in
-      reads_class c object_owner d (tick m) gs (if is_external chain then cut_external d made ss rest else cut_sections d made chain ss rest) h.0 h.1
-      (reads_object (is_external chain) (WellFormedExternal made.table ss) (WellFormedSections made.table ss chain) chain d made gs (cut_external d made ss rest) (cut_sections d made chain ss rest) h.2
+      reads_class c object_owner d (tick m) gs
+      (if is_external chain then cut_external d made ss rest else cut_sections d made chain ss rest) h.0 h.1
+      (reads_object (is_external chain) (WellFormedExternal made.table ss)
+      (WellFormedSections made.table ss chain) chain d made gs (cut_external d made ss rest)
+      (cut_sections d made chain ss rest) h.2
       (λ w. reads_external ss d made gs rest w k) (λ w. reads_sections ss chain d made gs rest w k))
 
   pub reads_desc : (x : DescTree) (role : Role) (d : ℕ) (m : Moment) (gs : List Goal) (rest : List Piece)
@@ -206,7 +238,8 @@ mutual
               h.3,
               reads_fields fields role d (next_number m) kind flags false [] opened gs (cut_annotation d behind notes ends) h.4
                   (reads_annotation notes d behind up ends h.5
-                  (reads_superclass parent (owner_of role) strict (suc d) (next_number m) l inside gs rest h.6 (above_fits_of role chain kind flags (codes_of fields) f) k)),
+                  (reads_superclass parent (owner_of role) strict (suc d) (next_number m) l inside gs rest h.6
+                  (above_fits_of role chain kind flags (codes_of fields) f) k)),
             ),
           ),
         ),
@@ -236,7 +269,8 @@ mutual
       (reads_desc x (own_class (Some owner)) d m (made_goal owner d (next_number m) ∷ gs) rest h f
       (reads_made owner d (next_number m) (past_desc m x) gs rest (rw chain_at-after_desc k)))
 
-  pub reads_superclass : (c : ClassPlaceTree) (owner : ChainOwner) (strict : Bool) (d number : ℕ) (l : Layer) (m : Moment) (gs : List Goal) (rest : List Piece)
+  pub reads_superclass : (c : ClassPlaceTree) (owner : ChainOwner) (strict : Bool) (d number : ℕ) (l : Layer) (m : Moment)
+      (gs : List Goal) (rest : List Piece)
       → WellFormedSuperclass m.table c → FitsRole (superclass owner strict) (chain_of_class m.table c)
       → Reads (closing (past_class (tick m) c) number (chain_of_class m.table c ++ (l ∷ [])), gs) rest
       → Reads (m, superclass_goal owner strict d number l ∷ gs) (cut_superclass owner strict d m c rest)
@@ -258,11 +292,16 @@ mutual
 
   pub reads_body : (b : BodyTree) (elements : Option PrimCode) (d : ℕ) (m : Moment) (gs : List Goal) (rest : List Piece)
       → WellFormedBody m.table b elements → Reads (past_body m b, gs) rest
-      → Reads (m, array_length_goal elements d ∷ gs) (at array_length_at d m (array_length_field (array_length b)) ∷ cut_body d m elements b rest)
+      → Reads (m, array_length_goal elements d ∷ gs) (at array_length_at d m (array_length_field (array_length b))
+      ∷ cut_body d m elements b rest)
   reads_body (raw_body ps) None d m gs rest h k = absurd h
   reads_body (raw_body ps) (Some c) d m gs rest h k = (refl, h.0, reads_raw c ps d m gs rest h.1 k)
-  reads_body (value_body vs) None d m gs rest h k =
-      (refl, h.0, reads_values vs [] d m gs rest h.1 (resettle rest (past_values m vs, gs) (past_values m vs, parts_goal d [] ∷ gs) refl k))
+  reads_body (value_body vs) None d m gs rest h k = (
+    refl,
+    h.0,
+    reads_values vs [] d m gs rest h.1
+        (resettle rest (past_values m vs, gs) (past_values m vs, parts_goal d [] ∷ gs) refl k),
+  )
   reads_body (value_body vs) (Some c) d m gs rest h k = absurd h
 
   pub reads_values : (vs : ValueTrees) (parts : List Part) (d : ℕ) (m : Moment) (gs : List Goal) (rest : List Piece)
@@ -280,8 +319,10 @@ mutual
       → WellFormedExternal m.table ss → Reads (past_sections m ss, gs) rest
       → Reads (m, parts_goal d (annotation_part ∷ []) ∷ gs) (cut_external d m ss rest)
   reads_external (section_and (section [] no_values (annotation notes)) no_sections) d m gs rest h k =
-      resettle (cut_annotation d m notes rest) (m, annotation_goal d ∷ parts_goal d [] ∷ gs) (m, parts_goal d (annotation_part ∷ []) ∷ gs) refl
-      (reads_annotation notes d m (parts_goal d [] ∷ gs) rest h (resettle rest (past_contents m notes, gs) (past_contents m notes, parts_goal d [] ∷ gs) refl k))
+      resettle (cut_annotation d m notes rest) (m, annotation_goal d ∷ parts_goal d [] ∷ gs)
+      (m, parts_goal d (annotation_part ∷ []) ∷ gs) refl
+      (reads_annotation notes d m (parts_goal d [] ∷ gs) rest h
+      (resettle rest (past_contents m notes, gs) (past_contents m notes, parts_goal d [] ∷ gs) refl k))
   reads_external _ d m gs rest h k = absurd h
 
   pub reads_sections : (ss : SectionTrees) (chain : List Layer) (d : ℕ) (m : Moment) (gs : List Goal) (rest : List Piece)
@@ -295,25 +336,34 @@ mutual
       let noted = annotation_if (has_write_method l.flags) (section_parts ls) in
       let after = cut_sections d behind ls ss rest in
       let notes_read : Reads (past_values m vs, parts_goal d noted ∷ gs) (cut_notes d (past_values m vs) n after) =
-      reads_notes n (has_write_method l.flags) (section_parts ls) d (past_values m vs) gs after h.3 (reads_sections ss ls d behind gs rest h.4 k) in
-      reads_prims (primitive_codes l.codes) ps (value_parts (object_count l.codes) noted) d m gs (cut_values d m vs (cut_notes d (past_values m vs) n after)) h.0
+      reads_notes n (has_write_method l.flags) (section_parts ls) d (past_values m vs) gs after h.3
+      (reads_sections ss ls d behind gs rest h.4 k) in
+      reads_prims (primitive_codes l.codes) ps (value_parts (object_count l.codes) noted) d m gs
+      (cut_values d m vs (cut_notes d (past_values m vs) n after)) h.0
       (rw (← h.1) (reads_values vs noted d m gs (cut_notes d (past_values m vs) n after) h.2 notes_read))
 
-  pub reads_notes : (n : NotesTree) (expected : Bool) (parts : List Part) (d : ℕ) (m : Moment) (gs : List Goal) (rest : List Piece)
+  pub reads_notes : (n : NotesTree) (expected : Bool) (parts : List Part) (d : ℕ) (m : Moment) (gs : List Goal)
+      (rest : List Piece)
       → WellFormedNotesIf m.table n expected → Reads (past_notes m n, parts_goal d parts ∷ gs) rest
       → Reads (m, parts_goal d (annotation_if expected parts) ∷ gs) (cut_notes d m n rest)
   reads_notes no_notes false parts d m gs rest h k = k
   reads_notes no_notes true parts d m gs rest h k = absurd (true≢false h)
   reads_notes (annotation notes) true parts d m gs rest h k =
-      resettle (cut_annotation d m notes rest) (m, annotation_goal d ∷ parts_goal d parts ∷ gs) (m, parts_goal d (annotation_part ∷ parts) ∷ gs) refl
+      resettle (cut_annotation d m notes rest) (m, annotation_goal d ∷ parts_goal d parts ∷ gs)
+      (m, parts_goal d (annotation_part ∷ parts) ∷ gs) refl
       (reads_annotation notes d m (parts_goal d parts ∷ gs) rest h.1 k)
   reads_notes (annotation notes) false parts d m gs rest h k = untrue h.0
 
   pub reads_annotation : (cs : ContentTrees) (d : ℕ) (m : Moment) (gs : List Goal) (rest : List Piece)
-      → WellFormedNotes m.table cs → Reads (past_contents m cs, gs) rest → Reads (m, annotation_goal d ∷ gs) (cut_annotation d m cs rest)
+      → WellFormedNotes m.table cs → Reads (past_contents m cs, gs) rest
+      → Reads (m, annotation_goal d ∷ gs) (cut_annotation d m cs rest)
   reads_annotation no_contents d m gs rest h k = (refl, tt, k)
-  reads_annotation (content_and (block long bytes) cs) d m gs rest h k =
-      (refl, tt, reads_block long bytes d m (annotation_goal d ∷ gs) (cut_annotation d m cs rest) h.0 (reads_annotation cs d m gs rest h.1 k))
+  reads_annotation (content_and (block long bytes) cs) d m gs rest h k = (
+    refl,
+    tt,
+    reads_block long bytes d m (annotation_goal d ∷ gs) (cut_annotation d m cs rest) h.0
+        (reads_annotation cs d m gs rest h.1 k),
+  )
   reads_annotation (content_and reset cs) d m gs rest h k = absurd h
   reads_annotation (content_and (content v) cs) d m gs rest h k = (
     refl,
@@ -332,7 +382,12 @@ past_top m (content_and (content v) cs) = past_top (past_value m v) cs
 pub reads_top : (cs : ContentTrees) (m : Moment) (rest : List Piece)
     → WellFormedContents m.table cs → Reads (past_top m cs, top_goal ∷ []) rest → Reads (m, top_goal ∷ []) (cut_top m cs rest)
 reads_top no_contents m rest h k = k
-reads_top (content_and (block long bytes) cs) m rest h k = (refl, tt, reads_block long bytes 0 m (top_goal ∷ []) (cut_top m cs rest) h.0 (reads_top cs m rest h.1 k))
+reads_top (content_and (block long bytes) cs) m rest h k =
+    (refl, tt, reads_block long bytes 0 m (top_goal ∷ []) (cut_top m cs rest) h.0 (reads_top cs m rest h.1 k))
 reads_top (content_and reset cs) m rest h k = (refl, tt, reads_top cs (emptied m) rest h k)
-reads_top (content_and (content v) cs) m rest h k =
-    (refl, tt, reads_value v 1 m (top_goal ∷ []) (cut_top (past_value m v) cs rest) h.0 (reads_top cs (past_value m v) rest h.1 k))
+reads_top (content_and (content v) cs) m rest h k = (
+  refl,
+  tt,
+  reads_value v 1 m (top_goal ∷ []) (cut_top (past_value m v) cs rest) h.0
+      (reads_top cs (past_value m v) rest h.1 k),
+)

@@ -11,7 +11,8 @@ bytes_remain zero d m K fs h = ([], fs, refl, refl, refl, h)
 bytes_remain (suc n) d m K fs ([], r, a, e, k) = let z : 0 ≡ suc n = a.1 in absurd (omega arith)
 bytes_remain (suc n) d m K fs (b ∷ bs, r, a, e, k) = (b ∷ bs, r, a.0, a.1, rw a.1 e, k)
 
-prims_remain : (cs : List PrimCode) (parts : List Part) (d : ℕ) (m : Moment) (K : Behind) (fs : List Piece) → RemainsParts d (prim_parts cs parts) m K fs
+prims_remain : (cs : List PrimCode) (parts : List Part) (d : ℕ) (m : Moment) (K : Behind) (fs : List Piece)
+    → RemainsParts d (prim_parts cs parts) m K fs
     → (ps : List PrimTree) × (r : List Piece) × ArePrims cs ps × (fs ≡ cut_prims d m cs ps r) × RemainsParts d parts m K r
 prims_remain [] parts d m K fs h = ([], fs, tt, refl, h)
 prims_remain (c ∷ cs) parts d m K fs ([], r1, a, e, k) = let z : 0 ≡ 1 = a.0 in absurd (omega arith)
@@ -20,20 +21,33 @@ prims_remain (c ∷ cs) parts d m K fs (p ∷ [], r1, a, e, k) =
     let x = prims_remain cs parts d m K r1 k in
     (p ∷ x.0, x.1, (a.1.0, x.2), e ∙ ap (λ y. at (raw_at c 1) d m (prims_field (p ∷ [])) ∷ y) x.3, x.4)
 
-values_remain : (n : ℕ) (parts : List Part) (d : ℕ) (m : Moment) (K : Behind) (fs : List Piece) → RemainsParts d (value_parts n parts) m K fs
-    → (vs : ValueTrees) × (r : List Piece) × (value_count vs ≡ n) × WellFormedValues m.table vs × (fs ≡ cut_values d m vs r) × RemainsParts d parts (past_values m vs) K r
+values_remain : (n : ℕ) (parts : List Part) (d : ℕ) (m : Moment) (K : Behind) (fs : List Piece)
+    → RemainsParts d (value_parts n parts) m K fs
+    → (vs : ValueTrees) × (r : List Piece) × (value_count vs ≡ n) × WellFormedValues m.table vs × (fs ≡ cut_values d m vs r)
+    × RemainsParts d parts (past_values m vs) K r
 values_remain zero parts d m K fs h = (no_values, fs, refl, tt, refl, h)
 values_remain (suc n) parts d m K fs (v, r1, w, e, k) =
-    let x = values_remain n parts d (past_value m v) K r1 k in
-    (value_and v x.0, x.1, ap (λ n. suc n) x.2, (w, x.3), e ∙ ap (λ y. at value_at (suc d) m (tag_field (tag_of v)) ∷ cut_value (suc d) m v y) x.4, x.5)
+    let x = values_remain n parts d (past_value m v) K r1 k in (
+      value_and v x.0,
+      x.1,
+      ap (λ n. suc n) x.2,
+      (w, x.3),
+      e ∙ ap (λ y. at value_at (suc d) m (tag_field (tag_of v))
+          ∷ cut_value (suc d) m v y) x.4,
+      x.5,
+    )
 
-notes_remain : (expected : Bool) (parts : List Part) (d : ℕ) (m : Moment) (K : Behind) (fs : List Piece) → RemainsParts d (annotation_if expected parts) m K fs
-    → (n : NotesTree) × (r : List Piece) × WellFormedNotesIf m.table n expected × (fs ≡ cut_notes d m n r) × RemainsParts d parts (past_notes m n) K r
+notes_remain : (expected : Bool) (parts : List Part) (d : ℕ) (m : Moment) (K : Behind) (fs : List Piece)
+    → RemainsParts d (annotation_if expected parts) m K fs
+    → (n : NotesTree) × (r : List Piece) × WellFormedNotesIf m.table n expected × (fs ≡ cut_notes d m n r)
+    × RemainsParts d parts (past_notes m n) K r
 notes_remain false parts d m K fs h = (no_notes, fs, refl, refl, h)
 notes_remain true parts d m K fs (cs, r, w, e, k) = (annotation cs, r, (refl, w), e, k)
 
-sections_remain : (chain : List Layer) (d : ℕ) (m : Moment) (K : Behind) (fs : List Piece) → RemainsParts d (section_parts chain) m K fs
-    → (ss : SectionTrees) × (r : List Piece) × WellFormedSections m.table ss chain × (fs ≡ cut_sections d m chain ss r) × K (past_sections m ss) r
+sections_remain : (chain : List Layer) (d : ℕ) (m : Moment) (K : Behind) (fs : List Piece)
+    → RemainsParts d (section_parts chain) m K fs
+    → (ss : SectionTrees) × (r : List Piece) × WellFormedSections m.table ss chain × (fs ≡ cut_sections d m chain ss r)
+    × K (past_sections m ss) r
 sections_remain [] d m K fs h = (no_sections, fs, tt, refl, h)
 sections_remain (l ∷ ls) d m K fs h =
     let noted = annotation_if (has_write_method l.flags) (section_parts ls) in
@@ -49,14 +63,18 @@ sections_remain (l ∷ ls) d m K fs h =
       z.4,
     )
 
-pub object_remains : (external : Bool) (chain : List Layer) (d : ℕ) (m : Moment) (K : Behind) (fs : List Piece) → RemainsParts d (object_parts external chain) m K fs
-    → (ss : SectionTrees) × (r : List Piece) × MatchBool external (WellFormedExternal m.table ss) (WellFormedSections m.table ss chain)
+pub object_remains : (external : Bool) (chain : List Layer) (d : ℕ) (m : Moment) (K : Behind) (fs : List Piece)
+    → RemainsParts d (object_parts external chain) m K fs
+    → (ss : SectionTrees) × (r : List Piece)
+    × MatchBool external (WellFormedExternal m.table ss) (WellFormedSections m.table ss chain)
     × (fs ≡ (if external then cut_external d m ss r else cut_sections d m chain ss r)) × K (past_sections m ss) r
 object_remains true chain d m K fs (cs, r, w, e, k) = (section_and (section [] no_values (annotation cs)) no_sections, r, w, e, k)
 object_remains false chain d m K fs h = sections_remain chain d m K fs h
 
-pub body_remains : (elements : Option PrimCode) (n d : ℕ) (m : Moment) (K : Behind) (fs : List Piece) → n < 2 ^ 31 → RemainsParts d (body_parts elements n) m K fs
-    → (b : BodyTree) × (r : List Piece) × (array_length b ≡ n) × WellFormedBody m.table b elements × (fs ≡ cut_body d m elements b r) × K (past_body m b) r
+pub body_remains : (elements : Option PrimCode) (n d : ℕ) (m : Moment) (K : Behind) (fs : List Piece) → n < 2 ^ 31
+    → RemainsParts d (body_parts elements n) m K fs
+    → (b : BodyTree) × (r : List Piece) × (array_length b ≡ n) × WellFormedBody m.table b elements
+    × (fs ≡ cut_body d m elements b r) × K (past_body m b) r
 body_remains (Some c) zero d m K fs l h = (raw_body [], fs, refl, (l, tt), refl, h)
 body_remains (Some c) (suc n) d m K fs l ([], r, a, e, k) = let z : 0 ≡ suc n = a.0 in absurd (omega arith)
 body_remains (Some c) (suc n) d m K fs l (p ∷ ps, r, a, e, k) = (raw_body (p ∷ ps), r, a.0, (rw a.0 l, a.1), rw a.0 e, k)
@@ -64,14 +82,28 @@ body_remains None n d m K fs l h =
     let x = values_remain n [] d m K fs h in
     (value_body x.0, x.1, x.2, (rw x.2 l, x.3), x.4, x.5)
 
-pub plain_remains : (role : Role) (d : ℕ) (m : Moment) (K : Behind) (fs : List Piece) → RemainsName role d m K fs → RemainsDesc class_desc_tag role d m K fs
-plain_remains role d m K fs (u, r1, a1, e1, (sn, r2, a2, e2, (f, r3, a3, e3, (n, r4, a4, e4, (xs, r5, el, wx, e5, (notes, r6, wn, e6, (parent, r7, wp, fp, e7, k))))))) =
+pub plain_remains : (role : Role) (d : ℕ) (m : Moment) (K : Behind) (fs : List Piece) → RemainsName role d m K fs
+    → RemainsDesc class_desc_tag role d m K fs
+plain_remains role d m K fs (
+  u,
+  r1,
+  a1,
+  e1,
+  (
+    sn,
+    r2,
+    a2,
+    e2,
+    (f, r3, a3, e3, (n, r4, a4, e4, (xs, r5, el, wx, e5, (notes, r6, wn, e6, (parent, r7, wp, fp, e7, k))))),
+  ),
+) =
     let kind = name_kind u in (
       plain u sn f xs notes parent,
       r7,
       refl,
       (a1.0, a2, a3.0, rw el a4, wx, wn, wp),
-      plain_fits role (chain_of_class (after_contents (after_fields (add m.table pending_entry) xs) notes) parent) kind f (codes_of xs) a1.1 a3.1 fp,
+      plain_fits role (chain_of_class (after_contents (after_fields (add m.table pending_entry) xs) notes) parent) kind f
+          (codes_of xs) a1.1 a3.1 fp,
       rw (e1, e2, e3, e4, ← el, e5, e6, e7) refl,
       k,
     )

@@ -24,11 +24,13 @@ front_of (y ∷ a) (z ∷ p) x c b e =
 
 pub joined-append : (a b : List Piece) → joined (a ++ b) ≡ joined a ++ joined b
 joined-append [] b = refl
-joined-append (piece l f ∷ a) b = ap (λ x. bytes_of f ++ x) (joined-append a b) ∙ sym (append_assoc (bytes_of f) (joined a) (joined b))
+joined-append (piece l f ∷ a) b =
+    ap (λ x. bytes_of f ++ x) (joined-append a b) ∙ sym (append_assoc (bytes_of f) (joined a) (joined b))
 
 module _ (gate : FieldGate) (verdict : VerdictOn) (sc : IsScanner gate verdict) where
   -- a whole field is taken
-  walk_field_from : (b : List ℕ) (c : ℕ) (a : List ℕ) (s : State) (f : StreamField) (bs : List ℕ) → Accepts (label_of (settled s)) f → IsTrue (gate (label_of (settled s)) f)
+  walk_field_from : (b : List ℕ) (c : ℕ) (a : List ℕ) (s : State) (f : StreamField) (bs : List ℕ)
+      → Accepts (label_of (settled s)) f → IsTrue (gate (label_of (settled s)) f)
       → bytes_of f ≡ a ++ (c ∷ b) → walk verdict s a (c ∷ (b ++ bs)) ≡ walk verdict (advance (settled s) f) [] bs
   walk_field_from [] c a s f bs h g e =
       let l = label_of (settled s) in
@@ -40,7 +42,8 @@ module _ (gate : FieldGate) (verdict : VerdictOn) (sc : IsScanner gate verdict) 
       let v : verdict l (a ++ (c ∷ [])) ≡ more = sc.before_end l f h g (a ++ (c ∷ [])) c' b e' in
       rw v (walk_field_from b c' (a ++ (c ∷ [])) s f bs h g e')
 
-  walk_field : (s : State) (f : StreamField) (bs : List ℕ) → Accepts (label_of (settled s)) f → IsTrue (gate (label_of (settled s)) f)
+  walk_field : (s : State) (f : StreamField) (bs : List ℕ) → Accepts (label_of (settled s)) f
+      → IsTrue (gate (label_of (settled s)) f)
       → walk verdict s [] (bytes_of f ++ bs) ≡ walk verdict (advance (settled s) f) [] bs
   walk_field s f bs h g = go (bytes_of f) refl
     where
@@ -57,10 +60,12 @@ module _ (gate : FieldGate) (verdict : VerdictOn) (sc : IsScanner gate verdict) 
   walk_front [] s bs h g = refl
   walk_front (piece l f ∷ ps) s bs h g =
       let g' : IsTrue (gate (label_of (settled s)) f) = rw (← h.0) g.0 in
-      rw (append_assoc (bytes_of f) (joined ps) bs) (walk_field s f (joined ps ++ bs) h.1 g' ∙ walk_front ps (advance (settled s) f) bs h.2 g.1)
+      rw (append_assoc (bytes_of f) (joined ps) bs) (walk_field s f (joined ps
+      ++ bs) h.1 g' ∙ walk_front ps (advance (settled s) f) bs h.2 g.1)
 
   -- bytes that are bad, and undecided before, are refused
-  walk_bad : (b : List ℕ) (c : ℕ) (a : List ℕ) (s : State) (bs : List ℕ) (r : ℕ) → verdict (label_of (settled s)) (a ++ (c ∷ b)) ≡ bad r
+  walk_bad : (b : List ℕ) (c : ℕ) (a : List ℕ) (s : State) (bs : List ℕ) (r : ℕ)
+      → verdict (label_of (settled s)) (a ++ (c ∷ b)) ≡ bad r
       → IsUndecided verdict (label_of (settled s)) (a ++ (c ∷ b)) → walk verdict s a (c ∷ (b ++ bs)) ≡ refused (a ++ (c ∷ b)) bs r
   walk_bad [] c a s bs r v u = rw v refl
   walk_bad (c' ∷ b) c a s bs r v u =
@@ -69,16 +74,19 @@ module _ (gate : FieldGate) (verdict : VerdictOn) (sc : IsScanner gate verdict) 
       rw m (walk_bad b c' (a ++ (c ∷ [])) s bs r (rw e v) (rw e u) ∙ ap (λ p. refused p bs r) e)
 
   pub refuses : (front : List Piece) (wrong rest : List ℕ) (r : ℕ) → Runs begin_state front → AllPass gate front
-      → verdict (label_of (settled (left begin_state front))) wrong ≡ bad r → IsUndecided verdict (label_of (settled (left begin_state front))) wrong
+      → verdict (label_of (settled (left begin_state front))) wrong ≡ bad r
+      → IsUndecided verdict (label_of (settled (left begin_state front))) wrong
       → walk verdict begin_state [] (joined front ++ (wrong ++ rest)) ≡ refused wrong rest r
   refuses front [] rest r h g v u = let n = sc.nothing_yet (label_of (settled (left begin_state front))) in absurd (cc)
-  refuses front (c ∷ b) rest r h g v u = walk_front front begin_state (c ∷ (b ++ rest)) h g ∙ walk_bad b c [] (left begin_state front) rest r v u
+  refuses front (c ∷ b) rest r h g v u =
+      walk_front front begin_state (c ∷ (b ++ rest)) h g ∙ walk_bad b c [] (left begin_state front) rest r v u
 
   -- bytes that are bad, and have no whole field before, are refused at their end or earlier
   abbrev pub RefusesBy : State → List ℕ → List ℕ → List ℕ → Type 0
   RefusesBy s cut bytes rest = (w q : List ℕ) × (k : ℕ) × (walk verdict s cut bytes ≡ refused w q k) × (length rest ≤ length q)
 
-  walk_wrong : (b : List ℕ) (c : ℕ) (a : List ℕ) (s : State) (rest : List ℕ) (r : ℕ) → verdict (label_of (settled s)) (a ++ (c ∷ b)) ≡ bad r
+  walk_wrong : (b : List ℕ) (c : ℕ) (a : List ℕ) (s : State) (rest : List ℕ) (r : ℕ)
+      → verdict (label_of (settled s)) (a ++ (c ∷ b)) ≡ bad r
       → HasNoField (label_of (settled s)) (a ++ (c ∷ b)) → RefusesBy s a (c ∷ (b ++ rest)) rest
   walk_wrong [] c a s rest r v u = (a ++ (c ∷ []), rest, r, rw v refl, omega arith)
   walk_wrong (c' ∷ b) c a s rest r v u =
@@ -88,7 +96,8 @@ module _ (gate : FieldGate) (verdict : VerdictOn) (sc : IsScanner gate verdict) 
       l : Label
       l = label_of (settled s)
 
-      go : (x : Verdict) → verdict l (a ++ (c ∷ [])) ≡ x → RefusesBy s (a ++ (c ∷ [])) (c' ∷ (b ++ rest)) rest → RefusesBy s a (c ∷ ((c' ∷ b) ++ rest)) rest
+      go : (x : Verdict) → verdict l (a ++ (c ∷ [])) ≡ x → RefusesBy s (a ++ (c ∷ [])) (c' ∷ (b ++ rest)) rest
+          → RefusesBy s a (c ∷ ((c' ∷ b) ++ rest)) rest
       go more e (w, q, k, ew, lq) = (w, q, k, rw e ew, lq)
       go (good f) e z =
           let y = sc.good_is l (a ++ (c ∷ [])) f e in
@@ -96,7 +105,8 @@ module _ (gate : FieldGate) (verdict : VerdictOn) (sc : IsScanner gate verdict) 
       go (bad k) e z = (a ++ (c ∷ []), (c' ∷ b) ++ rest, k, rw e refl, omega (arith, length-append (c' ∷ b) rest))
 
   pub refuses_by : (front : List Piece) (wrong rest : List ℕ) (r : ℕ) → Runs begin_state front → AllPass gate front
-      → verdict (label_of (settled (left begin_state front))) wrong ≡ bad r → HasNoField (label_of (settled (left begin_state front))) wrong
+      → verdict (label_of (settled (left begin_state front))) wrong ≡ bad r
+      → HasNoField (label_of (settled (left begin_state front))) wrong
       → RefusesBy begin_state [] (joined front ++ (wrong ++ rest)) rest
   refuses_by front [] rest r h g v u = let n = sc.nothing_yet (label_of (settled (left begin_state front))) in absurd (cc)
   refuses_by front (c ∷ b) rest r h g v u =
@@ -105,16 +115,31 @@ module _ (gate : FieldGate) (verdict : VerdictOn) (sc : IsScanner gate verdict) 
 
   -- what was found on the way
   abbrev pub Found : State → List ℕ → Outcome → Type 0
-  Found s bs (ended t q) = (front : List Piece) × Runs s front × AllPass gate front × (left s front ≡ t) × (bs ≡ joined front ++ q)
+  Found s bs (ended t q) =
+      (front : List Piece) × Runs s front × AllPass gate front × (left s front ≡ t) × (bs ≡ joined front ++ q)
   Found s bs (refused p rest r) = (front : List Piece) × Runs s front × AllPass gate front × (bs ≡ joined front ++ (p ++ rest))
       × (verdict (label_of (settled (left s front))) p ≡ bad r) × IsUndecided verdict (label_of (settled (left s front))) p
 
-  found_more : (out : Outcome) (s : State) (f : StreamField) (bs : List ℕ) → Accepts (label_of (settled s)) f → IsTrue (gate (label_of (settled s)) f)
+  found_more : (out : Outcome) (s : State) (f : StreamField) (bs : List ℕ) → Accepts (label_of (settled s)) f
+      → IsTrue (gate (label_of (settled s)) f)
       → Found (advance (settled s) f) bs out → Found s (bytes_of f ++ bs) out
-  found_more (ended t q) s f bs h g (front, r, ga, e, eb) =
-      (piece (label_of (settled s)) f ∷ front, (refl, h, r), (g, ga), e, ap (λ x. bytes_of f ++ x) eb ∙ sym (append_assoc (bytes_of f) (joined front) q))
-  found_more (refused p rest k) s f bs h g (front, r, ga, eb, v, u) =
-      (piece (label_of (settled s)) f ∷ front, (refl, h, r), (g, ga), ap (λ x. bytes_of f ++ x) eb ∙ sym (append_assoc (bytes_of f) (joined front) (p ++ rest)), v, u)
+  found_more (ended t q) s f bs h g (front, r, ga, e, eb) = (
+    piece (label_of (settled s)) f ∷ front,
+    (refl, h, r),
+    (g, ga),
+    e,
+    ap (λ x. bytes_of f
+        ++ x) eb ∙ sym (append_assoc (bytes_of f) (joined front) q),
+  )
+  found_more (refused p rest k) s f bs h g (front, r, ga, eb, v, u) = (
+    piece (label_of (settled s)) f ∷ front,
+    (refl, h, r),
+    (g, ga),
+    ap (λ x. bytes_of f
+        ++ x) eb ∙ sym (append_assoc (bytes_of f) (joined front) (p ++ rest)),
+    v,
+    u,
+  )
 
   -- each front of these bytes, all of them too, wants more
   abbrev Quiet : Label → List ℕ → Type 0
@@ -134,7 +159,9 @@ module _ (gate : FieldGate) (verdict : VerdictOn) (sc : IsScanner gate verdict) 
   walk_found : (bs : List ℕ) (s : State) (p : List ℕ) → Quiet (label_of (settled s)) p → Found s (p ++ bs) (walk verdict s p bs)
   walk_found [] s p q = ([], tt, tt, refl, append-nil p)
   walk_found (b ∷ bs) s p q =
-      go (verdict l (p ++ (b ∷ []))) refl (λ v. walk_found bs s (p ++ (b ∷ [])) (quiet_more l p b q v)) (λ f. walk_found bs (advance (settled s) f) [] (quiet_none (label_of (settled (advance (settled s) f)))))
+      go (verdict l (p ++ (b ∷ []))) refl (λ v. walk_found bs s (p
+      ++ (b ∷ [])) (quiet_more l p b q v))
+      (λ f. walk_found bs (advance (settled s) f) [] (quiet_none (label_of (settled (advance (settled s) f)))))
     where
       l : Label
       l = label_of (settled s)
@@ -142,7 +169,8 @@ module _ (gate : FieldGate) (verdict : VerdictOn) (sc : IsScanner gate verdict) 
       go : (v : Verdict) → verdict l (p ++ (b ∷ [])) ≡ v
           → (verdict l (p ++ (b ∷ [])) ≡ more → Found s ((p ++ (b ∷ [])) ++ bs) (walk verdict s (p ++ (b ∷ [])) bs))
           → ((f : StreamField) → Found (advance (settled s) f) bs (walk verdict (advance (settled s) f) [] bs))
-          → Found s (p ++ (b ∷ bs)) (by_verdict v (walk verdict s (p ++ (b ∷ [])) bs) (λ f. walk verdict (advance (settled s) f) [] bs) (λ r. refused (p ++ (b ∷ [])) bs r))
+          → Found s (p ++ (b ∷ bs)) (by_verdict v (walk verdict s (p
+          ++ (b ∷ [])) bs) (λ f. walk verdict (advance (settled s) f) [] bs) (λ r. refused (p ++ (b ∷ [])) bs r))
       go more e m g = rw (← snoc_more p b bs) (m e)
       go (good f) e m g =
           let x = sc.good_is l (p ++ (b ∷ [])) f e in

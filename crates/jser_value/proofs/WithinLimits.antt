@@ -47,5 +47,8 @@ without limits list w (d, p, a, t, n) =
     }
 
 pub limited_law : Limited
-limited_law limits list w =
-    (λ h. within limits list w (observed limits (fields_of list) h), λ h. observed_passes limits (fields_of list) (without limits list w h))
+limited_law limits list w = (
+  λ h. within limits list w (observed limits (fields_of list) h),
+  λ h. observed_passes limits (fields_of list)
+      (without limits list w h),
+)

@@ -18,7 +18,8 @@ no_handle_yet : WellFormed (only (back 0)) → ⊥
 no_handle_yet w = let h = w.0.0 in absurd (omega arith)
 
 -- after a reset the handles begin anew
-handle_before_reset : WellFormed (content_and (content (string (short_text []))) (content_and reset (content_and (content (back 0)) no_contents))) → ⊥
+handle_before_reset : WellFormed
+    (content_and (content (string (short_text []))) (content_and reset (content_and (content (back 0)) no_contents))) → ⊥
 handle_before_reset w = let h = w.1.0.0 in absurd (omega arith)
 
 -- a class that is its own superclass
@@ -30,7 +31,9 @@ string_as_class : WellFormed (content_and (content (string (short_text []))) (on
 string_as_class w = true≢false (sym w.1.0.0)
 
 -- a descriptor as the type of a field
-class_as_text : WellFormed (only (descriptor (plain (codes "A") 1 2 (record { code = 0x4C; name = []; text = Some (back_text 0) } ∷ []) no_contents no_class))) → ⊥
+class_as_text : WellFormed
+    (only (descriptor (plain (codes "A") 1 2
+    (record { code = 0x4C; name = []; text = Some (back_text 0) } ∷ []) no_contents no_class))) → ⊥
 class_as_text w = true≢false (sym w.0.4.1.1.0)
 
 -- null in a class place
@@ -42,7 +45,8 @@ inner_reset : WellFormed (only (descriptor (plain (codes "A") 1 2 [] (content_an
 inner_reset w = w.0.5
 
 -- an object of a class that is not serializable, or whose superclass is not
-not_serializable : WellFormed (only (object (new_class (class_with 0 no_class)) (section_and (section [] no_values no_notes) no_sections))) → ⊥
+not_serializable : WellFormed
+    (only (object (new_class (class_with 0 no_class)) (section_and (section [] no_values no_notes) no_sections))) → ⊥
 not_serializable w = true≢false (sym w.0.1)
 
 superclass_not_serializable : WellFormed (only (object (new_class (class_with 2 (new_class (class_with 0 no_class))))
@@ -50,7 +54,9 @@ superclass_not_serializable : WellFormed (only (object (new_class (class_with 2 
 superclass_not_serializable w = true≢false (sym w.0.1)
 
 -- an externalizable class without block mode
-external_raw : WellFormed (only (object (new_class (class_with 4 no_class)) (section_and (section [] no_values (annotation no_contents)) no_sections))) → ⊥
+external_raw : WellFormed
+    (only (object (new_class (class_with 4 no_class)) (section_and (section [] no_values (annotation no_contents)) no_sections)))
+    → ⊥
 external_raw w = true≢false (sym w.0.1)
 
 -- an externalizable class has one section, also over a serializable one
@@ -60,8 +66,10 @@ external_with_superclass w = w.0.2
 
 -- sections from the own class upward
 sections_upward : WellFormed (only (object
-    (new_class (plain (codes "B") 2 2 (field_of 0x49 (codes "i") ∷ []) no_contents (new_class (plain (codes "A") 1 2 (field_of 0x42 (codes "b") ∷ []) no_contents no_class))))
-    (section_and (section (int_value 9 ∷ []) no_values no_notes) (section_and (section (byte_value 7 ∷ []) no_values no_notes) no_sections)))) → ⊥
+    (new_class (plain (codes "B") 2 2 (field_of 0x49 (codes "i") ∷ []) no_contents
+    (new_class (plain (codes "A") 1 2 (field_of 0x42 (codes "b") ∷ []) no_contents no_class))))
+    (section_and (section (int_value 9 ∷ []) no_values no_notes)
+    (section_and (section (byte_value 7 ∷ []) no_values no_notes) no_sections)))) → ⊥
 sections_upward w = let e = w.0.2.0.0.0 in cc
 
 -- a body of raw values for an array of values, and of values for an array of ints, empty ones too
@@ -72,7 +80,9 @@ values_for_raw : WellFormed (only (array (new_class (plain (codes "[I") 1 2 [] n
 values_for_raw w = w.0.2
 
 -- a type text at a primitive code, and none at `L`
-text_at_primitive : WellFormed (only (descriptor (plain [] 1 2 (record { code = 0x49; name = []; text = Some (new_text (short_text [])) } ∷ []) no_contents no_class))) → ⊥
+text_at_primitive : WellFormed
+    (only (descriptor (plain [] 1 2
+    (record { code = 0x49; name = []; text = Some (new_text (short_text [])) } ∷ []) no_contents no_class))) → ⊥
 text_at_primitive w = true≢false (sym w.0.4.1.0)
 
 no_text_at_object : WellFormed (only (descriptor (plain [] 1 2 (field_of 0x4C [] ∷ []) no_contents no_class))) → ⊥
