@@ -1,9 +1,9 @@
 -- What the walk has taken when it ends are the first fields of every stream that begins with its bytes.
-use Rattle.std.proofs.Common.{◌≡◌, ℕ, List, [], ◌++◌, refl, sym, ◌∙◌, ap, append_assoc}
-use Rattle.jser_value.proofs.Vocabulary.{ContentTrees, Piece, fields_of, State, begin_state, Runs, left}
+use Rattle.std.proofs.Common.{◌≡◌, ℕ, List, ◌++◌, refl, sym, ◌∙◌, ap, append_assoc}
+use Rattle.jser_value.proofs.Vocabulary.{ContentTrees, Piece, fields_of, begin_state, Runs}
 use Rattle.jser_value.specs.FieldBytes.{joined}
 use Rattle.jser_value.specs.Streams.{IsStreamOf}
-use Rattle.jser_value.specs.Scanner.{VerdictOn, FieldGate, IsScanner, ended, walk, AllPass}
+use Rattle.jser_value.specs.Scanner.{VerdictOn, FieldGate, IsScanner, ended, AllPass}
 use Rattle.jser_value.specs.WalkLaws.{FieldsAreTold}
 use Rattle.jser_value.proofs.Exact.{exact_law}
 use Rattle.jser_value.proofs.SpelledFields.{spelled_law}

@@ -1,13 +1,13 @@
 -- The counts along the fields of a list are its counts. Each tree adds as many as it has within it: no content,
 -- its places, and the handles by which its table grows.
-use Rattle.std.proofs.Common.{◌≡◌, ℕ, suc, ◌+◌, max, Bool, true, false, ◌||◌, if◌then◌else◌, List, [], ◌∷◌, ◌++◌, length, refl, ◌∙◌, ap, ap₂, arith, Option, Some, None, MatchBool}
-use Rattle.jser_value.proofs.Vocabulary.{has_write_method, text_entry, other_entry, pending_entry, Layer, PrimCode, is_object_code, primitive_codes, TextPlaceTree, new_text, back_text, FieldTree, PrimTree, ValueTree, null, back, string, descriptor, class_object, array, enum_constant, object, DescTree, plain, proxy, ClassPlaceTree, no_class, back_class, new_class, BodyTree, raw_body, value_body, ValueTrees, no_values, value_and, section, SectionTrees, no_sections, section_and, NotesTree, no_notes, annotation, block, reset, content, ContentTrees, no_contents, content_and, plain_layer, proxy_layer, after_value, after_desc, after_class, after_sections, chain_of_class, elements_of, is_external, WellFormedValue, WellFormedDesc, WellFormedClass, WellFormedSuperclass, WellFormedBody, WellFormedValues, WellFormedExternal, WellFormedSections, WellFormedNotesIf, WellFormedNotes, WellFormedContents, Owner, object_owner, array_owner, enum_owner, class_owner, ChainOwner, Role, own_class, superclass, owner_of, is_strict_above, Moment, beginning, tick, assign, emptied, places_value, places_desc, places_contents, past_text, past_type, past_fields, past_value, past_class, past_body, past_values, past_sections, past_notes, past_contents, Tag, null_tag, reference_tag, class_desc_tag, object_tag, string_tag, array_tag, class_tag, long_string_tag, proxy_desc_tag, enum_tag, tag_field, array_length_field, text_field, top_at, annotation_at, value_at, text_place_at, class_place_at, superclass_place_at, string_at, array_length_at, Piece, piece, at, tag_of_string, tag_of_desc, tag_of, cut_text_place, cut_type, cut_fields, cut_interfaces, cut_bytes, cut_raw, cut_prims, cut_value, cut_desc, cut_class, cut_superclass, cut_body, cut_values, cut_external, cut_sections, cut_notes, cut_annotation, cut_top, fields_of}
+use Rattle.std.proofs.Common.{◌≡◌, ℕ, suc, ◌+◌, Bool, true, false, ◌||◌, if◌then◌else◌, List, [], ◌∷◌, ◌++◌, length, refl, ◌∙◌, ap, arith, Option, Some, None, MatchBool}
+use Rattle.jser_value.proofs.Vocabulary.{has_write_method, text_entry, other_entry, pending_entry, Layer, PrimCode, is_object_code, primitive_codes, TextPlaceTree, new_text, back_text, FieldTree, PrimTree, ValueTree, null, back, string, descriptor, class_object, array, enum_constant, object, DescTree, plain, proxy, ClassPlaceTree, no_class, back_class, new_class, BodyTree, raw_body, value_body, ValueTrees, no_values, value_and, section, SectionTrees, no_sections, section_and, NotesTree, no_notes, annotation, block, reset, content, ContentTrees, no_contents, content_and, plain_layer, proxy_layer, after_value, after_desc, after_class, after_sections, chain_of_class, elements_of, is_external, WellFormedValue, WellFormedDesc, WellFormedClass, WellFormedSuperclass, WellFormedBody, WellFormedValues, WellFormedExternal, WellFormedSections, WellFormedNotesIf, WellFormedNotes, WellFormedContents, Owner, object_owner, array_owner, enum_owner, class_owner, ChainOwner, Role, own_class, superclass, owner_of, is_strict_above, Moment, beginning, tick, assign, emptied, places_value, places_desc, places_contents, past_text, past_type, past_fields, past_value, past_class, past_body, past_values, past_sections, past_notes, past_contents, Tag, null_tag, reference_tag, class_desc_tag, object_tag, string_tag, array_tag, class_tag, long_string_tag, proxy_desc_tag, enum_tag, tag_field, array_length_field, text_field, top_at, annotation_at, value_at, text_place_at, class_place_at, superclass_place_at, string_at, array_length_at, Piece, at, tag_of_string, tag_of_desc, tag_of, cut_text_place, cut_type, cut_fields, cut_interfaces, cut_bytes, cut_raw, cut_prims, cut_value, cut_desc, cut_class, cut_superclass, cut_body, cut_values, cut_external, cut_sections, cut_notes, cut_annotation, cut_top}
 use Rattle.std.proofs.Common.{sum}
 use Rattle.std.proofs.lemmas.List.Sums.{sum_by-cons}
-use Rattle.jser_value.specs.Counts.{array_length, refs_in_value, refs_in_contents, content_count, epochs_from, handle_count}
+use Rattle.jser_value.specs.Counts.{array_length, content_count, epochs_from}
 use Rattle.jser_value.specs.Limits.{begins_place, assigns_handle}
 use Rattle.jser_value.specs.Totals.{begins_content, one_more_if, count_of, Totalled}
-use Rattle.jser_value.proofs.PlacesObserved.{counted_value, counted_contents, depth_observed}
+use Rattle.jser_value.proofs.PlacesObserved.{counted_contents, depth_observed}
 use Rattle.jser_value.proofs.TableLemmas.{length-add, length-close}
 
 abbrev contents_in : List Piece → ℕ

@@ -1,7 +1,6 @@
 -- Lists that do not obey the format, by computation: what one rule alone keeps out.
-use Rattle.std.proofs.Common.{◌≡◌, ℕ, false, List, [], ◌∷◌, None, Some, true≢false, sym, codes, arith}
-use Rattle.jser_value.specs.Codes.{int_code, byte_code}
-use Rattle.jser_value.specs.Trees.{ValueTree, new_text, back_text, FieldTree, null, back, string, descriptor, class_object, array, enum_constant, object, DescTree, plain, proxy, ClassPlaceTree, no_class, back_class, new_class, raw_body, value_body, no_values, value_and, section, no_sections, section_and, no_notes, annotation, block, reset, content, ContentTrees, no_contents, content_and}
+use Rattle.std.proofs.Common.{ℕ, [], ◌∷◌, Some, true≢false, sym, codes, arith}
+use Rattle.jser_value.specs.Trees.{ValueTree, new_text, back_text, back, string, descriptor, class_object, array, object, DescTree, plain, ClassPlaceTree, no_class, back_class, new_class, raw_body, value_body, no_values, section, no_sections, section_and, no_notes, annotation, reset, content, ContentTrees, no_contents, content_and}
 use Rattle.jser_value.specs.WellFormed.{WellFormed}
 use Rattle.jser_value.proofs.Rows.{int_value, byte_value, short_text, field_of}
 

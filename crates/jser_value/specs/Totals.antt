@@ -4,7 +4,7 @@ use Rattle.std.specs.Prelude.{ℕ, suc, ◌≡◌, max, Bool, true, false, List,
 use Rattle.jser_value.specs.Trees.{ContentTrees}
 use Rattle.jser_value.specs.WellFormed.{WellFormed}
 use Rattle.jser_value.specs.Counts.{content_count, refs_of, depth_of, handle_count}
-use Rattle.jser_value.specs.Labels.{StreamField, Position, top_at, Label, Piece, piece}
+use Rattle.jser_value.specs.Labels.{StreamField, Position, top_at, Piece, piece}
 use Rattle.jser_value.specs.Fields.{fields_of}
 use Rattle.jser_value.specs.Limits.{begins_place, assigns_handle}
 
