@@ -4,7 +4,7 @@ use Rattle.std.proofs.Common.{ℕ, suc, ◌≤◌, max, Bool, true, false, not, 
 use Rattle.jser_value.proofs.Vocabulary.{StreamField, array_length_field, text_field, Position, class_name_at, interface_name_at, Piece, piece}
 use Rattle.std.proofs.Common.{nat_le, le-leb, leb-true}
 use Rattle.jser_value.specs.Scanner.{AllPass}
-use Rattle.jser_value.specs.Limits.{Limits, begins_place, assigns_handle, array_is_within, name_passes, gate_of, Each}
+use Rattle.jser_value.specs.GateLimits.{GateLimits, begins_place, assigns_handle, array_is_within, name_passes, gate_of, Each}
 use Rattle.jser_value.specs.Totals.{number_if, deepest}
 use Rattle.jser_value.proofs.Bools.{and_left, and_right, and_both}
 
@@ -82,14 +82,14 @@ name_from interface_name_at (text_field long units) passes ns h = h
 name_from _ f passes ns h = (refl, h)
 
 -- what is observed is within the limits
-pub record IsObserved (limits : Limits) (ps : List Piece) : Type 0 where
+pub record IsObserved (limits : GateLimits) (ps : List Piece) : Type 0 where
   pub depth : deepest ps ≤ limits.depth
   pub refs : most_places ps ≤ limits.refs
   pub array : Each (λ n. n ≤ limits.array) (lengths_in ps)
   pub handles : most_handles ps ≤ limits.handles
   pub names : Each (λ n. IsTrue (limits.passes n)) (names_in ps)
 
-pub observed : (limits : Limits) (ps : List Piece) → AllPass (gate_of limits) ps → IsObserved limits ps
+pub observed : (limits : GateLimits) (ps : List Piece) → AllPass (gate_of limits) ps → IsObserved limits ps
 observed limits [] h = record { depth = omega arith; refs = omega arith; array = tt; handles = omega arith; names = tt }
 observed limits (piece l f ∷ ps) h =
     let place = not (begins_place l.position f) || (nat_le l.depth limits.depth && nat_lt l.moment.places limits.refs) in
@@ -117,7 +117,7 @@ observed limits (piece l f ∷ ps) h =
     both_below : (x y D : ℕ) → x ≤ D → y ≤ D → max x y ≤ D
     both_below x y D h k = omega arith
 
-pub observed_passes : (limits : Limits) (ps : List Piece) → IsObserved limits ps → AllPass (gate_of limits) ps
+pub observed_passes : (limits : GateLimits) (ps : List Piece) → IsObserved limits ps → AllPass (gate_of limits) ps
 observed_passes limits [] h = tt
 observed_passes limits (piece l f ∷ ps) h =
     let place = not (begins_place l.position f) || (nat_le l.depth limits.depth && nat_lt l.moment.places limits.refs) in

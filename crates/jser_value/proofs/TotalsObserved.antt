@@ -5,7 +5,7 @@ use Rattle.jser_value.proofs.Vocabulary.{has_write_method, text_entry, other_ent
 use Rattle.std.proofs.Common.{sum}
 use Rattle.std.proofs.lemmas.List.Sums.{sum_by-cons}
 use Rattle.jser_value.specs.Counts.{array_length, content_count, epochs_from}
-use Rattle.jser_value.specs.Limits.{begins_place, assigns_handle}
+use Rattle.jser_value.specs.GateLimits.{begins_place, assigns_handle}
 use Rattle.jser_value.specs.Totals.{begins_content, one_more_if, count_of, Totalled}
 use Rattle.jser_value.proofs.PlacesObserved.{counted_contents, depth_observed}
 use Rattle.jser_value.proofs.TableLemmas.{length-add, length-close}

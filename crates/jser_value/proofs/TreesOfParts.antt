@@ -5,17 +5,20 @@ use Rattle.jser_value.specs.Counts.{array_length}
 use Rattle.jser_value.proofs.RoleLemmas.{plain_fits, proxy_fits}
 use Rattle.jser_value.proofs.Remaining.{Behind, RemainsParts, RemainsBytes, RemainsName, RemainsInterfaceCount, RemainsDesc}
 
+not_none : (n : ℕ) → 0 ≡ suc n → ⊥
+not_none n e = absurd (omega arith)
+
 pub bytes_remain : (n d : ℕ) (m : Moment) (K : Behind) (fs : List Piece) → RemainsBytes d n m K fs
     → (bytes : List ℕ) × (r : List Piece) × IsBytes bytes × (length bytes ≡ n) × (fs ≡ cut_bytes d m bytes r) × K m r
 bytes_remain zero d m K fs h = ([], fs, refl, refl, refl, h)
-bytes_remain (suc n) d m K fs ([], r, a, e, k) = let z : 0 ≡ suc n = a.1 in absurd (omega arith)
+bytes_remain (suc n) d m K fs ([], r, a, e, k) = absurd (not_none n a.1)
 bytes_remain (suc n) d m K fs (b ∷ bs, r, a, e, k) = (b ∷ bs, r, a.0, a.1, rw a.1 e, k)
 
 prims_remain : (cs : List PrimCode) (parts : List Part) (d : ℕ) (m : Moment) (K : Behind) (fs : List Piece)
     → RemainsParts d (prim_parts cs parts) m K fs
     → (ps : List PrimTree) × (r : List Piece) × ArePrims cs ps × (fs ≡ cut_prims d m cs ps r) × RemainsParts d parts m K r
 prims_remain [] parts d m K fs h = ([], fs, tt, refl, h)
-prims_remain (c ∷ cs) parts d m K fs ([], r1, a, e, k) = let z : 0 ≡ 1 = a.0 in absurd (omega arith)
+prims_remain (c ∷ cs) parts d m K fs ([], r1, a, e, k) = absurd (not_none 0 a.0)
 prims_remain (c ∷ cs) parts d m K fs (p ∷ q ∷ ps, r1, a, e, k) = let z : suc (suc (length ps)) ≡ 1 = a.0 in absurd (omega arith)
 prims_remain (c ∷ cs) parts d m K fs (p ∷ [], r1, a, e, k) =
     let x = prims_remain cs parts d m K r1 k in
@@ -76,7 +79,7 @@ pub body_remains : (elements : Option PrimCode) (n d : ℕ) (m : Moment) (K : Be
     → (b : BodyTree) × (r : List Piece) × (array_length b ≡ n) × WellFormedBody m.table b elements
     × (fs ≡ cut_body d m elements b r) × K (past_body m b) r
 body_remains (Some c) zero d m K fs l h = (raw_body [], fs, refl, (l, tt), refl, h)
-body_remains (Some c) (suc n) d m K fs l ([], r, a, e, k) = let z : 0 ≡ suc n = a.0 in absurd (omega arith)
+body_remains (Some c) (suc n) d m K fs l ([], r, a, e, k) = absurd (not_none n a.0)
 body_remains (Some c) (suc n) d m K fs l (p ∷ ps, r, a, e, k) = (raw_body (p ∷ ps), r, a.0, (rw a.0 l, a.1), rw a.0 e, k)
 body_remains None n d m K fs l h =
     let x = values_remain n [] d m K fs h in

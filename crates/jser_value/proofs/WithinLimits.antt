@@ -2,7 +2,7 @@
 use Rattle.std.proofs.Common.{ℕ, ◌≤◌, List, [], ◌∷◌, sym, subst, arith, IsTrue}
 use Rattle.jser_value.proofs.Vocabulary.{ContentTrees, WellFormed, fields_of}
 use Rattle.jser_value.specs.Counts.{epoch_handles}
-use Rattle.jser_value.specs.Limits.{Limits, Each, IsWithin, Limited}
+use Rattle.jser_value.specs.GateLimits.{GateLimits, Each, IsWithin, Limited}
 use Rattle.jser_value.proofs.Observed.{IsObserved, observed, observed_passes}
 use Rattle.jser_value.proofs.NamesObserved.{names_observed}
 use Rattle.jser_value.proofs.ArraysObserved.{arrays_observed}
@@ -17,7 +17,7 @@ below_each : (ns : List ℕ) (D : ℕ) → Each (λ n. n ≤ D) ns → greatest 
 below_each [] D h = omega arith
 below_each (n ∷ ns) D h = let a = h.0 in let r = below_each ns D h.1 in omega arith
 
-within : (limits : Limits) (list : ContentTrees) → WellFormed list → IsObserved limits (fields_of list) → IsWithin limits list
+within : (limits : GateLimits) (list : ContentTrees) → WellFormed list → IsObserved limits (fields_of list) → IsWithin limits list
 within limits list w o =
     let d = depth_observed list w in
     let p = places_observed list w in
@@ -32,7 +32,7 @@ within limits list w o =
       subst (λ ns. Each (λ n. IsTrue (limits.passes n)) ns) (names_observed list w) o.names,
     )
 
-without : (limits : Limits) (list : ContentTrees) → WellFormed list → IsWithin limits list → IsObserved limits (fields_of list)
+without : (limits : GateLimits) (list : ContentTrees) → WellFormed list → IsWithin limits list → IsObserved limits (fields_of list)
 without limits list w (d, p, a, t, n) =
     let ed = depth_observed list w in
     let ep = places_observed list w in

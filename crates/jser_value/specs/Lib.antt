@@ -21,5 +21,5 @@ pub mod Laws
 pub mod ByteLaws
 pub mod Scanner
 pub mod WalkLaws
-pub mod Limits
+pub mod GateLimits
 pub mod Totals

@@ -6,7 +6,7 @@ use Rattle.jser_value.specs.WellFormed.{WellFormed}
 use Rattle.jser_value.specs.Counts.{content_count, refs_of, depth_of, handle_count}
 use Rattle.jser_value.specs.Labels.{StreamField, Position, top_at, Piece, piece}
 use Rattle.jser_value.specs.Fields.{fields_of}
-use Rattle.jser_value.specs.Limits.{begins_place, assigns_handle}
+use Rattle.jser_value.specs.GateLimits.{begins_place, assigns_handle}
 
 abbrev pub begins_content : Position → StreamField → Bool
 begins_content top_at field = true

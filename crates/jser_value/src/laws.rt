@@ -5,7 +5,7 @@
 ghost use Rattle.jser_value.specs.Laws.{Exact, NextIsTold};
 ghost use Rattle.jser_value.specs.ByteLaws.{OneReading, NoPrefix, Spelled};
 ghost use Rattle.jser_value.specs.WalkLaws.{AcceptsExactly, RefusesFirst, NoFaultPassed, CutShort, FieldsAreTold, EachGateHasAVerdict};
-ghost use Rattle.jser_value.specs.Limits.{Limited};
+ghost use Rattle.jser_value.specs.GateLimits.{Limited};
 ghost use Rattle.jser_value.specs.Totals.{Totalled};
 
 /// Of a byte list at most one content list makes a stream.

@@ -2,7 +2,7 @@
 //! says what can be written down, and `Contents` says which lists obey the format.
 
 /// A content of a stream or of an annotation.
-#[derive(PartialEq, Debug, Drop)]
+#[derive(PartialEq, Eq, Debug, Drop)]
 #[cycle(tree)]
 pub enum Content {
     /// Block data (TC_BLOCKDATA, or TC_BLOCKDATALONG where `long`).
@@ -19,7 +19,7 @@ pub enum Content {
 }
 
 /// A value: what may be an object's field, an array's element or a content.
-#[derive(PartialEq, Debug, Drop)]
+#[derive(PartialEq, Eq, Debug, Drop)]
 #[cycle(tree)]
 pub enum Value {
     /// TC_NULL.
@@ -56,7 +56,7 @@ pub enum Value {
 }
 
 /// A string (TC_STRING, or TC_LONGSTRING where `long`).
-#[derive(PartialEq, Debug, Drop)]
+#[derive(PartialEq, Eq, Debug, Drop)]
 pub struct Text {
     /// Whether the length is written in 8 bytes, else in 2.
     pub long: bool,
@@ -65,7 +65,7 @@ pub struct Text {
 }
 
 /// What stands where the grammar asks for a string: a field's type, a constant's name.
-#[derive(PartialEq, Debug, Drop)]
+#[derive(PartialEq, Eq, Debug, Drop)]
 pub enum TextPlace {
     /// A new string.
     New(Text),
@@ -74,7 +74,7 @@ pub enum TextPlace {
 }
 
 /// What stands where the grammar asks for a class.
-#[derive(PartialEq, Debug, Drop)]
+#[derive(PartialEq, Eq, Debug, Drop)]
 #[cycle(tree)]
 pub enum ClassPlace {
     /// A new descriptor.
@@ -86,7 +86,7 @@ pub enum ClassPlace {
 }
 
 /// A class descriptor.
-#[derive(PartialEq, Debug, Drop)]
+#[derive(PartialEq, Eq, Debug, Drop)]
 #[cycle(tree)]
 pub enum Desc {
     /// A plain descriptor (TC_CLASSDESC).
@@ -116,7 +116,7 @@ pub enum Desc {
 }
 
 /// A field of a plain descriptor.
-#[derive(PartialEq, Debug, Drop)]
+#[derive(PartialEq, Eq, Debug, Drop)]
 pub struct Field {
     /// The type code: a byte of `BCDFIJSZ`, `[` or `L`.
     pub code: u8,
@@ -127,7 +127,7 @@ pub struct Field {
 }
 
 /// What one class of an object's chain wrote.
-#[derive(PartialEq, Debug, Drop)]
+#[derive(PartialEq, Eq, Debug, Drop)]
 #[cycle(tree)]
 pub struct Section {
     /// The values of its primitive fields.
@@ -139,7 +139,7 @@ pub struct Section {
 }
 
 /// The elements of an array.
-#[derive(PartialEq, Debug, Drop)]
+#[derive(PartialEq, Eq, Debug, Drop)]
 #[cycle(tree)]
 pub enum Body {
     /// Raw values of a primitive type.

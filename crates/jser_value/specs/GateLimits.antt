@@ -9,7 +9,7 @@ use Rattle.jser_value.specs.Labels.{null_tag, string_tag, long_string_tag, proxy
 use Rattle.jser_value.specs.Fields.{fields_of}
 use Rattle.jser_value.specs.Scanner.{FieldGate, AllPass}
 
-pub record Limits : Type 0 where
+pub record GateLimits : Type 0 where
   pub depth : ℕ
   pub refs : ℕ
   pub array : ℕ
@@ -47,7 +47,7 @@ name_passes passes interface_name_at (text_field long units) = passes units
 name_passes passes _ field = true
 
 -- the gate of these limits
-abbrev pub gate_of : Limits → FieldGate
+abbrev pub gate_of : GateLimits → FieldGate
 gate_of limits label field =
     (not (begins_place label.position field)
     || (nat_le label.depth limits.depth && nat_lt label.moment.places limits.refs))
@@ -60,7 +60,7 @@ Each P [] = Unit {0}
 Each P (x ∷ xs) = P x × Each P xs
 
 -- a list within the limits
-abbrev pub IsWithin : Limits → ContentTrees → Type 0
+abbrev pub IsWithin : GateLimits → ContentTrees → Type 0
 IsWithin limits list =
     (depth_of list ≤ limits.depth) × (refs_of list ≤ limits.refs)
     × Each (λ n. n ≤ limits.array) (array_lengths list) × Each (λ n. n ≤ limits.handles) (epoch_handles list)
@@ -69,5 +69,5 @@ IsWithin limits list =
 -- The gate lets through each field of a list that obeys the format exactly where the list is within the limits.
 abbrev pub Limited : Type 0
 Limited =
-    (limits : Limits) (list : ContentTrees) → WellFormed list
+    (limits : GateLimits) (list : ContentTrees) → WellFormed list
     → AllPass (gate_of limits) (fields_of list) ↔ IsWithin limits list
