@@ -1,0 +1,53 @@
+-- What the walk over bytes says of streams and faults, for every verdict and gate that go together.
+use Rattle.std.specs.Prelude.{ℕ, ◌≡◌, ◌≤◌, List, [], ◌++◌, length}
+use Rattle.jser_value.specs.Trees.{ContentTrees}
+use Rattle.jser_value.specs.Streams.{IsStreamOf}
+use Rattle.jser_value.specs.Goals.{State, settled}
+use Rattle.jser_value.specs.Labels.{Piece}
+use Rattle.jser_value.specs.Fields.{fields_of}
+use Rattle.jser_value.specs.FieldBytes.{joined}
+use Rattle.jser_value.specs.Machine.{begin_state, IsDone, Runs, left}
+use Rattle.jser_value.specs.Scanner.{VerdictOn, FieldGate, IsScanner, ended, refused, walk, AllPass, PassesBy, IsFaultBy}
+
+-- The walk ends at the top with no cut field exactly where the bytes are a stream that the gate lets through.
+abbrev pub AcceptsExactly : Type 0
+AcceptsExactly = (gate : FieldGate) (verdict : VerdictOn) → IsScanner gate verdict → (bytes : List ℕ) →
+    ((s : State) × IsDone (settled s) × (walk verdict begin_state [] bytes ≡ ended s []) → (list : ContentTrees)
+    × PassesBy gate bytes list)
+    × ((list : ContentTrees) × PassesBy gate bytes list → (s : State) × IsDone (settled s)
+    × (walk verdict begin_state [] bytes ≡ ended s []))
+
+-- What it refuses is a fault, and no fault is decided by fewer bytes.
+abbrev pub RefusesFirst : Type 0
+RefusesFirst =
+    (gate : FieldGate) (verdict : VerdictOn) → IsScanner gate verdict → (bytes wrong rest : List ℕ) (reason : ℕ) →
+    walk verdict begin_state [] bytes ≡ refused wrong rest reason →
+    IsFaultBy verdict bytes wrong rest reason
+    × ((wrong' rest' : List ℕ) (reason' : ℕ) → IsFaultBy verdict bytes wrong' rest' reason'
+    → length rest' ≤ length rest)
+
+-- Where it refuses nothing, there is no fault.
+abbrev pub NoFaultPassed : Type 0
+NoFaultPassed = (gate : FieldGate) (verdict : VerdictOn) → IsScanner gate verdict → (bytes cut : List ℕ) (s : State) →
+    walk verdict begin_state [] bytes ≡ ended s cut → (wrong rest : List ℕ) (reason : ℕ)
+    → IsFaultBy verdict bytes wrong rest reason → ⊥
+
+-- Where it ends within a field, or short of the top, the bytes are no stream.
+abbrev pub CutShort : Type 0
+CutShort = (gate : FieldGate) (verdict : VerdictOn) → IsScanner gate verdict → (bytes cut : List ℕ) (s : State) →
+    walk verdict begin_state [] bytes ≡ ended s cut → (list : ContentTrees) → IsStreamOf bytes list
+    → IsDone (settled s) × (cut ≡ [])
+
+-- None of this is said of nothing: each gate has such a verdict.
+abbrev pub EachGateHasAVerdict : Type 0
+EachGateHasAVerdict = (gate : FieldGate) → (verdict : VerdictOn) × IsScanner gate verdict
+
+-- What it has taken when it ends are the first fields of every stream that begins with these bytes, and the bytes
+-- behind them are those of the cut field.
+abbrev pub FieldsAreTold : Type 0
+FieldsAreTold = (gate : FieldGate) (verdict : VerdictOn) → IsScanner gate verdict → (bytes cut : List ℕ) (s : State) →
+    walk verdict begin_state [] bytes ≡ ended s cut →
+    (front : List Piece) × Runs begin_state front × AllPass gate front × (left begin_state front ≡ s)
+    × (bytes ≡ joined front ++ cut)
+    × ((behind : List ℕ) (list : ContentTrees) → IsStreamOf (bytes ++ behind) list → (rest : List Piece)
+    × (fields_of list ≡ front ++ rest))

@@ -1,0 +1,9 @@
+//! What a stream is: the trees of its contents, the bytes that spell them, and which trees obey the
+//! format. `specs/` has the definitions, by the grammar of the Java Object Serialization Specification,
+//! section 6.4; `laws` has what holds of them alone.
+#![tactic(auto)]
+
+pub mod laws;
+mod tree;
+
+pub use tree::{Body, ClassPlace, Content, Desc, Field, Prim, Section, Text, TextPlace, Value};
