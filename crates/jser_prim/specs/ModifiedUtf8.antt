@@ -2,7 +2,9 @@
 -- units, each by itself, also those of a surrogate pair: 0001 to 007F in one byte, 0000 and 0080 to 07FF
 -- in two, 0800 to FFFF in three.
 use Rattle.std.specs.Prelude.{ℕ, IsTrue, ◌+◌, ◌/◌, ◌%◌, ◌&&◌, nat_lt, nat_le, if◌then◌else◌, List, [], ◌∷◌, ◌++◌}
-use Rattle.std.specs.List.{list_all}
+use Rattle.std.specs.Char.Escape.{encode_utf16}
+use Rattle.std.specs.List.{flat_map, list_all}
+use Rattle.std.specs.Str.{chars}
 
 -- the bytes of one unit
 unfoldable pub unit_spelling : ℕ → List ℕ
@@ -19,3 +21,7 @@ modified_utf8 (unit ∷ units) = unit_spelling unit ++ modified_utf8 units
 -- these numbers are 16-bit units
 abbrev pub IsUnits : List ℕ → Type 0
 IsUnits units = IsTrue (list_all (λ unit. nat_lt unit 0x10000) units)
+
+-- the units of a text of the program, by which Java's `char` values are meant: UTF-16
+abbrev pub utf16_units : List ℕ → List ℕ
+utf16_units text = flat_map encode_utf16 (chars text)

@@ -1,0 +1,78 @@
+//! Plain ASCII, many bytes at a time: a text's units of one byte each, 0001 to 007F.
+ghost use Rattle.std.specs.Prelude.{◌≡◌, ◌+◌, ◌≤◌, IsTrue, length};
+ghost use Rattle.jser_prim.specs.Lanes.{IsAsciiBetween, first_set};
+
+use std::simd::prelude::*;
+
+/// How many bytes are searched together for the first that is something else.
+const LANES: usize = 16;
+
+/// How many bytes are tested together within a long run.
+const BLOCK: usize = 64;
+
+/// How many bytes at the front of `bytes` come before the first that is no unit of one byte.
+pub(crate) fn ascii_len(bytes: &[u8]) -> usize
+    ensures within { result ≤ length bytes.now }
+    ensures ascii { IsAsciiBetween bytes.now 0 result }
+{
+    let mut len = 0;
+    'loads: while bytes.len() - len >= LANES {
+        let run = ascii_run(bytes, len);
+        len += run;
+        if run < LANES {
+            return len;
+        }
+        len = after_blocks(bytes, len);
+    }
+    'bytes: while len < bytes.len() && 0x01 <= bytes[len] && bytes[len] < 0x80 {
+        len += 1;
+    }
+    len
+}
+
+/// Where the blocks from `at` on end that hold nothing but units of one byte.
+fn after_blocks(bytes: &[u8], at: usize) -> usize
+    requires { at ≤ length bytes.now }
+    ensures within { result ≤ length bytes.now }
+    ensures ahead { at ≤ result }
+    ensures ascii { IsAsciiBetween bytes.now at result }
+{
+    let mut end = at;
+    'plain: while bytes.len() - end >= BLOCK && is_ascii_block(bytes, end) {
+        end += BLOCK;
+    }
+    end
+}
+
+/// Whether the block of bytes from `at` on holds nothing but units of one byte.
+#[inline(always)]
+fn is_ascii_block(bytes: &[u8], at: usize) -> bool
+    requires { at + BLOCK ≤ length bytes.now }
+    ensures { IsTrue result → IsAsciiBetween bytes.now at (at + BLOCK) }
+{
+    let stops = (u8x64::from_slice(&bytes[at..]) - u8x64::splat(1)).simd_ge(u8x64::splat(0x7F));
+    stops.to_bitmask() == 0
+}
+
+/// How many bytes from `at` on, of one load, come before the first that is no unit of one byte.
+#[inline(always)]
+fn ascii_run(bytes: &[u8], at: usize) -> usize
+    requires { at + LANES ≤ length bytes.now }
+    ensures within { result ≤ LANES }
+    ensures ascii { IsAsciiBetween bytes.now at (at + result) }
+{
+    let stops = (u8x16::from_slice(&bytes[at..]) - u8x16::splat(1)).simd_ge(u8x16::splat(0x7F));
+    first_set(stops.to_bitmask())
+}
+
+/// The place of the lowest bit that is set, or `LANES` where none is.
+#[inline(always)]
+fn first_set(mask: u64) -> usize
+    ensures { result ≡ first_set mask LANES }
+{
+    if mask == 0 {
+        LANES
+    } else {
+        mask.trailing_zeros() as usize
+    }
+}
