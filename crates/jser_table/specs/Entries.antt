@@ -1,6 +1,6 @@
 -- The table of handles of one epoch: a list of entries in the order of their handles (Java Object
 -- Serialization Specification, section 6.2, newHandle).
-use Rattle.std.specs.Prelude.{ℕ, Bool, true, false, List, [], ◌∷◌, Option, Some, None, slice_get}
+use Rattle.std.specs.Prelude.{ℕ, Bool, true, false, List, [], Option, Some, None, slice_get}
 use Rattle.jser_table.specs.declared.layer.Layer.{Layer}
 
 -- A string; a class object, object, array or enum constant; a descriptor whose superclass place has not

@@ -1,13 +1,15 @@
 -- Names of classes, as lists of 16-bit units. A name that begins with `[` is that of an array class
 -- (`java.lang.Class.getName`): one or more `[`, and then a letter of BCDFIJSZ for elements of a primitive
 -- type, or `L`, any units and `;`.
-use Rattle.std.specs.Prelude.{ℕ, Bool, true, false, ◌||◌, ◌==◌, if◌then◌else◌, codes, List, [], ◌∷◌}
+use Rattle.std.specs.Prelude.{ℕ, Bool, false, ◌||◌, ◌==◌, if◌then◌else◌, codes, List, [], ◌∷◌, Option, Some, None}
 use Rattle.std.specs.List.{list_any}
 use Rattle.std.specs.Str.{bytes_eq}
 use Rattle.jser_table.specs.declared.layer.BodyKind.{BodyKind}
 use Rattle.jser_table.specs.declared.layer.BodyKind.TheVariants.{Prim, Values}
 use Rattle.jser_table.specs.declared.layer.LayerKind.{LayerKind}
 use Rattle.jser_table.specs.declared.layer.LayerKind.TheVariants as kind
+use Rattle.jser_table.specs.declared.name.Element.{Element}
+use Rattle.jser_table.specs.declared.name.Element.TheVariants.{Name, Primitive, Malformed}
 
 -- the letter is the type code of a primitive
 abbrev pub is_primitive_code : ℕ → Bool
@@ -72,17 +74,24 @@ abbrev pub primitive_array_element : ℕ → List ℕ → ElementOf
 primitive_array_element c [] = if is_primitive_code c then primitive_element else malformed_element
 primitive_array_element c (d ∷ units) = malformed_element
 
+-- what stands behind an `L`: a class, up to the `;` that ends the name
+abbrev pub class_element : List ℕ → ElementOf
+class_element units = if ends_in 0x3B units then element (all_but_last units) else malformed_element
+
 -- what stands behind a `[`: an array is judged by its elements
 abbrev pub array_element : List ℕ → ElementOf
 array_element [] = malformed_element
 array_element (c ∷ units) =
     if c == 0x5B then array_element units
-    else (if c == 0x4C then (if ends_in 0x3B units then element (all_but_last units) else malformed_element)
+    else (if c == 0x4C then class_element units
     else (primitive_array_element c units))
+
+abbrev pub is_primitive_name : List ℕ → Bool
+is_primitive_name name = list_any (bytes_eq name) primitive_names
 
 -- a name that does not begin with `[` is judged by itself
 abbrev pub plain_element : List ℕ → ElementOf
-plain_element name = if list_any (bytes_eq name) primitive_names then primitive_element else element name
+plain_element name = if is_primitive_name name then primitive_element else element name
 
 -- what a name is judged by
 abbrev pub element_of : List ℕ → ElementOf
@@ -94,3 +103,15 @@ abbrev pub layer_kind : NameKind → LayerKind
 layer_kind plain_name = kind.Other
 layer_kind (array_name body) = kind.Array body
 layer_kind malformed_name = kind.Other
+
+-- the same, and nothing for a malformed name
+abbrev pub told_kind : NameKind → Option LayerKind
+told_kind plain_name = Some kind.Other
+told_kind (array_name body) = Some (kind.Array body)
+told_kind malformed_name = None
+
+-- an answer of the call `element_of`, seen as the definition's
+abbrev pub view_element : Element → ElementOf
+view_element (Name units) = element units.now
+view_element Primitive = primitive_element
+view_element Malformed = malformed_element

@@ -1,6 +1,19 @@
 //! Layers: what an object's data needs of each class of a chain.
+ghost use Rattle.std.specs.Prelude.{◌≡◌};
+ghost use Rattle.jser_table.specs.Chains.{has_write_method, is_serializable, is_externalizable, has_block_data, is_enum, is_empty, is_filled, is_serial, is_array_kind};
+ghost use Rattle.jser_table.specs.Fits.{class_fit, object_fit};
 
 use std::marker::Model;
+
+const SC_WRITE_METHOD: u8 = 0x01;
+
+const SC_SERIALIZABLE: u8 = 0x02;
+
+const SC_EXTERNALIZABLE: u8 = 0x04;
+
+const SC_BLOCK_DATA: u8 = 0x08;
+
+const SC_ENUM: u8 = 0x10;
 
 /// What the elements of an array are.
 #[derive(Clone, Copy, PartialEq, Eq, Debug)]
@@ -47,7 +60,7 @@ pub enum Fit {
 }
 
 /// The type codes of a class's fields, in the order of its descriptor.
-#[derive(Drop)]
+#[derive(Debug, Drop)]
 pub struct Codes {
     codes: Vec<u8>,
 }
@@ -60,8 +73,39 @@ impl Model for Codes {
     ghost view = { λ a. a.codes.items };
 }
 
+impl Codes {
+    /// These codes. Takes no memory.
+    pub fn new(codes: Vec<u8>) -> Codes
+        ensures { result ≡ codes.items }
+    {
+        Self { codes }
+    }
+
+    /// The codes, in order.
+    pub fn as_slice(&self) -> &[u8]
+        ensures { result.now ≡ self.now }
+    {
+        self.codes.as_slice()
+    }
+
+    /// Whether there are none.
+    pub fn is_empty(&self) -> bool
+        ensures { result ≡ is_empty self.now }
+    {
+        self.as_slice().is_empty()
+    }
+
+    /// Gives the vector back. Takes no memory.
+    pub fn into_vec(self) -> Vec<u8>
+        ensures { result.items ≡ self }
+    {
+        let Codes { codes } = self;
+        codes
+    }
+}
+
 /// One class of a chain, as far as the data of its objects depends on it.
-#[derive(Drop)]
+#[derive(Debug, Drop)]
 pub struct Layer {
     /// What the class is.
     pub kind: LayerKind,
@@ -69,4 +113,98 @@ pub struct Layer {
     pub flags: u8,
     /// The type codes of its fields, in order; none for a proxy.
     pub codes: Codes,
+}
+
+impl Layer {
+    /// Whether the flags have `SC_WRITE_METHOD`: an annotation follows the class's fields.
+    pub fn has_write_method(&self) -> bool
+        ensures { result ≡ has_write_method self.now.flags }
+    {
+        self.flags & SC_WRITE_METHOD != 0
+    }
+
+    /// Whether the flags have `SC_SERIALIZABLE`.
+    #[tactic(auto, using(crate::proofs::FlagLemmas::serializable_bit))]
+    pub fn is_serializable(&self) -> bool
+        ensures { result ≡ is_serializable self.now.flags }
+    {
+        self.flags & SC_SERIALIZABLE != 0
+    }
+
+    /// Whether the flags have `SC_EXTERNALIZABLE`.
+    #[tactic(auto, using(crate::proofs::FlagLemmas::externalizable_bit))]
+    pub fn is_externalizable(&self) -> bool
+        ensures { result ≡ is_externalizable self.now.flags }
+    {
+        self.flags & SC_EXTERNALIZABLE != 0
+    }
+
+    /// Whether the flags have `SC_BLOCK_DATA`: an externalizable class writes block data.
+    #[tactic(auto, using(crate::proofs::FlagLemmas::block_data_bit))]
+    pub fn has_block_data(&self) -> bool
+        ensures { result ≡ has_block_data self.now.flags }
+    {
+        self.flags & SC_BLOCK_DATA != 0
+    }
+
+    /// Whether the flags have `SC_ENUM`.
+    #[tactic(auto, using(crate::proofs::FlagLemmas::enum_bit))]
+    pub fn is_enum(&self) -> bool
+        ensures { result ≡ is_enum self.now.flags }
+    {
+        self.flags & SC_ENUM != 0
+    }
+
+    /// Whether an object holds something to read for this class: fields, or an annotation.
+    pub fn is_filled(&self) -> bool
+        ensures { result ≡ is_filled self.now }
+    {
+        !self.codes.is_empty() || self.has_write_method()
+    }
+
+    /// Whether the class is a proxy or has the flag `SC_SERIALIZABLE`.
+    pub fn is_serial(&self) -> bool
+        ensures { result ≡ is_serial self.now }
+    {
+        self.kind == LayerKind::Proxy || self.is_serializable()
+    }
+
+    /// Whether this class fits the purpose. `all_serial` tells whether each class of its chain, itself
+    /// included, is a proxy or serializable.
+    pub(crate) fn fit(&self, purpose: Purpose, all_serial: bool) -> Fit
+        ensures { result ≡ class_fit purpose self.now all_serial }
+    {
+        let is_right = match purpose {
+            Purpose::Object => return self.fit_object(all_serial),
+            Purpose::Array => self.is_array(),
+            Purpose::EnumConst => self.kind != LayerKind::Proxy && self.is_enum(),
+        };
+        if is_right { Fit::Fits } else { Fit::WrongClass }
+    }
+
+    fn fit_object(&self, all_serial: bool) -> Fit
+        ensures { result ≡ object_fit self.now all_serial }
+    {
+        if self.is_array() {
+            return Fit::WrongClass;
+        }
+        if self.is_externalizable() {
+            return if self.has_block_data() {
+                Fit::Fits
+            } else {
+                Fit::ExternalRaw
+            };
+        }
+        if all_serial {
+            Fit::Fits
+        } else {
+            Fit::NotSerializable
+        }
+    }
+
+    fn is_array(&self) -> bool
+        ensures { result ≡ is_array_kind self.now.kind }
+    {
+        matches!(self.kind, LayerKind::Array(_))
+    }
 }

@@ -1,0 +1,111 @@
+-- How closed descriptors stand for chains. They are kept in the order in which they were closed, so a
+-- superclass stands before its subclasses: the chain of a descriptor is that of its parent and then its own
+-- layer.
+use Rattle.std.specs.Prelude.{ℕ, ◌≡◌, ◌+◌, ◌-◌, ◌<◌, ◌≤◌, List, [], ◌∷◌, ◌++◌, length, take, drop, fold, count_by, slice_index_or, Option, Some, None}
+use Rattle.jser_table.specs.declared.layer.Layer.{Layer}
+use Rattle.jser_table.specs.declared.descriptor.Links.{Links}
+use Rattle.jser_table.specs.declared.descriptor.Descriptor.{Descriptor}
+use Rattle.jser_table.specs.declared.descriptor.Counted.{Counted}
+use Rattle.jser_table.specs.declared.descriptor.Counted.TheVariants as counted
+use Rattle.jser_table.specs.Chains.{all_serial, is_filled}
+
+-- the chain at this place
+abbrev pub chain_in : List (List Layer) → ℕ → List Layer
+chain_in chains place = slice_index_or chains place []
+
+-- the chain of this parent, if there is one
+abbrev pub chain_of_parent : List (List Layer) → Option ℕ → List Layer
+chain_of_parent chains None = []
+chain_of_parent chains (Some parent) = chain_in chains parent
+
+-- the chain that a class stands under, by its links
+abbrev pub chain_above : List (List Layer) → Option Links → List Layer
+chain_above chains None = []
+chain_above chains (Some links) = chain_in chains links.parent
+
+abbrev pub with_chain : List (List Layer) → Descriptor → List (List Layer)
+with_chain chains d = chains ++ (chain_above chains d.links ++ d.layer ∷ []) ∷ []
+
+-- the chains of these descriptors, in the same order
+unfoldable pub chains_of : List Descriptor → List (List Layer)
+chains_of descriptors = fold with_chain [] descriptors
+
+-- `whole` begins with `front`
+pub record IsFront (front whole : List Layer) : Type 0 where
+  pub rest : whole ≡ front ++ drop (length front) whole
+
+-- the superclasses of a chain: all layers but the last
+abbrev pub front_of : List Layer → List Layer
+front_of chain = take (length chain - 1) chain
+
+-- how many layers of a chain count
+abbrev pub count_of : Counted → List Layer → ℕ
+count_of counted.Layers chain = length chain
+count_of counted.Filled chain = count_by is_filled chain
+
+-- that number, as a descriptor tells it
+abbrev pub told_count : Counted → Descriptor → ℕ
+told_count counted.Layers d = d.layers
+told_count counted.Filled d = d.filled
+
+-- both links lead to superclasses, which were closed before
+abbrev pub AreLinks : List (List Layer) → ℕ → Option Links → Type 0
+AreLinks chains place None = Unit {0}
+AreLinks chains place (Some links) =
+    (links.parent < place) × (links.jump < place) × IsFront (chain_in chains links.jump) (chain_in chains place)
+
+-- what a descriptor knows of its chain as a whole
+pub record Knows (chain : List Layer) (d : Descriptor) : Type 0 where
+  pub layers : d.layers ≡ length chain
+  pub filled : d.filled ≡ count_by is_filled chain
+  pub serial : d.is_serial ≡ all_serial chain
+
+-- what the descriptor of a class knows by that of its parent and its own layer
+abbrev pub KnowsBelow : Descriptor → Layer → Descriptor → Type 0
+KnowsBelow parent layer d = (chain : List Layer) → Knows chain parent → Knows (chain ++ layer ∷ []) d
+
+-- what a descriptor tells of its chain
+pub record IsTold (chains : List (List Layer)) (place : ℕ) (d : Descriptor) : Type 0 where
+  pub own : chain_in chains place ≡ chain_above chains d.links ++ d.layer ∷ []
+  pub known : Knows (chain_in chains place) d
+  pub within : d.layers ≤ place + 1
+  pub links : AreLinks chains place d.links
+
+-- each descriptor tells of its chain
+abbrev pub AreTold : List Descriptor → Type 0
+AreTold descriptors =
+    (place : ℕ) (d : Descriptor) → place < length descriptors → d ≡ slice_index_or descriptors place d → IsTold (chains_of descriptors) place d
+
+-- the links of a class under this parent
+pub record LinksTo (chains : List (List Layer)) (parent : ℕ) (links : Links) : Type 0 where
+  pub parent_is : links.parent ≡ parent
+  pub parent_in : parent < length chains
+  pub jump_in : links.jump < length chains
+  pub jump_front : IsFront (chain_in chains links.jump) (chain_in chains parent)
+
+-- the same, where there may be no parent
+abbrev pub LinkUnder : List (List Layer) → Option ℕ → Option Links → Type 0
+LinkUnder chains None None = Unit {0}
+LinkUnder chains None (Some links) = ⊥
+LinkUnder chains (Some parent) None = ⊥
+LinkUnder chains (Some parent) (Some links) = LinksTo chains parent links
+
+-- a descriptor of this layer, made to stand under this parent
+pub record IsUnder (chains : List (List Layer)) (parent : Option ℕ) (layer : Layer) (d : Descriptor) : Type 0 where
+  pub layer_is : d.layer ≡ layer
+  pub links : LinkUnder chains parent d.links
+  pub known : Knows (chain_of_parent chains parent ++ layer ∷ []) d
+  pub within : d.layers ≤ length chains + 1
+
+-- One link up from the class at this place, with a count that is still over the bound.
+pub record GoesUp (counted : Counted) (bound : ℕ) (chains : List (List Layer)) (place higher : ℕ) : Type 0 where
+  pub before : higher < place
+  pub front : IsFront (chain_in chains higher) (chain_in chains place)
+  pub over : bound < count_of counted (chain_in chains higher)
+
+-- The highest superclass, or the class itself, whose count is over the bound: `front` is its chain, and
+-- `whole` that of the class.
+pub record IsHighest (counted : Counted) (bound : ℕ) (whole front : List Layer) : Type 0 where
+  pub is_front : IsFront front whole
+  pub over : bound < count_of counted front
+  pub least : count_of counted (front_of front) ≤ bound

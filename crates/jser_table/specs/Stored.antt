@@ -1,0 +1,8 @@
+-- What contracts see of the chains that a table keeps.
+use Rattle.std.specs.Prelude.{ℕ, List}
+use Rattle.jser_table.specs.declared.layer.Layer.{Layer}
+
+-- the chains, and how many more may be added with no new memory
+pub record ChainList : Type 0 where
+  pub listed : List (List Layer)
+  pub room : ℕ

@@ -1,0 +1,81 @@
+//! A closed descriptor: its own layer, its links to superclasses, and what is known of its whole chain.
+ghost use Rattle.std.specs.Prelude.{◌≡◌, ◌<◌, ◌≤◌, ◌^◌, ◌-◌, [], ◌∷◌, Some, None};
+ghost use Rattle.jser_table.specs.Descriptors.{told_count, Knows, KnowsBelow};
+
+use crate::layer::Layer;
+
+/// Where a descriptor's superclasses stand in the list of closed descriptors: the parent, and an ancestor
+/// further up. The jumps are those of a skew-binary list (E. Myers, "An applicative random-access stack",
+/// 1983), so a walk to any ancestor takes a number of links in the order of the logarithm of the chain.
+#[derive(Clone, Copy, Debug)]
+pub(crate) struct Links {
+    pub(crate) parent: u32,
+    pub(crate) jump: u32,
+}
+
+/// A closed descriptor.
+#[derive(Debug, Drop)]
+pub(crate) struct Descriptor {
+    pub(crate) layer: Layer,
+    /// None for a class with no superclass.
+    pub(crate) links: Option<Links>,
+    /// How many layers the chain has.
+    pub(crate) layers: u32,
+    /// How many of them have something to read.
+    pub(crate) filled: u32,
+    /// Whether each of them is a proxy or serializable.
+    pub(crate) is_serial: bool,
+}
+
+/// What a walk up a chain counts: all layers, or those that have something to read.
+#[derive(Clone, Copy, Debug)]
+pub(crate) enum Counted {
+    Layers,
+    Filled,
+}
+
+impl Descriptor {
+    /// A class with no superclass.
+    #[tactic(auto, using(crate::proofs::ChainLemmas::knows_root))]
+    pub(crate) fn root(layer: Layer) -> Descriptor
+        ensures layer { result.layer ≡ layer }
+        ensures links { result.links ≡ None }
+        ensures known { Knows (layer ∷ []) result }
+    {
+        Descriptor {
+            links: None,
+            layers: 1,
+            filled: u32::from(layer.is_filled()),
+            is_serial: layer.is_serial(),
+            layer,
+        }
+    }
+
+    /// A class with this superclass.
+    #[tactic(auto, using(crate::proofs::ChainLemmas::knows_below))]
+    pub(crate) fn below(parent: &Descriptor, links: Links, layer: Layer) -> Descriptor
+        requires fewer { parent.now.layers < 2 ^ 32 - 1 }
+        requires filled { parent.now.filled ≤ parent.now.layers }
+        ensures layer { result.layer ≡ layer }
+        ensures links { result.links ≡ Some links }
+        ensures known { KnowsBelow parent.now layer result }
+    {
+        Descriptor {
+            links: Some(links),
+            layers: parent.layers + 1,
+            filled: parent.filled + u32::from(layer.is_filled()),
+            is_serial: parent.is_serial && layer.is_serial(),
+            layer,
+        }
+    }
+
+    /// How many layers of the chain count.
+    pub(crate) fn count(&self, counted: Counted) -> usize
+        ensures { result ≡ told_count counted self.now }
+    {
+        match counted {
+            Counted::Layers => self.layers as usize,
+            Counted::Filled => self.filled as usize,
+        }
+    }
+}

@@ -1,0 +1,212 @@
+//! The table of handles of one epoch: a list of entries in the order of their handles.
+//!
+//! Each entry takes eight bytes. What only descriptors need lies apart, and its room is reserved when a
+//! descriptor's handle is assigned, so closing a descriptor takes no memory.
+ghost use Rattle.std.specs.Prelude.{◌≡◌, ◌≢◌, ◌<◌, ◌≤◌, ◌↔◌, [], ◌∷◌, ◌++◌, length, map, slice_get, slice_set, is_some, Some, None, IsTrue, IfOk, OnErr};
+ghost use Rattle.std.specs.Option.{ForSome, option_copied};
+ghost use Rattle.jser_table.specs.Chains.{all_serial, next_filled};
+ghost use Rattle.jser_table.specs.Entries.{is_text, is_pending, is_closed, chain_at};
+ghost use Rattle.jser_table.specs.Fits.{fit_of};
+ghost use Rattle.jser_table.specs.Tables.{new_entry, closed_under, is_text_entry, is_pending_entry, is_closed_entry, closed_kept, IsNumberOf, text_of};
+
+use crate::chains::Chains;
+use crate::entry::{Closed, Entry, Kind, new_entry};
+use crate::layer::{Fit, Layer, Purpose};
+use std::alloc::Global;
+use std::error::Error;
+use std::fmt;
+use std::marker::Model;
+
+/// Why a handle was not assigned. The table is as it was.
+#[derive(Clone, Copy, PartialEq, Eq, Debug)]
+pub enum TableFault {
+    /// The table has as many entries as it may have.
+    Full,
+    /// There was no memory for one more.
+    OutOfMemory,
+}
+
+impl fmt::Display for TableFault {
+    ghost output = { λ fault. Some (text_of fault) };
+
+    fn fmt<W: fmt::Write>(&self, f: &mut fmt::Formatter<W>) -> fmt::Result {
+        match self {
+            TableFault::Full => write!(f, "the table of handles is full"),
+            TableFault::OutOfMemory => write!(f, "out of memory"),
+        }
+    }
+}
+
+impl Error for TableFault {}
+
+/// The entries of one epoch, in the order of their handles.
+#[derive(Debug, Drop)]
+pub struct Table {
+    entries: Vec<Entry>,
+    chains: Chains,
+    /// How many entries are pending: the room that `chains` owes.
+    pending: u32,
+    max: u32,
+}
+
+impl Model for Table {
+    ghost use Rattle.std.specs.Prelude.{map};
+    ghost use Rattle.jser_table.specs.Tables.{TableView};
+
+    ghost Value = { TableView };
+
+    ghost use Rattle.jser_table.specs.Tables.{view_entry, IsSound};
+
+    ghost view = { λ a. record { entries = map (view_entry a.chains.listed) a.entries.items; max = a.max } };
+
+    ghost invariant = { λ a. IsSound a.entries.items a.chains a.pending a.max };
+}
+
+impl Table {
+    /// A table with no entries, which may have up to `max`. Takes no memory.
+    pub fn new(alloc: Global, max: u32) -> Table
+        ensures entries { result.entries ≡ [] }
+        ensures max { result.max ≡ max }
+    {
+        Table {
+            entries: Vec::new(alloc),
+            chains: Chains::new(alloc),
+            pending: 0,
+            max,
+        }
+    }
+
+    /// Adds an entry and gives its number, counted from 0.
+    pub fn assign(&mut self, kind: Kind) -> Result<u32, TableFault>
+        ensures number { IfOk result (λ number. number ≡ length self.old.entries) }
+        ensures added { IfOk result (λ _. self.new.entries ≡ self.old.entries ++ new_entry kind ∷ []) }
+        ensures full { (result ≡ Err TableFault.Full) ↔ (length self.old.entries ≡ self.old.max) }
+        ensures unchanged { OnErr result (self.new ≡ self.old) }
+        ensures max { self.new.max ≡ self.old.max }
+        ensures below { IfOk result (λ number. number < self.old.max) }
+    {
+        let number = self.entries.len();
+        if number >= self.max as usize {
+            return Err(TableFault::Full);
+        }
+        if kind == Kind::Pending && self.chains.reserve(self.pending as usize + 1).is_err() {
+            return Err(TableFault::OutOfMemory);
+        }
+        if self.entries.push(new_entry(kind)).is_err() {
+            return Err(TableFault::OutOfMemory);
+        }
+        if kind == Kind::Pending {
+            self.pending += 1;
+        }
+        Ok(number as u32)
+    }
+
+    /// How many entries there are.
+    pub fn count(&self) -> u32
+        ensures { result ≡ length self.now.entries }
+    {
+        self.entries.len() as u32
+    }
+
+    /// Closes a pending entry: it has this layer over the chain of the parent, if there is one. Takes no
+    /// memory.
+    pub fn close(&mut self, number: u32, layer: Layer, parent: Option<u32>)
+        requires pending { IsTrue (is_pending (slice_get self.old.entries number)) }
+        requires parent { ForSome parent (λ p. IsTrue (is_closed (slice_get self.old.entries p))) }
+        ensures closed { self.new.entries ≡ slice_set self.old.entries number (closed_under self.old.entries parent layer) }
+        ensures max { self.new.max ≡ self.old.max }
+    {
+        let parent = parent_chain_number(&self.entries, parent);
+        let chain = self.chains.add(layer, parent);
+        self.entries[number as usize] = Entry::Closed(Closed { chain });
+        self.pending -= 1;
+    }
+
+    /// The entry with this number, if there is one.
+    pub fn get(&self, number: u32) -> Option<&Entry>
+        ensures present { is_some result ≡ is_some (slice_get self.now.entries number) }
+        ensures text { is_text_entry (option_copied result) ≡ is_text (slice_get self.now.entries number) }
+        ensures pending { is_pending_entry (option_copied result) ≡ is_pending (slice_get self.now.entries number) }
+        ensures closed { is_closed_entry (option_copied result) ≡ is_closed (slice_get self.now.entries number) }
+    {
+        self.entries.get(number as usize)
+    }
+
+    /// How many layers the chain of a closed entry has.
+    pub fn layers(&self, number: u32) -> usize
+        requires { IsTrue (is_closed (slice_get self.now.entries number)) }
+        ensures { result ≡ length (chain_at self.now.entries number) }
+    {
+        self.chains.layers(chain_number(&self.entries, number))
+    }
+
+    /// The layer of the chain of a closed entry at this index, where 0 is the highest superclass. The
+    /// number of steps is in the order of the logarithm of the chain.
+    pub fn layer(&self, number: u32, index: usize) -> &Layer
+        requires closed { IsTrue (is_closed (slice_get self.now.entries number)) }
+        requires index { index < length (chain_at self.now.entries number) }
+        ensures { slice_get (chain_at self.now.entries number) index ≡ Some result.now }
+    {
+        self.chains
+            .layer(chain_number(&self.entries, number), index)
+    }
+
+    /// The index of the first layer, at `from` or after it, for which an object holds something to read. The
+    /// number of steps is in the order of the logarithm of the chain.
+    pub fn next_filled(&self, number: u32, from: usize) -> Option<usize>
+        requires { IsTrue (is_closed (slice_get self.now.entries number)) }
+        ensures { result ≡ next_filled (chain_at self.now.entries number) from }
+    {
+        self.chains
+            .next_filled(chain_number(&self.entries, number), from)
+    }
+
+    /// Whether each layer of the chain of a closed entry is a proxy or serializable.
+    pub fn all_serial(&self, number: u32) -> bool
+        requires { IsTrue (is_closed (slice_get self.now.entries number)) }
+        ensures { result ≡ all_serial (chain_at self.now.entries number) }
+    {
+        self.chains.all_serial(chain_number(&self.entries, number))
+    }
+
+    /// Whether the class of a closed entry fits the purpose, or what is wrong with it.
+    pub fn fit(&self, number: u32, purpose: Purpose) -> Fit
+        requires { IsTrue (is_closed (slice_get self.now.entries number)) }
+        ensures { result ≡ fit_of purpose (chain_at self.now.entries number) }
+    {
+        self.chains
+            .fit(chain_number(&self.entries, number), purpose)
+    }
+
+    /// Forgets all entries, and keeps the memory for the next ones.
+    pub fn reset(&mut self)
+        ensures entries { self.new.entries ≡ [] }
+        ensures max { self.new.max ≡ self.old.max }
+    {
+        self.entries.clear();
+        self.chains.clear();
+        self.pending = 0;
+    }
+}
+
+/// The number of the chain of a closed entry.
+fn chain_number(entries: &[Entry], number: u32) -> u32
+    requires { IsTrue (is_closed_entry (slice_get entries.now number)) }
+    ensures { slice_get entries.now number ≡ Some (closed_kept result) }
+{
+    match entries[number as usize] {
+        Entry::Closed(closed) => closed.chain,
+        _ => unreachable!(),
+    }
+}
+
+/// The number of the chain of the parent's entry, if there is a parent.
+fn parent_chain_number(entries: &[Entry], parent: Option<u32>) -> Option<u32>
+    requires { ForSome parent (λ p. IsTrue (is_closed_entry (slice_get entries.now p))) }
+    ensures { IsNumberOf entries.now parent result }
+{
+    match parent {
+        None => None,
+        Some(parent) => Some(chain_number(entries, parent)),
+    }
+}
