@@ -21,3 +21,4 @@ pub mod Laws
 pub mod ByteLaws
 pub mod Scanner
 pub mod WalkLaws
+pub mod Limits

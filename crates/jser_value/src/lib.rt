@@ -3,7 +3,9 @@
 //! section 6.4; `laws` has what holds of them alone.
 #![tactic(auto)]
 
+mod contents;
 pub mod laws;
 mod tree;
 
+pub use contents::Contents;
 pub use tree::{Body, ClassPlace, Content, Desc, Field, Prim, Section, Text, TextPlace, Value};
