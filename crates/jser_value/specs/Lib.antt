@@ -22,3 +22,4 @@ pub mod ByteLaws
 pub mod Scanner
 pub mod WalkLaws
 pub mod Limits
+pub mod Outgoing
