@@ -4,6 +4,7 @@
 #![tactic(auto)]
 
 mod contents;
+mod encode;
 mod outbox;
 pub mod laws;
 mod tree;
