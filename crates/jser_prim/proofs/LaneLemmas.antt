@@ -6,7 +6,7 @@ use Rattle.std.proofs.lemmas.Simd.{first_set_mask_l, length-chunk, map-map, mask
 use Rattle.std.proofs.lemmas.List.{length-map}
 use Rattle.std.specs.List.{prefix_len}
 use lib.Lanes.{chunk, mask_l, top}
-use Rattle.jser_prim.specs.Lanes.{IsAsciiBetween, first_set}
+use Rattle.jser_prim.specs.WholeUnits.{IsAsciiBetween, first_set}
 
 -- a unit of one byte
 abbrev pub is_ascii : ℕ → Bool

@@ -3,12 +3,14 @@ use Rattle.std.proofs.Common.{◌≡◌, ℕ, ◌+◌, ◌-◌, ◌<◌, ◌≤�
 use Rattle.std.proofs.lemmas.List.{append-nil, get_or-drop, length-append, length-drop, length-take-le, take_more, take-append-drop, take-append-le, nil_from_length}
 use Rattle.std.proofs.Math.Seq.{take-append-add}
 use Rattle.jser_prim.specs.ModifiedUtf8.{modified_utf8}
-use Rattle.jser_prim.specs.Texts.{AreUnitsSpelled, BeginsText, Scan, HasAccepted, HasAcceptedAfter, FaultsAfter, Pushes, PushesFront, PushesTo}
+use Rattle.jser_prim.specs.Pushes.{Pushes, PushesFront, PushesTo}
+use Rattle.jser_prim.specs.Texts.{BeginsText, Scan, HasAccepted, HasAcceptedAfter}
+use Rattle.jser_prim.specs.WholeUnits.{AreUnitsSpelled}
 use Rattle.jser_prim.specs.Places.{cut_at, is_fault}
 use Rattle.jser_prim.specs.declared.place.Place.{Place}
 use Rattle.jser_prim.specs.declared.place.Place.TheVariants as place
-use Rattle.jser_prim.proofs.TextLemmas.{modified_utf8-append, units-append}
-use Rattle.jser_prim.proofs.ScanLemmas.{begins_front, begins_longer, empty_cut}
+use Rattle.jser_prim.proofs.TextLemmas.{begins_longer, modified_utf8-append, units-append}
+use Rattle.jser_prim.proofs.ScanLemmas.{empty_cut}
 
 -- it has accepted these units and no more
 exactly : (len : ℕ) (bytes units : List ℕ) (scan : Scan) → HasAccepted len bytes units scan → HasAcceptedAfter len bytes units scan
@@ -178,18 +180,6 @@ pub pushed_all : (old now : Scan) (bytes rest : List ℕ) → Pushed old now byt
 pushed_all old now bytes rest before none =
     let whole : before.front ≡ bytes = sym (append-nil before.front) ∙ ap (λ xs. before.front ++ xs) (sym (nil_from_length rest none)) ∙ sym before.split in
     subst (λ xs. Pushes old xs (length xs) now) whole before.pushes
-
--- ---- what the clauses of `push_all` say
-
--- no text begins with bytes that hold a fault
-pub no_text : (len : ℕ) (before bytes : List ℕ) (accepted : ℕ) → FaultsAfter len before bytes accepted → BeginsText len (before ++ bytes) → ⊥
-no_text len before bytes accepted faults begins =
-    let split : before ++ bytes ≡ (before ++ take (accepted + 1) bytes) ++ drop (accepted + 1) bytes =
-    ap (λ xs. before ++ xs) (sym (take-append-drop (accepted + 1) bytes)) ∙ sym (append_assoc before (take (accepted + 1) bytes) (drop (accepted + 1) bytes)) in
-    faults.fault (begins_front len (before ++ take (accepted + 1) bytes) (drop (accepted + 1) bytes) (subst (BeginsText len) split begins))
-
-pub begins_after : (len : ℕ) (bytes units : List ℕ) (scan : Scan) → HasAcceptedAfter len bytes units scan → BeginsText len bytes
-begins_after len bytes units scan after = after.accepted.begins
 
 -- ---- a turn of `push_all`: whole units at once, and then one byte
 

@@ -2,8 +2,8 @@
 use Rattle.std.proofs.Common.{◌≡◌, ◌≢◌, ℕ, suc, ◌+◌, ◌-◌, ◌*◌, ◌<◌, ◌≤◌, List, [], ◌∷◌, ◌++◌, length, take, drop, get_or, refl, arith, sym, ap, subst, ◌∙◌, append_assoc}
 use Rattle.std.proofs.lemmas.List.{get_or-take, length-append, length-take-le, take-append-drop, take_all}
 use Rattle.std.proofs.Math.Seq.{take-append_seam}
-use Rattle.jser_prim.specs.Lanes.{IsAsciiBetween}
-use Rattle.jser_prim.specs.Texts.{AreUnitsSpelled, FollowsUnits, IsUnitSpelled}
+use Rattle.jser_prim.specs.WholeUnits.{IsAsciiBetween}
+use Rattle.jser_prim.specs.WholeUnits.{AreUnitsSpelled, FollowsUnits, IsUnitSpelled}
 use Rattle.jser_prim.proofs.Units.{spelling_one, spelling_two, spelling_three}
 use Rattle.jser_prim.proofs.TextLemmas.{modified_utf8-append, modified_utf8-one, units-append, units_cons}
 

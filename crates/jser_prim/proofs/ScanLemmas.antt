@@ -1,6 +1,6 @@
 -- What a scan has accepted begins a text, one byte after another.
-use Rattle.std.proofs.Common.{◌≡◌, ◌≢◌, ℕ, zero, suc, ◌+◌, ◌-◌, ◌*◌, ◌<◌, ◌≤◌, inl, inr, List, [], ◌∷◌, ◌++◌, length, replicate, refl, arith, sym, ap, ◌∙◌, false, append_assoc}
-use Rattle.std.proofs.lemmas.List.{append-nil, length-append, length-replicate, nil_from_length}
+use Rattle.std.proofs.Common.{◌≡◌, ◌≢◌, ℕ, ◌+◌, ◌-◌, ◌*◌, ◌<◌, ◌≤◌, inl, inr, List, [], ◌∷◌, ◌++◌, length, refl, arith, sym, ap, ◌∙◌, false, append_assoc}
+use Rattle.std.proofs.lemmas.List.{append-nil, length-append}
 use Rattle.std.proofs.lemmas.Bool.{cases_lt}
 use Rattle.jser_prim.specs.ModifiedUtf8.{unit_spelling, modified_utf8, IsUnits}
 use Rattle.jser_prim.specs.Texts.{BeginsText, IsCutUnit, Scan, HasAccepted}
@@ -9,53 +9,7 @@ use Rattle.jser_prim.specs.declared.place.Place.{Place}
 use Rattle.jser_prim.specs.declared.place.Place.TheVariants as place
 use Rattle.jser_prim.proofs.Units.{same_unit, spelling_one, spelling_three}
 use Rattle.jser_prim.proofs.PlaceLemmas.{last_unit}
-use Rattle.jser_prim.proofs.TextLemmas.{text_goes_on, modified_utf8-append, modified_utf8-one, units-append, units_cons, units_head}
-
--- ---- texts that begin so
-
--- n units of one byte each fill n bytes
-ones_spelled : (n : ℕ) → modified_utf8 (replicate n 1) ≡ replicate n 1
-ones_spelled zero = refl
-ones_spelled (suc n) = ap (λ xs. xs ++ modified_utf8 (replicate n 1)) (spelling_one 1 (omega arith) (omega arith)) ∙ ap (λ xs. 1 ∷ xs) (ones_spelled n)
-
-ones_are : (n : ℕ) → IsUnits (replicate n 1)
-ones_are zero = refl
-ones_are (suc n) = units_cons 1 (replicate n 1) (omega arith) (ones_are n)
-
--- what begins a short enough text begins one of the length
-pub begins_longer : (len : ℕ) (units front rest : List ℕ) → IsUnits units → modified_utf8 units ≡ front ++ rest → length front + length rest ≤ len → BeginsText len front
-begins_longer len units front rest are spelled fits =
-    let missing = len - (length front + length rest) in
-    let whole : modified_utf8 (units ++ replicate missing 1) ≡ front ++ (rest ++ replicate missing 1) =
-    modified_utf8-append units (replicate missing 1) ∙ ap (λ xs. modified_utf8 units ++ xs) (ones_spelled missing)
-    ∙ ap (λ xs. xs ++ replicate missing 1) spelled ∙ append_assoc front rest (replicate missing 1) in
-    record {
-      units = units ++ replicate missing 1;
-      rest = rest ++ replicate missing 1;
-      are_units = units-append units (replicate missing 1) are (ones_are missing);
-      spelled = whole;
-      has_length = omega (arith, ap length whole, length-append front (rest ++ replicate missing 1), length-append rest (replicate missing 1), length-replicate {A = ℕ} missing 1);
-    }
-
--- the front of a front of a text
-pub begins_front : (len : ℕ) (xs ys : List ℕ) → BeginsText len (xs ++ ys) → BeginsText len xs
-begins_front len xs ys begins = record {
-  units = begins.units;
-  rest = ys ++ begins.rest;
-  are_units = begins.are_units;
-  spelled = begins.spelled ∙ append_assoc xs ys begins.rest;
-  has_length = begins.has_length;
-}
-
--- no front is longer than its text
-pub begins_within : (len : ℕ) (xs : List ℕ) → BeginsText len xs → length xs ≤ len
-begins_within len xs begins = omega (arith, begins.has_length, ap length begins.spelled, length-append xs begins.rest)
-
--- what has the length of its text is one
-pub begins_whole : (len : ℕ) (xs : List ℕ) (begins : BeginsText len xs) → length xs ≡ len → modified_utf8 begins.units ≡ xs
-begins_whole len xs begins whole =
-    let none : begins.rest ≡ [] = nil_from_length begins.rest (omega (arith, begins.has_length, ap length begins.spelled, length-append xs begins.rest)) in
-    begins.spelled ∙ ap (λ ys. xs ++ ys) none ∙ append-nil xs
+use Rattle.jser_prim.proofs.TextLemmas.{begins_longer, begins_whole, text_goes_on, modified_utf8-append, modified_utf8-one, units-append, units_cons, units_head}
 
 -- ---- a cut unit
 

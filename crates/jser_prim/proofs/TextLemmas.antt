@@ -1,9 +1,11 @@
--- Texts: lists of units and their spellings.
-use Rattle.std.proofs.Common.{◌≡◌, ℕ, ◌+◌, ◌*◌, ◌<◌, ◌≤◌, inl, inr, List, [], ◌∷◌, ◌++◌, length, take, get_or, refl, arith, sym, ap, ◌∙◌, All, rules, tests, append_assoc}
-use Rattle.std.proofs.lemmas.List.{append-nil, length-append, take_more}
+-- Texts: lists of units, their spellings, and the fronts of these.
+use Rattle.std.proofs.Common.{◌≡◌, ℕ, zero, suc, ◌+◌, ◌-◌, ◌*◌, ◌<◌, ◌≤◌, inl, inr, List, [], ◌∷◌, ◌++◌, length, take, drop, get_or, replicate, refl, arith, sym, ap, subst, ◌∙◌, All, rules, tests, append_assoc}
+use Rattle.std.proofs.lemmas.Bool.{cases_lt}
+use Rattle.std.proofs.lemmas.List.{append-nil, length-append, length-replicate, nil_from_length, take-append-drop, take-take, take_more}
 use Rattle.std.proofs.lemmas.List.Elements.{All-append, All-cons, All-nil, All-same}
 use Rattle.jser_prim.specs.ModifiedUtf8.{unit_spelling, modified_utf8, IsUnits}
-use Rattle.jser_prim.proofs.Units.{form_of, same_unit}
+use Rattle.jser_prim.specs.Texts.{BeginsText, FaultsAfter}
+use Rattle.jser_prim.proofs.Units.{form_of, same_unit, spelling_one}
 
 -- of a list of units the first and the rest are units
 pub units_head : (unit : ℕ) (units : List ℕ) → IsUnits (unit ∷ units) → unit < 0x10000
@@ -28,17 +30,18 @@ modified_utf8-append (u ∷ us) vs =
 pub modified_utf8-one : (unit : ℕ) → modified_utf8 (unit ∷ []) ≡ unit_spelling unit
 modified_utf8-one unit = append-nil (unit_spelling unit)
 
--- a unit's spelling has one to three bytes
-pub record HasOneToThree (bytes : List ℕ) : Type 0 where
-  pub some : 1 ≤ length bytes
-  pub few : length bytes ≤ 3
+-- a number is between two others
+pub record IsWithin (low high n : ℕ) : Type 0 where
+  pub least : low ≤ n
+  pub most : n ≤ high
 
-pub length-unit_spelling : (unit : ℕ) → unit < 0x10000 → HasOneToThree (unit_spelling unit)
+-- a unit's spelling has one to three bytes
+pub length-unit_spelling : (unit : ℕ) → unit < 0x10000 → IsWithin 1 3 (length (unit_spelling unit))
 length-unit_spelling unit fits = elim (form_of unit fits) [
-  | inl one ↦ let e = ap length one.spelled in record { some = omega arith; few = omega arith }
+  | inl one ↦ let e = ap length one.spelled in record { least = omega arith; most = omega arith }
   | inr more ↦ elim more [
-    | inl two ↦ let e = ap length two.spelled in record { some = omega arith; few = omega arith }
-    | inr three ↦ let e = ap length three.spelled in record { some = omega arith; few = omega arith }
+    | inl two ↦ let e = ap length two.spelled in record { least = omega arith; most = omega arith }
+    | inr three ↦ let e = ap length three.spelled in record { least = omega arith; most = omega arith }
   ]
 ]
 
@@ -47,7 +50,7 @@ some_bytes : (unit : ℕ) (units xs : List ℕ) → IsUnits (unit ∷ units) →
 some_bytes unit units xs are e =
     let l = ap length e in
     let long = length-unit_spelling unit (units_head unit units are) in
-    omega (arith, length-append (modified_utf8 (unit ∷ units)) xs, length-append (unit_spelling unit) (modified_utf8 units), long.some)
+    omega (arith, length-append (modified_utf8 (unit ∷ units)) xs, length-append (unit_spelling unit) (modified_utf8 units), long.least)
 
 -- what follows the units that two texts share
 pub record GoesOn (us vs xs : List ℕ) : Type 0 where
@@ -74,10 +77,10 @@ pub same_units : (us vs xs ys : List ℕ) → IsUnits us → IsUnits vs → leng
 same_units [] [] xs ys are-us are-vs long e = (refl, e)
 same_units [] (v ∷ vs) xs ys are-us are-vs long e = absurd (
     let some = length-unit_spelling v (units_head v vs are-vs) in
-    omega (arith, length-append (unit_spelling v) (modified_utf8 vs), some.some))
+    omega (arith, length-append (unit_spelling v) (modified_utf8 vs), some.least))
 same_units (u ∷ us) [] xs ys are-us are-vs long e = absurd (
     let some = length-unit_spelling u (units_head u us are-us) in
-    omega (arith, length-append (unit_spelling u) (modified_utf8 us), some.some))
+    omega (arith, length-append (unit_spelling u) (modified_utf8 us), some.least))
 same_units (u ∷ us) (v ∷ vs) xs ys are-us are-vs long e =
     let parts = same_unit u v (modified_utf8 us ++ xs) (modified_utf8 vs ++ ys) (units_head u us are-us) (units_head v vs are-vs)
     (sym (append_assoc (unit_spelling u) (modified_utf8 us) xs) ∙ e ∙ append_assoc (unit_spelling v) (modified_utf8 vs) ys) in
@@ -116,20 +119,87 @@ modified_utf8-fits (unit ∷ units) are =
     All-append (λ b. b < 256) (unit_spelling unit) (modified_utf8 units) (unit_spelling-fits unit (units_head unit units are)) (modified_utf8-fits units (units_tail unit units are))
 
 -- there is at least one for each unit, and at most three
-pub record HasLengthWithin (low high n : ℕ) : Type 0 where
-  pub least : low ≤ n
-  pub most : n ≤ high
-
-pub length-modified_utf8 : (units : List ℕ) → IsUnits units → HasLengthWithin (length units) (3 * length units) (length (modified_utf8 units))
+pub length-modified_utf8 : (units : List ℕ) → IsUnits units → IsWithin (length units) (3 * length units) (length (modified_utf8 units))
 length-modified_utf8 [] are = record { least = omega arith; most = omega arith }
 length-modified_utf8 (unit ∷ units) are =
     let one = length-unit_spelling unit (units_head unit units are) in
     let rest = length-modified_utf8 units (units_tail unit units are) in
     let both = length-append (unit_spelling unit) (modified_utf8 units) in
-    record { least = omega (arith, one.some, rest.least); most = omega (arith, one.few, rest.most) }
+    record { least = omega (arith, one.least, rest.least); most = omega (arith, one.most, rest.most) }
 
 -- one unit more
 pub modified_utf8_more : (units : List ℕ) (i : ℕ) → i < length units → modified_utf8 (take (i + 1) units) ≡ modified_utf8 (take i units) ++ unit_spelling (get_or units i 0)
 modified_utf8_more units i inside =
     ap modified_utf8 (take_more units i 0 inside) ∙ modified_utf8-append (take i units) (get_or units i 0 ∷ [])
     ∙ ap (λ xs. modified_utf8 (take i units) ++ xs) (modified_utf8-one (get_or units i 0))
+
+-- ---- fronts of texts
+
+-- n units of one byte each fill n bytes
+ones_spelled : (n : ℕ) → modified_utf8 (replicate n 1) ≡ replicate n 1
+ones_spelled zero = refl
+ones_spelled (suc n) = ap (λ xs. xs ++ modified_utf8 (replicate n 1)) (spelling_one 1 (omega arith) (omega arith)) ∙ ap (λ xs. 1 ∷ xs) (ones_spelled n)
+
+ones_are : (n : ℕ) → IsUnits (replicate n 1)
+ones_are zero = refl
+ones_are (suc n) = units_cons 1 (replicate n 1) (omega arith) (ones_are n)
+
+-- what begins a short enough text begins one of the length
+pub begins_longer : (len : ℕ) (units front rest : List ℕ) → IsUnits units → modified_utf8 units ≡ front ++ rest → length front + length rest ≤ len → BeginsText len front
+begins_longer len units front rest are spelled fits =
+    let missing = len - (length front + length rest) in
+    let whole : modified_utf8 (units ++ replicate missing 1) ≡ front ++ (rest ++ replicate missing 1) =
+    modified_utf8-append units (replicate missing 1) ∙ ap (λ xs. modified_utf8 units ++ xs) (ones_spelled missing)
+    ∙ ap (λ xs. xs ++ replicate missing 1) spelled ∙ append_assoc front rest (replicate missing 1) in
+    record {
+      units = units ++ replicate missing 1;
+      rest = rest ++ replicate missing 1;
+      are_units = units-append units (replicate missing 1) are (ones_are missing);
+      spelled = whole;
+      has_length = omega (arith, ap length whole, length-append front (rest ++ replicate missing 1), length-append rest (replicate missing 1), length-replicate {A = ℕ} missing 1);
+    }
+
+-- the front of a front of a text
+pub begins_front : (len : ℕ) (xs ys : List ℕ) → BeginsText len (xs ++ ys) → BeginsText len xs
+begins_front len xs ys begins = record {
+  units = begins.units;
+  rest = ys ++ begins.rest;
+  are_units = begins.are_units;
+  spelled = begins.spelled ∙ append_assoc xs ys begins.rest;
+  has_length = begins.has_length;
+}
+
+-- no front is longer than its text
+pub begins_within : (len : ℕ) (xs : List ℕ) → BeginsText len xs → length xs ≤ len
+begins_within len xs begins = omega (arith, begins.has_length, ap length begins.spelled, length-append xs begins.rest)
+
+-- what has the length of its text is one
+pub begins_whole : (len : ℕ) (xs : List ℕ) (begins : BeginsText len xs) → length xs ≡ len → modified_utf8 begins.units ≡ xs
+begins_whole len xs begins whole =
+    let none : begins.rest ≡ [] = nil_from_length begins.rest (omega (arith, begins.has_length, ap length begins.spelled, length-append xs begins.rest)) in
+    begins.spelled ∙ ap (λ ys. xs ++ ys) none ∙ append-nil xs
+
+-- ---- faults
+
+-- no text begins with bytes that hold a fault
+pub no_text : (len : ℕ) (before bytes : List ℕ) (accepted : ℕ) → FaultsAfter len before bytes accepted → BeginsText len (before ++ bytes) → ⊥
+no_text len before bytes accepted faults begins =
+    let split : before ++ bytes ≡ (before ++ take (accepted + 1) bytes) ++ drop (accepted + 1) bytes =
+    ap (λ xs. before ++ xs) (sym (take-append-drop (accepted + 1) bytes)) ∙ sym (append_assoc before (take (accepted + 1) bytes) (drop (accepted + 1) bytes)) in
+    faults.fault (begins_front len (before ++ take (accepted + 1) bytes) (drop (accepted + 1) bytes) (subst (BeginsText len) split begins))
+
+-- no text goes on past a fault
+no_later : (len : ℕ) (before bytes : List ℕ) (i j : ℕ) → i < j → FaultsAfter len before bytes i → FaultsAfter len before bytes j → ⊥
+no_later len before bytes i j less first second =
+    let short : take (i + 1) (take j bytes) ≡ take (i + 1) bytes = take-take (i + 1) j bytes (omega arith) in
+    let split : before ++ take j bytes ≡ (before ++ take (i + 1) bytes) ++ drop (i + 1) (take j bytes) =
+    ap (λ xs. before ++ xs) (sym (take-append-drop (i + 1) (take j bytes)) ∙ ap (λ xs. xs ++ drop (i + 1) (take j bytes)) short)
+    ∙ sym (append_assoc before (take (i + 1) bytes) (drop (i + 1) (take j bytes))) in
+    first.fault (begins_front len (before ++ take (i + 1) bytes) (drop (i + 1) (take j bytes)) (subst (BeginsText len) split second.begins))
+
+-- there is one first fault
+pub one_fault : (len : ℕ) (before bytes : List ℕ) (i j : ℕ) → FaultsAfter len before bytes i → FaultsAfter len before bytes j → i ≡ j
+one_fault len before bytes i j first second = elim (cases_lt i j) [
+  | inl less ↦ absurd (no_later len before bytes i j less first second)
+  | inr not ↦ elim (cases_lt j i) [ inl more ↦ absurd (no_later len before bytes j i more second first) | inr same ↦ omega arith ]
+]

@@ -1,6 +1,7 @@
 pub mod Bytes
 pub mod Devices
-pub mod Lanes
 pub mod ModifiedUtf8
 pub mod Places
+pub mod Pushes
 pub mod Texts
+pub mod WholeUnits

@@ -1,6 +1,6 @@
 //! Plain ASCII, many bytes at a time: a text's units of one byte each, 0001 to 007F.
 ghost use Rattle.std.specs.Prelude.{◌≡◌, ◌+◌, ◌≤◌, IsTrue, length};
-ghost use Rattle.jser_prim.specs.Lanes.{IsAsciiBetween, first_set};
+ghost use Rattle.jser_prim.specs.WholeUnits.{IsAsciiBetween, first_set};
 
 use std::simd::prelude::*;
 

@@ -1,6 +1,6 @@
 //! Whole units of a text at once.
 ghost use Rattle.std.specs.Prelude.{◌≡◌, ◌<◌, ◌≤◌, [], ◌∷◌, IsTrue, IfSome, length, take};
-ghost use Rattle.jser_prim.specs.Texts.{AreUnitsSpelled, FollowsUnits, IsUnitSpelled};
+ghost use Rattle.jser_prim.specs.WholeUnits.{AreUnitsSpelled, FollowsUnits, IsUnitSpelled};
 
 use crate::lanes::ascii_len;
 

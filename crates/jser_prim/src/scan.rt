@@ -5,7 +5,8 @@
 ghost use Rattle.std.specs.Prelude.{◌≡◌, ◌+◌, ◌-◌, ◌<◌, ◌≤◌, ◌↔◌, ℕ, List, [], ◌∷◌, ◌++◌, length, true, false, IsTrue, IsOk, IsErr, IfOk, IfErr, OnOk, OnErr};
 ghost use Rattle.std.specs.Option.{option_to_list};
 ghost use Rattle.jser_prim.specs.ModifiedUtf8.{modified_utf8};
-ghost use Rattle.jser_prim.specs.Texts.{BeginsText, FaultsAfter, HasAccepted, HasAcceptedAfter, PushesFront, PushesTo};
+ghost use Rattle.jser_prim.specs.Pushes.{PushesFront, PushesTo};
+ghost use Rattle.jser_prim.specs.Texts.{BeginsText, FaultsAfter, HasAccepted, HasAcceptedAfter};
 
 use crate::place::{Place, Taken};
 use crate::runs::spelled_len;

@@ -1,5 +1,5 @@
 use Rattle.std.proofs.Common.{◌≤◌, ◌-◌, length}
-use Rattle.jser_prim.specs.Lanes.{IsAsciiBetween}
+use Rattle.jser_prim.specs.WholeUnits.{IsAsciiBetween}
 use Rattle.jser_prim.proofs.lanes.ascii_len.Given as goal
 
 abbrev pub invariant-loads : goal.invariant-loads

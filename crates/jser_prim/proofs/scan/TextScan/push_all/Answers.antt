@@ -1,6 +1,7 @@
 -- The bytes pushed before this turn, and those of the turn.
 use Rattle.std.proofs.Common.{refl, arith, rules, tests}
-use Rattle.jser_prim.proofs.PushLemmas.{pushed_more, pushed_to_fault, pushed_all, no_text}
+use Rattle.jser_prim.proofs.PushLemmas.{pushed_more, pushed_to_fault, pushed_all}
+use Rattle.jser_prim.proofs.TextLemmas.{no_text}
 use Rattle.jser_prim.proofs.scan.TextScan.push_all.Goals as goal
 
 pub bytes-preserved : goal.bytes-preserved

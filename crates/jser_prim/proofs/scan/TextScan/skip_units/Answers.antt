@@ -1,6 +1,7 @@
 use Rattle.std.proofs.Common.{◌≤◌, ◌-◌, length, subst, sym}
 use Rattle.jser_prim.specs.Places.{cut_at, is_fault}
-use Rattle.jser_prim.specs.Texts.{PushesFront, Scan}
+use Rattle.jser_prim.specs.Pushes.{PushesFront}
+use Rattle.jser_prim.specs.Texts.{Scan}
 use Rattle.jser_prim.proofs.PushLemmas.{skips_units}
 use Rattle.jser_prim.proofs.scan.TextScan.skip_units.Goals as goal
 

@@ -1,0 +1,31 @@
+-- Whole units, found without a scan's state: how `push_all` goes over many bytes at once.
+use Rattle.std.specs.Prelude.{◌≡◌, ◌<◌, ◌≤◌, ◌==◌, ℕ, List, ◌++◌, length, slice_index, if◌then◌else◌}
+use Rattle.std.specs.Int.{trailing_zeros, w64}
+use Rattle.jser_prim.specs.ModifiedUtf8.{IsUnits, modified_utf8, unit_spelling}
+
+-- these bytes are a unit's spelling
+pub record IsUnitSpelled (bytes : List ℕ) : Type 0 where
+  pub unit : ℕ
+  pub is_unit : unit < 0x10000
+  pub spelled : unit_spelling unit ≡ bytes
+
+-- these bytes are the spellings of some units
+pub record AreUnitsSpelled (bytes : List ℕ) : Type 0 where
+  pub units : List ℕ
+  pub are_units : IsUnits units
+  pub spelled : modified_utf8 units ≡ bytes
+
+-- these bytes are the spellings of some units, at least one, and then the tail
+pub record FollowsUnits (bytes tail : List ℕ) : Type 0 where
+  pub front : List ℕ
+  pub units : AreUnitsSpelled front
+  pub some : 0 < length front
+  pub split : bytes ≡ front ++ tail
+
+-- each byte from a place on, up to another, is a unit of one byte
+abbrev pub IsAsciiBetween : List ℕ → ℕ → ℕ → Type 0
+IsAsciiBetween bytes from to = (k : ℕ) → from ≤ k → k < to → (1 ≤ slice_index bytes k) × (slice_index bytes k < 0x80)
+
+-- the place of the lowest bit of a mask that is set, or the number of lanes
+abbrev pub first_set : ℕ → ℕ → ℕ
+first_set mask lanes = if mask == 0 then lanes else trailing_zeros w64 mask
