@@ -16,8 +16,8 @@ appends_both (Some a) (Some b) None xs ys h k = absurd k
 appends_both (Some a) (Some b) (Some c) xs ys h k = k ∙ ap (λ t. t ++ ys) h ∙ append_assoc a xs ys
 
 -- nothing is put
-pub puts_none : (old : Outgoing) (before : SinkState) → old.written ≤ 18446744073709551615 → Puts old old before before []
-puts_none old before fits = record {
+pub puts_none : (old : Outgoing) (before : SinkState) → Puts old old before before []
+puts_none old before = record {
   stopped = λ _. (refl, refl);
   going = λ e. record { out = []; left = old.waiting; split = append-nil old.waiting; went = appends_none before.gone_out; counted = omega arith; waits = λ _. refl; fault = λ f. absurd (let no : false ≡ true = sym e ∙ f in cc) };
 }
@@ -66,9 +66,9 @@ pub puts_tagged : (a b c : Outgoing) (d e f : SinkState) (tag : ℕ) (xs : List 
 puts_tagged a b c d e f tag xs h k = puts_both a b c d e f (tag ∷ []) xs h k
 
 -- bytes that only wait
-pub puts_waiting : (old new : Outgoing) (before : SinkState) (bytes : List ℕ) → old.failed ≡ false → old.written ≤ 18446744073709551615
+pub puts_waiting : (old new : Outgoing) (before : SinkState) (bytes : List ℕ) → old.failed ≡ false
     → new ≡ record old { waiting = old.waiting ++ bytes } → Puts old new before before bytes
-puts_waiting old new before bytes on fits e = record {
+puts_waiting old new before bytes on e = record {
   stopped = λ off. absurd (let no : true ≡ false = sym off ∙ on in cc);
   going = λ _. record {
     out = [];
@@ -108,7 +108,7 @@ puts_through old new before after bytes on went e = record {
     left = [];
     split = sym (append-nil (old.waiting ++ bytes));
     went = went;
-    counted = ap (λ o. o.written) e;
+    counted = omega (arith, ap (λ o. o.written) e);
     waits = λ _. ap (λ o. o.waiting) (sym e);
     fault = λ f. absurd (let no : true ≡ false = sym f ∙ ap (λ o. o.failed) e in cc);
   };
@@ -160,6 +160,6 @@ puts_behind a b c d e f xs h k = puts_both a b c d e f [] xs h k
 
 -- these bytes wait behind those that did
 pub puts_gathered : (gathered : Bool) (old new : Outgoing) (before : SinkState) (bytes : List ℕ) → gathered ≡ true → old.failed ≡ false
-    → old.written ≤ 18446744073709551615 → MatchBool gathered (new ≡ record old { waiting = old.waiting ++ bytes }) (new ≡ old) → Puts old new before before bytes
-puts_gathered true old new before bytes is on fits m = puts_waiting old new before bytes on fits m
-puts_gathered false old new before bytes is on fits m = absurd (let no : false ≡ true = is in cc)
+    → MatchBool gathered (new ≡ record old { waiting = old.waiting ++ bytes }) (new ≡ old) → Puts old new before before bytes
+puts_gathered true old new before bytes is on m = puts_waiting old new before bytes on m
+puts_gathered false old new before bytes is on m = absurd (let no : false ≡ true = is in cc)

@@ -22,7 +22,7 @@ pub record Hands (old new : Outgoing) (before after : SinkState) (bytes : List �
   pub left : List ℕ
   pub split : old.waiting ++ bytes ≡ out ++ left
   pub went : Appends before.gone_out after.gone_out out
-  pub counted : new.written ≡ min (old.written + length out) 18446744073709551615
+  pub counted : min new.written 18446744073709551615 ≡ min (old.written + length out) 18446744073709551615
   pub waits : new.failed ≡ false → left ≡ new.waiting
   pub fault : new.failed ≡ true → after.failed ≡ true
 

@@ -21,14 +21,11 @@ pub(crate) struct Outbox {
 }
 
 impl Model for Outbox {
-    ghost use Rattle.std.specs.Prelude.{◌≤◌};
     ghost use Rattle.jser_value.specs.Outgoing.{Outgoing};
 
     ghost Value = { Outgoing };
 
     ghost view = { λ a. record { waiting = a.waiting.items; written = a.written; failed = a.failed } };
-
-    ghost invariant = { λ a. a.written ≤ 18446744073709551615 };
 }
 
 impl Outbox {
@@ -118,8 +115,7 @@ impl Outbox {
 
     /// Lets bytes wait behind those that do, where they fit.
     fn gather(&mut self, bytes: &[u8]) -> bool
-        ensures counted { self.old.written ≤ 18446744073709551615 }
-        ensures gathered { MatchBool result (self.new ≡ record self.old { waiting = self.old.waiting ++ bytes.now }) (self.new ≡ self.old) }
+        ensures { MatchBool result (self.new ≡ record self.old { waiting = self.old.waiting ++ bytes.now }) (self.new ≡ self.old) }
     {
         self.waiting.try_extend_from_slice(bytes).is_ok()
     }
