@@ -4,10 +4,11 @@
 #![tactic(auto)]
 
 mod contents;
-mod encode;
+mod encoder;
 mod outbox;
 pub mod laws;
 mod tree;
 
 pub use contents::Contents;
+pub use encoder::{EncodeFault, encode};
 pub use tree::{Body, ClassPlace, Content, Desc, Field, Prim, Section, Text, TextPlace, Value};

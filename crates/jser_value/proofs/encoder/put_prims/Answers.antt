@@ -3,7 +3,7 @@ use Rattle.std.proofs.lemmas.List.{get_or_default}
 use Rattle.jser_value.specs.Spelling.{prim_spelling}
 use Rattle.jser_value.specs.View.{view_prim}
 use Rattle.jser_value.proofs.EncodeLemmas.{puts_next, puts_all, prims_flat}
-use Rattle.jser_value.proofs.encode.put_prims.Goals as goal
+use Rattle.jser_value.proofs.encoder.put_prims.Goals as goal
 
 pub loop-prim-preserved : goal.loop-prim-preserved
 loop-prim-preserved g c =

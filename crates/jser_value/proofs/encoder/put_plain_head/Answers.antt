@@ -1,5 +1,5 @@
 use Rattle.jser_value.proofs.EncodeLemmas.{puts_plain_head}
-use Rattle.jser_value.proofs.encode.put_plain_head.Goals as goal
+use Rattle.jser_value.proofs.encoder.put_plain_head.Goals as goal
 
 pub returns : goal.returns
 returns g c =

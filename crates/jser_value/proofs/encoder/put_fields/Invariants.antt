@@ -3,7 +3,7 @@ use Rattle.std.specs.List.{flat_map}
 use Rattle.jser_value.specs.Encoding.{field_spelling}
 use Rattle.jser_value.specs.View.{view_field}
 use Rattle.jser_value.specs.Outgoing.{Puts, sink_state}
-use Rattle.jser_value.proofs.encode.put_fields.Given as goal
+use Rattle.jser_value.proofs.encoder.put_fields.Given as goal
 
 abbrev pub invariant-loop-field : goal.invariant-loop-field
 invariant-loop-field g l =

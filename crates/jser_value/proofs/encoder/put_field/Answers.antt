@@ -1,6 +1,6 @@
 use Rattle.jser_value.specs.View.{view_field}
 use Rattle.jser_value.proofs.EncodeLemmas.{puts_field}
-use Rattle.jser_value.proofs.encode.put_field.Goals as goal
+use Rattle.jser_value.proofs.encoder.put_field.Goals as goal
 
 pub returns : goal.returns
 returns g c =

@@ -6,7 +6,7 @@ use Rattle.jser_value.proofs.OutgoingLemmas.{puts_tagged}
 use Rattle.jser_value.proofs.EncodeLemmas.{puts_next, puts_all, values_flat, sections_flat, contents_flat, puts_classed, puts_plain, puts_proxy, puts_raw_body, puts_value_body, puts_section, puts_bare_section, puts_block}
 use Rattle.jser_value.proofs.ViewLemmas.{view_class_object, view_array, view_enum_constant, view_object, view_raw_body, view_value_body, view_block, view_plain, view_proxy, view_section_of, view_notes, no_notes_of}
 use Rattle.jser_value.specs.declared.tree.Section.{out-Section}
-use Rattle.jser_value.proofs.encode.+encode.Goals as goal
+use Rattle.jser_value.proofs.encoder.+encode.Goals as goal
 
 pub put_values-loop-value-preserved : goal.put_values-loop-value-preserved
 put_values-loop-value-preserved g t c =

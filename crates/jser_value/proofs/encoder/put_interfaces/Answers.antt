@@ -1,7 +1,7 @@
 use Rattle.std.proofs.Common.{arith, refl}
 use Rattle.jser_value.specs.Spelling.{utf}
 use Rattle.jser_value.proofs.EncodeLemmas.{puts_next, puts_all, interfaces_flat}
-use Rattle.jser_value.proofs.encode.put_interfaces.Goals as goal
+use Rattle.jser_value.proofs.encoder.put_interfaces.Goals as goal
 
 pub loop-name-preserved : goal.loop-name-preserved
 loop-name-preserved g c =

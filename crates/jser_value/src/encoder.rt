@@ -3,19 +3,82 @@
 //!
 //! One function for each type of the tree; each writes its parts in the order of the layouts (Java Object
 //! Serialization Specification, section 6.4.2).
-ghost use Rattle.std.specs.Prelude.{◌≡◌, ◌++◌, ◌+◌, ◌%◌, ◌^◌, ◌∷◌, [], ℕ, length, map};
+ghost use Rattle.std.specs.Prelude.{◌≡◌, ◌++◌, ◌+◌, ◌%◌, ◌^◌, ◌∷◌, [], ℕ, length, map, true, false, IfOk, OnOk, IfErr, OnErr};
 ghost use Rattle.std.specs.Option.{option_map};
+ghost use Rattle.std.specs.Io.KnownBytes.{Appends};
 ghost use Rattle.jser_prim.specs.Bytes.{big_bytes};
 ghost use Rattle.jser_prim.specs.ModifiedUtf8.{modified_utf8, unit_spelling};
 ghost use Rattle.jser_value.specs.Encoding.{field_spelling, section_spelling, plain_head, proxy_head};
+ghost use Rattle.jser_value.specs.Encoded.{WroteFirst};
 ghost use Rattle.jser_value.specs.Outgoing.{Puts, sink_state};
 ghost use Rattle.jser_value.specs.View.{view_text, view_text_place, view_field, view_prim, view_body, view_class_place, view_content, view_desc, view_value, view_section, view_values, view_sections, view_contents};
-ghost use Rattle.jser_value.specs.Spelling.{value_spelling, desc_spelling, class_spelling, body_spelling, values_spelling, sections_spelling, notes_spelling, annotation_spelling, content_spelling, contents_spelling, string_spelling, text_place_spelling, type_spelling, fields_spelling, interfaces_spelling, prim_spelling, prims_spelling, utf, long_utf, reference, block_head};
+ghost use Rattle.jser_value.specs.Spelling.{value_spelling, desc_spelling, class_spelling, body_spelling, values_spelling, sections_spelling, notes_spelling, annotation_spelling, content_spelling, contents_spelling, string_spelling, text_place_spelling, type_spelling, fields_spelling, interfaces_spelling, prim_spelling, prims_spelling, utf, long_utf, reference, block_head, spelling};
 
+use crate::contents::Contents;
 use crate::outbox::Outbox;
 use crate::tree::{Body, ClassPlace, Content, Desc, Field, Prim, Section, Text, TextPlace, Value};
 use byteorder::{BigEndian, ByteOrder};
 use jser_prim::Sink;
+use thiserror::Error;
+
+/// STREAM_MAGIC and STREAM_VERSION.
+const HEADER: [u8; 4] = [0xAC, 0xED, 0x00, 0x05];
+
+/// Why a list of contents was not written whole.
+#[derive(Clone, Copy, PartialEq, Eq, Debug, Error)]
+pub enum EncodeFault {
+    /// The sink failed behind so many bytes of the spelling.
+    #[error("the writer failed after {written} bytes")]
+    Write {
+        /// How many bytes went out: the first ones of the spelling.
+        written: u64,
+    },
+}
+
+/// Writes the stream of these contents to a sink, and gives its length in bytes.
+///
+/// It takes no memory. The sink is handed pieces of up to 512 bytes, and longer blocks as they are.
+///
+/// # Errors
+///
+/// `EncodeFault::Write` where the sink failed, with how many bytes of the stream went out before.
+#[tactic(auto, using(crate::proofs::EncodedLemmas::wrote_all, crate::proofs::EncodedLemmas::wrote_some))]
+pub fn encode<W: Sink>(contents: &Contents, sink: &mut W) -> Result<u64, EncodeFault>
+    ensures length { IfOk result (λ count. count ≡ length (spelling (view_contents contents.now))) }
+    ensures out { OnOk result (Appends (W.gone_out sink.old) (W.gone_out sink.new) (spelling (view_contents contents.now))) }
+    ensures written { IfErr result (WroteFirst (W.gone_out sink.old) (W.gone_out sink.new) (spelling (view_contents contents.now))) }
+    ensures failed { OnErr result (W.has_failed sink.new ≡ true) }
+{
+    let list = contents.list();
+    let mut outbox = Outbox::new();
+    put_stream(&mut outbox, sink, list);
+    let written = outbox.written();
+    if outbox.has_failed() {
+        return Err(EncodeFault::Write { written });
+    }
+    Ok(written)
+}
+
+/// The header and the contents, all handed to the sink.
+#[tactic(auto, using(crate::proofs::EncodedLemmas::puts_stream))]
+fn put_stream<W: Sink>(outbox: &mut Outbox, sink: &mut W, contents: &[Content])
+    ensures puts { Puts outbox.old outbox.new (sink_state (W.gone_out sink.old) (W.has_failed sink.old)) (sink_state (W.gone_out sink.new) (W.has_failed sink.new)) (spelling (view_contents contents.now)) }
+    ensures empty { outbox.new.failed ≡ false → outbox.new.waiting ≡ [] }
+{
+    outbox.put(sink, &HEADER);
+    put_list(outbox, sink, contents);
+    outbox.flush(sink);
+}
+
+/// Contents, one after another.
+#[tactic(auto, using(crate::proofs::OutgoingLemmas::puts_none))]
+fn put_list<W: Sink>(outbox: &mut Outbox, sink: &mut W, contents: &[Content])
+    ensures { Puts outbox.old outbox.new (sink_state (W.gone_out sink.old) (W.has_failed sink.old)) (sink_state (W.gone_out sink.new) (W.has_failed sink.new)) (contents_spelling (view_contents contents.now)) }
+{
+    for content in contents {
+        put_content(outbox, sink, content);
+    }
+}
 
 /// The first handle of an epoch.
 const BASE_WIRE_HANDLE: u32 = 0x7E0000;

@@ -4,7 +4,7 @@ use Rattle.jser_value.specs.Encoding.{section_spelling}
 use Rattle.jser_value.specs.Outgoing.{Puts, sink_state}
 use Rattle.jser_value.specs.Spelling.{value_spelling, content_spelling}
 use Rattle.jser_value.specs.View.{view_value, view_content, view_section}
-use Rattle.jser_value.proofs.encode.+encode.Given as goal
+use Rattle.jser_value.proofs.encoder.+encode.Given as goal
 
 abbrev pub invariant-put_values-loop-value : goal.invariant-put_values-loop-value
 invariant-put_values-loop-value g l =

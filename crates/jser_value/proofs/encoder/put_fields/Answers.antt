@@ -2,7 +2,7 @@ use Rattle.std.proofs.Common.{arith, refl}
 use Rattle.jser_value.specs.Encoding.{field_spelling}
 use Rattle.jser_value.specs.View.{view_field}
 use Rattle.jser_value.proofs.EncodeLemmas.{puts_next, puts_all, fields_flat}
-use Rattle.jser_value.proofs.encode.put_fields.Goals as goal
+use Rattle.jser_value.proofs.encoder.put_fields.Goals as goal
 
 pub loop-field-preserved : goal.loop-field-preserved
 loop-field-preserved g c =
