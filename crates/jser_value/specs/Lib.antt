@@ -23,3 +23,7 @@ pub mod Scanner
 pub mod WalkLaws
 pub mod GateLimits
 pub mod Totals
+pub mod Limits
+pub mod Outgoing
+pub mod Encoding
+pub mod Encoded

@@ -3,7 +3,12 @@
 //! section 6.4; `laws` has what holds of them alone.
 #![tactic(auto)]
 
+mod contents;
+mod encoder;
+mod outbox;
 pub mod laws;
 mod tree;
 
+pub use contents::Contents;
+pub use encoder::{EncodeFault, encode};
 pub use tree::{Body, ClassPlace, Content, Desc, Field, Prim, Section, Text, TextPlace, Value};

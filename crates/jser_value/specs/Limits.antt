@@ -1,0 +1,14 @@
+-- How far the trees in memory go: a list of contents that obeys the format, no deeper than a recursion may
+-- go, and no longer than 2^31 - 1 bytes.
+use Rattle.std.specs.Prelude.{◌≤◌, List, length}
+use Rattle.jser_value.specs.declared.tree.Content.{Content}
+use Rattle.jser_value.specs.View.{view_contents}
+use Rattle.jser_value.specs.Trees.{ContentTrees}
+use Rattle.jser_value.specs.Spelling.{spelling}
+use Rattle.jser_value.specs.WellFormed.{WellFormed}
+use Rattle.jser_value.specs.Counts.{depth_of}
+
+pub record IsContents (contents : ContentTrees) : Type 0 where
+  pub well_formed : WellFormed contents
+  pub depth : depth_of contents ≤ 1000
+  pub size : length (spelling contents) ≤ 2147483647
