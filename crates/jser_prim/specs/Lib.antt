@@ -1,2 +1,3 @@
 pub mod Bytes
+pub mod Devices
 pub mod ModifiedUtf8

@@ -1,6 +1,13 @@
-//! Modified UTF-8, big-endian numbers and the devices that give and take bytes.
+//! The ground that reading and writing of Java object streams stands on: modified UTF-8, big-endian
+//! numbers, and the devices that bytes come from and go to.
+//!
+//! Nothing here knows the stream's grammar, and nothing here ends the process.
 #![tactic(auto)]
 
-ghost use Rattle.std.specs.Prelude.{◌≡◌, ◌++◌};
-ghost use Rattle.jser_prim.specs.Bytes.{big_bytes};
-ghost use Rattle.jser_prim.specs.ModifiedUtf8.{modified_utf8, IsUnits};
+mod device;
+mod sink;
+mod source;
+
+pub use device::Failed;
+pub use sink::{Sink, ToWrite};
+pub use source::{FromRead, Source};

@@ -1,0 +1,84 @@
+//! Where bytes go, and any `Write` as such a sink.
+ghost use Rattle.std.specs.Prelude.{◌≡◌, ◌≤◌, ◌<◌, ℕ, List, Bool, IfOk, OnOk, OnErr, length, true, false, None};
+ghost use Rattle.std.specs.declared.option.Option.{Option};
+ghost use Rattle.std.specs.Io.KnownBytes.{WriteAppends};
+
+use crate::device::Failed;
+use std::io::Write;
+use std::marker::Model;
+
+/// Where bytes go.
+pub trait Sink {
+    /// The bytes that went out, where the sink tells them. By default it claims nothing.
+    ghost gone_out: { Self → Option (List ℕ) } = { λ _. None };
+
+    /// Whether a `give` has failed.
+    ghost has_failed: { Self → Bool };
+
+    /// Takes bytes from the front of `bytes`, at least one where there are any, and gives how many.
+    ///
+    /// # Errors
+    ///
+    /// `Failed` where the device did, and then no byte was taken.
+    fn give(&mut self, bytes: &[u8]) -> Result<usize, Failed>
+        ensures within { IfOk result (λ count. count ≤ length bytes.now) }
+        ensures some { IfOk result (λ count. 0 < length bytes.now → 0 < count) }
+        ensures bytes { WriteAppends (gone_out self.old) (gone_out self.new) result bytes.now }
+        ensures ok { OnOk result (has_failed self.new ≡ has_failed self.old) }
+        ensures err { OnErr result (has_failed self.new ≡ true) };
+
+    /// Whether a `give` has failed.
+    fn failed(&self) -> bool
+        ensures { result ≡ has_failed self.now };
+}
+
+/// A sink into a writer. Every `Err` of the writer is a failure, and so is a write that takes nothing of
+/// some bytes.
+///
+/// It allocates nothing. Memory that the writer takes is the writer's own.
+#[derive(Drop)]
+pub struct ToWrite<W: Write> {
+    writer: W,
+    failed: bool,
+}
+
+impl<W: Write> Model for ToWrite<W> {
+    ghost use Rattle.jser_prim.specs.Devices.{Told};
+
+    ghost Value = { Told };
+
+    ghost view = { λ a. record { bytes = W.contents a.writer; has_failed = a.failed } };
+}
+
+impl<W: Write> ToWrite<W> {
+    /// A sink into `writer`. What the writer holds already counts as gone out.
+    pub fn new(writer: W) -> ToWrite<W>
+        ensures bytes { result.bytes ≡ W.contents writer }
+        ensures failed { result.has_failed ≡ false }
+    {
+        ToWrite {
+            writer,
+            failed: false,
+        }
+    }
+}
+
+impl<W: Write> Sink for ToWrite<W> {
+    ghost gone_out = { λ s. s.bytes };
+
+    ghost has_failed = { λ s. s.has_failed };
+
+    fn give(&mut self, bytes: &[u8]) -> Result<usize, Failed> {
+        match self.writer.write(bytes) {
+            Ok(count) if count > 0 || bytes.is_empty() => Ok(count),
+            _ => {
+                self.failed = true;
+                Err(Failed)
+            }
+        }
+    }
+
+    fn failed(&self) -> bool {
+        self.failed
+    }
+}

@@ -1,0 +1,83 @@
+//! Where bytes come from, and any `Read` as such a source.
+ghost use Rattle.std.specs.Prelude.{◌≡◌, ◌≤◌, ℕ, List, Bool, IfOk, OnOk, OnErr, length, true, false, None};
+ghost use Rattle.std.specs.declared.option.Option.{Option};
+ghost use Rattle.std.specs.Io.KnownBytes.{ReadConsumes};
+
+use crate::device::Failed;
+use std::io::Read;
+use std::marker::Model;
+
+/// Where bytes come from.
+pub trait Source {
+    /// The bytes that are still to come, where the source tells them. By default it claims nothing.
+    ghost to_come: { Self → Option (List ℕ) } = { λ _. None };
+
+    /// Whether a `take` has failed.
+    ghost has_failed: { Self → Bool };
+
+    /// Puts the next bytes at the front of `buf`, and gives how many. No bytes, for a `buf` that is not
+    /// empty, is the end.
+    ///
+    /// # Errors
+    ///
+    /// `Failed` where the device did, and then no byte was taken.
+    fn take(&mut self, buf: &mut [u8]) -> Result<usize, Failed>
+        ensures within { IfOk result (λ count. count ≤ length buf.new) }
+        ensures bytes { ReadConsumes (to_come self.old) (to_come self.new) result buf.new }
+        ensures ok { OnOk result (has_failed self.new ≡ has_failed self.old) }
+        ensures err { OnErr result (has_failed self.new ≡ true) };
+
+    /// Whether a `take` has failed.
+    fn failed(&self) -> bool
+        ensures { result ≡ has_failed self.now };
+}
+
+/// A source of what a reader gives. Every `Err` of the reader is a failure, an interrupted read too.
+///
+/// It allocates nothing. Memory that the reader takes is the reader's own.
+#[derive(Drop)]
+pub struct FromRead<R: Read> {
+    reader: R,
+    failed: bool,
+}
+
+impl<R: Read> Model for FromRead<R> {
+    ghost use Rattle.jser_prim.specs.Devices.{Told};
+
+    ghost Value = { Told };
+
+    ghost view = { λ a. record { bytes = R.remaining a.reader; has_failed = a.failed } };
+}
+
+impl<R: Read> FromRead<R> {
+    /// A source of what `reader` has left.
+    pub fn new(reader: R) -> FromRead<R>
+        ensures bytes { result.bytes ≡ R.remaining reader }
+        ensures failed { result.has_failed ≡ false }
+    {
+        FromRead {
+            reader,
+            failed: false,
+        }
+    }
+}
+
+impl<R: Read> Source for FromRead<R> {
+    ghost to_come = { λ s. s.bytes };
+
+    ghost has_failed = { λ s. s.has_failed };
+
+    fn take(&mut self, buf: &mut [u8]) -> Result<usize, Failed> {
+        match self.reader.read(buf) {
+            Ok(count) => Ok(count),
+            Err(_) => {
+                self.failed = true;
+                Err(Failed)
+            }
+        }
+    }
+
+    fn failed(&self) -> bool {
+        self.failed
+    }
+}
