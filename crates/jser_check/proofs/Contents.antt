@@ -6,10 +6,10 @@ use Rattle.jser_check.specs.Stream.{Content, null, back, text, content_spelling,
 use Rattle.jser_check.proofs.Borrowed.{big_bytes-same, modified_utf8-same}
 
 -- the tags, and what follows them
-tag-same : (a b : ℕ) (xs ys : List ℕ) → a ∷ xs ≡ b ∷ ys → a ≡ b
+pub tag-same : (a b : ℕ) (xs ys : List ℕ) → a ∷ xs ≡ b ∷ ys → a ≡ b
 tag-same a b xs ys e = cc
 
-behind-same : (a b : ℕ) (xs ys : List ℕ) → a ∷ xs ≡ b ∷ ys → xs ≡ ys
+pub behind-same : (a b : ℕ) (xs ys : List ℕ) → a ∷ xs ≡ b ∷ ys → xs ≡ ys
 behind-same a b xs ys e = cc
 
 -- two references with the same front

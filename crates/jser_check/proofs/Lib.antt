@@ -1,3 +1,5 @@
 pub mod Borrowed
 pub mod Contents
+pub mod Steps
+pub mod Header
 pub mod Streams

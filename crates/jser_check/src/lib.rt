@@ -2,6 +2,7 @@
 #![tactic(auto)]
 
 mod answer;
+mod bytes;
 mod content;
 
 pub use answer::{CheckFault, Reason, Refusal, Report, Stop};
