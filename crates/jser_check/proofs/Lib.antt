@@ -3,3 +3,5 @@ pub mod Contents
 pub mod Steps
 pub mod Header
 pub mod Streams
+pub mod SourceLemmas
+pub mod ReaderLemmas

@@ -1,5 +1,5 @@
 -- What the answers of a check mean.
-use Rattle.std.specs.Prelude.{◌≡◌, ◌≢◌, ℕ, ◌≤◌, List, ◌++◌, length, take, Result, Ok, Err}
+use Rattle.std.specs.Prelude.{◌≡◌, ◌≢◌, ◌⊎◌, ℕ, ◌≤◌, List, ◌++◌, length, take, Result, Ok, Err}
 use Rattle.jser_check.specs.declared.answer.Report.{Report}
 use Rattle.jser_check.specs.declared.answer.Refusal.{Refusal}
 use Rattle.jser_check.specs.declared.answer.Reason.TheVariants as reason
@@ -64,3 +64,12 @@ SpeaksOfNoEnd (Err (fault.Stop (stop.Refused refusal))) = refusal.reason ≢ rea
 SpeaksOfNoEnd (Err (fault.Stop stop.OutOfMemory)) = Unit {0}
 SpeaksOfNoEnd (Err (fault.Stop stop.Spent)) = Unit {0}
 SpeaksOfNoEnd (Err fault.ReadFault) = Unit {0}
+
+-- The answer of the check of a source after a failed read, by that of the bytes before it: a refusal that
+-- they decide, and else that a read failed.
+abbrev pub IsAfterFailure : {X : Type 0} → Result X Stop → CheckFault → Type 0
+IsAfterFailure (Ok x) answer = answer ≡ fault.ReadFault
+IsAfterFailure (Err (stop.Refused refusal)) answer =
+    ((refusal.reason ≡ reason.Truncated) × (answer ≡ fault.ReadFault)) ⊎ ((refusal.reason ≢ reason.Truncated) × (answer ≡ fault.Stop (stop.Refused refusal)))
+IsAfterFailure (Err stop.OutOfMemory) answer = answer ≡ fault.ReadFault
+IsAfterFailure (Err stop.Spent) answer = answer ≡ fault.ReadFault

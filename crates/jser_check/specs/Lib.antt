@@ -1,3 +1,4 @@
 pub mod Stream
 pub mod Answers
 pub mod Reading
+pub mod Sources

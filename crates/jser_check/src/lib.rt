@@ -4,5 +4,8 @@
 mod answer;
 mod bytes;
 mod content;
+mod reader;
 
 pub use answer::{CheckFault, Reason, Refusal, Report, Stop};
+pub use bytes::check_bytes;
+pub use reader::check_reader;
