@@ -1,3 +1,5 @@
 pub mod Bytes
 pub mod Devices
 pub mod ModifiedUtf8
+pub mod Places
+pub mod Texts

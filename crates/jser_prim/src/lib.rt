@@ -5,9 +5,12 @@
 #![tactic(auto)]
 
 mod device;
+mod place;
+mod scan;
 mod sink;
 mod source;
 
 pub use device::Failed;
+pub use scan::{TextFault, TextScan};
 pub use sink::{Sink, ToWrite};
 pub use source::{FromRead, Source};

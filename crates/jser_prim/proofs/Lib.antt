@@ -1,0 +1,4 @@
+pub mod PlaceLemmas
+pub mod ScanLemmas
+pub mod TextLemmas
+pub mod Units

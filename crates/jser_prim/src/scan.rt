@@ -1,0 +1,93 @@
+//! Reading a text of modified UTF-8 whose length is known, from bytes in any pieces.
+//!
+//! A `TextScan` keeps the few bits of the unit that is being read and nothing of what went before, so it
+//! takes no memory, and refuses a text at the first byte that no text of its length can have there.
+ghost use Rattle.std.specs.Prelude.{◌≡◌, ◌+◌, ◌-◌, ◌<◌, ◌↔◌, ℕ, List, [], ◌∷◌, ◌++◌, length, true, false, IsTrue, IsOk, IsErr, IfOk, OnErr};
+ghost use Rattle.std.specs.Option.{option_to_list};
+ghost use Rattle.jser_prim.specs.ModifiedUtf8.{modified_utf8};
+ghost use Rattle.jser_prim.specs.Texts.{BeginsText, HasAccepted};
+
+use crate::place::{Place, Taken};
+use std::marker::Model;
+use thiserror::Error;
+
+/// A byte that no text of the scan's length can have where it stands.
+#[derive(Clone, Copy, PartialEq, Eq, Debug, Error)]
+#[error("no modified UTF-8 of this length")]
+pub struct TextFault;
+
+/// A scan of one text of modified UTF-8, whose length in bytes was given.
+#[derive(Drop)]
+pub struct TextScan {
+    left: u64,
+    place: Place,
+}
+
+impl Model for TextScan {
+    ghost use Rattle.jser_prim.specs.Texts.{Scan};
+    ghost use Rattle.jser_prim.specs.Places.{CanStand, cut_at, is_fault};
+
+    ghost Value = { Scan };
+
+    ghost view = { λ a. record { left = a.left; cut = cut_at a.place; has_failed = is_fault a.place } };
+
+    ghost invariant = { λ a. CanStand a.left a.place };
+}
+
+impl TextScan {
+    /// A scan of a text of `len` bytes.
+    pub fn new(len: u64) -> TextScan
+        ensures { HasAccepted len [] [] result }
+    {
+        TextScan {
+            left: len,
+            place: Place::First,
+        }
+    }
+
+    /// Whether the whole text was accepted.
+    #[tactic(auto, using(crate::proofs::ScanLemmas::accepts_text))]
+    pub fn is_done(&self) -> bool
+        ensures done { (len : ℕ) (bytes units : List ℕ) → HasAccepted len bytes units self.now
+            → (IsTrue result ↔ (length bytes ≡ len)) }
+        ensures text { (len : ℕ) (bytes units : List ℕ) → HasAccepted len bytes units self.now
+            → IsTrue result → bytes ≡ modified_utf8 units }
+        ensures failed { self.now.has_failed ≡ true → result ≡ false }
+        ensures left { IsTrue result ↔ (self.now.left ≡ 0) }
+    {
+        self.left == 0
+    }
+
+    /// Takes the next byte of the text, and gives the unit that it ends, if it ends one.
+    ///
+    /// # Errors
+    ///
+    /// `TextFault` where no text of this length goes on with the byte, and at each call from then on.
+    pub fn push(&mut self, byte: u8) -> Result<Option<u16>, TextFault>
+        requires not_done { 0 < self.old.left }
+        ensures accepts { (len : ℕ) (bytes units : List ℕ) → HasAccepted len bytes units self.old
+            → (IsOk result ↔ BeginsText len (bytes ++ byte ∷ [])) }
+        ensures unit { (len : ℕ) (bytes units : List ℕ) → HasAccepted len bytes units self.old
+            → IfOk result (λ unit. HasAccepted len (bytes ++ byte ∷ []) (units ++ option_to_list unit) self.new) }
+        ensures fault { OnErr result ((self.new.has_failed ≡ true) × (self.new.left ≡ self.old.left)) }
+        ensures failed { self.old.has_failed ≡ true → IsErr result × (self.new ≡ self.old) }
+    {
+        let room = self.left - 1;
+        match self.place.take(byte, room) {
+            Taken::Unit(unit) => {
+                self.left = room;
+                self.place = Place::First;
+                Ok(Some(unit))
+            }
+            Taken::Part(next) => {
+                self.left = room;
+                self.place = next;
+                Ok(None)
+            }
+            Taken::Refused => {
+                self.place = Place::Fault;
+                Err(TextFault)
+            }
+        }
+    }
+}
