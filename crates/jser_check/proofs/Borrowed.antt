@@ -5,6 +5,3 @@ use Rattle.jser_prim.specs.ModifiedUtf8.{modified_utf8, IsUnits}
 pub big_bytes-same : (k m n : ℕ) (xs ys : List ℕ) → m < 256 ^ k → n < 256 ^ k → big_bytes k m ++ xs ≡ big_bytes k n ++ ys → (m ≡ n) × (xs ≡ ys)
 big_bytes-same k m n xs ys hm hn e = ?
 
-pub modified_utf8-same : (us vs xs ys : List ℕ) → IsUnits us → IsUnits vs → length (modified_utf8 us) ≡ length (modified_utf8 vs)
-    → modified_utf8 us ++ xs ≡ modified_utf8 vs ++ ys → (us ≡ vs) × (xs ≡ ys)
-modified_utf8-same us vs xs ys hu hv e f = ?

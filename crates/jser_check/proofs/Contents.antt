@@ -3,7 +3,8 @@ use Rattle.std.proofs.Common.{◌≡◌, ℕ, ◌+◌, ◌<◌, ◌≤◌, ◌^�
 use Rattle.jser_prim.specs.Bytes.{big_bytes}
 use Rattle.jser_prim.specs.ModifiedUtf8.{modified_utf8, IsUnits}
 use Rattle.jser_check.specs.Stream.{Content, null, back, text, content_spelling, contents_spelling, Entry, table_after_content, table_after, IsWellFormedContent, IsWellFormed}
-use Rattle.jser_check.proofs.Borrowed.{big_bytes-same, modified_utf8-same}
+use Rattle.jser_prim.proofs.TextLemmas.{same_units}
+use Rattle.jser_check.proofs.Borrowed.{big_bytes-same}
 
 -- the tags, and what follows them
 pub tag-same : (a b : ℕ) (xs ys : List ℕ) → a ∷ xs ≡ b ∷ ys → a ≡ b
@@ -28,7 +29,7 @@ text-same us vs xs ys hu hv lu lv e =
     let flat = sym (append_assoc (big_bytes 2 (length (modified_utf8 us))) (modified_utf8 us) xs) ∙ e
         ∙ append_assoc (big_bytes 2 (length (modified_utf8 vs))) (modified_utf8 vs) ys in
     let lengths = big_bytes-same 2 (length (modified_utf8 us)) (length (modified_utf8 vs)) (modified_utf8 us ++ xs) (modified_utf8 vs ++ ys) lu lv flat in
-    let units = modified_utf8-same us vs xs ys hu hv lengths.0 lengths.1 in
+    let units = same_units us vs xs ys hu hv lengths.0 lengths.1 in
     (ap text units.0, units.1)
 
 -- two contents with the same front are one

@@ -8,8 +8,9 @@ use Rattle.jser_prim.specs.ModifiedUtf8.{modified_utf8, IsUnits}
 use Rattle.jser_check.specs.declared.answer.Reason.TheVariants as reason
 use Rattle.jser_check.specs.declared.content.Fault.{Fault}
 use Rattle.jser_check.specs.Stream.{Content, null, back, text, content_spelling, Entry, text_entry, table_after_content, IsWellFormedContent}
-use Rattle.jser_check.specs.Reading.{Takes, BeginsNone, HoldsNone, IsFaultOf, IsText, BeginsText}
-use Rattle.jser_check.proofs.Borrowed.{big_bytes-same, modified_utf8-same}
+use Rattle.jser_check.specs.Reading.{Takes, BeginsNone, HoldsNone, IsFaultOf, IsText}
+use Rattle.jser_prim.specs.Texts.{BeginsText}
+use Rattle.jser_check.proofs.Borrowed.{big_bytes-same}
 use Rattle.jser_check.proofs.Contents.{tag-same, behind-same}
 
 -- the first byte and the rest
@@ -137,12 +138,12 @@ front_of_text : (len : ℕ) (units left front more : List ℕ) → IsUnits units
     → modified_utf8 units ++ left ≡ front ++ more → BeginsText len front
 front_of_text len units left front more u size short e = record {
   units = units;
-  more = drop (length front) (modified_utf8 units);
+  rest = drop (length front) (modified_utf8 units);
   are_units = u;
   spelled = sym (take-append-drop (length front) (modified_utf8 units))
       ∙ ap (λ x. x ++ drop (length front) (modified_utf8 units))
         (sym (take-append-le (length front) (modified_utf8 units) left (omega arith)) ∙ ap (take (length front)) e ∙ take-append_seam front more);
-  size = size;
+  has_length = size;
 }
 
 no_text : (table : List Entry) (len : ℕ) (front : List ℕ) → len < 2 ^ 16 → length front ≤ len → (BeginsText len front → ⊥)

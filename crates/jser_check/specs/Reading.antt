@@ -31,14 +31,6 @@ pub record IsFaultOf (table : List Entry) (bytes : List ℕ) (fault : Fault) : T
   pub within : fault.to ≤ length bytes
   pub all : fault.reason ≡ reason.Truncated → fault.to ≡ length bytes
 
--- a text of exactly `len` bytes begins with these
-pub record BeginsText (len : ℕ) (front : List ℕ) : Type 0 where
-  pub units : List ℕ
-  pub more : List ℕ
-  pub are_units : IsUnits units
-  pub spelled : modified_utf8 units ≡ front ++ more
-  pub size : length (modified_utf8 units) ≡ len
-
 -- a whole text
 pub record IsText (bytes : List ℕ) : Type 0 where
   pub units : List ℕ

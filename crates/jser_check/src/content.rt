@@ -1,7 +1,8 @@
 //! One content at the front of some bytes: its tag, and what the tag promises.
 ghost use Rattle.std.specs.Prelude.{◌≡◌, ◌+◌, ◌<◌, ◌≤◌, ◌∷◌, ◌^◌, List, length, take, IfOk, IfErr, IfNone, IsTrue, ◌↔◌, IfSome, true, false};
+ghost use Rattle.jser_prim.specs.Texts.{BeginsText};
 ghost use Rattle.jser_check.specs.Stream.{Entry};
-ghost use Rattle.jser_check.specs.Reading.{Takes, IsFaultOf, IsText, BeginsText};
+ghost use Rattle.jser_check.specs.Reading.{Takes, IsFaultOf, IsText};
 
 use crate::answer::Reason;
 ghost use Rattle.jser_prim.specs.Bytes.{big_bytes};
