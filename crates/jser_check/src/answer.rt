@@ -1,5 +1,7 @@
 //! What a check answers: the counts of a stream, or the bytes that decide against it and the reason.
 
+use std::fmt;
+
 /// The counts of an accepted stream.
 #[derive(Clone, Copy, PartialEq, Eq, Debug)]
 pub struct Report {
@@ -68,6 +70,55 @@ pub enum Reason {
     Truncated,
     /// An epoch has more handles than the limit.
     HandleSpace,
+}
+
+impl fmt::Display for Reason {
+    ghost use Rattle.std.specs.Prelude.{Some};
+    ghost use Rattle.jser_check.specs.Reasons.{reason_name};
+
+    ghost output = { λ reason. Some (reason_name reason) };
+
+    fn fmt<W: fmt::Write>(&self, f: &mut fmt::Formatter<W>) -> fmt::Result {
+        f.write_str(self.name())
+    }
+}
+
+impl Reason {
+    ghost use Rattle.std.specs.Prelude.{◌≡◌};
+    ghost use Rattle.jser_check.specs.Reasons.{reason_name};
+
+    /// The name of the reason, as it is written here.
+    pub fn name(&self) -> &'static str
+        ensures { result.now ≡ reason_name self.now }
+    {
+        match self {
+            Reason::BytesExceeded => "BytesExceeded",
+            Reason::BadHeader => "BadHeader",
+            Reason::BadTag => "BadTag",
+            Reason::ExceptionTag => "ExceptionTag",
+            Reason::ResetInside => "ResetInside",
+            Reason::BadText => "BadText",
+            Reason::NegativeLength => "NegativeLength",
+            Reason::BadTypeCode => "BadTypeCode",
+            Reason::FieldOrder => "FieldOrder",
+            Reason::BadFlags => "BadFlags",
+            Reason::NullClass => "NullClass",
+            Reason::NoSuchHandle => "NoSuchHandle",
+            Reason::WrongKind => "WrongKind",
+            Reason::OpenDescriptor => "OpenDescriptor",
+            Reason::BadArrayName => "BadArrayName",
+            Reason::WrongClass => "WrongClass",
+            Reason::ExternalRaw => "ExternalRaw",
+            Reason::NotSerializable => "NotSerializable",
+            Reason::ClassRejected => "ClassRejected",
+            Reason::ClassUnmatched => "ClassUnmatched",
+            Reason::DepthExceeded => "DepthExceeded",
+            Reason::RefsExceeded => "RefsExceeded",
+            Reason::ArrayExceeded => "ArrayExceeded",
+            Reason::Truncated => "Truncated",
+            Reason::HandleSpace => "HandleSpace",
+        }
+    }
 }
 
 /// A refusal: the first `to_byte` bytes decide it, whatever follows them.
