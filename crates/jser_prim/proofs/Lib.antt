@@ -1,4 +1,6 @@
 pub mod PlaceLemmas
+pub mod PushLemmas
+pub mod RunLemmas
 pub mod ScanLemmas
 pub mod TextLemmas
 pub mod Units

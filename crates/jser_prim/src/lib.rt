@@ -6,11 +6,12 @@
 
 mod device;
 mod place;
+mod runs;
 mod scan;
 mod sink;
 mod source;
 
 pub use device::Failed;
-pub use scan::{TextFault, TextScan};
+pub use scan::{TextFault, TextFaultAfter, TextScan};
 pub use sink::{Sink, ToWrite};
 pub use source::{FromRead, Source};

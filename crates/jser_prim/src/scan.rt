@@ -2,12 +2,13 @@
 //!
 //! A `TextScan` keeps the few bits of the unit that is being read and nothing of what went before, so it
 //! takes no memory, and refuses a text at the first byte that no text of its length can have there.
-ghost use Rattle.std.specs.Prelude.{◌≡◌, ◌+◌, ◌-◌, ◌<◌, ◌↔◌, ℕ, List, [], ◌∷◌, ◌++◌, length, true, false, IsTrue, IsOk, IsErr, IfOk, OnErr};
+ghost use Rattle.std.specs.Prelude.{◌≡◌, ◌+◌, ◌-◌, ◌<◌, ◌≤◌, ◌↔◌, ℕ, List, [], ◌∷◌, ◌++◌, length, true, false, IsTrue, IsOk, IsErr, IfOk, IfErr, OnOk, OnErr};
 ghost use Rattle.std.specs.Option.{option_to_list};
 ghost use Rattle.jser_prim.specs.ModifiedUtf8.{modified_utf8};
-ghost use Rattle.jser_prim.specs.Texts.{BeginsText, HasAccepted};
+ghost use Rattle.jser_prim.specs.Texts.{BeginsText, FaultsAfter, HasAccepted, HasAcceptedAfter, PushesFront, PushesTo};
 
 use crate::place::{Place, Taken};
+use crate::runs::spelled_len;
 use std::marker::Model;
 use thiserror::Error;
 
@@ -15,6 +16,14 @@ use thiserror::Error;
 #[derive(Clone, Copy, PartialEq, Eq, Debug, Error)]
 #[error("no modified UTF-8 of this length")]
 pub struct TextFault;
+
+/// A byte of some that were given together, which no text of the scan's length can have where it stands.
+#[derive(Clone, Copy, PartialEq, Eq, Debug, Error)]
+#[error("no modified UTF-8 of this length after {accepted} bytes")]
+pub struct TextFaultAfter {
+    /// How many bytes were accepted before it.
+    pub accepted: usize,
+}
 
 /// A scan of one text of modified UTF-8, whose length in bytes was given.
 #[derive(Drop)]
@@ -69,6 +78,7 @@ impl TextScan {
             → (IsOk result ↔ BeginsText len (bytes ++ byte ∷ [])) }
         ensures unit { (len : ℕ) (bytes units : List ℕ) → HasAccepted len bytes units self.old
             → IfOk result (λ unit. HasAccepted len (bytes ++ byte ∷ []) (units ++ option_to_list unit) self.new) }
+        ensures left { OnOk result (self.new.left + 1 ≡ self.old.left) }
         ensures fault { OnErr result ((self.new.has_failed ≡ true) × (self.new.left ≡ self.old.left)) }
         ensures failed { self.old.has_failed ≡ true → IsErr result × (self.new ≡ self.old) }
     {
@@ -89,5 +99,72 @@ impl TextScan {
                 Err(TextFault)
             }
         }
+    }
+
+    /// Takes the next bytes of the text, as pushing them one by one would, and gives no units.
+    ///
+    /// # Errors
+    ///
+    /// `TextFaultAfter` at the first byte with which no text of this length goes on, with the number of
+    /// bytes that were accepted before it; from then on at once.
+    pub fn push_all(&mut self, bytes: &[u8]) -> Result<(), TextFaultAfter>
+        requires { length bytes.now ≤ self.old.left }
+        ensures accepts { (len : ℕ) (before units : List ℕ) → HasAccepted len before units self.old
+            → (IsOk result ↔ BeginsText len (before ++ bytes.now)) }
+        ensures units { (len : ℕ) (before units : List ℕ) → HasAccepted len before units self.old
+            → OnOk result (HasAcceptedAfter len (before ++ bytes.now) units self.new) }
+        ensures fault { (len : ℕ) (before units : List ℕ) → HasAccepted len before units self.old
+            → IfErr result (λ fault. FaultsAfter len before bytes.now fault.accepted) }
+        ensures left { OnOk result (self.new.left + length bytes.now ≡ self.old.left) }
+        ensures failed { OnErr result (self.new.has_failed ≡ true) }
+        ensures stays { self.old.has_failed ≡ true → self.new ≡ self.old }
+        ensures refuses { self.old.has_failed ≡ true → 0 < length bytes.now → IsErr result }
+    {
+        let mut rest = bytes;
+        'bytes: while !rest.is_empty() {
+            match self.push_some(rest) {
+                Ok(accepted) => {
+                    let (_, tail) = rest.split_at(accepted);
+                    rest = tail;
+                }
+                Err(fault) => {
+                    return Err(TextFaultAfter {
+                        accepted: bytes.len() - rest.len() + fault.accepted,
+                    });
+                }
+            }
+        }
+        Ok(())
+    }
+
+    /// Pushes some of the bytes, at least one where there are any, and gives how many.
+    fn push_some(&mut self, bytes: &[u8]) -> Result<usize, TextFaultAfter>
+        requires { length bytes.now ≤ self.old.left }
+        ensures some { IfOk result (λ accepted. 0 < length bytes.now → 0 < accepted) }
+        ensures pushes { IfOk result (λ accepted. PushesFront self.old bytes.now accepted self.new) }
+        ensures fault { IfErr result (λ fault. PushesTo self.old bytes.now fault.accepted self.new) }
+    {
+        let whole = self.skip_units(bytes);
+        let (_, tail) = bytes.split_at(whole);
+        match tail {
+            [] => Ok(whole),
+            [byte, ..] => match self.push(*byte) {
+                Ok(_) => Ok(whole + 1),
+                Err(_) => Err(TextFaultAfter { accepted: whole }),
+            },
+        }
+    }
+
+    /// Accepts whole units from the front of `bytes`, where no unit is cut, and gives how many bytes.
+    fn skip_units(&mut self, bytes: &[u8]) -> usize
+        requires { length bytes.now ≤ self.old.left }
+        ensures { PushesFront self.old bytes.now result self.new }
+    {
+        let Place::First = self.place else {
+            return 0;
+        };
+        let len = spelled_len(bytes);
+        self.left -= len as u64;
+        len
     }
 }
