@@ -27,7 +27,7 @@ text-same : (us vs xs ys : List ℕ) → IsUnits us → IsUnits vs → length (m
     → (text us ≡ text vs) × (xs ≡ ys)
 text-same us vs xs ys hu hv lu lv e =
     let flat = sym (append_assoc (big_bytes 2 (length (modified_utf8 us))) (modified_utf8 us) xs) ∙ e
-        ∙ append_assoc (big_bytes 2 (length (modified_utf8 vs))) (modified_utf8 vs) ys in
+    ∙ append_assoc (big_bytes 2 (length (modified_utf8 vs))) (modified_utf8 vs) ys in
     let lengths = big_bytes-same 2 (length (modified_utf8 us)) (length (modified_utf8 vs)) (modified_utf8 us ++ xs) (modified_utf8 vs ++ ys) lu lv flat in
     let units = same_units us vs xs ys hu hv lengths.0 lengths.1 in
     (ap text units.0, units.1)

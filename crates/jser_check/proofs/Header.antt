@@ -23,10 +23,10 @@ not_header : (bytes more : List ℕ) (i : ℕ) (contents : List Content) → i <
     → take (i + 1) bytes ++ more ≡ spelling contents → ⊥
 not_header bytes more i contents short there other e =
     other
-      (sym (get_or-take (i + 1) bytes i 0 (omega arith))
-      ∙ sym (get_or_append_left (take (i + 1) bytes) more 0 i (omega (arith, length-take-le (i + 1) bytes (omega arith))))
-      ∙ ap (λ t. get_or t i 0) e
-      ∙ get_or_append_left header (contents_spelling contents) 0 i (omega arith))
+    (sym (get_or-take (i + 1) bytes i 0 (omega arith))
+    ∙ sym (get_or_append_left (take (i + 1) bytes) more 0 i (omega (arith, length-take-le (i + 1) bytes (omega arith))))
+    ∙ ap (λ t. get_or t i 0) e
+    ∙ get_or_append_left header (contents_spelling contents) 0 i (omega arith))
 
 pub header_bad : (bytes : List ℕ) (i : ℕ) → i < 4 → i < length bytes → get_or bytes i 0 ≢ get_or header i 0
     → Refuses bytes (record { from_byte = 0; to_byte = i + 1; reason = reason.BadHeader })

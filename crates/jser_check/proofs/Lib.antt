@@ -1,5 +1,6 @@
 pub mod Borrowed
 pub mod Contents
+pub mod Texts
 pub mod Steps
 pub mod Header
 pub mod Streams

@@ -43,9 +43,10 @@ read_refused (Some bytes) all (stop.Refused refusal) e r = refused_all bytes all
     refused_all : (bytes all : List ℕ) (refusal : Refusal) → all ≡ take (byte_cap + 1) bytes → Refuses all refusal → Refuses bytes refusal
     refused_all bytes all refusal e r =
         elim (cases_lt (byte_cap + 1) (length bytes)) [
-          inl long ↦ refuses_front bytes all (drop (byte_cap + 1) bytes) refusal (ap (λ t. t ++ drop (byte_cap + 1) bytes) e ∙ take-append-drop (byte_cap + 1) bytes)
+          | inl long ↦ refuses_front bytes all (drop (byte_cap + 1) bytes) refusal (ap (λ t. t ++ drop (byte_cap + 1) bytes) e ∙ take-append-drop (byte_cap + 1) bytes)
               (λ cut. absurd (let whole = (r.all cut).1 in omega (arith, ap length e ∙ length-take (byte_cap + 1) bytes))) r
-          | inr short ↦ subst (λ b. Refuses b refusal) (e ∙ take_all (byte_cap + 1) bytes short) r ]
+          | inr short ↦ subst (λ b. Refuses b refusal) (e ∙ take_all (byte_cap + 1) bytes short) r
+        ]
 
 -- a refusal of what was read before a read failed
 pub failed_refused : (told : Option (List ℕ)) (all : List ℕ) (checked : Result Report Stop) (answer : CheckFault) → IfSome told (λ bytes. IsFrontOf bytes all)

@@ -5,6 +5,7 @@ use Rattle.std.proofs.lemmas.List.{take-append-drop, take-append-le, length-take
 use Rattle.std.proofs.Math.Seq.{take-append_seam, take-append-add}
 use Rattle.jser_prim.specs.Bytes.{big_bytes}
 use Rattle.jser_prim.specs.ModifiedUtf8.{modified_utf8, IsUnits}
+use Rattle.jser_check.specs.declared.answer.Reason.{Reason}
 use Rattle.jser_check.specs.declared.answer.Reason.TheVariants as reason
 use Rattle.jser_check.specs.declared.content.Fault.{Fault}
 use Rattle.jser_check.specs.Stream.{Content, null, back, text, content_spelling, Entry, text_entry, table_after_content, IsWellFormedContent}
@@ -45,10 +46,10 @@ no_tag table tag n b t null left more w e = n (sym (tag-same _ _ _ _ e))
 no_tag table tag n b t (back k) left more w e = b (sym (tag-same _ _ _ _ e))
 no_tag table tag n b t (text units) left more w e = t (sym (tag-same _ _ _ _ e))
 
-pub bad_tag : (table : List Entry) (tag : ℕ) (rest : List ℕ) → tag ≢ 0x70 → tag ≢ 0x71 → tag ≢ 0x74
-    → IsFaultOf table (tag ∷ rest) (record { from = 0; to = 1; reason = reason.BadTag })
-bad_tag table tag rest n b t =
-    decided table (tag ∷ rest) (record { from = 0; to = 1; reason = reason.BadTag }) (λ e. cc e) (no_tag table tag n b t) (omega arith) (omega arith) (omega arith)
+pub bad_tag : (table : List Entry) (tag : ℕ) (rest : List ℕ) (why : Reason) → tag ≢ 0x70 → tag ≢ 0x71 → tag ≢ 0x74 → why ≢ reason.Truncated
+    → IsFaultOf table (tag ∷ rest) (record { from = 0; to = 1; reason = why })
+bad_tag table tag rest why n b t other =
+    decided table (tag ∷ rest) (record { from = 0; to = 1; reason = why }) other (no_tag table tag n b t) (omega arith) (omega arith) (omega arith)
 
 -- a field and what follows it, behind a tag
 joined : (tag : ℕ) (n : ℕ) (rest field after : List ℕ) → field ≡ take n rest → after ≡ drop n rest → tag ∷ rest ≡ tag ∷ (field ++ after)
@@ -82,7 +83,7 @@ pub no_such_handle : (table : List Entry) (handles handle : ℕ) (rest field : L
     → IsFaultOf table (0x71 ∷ rest) (record { from = 1; to = 5; reason = reason.NoSuchHandle })
 no_such_handle table handles handle rest field t e f fits long none =
     decided table (0x71 ∷ rest) (record { from = 1; to = 5; reason = reason.NoSuchHandle }) (λ e. cc e)
-      (no_reference table handle rest (e ∙ f) fits (λ there. none (there.0, omega (arith, there.1)))) (omega arith) (omega arith) (omega arith)
+    (no_reference table handle rest (e ∙ f) fits (λ there. none (there.0, omega (arith, there.1)))) (omega arith) (omega arith) (omega arith)
 
 -- what is cut short behind a tag
 cut_fault : (table : List Entry) (tag : ℕ) (rest : List ℕ) → HoldsNone table (tag ∷ rest)
@@ -116,7 +117,7 @@ string_taken table len rest prefix body field after e p b f a fits high low t = 
   well_formed = (t.are_units, omega (arith, size));
   spelled = joined 0x74 2 rest prefix body p b
       ∙ ap (λ x. 0x74 ∷ (prefix ++ x)) (sym (take-append-drop (min len (length body)) body) ∙ ap (λ x. take (min len (length body)) body ++ x) (sym a)
-        ∙ ap (λ x. x ++ after) (sym f ∙ sym t.spelled))
+      ∙ ap (λ x. x ++ after) (sym f ∙ sym t.spelled))
       ∙ ap (λ x. 0x74 ∷ x) (sym (append_assoc prefix (modified_utf8 t.units) after))
       ∙ ap (λ x. 0x74 ∷ ((x ++ modified_utf8 t.units) ++ after)) (sym e ∙ ap (big_bytes 2) (let same : len ≡ length (modified_utf8 t.units) = omega (arith, size) in same));
   handles = length-append table (text_entry ∷ []);
@@ -131,7 +132,7 @@ string_front : (len : ℕ) (units left body : List ℕ) (more : List ℕ) → le
     → (length (modified_utf8 units) ≡ len) × (modified_utf8 units ++ left ≡ more)
 string_front len units left body more fits w h =
     big_bytes-same 2 (length (modified_utf8 units)) len (modified_utf8 units ++ left) more w fits
-      (sym (append_assoc (big_bytes 2 (length (modified_utf8 units))) (modified_utf8 units) left) ∙ h)
+    (sym (append_assoc (big_bytes 2 (length (modified_utf8 units))) (modified_utf8 units) left) ∙ h)
 
 -- a text that begins with a front and then more begins with that front
 front_of_text : (len : ℕ) (units left front more : List ℕ) → IsUnits units → length (modified_utf8 units) ≡ len → length front ≤ len
@@ -142,7 +143,7 @@ front_of_text len units left front more u size short e = record {
   are_units = u;
   spelled = sym (take-append-drop (length front) (modified_utf8 units))
       ∙ ap (λ x. x ++ drop (length front) (modified_utf8 units))
-        (sym (take-append-le (length front) (modified_utf8 units) left (omega arith)) ∙ ap (take (length front)) e ∙ take-append_seam front more);
+      (sym (take-append-le (length front) (modified_utf8 units) left (omega arith)) ∙ ap (take (length front)) e ∙ take-append_seam front more);
   has_length = size;
 }
 
@@ -183,9 +184,9 @@ bad_text table len accepted rest prefix body field e p b f fits bad =
     let short = length-take (accepted + 1) field in
     let steps : 3 + (accepted + 1) ≡ 4 + accepted = omega arith in
     decided table (0x74 ∷ rest) (record { from = 1; to = 4 + accepted; reason = reason.BadText }) (λ e. cc e)
-      (subst (BeginsNone table) (ap (λ x. 0x74 ∷ (x ++ take (accepted + 1) field)) e ∙ sym front ∙ ap (λ k. take k (0x74 ∷ rest)) steps)
-          (no_text table len (take (accepted + 1) field) fits (omega (arith, short, sizes)) bad.1))
-      (omega arith) (omega arith) (omega (arith, bad.0, whole))
+    (subst (BeginsNone table) (ap (λ x. 0x74 ∷ (x ++ take (accepted + 1) field)) e ∙ sym front ∙ ap (λ k. take k (0x74 ∷ rest)) steps)
+    (no_text table len (take (accepted + 1) field) fits (omega (arith, short, sizes)) bad.1))
+    (omega arith) (omega arith) (omega (arith, bad.0, whole))
 
 pub cut_length : (table : List Entry) (rest : List ℕ) → length rest < 2
     → IsFaultOf table (0x74 ∷ rest) (record { from = 1; to = 1 + length rest; reason = reason.Truncated })

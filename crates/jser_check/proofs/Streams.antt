@@ -72,7 +72,7 @@ reads_more bytes left now count handles assigned so turn =
           ∙ ap (λ t. spelling so.contents ++ t) taken.spelled
           ∙ sym (append_assoc (spelling so.contents) (content_spelling taken.content) now)
           ∙ ap (λ t. t ++ now) (append_assoc header (contents_spelling so.contents) (content_spelling taken.content)
-              ∙ ap (λ t. header ++ t) (sym (contents_spelling-push so.contents taken.content)));
+          ∙ ap (λ t. header ++ t) (sym (contents_spelling-push so.contents taken.content)));
       counted = omega (arith, so.counted, length-append so.contents (taken.content ∷ []));
       assigned = sym (ap length (table_after-push [] so.contents taken.content) ∙ taken.handles ∙ ap (λ n. n + assigned) (sym so.assigned));
     }
@@ -89,7 +89,7 @@ stream_rest : (bytes left more : List ℕ) (count handles : ℕ) (so : Reads byt
     → IsWellFormed [] contents → spelling so.contents ++ more ≡ spelling contents → IsRest [] so.contents contents more
 stream_rest bytes left more count handles so contents w e =
     rest_of [] so.contents contents more so.well_formed w
-      (append_cancel_left header (contents_spelling contents) (contents_spelling so.contents ++ more) (sym e ∙ append_assoc header (contents_spelling so.contents) more))
+    (append_cancel_left header (contents_spelling contents) (contents_spelling so.contents ++ more) (sym e ∙ append_assoc header (contents_spelling so.contents) more))
 
 -- and what is left begins with a content, where it is not empty
 no_rest : (table : List Entry) (done contents : List Content) (left : List ℕ) → IsRest table done contents left → 0 < length left
@@ -109,18 +109,18 @@ refuses_at bytes left count handles fault short so faulty =
     let at = read_bytes bytes left count handles so in
     let sizes = ap length so.spelled ∙ length-append (spelling so.contents) left in
     let front : take (length bytes - length left + fault.to) bytes ≡ spelling so.contents ++ take fault.to left =
-        ap (λ n. take (n + fault.to) bytes) at ∙ ap (take (length (spelling so.contents) + fault.to)) so.spelled
-        ∙ take-append-add (spelling so.contents) left fault.to in
+    ap (λ n. take (n + fault.to) bytes) at ∙ ap (take (length (spelling so.contents) + fault.to)) so.spelled
+    ∙ take-append-add (spelling so.contents) left fault.to in
     let some : 0 < length (take fault.to left) = omega (arith, length-take-le fault.to left is.within, is.some) in
     record {
       none = λ contents a.
-        no_rest [] so.contents contents left
+          no_rest [] so.contents contents left
           (stream_rest bytes left left count handles so contents a.stream.well_formed (sym so.spelled ∙ a.stream.spelled))
           (omega (arith, is.some, is.within)) is.none;
       begins = λ decided more contents a.
-        no_rest [] so.contents contents (take fault.to left ++ more)
+          no_rest [] so.contents contents (take fault.to left ++ more)
           (stream_rest bytes left (take fault.to left ++ more) count handles so contents a.stream.well_formed
-            (sym (append_assoc (spelling so.contents) (take fault.to left) more) ∙ ap (λ t. t ++ more) (sym front) ∙ a.stream.spelled))
+          (sym (append_assoc (spelling so.contents) (take fault.to left) more) ∙ ap (λ t. t ++ more) (sym front) ∙ a.stream.spelled))
           (omega (arith, some, length-append (take fault.to left) more)) (λ c y w e. is.begins decided c y more w e);
       ordered = omega (arith, is.ordered);
       within = omega (arith, is.within, sizes);
@@ -161,12 +161,12 @@ pub reported : (bytes left : List ℕ) (count handles : ℕ) → length left ≡
 reported bytes left count handles none so = λ contents a.
     let same = one_list bytes left count handles so none contents a in
     report_same count (min count 1) handles (length so.contents) (depth_of so.contents) (handle_count so.contents)
-      so.counted (ap (λ n. min n 1) so.counted ∙ sym (depth_of-min so.contents)) so.assigned
+    so.counted (ap (λ n. min n 1) so.counted ∙ sym (depth_of-min so.contents)) so.assigned
     ∙ ap (report_of bytes) (sym same)
   where
     report_same : (a b c a' b' c' : ℕ) → a ≡ a' → b ≡ b' → c ≡ c'
         → ◌≡◌ {A = Report} (record { bytes = length bytes; contents = a; refs = a; depth = b; handles = c })
-            (record { bytes = length bytes; contents = a'; refs = a'; depth = b'; handles = c' })
+        (record { bytes = length bytes; contents = a'; refs = a'; depth = b'; handles = c' })
     report_same a b c a' b' c' e f g = cc
 
 -- What a refusal of some bytes says of more bytes
@@ -176,7 +176,7 @@ refuses_more front rest refusal decided r =
     let same = take-append-le refusal.to_byte front rest r.within in
     record {
       none = λ contents a.
-        r.begins decided (drop refusal.to_byte (front ++ rest)) contents
+          r.begins decided (drop refusal.to_byte (front ++ rest)) contents
           (subst (λ bytes. IsAdmitted bytes contents) (sym (take-append-drop refusal.to_byte (front ++ rest)) ∙ ap (λ t. t ++ drop refusal.to_byte (front ++ rest)) same) a);
       begins = λ _ more contents a. r.begins decided more contents (subst (λ t. IsAdmitted (t ++ more) contents) same a);
       ordered = r.ordered;

@@ -1,11 +1,12 @@
 //! One content at the front of some bytes: its tag, and what the tag promises.
-ghost use Rattle.std.specs.Prelude.{◌≡◌, ◌+◌, ◌<◌, ◌≤◌, ◌∷◌, ◌^◌, List, length, take, IfOk, IfErr, IfNone, IsTrue, ◌↔◌, IfSome, true, false};
+ghost use Rattle.std.specs.Prelude.{◌≡◌, ◌≢◌, ◌+◌, ◌<◌, ◌≤◌, ◌∷◌, ◌^◌, List, length, take, IfOk, IfErr, IfNone, IsTrue, ◌↔◌, IfSome, true, false};
 ghost use Rattle.jser_prim.specs.Texts.{BeginsText};
 ghost use Rattle.jser_check.specs.Stream.{Entry};
 ghost use Rattle.jser_check.specs.Reading.{Takes, IsFaultOf, IsText};
+ghost use Rattle.jser_prim.specs.Bytes.{big_bytes};
 
 use crate::answer::Reason;
-ghost use Rattle.jser_prim.specs.Bytes.{big_bytes};
+use jser_prim::TextScan;
 
 /// NULL: the null reference.
 const TC_NULL: u8 = 0x70;
@@ -13,6 +14,8 @@ const TC_NULL: u8 = 0x70;
 const TC_REFERENCE: u8 = 0x71;
 /// STRING: a new string, whose length takes two bytes.
 const TC_STRING: u8 = 0x74;
+/// EXCEPTION: the stream's writer failed. It is left out of the grammar, and refused by its own name.
+const TC_EXCEPTION: u8 = 0x7B;
 
 /// The first handle of a stream.
 const BASE_WIRE_HANDLE: u32 = 0x7E0000;
@@ -63,17 +66,24 @@ fn content_behind(tag: u8, rest: &[u8], handles: usize) -> Result<Taken<'_>, Fau
         → IsFaultOf table (tag ∷ rest.now) fault) }
 {
     match tag {
-        TC_NULL => Ok(Taken {
-            assigned: 0,
-            rest,
-        }),
+        TC_NULL => Ok(Taken { assigned: 0, rest }),
         TC_REFERENCE => reference(rest, handles),
         TC_STRING => string(rest),
         _ => Err(Fault {
             from: 0,
             to: 1,
-            reason: Reason::BadTag,
+            reason: reason_of_tag(tag),
         }),
+    }
+}
+
+/// Why a tag that begins no content is refused.
+fn reason_of_tag(tag: u8) -> Reason
+    ensures { result ≢ Reason.Truncated }
+{
+    match tag {
+        TC_EXCEPTION => Reason::ExceptionTag,
+        _ => Reason::BadTag,
     }
 }
 
@@ -163,7 +173,11 @@ fn first_bad_byte(len: usize, field: &[u8]) -> Option<usize>
     ensures bad { IfSome result (λ accepted. (accepted < length field.now)
         × (BeginsText len (take (accepted + 1) field.now) → ⊥)) }
 {
-    None
+    let mut scan = TextScan::new(len as u64);
+    match scan.push_all(field) {
+        Ok(()) => None,
+        Err(fault) => Some(fault.accepted),
+    }
 }
 
 fn read_u16(field: &[u8]) -> u16

@@ -9,3 +9,6 @@ mod reader;
 pub use answer::{CheckFault, Reason, Refusal, Report, Stop};
 pub use bytes::check_bytes;
 pub use reader::check_reader;
+
+#[cfg(test)]
+mod tests;

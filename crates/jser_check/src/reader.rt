@@ -95,7 +95,11 @@ fn new_buffer(alloc: Global) -> Result<Vec<u8>, AllocError>
 
 /// One read: adds the bytes that it gives to `all`. `false` is the end.
 #[tactic(auto, using(crate::proofs::SourceLemmas::takes_none))]
-fn read_some<R: Source>(source: &mut R, buffer: &mut [u8], all: &mut Vec<u8>) -> Result<bool, ReadError>
+fn read_some<R: Source>(
+    source: &mut R,
+    buffer: &mut [u8],
+    all: &mut Vec<u8>,
+) -> Result<bool, ReadError>
     requires { 0 < length buffer.old }
     ensures read { OnOk result (ReadsOnto (R.to_come source.old) (R.to_come source.new) all.old.items all.new.items) }
     ensures end { result ≡ Ok false → IsAtEnd (R.to_come source.new) × (all.new.items ≡ all.old.items) }
