@@ -1,8 +1,9 @@
 -- Texts: lists of units and their spellings.
-use Rattle.std.proofs.Common.{◌≡◌, ◌≢◌, ℕ, zero, suc, ◌+◌, ◌-◌, ◌*◌, ◌<◌, ◌≤◌, ◌⊎◌, inl, inr, List, [], ◌∷◌, ◌++◌, length, replicate, IsTrue, refl, arith, sym, ap, subst, ◌∙◌, true, rules, tests, append_assoc}
+use Rattle.std.proofs.Common.{◌≡◌, ◌≢◌, ℕ, zero, suc, ◌+◌, ◌-◌, ◌*◌, ◌<◌, ◌≤◌, ◌⊎◌, inl, inr, List, [], ◌∷◌, ◌++◌, length, replicate, IsTrue, refl, arith, sym, ap, ◌∙◌, All, rules, tests, append_assoc}
 use Rattle.std.proofs.lemmas.Bool.Decides.{nat_tests}
 use Rattle.std.proofs.lemmas.Bool.{cases_eq, cases_lt}
 use Rattle.std.proofs.lemmas.List.{append-nil, append_cancel_left, length-append, length-replicate}
+use Rattle.std.proofs.lemmas.List.Elements.{All-append, All-cons, All-nil, All-same}
 use Rattle.jser_prim.specs.ModifiedUtf8.{unit_spelling, modified_utf8, IsUnits}
 use Rattle.jser_prim.proofs.Units.{OneByte, TwoBytes, ThreeBytes, form_of, same_unit, spelling_one}
 
@@ -92,3 +93,39 @@ same_units (u ∷ us) (v ∷ vs) xs ys are-us are-vs long e =
 -- one spelling has one list of units
 pub one_text : (us vs : List ℕ) → IsUnits us → IsUnits vs → modified_utf8 us ≡ modified_utf8 vs → us ≡ vs
 one_text us vs are-us are-vs e = (same_units us vs [] [] are-us are-vs (ap length e) (ap (λ xs. xs ++ []) e)).0
+
+-- ---- the bytes of a text
+
+-- each is a byte
+pub unit_spelling-fits : (unit : ℕ) → unit < 0x10000 → All (λ b. b < 256) (unit_spelling unit)
+unit_spelling-fits unit fits = elim (form_of unit fits) [
+  | inl one ↦ All-same (λ b. b < 256) (unit_spelling unit) (unit ∷ []) one.spelled
+      (All-cons (λ b. b < 256) unit [] (omega (arith, one.below)) (All-nil (λ b. b < 256)))
+  | inr more ↦ elim more [
+      | inl two ↦ All-same (λ b. b < 256) (unit_spelling unit) ((0xC0 + two.high) ∷ (0x80 + two.low) ∷ []) two.spelled
+          (All-cons (λ b. b < 256) (0xC0 + two.high) ((0x80 + two.low) ∷ []) (omega (arith, two.high_fits))
+            (All-cons (λ b. b < 256) (0x80 + two.low) [] (omega (arith, two.low_fits)) (All-nil (λ b. b < 256))))
+      | inr three ↦ All-same (λ b. b < 256) (unit_spelling unit) ((0xE0 + three.high) ∷ (0x80 + three.middle) ∷ (0x80 + three.low) ∷ []) three.spelled
+          (All-cons (λ b. b < 256) (0xE0 + three.high) ((0x80 + three.middle) ∷ (0x80 + three.low) ∷ []) (omega (arith, three.high_fits))
+            (All-cons (λ b. b < 256) (0x80 + three.middle) ((0x80 + three.low) ∷ []) (omega (arith, three.middle_fits))
+              (All-cons (λ b. b < 256) (0x80 + three.low) [] (omega (arith, three.low_fits)) (All-nil (λ b. b < 256)))))
+    ]
+]
+
+pub modified_utf8-fits : (units : List ℕ) → IsUnits units → All (λ b. b < 256) (modified_utf8 units)
+modified_utf8-fits [] are = All-nil (λ b. b < 256)
+modified_utf8-fits (unit ∷ units) are =
+    All-append (λ b. b < 256) (unit_spelling unit) (modified_utf8 units) (unit_spelling-fits unit (units_head unit units are)) (modified_utf8-fits units (units_tail unit units are))
+
+-- there is at least one for each unit, and at most three
+pub record HasLengthWithin (low high n : ℕ) : Type 0 where
+  pub least : low ≤ n
+  pub most : n ≤ high
+
+pub length-modified_utf8 : (units : List ℕ) → IsUnits units → HasLengthWithin (length units) (3 * length units) (length (modified_utf8 units))
+length-modified_utf8 [] are = record { least = omega arith; most = omega arith }
+length-modified_utf8 (unit ∷ units) are =
+    let one = length-unit_spelling unit (units_head unit units are) in
+    let rest = length-modified_utf8 units (units_tail unit units are) in
+    let both = length-append (unit_spelling unit) (modified_utf8 units) in
+    record { least = omega (arith, one.some, rest.least); most = omega (arith, one.few, rest.most) }

@@ -5,6 +5,7 @@
 #![tactic(auto)]
 
 mod device;
+mod number;
 mod place;
 mod runs;
 mod scan;
@@ -12,6 +13,7 @@ mod sink;
 mod source;
 
 pub use device::Failed;
+pub use number::{read_u16, read_u32, read_u64};
 pub use scan::{TextFault, TextFaultAfter, TextScan};
 pub use sink::{Sink, ToWrite};
 pub use source::{FromRead, Source};
