@@ -4,7 +4,7 @@ use Rattle.jser_prim.specs.Bytes.{big_bytes}
 use Rattle.jser_prim.specs.ModifiedUtf8.{modified_utf8, IsUnits}
 use Rattle.jser_check.specs.Stream.{Content, null, back, text, content_spelling, contents_spelling, Entry, table_after_content, table_after, IsWellFormedContent, IsWellFormed}
 use Rattle.jser_prim.proofs.TextLemmas.{same_units}
-use Rattle.jser_check.proofs.Borrowed.{big_bytes-same}
+use Rattle.jser_prim.proofs.NumberLemmas.{same_number}
 
 -- the tags, and what follows them
 pub tag-same : (a b : ℕ) (xs ys : List ℕ) → a ∷ xs ≡ b ∷ ys → a ≡ b
@@ -17,7 +17,7 @@ behind-same a b xs ys e = cc
 back-same : (m n : ℕ) (xs ys : List ℕ) → 0x7E0000 + m < 2 ^ 32 → 0x7E0000 + n < 2 ^ 32
     → big_bytes 4 (0x7E0000 + m) ++ xs ≡ big_bytes 4 (0x7E0000 + n) ++ ys → (back m ≡ back n) × (xs ≡ ys)
 back-same m n xs ys hm hn e =
-    let same = big_bytes-same 4 (0x7E0000 + m) (0x7E0000 + n) xs ys hm hn e in
+    let same = same_number 4 (0x7E0000 + m) (0x7E0000 + n) xs ys hm hn e in
     let numbers : m ≡ n = omega (arith, same.0) in
     (ap back numbers, same.1)
 
@@ -28,7 +28,7 @@ text-same : (us vs xs ys : List ℕ) → IsUnits us → IsUnits vs → length (m
 text-same us vs xs ys hu hv lu lv e =
     let flat = sym (append_assoc (big_bytes 2 (length (modified_utf8 us))) (modified_utf8 us) xs) ∙ e
     ∙ append_assoc (big_bytes 2 (length (modified_utf8 vs))) (modified_utf8 vs) ys in
-    let lengths = big_bytes-same 2 (length (modified_utf8 us)) (length (modified_utf8 vs)) (modified_utf8 us ++ xs) (modified_utf8 vs ++ ys) lu lv flat in
+    let lengths = same_number 2 (length (modified_utf8 us)) (length (modified_utf8 vs)) (modified_utf8 us ++ xs) (modified_utf8 vs ++ ys) lu lv flat in
     let units = same_units us vs xs ys hu hv lengths.0 lengths.1 in
     (ap text units.0, units.1)
 

@@ -1,4 +1,3 @@
-pub mod Borrowed
 pub mod Contents
 pub mod Texts
 pub mod Steps

@@ -11,7 +11,7 @@ use Rattle.jser_check.specs.declared.content.Fault.{Fault}
 use Rattle.jser_check.specs.Stream.{Content, null, back, text, content_spelling, Entry, text_entry, table_after_content, IsWellFormedContent}
 use Rattle.jser_check.specs.Reading.{Takes, BeginsNone, HoldsNone, IsFaultOf, IsText}
 use Rattle.jser_prim.specs.Texts.{BeginsText}
-use Rattle.jser_check.proofs.Borrowed.{big_bytes-same}
+use Rattle.jser_prim.proofs.NumberLemmas.{same_number}
 use Rattle.jser_check.proofs.Contents.{tag-same, behind-same}
 
 -- the first byte and the rest
@@ -74,7 +74,7 @@ no_reference : (table : List Entry) (handle : ℕ) (rest : List ℕ) → big_byt
 no_reference table handle rest e fits none null left more w h = absurd (let tags = tag-same _ _ _ _ h in omega arith)
 no_reference table handle rest e fits none (text units) left more w h = absurd (let tags = tag-same _ _ _ _ h in omega arith)
 no_reference table handle rest e fits none (back n) left more w h =
-    let numbers = big_bytes-same 4 (0x7E0000 + n) handle left more w.1 fits (behind-same _ _ _ _ h ∙ ap (λ b. b ++ more) (sym e)) in
+    let numbers = same_number 4 (0x7E0000 + n) handle left more w.1 fits (behind-same _ _ _ _ h ∙ ap (λ b. b ++ more) (sym e)) in
     let low = w.0 in
     none (omega (arith, numbers.0), omega (arith, numbers.0))
 
@@ -131,7 +131,7 @@ string_front : (len : ℕ) (units left body : List ℕ) (more : List ℕ) → le
     → (big_bytes 2 (length (modified_utf8 units)) ++ modified_utf8 units) ++ left ≡ big_bytes 2 len ++ more
     → (length (modified_utf8 units) ≡ len) × (modified_utf8 units ++ left ≡ more)
 string_front len units left body more fits w h =
-    big_bytes-same 2 (length (modified_utf8 units)) len (modified_utf8 units ++ left) more w fits
+    same_number 2 (length (modified_utf8 units)) len (modified_utf8 units ++ left) more w fits
     (sym (append_assoc (big_bytes 2 (length (modified_utf8 units))) (modified_utf8 units) left) ∙ h)
 
 -- a text that begins with a front and then more begins with that front

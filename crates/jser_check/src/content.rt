@@ -3,10 +3,9 @@ ghost use Rattle.std.specs.Prelude.{◌≡◌, ◌≢◌, ◌+◌, ◌<◌, ◌�
 ghost use Rattle.jser_prim.specs.Texts.{BeginsText};
 ghost use Rattle.jser_check.specs.Stream.{Entry};
 ghost use Rattle.jser_check.specs.Reading.{Takes, IsFaultOf, IsText};
-ghost use Rattle.jser_prim.specs.Bytes.{big_bytes};
 
 use crate::answer::Reason;
-use jser_prim::TextScan;
+use jser_prim::{TextScan, read_u16, read_u32};
 
 /// NULL: the null reference.
 const TC_NULL: u8 = 0x70;
@@ -178,18 +177,4 @@ fn first_bad_byte(len: usize, field: &[u8]) -> Option<usize>
         Ok(()) => None,
         Err(fault) => Some(fault.accepted),
     }
-}
-
-fn read_u16(field: &[u8]) -> u16
-    requires { length field.now ≡ 2 }
-    ensures { big_bytes 2 result ≡ field.now }
-{
-    0
-}
-
-fn read_u32(field: &[u8]) -> u32
-    requires { length field.now ≡ 4 }
-    ensures { big_bytes 4 result ≡ field.now }
-{
-    0
 }
