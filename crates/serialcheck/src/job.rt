@@ -1,5 +1,6 @@
 //! What the program does: one job on an opened input, printed to an output, faults told on a third.
-ghost use Rattle.std.specs.Prelude.{◌≡◌, ◌⊎◌, ◌<◌, IfOk, IfSome, IsOkAnd, true, string_bytes};
+ghost use Rattle.std.specs.Prelude.{◌≡◌, ◌⊎◌, ◌<◌, ◌++◌, IfOk, OnOk, IfSome, IsOkAnd, true, string_bytes};
+ghost use Rattle.std.specs.Fmt.{decimal};
 ghost use Rattle.std.specs.Io.KnownBytes.{Appends, Keeps};
 ghost use Rattle.serialcheck.specs.Lines.{yes_line, no_line, SaysYes, SaysNo};
 
@@ -7,6 +8,7 @@ use crate::give::give_all;
 use jser_check::{CheckFault, Refusal, Report, Stop, check_reader};
 use jser_prim::{Sink, Source};
 use std::alloc::{AllocError, Global};
+use std::fmt::Write;
 
 /// The bytes are a stream.
 pub(crate) const ACCEPTED: u8 = 0;
@@ -72,26 +74,35 @@ fn check<R: Source, W: Sink, E: Sink>(
 fn text_of_report(alloc: Global, report: Report) -> Result<String, AllocError>
     ensures { IfOk result (λ text. string_bytes text ≡ yes_line report) }
 {
-    let Report {
-        bytes,
-        contents,
-        refs,
-        depth,
-        ..
-    } = report;
-    format!(in alloc; "yes {bytes} bytes, {contents} contents, {refs} refs, depth {depth}\n")
+    let mut text = String::new(alloc);
+    push_count(&mut text, "yes ", report.bytes)?;
+    push_count(&mut text, " bytes, ", report.contents)?;
+    push_count(&mut text, " contents, ", report.refs)?;
+    push_count(&mut text, " refs, depth ", report.depth)?;
+    text.push_str("\n")?;
+    Ok(text)
 }
 
 /// `no at A to E: REASON`
 fn text_of_refusal(alloc: Global, refusal: Refusal) -> Result<String, AllocError>
     ensures { IfOk result (λ text. string_bytes text ≡ no_line refusal) }
 {
-    let Refusal {
-        from_byte,
-        to_byte,
-        reason,
-    } = refusal;
-    format!(in alloc; "no at {from_byte} to {to_byte}: {reason}\n")
+    let mut text = String::new(alloc);
+    push_count(&mut text, "no at ", refusal.from_byte)?;
+    push_count(&mut text, " to ", refusal.to_byte)?;
+    text.push_str(": ")?;
+    text.push_str(refusal.reason.name())?;
+    text.push_str("\n")?;
+    Ok(text)
+}
+
+/// Adds some words and a number in decimal.
+fn push_count(text: &mut String, words: &str, count: u64) -> Result<(), AllocError>
+    ensures { OnOk result (string_bytes text.new ≡ string_bytes text.old ++ words.now ++ decimal count) }
+{
+    text.push_str(words)?;
+    write!(text, "{count}")?;
+    Ok(())
 }
 
 /// Prints a line, and gives its status, or tells why it could not be printed.

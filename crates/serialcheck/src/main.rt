@@ -7,6 +7,8 @@ mod command;
 mod give;
 mod job;
 mod line;
+#[cfg(test)]
+mod tests;
 
 use give::give_all;
 use job::{Job, MISUSED, run, tell_failure};
