@@ -18,7 +18,7 @@ use crate::contents::Contents;
 use crate::outbox::Outbox;
 use crate::tree::{Body, ClassPlace, Content, Desc, Field, Prim, Section, Text, TextPlace, Value};
 use byteorder::{BigEndian, ByteOrder};
-use jser_prim::Sink;
+use jser_prim::{Sink, spell_unit};
 use thiserror::Error;
 
 /// STREAM_MAGIC and STREAM_VERSION.
@@ -160,21 +160,9 @@ fn text_len(units: &[u16]) -> u64
 {
     let mut len = 0u64;
     for unit in units {
-        len = len.wrapping_add(unit_len(*unit));
+        len = len.wrapping_add(spell_unit(*unit, &mut [0; 3]).len() as u64);
     }
     len
-}
-
-/// How many bytes a unit's spelling has.
-#[tactic(auto, unfolding(jser_prim::specs::ModifiedUtf8::unit_spelling))]
-fn unit_len(unit: u16) -> u64
-    ensures { result ≡ length (unit_spelling unit) }
-{
-    match unit {
-        0x0001..=0x007F => 1,
-        0x0000..=0x07FF => 2,
-        _ => 3,
-    }
 }
 
 /// The modified UTF-8 of a text.
@@ -188,24 +176,10 @@ fn put_units<W: Sink>(outbox: &mut Outbox, sink: &mut W, units: &[u16])
 }
 
 /// The spelling of a unit.
-#[tactic(auto, unfolding(jser_prim::specs::ModifiedUtf8::unit_spelling))]
 fn put_unit<W: Sink>(outbox: &mut Outbox, sink: &mut W, unit: u16)
     ensures { Puts outbox.old outbox.new (sink_state (W.gone_out sink.old) (W.has_failed sink.old)) (sink_state (W.gone_out sink.new) (W.has_failed sink.new)) (unit_spelling unit) }
 {
-    match unit {
-        0x0001..=0x007F => outbox.put(sink, &[unit as u8]),
-        0x0000..=0x07FF => {
-            outbox.put(sink, &[0xC0 + (unit / 64) as u8, 0x80 + (unit % 64) as u8]);
-        }
-        _ => outbox.put(
-            sink,
-            &[
-                0xE0 + (unit / 4096) as u8,
-                0x80 + (unit / 64 % 64) as u8,
-                0x80 + (unit % 64) as u8,
-            ],
-        ),
-    }
+    outbox.put(sink, spell_unit(unit, &mut [0; 3]));
 }
 
 /// A reference: its tag and its handle.
