@@ -5,8 +5,8 @@
 
 mod contents;
 mod encoder;
-mod outbox;
 pub mod laws;
+mod outbox;
 mod tree;
 
 pub use contents::Contents;
