@@ -12,3 +12,6 @@ mod tree;
 pub use contents::Contents;
 pub use encoder::{EncodeFault, encode};
 pub use tree::{Body, ClassPlace, Content, Desc, Field, Prim, Section, Text, TextPlace, Value};
+
+#[cfg(test)]
+mod tests;

@@ -17,6 +17,7 @@ use line::{Line, LineFault, line_of};
 use std::alloc::{AllocError, Global};
 use std::env;
 use std::fs::File;
+use std::io::ErrorKind;
 use std::process::ExitCode;
 
 fn main(rt: HostRuntime) -> ExitCode {
@@ -28,8 +29,14 @@ fn main(rt: HostRuntime) -> ExitCode {
 /// Reads the command line and does what it asks for.
 fn status_of<W: Sink, E: Sink>(rt: &HostRuntime, output: &mut W, faults: &mut E) -> u8 {
     let alloc = rt.alloc();
-    let Ok(args) = env::args(rt) else {
-        return tell_misuse(faults, "the command line is not text\n");
+    let args = match env::args(rt) {
+        Ok(args) => args,
+        Err(error) => {
+            return match error.kind() {
+                ErrorKind::OutOfMemory => tell_failure(faults, "out of memory\n"),
+                _ => tell_misuse(faults, "the command line is not text\n"),
+            };
+        }
     };
     let mut owned: Vec<String> = Vec::new(alloc);
     for arg in args {
