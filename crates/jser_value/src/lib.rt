@@ -4,8 +4,9 @@
 #![tactic(auto)]
 
 mod contents;
-mod outbox;
+mod depth;
 pub mod laws;
+mod outbox;
 mod tree;
 
 pub use contents::Contents;
