@@ -23,3 +23,4 @@ pub mod Scanner
 pub mod WalkLaws
 pub mod Limits
 pub mod Outgoing
+pub mod Rooms

@@ -7,6 +7,7 @@ mod contents;
 mod depth;
 pub mod laws;
 mod outbox;
+mod size;
 mod tree;
 
 pub use contents::Contents;
