@@ -24,3 +24,4 @@ pub mod WalkLaws
 pub mod Limits
 pub mod Outgoing
 pub mod Rooms
+pub mod PartTests

@@ -7,6 +7,7 @@ mod contents;
 mod depth;
 pub mod laws;
 mod outbox;
+mod parts;
 mod size;
 mod tree;
 
