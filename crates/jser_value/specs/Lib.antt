@@ -25,3 +25,4 @@ pub mod Limits
 pub mod Outgoing
 pub mod Rooms
 pub mod PartTests
+pub mod Tests

@@ -6,6 +6,7 @@
 mod contents;
 mod depth;
 pub mod laws;
+mod obeys;
 mod outbox;
 mod parts;
 mod size;
