@@ -123,3 +123,8 @@ Judges (Err fault.OutOfMemory) passes after now = Unit {0}
 pub record IsClassAt (T : Entries) (number : ℕ) (chain : List Layer) : Type 0 where
   pub closed : IsTrue (is_closed (slice_get T number))
   pub chain_is : chain_at T number ≡ chain
+
+-- the parent's chain, if there is a parent
+abbrev pub IsParentAt : Entries → List Layer → Option ℕ → Type 0
+IsParentAt T chain None = chain ≡ []
+IsParentAt T chain (Some number) = IsClassAt T number chain
