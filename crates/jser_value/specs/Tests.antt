@@ -12,7 +12,7 @@ use Rattle.jser_table.specs.Fits.{fits}
 use Rattle.jser_value.specs.declared.obeys.Fault.{Fault}
 use Rattle.jser_value.specs.declared.obeys.Fault.TheVariants as fault
 use Rattle.jser_value.specs.Codes.{letter_of, object_count}
-use Rattle.jser_value.specs.Trees.{ValueTree, null, back, string, descriptor, class_object, array, enum_constant, object, DescTree, plain, proxy, ClassPlaceTree, no_class, back_class, new_class, BodyTree, raw_body, value_body, ValueTrees, no_values, value_and, value_count, SectionTree, section, SectionTrees, no_sections, section_and, NotesTree, no_notes, annotation, block, reset, content, ContentTrees, no_contents, content_and, FieldTree, PrimTree}
+use Rattle.jser_value.specs.Trees.{ValueTree, null, back, string, descriptor, class_object, array, enum_constant, object, DescTree, plain, proxy, ClassPlaceTree, no_class, back_class, new_class, BodyTree, raw_body, value_body, ValueTrees, no_values, value_and, value_count, SectionTree, section, SectionTrees, no_sections, section_and, NotesTree, no_notes, annotation, block, reset, content, ContentTrees, no_contents, content_and, FieldTree, PrimTree, TextPlaceTree}
 use Rattle.jser_value.specs.TableAfter.{Entries, add, after_fields, after_value, after_class, after_values, after_notes, after_contents, chain_of_class}
 use Rattle.jser_value.specs.Parts.{elements_of, is_external}
 use Rattle.jser_value.specs.PartTests.{obeys_text, obeys_class_name, obeys_class_names, obeys_flags, obeys_back, obeys_back_to_class, obeys_text_place, obeys_fields, is_prim_of, obeys_prims, obeys_block}
@@ -29,6 +29,20 @@ obeys_layer l ps vs = obeys_prims l.codes ps && value_count vs == object_count l
 abbrev pub obeys_head : List ℕ → ℕ → ℕ → List FieldTree → Bool
 obeys_head name suid flags fields =
     obeys_class_name name && (nat_lt suid (2 ^ 64) && (obeys_flags flags && nat_lt (length fields) (2 ^ 15)))
+
+abbrev pub obeys_interfaces : List (List ℕ) → Bool
+obeys_interfaces interfaces = nat_lt (length interfaces) (2 ^ 31) && obeys_class_names interfaces
+
+-- neither raw values nor values
+abbrev pub is_bare : List PrimTree → ValueTrees → Bool
+is_bare ps vs = length ps == 0 && value_count vs == 0
+
+abbrev pub after_section : Entries → SectionTree → Entries
+after_section T (section ps vs n) = after_notes (after_values T vs) n
+
+abbrev pub obeys_raw_body : Option ℕ → List PrimTree → Bool
+obeys_raw_body None ps = false
+obeys_raw_body (Some code) ps = nat_lt (length ps) (2 ^ 31) && list_all (is_prim_of code) ps
 
 abbrev mutual
   pub obeys_value : Entries → ValueTree → Bool
@@ -55,7 +69,7 @@ abbrev mutual
       && (obeys_fields (add T pending_entry) false fields
       && (obeys_notes behind_fields notes && obeys_superclass (after_contents behind_fields notes) parent))
   obeys_desc T (proxy interfaces notes parent) =
-      (nat_lt (length interfaces) (2 ^ 31) && obeys_class_names interfaces)
+      obeys_interfaces interfaces
       && (obeys_notes (add T pending_entry) notes && obeys_superclass (after_contents (add T pending_entry) notes) parent)
 
   pub obeys_class : Entries → ClassPlaceTree → Bool
@@ -69,8 +83,7 @@ abbrev mutual
   obeys_superclass T (new_class d) = obeys_desc T d
 
   pub obeys_body : Entries → BodyTree → Option ℕ → Bool
-  obeys_body T (raw_body ps) None = false
-  obeys_body T (raw_body ps) (Some code) = nat_lt (length ps) (2 ^ 31) && list_all (is_prim_of code) ps
+  obeys_body T (raw_body ps) code = obeys_raw_body code ps
   obeys_body T (value_body vs) None = nat_lt (value_count vs) (2 ^ 31) && obeys_values T vs
   obeys_body T (value_body vs) (Some code) = false
 
@@ -79,18 +92,22 @@ abbrev mutual
   obeys_values T (value_and v vs) = obeys_value T v && obeys_values (after_value T v) vs
 
   pub obeys_external : Entries → SectionTrees → Bool
-  obeys_external T (section_and (section [] no_values (annotation notes)) no_sections) = obeys_notes T notes
-  obeys_external T _ = false
+  obeys_external T no_sections = false
+  obeys_external T (section_and s no_sections) = obeys_alone T s
+  obeys_external T (section_and s (section_and t ss)) = false
+
+  pub obeys_alone : Entries → SectionTree → Bool
+  obeys_alone T (section ps vs n) = is_bare ps vs && obeys_notes_if T n true
 
   pub obeys_sections : Entries → SectionTrees → List Layer → Bool
   obeys_sections T no_sections [] = true
   obeys_sections T no_sections (l ∷ ls) = false
   obeys_sections T (section_and s ss) [] = false
-  obeys_sections T (section_and (section ps vs n) ss) (l ∷ ls) =
-      obeys_layer l ps vs
-      && (obeys_values T vs
-      && (obeys_notes_if (after_values T vs) n (has_write_method l.flags)
-      && obeys_sections (after_notes (after_values T vs) n) ss ls))
+  obeys_sections T (section_and s ss) (l ∷ ls) = obeys_section T s l && obeys_sections (after_section T s) ss ls
+
+  pub obeys_section : Entries → SectionTree → Layer → Bool
+  obeys_section T (section ps vs n) l =
+      obeys_layer l ps vs && (obeys_values T vs && obeys_notes_if (after_values T vs) n (has_write_method l.flags))
 
   pub obeys_notes_if : Entries → NotesTree → Bool → Bool
   obeys_notes_if T no_notes expected = not expected
@@ -108,9 +125,23 @@ obeys_contents T (content_and (block long bytes) cs) = obeys_block long bytes &&
 obeys_contents T (content_and reset cs) = obeys_contents [] cs
 obeys_contents T (content_and (content v) cs) = obeys_value T v && obeys_contents (after_value T v) cs
 
--- the data of an object with this chain
+-- Parts of these rules, for calls of their own.
+
+abbrev pub obeys_array : Entries → BodyTree → List Layer → Bool
+obeys_array T b chain = fits purpose.Array chain && obeys_body (add T other_entry) b (element_code chain)
+
+abbrev pub obeys_enum_constant : Entries → TextPlaceTree → List Layer → Bool
+obeys_enum_constant T t chain = fits purpose.EnumConst chain && obeys_text_place (add T other_entry) t
+
 abbrev pub obeys_data : Entries → SectionTrees → List Layer → Bool
 obeys_data T ss chain = if is_external chain then obeys_external T ss else obeys_sections T ss chain
+
+abbrev pub obeys_object : Entries → SectionTrees → List Layer → Bool
+obeys_object T ss chain = fits purpose.Object chain && obeys_data (add T other_entry) ss chain
+
+abbrev pub obeys_section_at : Entries → SectionTree → Option Layer → Bool
+obeys_section_at T s None = false
+obeys_section_at T s (Some l) = obeys_section T s l
 
 -- What a call of the check tells of a part, unless memory ran out: it passes its test, and the table is then
 -- the one after it; or it fails its test.
