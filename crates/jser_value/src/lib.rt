@@ -10,6 +10,8 @@ mod obeys;
 mod outbox;
 mod parts;
 mod size;
+#[cfg(test)]
+mod tests;
 mod tree;
 
 pub use contents::Contents;

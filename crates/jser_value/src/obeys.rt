@@ -2,7 +2,7 @@
 //! `specs/WellFormed.antt` says, and adds its handles.
 //!
 //! One function for each type of the tree. Recursion goes as deep as the tree, which the caller bounds.
-ghost use Rattle.std.specs.Prelude.{◌≡◌, ◌<◌, ◌^◌, nat_lt, map, length, true, false, IfOk, IfErr, MatchBool, Ok, Err, slice_get, IsTrue, option_map};
+ghost use Rattle.std.specs.Prelude.{◌≡◌, [], ◌<◌, ◌^◌, nat_lt, map, length, true, false, IfOk, IfErr, MatchBool, Ok, Err, slice_get, IsTrue, option_map};
 ghost use Rattle.std.specs.Option.{option_copied};
 ghost use Rattle.jser_table.specs.Chains.{own_layer};
 ghost use Rattle.jser_table.specs.Entries.{is_closed, chain_at, other_entry};
@@ -10,7 +10,7 @@ ghost use Rattle.jser_table.specs.Tables.{new_entry};
 ghost use Rattle.jser_value.specs.Parts.{is_external};
 ghost use Rattle.jser_value.specs.PartTests.{obeys_text_place, obeys_type, obeys_fields, obeys_back_to_class};
 ghost use Rattle.jser_value.specs.TableAfter.{add, plain_layer, proxy_layer, after_text_place, after_type, after_fields, after_value, after_desc, after_class, after_body, after_values, after_sections, after_notes, after_contents, chain_of_class, chain_of_desc};
-ghost use Rattle.jser_value.specs.Tests.{element_code, is_bare, obeys_layer, obeys_head, obeys_interfaces, obeys_value, obeys_desc, obeys_class, obeys_superclass, obeys_raw_body, obeys_body, obeys_values, obeys_external, obeys_sections, obeys_notes, obeys_array, obeys_enum_constant, obeys_object, obeys_section_at, obeys_alone, after_section, Judges, IsClassAt, IsParentAt};
+ghost use Rattle.jser_value.specs.Tests.{element_code, is_bare, obeys_layer, obeys_head, obeys_interfaces, obeys_value, obeys_desc, obeys_class, obeys_superclass, obeys_raw_body, obeys_body, obeys_values, obeys_external, obeys_sections, obeys_notes, obeys_contents, obeys_array, obeys_enum_constant, obeys_object, obeys_section_at, obeys_alone, after_section, Judges, IsClassAt, IsParentAt};
 ghost use Rattle.jser_value.specs.Trees.{value_body};
 ghost use Rattle.jser_value.specs.View.{view_text_place, view_field, view_prim, view_value, view_desc, view_class_place, view_body, view_values, view_section, view_sections, view_contents};
 
@@ -453,6 +453,22 @@ fn check_notes(alloc: Global, table: &mut Table, notes: &[Content]) -> Result<()
             Content::Block { long, bytes } => require(is_block(*long, bytes))?,
             Content::Reset => return Err(Fault::NotRight),
             Content::Value(value) => check_value(alloc, table, value)?,
+        }
+    }
+    Ok(())
+}
+
+/// Whether a list of contents obeys the format.
+#[tactic(auto, using(crate::proofs::RightLemmas::right_contents))]
+pub(crate) fn check_contents(alloc: Global, list: &[Content]) -> Result<(), Fault>
+    ensures { Judges result (obeys_contents [] (view_contents list.now)) [] [] }
+{
+    let mut table = Table::new(alloc, u32::MAX);
+    'list: for content in list {
+        match content {
+            Content::Block { long, bytes } => require(is_block(*long, bytes))?,
+            Content::Reset => table.reset(),
+            Content::Value(value) => check_value(alloc, &mut table, value)?,
         }
     }
     Ok(())
