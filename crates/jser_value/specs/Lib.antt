@@ -26,3 +26,4 @@ pub mod Outgoing
 pub mod Rooms
 pub mod PartTests
 pub mod Tests
+pub mod Causes

@@ -14,5 +14,5 @@ mod size;
 mod tests;
 mod tree;
 
-pub use contents::Contents;
+pub use contents::{Contents, ValueCause, ValueFault};
 pub use tree::{Body, ClassPlace, Content, Desc, Field, Prim, Section, Text, TextPlace, Value};
