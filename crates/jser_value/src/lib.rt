@@ -4,12 +4,16 @@
 #![tactic(auto)]
 
 mod contents;
+mod depth;
 mod encoder;
 pub mod laws;
+mod obeys;
 mod outbox;
+mod parts;
+mod size;
 mod tree;
 
-pub use contents::Contents;
+pub use contents::{Contents, ValueCause, ValueFault};
 pub use encoder::{EncodeFault, encode};
 pub use tree::{Body, ClassPlace, Content, Desc, Field, Prim, Section, Text, TextPlace, Value};
 

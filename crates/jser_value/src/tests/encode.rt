@@ -102,7 +102,11 @@ fn worked_streams(rt: HostRuntime) -> Result<(), Fail> {
     writes(&rt, trees::enum_constant(alloc), trees::ENUM_CONSTANT)?;
     writes(&rt, trees::proxy(alloc), trees::PROXY)?;
     writes(&rt, trees::reset_epochs(alloc), trees::RESET_EPOCHS)?;
-    writes(&rt, trees::external_over_serial(alloc), trees::EXTERNAL_OVER_SERIAL)?;
+    writes(
+        &rt,
+        trees::external_over_serial(alloc),
+        trees::EXTERNAL_OVER_SERIAL,
+    )?;
     writes(&rt, trees::array_list(alloc), trees::ARRAY_LIST)?;
     writes(&rt, trees::superclass_first(alloc), trees::SUPERCLASS_FIRST)
 }
