@@ -119,6 +119,7 @@ impl TextScan {
             → IfErr result (λ fault. FaultsAfter len before bytes.now fault.accepted) }
         ensures within { IfErr result (λ fault. fault.accepted < length bytes.now) }
         ensures left { OnOk result (self.new.left + length bytes.now ≡ self.old.left) }
+        ensures left_at_fault { IfErr result (λ fault. self.new.left + fault.accepted ≡ self.old.left) }
         ensures failed { OnErr result (self.new.has_failed ≡ true) }
         ensures stays { self.old.has_failed ≡ true → self.new ≡ self.old }
         ensures refuses { self.old.has_failed ≡ true → 0 < length bytes.now → IsErr result }
