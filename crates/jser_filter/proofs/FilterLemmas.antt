@@ -1,9 +1,11 @@
 -- Filters: reading a text piece by piece, and what the kept pieces say.
 use denote.Bor.{Bor}
-use Rattle.std.proofs.Common.{◌≡◌, ℕ, zero, suc, ◌+◌, ◌<◌, Bool, true, false, ◌||◌, cond, List, [], ◌∷◌, ◌++◌, length, map, take, get_or, slice_get, not, position, Option, Some, None, refl, ap, sym, ◌∙◌, subst, arith, append_assoc, length-append}
+use Rattle.std.proofs.Common.{◌≡◌, ℕ, zero, suc, ◌+◌, ◌<◌, Bool, true, false, ◌||◌, cond, List, [], ◌∷◌, ◌++◌, length, map, take, get_or, slice_get, ◌==◌, not, position, Option, Some, None, refl, ap, sym, ◌∙◌, subst, arith, append_assoc, length-append}
 use Rattle.std.specs.List.{list_any, prefix_len}
 use Rattle.std.proofs.lemmas.List.{take_at, length-map, map_more}
 use Rattle.jser_filter.specs.declared.fault.FilterFault.{FilterFault}
+use Rattle.jser_filter.specs.declared.fault.FilterCause.TheVariants as cause
+use Rattle.std.proofs.lemmas.List.Splits.{length-slice_split}
 use Rattle.jser_filter.specs.declared.piece.Piece.{Piece as KeptPiece}
 use Rattle.jser_filter.specs.declared.piece.Piece.TheVariants as kept
 use Rattle.jser_filter.specs.Cuts.{parts, parts_with}
@@ -112,3 +114,15 @@ undecided test pieces is = ap (verdict_at (map view_piece pieces)) (is ∙ posit
 pub decided : (test : Piece → Bool) (pieces : List KeptPiece) (index : ℕ) (told : Bool) → Some index ≡ position (λ piece. test (view_piece piece)) pieces → told ≡ rejects (slice_get (map view_piece pieces) index) → cond told (verdict.Rejected index) (verdict.Allowed index) ≡ verdict_at (map view_piece pieces) (position test (map view_piece pieces))
 decided test pieces index told is says =
     ap (λ b. cond b (verdict.Rejected index) (verdict.Allowed index)) says ∙ ap (verdict_at (map view_piece pieces)) (is ∙ position_view test pieces)
+
+-- where there is no memory for the text as a whole
+
+some_pieces : (text : List ℕ) → 0 < length (pieces_of text)
+some_pieces text = omega (arith, length-map (parts 0x3B text) read_piece, length-slice_split (λ unit. unit == 0x3B) text)
+
+pub fault_at_first : (fault : FilterFault) → fault.pattern ≡ 0 → fault.cause ≡ cause.OutOfMemory → (text : List ℕ) → IsFirstFault (pieces_of text) fault
+fault_at_first fault pattern is text = record {
+  inside = omega (arith, some_pieces text);
+  here = λ piece found. rw is tt;
+  before = rw pattern refl;
+}

@@ -61,7 +61,7 @@ decided_append test front back true is decided =
     let inside : place < length front = ltb-true place (length front) is in
     let same : prefix_len (λ p. not (test p)) (front ++ back) ≡ place = prefix_len-append (λ p. not (test p)) front back inside in
     let found : position test (front ++ back) ≡ Some place =
-        rw (same, lt-ltb place (length (front ++ back)) (omega (arith, length-append front back))) refl
+    rw (same, lt-ltb place (length (front ++ back)) (omega (arith, length-append front back))) refl
     in
     ap (verdict_at (front ++ back)) found
     ∙ ap (λ o. cond (rejects o) (verdict.Rejected place) (verdict.Allowed place)) (slice_get-append front back place inside)

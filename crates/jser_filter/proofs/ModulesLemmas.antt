@@ -1,12 +1,14 @@
 -- Tables of modules: reading a text line by line.
 use denote.Bor.{Bor}
-use Rattle.std.proofs.Common.{◌≡◌, ℕ, zero, suc, ◌+◌, ◌-◌, ◌<◌, ◌≤◌, List, [], ◌∷◌, ◌++◌, length, map, take, drop, get_or, slice_get, Option, Some, None, option_and_then, refl, ap, sym, ◌∙◌, subst, inl, inr, arith, append_assoc, length-append}
+use Rattle.std.proofs.Common.{◌≡◌, ℕ, zero, suc, ◌+◌, ◌-◌, ◌<◌, ◌≤◌, ◌==◌, List, [], ◌∷◌, ◌++◌, length, map, take, drop, get_or, slice_get, Option, Some, None, option_and_then, refl, ap, sym, ◌∙◌, subst, inl, inr, arith, append_assoc, length-append}
 use Rattle.std.specs.Prelude.{IfSome}
 use Rattle.std.proofs.lemmas.Bool.{cases_lt}
 use Rattle.std.proofs.lemmas.Option.{slice_get-get_or}
-use Rattle.std.proofs.lemmas.List.{length-drop, drop_more, take_more, take_all}
+use Rattle.std.proofs.lemmas.List.{length-map, length-drop, drop_more, take_more, take_all}
 use Rattle.jser_filter.specs.declared.fault.ModulesCause.{ModulesCause}
 use Rattle.jser_filter.specs.declared.fault.ModulesFault.{ModulesFault}
+use Rattle.jser_filter.specs.declared.fault.ModulesCause.TheVariants as cause
+use Rattle.std.proofs.lemmas.List.Splits.{length-slice_split}
 use Rattle.jser_filter.specs.declared.modules.Entry.{Entry as KeptEntry}
 use Rattle.jser_filter.specs.Cuts.{parts, parts_with}
 use Rattle.jser_filter.specs.Tables.{Entry, ModuleTable, Line, empty_line, bad_line, entry_line, read_line, lines_of, table_of, fault_in, line_fault, view_entry, IsLineCause, NoFaultBefore, IsFirstLineFault}
@@ -64,7 +66,7 @@ fault_here lines number line table here is =
 sound_more : (lines : List Line) (number : ℕ) → NoFaultBefore lines number → line_fault lines number ≡ None → NoFaultBefore lines (number + 1)
 sound_more lines number before here = λ earlier below.
     elim (cases_lt earlier number) [
-        inl less ↦ before earlier less
+      | inl less ↦ before earlier less
       | inr more ↦ let same : number ≡ earlier = omega arith in subst (λ n. line_fault lines n ≡ None) same here
     ]
 
@@ -97,3 +99,15 @@ all_read units entries number read =
 pub left_less : (text : Bor (List ℕ)) (rest : Option (Bor (List ℕ))) → IfSome rest (λ r. length r.now < length text.now) → left_length rest ≤ length text.now
 left_less text None less = omega arith
 left_less text (Some rest) less = omega (arith, less)
+
+-- where there is no memory for the text as a whole
+
+some_lines : (text : List ℕ) → 0 < length (lines_of text)
+some_lines text = omega (arith, length-map (parts 0x0A text) read_line, length-slice_split (λ unit. unit == 0x0A) text)
+
+pub fault_at_first : (fault : ModulesFault) → fault.line ≡ 0 → fault.cause ≡ cause.OutOfMemory → (text : List ℕ) → IsFirstLineFault (lines_of text) fault
+fault_at_first fault line is text = record {
+  inside = omega (arith, some_lines text);
+  here = rw is tt;
+  before = λ earlier below. absurd (omega arith);
+}

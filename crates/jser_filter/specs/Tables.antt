@@ -87,6 +87,10 @@ IsLineCause told cause.PackageTwice = told ≡ Some cause.PackageTwice
 abbrev pub NoFaultBefore : List Line → ℕ → Type 0
 NoFaultBefore lines number = (earlier : ℕ) → earlier < number → line_fault lines earlier ≡ None
 
+-- no line is faulty
+abbrev pub AreSoundLines : List Line → Type 0
+AreSoundLines lines = NoFaultBefore lines (length lines)
+
 -- The fault is that of the line that it names, or memory ran out there; and no earlier line is faulty.
 pub record IsFirstLineFault (lines : List Line) (fault : ModulesFault) : Type 0 where
   pub inside : fault.line < length lines

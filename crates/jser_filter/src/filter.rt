@@ -1,6 +1,7 @@
 //! Filters: a text is read once into pieces, and the first pattern that matches a name decides.
-ghost use Rattle.std.specs.Prelude.{◌≡◌, ◌≢◌, slice_get, ◌++◌, [], ◌∷◌, length, map, position, option_map, OnOk, IfOk, IfErr};
+ghost use Rattle.std.specs.Prelude.{List, ℕ, ◌≡◌, ◌≢◌, slice_get, ◌++◌, [], ◌∷◌, length, map, position, option_map, OnOk, IfOk, IfErr};
 ghost use Rattle.jser_table.specs.Names.{element, element_of, malformed_element};
+ghost use Rattle.jser_prim.specs.ModifiedUtf8.{utf16_units};
 ghost use Rattle.jser_filter.specs.Pieces.{pieces_of, read_piece, view_piece, IsCauseOf};
 ghost use Rattle.jser_filter.specs.Filters.{IsFirstFault, AreSound, rejects, limits_of, limits_after, verdict_of, verdict_by, verdict_at, matches_piece};
 ghost use Rattle.jser_filter.specs.Cuts.{part_now};
@@ -12,6 +13,7 @@ use crate::limit::{Limit, Limits};
 use crate::modules::Modules;
 use crate::piece::Piece;
 use crate::verdict::Verdict;
+use jser_prim::units_of;
 use jser_table::{Element, element_of};
 use std::alloc::Global;
 use std::marker::Model;
@@ -37,6 +39,31 @@ impl Model for Filter {
 const SEMICOLON: u16 = 0x3B;
 
 impl Filter {
+    /// Reads a filter's text. Its table of modules is empty.
+    ///
+    /// # Errors
+    /// The first faulty piece, and the first of the causes that it has. `OutOfMemory` comes at the piece for
+    /// which memory ran out, and the whole text's growth belongs to piece 0; no earlier piece is faulty then.
+    #[tactic(auto, using(crate::proofs::FilterLemmas::view_sound))]
+    pub fn parse(alloc: Global, text: &str) -> Result<Filter, FilterFault>
+        ensures pieces { IfOk result (λ filter. filter.pieces ≡ pieces_of (utf16_units text.now)) }
+        ensures sound { IfOk result (λ filter. AreSound filter.pieces) }
+        ensures modules { IfOk result (λ filter. filter.modules ≡ []) }
+        ensures fault { IfErr result (IsFirstFault (pieces_of (utf16_units text.now))) }
+    {
+        let units = match units_of(alloc, text) {
+            Ok(units) => units,
+            Err(_) => return Err(no_memory_at_first()),
+        };
+        match read_pieces(alloc, &units) {
+            Ok(pieces) => Ok(Filter {
+                pieces,
+                modules: Modules::none(alloc),
+            }),
+            Err(fault) => Err(fault),
+        }
+    }
+
     /// What the filter says of a name, which is not malformed: a name is judged by its element. Takes no
     /// memory.
     pub fn judge(&self, name: &[u16]) -> Verdict
@@ -62,10 +89,8 @@ impl Filter {
         ensures pieces { result.pieces ≡ self.pieces }
         ensures modules { result.modules ≡ modules }
     {
-        Filter {
-            pieces: self.pieces,
-            modules,
-        }
+        let Filter { pieces, modules: _ } = self;
+        Filter { pieces, modules }
     }
 
     /// What the filter says of an element's name.
@@ -98,7 +123,6 @@ fn rejects(pieces: &[Piece], index: usize) -> bool
 }
 
 /// The last value that the pieces give each limit.
-
 fn limits_in(pieces: &[Piece]) -> Limits
     ensures { result ≡ limits_of (map view_piece pieces.now) }
 {
@@ -116,6 +140,16 @@ fn limits_after(limits: Limits, piece: &Piece) -> Limits
     match piece {
         Piece::Limit(limit, value) => limits.with(*limit, *value),
         Piece::Empty | Piece::Pattern(_) => limits,
+    }
+}
+
+/// The fault where there is no memory for the text as a whole.
+fn no_memory_at_first() -> FilterFault
+    ensures { (text : List ℕ) → IsFirstFault (pieces_of text) result }
+{
+    FilterFault {
+        pattern: 0,
+        cause: FilterCause::OutOfMemory,
     }
 }
 

@@ -10,6 +10,8 @@ mod limit;
 mod modules;
 mod pattern;
 mod piece;
+#[cfg(test)]
+mod tests;
 mod units;
 mod verdict;
 

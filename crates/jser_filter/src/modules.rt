@@ -1,11 +1,13 @@
 //! The table of modules: which module each package is in.
-ghost use Rattle.std.specs.Prelude.{◌≡◌, ◌≢◌, ℕ, ◌<◌, [], length, option_map, map, None, IfOk, IfErr, OnOk, ◌++◌, ◌∷◌};
+ghost use Rattle.std.specs.Prelude.{List, ◌≡◌, ◌≢◌, ℕ, ◌<◌, [], length, option_map, map, None, IfOk, IfErr, OnOk, ◌++◌, ◌∷◌};
+ghost use Rattle.jser_prim.specs.ModifiedUtf8.{utf16_units};
 ghost use Rattle.jser_filter.specs.Cuts.{cut, part_now, both_now};
-ghost use Rattle.jser_filter.specs.Tables.{module_of, module_of_class, view_entry, view_sides, read_sides, read_line, lines_of, table_of, fault_in, IsLineCause, NoFaultBefore, IsFirstLineFault};
+ghost use Rattle.jser_filter.specs.Tables.{module_of, module_of_class, view_entry, view_sides, read_sides, read_line, lines_of, table_of, fault_in, IsLineCause, AreSoundLines, IsFirstLineFault};
 
 use crate::cut::{before_last, cut, next_part};
 use crate::fault::{ModulesCause, ModulesFault};
 use crate::units::Units;
+use jser_prim::units_of;
 use std::alloc::{AllocError, Global};
 use std::marker::Model;
 
@@ -34,7 +36,9 @@ impl Model for Modules {
 }
 
 const DOT: u16 = 0x2E;
+
 const EQUALS: u16 = 0x3D;
+
 const LINE_FEED: u16 = 0x0A;
 
 impl Modules {
@@ -44,6 +48,26 @@ impl Modules {
     {
         Modules {
             entries: Vec::new(alloc),
+        }
+    }
+
+    /// Reads a table of modules from lines `package=module`.
+    ///
+    /// # Errors
+    /// The first faulty line, and the first of the causes that it has. `OutOfMemory` comes at the line for
+    /// which memory ran out, and the whole text's growth belongs to line 0; no earlier line is faulty then.
+    pub fn parse(alloc: Global, text: &str) -> Result<Modules, ModulesFault>
+        ensures table { IfOk result (λ modules. modules ≡ table_of (lines_of (utf16_units text.now))) }
+        ensures sound { IfOk result (λ _. AreSoundLines (lines_of (utf16_units text.now))) }
+        ensures fault { IfErr result (IsFirstLineFault (lines_of (utf16_units text.now))) }
+    {
+        let units = match units_of(alloc, text) {
+            Ok(units) => units,
+            Err(_) => return Err(no_memory_at_first()),
+        };
+        match read_entries(alloc, &units) {
+            Ok(entries) => Ok(Modules { entries }),
+            Err(fault) => Err(fault),
         }
     }
 
@@ -77,10 +101,20 @@ fn find_module<'a>(entries: &'a [Entry], package: &[u16]) -> Option<&'a [u16]>
     None
 }
 
+/// The fault where there is no memory for the text as a whole.
+fn no_memory_at_first() -> ModulesFault
+    ensures { (text : List ℕ) → IsFirstLineFault (lines_of text) result }
+{
+    ModulesFault {
+        line: 0,
+        cause: ModulesCause::OutOfMemory,
+    }
+}
+
 /// Reads the lines of a table of modules.
 fn read_entries(alloc: Global, units: &[u16]) -> Result<Vec<Entry>, ModulesFault>
     ensures entries { IfOk result (λ entries. map view_entry entries.items ≡ table_of (lines_of units.now)) }
-    ensures sound { IfOk result (λ _. NoFaultBefore (lines_of units.now) (length (lines_of units.now))) }
+    ensures sound { IfOk result (λ _. AreSoundLines (lines_of units.now)) }
     ensures fault { IfErr result (IsFirstLineFault (lines_of units.now)) }
 {
     let mut entries = Vec::new(alloc);
@@ -89,7 +123,10 @@ fn read_entries(alloc: Global, units: &[u16]) -> Result<Vec<Entry>, ModulesFault
     'lines: while let Some(text) = rest {
         let (line, more) = next_part(text, LINE_FEED);
         if let Err(cause) = add_line(alloc, &mut entries, line) {
-            return Err(ModulesFault { line: number, cause });
+            return Err(ModulesFault {
+                line: number,
+                cause,
+            });
         }
         number += 1;
         rest = more;

@@ -11,7 +11,7 @@ pub lines-preserved : goal.lines-preserved
 lines-preserved c =
     let read : HasRead c.args.units.now c.lines.entries.items (Some c.in-Some.text) c.lines.number = rw c.in-Some.is at c.lines.invariant in
     line_read c.args.units.now c.lines.entries.items c.add_line.new.entries.items c.lines.number c.in-Some.text c.next_part.result.0 c.next_part.result.1 read c.next_part.ensures.parts
-        c.in_default-add_line.ensures.added c.in_default-add_line.ensures.sound (left_less c.in-Some.text c.next_part.result.1 c.next_part.ensures.shorter)
+    c.in_default-add_line.ensures.added c.in_default-add_line.ensures.sound (left_less c.in-Some.text c.next_part.result.1 c.next_part.ensures.shorter)
 
 pub returns-clause-entries : goal.returns-clause-entries
 returns-clause-entries c =
