@@ -8,6 +8,7 @@ use std::alloc::{AllocError, Global};
 use std::process::Abort;
 use std::test::Fail;
 
+mod costs;
 mod verdicts;
 
 /// What the filter says of a name, or `None` for a malformed one.
@@ -16,6 +17,29 @@ fn judge(filter: &Filter, name: &[u16]) -> Option<Verdict> {
         Element::Malformed => None,
         Element::Name(_) | Element::Primitive => Some(filter.judge(name)),
     }
+}
+
+/// The example of the README.
+fn allows(filter: &Filter, name: &[u16]) -> bool {
+    match element_of(name) {
+        Element::Malformed => false,
+        Element::Name(_) | Element::Primitive => {
+            !matches!(filter.judge(name), Verdict::Rejected(_))
+        }
+    }
+}
+
+#[test]
+fn readme(rt: HostRuntime) -> Result<(), Fail> {
+    let alloc = rt.alloc();
+    let filter = Filter::parse(alloc, "java.util.*;!*;maxdepth=20")?;
+    assert!(rt; allows(&filter, &units_of(alloc, "java.util.ArrayList")?));
+    assert!(rt; !allows(&filter, &units_of(alloc, "java.lang.Runtime")?));
+    assert_eq!(rt; filter.limits().depth, Some(20));
+    let table = Modules::parse(alloc, "java.util=java.base")?;
+    let filter = filter.with_modules(table);
+    assert!(rt; allows(&filter, &units_of(alloc, "[[I")?));
+    Ok(())
 }
 
 /// What a text says of a name.
