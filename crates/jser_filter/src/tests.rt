@@ -258,37 +258,37 @@ fn filters_with_modules(rt: HostRuntime) -> Result<(), Fail> {
     Ok(())
 }
 
-/// Run with each allocation refused in turn: a refused growth is told at its piece or line, and otherwise the
-/// right answer comes.
+/// Run with each allocation refused in turn: a refused growth is told at its piece or line, before the faulty
+/// one; otherwise the right answer comes.
 #[test]
 fn want_of_memory(rt: HostRuntime) {
     let alloc = rt.alloc();
-    for _ in 0..2 {
-        let fault = fault_of(alloc, "a;b;m/c.*;!d*;max=1");
-        assert!(rt;
-            matches!(
-                fault,
-                Some(FilterFault {
-                    pattern: 0..=3,
-                    cause: FilterCause::OutOfMemory
-                }) | Some(FilterFault {
-                    pattern: 4,
-                    cause: FilterCause::UnknownLimit
-                })
-            )
-        );
-        let fault = modules_fault_of(alloc, "a=b\nc=d\n\ne=f\na=g");
-        assert!(rt;
-            matches!(
-                fault,
-                Some(ModulesFault {
-                    line: 0 | 1 | 3,
-                    cause: ModulesCause::OutOfMemory
-                }) | Some(ModulesFault {
-                    line: 4,
-                    cause: ModulesCause::PackageTwice
-                })
-            )
-        );
+    for (text, faulty) in [("a;b;max=1", 2), ("a;b;m/c.*;!d*;max=1", 4), ("max=1", 0)] {
+        match fault_of(alloc, text) {
+            Some(FilterFault { pattern, cause }) if cause == FilterCause::OutOfMemory => {
+                assert!(rt; pattern < faulty || pattern == 0, "{text}");
+            }
+            fault => {
+                let wanted = FilterFault {
+                    pattern: faulty,
+                    cause: FilterCause::UnknownLimit,
+                };
+                assert_eq!(rt; fault, Some(wanted), "{text}");
+            }
+        }
+    }
+    for (text, faulty) in [("a=b\na=c", 1), ("a=b\nc=d\n\ne=f\na=g", 4)] {
+        match modules_fault_of(alloc, text) {
+            Some(ModulesFault { line, cause }) if cause == ModulesCause::OutOfMemory => {
+                assert!(rt; line < faulty, "{text}");
+            }
+            fault => {
+                let wanted = ModulesFault {
+                    line: faulty,
+                    cause: ModulesCause::PackageTwice,
+                };
+                assert_eq!(rt; fault, Some(wanted), "{text}");
+            }
+        }
     }
 }
