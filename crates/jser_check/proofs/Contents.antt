@@ -1,8 +1,8 @@
 -- No content's spelling begins that of another, so that bytes are cut into contents in one way.
-use Rattle.std.proofs.Common.{◌≡◌, ℕ, ◌+◌, ◌<◌, ◌≤◌, ◌^◌, List, [], ◌∷◌, ◌++◌, length, refl, sym, ap, ◌∙◌, arith, nat_eq, false, eq-eqb, true, append_assoc}
+use Rattle.std.proofs.Common.{◌≡◌, ℕ, ◌+◌, ◌<◌, ◌^◌, List, ◌∷◌, ◌++◌, length, refl, sym, ap, ◌∙◌, arith, append_assoc}
 use Rattle.jser_prim.specs.Bytes.{big_bytes}
 use Rattle.jser_prim.specs.ModifiedUtf8.{modified_utf8, IsUnits}
-use Rattle.jser_check.specs.Stream.{Content, null, back, text, content_spelling, contents_spelling, Entry, table_after_content, table_after, IsWellFormedContent, IsWellFormed}
+use Rattle.jser_check.specs.Stream.{Content, null, back, text, content_spelling, Entry, IsWellFormedContent}
 use Rattle.jser_prim.proofs.TextLemmas.{same_units}
 use Rattle.jser_prim.proofs.NumberLemmas.{same_number}
 

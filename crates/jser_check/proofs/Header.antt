@@ -1,10 +1,9 @@
 -- The header at the front of a stream.
-use Rattle.std.proofs.Common.{◌≡◌, ◌≢◌, ℕ, ◌+◌, ◌<◌, ◌≤◌, List, [], ◌∷◌, ◌++◌, length, get_or, take, drop, refl, sym, ap, ◌∙◌, arith, length-append}
+use Rattle.std.proofs.Common.{◌≡◌, ◌≢◌, ℕ, ◌+◌, ◌<◌, List, [], ◌++◌, length, get_or, take, drop, refl, sym, ap, ◌∙◌, arith, length-append}
 use Rattle.std.proofs.lemmas.List.{take-append-drop, get_or-take, get_or_append_left, length-take-le}
 use Rattle.jser_check.specs.declared.answer.Reason.TheVariants as reason
-use Rattle.jser_check.specs.declared.answer.Refusal.{Refusal}
-use Rattle.jser_check.specs.Stream.{Content, header, contents_spelling, spelling, IsStreamOf, IsWellFormed}
-use Rattle.jser_check.specs.Answers.{IsAdmitted, Refuses}
+use Rattle.jser_check.specs.Stream.{Content, header, contents_spelling, spelling}
+use Rattle.jser_check.specs.Answers.{Refuses}
 use Rattle.jser_check.specs.Reading.{Reads}
 
 -- the bytes end within the header

@@ -1,18 +1,16 @@
 -- What the check of the bytes that were read of a source says of all its bytes.
-use Rattle.std.specs.Prelude.{IfSome, Result, Ok, Err, IfErr}
+use Rattle.std.specs.Prelude.{IfSome, Result, Ok, Err}
 use Rattle.std.specs.declared.option.Option.{Option}
-use Rattle.std.proofs.Common.{◌≡◌, ◌≢◌, ◌⊎◌, inl, inr, ℕ, ◌+◌, ◌<◌, ◌≤◌, List, [], ◌++◌, length, take, drop, min, Some, None, refl, sym, ap, subst, ◌∙◌, arith, length-append, take_all}
+use Rattle.std.proofs.Common.{◌≡◌, inl, inr, ℕ, ◌+◌, ◌≤◌, List, ◌++◌, length, take, drop, Some, None, sym, ap, subst, ◌∙◌, arith, take_all}
 use Rattle.std.proofs.lemmas.List.{take-append-drop, length-take}
 use Rattle.std.proofs.lemmas.Bool.{cases_lt}
-use Rattle.jser_check.specs.declared.answer.Reason.TheVariants as reason
 use Rattle.jser_check.specs.declared.answer.Refusal.{Refusal}
 use Rattle.jser_check.specs.declared.answer.Report.{Report}
 use Rattle.jser_check.specs.declared.answer.Stop.{Stop}
 use Rattle.jser_check.specs.declared.answer.Stop.TheVariants as stop
 use Rattle.jser_check.specs.declared.answer.CheckFault.{CheckFault}
 use Rattle.jser_check.specs.declared.answer.CheckFault.TheVariants as fault
-use Rattle.jser_check.specs.Stream.{Content}
-use Rattle.jser_check.specs.Answers.{byte_cap, IsAdmitted, IsAdmittedStream, Refuses, Reports, IfStopped, IfRefused, IsAfterFailure, SpeaksOfNoEnd}
+use Rattle.jser_check.specs.Answers.{byte_cap, IsAdmittedStream, Refuses, Reports, IfStopped, IfRefused, IsAfterFailure}
 use Rattle.jser_check.specs.Sources.{IsFrontOf}
 use Rattle.jser_check.proofs.Streams.{refuses_front}
 

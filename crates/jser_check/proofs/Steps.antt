@@ -1,6 +1,6 @@
 -- One content at the front of some bytes: what each outcome of reading it says.
 use Rattle.std.specs.Prelude.{Result, Ok, Err, IfErr}
-use Rattle.std.proofs.Common.{◌≡◌, ◌≢◌, ℕ, ◌+◌, ◌-◌, ◌<◌, ◌≤◌, ◌^◌, min, Bool, true, false, List, [], ◌∷◌, ◌++◌, length, get_or, take, drop, refl, sym, ap, subst, ◌∙◌, arith, append_assoc, length-append}
+use Rattle.std.proofs.Common.{◌≡◌, ◌≢◌, ℕ, ◌+◌, ◌-◌, ◌<◌, ◌≤◌, ◌^◌, min, List, [], ◌∷◌, ◌++◌, length, get_or, take, drop, refl, sym, ap, subst, ◌∙◌, arith, append_assoc, length-append}
 use Rattle.std.proofs.lemmas.List.{take-append-drop, take-append-le, length-take}
 use Rattle.std.proofs.Math.Seq.{take-append_seam, take-append-add}
 use Rattle.jser_prim.specs.Bytes.{big_bytes}
@@ -8,7 +8,7 @@ use Rattle.jser_prim.specs.ModifiedUtf8.{modified_utf8, IsUnits}
 use Rattle.jser_check.specs.declared.answer.Reason.{Reason}
 use Rattle.jser_check.specs.declared.answer.Reason.TheVariants as reason
 use Rattle.jser_check.specs.declared.content.Fault.{Fault}
-use Rattle.jser_check.specs.Stream.{Content, null, back, text, content_spelling, Entry, text_entry, table_after_content, IsWellFormedContent}
+use Rattle.jser_check.specs.Stream.{null, back, text, Entry, text_entry}
 use Rattle.jser_check.specs.Reading.{Takes, BeginsNone, HoldsNone, IsFaultOf, IsText}
 use Rattle.jser_prim.specs.Texts.{BeginsText}
 use Rattle.jser_prim.proofs.NumberLemmas.{same_number}

@@ -1,12 +1,12 @@
 -- Whole streams: what is left of a stream behind some contents, and what a fault there says of it.
-use Rattle.std.proofs.Common.{◌≡◌, ◌≢◌, ℕ, suc, ◌+◌, ◌-◌, ◌<◌, ◌≤◌, min, cond, Bool, true, false, List, [], ◌∷◌, ◌++◌, length, take, drop, refl, sym, ap, subst, ◌∙◌, arith, append_assoc, length-append}
+use Rattle.std.proofs.Common.{◌≡◌, ◌≢◌, ℕ, ◌+◌, ◌-◌, ◌<◌, ◌≤◌, min, List, [], ◌∷◌, ◌++◌, length, take, drop, refl, sym, ap, subst, ◌∙◌, arith, append_assoc, length-append}
 use Rattle.std.proofs.lemmas.List.{append-nil, append_cancel_left, take-append-drop, take-append-le, length-take-le}
 use Rattle.std.proofs.Math.Seq.{take-append-add}
 use Rattle.jser_check.specs.declared.answer.Reason.TheVariants as reason
 use Rattle.jser_check.specs.declared.answer.Refusal.{Refusal}
 use Rattle.jser_check.specs.declared.answer.Report.{Report}
 use Rattle.jser_check.specs.declared.content.Fault.{Fault}
-use Rattle.jser_check.specs.Stream.{Content, null, back, text, header, content_spelling, contents_spelling, spelling, Entry, table_after_content, table_after, IsWellFormedContent, IsWellFormed, IsStreamOf, handle_count, depth_of}
+use Rattle.jser_check.specs.Stream.{Content, null, back, text, header, content_spelling, contents_spelling, spelling, Entry, table_after_content, table_after, IsWellFormedContent, IsWellFormed, handle_count, depth_of}
 use Rattle.jser_check.specs.Answers.{byte_cap, IsAdmitted, IsAdmittedStream, Refuses, Reports, report_of}
 use Rattle.jser_check.specs.Reading.{Takes, IsFaultOf, Reads}
 use Rattle.jser_check.proofs.Contents.{content-same}

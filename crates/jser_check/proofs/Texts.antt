@@ -1,7 +1,7 @@
 -- A text that was scanned.
 use Rattle.std.proofs.Common.{◌≡◌, ℕ, ◌+◌, ◌<◌, List, [], ◌∷◌, ◌++◌, length, take, refl, ◌∙◌, ap, arith, length-append}
 use Rattle.std.proofs.lemmas.List.{append-nil}
-use Rattle.jser_prim.specs.Texts.{BeginsText, Scan, HasAccepted, HasAcceptedAfter, FaultsAfter}
+use Rattle.jser_prim.specs.Texts.{BeginsText, Scan, HasAcceptedAfter, FaultsAfter}
 use Rattle.jser_check.specs.Reading.{IsText}
 
 nothing : (xs : List ℕ) → length xs ≡ 0 → xs ≡ []

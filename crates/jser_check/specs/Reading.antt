@@ -1,5 +1,5 @@
 -- What is read of one content at the front of some bytes.
-use Rattle.std.specs.Prelude.{◌≡◌, ◌≢◌, ℕ, ◌+◌, ◌<◌, ◌≤◌, List, [], ◌∷◌, ◌++◌, length, take}
+use Rattle.std.specs.Prelude.{◌≡◌, ◌≢◌, ℕ, ◌+◌, ◌<◌, ◌≤◌, List, [], ◌++◌, length, take}
 use Rattle.jser_prim.specs.ModifiedUtf8.{modified_utf8, IsUnits}
 use Rattle.jser_check.specs.declared.answer.Reason.TheVariants as reason
 use Rattle.jser_check.specs.declared.content.Fault.{Fault}

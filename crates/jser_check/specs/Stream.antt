@@ -1,7 +1,7 @@
 -- What a stream is: the part of the grammar of the Java Object Serialization Specification, section 6.4,
 -- that is read so far. A stream is the header and then any number of contents; a content is NULL, a
 -- reference to a string before it, or a string of at most 65,535 bytes.
-use Rattle.std.specs.Prelude.{◌≡◌, ℕ, ◌+◌, ◌^◌, ◌<◌, ◌≤◌, List, [], ◌∷◌, ◌++◌, length}
+use Rattle.std.specs.Prelude.{◌≡◌, ℕ, ◌+◌, ◌^◌, ◌<◌, List, [], ◌∷◌, ◌++◌, length}
 use Rattle.jser_prim.specs.Bytes.{big_bytes}
 use Rattle.jser_prim.specs.ModifiedUtf8.{modified_utf8, IsUnits}
 

@@ -19,7 +19,7 @@ pub use number::{read_u16, read_u32, read_u64};
 pub use scan::{TextFault, TextFaultAfter, TextScan};
 pub use sink::{Sink, ToWrite};
 pub use source::{FromRead, Source};
-pub use spelling::{text_bytes, units_of};
+pub use spelling::{spell_unit, text_bytes, units_of};
 
 #[cfg(test)]
 mod tests;

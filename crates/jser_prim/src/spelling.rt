@@ -15,8 +15,9 @@ pub fn text_bytes(alloc: Global, units: &[u16]) -> Result<Vec<u8>, AllocError>
     ensures { IfOk result (λ bytes. bytes.items ≡ modified_utf8 units.now) }
 {
     let mut bytes = Vec::new(alloc);
+    let mut buffer = [0; 3];
     for unit in units {
-        push_unit(&mut bytes, *unit)?;
+        bytes.extend_from_slice(spell_unit(*unit, &mut buffer))?;
     }
     Ok(bytes)
 }
@@ -37,23 +38,29 @@ pub fn units_of(alloc: Global, text: &str) -> Result<Vec<u16>, AllocError>
     Ok(units)
 }
 
-/// Adds the spelling of a unit.
+/// The bytes of a unit in modified UTF-8, written into a buffer. It takes no memory.
 #[tactic(auto, unfolding(crate::specs::ModifiedUtf8::unit_spelling))]
-fn push_unit(bytes: &mut Vec<u8>, unit: u16) -> Result<(), AllocError>
-    ensures { OnOk result (bytes.new.items ≡ bytes.old.items ++ unit_spelling unit) }
+pub fn spell_unit(unit: u16, buffer: &mut [u8; 3]) -> &[u8]
+    ensures { result.now ≡ unit_spelling unit }
 {
     match unit {
-        0x0001..=0x007F => bytes.push(unit as u8)?,
-        0x0000..=0x07FF => {
-            bytes.extend_from_slice(&[0xC0 + (unit / 64) as u8, 0x80 + (unit % 64) as u8])?;
+        0x0001..=0x007F => {
+            *buffer = [unit as u8, 0, 0];
+            &buffer[..1]
         }
-        _ => bytes.extend_from_slice(&[
-            0xE0 + (unit / 4096) as u8,
-            0x80 + (unit / 64 % 64) as u8,
-            0x80 + (unit % 64) as u8,
-        ])?,
+        0x0000..=0x07FF => {
+            *buffer = [0xC0 + (unit / 64) as u8, 0x80 + (unit % 64) as u8, 0];
+            &buffer[..2]
+        }
+        _ => {
+            *buffer = [
+                0xE0 + (unit / 4096) as u8,
+                0x80 + (unit / 64 % 64) as u8,
+                0x80 + (unit % 64) as u8,
+            ];
+            &buffer[..]
+        }
     }
-    Ok(())
 }
 
 /// Adds the one or two units of a character.

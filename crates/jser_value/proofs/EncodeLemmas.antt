@@ -33,7 +33,7 @@ short_length len n e = ap (λ m. big_bytes 2 (m % 65536)) e ∙ lowest_two n
 long_length : (len n : ℕ) → len ≡ n % 2 ^ 64 → big_bytes 8 len ≡ big_bytes 8 n
 long_length len n e =
     both (omega (arith, e)) (both (omega (arith, e)) (both (omega (arith, e)) (both (omega (arith, e))
-      (both (omega (arith, e)) (both (omega (arith, e)) (both (omega (arith, e)) (both (omega (arith, e)) refl)))))))
+    (both (omega (arith, e)) (both (omega (arith, e)) (both (omega (arith, e)) (both (omega (arith, e)) refl)))))))
   where
     both : {a b : ℕ} {xs ys : List ℕ} → a ≡ b → xs ≡ ys → ◌≡◌ {A = List ℕ} (a ∷ xs) (b ∷ ys)
     both p q = cc
@@ -63,7 +63,7 @@ pub puts_unit : (a b c : Outgoing) (d e f : SinkState) (units : List ℕ) (i uni
     → Puts b c e f (unit_spelling unit) → Puts a c d f (modified_utf8 (take (i + 1) units))
 puts_unit a b c d e f units i unit so inside is more =
     subst (Puts a c d f) (ap (λ u. modified_utf8 (take i units) ++ unit_spelling u) is ∙ sym (modified_utf8_more units i inside))
-      (puts_both a b c d e f (modified_utf8 (take i units)) (unit_spelling unit) so more)
+    (puts_both a b c d e f (modified_utf8 (take i units)) (unit_spelling unit) so more)
 
 -- References and strings
 
@@ -92,7 +92,7 @@ pub puts_field : (a b c d : Outgoing) (e f g h : SinkState) (field : FieldTree) 
     → Puts c d g h (type_spelling field.text) → Puts a d e h (field_spelling field)
 puts_field a b c d e f g h field first second third =
     puts_tagged a b d e f h field.code (utf field.name ++ type_spelling field.text) first
-      (puts_both b c d f g h (utf field.name) (type_spelling field.text) second third)
+    (puts_both b c d f g h (utf field.name) (type_spelling field.text) second third)
 
 -- one element more of a list that is spelled element by element
 pub puts_next : {X : Type 0} (spell : X → List ℕ) (a b c : Outgoing) (d e f : SinkState) (xs : List X) (i : ℕ) (x : X) → i < length xs → x ≡ get_or xs i x
@@ -170,10 +170,10 @@ puts_plain_head a b c d e f g k l m n o p q name suid flags fields first second 
     let counted : big_bytes 2 (length fields % 65536) ≡ big_bytes 2 (length (map view_field fields)) =
     lowest_sixteen (length fields) ∙ ap (big_bytes 2) (sym (length-map fields view_field)) in
     puts_tagged a b g k l q 0x72 (utf name ++ (big_bytes 8 suid ++ (flags ∷ (big_bytes 2 (length (map view_field fields)) ++ fields_spelling (map view_field fields))))) first
-      (puts_both b c g l m q (utf name) (big_bytes 8 suid ++ (flags ∷ (big_bytes 2 (length (map view_field fields)) ++ fields_spelling (map view_field fields)))) second
-        (puts_both c d g m n q (big_bytes 8 suid) (flags ∷ (big_bytes 2 (length (map view_field fields)) ++ fields_spelling (map view_field fields))) third
-          (puts_tagged d e g n o q flags (big_bytes 2 (length (map view_field fields)) ++ fields_spelling (map view_field fields)) fourth
-            (puts_both e f g o p q (big_bytes 2 (length (map view_field fields))) (fields_spelling (map view_field fields)) (subst (Puts e f o p) counted fifth) sixth))))
+    (puts_both b c g l m q (utf name) (big_bytes 8 suid ++ (flags ∷ (big_bytes 2 (length (map view_field fields)) ++ fields_spelling (map view_field fields)))) second
+    (puts_both c d g m n q (big_bytes 8 suid) (flags ∷ (big_bytes 2 (length (map view_field fields)) ++ fields_spelling (map view_field fields))) third
+    (puts_tagged d e g n o q flags (big_bytes 2 (length (map view_field fields)) ++ fields_spelling (map view_field fields)) fourth
+    (puts_both e f g o p q (big_bytes 2 (length (map view_field fields))) (fields_spelling (map view_field fields)) (subst (Puts e f o p) counted fifth) sixth))))
   where
     lowest_sixteen : (n : ℕ) → big_bytes 2 (n % 65536) ≡ big_bytes 2 n
     lowest_sixteen n = two (omega arith) (omega arith)
@@ -186,15 +186,15 @@ pub puts_proxy_head : (a b c d : Outgoing) (e f g h : SinkState) (names : List (
 puts_proxy_head a b c d e f g h names first second third =
     let counted : big_bytes 4 (length names) ≡ big_bytes 4 (length (map (λ name. name.items) names)) = ap (big_bytes 4) (sym (length-map names (λ name. name.items))) in
     puts_classed a b c d e f g h 0x7D (big_bytes 4 (length (map (λ name. name.items) names))) (interfaces_spelling (map (λ name. name.items) names)) first
-      (subst (Puts b c f g) counted second) third
+    (subst (Puts b c f g) counted second) third
 
 pub puts_plain : (a b c d : Outgoing) (e f g h : SinkState) (name : List ℕ) (suid flags : ℕ) (fields : List FieldTree) (notes : ContentTrees) (parent : ClassPlaceTree)
     → Puts a b e f (plain_head name suid flags fields) → Puts b c f g (annotation_spelling notes) → Puts c d g h (class_spelling parent)
     → Puts a d e h (desc_spelling (plain name suid flags fields notes parent))
 puts_plain a b c d e f g h name suid flags fields notes parent first second third =
     subst (Puts a d e h) (joined (utf name) (big_bytes 8 suid) (big_bytes 2 (length fields)) (fields_spelling fields) (annotation_spelling notes ++ class_spelling parent))
-      (puts_both a b d e f h (plain_head name suid flags fields) (annotation_spelling notes ++ class_spelling parent) first
-        (puts_both b c d f g h (annotation_spelling notes) (class_spelling parent) second third))
+    (puts_both a b d e f h (plain_head name suid flags fields) (annotation_spelling notes ++ class_spelling parent) first
+    (puts_both b c d f g h (annotation_spelling notes) (class_spelling parent) second third))
   where
     joined : (u v w x y : List ℕ) → (0x72 ∷ (u ++ (v ++ (flags ∷ (w ++ x))))) ++ y ≡ 0x72 ∷ (u ++ (v ++ (flags ∷ (w ++ (x ++ y)))))
     joined u v w x y = ap (λ t. 0x72 ∷ t) (append_assoc u (v ++ (flags ∷ (w ++ x))) y
@@ -205,8 +205,8 @@ pub puts_proxy : (a b c d : Outgoing) (e f g h : SinkState) (names : List (List 
     → Puts a d e h (desc_spelling (proxy names notes parent))
 puts_proxy a b c d e f g h names notes parent first second third =
     subst (Puts a d e h) (ap (λ t. 0x7D ∷ t) (append_assoc (big_bytes 4 (length names)) (interfaces_spelling names) (annotation_spelling notes ++ class_spelling parent)))
-      (puts_both a b d e f h (proxy_head names) (annotation_spelling notes ++ class_spelling parent) first
-        (puts_both b c d f g h (annotation_spelling notes) (class_spelling parent) second third))
+    (puts_both a b d e f h (proxy_head names) (annotation_spelling notes ++ class_spelling parent) first
+    (puts_both b c d f g h (annotation_spelling notes) (class_spelling parent) second third))
 
 -- Arrays and sections
 
@@ -214,13 +214,13 @@ pub puts_raw_body : (a b c : Outgoing) (d e f : SinkState) (prims : List Prim) (
     → Puts a c d f (body_spelling (raw_body (map view_prim prims)))
 puts_raw_body a b c d e f prims len is first second =
     puts_both a b c d e f (big_bytes 4 (length (map view_prim prims))) (prims_spelling (map view_prim prims))
-      (subst (Puts a b d e) (ap (big_bytes 4) (is ∙ sym (length-map prims view_prim))) first) second
+    (subst (Puts a b d e) (ap (big_bytes 4) (is ∙ sym (length-map prims view_prim))) first) second
 
 pub puts_value_body : (a b c : Outgoing) (d e f : SinkState) (values : List Value) (len : ℕ) → len ≡ length values → Puts a b d e (big_bytes 4 len) → Puts b c e f (values_spelling (view_values values))
     → Puts a c d f (body_spelling (value_body (view_values values)))
 puts_value_body a b c d e f values len is first second =
     puts_both a b c d e f (big_bytes 4 (value_count (view_values values))) (values_spelling (view_values values))
-      (subst (Puts a b d e) (ap (big_bytes 4) (is ∙ counted values)) first) second
+    (subst (Puts a b d e) (ap (big_bytes 4) (is ∙ counted values)) first) second
   where
     counted : (values : List Value) → length values ≡ value_count (view_values values)
     counted [] = refl
@@ -230,7 +230,7 @@ pub puts_section : (a b c d : Outgoing) (e f g h : SinkState) (prims : List Prim
     → Puts b c f g (values_spelling values) → Puts c d g h (annotation_spelling notes) → Puts a d e h (section_spelling (section prims values (annotation notes)))
 puts_section a b c d e f g h prims values notes first second third =
     puts_both a b d e f h (prims_spelling prims) (values_spelling values ++ annotation_spelling notes) first
-      (puts_both b c d f g h (values_spelling values) (annotation_spelling notes) second third)
+    (puts_both b c d f g h (values_spelling values) (annotation_spelling notes) second third)
 
 pub puts_bare_section : (a b c : Outgoing) (d e f : SinkState) (prims : List PrimTree) (values : ValueTrees) → Puts a b d e (prims_spelling prims)
     → Puts b c e f (values_spelling values) → Puts a c d f (section_spelling (section prims values no_notes))

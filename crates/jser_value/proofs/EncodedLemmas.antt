@@ -17,7 +17,7 @@ pub puts_stream : (a b c d : Outgoing) (e f g h : SinkState) (contents : Content
     → Puts b c f g (contents_spelling contents) → Puts c d g h [] → Puts a d e h (spelling contents)
 puts_stream a b c d e f g h contents first second third =
     subst (λ t. Puts a d e h (0xAC ∷ 0xED ∷ 0x00 ∷ 0x05 ∷ t)) (append-nil (contents_spelling contents))
-      (puts_both a b d e f h (0xAC ∷ 0xED ∷ 0x00 ∷ 0x05 ∷ []) (contents_spelling contents ++ []) first (puts_both b c d f g h (contents_spelling contents) [] second third))
+    (puts_both a b d e f h (0xAC ∷ 0xED ∷ 0x00 ∷ 0x05 ∷ []) (contents_spelling contents ++ []) first (puts_both b c d f g h (contents_spelling contents) [] second third))
 
 -- all of it went out
 pub record WroteAll (old new : Option (List ℕ)) (bytes : List ℕ) (written : ℕ) : Type 0 where
@@ -30,9 +30,10 @@ pub wrote_all : (now : Outgoing) (before after : SinkState) (contents : ContentT
 wrote_all now before after contents start is obeys puts on empty =
     let hands = puts.going (ap (λ o. o.failed) is) in
     let whole : spelling contents ≡ hands.out =
-    ap (λ o. o.waiting ++ spelling contents) (sym is) ∙ hands.split ∙ ap (λ t. hands.out ++ t) (hands.waits on ∙ empty on) ∙ append-nil hands.out in
-    (subst (Appends before.gone_out after.gone_out) (sym whole) hands.went,
-     omega (arith, hands.counted, ap (λ o. o.written) is, ap length whole, obeys.size))
+    ap (λ o. o.waiting ++ spelling contents) (sym is) ∙ hands.split ∙ ap (λ t. hands.out ++ t) (hands.waits on ∙ empty on) ∙ append-nil hands.out in (
+      subst (Appends before.gone_out after.gone_out) (sym whole) hands.went,
+      omega (arith, hands.counted, ap (λ o. o.written) is, ap length whole, obeys.size),
+    )
 
 pub wrote_some : (now : Outgoing) (before after : SinkState) (contents : ContentTrees) (start : Outgoing) → start ≡ nothing → IsContents contents
     → Puts start now before after (spelling contents) → now.failed ≡ true
@@ -41,7 +42,8 @@ wrote_some now before after contents start is obeys puts off =
     let hands = puts.going (ap (λ o. o.failed) is) in
     let whole : spelling contents ≡ hands.out ++ hands.left = ap (λ o. o.waiting ++ spelling contents) (sym is) ∙ hands.split in
     let lengths = ap length whole ∙ length-append hands.out hands.left in
-    let counted : now.written ≡ length hands.out = omega (arith, hands.counted, ap (λ o. o.written) is, lengths, obeys.size) in
-    (omega (arith, counted, lengths),
-     subst (Appends before.gone_out after.gone_out) (sym (ap (λ n. take n (spelling contents)) counted ∙ ap (take (length hands.out)) whole ∙ take-append_seam hands.out hands.left)) hands.went,
-     hands.fault off)
+    let counted : now.written ≡ length hands.out = omega (arith, hands.counted, ap (λ o. o.written) is, lengths, obeys.size) in (
+      omega (arith, counted, lengths),
+      subst (Appends before.gone_out after.gone_out) (sym (ap (λ n. take n (spelling contents)) counted ∙ ap (take (length hands.out)) whole ∙ take-append_seam hands.out hands.left)) hands.went,
+      hands.fault off,
+    )

@@ -124,7 +124,7 @@ pub flushed : (old new : Outgoing) (before after : SinkState) → old.failed ≡
     → new ≡ record { waiting = []; written = min (old.written + length old.waiting) 18446744073709551615; failed = false } → Puts old new before after []
 flushed old new before after on went e =
     puts_through old new before after [] on (subst (Appends before.gone_out after.gone_out) (sym (append-nil old.waiting)) went)
-      (e ∙ ap (λ t. record { waiting = []; written = min (old.written + length t) 18446744073709551615; failed = false }) (sym (append-nil old.waiting)))
+    (e ∙ ap (λ t. record { waiting = []; written = min (old.written + length t) 18446744073709551615; failed = false }) (sym (append-nil old.waiting)))
 
 pub flushed_some : (old new : Outgoing) (before after : SinkState) (count : ℕ) → old.failed ≡ false
     → (count ≤ length old.waiting) × Appends before.gone_out after.gone_out (take count old.waiting)
@@ -132,15 +132,15 @@ pub flushed_some : (old new : Outgoing) (before after : SinkState) (count : ℕ)
 flushed_some old new before after count on went e fault =
     let whole = sym (append-nil old.waiting) in
     puts_some old new before after [] count on (omega (arith, went.0, ap length whole))
-      (subst (λ t. Appends before.gone_out after.gone_out (take count t)) whole went.1) (ap (λ o. o.written) e) (ap (λ o. o.failed) e) fault
+    (subst (λ t. Appends before.gone_out after.gone_out (take count t)) whole went.1) (ap (λ o. o.written) e) (ap (λ o. o.failed) e) fault
 
 pub passed : (old new : Outgoing) (before after : SinkState) (bytes : List ℕ) → old.failed ≡ false → old.waiting ≡ [] → Appends before.gone_out after.gone_out bytes
     → new ≡ record old { written = min (old.written + length bytes) 18446744073709551615 } → Puts old new before after bytes
 passed old new before after bytes on none went e =
     let whole : old.waiting ++ bytes ≡ bytes = ap (λ t. t ++ bytes) none in
     puts_through old new before after bytes on (subst (Appends before.gone_out after.gone_out) (sym whole) went)
-      (e ∙ record_same old.waiting [] (min (old.written + length bytes) 18446744073709551615) (min (old.written + length (old.waiting ++ bytes)) 18446744073709551615) old.failed false
-        none (ap (λ t. min (old.written + length t) 18446744073709551615) (sym whole)) on)
+    (e ∙ record_same old.waiting [] (min (old.written + length bytes) 18446744073709551615) (min (old.written + length (old.waiting ++ bytes)) 18446744073709551615) old.failed false
+    none (ap (λ t. min (old.written + length t) 18446744073709551615) (sym whole)) on)
   where
     record_same : (a b : List ℕ) (m n : ℕ) (f g : Bool) → a ≡ b → m ≡ n → f ≡ g
         → ◌≡◌ {A = Outgoing} (record { waiting = a; written = m; failed = f }) (record { waiting = b; written = n; failed = g })
@@ -152,7 +152,7 @@ pub passed_some : (old new : Outgoing) (before after : SinkState) (bytes : List 
 passed_some old new before after bytes count on none went e fault =
     let whole : bytes ≡ old.waiting ++ bytes = sym (ap (λ t. t ++ bytes) none) in
     puts_some old new before after bytes count on (omega (arith, went.0, ap length whole))
-      (subst (λ t. Appends before.gone_out after.gone_out (take count t)) whole went.1) (ap (λ o. o.written) e) (ap (λ o. o.failed) e) fault
+    (subst (λ t. Appends before.gone_out after.gone_out (take count t)) whole went.1) (ap (λ o. o.written) e) (ap (λ o. o.failed) e) fault
 
 -- what waits goes out first
 pub puts_behind : (a b c : Outgoing) (d e f : SinkState) (xs : List ℕ) → Puts a b d e [] → Puts b c e f xs → Puts a c d f xs

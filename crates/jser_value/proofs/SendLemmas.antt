@@ -18,7 +18,7 @@ pub sent_more : (old mid new : Option (List ℕ)) (bytes rest : List ℕ) (sent 
     → Appends mid new (take count rest) → Appends old new (take (sent + count) bytes)
 sent_more old mid new bytes rest sent count h r k =
     subst (Appends old new) (ap (λ t. take sent bytes ++ take count t) r ∙ sym (take-add sent count bytes))
-      (appends_both old mid new (take sent bytes) (take count rest) h k)
+    (appends_both old mid new (take sent bytes) (take count rest) h k)
 
 pub sent_all : (old new : Option (List ℕ)) (bytes : List ℕ) (sent : ℕ) → Appends old new (take sent bytes) → length bytes ≤ sent → Appends old new bytes
 sent_all old new bytes sent h all = subst (Appends old new) (take_all sent bytes all) h

@@ -1,5 +1,5 @@
 -- What holds of the reading machine on fields.
-use Rattle.std.specs.Prelude.{◌≡◌, List}
+use Rattle.std.specs.Prelude.{◌+◌, ◌*◌, ◌≤◌, ◌≡◌, List, length}
 use Rattle.jser_value.specs.Trees.{ContentTrees}
 use Rattle.jser_value.specs.WellFormed.{WellFormed}
 use Rattle.jser_value.specs.Labels.{Label, Piece}
@@ -21,3 +21,9 @@ abbrev pub NextIsTold : Type 0
 NextIsTold = (front : List Piece) (label : Label) →
     (ComesNext front label → Runs begin_state front × (label ≡ label_of (settled (left begin_state front))))
     × (Runs begin_state front × (label ≡ label_of (settled (left begin_state front))) → ComesNext front label)
+
+-- The stack of goals is about as long as the next field is deep, whatever was read.
+abbrev pub StackIsBounded : Type 0
+StackIsBounded = (front : List Piece) →
+    let s = settled (left begin_state front) in
+    ((label_of s).depth ≤ length s.1) × (length s.1 ≤ 3 * (label_of s).depth + 2)

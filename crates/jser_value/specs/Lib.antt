@@ -27,3 +27,7 @@ pub mod Limits
 pub mod Outgoing
 pub mod Encoding
 pub mod Encoded
+pub mod Rooms
+pub mod PartTests
+pub mod Tests
+pub mod Causes

@@ -1,10 +1,49 @@
 //! A list of contents that obeys the format, and is no deeper and no longer than trees may be.
-ghost use Rattle.std.specs.Prelude.{◌≡◌};
+ghost use Rattle.std.specs.Prelude.{◌≡◌, ◌↔◌, IfOk, IfErr, OnOk, MatchOption};
 ghost use Rattle.jser_value.specs.View.{view_contents};
 ghost use Rattle.jser_value.specs.Limits.{IsContents};
+ghost use Rattle.jser_value.specs.Causes.{IsWithin, IsTooDeep, IsTooLarge, IsNotRight, Explains, FailsBy};
 
+use crate::depth::contents_within;
+use crate::obeys::{Fault, check_contents};
+use crate::size::after_contents;
 use crate::tree::Content;
+use std::alloc::Global;
 use std::marker::Model;
+use thiserror::Error;
+
+/// How deep trees are at most: the calls on trees recurse.
+const MAX_DEPTH: u32 = 1000;
+
+/// How many bytes the spelling of a list has at most, behind the four of the header.
+const MAX_SIZE: u64 = 0x7FFF_FFFF - 4;
+
+/// Why a list of contents is refused: the first of these that holds.
+#[derive(Clone, Copy, PartialEq, Eq, Debug, Error)]
+pub enum ValueCause {
+    /// Its depth is over 1,000.
+    #[error("the contents are nested too deep")]
+    TooDeep,
+    /// Its spelling has more than 2^31 - 1 bytes.
+    #[error("the contents are too large")]
+    TooLarge,
+    /// It does not obey the format.
+    #[error("the contents do not obey the format")]
+    NotRight,
+    /// There was no memory for its handles.
+    #[error("out of memory")]
+    OutOfMemory,
+}
+
+/// A list of contents that is refused, and why.
+#[derive(PartialEq, Debug, Drop, Error)]
+#[error("{cause}")]
+pub struct ValueFault {
+    /// The list, as it was given.
+    pub list: Vec<Content>,
+    /// Why it is refused.
+    pub cause: ValueCause,
+}
 
 /// A list of contents that obeys the format: it is the contents of one stream. Its depth is at most 1,000
 /// and its spelling at most 2^31 - 1 bytes.
@@ -18,7 +57,6 @@ impl Model for Contents {
     ghost use Rattle.jser_value.specs.declared.tree.Content.{Content};
     ghost use Rattle.jser_value.specs.View.{view_contents};
     ghost use Rattle.jser_value.specs.Limits.{IsContents};
-
     ghost use Rattle.std.specs.Coded.{codes};
     ghost use Rattle.jser_value.specs.contracts.tree.Content as content_type;
 
@@ -32,11 +70,48 @@ impl Model for Contents {
 }
 
 impl Contents {
+    /// Takes a list that obeys the format, or hands it back with the first cause against it. Memory is
+    /// taken for the table of handles alone, and given back.
+    pub fn new(alloc: Global, list: Vec<Content>) -> Result<Contents, ValueFault>
+        ensures accepted { IfOk result (λ contents. contents ≡ list.items) }
+        ensures obeys { OnOk result (IsContents (view_contents list.items)) }
+
+        ensures too_deep { FailsBy result ValueCause.TooDeep ↔ IsTooDeep (view_contents list.items) }
+        ensures too_large { FailsBy result ValueCause.TooLarge ↔ IsTooLarge (view_contents list.items) }
+        // Where memory runs out, a wrong list may be answered so.
+        ensures not_right { FailsBy result ValueCause.NotRight → IsNotRight (view_contents list.items) }
+        ensures memory { FailsBy result ValueCause.OutOfMemory → IsWithin (view_contents list.items) }
+        ensures handed_back { IfErr result (λ fault. fault.list ≡ list) }
+    {
+        match cause_against(alloc, &list) {
+            None => Ok(Contents { list }),
+            Some(cause) => Err(ValueFault { list, cause }),
+        }
+    }
+
     /// The contents, in order.
     pub fn list(&self) -> &[Content]
         ensures list { result.now ≡ self.now }
         ensures obeys { IsContents (view_contents self.now) }
     {
         &self.list
+    }
+}
+
+/// The first cause against a list of contents, if there is one.
+#[tactic(auto, using(crate::proofs::RightLemmas::right_contents, crate::proofs::RightLemmas::wrong_contents))]
+fn cause_against(alloc: Global, list: &[Content]) -> Option<ValueCause>
+    ensures { MatchOption result (IsContents (view_contents list.now)) (λ cause. Explains cause (view_contents list.now)) }
+{
+    if !contents_within(list, MAX_DEPTH) {
+        return Some(ValueCause::TooDeep);
+    }
+    if after_contents(MAX_SIZE, list).is_none() {
+        return Some(ValueCause::TooLarge);
+    }
+    match check_contents(alloc, list) {
+        Ok(()) => None,
+        Err(Fault::NotRight) => Some(ValueCause::NotRight),
+        Err(Fault::OutOfMemory) => Some(ValueCause::OutOfMemory),
     }
 }

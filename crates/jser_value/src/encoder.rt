@@ -10,7 +10,7 @@ ghost use Rattle.jser_prim.specs.Bytes.{big_bytes};
 ghost use Rattle.jser_prim.specs.ModifiedUtf8.{modified_utf8, unit_spelling};
 ghost use Rattle.jser_value.specs.Encoding.{field_spelling, section_spelling, plain_head, proxy_head};
 ghost use Rattle.jser_value.specs.Encoded.{WroteFirst};
-ghost use Rattle.jser_value.specs.Outgoing.{Puts, sink_state};
+ghost use Rattle.jser_value.specs.Outgoing.{PutsTo};
 ghost use Rattle.jser_value.specs.View.{view_text, view_text_place, view_field, view_prim, view_body, view_class_place, view_content, view_desc, view_value, view_section, view_values, view_sections, view_contents};
 ghost use Rattle.jser_value.specs.Spelling.{value_spelling, desc_spelling, class_spelling, body_spelling, values_spelling, sections_spelling, notes_spelling, annotation_spelling, content_spelling, contents_spelling, string_spelling, text_place_spelling, type_spelling, fields_spelling, interfaces_spelling, prim_spelling, prims_spelling, utf, long_utf, reference, block_head, spelling};
 
@@ -18,7 +18,7 @@ use crate::contents::Contents;
 use crate::outbox::Outbox;
 use crate::tree::{Body, ClassPlace, Content, Desc, Field, Prim, Section, Text, TextPlace, Value};
 use byteorder::{BigEndian, ByteOrder};
-use jser_prim::Sink;
+use jser_prim::{Sink, spell_unit};
 use thiserror::Error;
 
 /// STREAM_MAGIC and STREAM_VERSION.
@@ -62,7 +62,7 @@ pub fn encode<W: Sink>(contents: &Contents, sink: &mut W) -> Result<u64, EncodeF
 /// The header and the contents, all handed to the sink.
 #[tactic(auto, using(crate::proofs::EncodedLemmas::puts_stream))]
 fn put_stream<W: Sink>(outbox: &mut Outbox, sink: &mut W, contents: &[Content])
-    ensures puts { Puts outbox.old outbox.new (sink_state (W.gone_out sink.old) (W.has_failed sink.old)) (sink_state (W.gone_out sink.new) (W.has_failed sink.new)) (spelling (view_contents contents.now)) }
+    ensures puts { PutsTo W.gone_out W.has_failed outbox.old outbox.new sink.old sink.new (spelling (view_contents contents.now)) }
     ensures empty { outbox.new.failed ≡ false → outbox.new.waiting ≡ [] }
 {
     outbox.put(sink, &HEADER);
@@ -73,7 +73,7 @@ fn put_stream<W: Sink>(outbox: &mut Outbox, sink: &mut W, contents: &[Content])
 /// Contents, one after another.
 #[tactic(auto, using(crate::proofs::OutgoingLemmas::puts_none))]
 fn put_list<W: Sink>(outbox: &mut Outbox, sink: &mut W, contents: &[Content])
-    ensures { Puts outbox.old outbox.new (sink_state (W.gone_out sink.old) (W.has_failed sink.old)) (sink_state (W.gone_out sink.new) (W.has_failed sink.new)) (contents_spelling (view_contents contents.now)) }
+    ensures { PutsTo W.gone_out W.has_failed outbox.old outbox.new sink.old sink.new (contents_spelling (view_contents contents.now)) }
 {
     for content in contents {
         put_content(outbox, sink, content);
@@ -86,14 +86,14 @@ const BASE_WIRE_HANDLE: u32 = 0x7E0000;
 impl Outbox {
     /// Puts a byte.
     fn put_u8<W: Sink>(&mut self, sink: &mut W, byte: u8)
-        ensures { Puts self.old self.new (sink_state (W.gone_out sink.old) (W.has_failed sink.old)) (sink_state (W.gone_out sink.new) (W.has_failed sink.new)) (byte ∷ []) }
+        ensures { PutsTo W.gone_out W.has_failed self.old self.new sink.old sink.new (byte ∷ []) }
     {
         self.put(sink, &[byte]);
     }
 
     /// Puts a number in two bytes.
     fn put_u16<W: Sink>(&mut self, sink: &mut W, number: u16)
-        ensures { Puts self.old self.new (sink_state (W.gone_out sink.old) (W.has_failed sink.old)) (sink_state (W.gone_out sink.new) (W.has_failed sink.new)) (big_bytes 2 number) }
+        ensures { PutsTo W.gone_out W.has_failed self.old self.new sink.old sink.new (big_bytes 2 number) }
     {
         let mut bytes = [0; 2];
         BigEndian::write_u16(&mut bytes, number);
@@ -102,7 +102,7 @@ impl Outbox {
 
     /// Puts a number in four bytes.
     fn put_u32<W: Sink>(&mut self, sink: &mut W, number: u32)
-        ensures { Puts self.old self.new (sink_state (W.gone_out sink.old) (W.has_failed sink.old)) (sink_state (W.gone_out sink.new) (W.has_failed sink.new)) (big_bytes 4 number) }
+        ensures { PutsTo W.gone_out W.has_failed self.old self.new sink.old sink.new (big_bytes 4 number) }
     {
         let mut bytes = [0; 4];
         BigEndian::write_u32(&mut bytes, number);
@@ -111,7 +111,7 @@ impl Outbox {
 
     /// Puts a number in eight bytes.
     fn put_u64<W: Sink>(&mut self, sink: &mut W, number: u64)
-        ensures { Puts self.old self.new (sink_state (W.gone_out sink.old) (W.has_failed sink.old)) (sink_state (W.gone_out sink.new) (W.has_failed sink.new)) (big_bytes 8 number) }
+        ensures { PutsTo W.gone_out W.has_failed self.old self.new sink.old sink.new (big_bytes 8 number) }
     {
         let mut bytes = [0; 8];
         BigEndian::write_u64(&mut bytes, number);
@@ -121,7 +121,7 @@ impl Outbox {
 
 /// A raw value, in as many bytes as its type has.
 fn put_prim<W: Sink>(outbox: &mut Outbox, sink: &mut W, prim: Prim)
-    ensures { Puts outbox.old outbox.new (sink_state (W.gone_out sink.old) (W.has_failed sink.old)) (sink_state (W.gone_out sink.new) (W.has_failed sink.new)) (prim_spelling (view_prim prim)) }
+    ensures { PutsTo W.gone_out W.has_failed outbox.old outbox.new sink.old sink.new (prim_spelling (view_prim prim)) }
 {
     match prim {
         Prim::B(bits) => outbox.put_u8(sink, bits),
@@ -138,7 +138,7 @@ fn put_prim<W: Sink>(outbox: &mut Outbox, sink: &mut W, prim: Prim)
 /// The text of a name or of a short string: its length in two bytes, and its modified UTF-8.
 #[tactic(auto, using(crate::proofs::EncodeLemmas::puts_utf))]
 fn put_utf<W: Sink>(outbox: &mut Outbox, sink: &mut W, units: &[u16])
-    ensures { Puts outbox.old outbox.new (sink_state (W.gone_out sink.old) (W.has_failed sink.old)) (sink_state (W.gone_out sink.new) (W.has_failed sink.new)) (utf units.now) }
+    ensures { PutsTo W.gone_out W.has_failed outbox.old outbox.new sink.old sink.new (utf units.now) }
 {
     outbox.put_u16(sink, (text_len(units) % 0x1_0000) as u16);
     put_units(outbox, sink, units);
@@ -147,7 +147,7 @@ fn put_utf<W: Sink>(outbox: &mut Outbox, sink: &mut W, units: &[u16])
 /// The text of a long string: its length in eight bytes, and its modified UTF-8.
 #[tactic(auto, using(crate::proofs::EncodeLemmas::puts_long_utf))]
 fn put_long_utf<W: Sink>(outbox: &mut Outbox, sink: &mut W, units: &[u16])
-    ensures { Puts outbox.old outbox.new (sink_state (W.gone_out sink.old) (W.has_failed sink.old)) (sink_state (W.gone_out sink.new) (W.has_failed sink.new)) (long_utf units.now) }
+    ensures { PutsTo W.gone_out W.has_failed outbox.old outbox.new sink.old sink.new (long_utf units.now) }
 {
     outbox.put_u64(sink, text_len(units));
     put_units(outbox, sink, units);
@@ -160,27 +160,15 @@ fn text_len(units: &[u16]) -> u64
 {
     let mut len = 0u64;
     for unit in units {
-        len = len.wrapping_add(unit_len(*unit));
+        len = len.wrapping_add(spell_unit(*unit, &mut [0; 3]).len() as u64);
     }
     len
-}
-
-/// How many bytes a unit's spelling has.
-#[tactic(auto, unfolding(jser_prim::specs::ModifiedUtf8::unit_spelling))]
-fn unit_len(unit: u16) -> u64
-    ensures { result ≡ length (unit_spelling unit) }
-{
-    match unit {
-        0x0001..=0x007F => 1,
-        0x0000..=0x07FF => 2,
-        _ => 3,
-    }
 }
 
 /// The modified UTF-8 of a text.
 #[tactic(auto, using(crate::proofs::OutgoingLemmas::puts_none, crate::proofs::EncodeLemmas::puts_unit))]
 fn put_units<W: Sink>(outbox: &mut Outbox, sink: &mut W, units: &[u16])
-    ensures { Puts outbox.old outbox.new (sink_state (W.gone_out sink.old) (W.has_failed sink.old)) (sink_state (W.gone_out sink.new) (W.has_failed sink.new)) (modified_utf8 units.now) }
+    ensures { PutsTo W.gone_out W.has_failed outbox.old outbox.new sink.old sink.new (modified_utf8 units.now) }
 {
     for unit in units {
         put_unit(outbox, sink, *unit);
@@ -188,30 +176,16 @@ fn put_units<W: Sink>(outbox: &mut Outbox, sink: &mut W, units: &[u16])
 }
 
 /// The spelling of a unit.
-#[tactic(auto, unfolding(jser_prim::specs::ModifiedUtf8::unit_spelling))]
 fn put_unit<W: Sink>(outbox: &mut Outbox, sink: &mut W, unit: u16)
-    ensures { Puts outbox.old outbox.new (sink_state (W.gone_out sink.old) (W.has_failed sink.old)) (sink_state (W.gone_out sink.new) (W.has_failed sink.new)) (unit_spelling unit) }
+    ensures { PutsTo W.gone_out W.has_failed outbox.old outbox.new sink.old sink.new (unit_spelling unit) }
 {
-    match unit {
-        0x0001..=0x007F => outbox.put(sink, &[unit as u8]),
-        0x0000..=0x07FF => {
-            outbox.put(sink, &[0xC0 + (unit / 64) as u8, 0x80 + (unit % 64) as u8]);
-        }
-        _ => outbox.put(
-            sink,
-            &[
-                0xE0 + (unit / 4096) as u8,
-                0x80 + (unit / 64 % 64) as u8,
-                0x80 + (unit % 64) as u8,
-            ],
-        ),
-    }
+    outbox.put(sink, spell_unit(unit, &mut [0; 3]));
 }
 
 /// A reference: its tag and its handle.
 #[tactic(auto, using(crate::proofs::EncodeLemmas::puts_reference))]
 fn put_reference<W: Sink>(outbox: &mut Outbox, sink: &mut W, number: u32)
-    ensures { Puts outbox.old outbox.new (sink_state (W.gone_out sink.old) (W.has_failed sink.old)) (sink_state (W.gone_out sink.new) (W.has_failed sink.new)) (reference number) }
+    ensures { PutsTo W.gone_out W.has_failed outbox.old outbox.new sink.old sink.new (reference number) }
 {
     outbox.put_u8(sink, 0x71);
     outbox.put_u32(sink, BASE_WIRE_HANDLE.wrapping_add(number));
@@ -220,7 +194,7 @@ fn put_reference<W: Sink>(outbox: &mut Outbox, sink: &mut W, number: u32)
 /// A string behind its tag.
 #[tactic(auto, using(crate::proofs::EncodeLemmas::puts_long_string, crate::proofs::EncodeLemmas::puts_short_string))]
 fn put_text<W: Sink>(outbox: &mut Outbox, sink: &mut W, text: &Text)
-    ensures { Puts outbox.old outbox.new (sink_state (W.gone_out sink.old) (W.has_failed sink.old)) (sink_state (W.gone_out sink.new) (W.has_failed sink.new)) (string_spelling text.now.long text.now.units.items) }
+    ensures { PutsTo W.gone_out W.has_failed outbox.old outbox.new sink.old sink.new (string_spelling text.now.long text.now.units.items) }
 {
     if text.long {
         outbox.put_u8(sink, 0x7C);
@@ -233,7 +207,7 @@ fn put_text<W: Sink>(outbox: &mut Outbox, sink: &mut W, text: &Text)
 
 /// A string or a reference to one.
 fn put_text_place<W: Sink>(outbox: &mut Outbox, sink: &mut W, place: &TextPlace)
-    ensures { Puts outbox.old outbox.new (sink_state (W.gone_out sink.old) (W.has_failed sink.old)) (sink_state (W.gone_out sink.new) (W.has_failed sink.new)) (text_place_spelling (view_text_place place.now)) }
+    ensures { PutsTo W.gone_out W.has_failed outbox.old outbox.new sink.old sink.new (text_place_spelling (view_text_place place.now)) }
 {
     match place {
         TextPlace::New(text) => put_text(outbox, sink, text),
@@ -244,7 +218,7 @@ fn put_text_place<W: Sink>(outbox: &mut Outbox, sink: &mut W, place: &TextPlace)
 /// The type of a field, where there is one.
 #[tactic(auto, using(crate::proofs::OutgoingLemmas::puts_none))]
 fn put_type<W: Sink>(outbox: &mut Outbox, sink: &mut W, place: &Option<TextPlace>)
-    ensures { Puts outbox.old outbox.new (sink_state (W.gone_out sink.old) (W.has_failed sink.old)) (sink_state (W.gone_out sink.new) (W.has_failed sink.new)) (type_spelling (option_map view_text_place place.now)) }
+    ensures { PutsTo W.gone_out W.has_failed outbox.old outbox.new sink.old sink.new (type_spelling (option_map view_text_place place.now)) }
 {
     match place {
         Some(place) => put_text_place(outbox, sink, place),
@@ -255,7 +229,7 @@ fn put_type<W: Sink>(outbox: &mut Outbox, sink: &mut W, place: &Option<TextPlace
 /// A field: its code, its name and its type.
 #[tactic(auto, using(crate::proofs::EncodeLemmas::puts_field))]
 fn put_field<W: Sink>(outbox: &mut Outbox, sink: &mut W, field: &Field)
-    ensures { Puts outbox.old outbox.new (sink_state (W.gone_out sink.old) (W.has_failed sink.old)) (sink_state (W.gone_out sink.new) (W.has_failed sink.new)) (field_spelling (view_field field.now)) }
+    ensures { PutsTo W.gone_out W.has_failed outbox.old outbox.new sink.old sink.new (field_spelling (view_field field.now)) }
 {
     outbox.put_u8(sink, field.code);
     put_utf(outbox, sink, &field.name);
@@ -265,7 +239,7 @@ fn put_field<W: Sink>(outbox: &mut Outbox, sink: &mut W, field: &Field)
 /// The fields of a descriptor, one after another.
 #[tactic(auto, using(crate::proofs::OutgoingLemmas::puts_none))]
 fn put_fields<W: Sink>(outbox: &mut Outbox, sink: &mut W, fields: &[Field])
-    ensures { Puts outbox.old outbox.new (sink_state (W.gone_out sink.old) (W.has_failed sink.old)) (sink_state (W.gone_out sink.new) (W.has_failed sink.new)) (fields_spelling (map view_field fields.now)) }
+    ensures { PutsTo W.gone_out W.has_failed outbox.old outbox.new sink.old sink.new (fields_spelling (map view_field fields.now)) }
 {
     for field in fields {
         put_field(outbox, sink, field);
@@ -275,7 +249,7 @@ fn put_fields<W: Sink>(outbox: &mut Outbox, sink: &mut W, fields: &[Field])
 /// The names of interfaces, one after another.
 #[tactic(auto, using(crate::proofs::OutgoingLemmas::puts_none))]
 fn put_interfaces<W: Sink>(outbox: &mut Outbox, sink: &mut W, names: &[Vec<u16>])
-    ensures { Puts outbox.old outbox.new (sink_state (W.gone_out sink.old) (W.has_failed sink.old)) (sink_state (W.gone_out sink.new) (W.has_failed sink.new)) (interfaces_spelling (map (λ name. name.items) names.now)) }
+    ensures { PutsTo W.gone_out W.has_failed outbox.old outbox.new sink.old sink.new (interfaces_spelling (map (λ name. name.items) names.now)) }
 {
     for name in names {
         put_utf(outbox, sink, name);
@@ -285,7 +259,7 @@ fn put_interfaces<W: Sink>(outbox: &mut Outbox, sink: &mut W, names: &[Vec<u16>]
 /// Raw values, one after another.
 #[tactic(auto, using(crate::proofs::OutgoingLemmas::puts_none))]
 fn put_prims<W: Sink>(outbox: &mut Outbox, sink: &mut W, prims: &[Prim])
-    ensures { Puts outbox.old outbox.new (sink_state (W.gone_out sink.old) (W.has_failed sink.old)) (sink_state (W.gone_out sink.new) (W.has_failed sink.new)) (prims_spelling (map view_prim prims.now)) }
+    ensures { PutsTo W.gone_out W.has_failed outbox.old outbox.new sink.old sink.new (prims_spelling (map view_prim prims.now)) }
 {
     for prim in prims {
         put_prim(outbox, sink, *prim);
@@ -296,7 +270,7 @@ fn put_prims<W: Sink>(outbox: &mut Outbox, sink: &mut W, prims: &[Prim])
 #[cycle(encode)]
 #[tactic(auto, using(crate::proofs::OutgoingLemmas::puts_tagged, crate::proofs::EncodeLemmas::puts_classed))]
 fn put_value<W: Sink>(outbox: &mut Outbox, sink: &mut W, value: &Value)
-    ensures { Puts outbox.old outbox.new (sink_state (W.gone_out sink.old) (W.has_failed sink.old)) (sink_state (W.gone_out sink.new) (W.has_failed sink.new)) (value_spelling (view_value value.now)) }
+    ensures { PutsTo W.gone_out W.has_failed outbox.old outbox.new sink.old sink.new (value_spelling (view_value value.now)) }
 {
     match value {
         Value::Null => outbox.put_u8(sink, 0x70),
@@ -328,7 +302,7 @@ fn put_value<W: Sink>(outbox: &mut Outbox, sink: &mut W, value: &Value)
 /// What stands in a class place.
 #[cycle(encode)]
 fn put_class<W: Sink>(outbox: &mut Outbox, sink: &mut W, place: &ClassPlace)
-    ensures { Puts outbox.old outbox.new (sink_state (W.gone_out sink.old) (W.has_failed sink.old)) (sink_state (W.gone_out sink.new) (W.has_failed sink.new)) (class_spelling (view_class_place place.now)) }
+    ensures { PutsTo W.gone_out W.has_failed outbox.old outbox.new sink.old sink.new (class_spelling (view_class_place place.now)) }
 {
     match place {
         ClassPlace::New(desc) => put_desc(outbox, sink, desc),
@@ -341,7 +315,7 @@ fn put_class<W: Sink>(outbox: &mut Outbox, sink: &mut W, place: &ClassPlace)
 #[cycle(encode)]
 #[tactic(auto, using(crate::proofs::EncodeLemmas::puts_plain, crate::proofs::EncodeLemmas::puts_proxy))]
 fn put_desc<W: Sink>(outbox: &mut Outbox, sink: &mut W, desc: &Desc)
-    ensures { Puts outbox.old outbox.new (sink_state (W.gone_out sink.old) (W.has_failed sink.old)) (sink_state (W.gone_out sink.new) (W.has_failed sink.new)) (desc_spelling (view_desc desc.now)) }
+    ensures { PutsTo W.gone_out W.has_failed outbox.old outbox.new sink.old sink.new (desc_spelling (view_desc desc.now)) }
 {
     match desc {
         Desc::Plain {
@@ -372,7 +346,7 @@ fn put_desc<W: Sink>(outbox: &mut Outbox, sink: &mut W, desc: &Desc)
 #[cycle(encode)]
 #[tactic(auto, using(crate::proofs::EncodeLemmas::puts_raw_body, crate::proofs::EncodeLemmas::puts_value_body))]
 fn put_body<W: Sink>(outbox: &mut Outbox, sink: &mut W, body: &Body)
-    ensures { Puts outbox.old outbox.new (sink_state (W.gone_out sink.old) (W.has_failed sink.old)) (sink_state (W.gone_out sink.new) (W.has_failed sink.new)) (body_spelling (view_body body.now)) }
+    ensures { PutsTo W.gone_out W.has_failed outbox.old outbox.new sink.old sink.new (body_spelling (view_body body.now)) }
 {
     match body {
         Body::Prims(prims) => {
@@ -390,7 +364,7 @@ fn put_body<W: Sink>(outbox: &mut Outbox, sink: &mut W, body: &Body)
 #[cycle(encode)]
 #[tactic(auto, using(crate::proofs::OutgoingLemmas::puts_none))]
 fn put_values<W: Sink>(outbox: &mut Outbox, sink: &mut W, values: &Vec<Value>)
-    ensures { Puts outbox.old outbox.new (sink_state (W.gone_out sink.old) (W.has_failed sink.old)) (sink_state (W.gone_out sink.new) (W.has_failed sink.new)) (values_spelling (view_values values.now.items)) }
+    ensures { PutsTo W.gone_out W.has_failed outbox.old outbox.new sink.old sink.new (values_spelling (view_values values.now.items)) }
 {
     for value in values {
         put_value(outbox, sink, value);
@@ -401,7 +375,7 @@ fn put_values<W: Sink>(outbox: &mut Outbox, sink: &mut W, values: &Vec<Value>)
 #[cycle(encode)]
 #[tactic(auto, using(crate::proofs::OutgoingLemmas::puts_none))]
 fn put_sections<W: Sink>(outbox: &mut Outbox, sink: &mut W, sections: &Vec<Section>)
-    ensures { Puts outbox.old outbox.new (sink_state (W.gone_out sink.old) (W.has_failed sink.old)) (sink_state (W.gone_out sink.new) (W.has_failed sink.new)) (sections_spelling (view_sections sections.now.items)) }
+    ensures { PutsTo W.gone_out W.has_failed outbox.old outbox.new sink.old sink.new (sections_spelling (view_sections sections.now.items)) }
 {
     for section in sections {
         put_section(outbox, sink, section);
@@ -412,7 +386,7 @@ fn put_sections<W: Sink>(outbox: &mut Outbox, sink: &mut W, sections: &Vec<Secti
 #[cycle(encode)]
 #[tactic(auto, using(crate::proofs::EncodeLemmas::puts_section, crate::proofs::EncodeLemmas::puts_bare_section))]
 fn put_section<W: Sink>(outbox: &mut Outbox, sink: &mut W, section: &Section)
-    ensures { Puts outbox.old outbox.new (sink_state (W.gone_out sink.old) (W.has_failed sink.old)) (sink_state (W.gone_out sink.new) (W.has_failed sink.new)) (section_spelling (view_section section.now)) }
+    ensures { PutsTo W.gone_out W.has_failed outbox.old outbox.new sink.old sink.new (section_spelling (view_section section.now)) }
 {
     put_prims(outbox, sink, &section.prims);
     put_values(outbox, sink, &section.values);
@@ -425,7 +399,7 @@ fn put_section<W: Sink>(outbox: &mut Outbox, sink: &mut W, section: &Section)
 #[cycle(encode)]
 #[tactic(auto, using(crate::proofs::EncodeLemmas::puts_annotation))]
 fn put_annotation<W: Sink>(outbox: &mut Outbox, sink: &mut W, contents: &Vec<Content>)
-    ensures { Puts outbox.old outbox.new (sink_state (W.gone_out sink.old) (W.has_failed sink.old)) (sink_state (W.gone_out sink.new) (W.has_failed sink.new)) (annotation_spelling (view_contents contents.now.items)) }
+    ensures { PutsTo W.gone_out W.has_failed outbox.old outbox.new sink.old sink.new (annotation_spelling (view_contents contents.now.items)) }
 {
     put_contents(outbox, sink, contents);
     outbox.put_u8(sink, 0x78);
@@ -435,7 +409,7 @@ fn put_annotation<W: Sink>(outbox: &mut Outbox, sink: &mut W, contents: &Vec<Con
 #[cycle(encode)]
 #[tactic(auto, using(crate::proofs::OutgoingLemmas::puts_none))]
 fn put_contents<W: Sink>(outbox: &mut Outbox, sink: &mut W, contents: &Vec<Content>)
-    ensures { Puts outbox.old outbox.new (sink_state (W.gone_out sink.old) (W.has_failed sink.old)) (sink_state (W.gone_out sink.new) (W.has_failed sink.new)) (contents_spelling (view_contents contents.now.items)) }
+    ensures { PutsTo W.gone_out W.has_failed outbox.old outbox.new sink.old sink.new (contents_spelling (view_contents contents.now.items)) }
 {
     for content in contents {
         put_content(outbox, sink, content);
@@ -446,7 +420,7 @@ fn put_contents<W: Sink>(outbox: &mut Outbox, sink: &mut W, contents: &Vec<Conte
 #[cycle(encode)]
 #[tactic(auto, using(crate::proofs::OutgoingLemmas::puts_both))]
 fn put_content<W: Sink>(outbox: &mut Outbox, sink: &mut W, content: &Content)
-    ensures { Puts outbox.old outbox.new (sink_state (W.gone_out sink.old) (W.has_failed sink.old)) (sink_state (W.gone_out sink.new) (W.has_failed sink.new)) (content_spelling (view_content content.now)) }
+    ensures { PutsTo W.gone_out W.has_failed outbox.old outbox.new sink.old sink.new (content_spelling (view_content content.now)) }
 {
     match content {
         Content::Block { long, bytes } => {
@@ -461,7 +435,7 @@ fn put_content<W: Sink>(outbox: &mut Outbox, sink: &mut W, content: &Content)
 /// The tag and the size of a block.
 #[tactic(auto, using(crate::proofs::EncodeLemmas::puts_long_head, crate::proofs::EncodeLemmas::puts_short_head))]
 fn put_block_head<W: Sink>(outbox: &mut Outbox, sink: &mut W, long: bool, size: usize)
-    ensures { Puts outbox.old outbox.new (sink_state (W.gone_out sink.old) (W.has_failed sink.old)) (sink_state (W.gone_out sink.new) (W.has_failed sink.new)) (block_head long size) }
+    ensures { PutsTo W.gone_out W.has_failed outbox.old outbox.new sink.old sink.new (block_head long size) }
 {
     if long {
         outbox.put_u8(sink, 0x7A);
@@ -475,15 +449,22 @@ fn put_block_head<W: Sink>(outbox: &mut Outbox, sink: &mut W, long: bool, size: 
 /// A length in four bytes.
 #[tactic(auto, using(crate::proofs::EncodeLemmas::puts_length))]
 fn put_length<W: Sink>(outbox: &mut Outbox, sink: &mut W, len: usize)
-    ensures { Puts outbox.old outbox.new (sink_state (W.gone_out sink.old) (W.has_failed sink.old)) (sink_state (W.gone_out sink.new) (W.has_failed sink.new)) (big_bytes 4 len) }
+    ensures { PutsTo W.gone_out W.has_failed outbox.old outbox.new sink.old sink.new (big_bytes 4 len) }
 {
     outbox.put_u32(sink, (len % 0x1_0000_0000) as u32);
 }
 
 /// A plain descriptor as far as its fields.
 #[tactic(auto, using(crate::proofs::EncodeLemmas::puts_plain_head))]
-fn put_plain_head<W: Sink>(outbox: &mut Outbox, sink: &mut W, name: &[u16], suid: u64, flags: u8, fields: &[Field])
-    ensures { Puts outbox.old outbox.new (sink_state (W.gone_out sink.old) (W.has_failed sink.old)) (sink_state (W.gone_out sink.new) (W.has_failed sink.new)) (plain_head name.now suid flags (map view_field fields.now)) }
+fn put_plain_head<W: Sink>(
+    outbox: &mut Outbox,
+    sink: &mut W,
+    name: &[u16],
+    suid: u64,
+    flags: u8,
+    fields: &[Field],
+)
+    ensures { PutsTo W.gone_out W.has_failed outbox.old outbox.new sink.old sink.new (plain_head name.now suid flags (map view_field fields.now)) }
 {
     outbox.put_u8(sink, 0x72);
     put_utf(outbox, sink, name);
@@ -496,7 +477,7 @@ fn put_plain_head<W: Sink>(outbox: &mut Outbox, sink: &mut W, name: &[u16], suid
 /// A proxy descriptor as far as its interfaces.
 #[tactic(auto, using(crate::proofs::EncodeLemmas::puts_proxy_head))]
 fn put_proxy_head<W: Sink>(outbox: &mut Outbox, sink: &mut W, interfaces: &[Vec<u16>])
-    ensures { Puts outbox.old outbox.new (sink_state (W.gone_out sink.old) (W.has_failed sink.old)) (sink_state (W.gone_out sink.new) (W.has_failed sink.new)) (proxy_head (map (λ name. name.items) interfaces.now)) }
+    ensures { PutsTo W.gone_out W.has_failed outbox.old outbox.new sink.old sink.new (proxy_head (map (λ name. name.items) interfaces.now)) }
 {
     outbox.put_u8(sink, 0x7D);
     put_length(outbox, sink, interfaces.len());

@@ -2,7 +2,7 @@
 //! function, so that the check insists on its proof; the statements are in `specs/`, as `Laws`, `ByteLaws` and
 //! `WalkLaws`.
 
-ghost use Rattle.jser_value.specs.Laws.{Exact, NextIsTold};
+ghost use Rattle.jser_value.specs.Laws.{Exact, NextIsTold, StackIsBounded};
 ghost use Rattle.jser_value.specs.ByteLaws.{OneReading, NoPrefix, Spelled};
 ghost use Rattle.jser_value.specs.WalkLaws.{AcceptsExactly, RefusesFirst, NoFaultPassed, CutShort, FieldsAreTold, EachGateHasAVerdict};
 ghost use Rattle.jser_value.specs.GateLimits.{Limited};
@@ -32,6 +32,11 @@ pub fn exact()
 /// save just behind a reference's tag.
 pub fn next_is_told()
     ensures { NextIsTold }
+{}
+
+/// The stack of goals is at least as long as the next field is deep, and at most three times that and two.
+pub fn stack_is_bounded()
+    ensures { StackIsBounded }
 {}
 
 /// A walk over bytes, by any verdict that goes with its gate, accepts exactly the streams that the gate passes.

@@ -4,11 +4,18 @@
 #![tactic(auto)]
 
 mod contents;
+mod depth;
 mod encoder;
-mod outbox;
 pub mod laws;
+mod obeys;
+mod outbox;
+mod parts;
+mod size;
 mod tree;
 
-pub use contents::Contents;
+pub use contents::{Contents, ValueCause, ValueFault};
 pub use encoder::{EncodeFault, encode};
 pub use tree::{Body, ClassPlace, Content, Desc, Field, Prim, Section, Text, TextPlace, Value};
+
+#[cfg(test)]
+mod tests;

@@ -3,7 +3,7 @@
 //! Puts are written one after another without a test between them: after a failure nothing more is done.
 ghost use Rattle.std.specs.Prelude.{◌≡◌, ◌≤◌, ◌++◌, ◌+◌, [], length, take, true, false, OnOk, IfErr, OnErr, MatchBool};
 ghost use Rattle.std.specs.Io.KnownBytes.{Appends};
-ghost use Rattle.jser_value.specs.Outgoing.{Puts, sink_state};
+ghost use Rattle.jser_value.specs.Outgoing.{PutsTo};
 
 use arrayvec::ArrayVec;
 use jser_prim::Sink;
@@ -57,7 +57,7 @@ impl Outbox {
     /// Puts bytes behind those that wait. Where they do not fit, what waits goes out to the sink first.
     #[tactic(auto, using(crate::proofs::OutgoingLemmas::puts_stopped, crate::proofs::OutgoingLemmas::puts_gathered, crate::proofs::OutgoingLemmas::puts_behind))]
     pub(crate) fn put<W: Sink>(&mut self, sink: &mut W, bytes: &[u8])
-        ensures { Puts self.old self.new (sink_state (W.gone_out sink.old) (W.has_failed sink.old)) (sink_state (W.gone_out sink.new) (W.has_failed sink.new)) bytes.now }
+        ensures { PutsTo W.gone_out W.has_failed self.old self.new sink.old sink.new bytes.now }
     {
         if self.failed {
             return;
@@ -72,7 +72,7 @@ impl Outbox {
     /// Hands all that waits to the sink.
     #[tactic(auto, using(crate::proofs::OutgoingLemmas::puts_stopped, crate::proofs::OutgoingLemmas::flushed, crate::proofs::OutgoingLemmas::flushed_some))]
     pub(crate) fn flush<W: Sink>(&mut self, sink: &mut W)
-        ensures puts { Puts self.old self.new (sink_state (W.gone_out sink.old) (W.has_failed sink.old)) (sink_state (W.gone_out sink.new) (W.has_failed sink.new)) [] }
+        ensures puts { PutsTo W.gone_out W.has_failed self.old self.new sink.old sink.new [] }
         ensures empty { self.new.failed ≡ false → self.new.waiting ≡ [] }
     {
         if self.failed {
@@ -94,7 +94,7 @@ impl Outbox {
     #[tactic(auto, using(crate::proofs::OutgoingLemmas::puts_stopped, crate::proofs::OutgoingLemmas::puts_gathered, crate::proofs::OutgoingLemmas::passed, crate::proofs::OutgoingLemmas::passed_some))]
     fn pass<W: Sink>(&mut self, sink: &mut W, bytes: &[u8])
         requires { self.old.failed ≡ false → self.old.waiting ≡ [] }
-        ensures { Puts self.old self.new (sink_state (W.gone_out sink.old) (W.has_failed sink.old)) (sink_state (W.gone_out sink.new) (W.has_failed sink.new)) bytes.now }
+        ensures { PutsTo W.gone_out W.has_failed self.old self.new sink.old sink.new bytes.now }
     {
         if self.failed {
             return;

@@ -1,5 +1,5 @@
 -- What was printed says what was found.
-use Rattle.std.proofs.Common.{◌≡◌, List, ℕ, Some, None, refl}
+use Rattle.std.proofs.Common.{List, ℕ, Some, None, refl}
 use Rattle.std.specs.Prelude.{IfSome}
 use Rattle.std.specs.declared.option.Option.{Option}
 use Rattle.std.specs.Io.KnownBytes.{Appends, Keeps}

@@ -3,6 +3,8 @@
 //! `main` reads the command line and opens the input; `job::run` does the work on what was opened.
 #![tactic(auto)]
 
+ghost use Rattle.std.specs.Prelude.{◌≡◌, ◌⊎◌, ◌≤◌, IfOk, length, vec_len};
+
 mod command;
 mod give;
 mod job;
@@ -17,6 +19,7 @@ use line::{Line, LineFault, line_of};
 use std::alloc::{AllocError, Global};
 use std::env;
 use std::fs::File;
+use std::io::ErrorKind;
 use std::process::ExitCode;
 
 fn main(rt: HostRuntime) -> ExitCode {
@@ -26,10 +29,18 @@ fn main(rt: HostRuntime) -> ExitCode {
 }
 
 /// Reads the command line and does what it asks for.
-fn status_of<W: Sink, E: Sink>(rt: &HostRuntime, output: &mut W, faults: &mut E) -> u8 {
+fn status_of<W: Sink, E: Sink>(rt: &HostRuntime, output: &mut W, faults: &mut E) -> u8
+    ensures { result ≤ 3 }
+{
     let alloc = rt.alloc();
-    let Ok(args) = env::args(rt) else {
-        return tell_misuse(faults, "the command line is not text\n");
+    let args = match env::args(rt) {
+        Ok(args) => args,
+        Err(error) => {
+            return match error.kind() {
+                ErrorKind::OutOfMemory => tell_failure(faults, "out of memory\n"),
+                _ => tell_misuse(faults, "the command line is not text\n"),
+            };
+        }
     };
     let mut owned: Vec<String> = Vec::new(alloc);
     for arg in args {
@@ -52,7 +63,9 @@ fn status_of<W: Sink, E: Sink>(rt: &HostRuntime, output: &mut W, faults: &mut E)
 }
 
 /// The words of a command line, as clap takes them.
-fn borrowed<'a>(alloc: Global, owned: &'a [String]) -> Result<Vec<&'a str>, AllocError> {
+fn borrowed<'a>(alloc: Global, owned: &'a [String]) -> Result<Vec<&'a str>, AllocError>
+    ensures { IfOk result (λ words. vec_len words ≡ length owned.now) }
+{
     let mut words = Vec::new(alloc);
     for word in owned {
         words.push(word.as_str())?;
@@ -67,7 +80,9 @@ fn on_file<W: Sink, E: Sink>(
     file: &str,
     output: &mut W,
     faults: &mut E,
-) -> u8 {
+) -> u8
+    ensures { (result ≡ 0) ⊎ ((result ≡ 1) ⊎ (result ≡ 3)) }
+{
     let alloc = rt.alloc();
     if file == "-" {
         return run(alloc, job, &mut FromRead::new(rt.stdin()), output, faults);
@@ -82,7 +97,9 @@ fn on_file<W: Sink, E: Sink>(
 }
 
 /// Tells what is wrong with the command line, as far as that can be done, and gives the status of it.
-fn tell_misuse<E: Sink>(faults: &mut E, text: &str) -> u8 {
+fn tell_misuse<E: Sink>(faults: &mut E, text: &str) -> u8
+    ensures { result ≡ 2 }
+{
     let _ = give_all(faults, text.as_bytes());
     MISUSED
 }

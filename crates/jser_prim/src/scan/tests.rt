@@ -129,7 +129,11 @@ fn each_two_and_three_bytes_by_table(rt: HostRuntime) {
             for third in 0..=u8::MAX {
                 let triple = [first, second, third];
                 let right = right_by_table(&triple);
-                assert_eq!(rt; pushed_alone(&triple), right, "{first:02x} {second:02x} {third:02x}");
+                assert_eq!(rt;
+                    pushed_alone(&triple),
+                    right,
+                    "{first:02x} {second:02x} {third:02x}"
+                );
                 // Where a byte before it is wrong already, no third one is looked at.
                 if right < 2 {
                     break;

@@ -1,4 +1,4 @@
-use super::{text_bytes, units_of};
+use super::{spell_unit, text_bytes, units_of};
 use std::test::Fail;
 
 #[test]
@@ -10,6 +10,20 @@ fn spell_six_units(rt: HostRuntime) -> Result<(), Fail> {
     ];
     assert_eq!(rt; bytes.as_slice(), spelling.as_slice());
     Ok(())
+}
+
+#[test]
+fn spell_each_form(rt: HostRuntime) {
+    let mut buffer = [0; 3];
+    for (unit, spelling) in [
+        (0x0000, &[0xC0, 0x80][..]),
+        (0x0061, &[0x61]),
+        (0x00E9, &[0xC3, 0xA9]),
+        (0x4E00, &[0xE4, 0xB8, 0x80]),
+        (0xD800, &[0xED, 0xA0, 0x80]),
+    ] {
+        assert_eq!(rt; spell_unit(unit, &mut buffer), spelling, "{unit:04x}");
+    }
 }
 
 #[test]

@@ -1,4 +1,4 @@
-use Rattle.std.proofs.Common.{◌≡◌, ◌+◌, ◌≤◌, length}
+use Rattle.std.proofs.Common.{◌+◌, ◌≤◌, length}
 use Rattle.jser_check.specs.Reading.{Reads}
 use Rattle.jser_check.proofs.bytes.check_within_cap.Given as goal
 

@@ -1,4 +1,3 @@
-use Rattle.std.proofs.Common.{subst, sym}
 use Rattle.jser_check.proofs.ReaderLemmas.{read_accepted, read_reported, read_refused, failed_refused}
 use Rattle.jser_check.proofs.reader.check_reader.Goals as goal
 

@@ -6,4 +6,4 @@ use Rattle.jser_value.proofs.encoder.put_units.Given as goal
 abbrev pub invariant-loop-unit : goal.invariant-loop-unit
 invariant-loop-unit g l =
     Puts l.fn.outbox l.outbox (sink_state (g.W.Sink.gone_out l.fn.sink) (g.W.Sink.has_failed l.fn.sink)) (sink_state (g.W.Sink.gone_out l.sink) (g.W.Sink.has_failed l.sink))
-      (modified_utf8 (take l.unit-index l.units))
+    (modified_utf8 (take l.unit-index l.units))

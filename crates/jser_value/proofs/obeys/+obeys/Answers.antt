@@ -1,0 +1,45 @@
+use Rattle.std.proofs.Common.{map, arith, rules}
+use Rattle.std.proofs.lemmas.Grind.{common_steps}
+use Rattle.jser_value.proofs.KeepLemmas.{class_plain, class_proxy}
+use Rattle.jser_table.specs.Entries.{chain_at}
+use Rattle.jser_value.proofs.ObeysLemmas.{sections_next, sections_failed, judged_alone, judged_failed}
+use Rattle.jser_value.proofs.obeys.+obeys.Goals as goal
+use Rattle.jser_value.specs.declared.tree.Desc.{the_lemmas}
+use Rattle.jser_value.specs.declared.tree.Section.{the_lemmas as section_lemmas}
+use Rattle.jser_value.specs.View.{view_field, view_prim, view_values, view_section, view_contents, view_class_place, view_desc}
+
+pub check_desc-returns-in_ok-layer-in-Plain-clause-class : goal.check_desc-returns-in_ok-layer-in-Plain-clause-class
+check_desc-returns-in_ok-layer-in-Plain-clause-class t c =
+    class_plain c.args.table.now.entries c.assign.new.table.entries c.check_fields.new.table.entries c.check_notes.new.table.entries
+    c.check_superclass.new.table.entries c.close.new.self.entries c.in_ok-number-in-Plain.number c.in_ok-above-in-Plain.above c.in_ok-layer-in-Plain.layer
+    c.in-Plain.name.items c.in-Plain.suid c.in-Plain.flags (map view_field c.in-Plain.fields.items) (view_contents c.in-Plain.notes.items)
+    (view_class_place c.in-Plain.parent) (view_desc c.args.desc.now)
+    (search rules) (search rules) (search rules) (search rules) (search rules) (search rules) (search rules) (search rules) (search (rules, the_lemmas))
+
+pub check_desc-returns-in_ok-above-in-Proxy-clause-class : goal.check_desc-returns-in_ok-above-in-Proxy-clause-class
+check_desc-returns-in_ok-above-in-Proxy-clause-class t c =
+    class_proxy c.args.table.now.entries c.assign-in-Proxy.new.table.entries c.check_notes-in-Proxy.new.table.entries
+    c.check_superclass-in-Proxy.new.table.entries c.close-in-Proxy.new.self.entries c.in_ok-number-in-Proxy.number c.in_ok-above-in-Proxy.above c.proxy_layer.result
+    (map (λ name. name.items) c.in-Proxy.interfaces.items) (view_contents c.in-Proxy.notes.items)
+    (view_class_place c.in-Proxy.parent) (view_desc c.args.desc.now)
+    (search rules) (search rules) (search rules) (search rules) (search rules) (search rules) (search rules) (search (rules, the_lemmas))
+
+pub check_sections-sections-preserved : goal.check_sections-sections-preserved
+check_sections-sections-preserved t c =
+    sections_next c.sections.table.entries c.check_section.new.table.entries c.args.number c.sections.index
+    (chain_at c.args.table.now.entries c.args.number) c.args.sections.now.items c.section-item.result _ _ c.sections.invariant
+    (search rules) (search rules) (search rules) (search rules)
+
+pub check_alone-returns-in-Some : goal.check_alone-returns-in-Some
+check_alone-returns-in-Some t c =
+    judged_alone c.check_notes.result c.args.table.now.entries c.check_notes.new.table.entries (map view_prim c.args.section.now.prims.items)
+    (view_values c.args.section.now.values.items) (view_contents c.in-Some.notes.items) (view_section c.args.section.now)
+    (search (rules, section_lemmas)) (grind (arith, common_steps)) (search rules)
+
+pub check_sections-returns-in_err-check_section : goal.check_sections-returns-in_err-check_section
+check_sections-returns-in_err-check_section t c =
+    judged_failed c.from_residual-in_err-check_section.result c.in_err-check_section.field-0.0 _ _ _ _ _ _
+    (search rules) c.in_err-check_section.ensures
+    (λ fails. sections_failed c.sections.table.entries c.args.number c.sections.index
+    (chain_at c.args.table.now.entries c.args.number) c.args.sections.now.items c.section-item.result _ _ c.sections.invariant
+    (search rules) (search rules) fails)

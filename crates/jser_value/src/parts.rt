@@ -1,0 +1,155 @@
+//! Tests of the parts of a tree that need no table: texts, names, flags, handles, raw values and blocks.
+//! `specs/Parts.antt` has the rules.
+ghost use Rattle.std.specs.Prelude.{◌≡◌, map, is_some, option_map, IfOk};
+ghost use Rattle.std.specs.List.{list_all};
+ghost use Rattle.jser_value.specs.Codes.{prim_code_of, is_object_code, letter_of, object_count};
+ghost use Rattle.jser_value.specs.Parts.{elements_of_kind};
+ghost use Rattle.jser_value.specs.PartTests.{obeys_text, obeys_class_name, obeys_class_names, obeys_flags, is_handle, is_prim_of, obeys_prims, obeys_block};
+ghost use Rattle.jser_value.specs.TableAfter.{codes_of};
+ghost use Rattle.jser_value.specs.View.{view_prim, view_field};
+
+use crate::size::after_units;
+use crate::tree::{Field, Prim};
+use jser_table::{BodyKind, LayerKind, layer_kind_of};
+use std::alloc::{AllocError, Global};
+
+/// The first handle of an epoch.
+const BASE_WIRE_HANDLE: u32 = 0x7E0000;
+
+/// Whether the modified UTF-8 of a text has a length of 2 bytes, or of 8 bytes and below 2^63.
+pub(crate) fn is_text(long: bool, units: &[u16]) -> bool
+    ensures { result ≡ obeys_text long units.now }
+{
+    let most = if long { 0x7FFF_FFFF_FFFF_FFFF } else { 0xFFFF };
+    after_units(most, units).is_some()
+}
+
+/// Whether the name is that of a class: none that begins with `[` and is no array name.
+pub(crate) fn is_class_name(name: &[u16]) -> bool
+    ensures { result ≡ obeys_class_name name.now }
+{
+    is_text(false, name) && layer_kind_of(name).is_some()
+}
+
+/// Whether each of the names is that of a class.
+pub(crate) fn are_class_names(names: &[Vec<u16>]) -> bool
+    ensures { result ≡ obeys_class_names (map (λ name. name.items) names.now) }
+{
+    for name in names {
+        if !is_class_name(name) {
+            return false;
+        }
+    }
+    true
+}
+
+/// Whether the flags have no bit of E0, and not SC_SERIALIZABLE together with SC_EXTERNALIZABLE.
+pub(crate) fn is_flags(flags: u8) -> bool
+    ensures { result ≡ obeys_flags flags }
+{
+    flags < 32 && (flags / 2 % 2 == 0 || flags / 4 % 2 == 0)
+}
+
+/// Whether the handle of this number has four bytes.
+pub(crate) fn has_handle(number: u32) -> bool
+    ensures { result ≡ is_handle number }
+{
+    number <= u32::MAX - BASE_WIRE_HANDLE
+}
+
+/// Whether the type code is that of a primitive.
+pub(crate) fn is_primitive(code: u8) -> bool
+    ensures { result ≡ is_some (prim_code_of code) }
+{
+    matches!(code, b'B' | b'C' | b'D' | b'F' | b'I' | b'J' | b'S' | b'Z')
+}
+
+/// Whether the type code is `[` or `L`.
+pub(crate) fn is_object(code: u8) -> bool
+    ensures { result ≡ is_object_code code }
+{
+    matches!(code, b'[' | b'L')
+}
+
+/// Whether the raw value is of the type with this code.
+fn is_prim(code: u8, prim: Prim) -> bool
+    ensures { result ≡ is_prim_of code (view_prim prim) }
+{
+    let own_code = match prim {
+        Prim::B(_) => b'B',
+        Prim::C(_) => b'C',
+        Prim::D(_) => b'D',
+        Prim::F(_) => b'F',
+        Prim::I(_) => b'I',
+        Prim::J(_) => b'J',
+        Prim::S(_) => b'S',
+        Prim::Z(_) => b'Z',
+    };
+    code == own_code
+}
+
+/// Whether each of the raw values is of the type with this code.
+pub(crate) fn are_prims_of(code: u8, prims: &[Prim]) -> bool
+    ensures { result ≡ list_all (is_prim_of code) (map view_prim prims.now) }
+{
+    for prim in prims {
+        if !is_prim(code, *prim) {
+            return false;
+        }
+    }
+    true
+}
+
+/// Whether these are the raw values of a class with these type codes: one for each primitive, in order.
+pub(crate) fn are_prims(codes: &[u8], prims: &[Prim]) -> bool
+    ensures { result ≡ obeys_prims codes.now (map view_prim prims.now) }
+{
+    let mut rest = prims;
+    for code in codes {
+        if is_primitive(*code) {
+            match rest {
+                [prim, after @ ..] if is_prim(*code, *prim) => rest = after,
+                _ => return false,
+            }
+        }
+    }
+    rest.is_empty()
+}
+
+/// How many of the type codes stand for a value.
+pub(crate) fn count_values(codes: &[u8]) -> usize
+    ensures { result ≡ object_count codes.now }
+{
+    let mut count = 0usize;
+    for code in codes {
+        if !is_primitive(*code) {
+            count += 1;
+        }
+    }
+    count
+}
+
+/// Whether the size of block data has 1 byte, or 4 bytes with the highest bit 0.
+pub(crate) fn is_block(long: bool, bytes: &[u8]) -> bool
+    ensures { result ≡ obeys_block long bytes.now }
+{
+    bytes.len() < if long { 0x8000_0000 } else { 0x100 }
+}
+
+/// The type code of the elements of an array of this kind, where they are raw values.
+pub(crate) fn element_code_of(kind: LayerKind) -> Option<u8>
+    ensures { result ≡ option_map letter_of (elements_of_kind kind) }
+{
+    match kind {
+        LayerKind::Array(BodyKind::Prim(code)) if is_primitive(code) => Some(code),
+        _ => None,
+    }
+}
+
+/// The type codes of the fields.
+#[tactic(auto, using(crate::proofs::PartLemmas::codes_of_fields))]
+pub(crate) fn codes_of(alloc: Global, fields: &[Field]) -> Result<Vec<u8>, AllocError>
+    ensures { IfOk result (λ codes. codes.items ≡ codes_of (map view_field fields.now)) }
+{
+    fields.iter().map(|field| field.code).collect(alloc)
+}

@@ -1,0 +1,5 @@
+//! Tests of what no clause says.
+
+mod contents;
+mod encode;
+mod trees;

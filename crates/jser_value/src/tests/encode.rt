@@ -1,0 +1,148 @@
+//! What goes out of worked streams, to sinks that take all, take little, fail and take nothing.
+ghost use Rattle.std.specs.Prelude.{true};
+
+use super::trees::{self, Build};
+use crate::{Content, Contents, EncodeFault, encode};
+use jser_prim::{Failed, Sink, ToWrite};
+use std::alloc::Global;
+use std::io::{self, Write};
+use std::process::Abort;
+use std::test::Fail;
+
+/// Keeps what it is given, so many bytes a call, and fails where there is no room left.
+#[derive(Drop)]
+struct Page {
+    bytes: Vec<u8>,
+    most: usize,
+    room: usize,
+    calls: usize,
+    failed: bool,
+}
+
+impl Page {
+    fn new(alloc: Global, most: usize, room: usize) -> Page {
+        Page {
+            bytes: Vec::new(alloc),
+            most,
+            room,
+            calls: 0,
+            failed: false,
+        }
+    }
+}
+
+impl Sink for Page {
+    ghost has_failed = { λ s. s.failed };
+
+    fn give(&mut self, bytes: &[u8]) -> Result<usize, Failed> {
+        if bytes.is_empty() {
+            return Ok(0);
+        }
+        self.calls = self.calls.saturating_add(1);
+        let count = self.most.min(self.room).min(bytes.len());
+        let (front, _) = bytes.split_at(count);
+        if count == 0 || self.bytes.extend_from_slice(front).is_err() {
+            self.failed = true;
+            return Err(Failed);
+        }
+        self.room -= count;
+        Ok(count)
+    }
+
+    fn failed(&self) -> bool {
+        self.failed
+    }
+}
+
+/// Takes so many bytes, and then none.
+#[derive(Drop)]
+struct Stuck {
+    room: usize,
+}
+
+impl Write for Stuck {
+    fn write(&mut self, bytes: &[u8]) -> io::Result<usize> {
+        let count = self.room.min(bytes.len());
+        self.room -= count;
+        Ok(count)
+    }
+
+    fn flush(&mut self) -> io::Result<()> {
+        Ok(())
+    }
+}
+
+/// The contents of a worked stream.
+fn contents_of(alloc: Global, list: Build) -> Result<Contents, Fail> {
+    match Contents::new(alloc, list?) {
+        Ok(contents) => Ok(contents),
+        Err(fault) => Err(Fail::from(fault.cause)),
+    }
+}
+
+/// The stream of these contents is these bytes, however the sink takes them.
+fn writes(rt: &(impl Abort + AllocGlobal), list: Build, bytes: &[u8]) -> Result<(), Fail> {
+    let contents = contents_of(rt.alloc(), list)?;
+    for most in [1, 1000] {
+        let mut page = Page::new(rt.alloc(), most, 10_000);
+        let count = encode(&contents, &mut page)?;
+        assert!(rt; page.bytes.as_slice() == bytes);
+        assert_eq!(rt; count, bytes.len() as u64);
+    }
+    Ok(())
+}
+
+#[test]
+fn worked_streams(rt: HostRuntime) -> Result<(), Fail> {
+    let alloc = rt.alloc();
+    writes(&rt, Ok(Vec::new(alloc)), b"\xAC\xED\x00\x05")?;
+    writes(&rt, trees::abc_null_ref(alloc), trees::ABC_NULL_REF)?;
+    writes(&rt, trees::linked_pair(alloc), trees::LINKED_PAIR)?;
+    writes(&rt, trees::int_array(alloc), trees::INT_ARRAY)?;
+    writes(&rt, trees::enum_constant(alloc), trees::ENUM_CONSTANT)?;
+    writes(&rt, trees::proxy(alloc), trees::PROXY)?;
+    writes(&rt, trees::reset_epochs(alloc), trees::RESET_EPOCHS)?;
+    writes(
+        &rt,
+        trees::external_over_serial(alloc),
+        trees::EXTERNAL_OVER_SERIAL,
+    )?;
+    writes(&rt, trees::array_list(alloc), trees::ARRAY_LIST)?;
+    writes(&rt, trees::superclass_first(alloc), trees::SUPERCLASS_FIRST)
+}
+
+/// A writer that fails, or takes no more, behind any number of bytes: just these went out.
+#[test]
+fn write_fails_anywhere(rt: HostRuntime) -> Result<(), Fail> {
+    let contents = contents_of(rt.alloc(), trees::linked_pair(rt.alloc()))?;
+    for written in 0..69 {
+        let fault = Err(EncodeFault::Write {
+            written: written as u64,
+        });
+        let mut page = Page::new(rt.alloc(), 7, written);
+        assert!(rt; encode(&contents, &mut page) == fault, "after {written}");
+        let (front, _) = trees::LINKED_PAIR.split_at(written);
+        assert!(rt; page.bytes.as_slice() == front);
+        let mut stuck = ToWrite::new(Stuck { room: written });
+        assert!(rt; encode(&contents, &mut stuck) == fault, "after {written}");
+    }
+    Ok(())
+}
+
+/// Small parts go out together, and a long block as it is.
+#[test]
+fn sensible_pieces(rt: HostRuntime) -> Result<(), Fail> {
+    let contents = contents_of(rt.alloc(), trees::linked_pair(rt.alloc()))?;
+    let mut page = Page::new(rt.alloc(), 1000, 1000);
+    encode(&contents, &mut page)?;
+    assert_eq!(rt; page.calls, 1);
+    let block = Content::Block {
+        long: true,
+        bytes: vec![in rt.alloc(); 7u8; 5000]?,
+    };
+    let contents = contents_of(rt.alloc(), Ok(vec![in rt.alloc(); block]?))?;
+    let mut page = Page::new(rt.alloc(), 10_000, 10_000);
+    assert_eq!(rt; encode(&contents, &mut page)?, 5009);
+    assert_eq!(rt; page.calls, 2);
+    Ok(())
+}
