@@ -1,15 +1,17 @@
 -- Filters: reading a text piece by piece, and what the kept pieces say.
 use denote.Bor.{Bor}
-use Rattle.std.proofs.Common.{◌≡◌, ℕ, zero, suc, ◌+◌, ◌<◌, Bool, true, false, ◌||◌, cond, List, [], ◌∷◌, ◌++◌, length, map, take, get_or, slice_get, not, position, Option, Some, None, refl, ap, sym, ◌∙◌, subst, arith, append_assoc, length-append}
-use Rattle.std.specs.List.{list_any, prefix_len}
+use Rattle.std.proofs.Common.{◌≡◌, ℕ, ◌+◌, ◌<◌, false, List, [], ◌∷◌, ◌++◌, length, map, take, get_or, slice_get, ◌==◌, Option, Some, None, refl, ap, sym, ◌∙◌, subst, arith, append_assoc, length-append}
+use Rattle.std.specs.List.{list_any}
+use Rattle.std.proofs.lemmas.List.Folds.{list_any-append}
 use Rattle.std.proofs.lemmas.List.{take_at, length-map, map_more}
 use Rattle.jser_filter.specs.declared.fault.FilterFault.{FilterFault}
+use Rattle.jser_filter.specs.declared.fault.FilterCause.TheVariants as cause
+use Rattle.std.proofs.lemmas.List.Splits.{length-slice_split}
 use Rattle.jser_filter.specs.declared.piece.Piece.{Piece as KeptPiece}
 use Rattle.jser_filter.specs.declared.piece.Piece.TheVariants as kept
 use Rattle.jser_filter.specs.Cuts.{parts, parts_with}
 use Rattle.jser_filter.specs.Pieces.{Piece, pieces_of, read_piece, view_piece, IsCauseOf}
-use Rattle.jser_filter.specs.Filters.{IsFirstFault, AreSound, is_faulty, later_or, value_in, last_value, limits_of, limits_after, rejects, verdict_at}
-use Rattle.jser_filter.specs.declared.verdict.Verdict.TheVariants as verdict
+use Rattle.jser_filter.specs.Filters.{IsFirstFault, AreSound, is_faulty, later_or, value_in, last_value, limits_of, limits_after}
 use Rattle.jser_filter.specs.declared.limit.Limit.{Limit}
 use Rattle.jser_filter.specs.declared.limit.Limit.TheVariants as limit
 use Rattle.jser_filter.specs.declared.limit.Limits.{Limits}
@@ -28,19 +30,26 @@ left_after : (text : List ℕ) (part : Bor (List ℕ)) (rest : Option (Bor (List
 left_after text part None is = ap (map read_piece) is
 left_after text part (Some rest) is = ap (map read_piece) is
 
--- kept pieces are sound
-pub view_sound : (pieces : List KeptPiece) → AreSound (map view_piece pieces)
-view_sound [] = refl
-view_sound (kept.Empty ∷ pieces) = view_sound pieces
-view_sound (kept.Limit limit value ∷ pieces) = view_sound pieces
-view_sound (kept.Pattern pattern ∷ pieces) = view_sound pieces
+-- a kept piece is sound
+pub view_piece_sound : (piece : KeptPiece) → is_faulty (view_piece piece) ≡ false
+view_piece_sound kept.Empty = refl
+view_piece_sound (kept.Limit limit value) = refl
+view_piece_sound (kept.Pattern pattern) = refl
 
-pub piece_read : (whole : List Piece) (old new : List KeptPiece) (text : List ℕ) (part : Bor (List ℕ)) (rest : Option (Bor (List ℕ))) → map view_piece old ++ pieces_of text ≡ whole → parts 0x3B text ≡ parts_with 0x3B (part, rest) → map view_piece new ≡ map view_piece old ++ read_piece part.now ∷ [] → map view_piece new ++ left_pieces rest ≡ whole
-piece_read whole old new text part rest is split added =
-    ap (λ front. front ++ left_pieces rest) added
-    ∙ append_assoc (map view_piece old) (read_piece part.now ∷ []) (left_pieces rest)
-    ∙ ap (λ back. map view_piece old ++ back) (sym (left_after text part rest split))
-    ∙ is
+-- what has been read and what is left are the pieces of the whole text
+pub record HasRead (whole old : List Piece) (rest : Option (Bor (List ℕ))) : Type 0 where
+  pub are : old ++ left_pieces rest ≡ whole
+  pub sound : AreSound old
+
+pub piece_read : (whole old new : List Piece) (text part : Bor (List ℕ)) (rest : Option (Bor (List ℕ))) → HasRead whole old (Some text) → parts 0x3B text.now ≡ parts_with 0x3B (part, rest) → new ≡ old ++ read_piece part.now ∷ [] → is_faulty (read_piece part.now) ≡ false → HasRead whole new rest
+piece_read whole old new text part rest read split added sound = record {
+  are =
+      ap (λ front. front ++ left_pieces rest) added
+      ∙ append_assoc old (read_piece part.now ∷ []) (left_pieces rest)
+      ∙ ap (λ back. old ++ back) (sym (left_after text.now part rest split))
+      ∙ read.are;
+  sound = ap (list_any is_faulty) added ∙ list_any-append is_faulty old (read_piece part.now ∷ []) ∙ rw (read.sound, sound) refl;
+}
 
 slice_get-at : (front : List Piece) (piece : Piece) (back : List Piece) → slice_get (front ++ piece ∷ back) (length front) ≡ Some piece
 slice_get-at [] piece back = refl
@@ -49,21 +58,19 @@ slice_get-at (first ∷ front) piece back = slice_get-at front piece back
 some_injective : (x y : Piece) → Some x ≡ Some y → x ≡ y
 some_injective x y e = cc
 
-pub fault_found : (whole : List Piece) (old : List KeptPiece) (text : List ℕ) (part : Bor (List ℕ)) (rest : Option (Bor (List ℕ))) (fault : FilterFault) → map view_piece old ++ pieces_of text ≡ whole → parts 0x3B text ≡ parts_with 0x3B (part, rest) → fault.pattern ≡ length old → IsCauseOf (read_piece part.now) fault.cause → IsFirstFault whole fault
-fault_found whole old text part rest fault is split pattern cause =
-    let front : List Piece = map view_piece old in
-    let split_whole : front ++ read_piece part.now ∷ left_pieces rest ≡ whole = ap (λ back. front ++ back) (sym (left_after text part rest split)) ∙ is in
-    let place : fault.pattern ≡ length front = pattern ∙ sym (length-map old view_piece) in
+pub fault_found : (whole old : List Piece) (text part : Bor (List ℕ)) (rest : Option (Bor (List ℕ))) (fault : FilterFault) → HasRead whole old (Some text) → parts 0x3B text.now ≡ parts_with 0x3B (part, rest) → fault.pattern ≡ length old → IsCauseOf (read_piece part.now) fault.cause → IsFirstFault whole fault
+fault_found whole old text part rest fault read split place cause =
+    let split_whole : old ++ read_piece part.now ∷ left_pieces rest ≡ whole = ap (λ back. old ++ back) (sym (left_after text.now part rest split)) ∙ read.are in
     record {
-      inside = omega (arith, ap length split_whole, length-append front (read_piece part.now ∷ left_pieces rest));
+      inside = omega (arith, ap length split_whole, length-append old (read_piece part.now ∷ left_pieces rest));
       here = λ piece found.
           let same : read_piece part.now ≡ piece =
-          some_injective (read_piece part.now) piece (sym (slice_get-at front (read_piece part.now) (left_pieces rest)) ∙ ap (λ i. slice_get (front ++ read_piece part.now ∷ left_pieces rest) i) (sym place) ∙ ap (λ pieces. slice_get pieces fault.pattern) split_whole ∙ found)
+          some_injective (read_piece part.now) piece (sym (slice_get-at old (read_piece part.now) (left_pieces rest)) ∙ ap (λ i. slice_get (old ++ read_piece part.now ∷ left_pieces rest) i) (sym place) ∙ ap (λ pieces. slice_get pieces fault.pattern) split_whole ∙ found)
           in
           subst (λ (p : Piece). IsCauseOf p fault.cause) same cause;
       before = ap (λ pieces. list_any is_faulty (take fault.pattern pieces)) (sym split_whole)
-          ∙ ap (list_any is_faulty) (take_at front (read_piece part.now ∷ left_pieces rest) fault.pattern (sym place))
-          ∙ view_sound old;
+          ∙ ap (list_any is_faulty) (take_at old (read_piece part.now ∷ left_pieces rest) fault.pattern (sym place))
+          ∙ read.sound;
     }
 
 -- limits
@@ -97,18 +104,14 @@ limits_more pieces index piece limits next so_far inside here is =
     in
     is ∙ ap (λ l. limits_after l (view_piece piece)) so_far ∙ sym (limits_of-push (map view_piece (take index pieces)) (view_piece piece)) ∙ sym (ap limits_of more)
 
--- the first match
+-- where there is no memory for the text as a whole
 
-prefix_len-map : (test : Piece → Bool) (pieces : List KeptPiece) → prefix_len (λ piece. not (test (view_piece piece))) pieces ≡ prefix_len (λ piece. not (test piece)) (map view_piece pieces)
-prefix_len-map test [] = refl
-prefix_len-map test (piece ∷ pieces) = ap (λ n. cond (not (test (view_piece piece))) (1 + n) 0) (prefix_len-map test pieces)
+some_pieces : (text : List ℕ) → 0 < length (pieces_of text)
+some_pieces text = omega (arith, length-map (parts 0x3B text) read_piece, length-slice_split (λ unit. unit == 0x3B) text)
 
-position_view : (test : Piece → Bool) (pieces : List KeptPiece) → position (λ piece. test (view_piece piece)) pieces ≡ position test (map view_piece pieces)
-position_view test pieces = rw (prefix_len-map test pieces, length-map pieces view_piece) refl
-
-pub undecided : (test : Piece → Bool) (pieces : List KeptPiece) → None ≡ position (λ piece. test (view_piece piece)) pieces → verdict.Undecided ≡ verdict_at (map view_piece pieces) (position test (map view_piece pieces))
-undecided test pieces is = ap (verdict_at (map view_piece pieces)) (is ∙ position_view test pieces)
-
-pub decided : (test : Piece → Bool) (pieces : List KeptPiece) (index : ℕ) (told : Bool) → Some index ≡ position (λ piece. test (view_piece piece)) pieces → told ≡ rejects (slice_get (map view_piece pieces) index) → cond told (verdict.Rejected index) (verdict.Allowed index) ≡ verdict_at (map view_piece pieces) (position test (map view_piece pieces))
-decided test pieces index told is says =
-    ap (λ b. cond b (verdict.Rejected index) (verdict.Allowed index)) says ∙ ap (verdict_at (map view_piece pieces)) (is ∙ position_view test pieces)
+pub fault_at_first : (fault : FilterFault) → fault.pattern ≡ 0 → fault.cause ≡ cause.OutOfMemory → (text : List ℕ) → IsFirstFault (pieces_of text) fault
+fault_at_first fault pattern is text = record {
+  inside = omega (arith, some_pieces text);
+  here = λ piece found. rw is tt;
+  before = rw pattern refl;
+}

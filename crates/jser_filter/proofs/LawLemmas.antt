@@ -1,21 +1,18 @@
 -- The laws of filter texts: texts without a `/`, and texts that are appended.
-use Rattle.std.proofs.Common.{◌≡◌, ℕ, zero, suc, ◌+◌, ◌<◌, ◌≤◌, Bool, true, false, ◌==◌, ◌||◌, ◌&&◌, not, cond, ltb, List, [], ◌∷◌, ◌++◌, length, map, take, drop, slice_get, position, Option, Some, None, option_map, refl, ap, sym, ◌∙◌, subst, arith, length-append}
-use Rattle.std.specs.List.{list_any, prefix_len, slice_split, onto_first}
-use Rattle.std.proofs.lemmas.Bool.{lt-ltb, le-ltb, ltb-true, ltb-false, eq-eqb}
+use Rattle.std.proofs.Common.{◌≡◌, ℕ, zero, suc, ◌+◌, ◌<◌, Bool, true, false, ◌==◌, ◌||◌, not, cond, ltb, List, [], ◌∷◌, ◌++◌, length, map, slice_get, position, Option, Some, None, refl, ap, ◌∙◌, arith, length-append}
+use Rattle.std.specs.List.{list_any, prefix_len, onto_first}
+use Rattle.std.proofs.lemmas.Bool.{lt-ltb, le-ltb, ltb-true, eq-eqb}
 use Rattle.std.proofs.lemmas.List.{map-append}
 use Rattle.std.proofs.lemmas.List.Splits.{length-slice_split}
 use Rattle.jser_table.specs.Names.{ElementOf, element, primitive_element, malformed_element, element_of}
 use Rattle.jser_filter.specs.declared.limit.Limit.{Limit}
-use Rattle.jser_filter.specs.declared.fault.FilterCause.TheVariants as cause
-use Rattle.jser_filter.specs.declared.verdict.Verdict.{Verdict}
 use Rattle.jser_filter.specs.declared.verdict.Verdict.TheVariants as verdict
 use Rattle.jser_filter.specs.Cuts.{cut, parts}
-use Rattle.jser_filter.specs.Patterns.{name_pattern}
 use Rattle.jser_filter.specs.Limits.{limit_named, limit_value}
 use Rattle.jser_filter.specs.Tables.{ModuleTable, module_of_class}
-use Rattle.jser_filter.specs.Pieces.{Piece, empty_piece, limit_piece, pattern_piece, faulty_piece, limit_of, read_limit, lacks_package, read_name, read_in_module, read_named, read_pattern, read_cut, read_piece, pieces_of}
-use Rattle.jser_filter.specs.Filters.{FilterView, is_in_module, matches_pattern, matches_piece, first_match, rejects, verdict_at, verdict_by, verdict_of}
-use Rattle.jser_filter.specs.Laws.{verdict_with, NeedsNoTable, KeepsDecided}
+use Rattle.jser_filter.specs.Pieces.{Piece, empty_piece, limit_piece, pattern_piece, faulty_piece, limit_of, lacks_package, read_name, read_named, read_pattern, read_cut, read_piece, pieces_of}
+use Rattle.jser_filter.specs.Filters.{matches_piece, rejects, verdict_at, verdict_by, verdict_of}
+use Rattle.jser_filter.specs.Laws.{NeedsNoTable, KeepsDecided}
 
 -- appended pieces
 
@@ -61,7 +58,7 @@ decided_append test front back true is decided =
     let inside : place < length front = ltb-true place (length front) is in
     let same : prefix_len (λ p. not (test p)) (front ++ back) ≡ place = prefix_len-append (λ p. not (test p)) front back inside in
     let found : position test (front ++ back) ≡ Some place =
-        rw (same, lt-ltb place (length (front ++ back)) (omega (arith, length-append front back))) refl
+    rw (same, lt-ltb place (length (front ++ back)) (omega (arith, length-append front back))) refl
     in
     ap (verdict_at (front ++ back)) found
     ∙ ap (λ o. cond (rejects o) (verdict.Rejected place) (verdict.Allowed place)) (slice_get-append front back place inside)

@@ -1,6 +1,6 @@
 -- What a filter says of a name and of limits (`ObjectInputFilter.Config.createFilter`: "The patterns are
 -- checked left to right; the first match decides" and the last value of a limit holds).
-use Rattle.std.specs.Prelude.{ℕ, ◌≡◌, ◌<◌, Bool, true, false, ◌&&◌, if◌then◌else◌, List, [], ◌∷◌, length, map, take, slice_get, position, Option, Some, None}
+use Rattle.std.specs.Prelude.{ℕ, ◌≡◌, ◌<◌, Bool, true, false, ◌&&◌, if◌then◌else◌, List, [], ◌∷◌, length, take, slice_get, position, Option, Some, None}
 use Rattle.std.specs.List.{list_any}
 use Rattle.std.specs.Str.{bytes_eq}
 use Rattle.jser_table.specs.Names.{ElementOf, element, primitive_element, malformed_element, element_of}

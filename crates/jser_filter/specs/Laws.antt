@@ -1,11 +1,11 @@
 -- What an operator may rely on when he writes or extends a filter's text.
-use Rattle.std.specs.Prelude.{ℕ, ◌≡◌, ◌≢◌, ◌==◌, Bool, false, List, [], ◌∷◌, ◌++◌}
+use Rattle.std.specs.Prelude.{ℕ, ◌≡◌, ◌≢◌, ◌==◌, false, List, ◌∷◌, ◌++◌}
 use Rattle.std.specs.List.{list_any}
 use Rattle.jser_filter.specs.declared.verdict.Verdict.{Verdict}
 use Rattle.jser_filter.specs.declared.verdict.Verdict.TheVariants as verdict
 use Rattle.jser_filter.specs.Tables.{ModuleTable}
 use Rattle.jser_filter.specs.Pieces.{pieces_of}
-use Rattle.jser_filter.specs.Filters.{FilterView, verdict_of}
+use Rattle.jser_filter.specs.Filters.{verdict_of}
 
 -- the verdict that a text, with a table of modules, gives a name
 abbrev pub verdict_with : List ℕ → ModuleTable → List ℕ → Verdict

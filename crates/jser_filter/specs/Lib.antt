@@ -5,3 +5,6 @@ pub mod Pieces
 pub mod Tables
 pub mod Filters
 pub mod Laws
+pub mod Places
+pub mod Index
+pub mod Faults

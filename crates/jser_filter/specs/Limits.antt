@@ -1,6 +1,6 @@
 -- Limits of a filter: an optional sign and decimal digits, at least 0 and at most 2^63 - 1
 -- (`java.lang.Long.parseLong`, and "The limit must be positive").
-use Rattle.std.specs.Prelude.{ℕ, ◌+◌, ◌-◌, ◌*◌, Bool, true, false, ◌==◌, ◌&&◌, nat_le, if◌then◌else◌, List, [], ◌∷◌, fold, codes, Option, Some, None}
+use Rattle.std.specs.Prelude.{ℕ, ◌+◌, ◌-◌, ◌*◌, Bool, false, ◌==◌, ◌&&◌, nat_le, if◌then◌else◌, List, [], ◌∷◌, fold, codes, Option, Some, None}
 use Rattle.std.specs.List.{list_all}
 use Rattle.std.specs.Str.{bytes_eq}
 use Rattle.jser_filter.specs.declared.limit.Limit.{Limit}

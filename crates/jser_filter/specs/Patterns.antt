@@ -2,7 +2,7 @@
 -- "If the pattern ends with `.**` it matches any class in the package and all subpackages. If the pattern
 -- ends with `.*` it matches any class in the package. If the pattern ends with `*`, it matches any class
 -- with the pattern as a prefix. If the pattern is equal to the class name, it matches."
-use Rattle.std.specs.Prelude.{ℕ, ◌-◌, Bool, true, false, not, ◌==◌, ◌&&◌, if◌then◌else◌, List, [], ◌∷◌, length, take, drop, nat_eq, codes, Option, Some, None}
+use Rattle.std.specs.Prelude.{ℕ, ◌-◌, Bool, not, ◌==◌, ◌&&◌, if◌then◌else◌, List, length, take, drop, nat_eq, codes, Option}
 use Rattle.std.specs.List.{starts_with, ends_with, list_any}
 use Rattle.std.specs.Str.{bytes_eq}
 use Rattle.jser_filter.specs.declared.pattern.NamePattern.{NamePattern as Kept}

@@ -1,6 +1,6 @@
 -- Tables of modules: lines `package=module`, parted by line feeds. White space counts, and an empty line says
 -- nothing.
-use Rattle.std.specs.Prelude.{ℕ, ◌≡◌, ◌<◌, length, Bool, true, false, ◌==◌, ◌||◌, not, if◌then◌else◌, List, [], ◌∷◌, ◌++◌, map, take, slice_get, Option, Some, None, option_and_then, is_some}
+use Rattle.std.specs.Prelude.{ℕ, ◌≡◌, ◌<◌, length, Bool, if◌then◌else◌, List, [], ◌∷◌, map, take, slice_get, Option, Some, None, option_and_then, option_map, is_some}
 use Rattle.std.specs.Str.{bytes_eq}
 use Rattle.jser_filter.specs.declared.fault.ModulesCause.{ModulesCause}
 use Rattle.jser_filter.specs.declared.fault.ModulesCause.TheVariants as cause
@@ -22,6 +22,13 @@ abbrev pub module_of : ModuleTable → List ℕ → Option (List ℕ)
 module_of [] package_name = None
 module_of (entry ∷ table) package_name =
     if bytes_eq entry.package_name package_name then Some entry.module_name else module_of table package_name
+
+-- the module of the entry at a place
+abbrev pub module_at : ModuleTable → ℕ → Option (List ℕ)
+module_at table place = option_map (λ entry. entry.module_name) (slice_get table place)
+
+abbrev pub entry_of : List ℕ → List ℕ → Entry
+entry_of package_name module_name = record { package_name = package_name; module_name = module_name }
 
 -- the module of a class: that of its package
 abbrev pub module_of_class : ModuleTable → List ℕ → Option (List ℕ)
@@ -86,6 +93,10 @@ IsLineCause told cause.PackageTwice = told ≡ Some cause.PackageTwice
 -- no line before this one is faulty
 abbrev pub NoFaultBefore : List Line → ℕ → Type 0
 NoFaultBefore lines number = (earlier : ℕ) → earlier < number → line_fault lines earlier ≡ None
+
+-- no line is faulty
+abbrev pub AreSoundLines : List Line → Type 0
+AreSoundLines lines = NoFaultBefore lines (length lines)
 
 -- The fault is that of the line that it names, or memory ran out there; and no earlier line is faulty.
 pub record IsFirstLineFault (lines : List Line) (fault : ModulesFault) : Type 0 where

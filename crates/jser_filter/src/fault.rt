@@ -1,5 +1,6 @@
 //! What is wrong with a filter's text or a table of modules, and where.
 use std::alloc::AllocError;
+use std::error::Error;
 use std::fmt;
 
 /// What is wrong with a piece of a filter's text. Where several faults hold, the first of these is told.
@@ -40,6 +41,11 @@ impl From<AllocError> for FilterCause {
 }
 
 impl fmt::Display for FilterCause {
+    ghost use Rattle.std.specs.Prelude.{Some};
+    ghost use Rattle.jser_filter.specs.Faults.{cause_text};
+
+    ghost output = { λ cause. Some (cause_text cause) };
+
     fn fmt<W: fmt::Write>(&self, f: &mut fmt::Formatter<W>) -> fmt::Result {
         match self {
             FilterCause::UnknownLimit => write!(f, "UnknownLimit"),
@@ -51,6 +57,22 @@ impl fmt::Display for FilterCause {
         }
     }
 }
+
+impl fmt::Display for FilterFault {
+    ghost use Rattle.std.specs.Prelude.{Some};
+    ghost use Rattle.jser_filter.specs.Faults.{fault_text};
+
+    ghost output = { λ fault. Some (fault_text fault) };
+
+    fn fmt<W: fmt::Write>(&self, f: &mut fmt::Formatter<W>) -> fmt::Result {
+        let (pattern, cause) = (self.pattern, self.cause);
+        write!(f, "filter pattern {pattern}: {cause}")
+    }
+}
+
+impl Error for FilterCause {}
+
+impl Error for FilterFault {}
 
 /// What is wrong with a line of a table of modules. Where both faults hold, the first is told.
 #[derive(Clone, Copy, PartialEq, Eq, Debug)]
@@ -82,3 +104,34 @@ impl From<AllocError> for ModulesCause {
         ModulesCause::OutOfMemory
     }
 }
+
+impl fmt::Display for ModulesCause {
+    ghost use Rattle.std.specs.Prelude.{Some};
+    ghost use Rattle.jser_filter.specs.Faults.{modules_cause_text};
+
+    ghost output = { λ cause. Some (modules_cause_text cause) };
+
+    fn fmt<W: fmt::Write>(&self, f: &mut fmt::Formatter<W>) -> fmt::Result {
+        match self {
+            ModulesCause::BadLine => write!(f, "BadLine"),
+            ModulesCause::PackageTwice => write!(f, "PackageTwice"),
+            ModulesCause::OutOfMemory => write!(f, "OutOfMemory"),
+        }
+    }
+}
+
+impl fmt::Display for ModulesFault {
+    ghost use Rattle.std.specs.Prelude.{Some};
+    ghost use Rattle.jser_filter.specs.Faults.{modules_fault_text};
+
+    ghost output = { λ fault. Some (modules_fault_text fault) };
+
+    fn fmt<W: fmt::Write>(&self, f: &mut fmt::Formatter<W>) -> fmt::Result {
+        let (line, cause) = (self.line, self.cause);
+        write!(f, "modules line {line}: {cause}")
+    }
+}
+
+impl Error for ModulesCause {}
+
+impl Error for ModulesFault {}

@@ -6,12 +6,10 @@ ghost use Rattle.jser_filter.specs.Laws.{NeedsNoTable, KeepsDecided};
 #[tactic(auto, using(crate::proofs::LawLemmas::needs_no_table))]
 pub fn needs_no_table()
     ensures { NeedsNoTable }
-{
-}
+{}
 
 /// Pieces that are appended to a text, behind a `;`, change no verdict but Undecided.
 #[tactic(auto, using(crate::proofs::LawLemmas::keeps_decided))]
 pub fn keeps_decided()
     ensures { KeepsDecided }
-{
-}
+{}

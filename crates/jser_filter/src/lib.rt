@@ -10,6 +10,10 @@ mod limit;
 mod modules;
 mod pattern;
 mod piece;
+mod pieces;
+mod places;
+#[cfg(test)]
+mod tests;
 mod units;
 mod verdict;
 

@@ -1,11 +1,14 @@
 //! The table of modules: which module each package is in.
-ghost use Rattle.std.specs.Prelude.{◌≡◌, ◌≢◌, ℕ, ◌<◌, [], length, option_map, map, None, IfOk, IfErr, OnOk, ◌++◌, ◌∷◌};
+ghost use Rattle.std.specs.Prelude.{List, ◌≡◌, ◌≢◌, ℕ, ◌<◌, [], length, option_map, map, None, IfOk, IfErr, OnOk, ◌++◌, ◌∷◌};
+ghost use Rattle.jser_prim.specs.ModifiedUtf8.{utf16_units};
 ghost use Rattle.jser_filter.specs.Cuts.{cut, part_now, both_now};
-ghost use Rattle.jser_filter.specs.Tables.{module_of, module_of_class, view_entry, view_sides, read_sides, read_line, lines_of, table_of, fault_in, IsLineCause, NoFaultBefore, IsFirstLineFault};
+ghost use Rattle.jser_filter.specs.Tables.{module_of, module_of_class, module_at, entry_of, view_entry, view_sides, read_sides, read_line, lines_of, table_of, fault_in, IsLineCause, AreSoundLines, IsFirstLineFault};
 
 use crate::cut::{before_last, cut, next_part};
 use crate::fault::{ModulesCause, ModulesFault};
+use crate::places::{Places, put};
 use crate::units::Units;
+use jser_prim::units_of;
 use std::alloc::{AllocError, Global};
 use std::marker::Model;
 
@@ -20,6 +23,7 @@ pub(crate) struct Entry {
 #[derive(Debug, Drop)]
 pub struct Modules {
     entries: Vec<Entry>,
+    packages: Places,
 }
 
 impl Model for Modules {
@@ -29,12 +33,17 @@ impl Model for Modules {
     ghost Value = { ModuleTable };
 
     ghost use Rattle.jser_filter.specs.Tables.{view_entry};
+    ghost use Rattle.jser_filter.specs.Index.{ArePackages};
 
     ghost view = { λ a. map view_entry a.entries.items };
+
+    ghost invariant = { λ a. ArePackages (map view_entry a.entries.items) a.packages };
 }
 
 const DOT: u16 = 0x2E;
+
 const EQUALS: u16 = 0x3D;
+
 const LINE_FEED: u16 = 0x0A;
 
 impl Modules {
@@ -44,14 +53,35 @@ impl Modules {
     {
         Modules {
             entries: Vec::new(alloc),
+            packages: Places::new(alloc),
+        }
+    }
+
+    /// Reads a table of modules from lines `package=module`.
+    ///
+    /// # Errors
+    /// The first faulty line, and the first of the causes that it has. `OutOfMemory` comes at the line for
+    /// which memory ran out, and the whole text's growth belongs to line 0; no earlier line is faulty then.
+    pub fn parse(alloc: Global, text: &str) -> Result<Modules, ModulesFault>
+        ensures table { IfOk result (λ modules. modules ≡ table_of (lines_of (utf16_units text.now))) }
+        ensures sound { IfOk result (λ _. AreSoundLines (lines_of (utf16_units text.now))) }
+        ensures fault { IfErr result (IsFirstLineFault (lines_of (utf16_units text.now))) }
+    {
+        match units_of(alloc, text) {
+            Ok(units) => read_lines(alloc, &units),
+            Err(_) => Err(no_memory_at_first()),
         }
     }
 
     /// The module of a package, if the table has it. Takes no memory.
+    #[tactic(auto, using(crate::proofs::ModulesLemmas::module_at_place, crate::proofs::ModulesLemmas::module_nowhere))]
     pub fn get(&self, package: &[u16]) -> Option<&[u16]>
         ensures { option_map part_now result ≡ module_of self.now «package».now }
     {
-        find_module(&self.entries, package)
+        match self.packages.get(package) {
+            Some(place) => module_at(&self.entries, place),
+            None => None,
+        }
     }
 
     /// The module of a class, by its package. Takes no memory.
@@ -63,63 +93,85 @@ impl Modules {
             None => None,
         }
     }
-}
 
-/// The module of the first entry with this package.
-fn find_module<'a>(entries: &'a [Entry], package: &[u16]) -> Option<&'a [u16]>
-    ensures { option_map part_now result ≡ module_of (map view_entry entries.now) «package».now }
-{
-    for entry in entries {
-        if entry.package.as_slice() == package {
-            return Some(entry.module.as_slice());
+    /// Adds what a line says.
+    fn add_line(&mut self, alloc: Global, units: &[u16]) -> Result<(), ModulesCause>
+        ensures added { OnOk result (self.new ≡ self.old ++ table_of (read_line units.now ∷ [])) }
+        ensures sound { OnOk result (fault_in self.old (read_line units.now) ≡ None) }
+        ensures cause { IfErr result (IsLineCause (fault_in self.old (read_line units.now))) }
+    {
+        if units.is_empty() {
+            return Ok(());
+        }
+        let Some((package, module)) = read_sides(units) else {
+            return Err(ModulesCause::BadLine);
+        };
+        if self.get(package).is_some() {
+            return Err(ModulesCause::PackageTwice);
+        }
+        match self.add(alloc, package, module) {
+            Ok(()) => Ok(()),
+            Err(_) => Err(ModulesCause::OutOfMemory),
         }
     }
-    None
+
+    /// Adds an entry.
+    fn add(&mut self, alloc: Global, package: &[u16], module: &[u16]) -> Result<(), AllocError>
+        ensures { OnOk result (self.new ≡ self.old ++ entry_of «package».now «module».now ∷ []) }
+    {
+        let entry = Entry {
+            package: Units::copy_of(alloc, package)?,
+            module: Units::copy_of(alloc, module)?,
+        };
+        self.entries.reserve(1)?;
+        let place = self.entries.len();
+        self.packages.add(alloc, package, place)?;
+        put(&mut self.entries, entry);
+        Ok(())
+    }
+}
+
+/// The module of the entry at this place.
+fn module_at(entries: &[Entry], place: usize) -> Option<&[u16]>
+    ensures { option_map part_now result ≡ module_at (map view_entry entries.now) place }
+{
+    match entries.get(place) {
+        Some(entry) => Some(entry.module.as_slice()),
+        None => None,
+    }
+}
+
+/// The fault where there is no memory for the text as a whole.
+fn no_memory_at_first() -> ModulesFault
+    ensures { (text : List ℕ) → IsFirstLineFault (lines_of text) result }
+{
+    ModulesFault {
+        line: 0,
+        cause: ModulesCause::OutOfMemory,
+    }
 }
 
 /// Reads the lines of a table of modules.
-fn read_entries(alloc: Global, units: &[u16]) -> Result<Vec<Entry>, ModulesFault>
-    ensures entries { IfOk result (λ entries. map view_entry entries.items ≡ table_of (lines_of units.now)) }
-    ensures sound { IfOk result (λ _. NoFaultBefore (lines_of units.now) (length (lines_of units.now))) }
+fn read_lines(alloc: Global, units: &[u16]) -> Result<Modules, ModulesFault>
+    ensures entries { IfOk result (λ modules. modules ≡ table_of (lines_of units.now)) }
+    ensures sound { IfOk result (λ _. AreSoundLines (lines_of units.now)) }
     ensures fault { IfErr result (IsFirstLineFault (lines_of units.now)) }
 {
-    let mut entries = Vec::new(alloc);
+    let mut modules = Modules::none(alloc);
     let mut rest = Some(units);
     let mut number: usize = 0;
     'lines: while let Some(text) = rest {
         let (line, more) = next_part(text, LINE_FEED);
-        if let Err(cause) = add_line(alloc, &mut entries, line) {
-            return Err(ModulesFault { line: number, cause });
+        if let Err(cause) = modules.add_line(alloc, line) {
+            return Err(ModulesFault {
+                line: number,
+                cause,
+            });
         }
         number += 1;
         rest = more;
     }
-    Ok(entries)
-}
-
-/// Adds what a line says.
-fn add_line(alloc: Global, entries: &mut Vec<Entry>, units: &[u16]) -> Result<(), ModulesCause>
-    ensures added { OnOk result (map view_entry entries.new.items ≡ map view_entry entries.old.items ++ table_of (read_line units.now ∷ [])) }
-    ensures sound { OnOk result (fault_in (map view_entry entries.old.items) (read_line units.now) ≡ None) }
-    ensures cause { IfErr result (IsLineCause (fault_in (map view_entry entries.old.items) (read_line units.now))) }
-{
-    if units.is_empty() {
-        return Ok(());
-    }
-    let Some((package, module)) = read_sides(units) else {
-        return Err(ModulesCause::BadLine);
-    };
-    if find_module(entries, package).is_some() {
-        return Err(ModulesCause::PackageTwice);
-    }
-    let entry = Entry {
-        package: Units::copy_of(alloc, package)?,
-        module: Units::copy_of(alloc, module)?,
-    };
-    match entries.push(entry) {
-        Ok(()) => Ok(()),
-        Err(_) => Err(ModulesCause::OutOfMemory),
-    }
+    Ok(modules)
 }
 
 /// The two sides of the one `=` of a line, neither of them empty.

@@ -2,6 +2,7 @@
 ghost use Rattle.std.specs.Prelude.{◌≡◌, IfOk, IfErr, option_map};
 ghost use Rattle.jser_filter.specs.Pieces.{read_piece, read_limit, read_pattern, read_named, read_name, lacks_package, view_piece, view_pattern, IsCauseOf};
 ghost use Rattle.jser_filter.specs.Cuts.{part_now};
+ghost use Rattle.jser_filter.specs.Index.{name_of_piece, is_pattern};
 ghost use Rattle.jser_filter.specs.Filters.{matches_piece, matches_pattern, is_in_module};
 
 use crate::cut::cut;
@@ -46,6 +47,29 @@ impl Piece {
             Some((name, value)) => read_limit(name, value),
             None => read_pattern(alloc, units),
         }
+    }
+
+    /// The name, where this is an exact pattern in no module.
+    pub(crate) fn exact_name(&self) -> Option<&[u16]>
+        ensures { option_map part_now result ≡ name_of_piece (view_piece self.now) }
+    {
+        match self {
+            Piece::Pattern(
+                Pattern {
+                    in_module: None,
+                    name: NamePattern::Exact(units),
+                    ..
+                },
+            ) => Some(units.as_slice()),
+            _ => None,
+        }
+    }
+
+    /// Whether this is a pattern.
+    pub(crate) fn is_pattern(&self) -> bool
+        ensures { result ≡ is_pattern (view_piece self.now) }
+    {
+        matches!(self, Piece::Pattern(_))
     }
 
     /// Whether this is a pattern that matches the name, whose package is in the module that was found, if

@@ -78,6 +78,23 @@ fn layers_at(table: &Table, number: u32) -> Option<usize> {
     is_closed(table, number).then(|| table.layers(number))
 }
 
+/// The example of the README.
+#[test]
+fn readme(rt: HostRuntime) -> Result<(), Fail> {
+    let alloc = rt.alloc();
+    let mut table = Table::new(alloc, 1000);
+    let number = table.assign(Kind::Pending)?;
+    let codes = Codes::new(vec![in alloc; INT]?);
+    let layer = Layer {
+        kind: LayerKind::Other,
+        flags: 0x02,
+        codes,
+    };
+    table.close(number, layer, None);
+    assert_eq!(rt; table.fit(number, Purpose::Object), Fit::Fits);
+    Ok(())
+}
+
 #[test]
 fn table_full_and_close_reset(rt: HostRuntime) -> Result<(), Fail> {
     let alloc = rt.alloc();

@@ -1,6 +1,5 @@
-use Rattle.std.proofs.Common.{get_or}
 use Rattle.jser_filter.proofs.FilterLemmas.{limits_more}
-use Rattle.jser_filter.proofs.filter.limits_in.Goals as goal
+use Rattle.jser_filter.proofs.pieces.limits_in.Goals as goal
 
 pub loop-piece-preserved : goal.loop-piece-preserved
 loop-piece-preserved c =

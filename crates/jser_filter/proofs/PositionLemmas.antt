@@ -1,0 +1,51 @@
+-- The first place in a list that passes a test: one more item, and the item at that place.
+use Rattle.std.proofs.Common.{◌≡◌, ℕ, ◌+◌, ◌<◌, ◌≤◌, Bool, true, false, not, cond, ltb, List, [], ◌∷◌, ◌++◌, length, position, Option, Some, None, option_map, refl, ap, ◌∙◌, arith}
+use Rattle.std.specs.List.{position_or_len, position_from}
+use Rattle.std.proofs.lemmas.Bool.{lt-ltb, le-ltb, ltb-true, ltb-false, ne_eqb, eq-eqb}
+use Rattle.std.proofs.lemmas.List.{length_push}
+use Rattle.std.proofs.lemmas.List.Sums.{prefix_len-le-length}
+use Rattle.std.proofs.lemmas.List.Folds.{position_or_len_push}
+use Rattle.jser_filter.specs.Places.{or_else}
+
+position_step : {X : Type 0} (test : X → Bool) (items : List X) (item : X) (found passes : Bool) → ltb (position_or_len test items) (length items) ≡ found → test item ≡ passes → position test (items ++ item ∷ []) ≡ or_else (cond found (Some (position_or_len test items)) None) (cond passes (Some (length items)) None)
+position_step test items item true passes is says =
+    let place : ℕ = position_or_len test items in
+    let inside : place < length items = ltb-true place (length items) is in
+    let same : position_or_len test (items ++ item ∷ []) ≡ place =
+    position_or_len_push test items item ∙ rw (ne_eqb place (length items) (λ e. omega arith)) refl
+    in
+    rw (same, length_push items item, lt-ltb place (length items + 1) (omega arith)) refl
+position_step test items item false true is says =
+    let place : ℕ = position_or_len test items in
+    let past : length items ≤ place = ltb-false place (length items) is in
+    let end : place ≡ length items = omega (arith, prefix_len-le-length (λ p. not (test p)) items) in
+    let here : position_or_len test (items ++ item ∷ []) ≡ length items =
+    position_or_len_push test items item ∙ rw (eq-eqb place (length items) end, says) (omega arith)
+    in
+    rw (here, length_push items item, lt-ltb (length items) (length items + 1) (omega arith)) refl
+position_step test items item false false is says =
+    let place : ℕ = position_or_len test items in
+    let past : length items ≤ place = ltb-false place (length items) is in
+    let end : place ≡ length items = omega (arith, prefix_len-le-length (λ p. not (test p)) items) in
+    let none : position_or_len test (items ++ item ∷ []) ≡ length items + 1 =
+    position_or_len_push test items item ∙ rw (eq-eqb place (length items) end, says) (omega arith)
+    in
+    rw (none, length_push items item, le-ltb (length items + 1) (length items + 1) (omega arith)) refl
+
+pub position-push : {X : Type 0} (test : X → Bool) (items : List X) (item : X) → position test (items ++ item ∷ []) ≡ or_else (position test items) (cond (test item) (Some (length items)) None)
+position-push test items item = position_step test items item (ltb (position_or_len test items) (length items)) (test item) refl refl
+
+pub or_cond : (test : Bool) (place : Option ℕ) (last : ℕ) → cond test (or_else place (Some last)) place ≡ or_else place (cond test (Some last) None)
+or_cond true place last = refl
+or_cond false None last = refl
+or_cond false (Some place) last = refl
+
+shift_cond : (test : Bool) (first : ℕ) (found : Option ℕ) → cond test (Some (first + 1)) (option_map (λ i. i + 1) found) ≡ option_map (λ i. i + 1) (cond test (Some first) found)
+shift_cond true first found = refl
+shift_cond false first found = refl
+
+-- counting from one more
+pub position_from-shift : {X : Type 0} (test : X → Bool) (first : ℕ) (items : List X) → position_from test (first + 1) items ≡ option_map (λ i. i + 1) (position_from test first items)
+position_from-shift test first [] = refl
+position_from-shift test first (item ∷ items) =
+    ap (λ o. cond (test item) (Some (first + 1)) o) (position_from-shift test (first + 1) items) ∙ shift_cond (test item) first (position_from test (first + 1) items)

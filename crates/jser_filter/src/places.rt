@@ -1,0 +1,61 @@
+//! Where names stand in a list: the first place of each.
+ghost use Rattle.std.specs.Prelude.{◌≡◌, ◌<◌, [], ◌∷◌, ◌++◌, vec_len, vec_capacity, List, ℕ, Some, None, OnOk, OnErr};
+ghost use Rattle.jser_filter.specs.Places.{place_of, PutsFirst, KeepsPlaces};
+
+use std::alloc::{AllocError, Global};
+use std::collections::HashMap;
+
+/// The first place of each name.
+#[derive(Debug, Drop)]
+pub(crate) struct Places {
+    map: HashMap<Vec<u16>, usize>,
+}
+
+impl Places {
+    /// No names. Takes no memory.
+    pub(crate) fn new(alloc: Global) -> Places
+        ensures { (name : List ℕ) → place_of result name ≡ None }
+    {
+        Places {
+            map: HashMap::new(alloc),
+        }
+    }
+
+    /// The first place of the name. Takes no memory.
+    pub(crate) fn get(&self, name: &[u16]) -> Option<usize>
+        ensures { result ≡ place_of self.now name.now }
+    {
+        self.map.get(name).copied()
+    }
+
+    /// Keeps this place for the name, unless an earlier one is kept.
+    pub(crate) fn add(
+        &mut self,
+        alloc: Global,
+        name: &[u16],
+        place: usize,
+    ) -> Result<(), AllocError>
+        ensures ok { OnOk result (PutsFirst self.old self.new name.now place) }
+        ensures err { OnErr result (KeepsPlaces self.old self.new) }
+    {
+        match self.get(name) {
+            Some(_) => Ok(()),
+            None => {
+                let key = name.to_vec(alloc)?;
+                self.map.insert(key, place)?;
+                Ok(())
+            }
+        }
+    }
+}
+
+/// Adds an item where there is room for it.
+pub(crate) fn put<T: Drop>(items: &mut Vec<T>, item: T)
+    requires { vec_len items.old < vec_capacity items.old }
+    ensures { items.new.items ≡ items.old.items ++ item ∷ [] }
+{
+    match items.push(item) {
+        Ok(()) => (),
+        Err(_) => unreachable!(),
+    }
+}
