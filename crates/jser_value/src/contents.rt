@@ -10,6 +10,7 @@ use crate::size::after_contents;
 use crate::tree::Content;
 use std::alloc::Global;
 use std::marker::Model;
+use thiserror::Error;
 
 /// How deep trees are at most: the calls on trees recurse.
 const MAX_DEPTH: u32 = 1000;
@@ -18,20 +19,25 @@ const MAX_DEPTH: u32 = 1000;
 const MAX_SIZE: u64 = 0x7FFF_FFFF - 4;
 
 /// Why a list of contents is refused: the first of these that holds.
-#[derive(Clone, Copy, PartialEq, Eq, Debug)]
+#[derive(Clone, Copy, PartialEq, Eq, Debug, Error)]
 pub enum ValueCause {
     /// Its depth is over 1,000.
+    #[error("the contents are nested too deep")]
     TooDeep,
     /// Its spelling has more than 2^31 - 1 bytes.
+    #[error("the contents are too large")]
     TooLarge,
     /// It does not obey the format.
+    #[error("the contents do not obey the format")]
     NotRight,
     /// There was no memory for its handles.
+    #[error("out of memory")]
     OutOfMemory,
 }
 
 /// A list of contents that is refused, and why.
-#[derive(PartialEq, Debug, Drop)]
+#[derive(PartialEq, Debug, Drop, Error)]
+#[error("{cause}")]
 pub struct ValueFault {
     /// The list, as it was given.
     pub list: Vec<Content>,

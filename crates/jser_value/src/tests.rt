@@ -1,3 +1,4 @@
 //! Tests of what no clause says.
 
+mod contents;
 mod trees;
