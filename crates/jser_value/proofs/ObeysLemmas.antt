@@ -147,12 +147,12 @@ sections_next T U n k chain sections s whole A awaits h e passes after =
     let next = sections_at sections k s h e in
     let first : obeys_section T (view_section s) l ≡ true = sym (layer_there T n k chain l s awaits.class.chain_is there.1) ∙ passes in
     let left : obeys_sections U (view_sections (drop (suc k) sections)) (drop (suc k) chain) ≡ whole =
-        ap (λ (V : Entries). obeys_sections V (view_sections (drop (suc k) sections)) (drop (suc k) chain)) after
-        ∙ sym (ap (λ b. b && obeys_sections (after_section T (view_section s)) (view_sections (drop (suc k) sections)) (drop (suc k) chain)) first)
-        ∙ sym (at_next T sections chain k s l next there.2)
-        ∙ awaits.awaits.passes in
+    ap (λ (V : Entries). obeys_sections V (view_sections (drop (suc k) sections)) (drop (suc k) chain)) after
+    ∙ sym (ap (λ b. b && obeys_sections (after_section T (view_section s)) (view_sections (drop (suc k) sections)) (drop (suc k) chain)) first)
+    ∙ sym (at_next T sections chain k s l next there.2)
+    ∙ awaits.awaits.passes in
     let ends : after_sections U (view_sections (drop (suc k) sections)) ≡ A =
-        ap (λ (V : Entries). after_sections V (view_sections (drop (suc k) sections))) after ∙ sym (after_next T sections k s next) ∙ awaits.awaits.after in
+    ap (λ (V : Entries). after_sections V (view_sections (drop (suc k) sections))) after ∙ sym (after_next T sections k s next) ∙ awaits.awaits.after in
     record {
       class = class_behind_section T U (view_section s) n chain after awaits.class;
       layers = awaits.layers;

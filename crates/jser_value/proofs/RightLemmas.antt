@@ -143,11 +143,14 @@ says_prim code c p e =
     let letter = letter_of_prim_code code c e in
     let same = λ (h : IsTrue (is_prim_of code p)). same_code p.code c (eqb-true (letter_of p.code) code (and_left (letter_of p.code == code) (nat_lt p.bits (256 ^ size_of p.code)) h) ∙ sym letter) in
     record {
-      to = λ h. (same h, subst (λ (d : PrimCode). p.bits < 256 ^ size_of d) (same h)
-      ((says_less p.bits (256 ^ size_of p.code)).to (and_right (letter_of p.code == code) (nat_lt p.bits (256 ^ size_of p.code)) h)));
+      to = λ h. (
+        same h,
+        subst (λ (d : PrimCode). p.bits < 256 ^ size_of d) (same h)
+            ((says_less p.bits (256 ^ size_of p.code)).to (and_right (letter_of p.code == code) (nat_lt p.bits (256 ^ size_of p.code)) h)),
+      );
       from = λ q. and_both (letter_of p.code == code) (nat_lt p.bits (256 ^ size_of p.code))
-      (eq-eqb (letter_of p.code) code (ap letter_of q.0 ∙ letter))
-      ((says_less p.bits (256 ^ size_of p.code)).from (subst (λ (d : PrimCode). p.bits < 256 ^ size_of d) (sym q.0) q.1));
+          (eq-eqb (letter_of p.code) code (ap letter_of q.0 ∙ letter))
+          ((says_less p.bits (256 ^ size_of p.code)).from (subst (λ (d : PrimCode). p.bits < 256 ^ size_of d) (sym q.0) q.1));
     }
 
 says_prims_of : (c : PrimCode) (ps : List PrimTree) → Says (list_all (is_prim_of (letter_of c)) ps) (ArePrimsOf c ps)

@@ -57,7 +57,6 @@ impl Model for Contents {
     ghost use Rattle.jser_value.specs.declared.tree.Content.{Content};
     ghost use Rattle.jser_value.specs.View.{view_contents};
     ghost use Rattle.jser_value.specs.Limits.{IsContents};
-
     ghost use Rattle.std.specs.Coded.{codes};
     ghost use Rattle.jser_value.specs.contracts.tree.Content as content_type;
 

@@ -272,7 +272,12 @@ fn check_array(alloc: Global, table: &mut Table, number: u32, body: &Body) -> Re
 /// An object of this class: what the classes of its chain wrote.
 #[cycle(obeys)]
 #[tactic(auto, using(crate::proofs::KeepLemmas::class_behind_add))]
-fn check_object(alloc: Global, table: &mut Table, number: u32, sections: &Vec<Section>) -> Result<(), Fault>
+fn check_object(
+    alloc: Global,
+    table: &mut Table,
+    number: u32,
+    sections: &Vec<Section>,
+) -> Result<(), Fault>
     requires { IsTrue (is_closed (slice_get table.old.entries number)) }
     ensures { Judges result (obeys_object table.old.entries (view_sections sections.now.items) (chain_at table.old.entries number)) (after_sections (add table.old.entries other_entry) (view_sections sections.now.items)) table.new.entries }
 {
@@ -328,7 +333,11 @@ fn check_desc(alloc: Global, table: &mut Table, desc: &Desc) -> Result<u32, Faul
 
 /// A superclass place. Gives the number of the class, if there is one.
 #[cycle(obeys)]
-fn check_superclass(alloc: Global, table: &mut Table, parent: &ClassPlace) -> Result<Option<u32>, Fault>
+fn check_superclass(
+    alloc: Global,
+    table: &mut Table,
+    parent: &ClassPlace,
+) -> Result<Option<u32>, Fault>
     ensures judged { Judges result (obeys_superclass table.old.entries (view_class_place parent.now)) (after_class table.old.entries (view_class_place parent.now)) table.new.entries }
     ensures parent { IfOk result (IsParentAt table.new.entries (chain_of_class table.old.entries (view_class_place parent.now))) }
 {
@@ -366,7 +375,12 @@ fn check_body(alloc: Global, table: &mut Table, body: &Body, code: Option<u8>) -
 /// The values that are an array's elements.
 #[cycle(obeys)]
 #[tactic(auto, using(crate::proofs::ObeysLemmas::value_count_of))]
-fn check_elements(alloc: Global, table: &mut Table, code: Option<u8>, values: &[Value]) -> Result<(), Fault>
+fn check_elements(
+    alloc: Global,
+    table: &mut Table,
+    code: Option<u8>,
+    values: &[Value],
+) -> Result<(), Fault>
     ensures { Judges result (obeys_body table.old.entries (value_body (view_values values.now)) code) (after_values table.old.entries (view_values values.now)) table.new.entries }
 {
     require(code.is_none())?;
@@ -412,7 +426,12 @@ fn check_alone(alloc: Global, table: &mut Table, section: &Section) -> Result<()
 /// What the classes of a chain wrote: one section for each, the highest superclass first.
 #[cycle(obeys)]
 #[tactic(auto, using(crate::proofs::ObeysLemmas::as_many_sections, crate::proofs::ObeysLemmas::sections_failed, crate::proofs::ObeysLemmas::sections_next))]
-fn check_sections(alloc: Global, table: &mut Table, number: u32, sections: &Vec<Section>) -> Result<(), Fault>
+fn check_sections(
+    alloc: Global,
+    table: &mut Table,
+    number: u32,
+    sections: &Vec<Section>,
+) -> Result<(), Fault>
     requires { IsTrue (is_closed (slice_get table.old.entries number)) }
     ensures { Judges result (obeys_sections table.old.entries (view_sections sections.now.items) (chain_at table.old.entries number)) (after_sections table.old.entries (view_sections sections.now.items)) table.new.entries }
 {
@@ -425,7 +444,13 @@ fn check_sections(alloc: Global, table: &mut Table, number: u32, sections: &Vec<
 
 /// What the class at this index of a chain wrote.
 #[cycle(obeys)]
-fn check_section(alloc: Global, table: &mut Table, number: u32, index: usize, section: &Section) -> Result<(), Fault>
+fn check_section(
+    alloc: Global,
+    table: &mut Table,
+    number: u32,
+    index: usize,
+    section: &Section,
+) -> Result<(), Fault>
     requires closed { IsTrue (is_closed (slice_get table.old.entries number)) }
     requires index { index < length (chain_at table.old.entries number) }
     ensures { Judges result (obeys_section_at table.old.entries (view_section section.now) (slice_get (chain_at table.old.entries number) index)) (after_section table.old.entries (view_section section.now)) table.new.entries }

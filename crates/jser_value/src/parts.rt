@@ -2,7 +2,6 @@
 //! `specs/Parts.antt` has the rules.
 ghost use Rattle.std.specs.Prelude.{◌≡◌, map, is_some, option_map, IfOk};
 ghost use Rattle.std.specs.List.{list_all};
-
 ghost use Rattle.jser_value.specs.Codes.{prim_code_of, is_object_code, letter_of, object_count};
 ghost use Rattle.jser_value.specs.Parts.{elements_of_kind};
 ghost use Rattle.jser_value.specs.PartTests.{obeys_text, obeys_class_name, obeys_class_names, obeys_flags, is_handle, is_prim_of, obeys_prims, obeys_block};
@@ -62,10 +61,7 @@ pub(crate) fn has_handle(number: u32) -> bool
 pub(crate) fn is_primitive(code: u8) -> bool
     ensures { result ≡ is_some (prim_code_of code) }
 {
-    matches!(
-        code,
-        b'B' | b'C' | b'D' | b'F' | b'I' | b'J' | b'S' | b'Z'
-    )
+    matches!(code, b'B' | b'C' | b'D' | b'F' | b'I' | b'J' | b'S' | b'Z')
 }
 
 /// Whether the type code is `[` or `L`.

@@ -55,7 +55,10 @@ fn last_of(body: Body) -> Option<Value> {
 /// What stands in an array.
 fn inside(value: Value) -> Option<Value> {
     match value {
-        Value::Array { descr: _descr, body } => last_of(body),
+        Value::Array {
+            descr: _descr,
+            body,
+        } => last_of(body),
         _other => None,
     }
 }
@@ -168,7 +171,13 @@ fn reset_inside(alloc: Global) -> Build {
 fn a_reset_in_an_annotation_is_not_right(rt: HostRuntime) -> Result<(), Fail> {
     let alloc = rt.alloc();
     let same = reset_inside(alloc)?;
-    assert_answer(&rt, alloc, reset_inside(alloc)?, &same, Some(ValueCause::NotRight));
+    assert_answer(
+        &rt,
+        alloc,
+        reset_inside(alloc)?,
+        &same,
+        Some(ValueCause::NotRight),
+    );
     Ok(())
 }
 

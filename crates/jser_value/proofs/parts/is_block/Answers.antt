@@ -1,7 +1,5 @@
 use Rattle.std.proofs.Common.{arith}
-
 use Rattle.jser_value.proofs.PartLemmas.{all_below_each, block_test}
-
 use Rattle.jser_value.proofs.parts.is_block.Goals as goal
 use Rattle.jser_value.proofs.parts.is_block.Goals.{then-long, else-long}
 
