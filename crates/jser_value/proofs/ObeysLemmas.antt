@@ -1,6 +1,6 @@
 -- A list of parts on the way to being tested: of the whole, each part so far passed, and what is left
 -- decides, with the table as it is now.
-use Rattle.std.proofs.Common.{◌≡◌, ◌==◌, ◌<◌, ◌≤◌, ℕ, zero, suc, ◌+◌, Bool, true, false, ◌&&◌, true≢false, eq-eqb, eqb-true, add-one, List, [], ◌∷◌, length, refl, sym, ap, ◌∙◌, arith, Option, Some, None, slice_get, map, drop, get_or, subst, Ok, Err}
+use Rattle.std.proofs.Common.{◌≡◌, ◌==◌, ◌<◌, ◌≤◌, ℕ, zero, suc, ◌+◌, Bool, true, false, ◌&&◌, true≢false, eq-eqb, eqb-true, add-one, List, [], ◌∷◌, length, refl, sym, ap, ◌∙◌, arith, Some, None, slice_get, map, drop, get_or, subst, Err}
 use Rattle.jser_table.specs.Chains.{own_layer}
 use Rattle.jser_table.specs.declared.layer.Layer.{Layer}
 use Rattle.jser_value.specs.declared.tree.Value.{Value}
@@ -15,7 +15,7 @@ use Rattle.jser_value.proofs.KeepLemmas.{class_behind_section}
 use Rattle.jser_value.specs.TableAfter.{Entries, after_values, after_sections, after_contents}
 use Rattle.jser_value.specs.Tests.{Judges, is_bare, obeys_alone, obeys_notes, obeys_external, obeys_section, obeys_section_at, obeys_sections, after_section, IsClassAt}
 use Rattle.jser_value.specs.Trees.{PrimTree, ValueTrees, no_values, value_and, value_count, SectionTrees, no_sections, section_and, SectionTree, section, annotation, ContentTrees}
-use Rattle.jser_value.specs.View.{view_prim, view_value, view_values, view_section, view_sections}
+use Rattle.jser_value.specs.View.{view_prim, view_values, view_section, view_sections}
 
 pub record Awaits (left whole : Bool) (after_left after_whole : Entries) : Type 0 where
   pub passes : left ≡ whole

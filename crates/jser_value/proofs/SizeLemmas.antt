@@ -1,5 +1,5 @@
 -- How long spellings are.
-use Rattle.std.proofs.Common.{◌≡◌, suc, ◌+◌, ◌++◌, length, refl, arith, length-append}
+use Rattle.std.proofs.Common.{◌≡◌, ◌+◌, length, refl, arith, length-append}
 use Rattle.jser_value.specs.Trees.{ContentTrees, no_contents, content_and}
 use Rattle.jser_value.specs.Spelling.{annotation_spelling, contents_spelling, content_spelling}
 

@@ -1,5 +1,5 @@
 -- Why a list of contents is refused: the first of these that holds.
-use Rattle.std.specs.Prelude.{ℕ, ◌≡◌, ◌<◌, ◌≤◌, length, Ok, Err}
+use Rattle.std.specs.Prelude.{◌≡◌, ◌<◌, ◌≤◌, length, Ok, Err}
 use Rattle.std.specs.declared.result.Result.{Result}
 use Rattle.jser_value.specs.declared.contents.Contents.{Contents}
 use Rattle.jser_value.specs.declared.contents.ValueCause.{ValueCause}

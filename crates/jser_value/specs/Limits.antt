@@ -1,8 +1,6 @@
 -- How far the trees in memory go: a list of contents that obeys the format, no deeper than a recursion may
 -- go, and no longer than 2^31 - 1 bytes.
-use Rattle.std.specs.Prelude.{◌≤◌, List, length}
-use Rattle.jser_value.specs.declared.tree.Content.{Content}
-use Rattle.jser_value.specs.View.{view_contents}
+use Rattle.std.specs.Prelude.{◌≤◌, length}
 use Rattle.jser_value.specs.Trees.{ContentTrees}
 use Rattle.jser_value.specs.Spelling.{spelling}
 use Rattle.jser_value.specs.WellFormed.{WellFormed}

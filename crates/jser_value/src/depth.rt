@@ -1,7 +1,8 @@
 //! How deep a tree goes, tested without going further down than it may. `specs/Counts.antt` says where a
 //! place is one deeper; there `room`, how many levels are left, is one less.
-ghost use Rattle.std.specs.Prelude.{◌≤◌, ◌<◌, [], ◌∷◌, MatchBool};
+ghost use Rattle.std.specs.Prelude.{suc, [], ◌∷◌};
 ghost use Rattle.jser_value.specs.Counts.{depth_of_value, depth_in_desc, depth_in_class, depth_in_body, depth_in_values, depth_in_sections, depth_in_contents};
+ghost use Rattle.jser_value.specs.Rooms.{FitsRoom};
 ghost use Rattle.jser_value.specs.View.{view_value, view_desc, view_class_place, view_body, view_values, view_sections, view_contents};
 
 use crate::tree::{Body, ClassPlace, Content, Desc, Section, Value};
@@ -9,7 +10,7 @@ use crate::tree::{Body, ClassPlace, Content, Desc, Section, Value};
 /// Whether the value is at most `room` deep.
 #[cycle(depth)]
 fn value_within(value: &Value, room: u32) -> bool
-    ensures { MatchBool result (depth_of_value (view_value value.now) ≤ room) (room < depth_of_value (view_value value.now)) }
+    ensures { FitsRoom (depth_of_value (view_value value.now)) room result }
 {
     if room == 0 {
         return false;
@@ -29,7 +30,7 @@ fn value_within(value: &Value, room: u32) -> bool
 
 #[cycle(depth)]
 fn desc_within(desc: &Desc, room: u32) -> bool
-    ensures { MatchBool result (depth_in_desc (view_desc desc.now) ≤ room) (room < depth_in_desc (view_desc desc.now)) }
+    ensures { FitsRoom (depth_in_desc (view_desc desc.now)) room result }
 {
     match desc {
         Desc::Plain { notes, parent, .. } => {
@@ -44,14 +45,14 @@ fn desc_within(desc: &Desc, room: u32) -> bool
 /// A superclass place is one deeper than its descriptor.
 #[cycle(depth)]
 fn superclass_within(parent: &ClassPlace, room: u32) -> bool
-    ensures { MatchBool result (depth_in_class (view_class_place parent.now) < room) (room ≤ depth_in_class (view_class_place parent.now)) }
+    ensures { FitsRoom (suc (depth_in_class (view_class_place parent.now))) room result }
 {
     room > 0 && class_within(parent, room - 1)
 }
 
 #[cycle(depth)]
 fn class_within(descr: &ClassPlace, room: u32) -> bool
-    ensures { MatchBool result (depth_in_class (view_class_place descr.now) ≤ room) (room < depth_in_class (view_class_place descr.now)) }
+    ensures { FitsRoom (depth_in_class (view_class_place descr.now)) room result }
 {
     match descr {
         ClassPlace::New(desc) => desc_within(desc, room),
@@ -61,7 +62,7 @@ fn class_within(descr: &ClassPlace, room: u32) -> bool
 
 #[cycle(depth)]
 fn body_within(body: &Body, room: u32) -> bool
-    ensures { MatchBool result (depth_in_body (view_body body.now) ≤ room) (room < depth_in_body (view_body body.now)) }
+    ensures { FitsRoom (depth_in_body (view_body body.now)) room result }
 {
     match body {
         Body::Prims(_) => true,
@@ -71,7 +72,7 @@ fn body_within(body: &Body, room: u32) -> bool
 
 #[cycle(depth)]
 fn values_within(values: &[Value], room: u32) -> bool
-    ensures { MatchBool result (depth_in_values (view_values values.now) ≤ room) (room < depth_in_values (view_values values.now)) }
+    ensures { FitsRoom (depth_in_values (view_values values.now)) room result }
 {
     for value in values {
         if !value_within(value, room) {
@@ -83,7 +84,7 @@ fn values_within(values: &[Value], room: u32) -> bool
 
 #[cycle(depth)]
 fn sections_within(sections: &Vec<Section>, room: u32) -> bool
-    ensures { MatchBool result (depth_in_sections (view_sections sections.now.items) ≤ room) (room < depth_in_sections (view_sections sections.now.items)) }
+    ensures { FitsRoom (depth_in_sections (view_sections sections.now.items)) room result }
 {
     for section in sections {
         if !section_within(section, room) {
@@ -95,7 +96,7 @@ fn sections_within(sections: &Vec<Section>, room: u32) -> bool
 
 #[cycle(depth)]
 fn section_within(section: &Section, room: u32) -> bool
-    ensures { MatchBool result (depth_in_sections (view_sections (section.now ∷ [])) ≤ room) (room < depth_in_sections (view_sections (section.now ∷ []))) }
+    ensures { FitsRoom (depth_in_sections (view_sections (section.now ∷ []))) room result }
 {
     if !values_within(&section.values, room) {
         return false;
@@ -109,7 +110,7 @@ fn section_within(section: &Section, room: u32) -> bool
 /// Whether the contents, of a stream or of an annotation, are at most `room` deep.
 #[cycle(depth)]
 pub(crate) fn contents_within(contents: &[Content], room: u32) -> bool
-    ensures { MatchBool result (depth_in_contents (view_contents contents.now) ≤ room) (room < depth_in_contents (view_contents contents.now)) }
+    ensures { FitsRoom (depth_in_contents (view_contents contents.now)) room result }
 {
     for content in contents {
         if !content_within(content, room) {
@@ -121,7 +122,7 @@ pub(crate) fn contents_within(contents: &[Content], room: u32) -> bool
 
 #[cycle(depth)]
 fn content_within(content: &Content, room: u32) -> bool
-    ensures { MatchBool result (depth_in_contents (view_contents (content.now ∷ [])) ≤ room) (room < depth_in_contents (view_contents (content.now ∷ []))) }
+    ensures { FitsRoom (depth_in_contents (view_contents (content.now ∷ []))) room result }
 {
     match content {
         Content::Block { .. } | Content::Reset => true,

@@ -54,7 +54,10 @@ fn require(holds: bool) -> Result<(), Fault>
 
 /// A text place: a new string, or a reference to one.
 fn check_text_place(table: &mut Table, place: &TextPlace) -> Result<(), Fault>
-    ensures { Judges result (obeys_text_place table.old.entries (view_text_place place.now)) (after_text_place table.old.entries (view_text_place place.now)) table.new.entries }
+    ensures { Judges result
+        (obeys_text_place table.old.entries (view_text_place place.now))
+        (after_text_place table.old.entries (view_text_place place.now))
+        table.new.entries }
 {
     match place {
         TextPlace::New(text) => {
@@ -70,7 +73,10 @@ fn check_text_place(table: &mut Table, place: &TextPlace) -> Result<(), Fault>
 
 /// The type of a field, where there is one. `seen` tells of an object field before it.
 fn check_type(table: &mut Table, seen: bool, field: &Field) -> Result<(), Fault>
-    ensures { Judges result (obeys_type table.old.entries seen field.now.code (option_map view_text_place field.now.text)) (after_type table.old.entries (option_map view_text_place field.now.text)) table.new.entries }
+    ensures { Judges result
+        (obeys_type table.old.entries seen field.now.code (option_map view_text_place field.now.text))
+        (after_type table.old.entries (option_map view_text_place field.now.text))
+        table.new.entries }
 {
     match &field.text {
         None => require(is_primitive(field.code) && !seen),
@@ -83,7 +89,10 @@ fn check_type(table: &mut Table, seen: bool, field: &Field) -> Result<(), Fault>
 
 /// The fields of a descriptor.
 fn check_fields(table: &mut Table, fields: &[Field]) -> Result<(), Fault>
-    ensures { Judges result (obeys_fields table.old.entries false (map view_field fields.now)) (after_fields table.old.entries (map view_field fields.now)) table.new.entries }
+    ensures { Judges result
+        (obeys_fields table.old.entries false (map view_field fields.now))
+        (after_fields table.old.entries (map view_field fields.now))
+        table.new.entries }
 {
     let mut seen = false;
     'fields: for field in fields {
@@ -205,7 +214,10 @@ fn are_interfaces(names: &[Vec<u16>]) -> bool
 
 /// A reference to a class that has been read. Gives its number.
 fn check_back_class(table: &mut Table, number: u32) -> Result<u32, Fault>
-    ensures judged { Judges result (obeys_back_to_class table.old.entries number) table.old.entries table.new.entries }
+    ensures judged { Judges result
+        (obeys_back_to_class table.old.entries number)
+        table.old.entries
+        table.new.entries }
     ensures class { IfOk result (λ class. IsClassAt table.new.entries class (chain_at table.old.entries number)) }
 {
     require(matches!(table.get(number), Some(Entry::Closed(_))) && has_handle(number))?;
@@ -215,7 +227,10 @@ fn check_back_class(table: &mut Table, number: u32) -> Result<u32, Fault>
 /// An enum constant of this class: its name.
 fn check_enum_constant(table: &mut Table, number: u32, name: &TextPlace) -> Result<(), Fault>
     requires { IsTrue (is_closed (slice_get table.old.entries number)) }
-    ensures { Judges result (obeys_enum_constant table.old.entries (view_text_place name.now) (chain_at table.old.entries number)) (after_text_place (add table.old.entries other_entry) (view_text_place name.now)) table.new.entries }
+    ensures { Judges result
+        (obeys_enum_constant table.old.entries (view_text_place name.now) (chain_at table.old.entries number))
+        (after_text_place (add table.old.entries other_entry) (view_text_place name.now))
+        table.new.entries }
 {
     require(table.fit(number, Purpose::EnumConst) == Fit::Fits)?;
     assign(table, Kind::Other)?;
@@ -225,7 +240,10 @@ fn check_enum_constant(table: &mut Table, number: u32, name: &TextPlace) -> Resu
 /// A value.
 #[cycle(obeys)]
 fn check_value(alloc: Global, table: &mut Table, value: &Value) -> Result<(), Fault>
-    ensures { Judges result (obeys_value table.old.entries (view_value value.now)) (after_value table.old.entries (view_value value.now)) table.new.entries }
+    ensures { Judges result
+        (obeys_value table.old.entries (view_value value.now))
+        (after_value table.old.entries (view_value value.now))
+        table.new.entries }
 {
     match value {
         Value::Null => {}
@@ -261,7 +279,10 @@ fn check_value(alloc: Global, table: &mut Table, value: &Value) -> Result<(), Fa
 #[cycle(obeys)]
 fn check_array(alloc: Global, table: &mut Table, number: u32, body: &Body) -> Result<(), Fault>
     requires { IsTrue (is_closed (slice_get table.old.entries number)) }
-    ensures { Judges result (obeys_array table.old.entries (view_body body.now) (chain_at table.old.entries number)) (after_body (add table.old.entries other_entry) (view_body body.now)) table.new.entries }
+    ensures { Judges result
+        (obeys_array table.old.entries (view_body body.now) (chain_at table.old.entries number))
+        (after_body (add table.old.entries other_entry) (view_body body.now))
+        table.new.entries }
 {
     require(table.fit(number, Purpose::Array) == Fit::Fits)?;
     let code = element_code(table, number);
@@ -279,7 +300,10 @@ fn check_object(
     sections: &Vec<Section>,
 ) -> Result<(), Fault>
     requires { IsTrue (is_closed (slice_get table.old.entries number)) }
-    ensures { Judges result (obeys_object table.old.entries (view_sections sections.now.items) (chain_at table.old.entries number)) (after_sections (add table.old.entries other_entry) (view_sections sections.now.items)) table.new.entries }
+    ensures { Judges result
+        (obeys_object table.old.entries (view_sections sections.now.items) (chain_at table.old.entries number))
+        (after_sections (add table.old.entries other_entry) (view_sections sections.now.items))
+        table.new.entries }
 {
     require(table.fit(number, Purpose::Object) == Fit::Fits)?;
     let external = is_external(table, number);
@@ -295,7 +319,10 @@ fn check_object(
 #[cycle(obeys)]
 #[tactic(auto, using(crate::proofs::KeepLemmas::pending_plain, crate::proofs::KeepLemmas::pending_proxy))]
 fn check_desc(alloc: Global, table: &mut Table, desc: &Desc) -> Result<u32, Fault>
-    ensures judged { Judges result (obeys_desc table.old.entries (view_desc desc.now)) (after_desc table.old.entries (view_desc desc.now)) table.new.entries }
+    ensures judged { Judges result
+        (obeys_desc table.old.entries (view_desc desc.now))
+        (after_desc table.old.entries (view_desc desc.now))
+        table.new.entries }
     ensures class { IfOk result (λ number. IsClassAt table.new.entries number (chain_of_desc table.old.entries (view_desc desc.now))) }
 {
     match desc {
@@ -338,7 +365,10 @@ fn check_superclass(
     table: &mut Table,
     parent: &ClassPlace,
 ) -> Result<Option<u32>, Fault>
-    ensures judged { Judges result (obeys_superclass table.old.entries (view_class_place parent.now)) (after_class table.old.entries (view_class_place parent.now)) table.new.entries }
+    ensures judged { Judges result
+        (obeys_superclass table.old.entries (view_class_place parent.now))
+        (after_class table.old.entries (view_class_place parent.now))
+        table.new.entries }
     ensures parent { IfOk result (IsParentAt table.new.entries (chain_of_class table.old.entries (view_class_place parent.now))) }
 {
     match parent {
@@ -351,7 +381,10 @@ fn check_superclass(
 /// A class place. Gives the number of the class.
 #[cycle(obeys)]
 fn check_class(alloc: Global, table: &mut Table, descr: &ClassPlace) -> Result<u32, Fault>
-    ensures judged { Judges result (obeys_class table.old.entries (view_class_place descr.now)) (after_class table.old.entries (view_class_place descr.now)) table.new.entries }
+    ensures judged { Judges result
+        (obeys_class table.old.entries (view_class_place descr.now))
+        (after_class table.old.entries (view_class_place descr.now))
+        table.new.entries }
     ensures class { IfOk result (λ number. IsClassAt table.new.entries number (chain_of_class table.old.entries (view_class_place descr.now))) }
 {
     match descr {
@@ -364,7 +397,10 @@ fn check_class(alloc: Global, table: &mut Table, descr: &ClassPlace) -> Result<u
 /// The elements of an array: raw values of the type with this code, or values where there is none.
 #[cycle(obeys)]
 fn check_body(alloc: Global, table: &mut Table, body: &Body, code: Option<u8>) -> Result<(), Fault>
-    ensures { Judges result (obeys_body table.old.entries (view_body body.now) code) (after_body table.old.entries (view_body body.now)) table.new.entries }
+    ensures { Judges result
+        (obeys_body table.old.entries (view_body body.now) code)
+        (after_body table.old.entries (view_body body.now))
+        table.new.entries }
 {
     match body {
         Body::Prims(prims) => require(are_elements(code, prims)),
@@ -381,7 +417,10 @@ fn check_elements(
     code: Option<u8>,
     values: &[Value],
 ) -> Result<(), Fault>
-    ensures { Judges result (obeys_body table.old.entries (value_body (view_values values.now)) code) (after_values table.old.entries (view_values values.now)) table.new.entries }
+    ensures { Judges result
+        (obeys_body table.old.entries (value_body (view_values values.now)) code)
+        (after_values table.old.entries (view_values values.now))
+        table.new.entries }
 {
     require(code.is_none())?;
     require(is_count(values.len()))?;
@@ -390,7 +429,10 @@ fn check_elements(
 
 #[cycle(obeys)]
 fn check_values(alloc: Global, table: &mut Table, values: &[Value]) -> Result<(), Fault>
-    ensures { Judges result (obeys_values table.old.entries (view_values values.now)) (after_values table.old.entries (view_values values.now)) table.new.entries }
+    ensures { Judges result
+        (obeys_values table.old.entries (view_values values.now))
+        (after_values table.old.entries (view_values values.now))
+        table.new.entries }
 {
     'values: for value in values {
         check_value(alloc, table, value)?;
@@ -402,7 +444,10 @@ fn check_values(alloc: Global, table: &mut Table, values: &[Value]) -> Result<()
 #[cycle(obeys)]
 #[tactic(auto, using(crate::proofs::ObeysLemmas::only_section, crate::proofs::ObeysLemmas::more_sections))]
 fn check_external(alloc: Global, table: &mut Table, sections: &Vec<Section>) -> Result<(), Fault>
-    ensures { Judges result (obeys_external table.old.entries (view_sections sections.now.items)) (after_sections table.old.entries (view_sections sections.now.items)) table.new.entries }
+    ensures { Judges result
+        (obeys_external table.old.entries (view_sections sections.now.items))
+        (after_sections table.old.entries (view_sections sections.now.items))
+        table.new.entries }
 {
     match sections.as_slice() {
         [section] => check_alone(alloc, table, section),
@@ -414,7 +459,10 @@ fn check_external(alloc: Global, table: &mut Table, sections: &Vec<Section>) -> 
 #[cycle(obeys)]
 #[tactic(auto, using(crate::proofs::ObeysLemmas::after_bare))]
 fn check_alone(alloc: Global, table: &mut Table, section: &Section) -> Result<(), Fault>
-    ensures { Judges result (obeys_alone table.old.entries (view_section section.now)) (after_section table.old.entries (view_section section.now)) table.new.entries }
+    ensures { Judges result
+        (obeys_alone table.old.entries (view_section section.now))
+        (after_section table.old.entries (view_section section.now))
+        table.new.entries }
 {
     require(is_bare(section))?;
     match &section.notes {
@@ -433,7 +481,10 @@ fn check_sections(
     sections: &Vec<Section>,
 ) -> Result<(), Fault>
     requires { IsTrue (is_closed (slice_get table.old.entries number)) }
-    ensures { Judges result (obeys_sections table.old.entries (view_sections sections.now.items) (chain_at table.old.entries number)) (after_sections table.old.entries (view_sections sections.now.items)) table.new.entries }
+    ensures { Judges result
+        (obeys_sections table.old.entries (view_sections sections.now.items) (chain_at table.old.entries number))
+        (after_sections table.old.entries (view_sections sections.now.items))
+        table.new.entries }
 {
     require(sections.len() == table.layers(number))?;
     'sections: for (index, section) in sections.iter().enumerate() {
@@ -453,7 +504,10 @@ fn check_section(
 ) -> Result<(), Fault>
     requires closed { IsTrue (is_closed (slice_get table.old.entries number)) }
     requires index { index < length (chain_at table.old.entries number) }
-    ensures { Judges result (obeys_section_at table.old.entries (view_section section.now) (slice_get (chain_at table.old.entries number) index)) (after_section table.old.entries (view_section section.now)) table.new.entries }
+    ensures { Judges result
+        (obeys_section_at table.old.entries (view_section section.now) (slice_get (chain_at table.old.entries number) index))
+        (after_section table.old.entries (view_section section.now))
+        table.new.entries }
 {
     let layer = table.layer(number, index);
     require(is_section_of(layer, section))?;
@@ -471,7 +525,10 @@ fn check_section(
 /// The contents of an annotation: no reset stands there.
 #[cycle(obeys)]
 fn check_notes(alloc: Global, table: &mut Table, notes: &[Content]) -> Result<(), Fault>
-    ensures { Judges result (obeys_notes table.old.entries (view_contents notes.now)) (after_contents table.old.entries (view_contents notes.now)) table.new.entries }
+    ensures { Judges result
+        (obeys_notes table.old.entries (view_contents notes.now))
+        (after_contents table.old.entries (view_contents notes.now))
+        table.new.entries }
 {
     'notes: for content in notes {
         match content {

@@ -16,6 +16,10 @@ use std::alloc::{AllocError, Global};
 /// The first handle of an epoch.
 const BASE_WIRE_HANDLE: u32 = 0x7E0000;
 
+const SC_SERIALIZABLE: u8 = 0x02;
+
+const SC_EXTERNALIZABLE: u8 = 0x04;
+
 /// Whether the modified UTF-8 of a text has a length of 2 bytes, or of 8 bytes and below 2^63.
 pub(crate) fn is_text(long: bool, units: &[u16]) -> bool
     ensures { result ≡ obeys_text long units.now }
@@ -44,10 +48,13 @@ pub(crate) fn are_class_names(names: &[Vec<u16>]) -> bool
 }
 
 /// Whether the flags have no bit of E0, and not SC_SERIALIZABLE together with SC_EXTERNALIZABLE.
+#[tactic(auto, using(jser_table::proofs::FlagLemmas::serializable_bit, jser_table::proofs::FlagLemmas::externalizable_bit))]
 pub(crate) fn is_flags(flags: u8) -> bool
     ensures { result ≡ obeys_flags flags }
 {
-    flags < 32 && (flags / 2 % 2 == 0 || flags / 4 % 2 == 0)
+    let is_serializable = flags & SC_SERIALIZABLE != 0;
+    let is_externalizable = flags & SC_EXTERNALIZABLE != 0;
+    flags < 0x20 && !(is_serializable && is_externalizable)
 }
 
 /// Whether the handle of this number has four bytes.

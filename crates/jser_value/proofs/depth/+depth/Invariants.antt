@@ -1,4 +1,4 @@
-use Rattle.std.proofs.Common.{ℕ, ◌≤◌, drop}
+use Rattle.std.proofs.Common.{drop}
 use Rattle.jser_value.specs.Counts.{depth_in_values, depth_in_sections, depth_in_contents}
 use Rattle.jser_value.specs.View.{view_values, view_sections, view_contents}
 use Rattle.jser_value.proofs.DepthLemmas.{IsLeft}
