@@ -23,7 +23,7 @@ fn in_array(alloc: Global, descr: ClassPlace, value: Value) -> Result<Value, Val
 }
 
 /// So many arrays of the class `[LA;`, one inside the other, the innermost round this value.
-fn nest(alloc: Global, arrays: u32, innermost: Value) -> Build {
+pub fn nest(alloc: Global, arrays: u32, innermost: Value) -> Build {
     let mut value = innermost;
     for _ in 1..arrays {
         match in_array(alloc, ClassPlace::Back(0), value) {
@@ -115,20 +115,20 @@ fn worked_streams_are_accepted(rt: HostRuntime) -> Result<(), Fail> {
 }
 
 #[test]
-fn the_empty_list_is_accepted(rt: HostRuntime) {
+fn tree_empty(rt: HostRuntime) {
     let alloc = rt.alloc();
     assert!(rt; Contents::new(alloc, Vec::new(alloc)).is_ok());
 }
 
 #[test]
-fn a_depth_of_1000_is_accepted(rt: HostRuntime) -> Result<(), Fail> {
+fn tree_nest_999(rt: HostRuntime) -> Result<(), Fail> {
     let alloc = rt.alloc();
     assert!(rt; Contents::new(alloc, nest(alloc, 999, Value::Null)?).is_ok());
     Ok(())
 }
 
 #[test]
-fn a_depth_of_1001_is_too_deep(rt: HostRuntime) -> Result<(), Fail> {
+fn tree_nest_1000(rt: HostRuntime) -> Result<(), Fail> {
     let alloc = rt.alloc();
     let list = nest(alloc, 1000, Value::Null)?;
     let same = nest(alloc, 1000, Value::Null)?;
@@ -137,7 +137,7 @@ fn a_depth_of_1001_is_too_deep(rt: HostRuntime) -> Result<(), Fail> {
 }
 
 #[test]
-fn too_deep_goes_before_not_right(rt: HostRuntime) -> Result<(), Fail> {
+fn tree_deep_and_wrong(rt: HostRuntime) -> Result<(), Fail> {
     let alloc = rt.alloc();
     let list = nest(alloc, 1000, Value::Back(5000))?;
     let same = nest(alloc, 1000, Value::Back(5000))?;
@@ -146,7 +146,7 @@ fn too_deep_goes_before_not_right(rt: HostRuntime) -> Result<(), Fail> {
 }
 
 #[test]
-fn a_reference_to_no_handle_is_not_right(rt: HostRuntime) -> Result<(), Fail> {
+fn tree_not_right_reference(rt: HostRuntime) -> Result<(), Fail> {
     let alloc = rt.alloc();
     let list = vec![in alloc; Content::Value(Value::Back(0))]?;
     let same = vec![in alloc; Content::Value(Value::Back(0))]?;
@@ -168,7 +168,7 @@ fn reset_inside(alloc: Global) -> Build {
 }
 
 #[test]
-fn a_reset_in_an_annotation_is_not_right(rt: HostRuntime) -> Result<(), Fail> {
+fn tree_not_right_reset(rt: HostRuntime) -> Result<(), Fail> {
     let alloc = rt.alloc();
     let same = reset_inside(alloc)?;
     assert_answer(

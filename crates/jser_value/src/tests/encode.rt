@@ -1,8 +1,9 @@
 //! What goes out of worked streams, to sinks that take all, take little, fail and take nothing.
 ghost use Rattle.std.specs.Prelude.{true};
 
+use super::contents::nest;
 use super::trees::{self, Build};
-use crate::{Content, Contents, EncodeFault, encode};
+use crate::{Content, Contents, EncodeFault, Value, encode};
 use jser_prim::{Failed, Sink, ToWrite};
 use std::alloc::Global;
 use std::io::{self, Write};
@@ -109,6 +110,16 @@ fn worked_streams(rt: HostRuntime) -> Result<(), Fail> {
     )?;
     writes(&rt, trees::array_list(alloc), trees::ARRAY_LIST)?;
     writes(&rt, trees::superclass_first(alloc), trees::SUPERCLASS_FIRST)
+}
+
+/// Arrays within arrays, as deep as trees may be.
+#[test]
+fn tree_nest_999(rt: HostRuntime) -> Result<(), Fail> {
+    let contents = contents_of(rt.alloc(), nest(rt.alloc(), 999, Value::Null))?;
+    let mut page = Page::new(rt.alloc(), 4096, 20_000);
+    assert_eq!(rt; encode(&contents, &mut page)?, 10_010);
+    assert_eq!(rt; page.bytes.len(), 10_010);
+    Ok(())
 }
 
 /// A writer that fails, or takes no more, behind any number of bytes: just these went out.
