@@ -7,8 +7,8 @@ use Rattle.std.specs.declared.alloc.Global.{Global}
 use Rattle.jser_prim.specs.Bytes.{big_bytes}
 use Rattle.jser_prim.specs.ModifiedUtf8.{modified_utf8, unit_spelling}
 use Rattle.jser_prim.proofs.TextLemmas.{modified_utf8_more}
-use Rattle.jser_value.specs.Trees.{FieldTree, PrimTree, SectionTree, section, SectionTrees, section_and, ContentTrees, no_contents, content_and, ClassPlaceTree, plain, proxy, raw_body, value_body, ValueTrees, value_count, no_notes, annotation, block}
-use Rattle.jser_value.specs.Spelling.{utf, long_utf, reference, string_spelling, type_spelling, fields_spelling, interfaces_spelling, prims_spelling, prim_spelling, value_spelling, values_spelling, sections_spelling, notes_spelling, annotation_spelling, content_spelling, contents_spelling, block_head, class_spelling, desc_spelling, body_spelling}
+use Rattle.jser_grammar.specs.Trees.{FieldTree, PrimTree, SectionTree, section, SectionTrees, section_and, ContentTrees, no_contents, content_and, ClassPlaceTree, plain, proxy, raw_body, value_body, ValueTrees, value_count, no_notes, annotation, block}
+use Rattle.jser_grammar.specs.Spelling.{utf, long_utf, reference, string_spelling, type_spelling, fields_spelling, interfaces_spelling, prims_spelling, prim_spelling, value_spelling, values_spelling, sections_spelling, notes_spelling, annotation_spelling, content_spelling, contents_spelling, block_head, class_spelling, desc_spelling, body_spelling}
 use Rattle.jser_value.specs.View.{view_field, view_prim, view_value, view_values, view_content, view_contents, view_section, view_sections}
 use Rattle.jser_value.specs.declared.tree.Value.{Value}
 use Rattle.jser_value.specs.declared.tree.Content.{Content}

@@ -1,12 +1,12 @@
 -- What an outbox that began with nothing says of the whole stream.
-use Rattle.std.proofs.Common.{◌≡◌, ℕ, ◌+◌, ◌≤◌, min, Bool, true, false, List, [], ◌∷◌, ◌++◌, length, take, Option, refl, sym, ap, subst, ◌∙◌, arith, length-append}
+use Rattle.std.proofs.Common.{◌≡◌, ℕ, ◌≤◌, true, false, List, [], ◌∷◌, ◌++◌, length, take, Option, sym, ap, subst, ◌∙◌, arith, length-append}
 use Rattle.std.proofs.lemmas.List.{append-nil}
 use Rattle.std.proofs.Math.Seq.{take-append_seam}
 use Rattle.std.specs.Io.KnownBytes.{Appends}
-use Rattle.jser_value.specs.Trees.{ContentTrees}
-use Rattle.jser_value.specs.Spelling.{spelling, contents_spelling}
+use Rattle.jser_grammar.specs.Trees.{ContentTrees}
+use Rattle.jser_grammar.specs.Spelling.{spelling, contents_spelling}
 use Rattle.jser_value.specs.Limits.{IsContents}
-use Rattle.jser_value.specs.Outgoing.{Outgoing, SinkState, Hands, Puts, sink_state}
+use Rattle.jser_value.specs.Outgoing.{Outgoing, SinkState, Puts}
 use Rattle.jser_value.proofs.OutgoingLemmas.{puts_both}
 
 abbrev nothing : Outgoing

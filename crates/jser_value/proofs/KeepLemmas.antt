@@ -1,7 +1,7 @@
 -- A tree adds entries to the table of handles and changes none that was there.
 use Rattle.std.proofs.Common.{◌≡◌, true, ℕ, zero, suc, ◌<◌, ◌≤◌, List, [], ◌∷◌, ◌++◌, length, refl, sym, ap, ◌∙◌, arith, Option, Some, None, slice_get, slice_set, IsTrue, subst}
-use Rattle.jser_value.proofs.Vocabulary.{TableEntry, text_entry, other_entry, pending_entry, closed_entry, is_pending, is_closed, chain_of, chain_at, Layer, TextPlaceTree, new_text, back_text, FieldTree, ValueTree, null, back, string, descriptor, class_object, array, enum_constant, object, DescTree, plain, proxy, ClassPlaceTree, no_class, back_class, new_class, BodyTree, raw_body, value_body, ValueTrees, no_values, value_and, section, SectionTree, SectionTrees, no_sections, section_and, NotesTree, no_notes, annotation, block, reset, content, ContentTrees, no_contents, content_and, Entries, add, close, plain_layer, proxy_layer, after_text_place, after_type, after_fields, after_value, after_desc, after_class, after_body, after_values, after_sections, after_notes, after_contents, chain_of_class, chain_of_desc}
-use Rattle.jser_value.proofs.TableLemmas.{length-add, slice_get-slice_set}
+use Rattle.jser_grammar.proofs.Vocabulary.{TableEntry, text_entry, other_entry, pending_entry, closed_entry, is_pending, is_closed, chain_of, chain_at, Layer, TextPlaceTree, new_text, back_text, FieldTree, ValueTree, null, back, string, descriptor, class_object, array, enum_constant, object, DescTree, plain, proxy, ClassPlaceTree, no_class, back_class, new_class, BodyTree, raw_body, value_body, ValueTrees, no_values, value_and, section, SectionTree, SectionTrees, no_sections, section_and, NotesTree, no_notes, annotation, block, reset, content, ContentTrees, no_contents, content_and, Entries, add, close, plain_layer, proxy_layer, after_text_place, after_type, after_fields, after_value, after_desc, after_class, after_body, after_values, after_sections, after_notes, after_contents, chain_of_class, chain_of_desc}
+use Rattle.jser_grammar.proofs.TableLemmas.{length-add, slice_get-slice_set}
 use Rattle.jser_table.specs.Tables.{closed_under}
 use Rattle.jser_value.specs.Tests.{IsClassAt, IsParentAt, after_section}
 

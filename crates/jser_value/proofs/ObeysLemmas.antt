@@ -10,11 +10,11 @@ use Rattle.jser_value.specs.declared.obeys.Fault.TheVariants as fault
 use Rattle.jser_value.specs.declared.tree.Prim.{Prim}
 use Rattle.jser_value.specs.declared.tree.Section.{Section}
 use Rattle.jser_table.specs.Entries.{chain_at}
-use Rattle.jser_value.proofs.Bools.{and_right}
+use Rattle.jser_grammar.proofs.Bools.{and_right}
 use Rattle.jser_value.proofs.KeepLemmas.{class_behind_section}
-use Rattle.jser_value.specs.TableAfter.{Entries, after_values, after_sections, after_contents}
+use Rattle.jser_grammar.specs.TableAfter.{Entries, after_values, after_sections, after_contents}
 use Rattle.jser_value.specs.Tests.{Judges, is_bare, obeys_alone, obeys_notes, obeys_external, obeys_section, obeys_section_at, obeys_sections, after_section, IsClassAt}
-use Rattle.jser_value.specs.Trees.{PrimTree, ValueTrees, no_values, value_and, value_count, SectionTrees, no_sections, section_and, SectionTree, section, annotation, ContentTrees}
+use Rattle.jser_grammar.specs.Trees.{PrimTree, ValueTrees, no_values, value_and, value_count, SectionTrees, no_sections, section_and, SectionTree, section, annotation, ContentTrees}
 use Rattle.jser_value.specs.View.{view_prim, view_values, view_section, view_sections}
 
 pub record Awaits (left whole : Bool) (after_left after_whole : Entries) : Type 0 where

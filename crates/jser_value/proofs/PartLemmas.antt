@@ -3,10 +3,10 @@ use Rattle.std.proofs.Common.{◌≡◌, ℕ, suc, ◌+◌, ◌<◌, Bool, true,
 use Rattle.std.proofs.lemmas.Bool.Decides.{nat_tests}
 use Rattle.jser_prim.specs.ModifiedUtf8.{modified_utf8}
 use Rattle.jser_value.specs.declared.tree.Field.{Field}
-use Rattle.jser_value.specs.Parts.{text_bound, block_bound}
+use Rattle.jser_grammar.specs.Parts.{text_bound, block_bound}
 use Rattle.jser_value.specs.PartTests.{all_below, obeys_text, obeys_block}
 use Rattle.jser_value.specs.Rooms.{Leaves}
-use Rattle.jser_value.specs.TableAfter.{codes_of}
+use Rattle.jser_grammar.specs.TableAfter.{codes_of}
 use Rattle.jser_value.specs.View.{view_field}
 
 -- the type codes of fields, one by one

@@ -3,8 +3,8 @@ use Rattle.std.proofs.Common.{◌≡◌, ◌==◌, ℕ, suc, ◌+◌, ◌<◌, �
 use Rattle.std.proofs.lemmas.Bool.Decides.{nat_tests}
 use Rattle.std.specs.List.{list_all}
 use Rattle.jser_table.specs.declared.layer.Purpose.TheVariants as purpose
-use Rattle.jser_value.proofs.Bools.{and_left, and_right, and_both}
-use Rattle.jser_value.proofs.Vocabulary.{is_serializable, is_externalizable, fits, name_kind, Layer, has_write_method, pending_entry, other_entry, modified_utf8, PrimCode, byte_code, char_code, double_code, float_code, int_code, long_code, short_code, boolean_code, letter_of, size_of, prim_code_of, is_object_code, with_code, primitive_codes, object_count, TextPlaceTree, new_text, back_text, FieldTree, PrimTree, ValueTree, null, back, string, descriptor, class_object, array, enum_constant, object, DescTree, plain, proxy, ClassPlaceTree, no_class, back_class, new_class, BodyTree, raw_body, value_body, ValueTrees, no_values, value_and, section, SectionTrees, no_sections, section_and, NotesTree, no_notes, annotation, block, reset, content, ContentTrees, no_contents, content_and, value_count, Entries, add, after_type, after_fields, after_value, after_class, after_values, after_notes, after_contents, chain_of_class, text_bound, IsText, is_malformed, IsClassName, AreClassNames, IsFlags, IsBack, IsBackToText, IsBackToClass, WellFormedText, WellFormedType, WellFormedFields, IsPrimOf, ArePrimsOf, ArePrims, block_bound, IsBlock, elements_of, is_external, WellFormedValue, WellFormedDesc, WellFormedClass, WellFormedSuperclass, WellFormedBody, WellFormedValues, WellFormedExternal, WellFormedSections, WellFormedNotesIf, WellFormedNotes, WellFormedContents, WellFormed}
+use Rattle.jser_grammar.proofs.Bools.{and_left, and_right, and_both}
+use Rattle.jser_grammar.proofs.Vocabulary.{is_serializable, is_externalizable, fits, name_kind, Layer, has_write_method, pending_entry, other_entry, modified_utf8, PrimCode, byte_code, char_code, double_code, float_code, int_code, long_code, short_code, boolean_code, letter_of, size_of, prim_code_of, is_object_code, with_code, primitive_codes, object_count, TextPlaceTree, new_text, back_text, FieldTree, PrimTree, ValueTree, null, back, string, descriptor, class_object, array, enum_constant, object, DescTree, plain, proxy, ClassPlaceTree, no_class, back_class, new_class, BodyTree, raw_body, value_body, ValueTrees, no_values, value_and, section, SectionTrees, no_sections, section_and, NotesTree, no_notes, annotation, block, reset, content, ContentTrees, no_contents, content_and, value_count, Entries, add, after_type, after_fields, after_value, after_class, after_values, after_notes, after_contents, chain_of_class, text_bound, IsText, is_malformed, IsClassName, AreClassNames, IsFlags, IsBack, IsBackToText, IsBackToClass, WellFormedText, WellFormedType, WellFormedFields, IsPrimOf, ArePrimsOf, ArePrims, block_bound, IsBlock, elements_of, is_external, WellFormedValue, WellFormedDesc, WellFormedClass, WellFormedSuperclass, WellFormedBody, WellFormedValues, WellFormedExternal, WellFormedSections, WellFormedNotesIf, WellFormedNotes, WellFormedContents, WellFormed}
 use Rattle.jser_value.specs.PartTests.{all_below, obeys_text, obeys_class_name, obeys_class_names, obeys_flags, obeys_back, obeys_back_to_text, obeys_back_to_class, obeys_text_place, obeys_type, obeys_fields, is_prim_of, obeys_prims, obeys_block}
 use Rattle.jser_value.specs.Tests.{obeys_value, obeys_desc, obeys_class, obeys_superclass, obeys_body, obeys_values, obeys_external, obeys_sections, obeys_notes_if, obeys_notes, obeys_contents}
 

@@ -1,7 +1,6 @@
 -- Bytes that a sink takes in several calls.
 use Rattle.std.proofs.Common.{◌≡◌, ◌+◌, ◌≤◌, ℕ, zero, suc, List, [], ◌∷◌, ◌++◌, zero-add, arith, length, take, drop, Option, refl, sym, ap, subst, ◌∙◌, take_all}
 use Rattle.std.specs.Io.KnownBytes.{Appends}
-use Rattle.std.proofs.lemmas.List.{take-append-drop}
 use Rattle.jser_value.proofs.OutgoingLemmas.{appends_both}
 
 take-nil : (n : ℕ) → take {A = ℕ} n [] ≡ []

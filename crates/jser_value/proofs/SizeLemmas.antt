@@ -1,7 +1,7 @@
 -- How long spellings are.
 use Rattle.std.proofs.Common.{◌≡◌, ◌+◌, length, refl, arith, length-append}
-use Rattle.jser_value.specs.Trees.{ContentTrees, no_contents, content_and}
-use Rattle.jser_value.specs.Spelling.{annotation_spelling, contents_spelling, content_spelling}
+use Rattle.jser_grammar.specs.Trees.{ContentTrees, no_contents, content_and}
+use Rattle.jser_grammar.specs.Spelling.{annotation_spelling, contents_spelling, content_spelling}
 
 -- an annotation has one byte more than its contents
 pub length_annotation : (cs : ContentTrees) → length (annotation_spelling cs) ≡ length (contents_spelling cs) + 1

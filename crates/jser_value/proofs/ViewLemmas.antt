@@ -1,13 +1,12 @@
 -- The tree of each form of a value.
 use Rattle.std.specs.Prelude.{Vec, Option, Some, None}
 use Rattle.std.specs.declared.alloc.Global.{Global}
-use Rattle.std.proofs.Common.{◌≡◌, ℕ, Bool, List, map, rules, refl}
+use Rattle.std.proofs.Common.{◌≡◌, ℕ, Bool, map, rules, refl}
 use Rattle.jser_value.specs.declared.tree.Body.{Body, the_lemmas}
 use Rattle.jser_value.specs.declared.tree.Body.TheVariants as body
 use Rattle.jser_value.specs.declared.tree.ClassPlace.{ClassPlace}
 use Rattle.jser_value.specs.declared.tree.Content.{Content}
 use Rattle.jser_value.specs.declared.tree.Content.TheVariants as content_form
-use Rattle.jser_value.specs.declared.tree.Desc.{Desc}
 use Rattle.jser_value.specs.declared.tree.Desc.TheVariants as desc
 use Rattle.jser_value.specs.declared.tree.Field.{Field}
 use Rattle.jser_value.specs.declared.tree.Prim.{Prim}
@@ -15,7 +14,7 @@ use Rattle.jser_value.specs.declared.tree.Section.{Section, out-Section}
 use Rattle.jser_value.specs.declared.tree.TextPlace.{TextPlace}
 use Rattle.jser_value.specs.declared.tree.Value.{Value}
 use Rattle.jser_value.specs.declared.tree.Value.TheVariants as value
-use Rattle.jser_value.specs.Trees.{class_object, array, enum_constant, object, plain, proxy, raw_body, value_body, section, annotation, no_notes, block, SectionTree, NotesTree}
+use Rattle.jser_grammar.specs.Trees.{class_object, array, enum_constant, object, plain, proxy, raw_body, value_body, section, annotation, no_notes, block, NotesTree}
 use Rattle.jser_value.specs.View.{view_text_place, view_field, view_prim, view_body, view_class_place, view_content, view_desc, view_value, view_section, view_values, view_sections, view_contents}
 
 pub view_class_object : (c : ClassPlace) → view_value (value.ClassObject c) ≡ class_object (view_class_place c)

@@ -5,10 +5,10 @@ use Rattle.jser_value.specs.declared.contents.Contents.{Contents}
 use Rattle.jser_value.specs.declared.contents.ValueCause.{ValueCause}
 use Rattle.jser_value.specs.declared.contents.ValueCause.TheVariants as cause
 use Rattle.jser_value.specs.declared.contents.ValueFault.{ValueFault}
-use Rattle.jser_value.specs.Trees.{ContentTrees}
-use Rattle.jser_value.specs.Spelling.{spelling}
-use Rattle.jser_value.specs.WellFormed.{WellFormed}
-use Rattle.jser_value.specs.Counts.{depth_of}
+use Rattle.jser_grammar.specs.Trees.{ContentTrees}
+use Rattle.jser_grammar.specs.Spelling.{spelling}
+use Rattle.jser_grammar.specs.WellFormed.{WellFormed}
+use Rattle.jser_grammar.specs.Counts.{depth_of}
 
 -- neither deeper nor longer than trees may be
 pub record IsWithin (contents : ContentTrees) : Type 0 where

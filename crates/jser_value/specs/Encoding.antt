@@ -1,8 +1,8 @@
 -- Parts of the layouts that the encoder writes by themselves, as `Spelling` joins them.
 use Rattle.std.specs.Prelude.{ℕ, List, ◌∷◌, ◌++◌, length}
 use Rattle.jser_prim.specs.Bytes.{big_bytes}
-use Rattle.jser_value.specs.Trees.{FieldTree, SectionTree, section}
-use Rattle.jser_value.specs.Spelling.{utf, type_spelling, fields_spelling, interfaces_spelling, prims_spelling, values_spelling, notes_spelling}
+use Rattle.jser_grammar.specs.Trees.{FieldTree, SectionTree, section}
+use Rattle.jser_grammar.specs.Spelling.{utf, type_spelling, fields_spelling, interfaces_spelling, prims_spelling, values_spelling, notes_spelling}
 
 abbrev pub field_spelling : FieldTree → List ℕ
 field_spelling f = f.code ∷ (utf f.name ++ type_spelling f.text)

@@ -1,10 +1,10 @@
 -- How far the trees in memory go: a list of contents that obeys the format, no deeper than a recursion may
 -- go, and no longer than 2^31 - 1 bytes.
 use Rattle.std.specs.Prelude.{◌≤◌, length}
-use Rattle.jser_value.specs.Trees.{ContentTrees}
-use Rattle.jser_value.specs.Spelling.{spelling}
-use Rattle.jser_value.specs.WellFormed.{WellFormed}
-use Rattle.jser_value.specs.Counts.{depth_of}
+use Rattle.jser_grammar.specs.Trees.{ContentTrees}
+use Rattle.jser_grammar.specs.Spelling.{spelling}
+use Rattle.jser_grammar.specs.WellFormed.{WellFormed}
+use Rattle.jser_grammar.specs.Counts.{depth_of}
 
 pub record IsContents (contents : ContentTrees) : Type 0 where
   pub well_formed : WellFormed contents

@@ -6,10 +6,10 @@ use Rattle.jser_prim.specs.ModifiedUtf8.{modified_utf8}
 use Rattle.jser_table.specs.Chains.{is_serializable, is_externalizable}
 use Rattle.jser_table.specs.Entries.{is_text, is_closed}
 use Rattle.jser_table.specs.Names.{name_kind}
-use Rattle.jser_value.specs.Codes.{size_of, letter_of, prim_code_of, is_object_code}
-use Rattle.jser_value.specs.Trees.{TextPlaceTree, new_text, back_text, FieldTree, PrimTree}
-use Rattle.jser_value.specs.TableAfter.{Entries, after_type}
-use Rattle.jser_value.specs.Parts.{text_bound, is_malformed, block_bound}
+use Rattle.jser_grammar.specs.Codes.{size_of, letter_of, prim_code_of, is_object_code}
+use Rattle.jser_grammar.specs.Trees.{TextPlaceTree, new_text, back_text, FieldTree, PrimTree}
+use Rattle.jser_grammar.specs.TableAfter.{Entries, after_type}
+use Rattle.jser_grammar.specs.Parts.{text_bound, is_malformed, block_bound}
 
 -- these numbers are below a bound
 abbrev pub all_below : ℕ → List ℕ → Bool

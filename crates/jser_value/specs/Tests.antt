@@ -11,10 +11,10 @@ use Rattle.jser_table.specs.Entries.{pending_entry, other_entry, is_closed, chai
 use Rattle.jser_table.specs.Fits.{fits}
 use Rattle.jser_value.specs.declared.obeys.Fault.{Fault}
 use Rattle.jser_value.specs.declared.obeys.Fault.TheVariants as fault
-use Rattle.jser_value.specs.Codes.{letter_of, object_count}
-use Rattle.jser_value.specs.Trees.{ValueTree, null, back, string, descriptor, class_object, array, enum_constant, object, DescTree, plain, proxy, ClassPlaceTree, no_class, back_class, new_class, BodyTree, raw_body, value_body, ValueTrees, no_values, value_and, value_count, SectionTree, section, SectionTrees, no_sections, section_and, NotesTree, no_notes, annotation, block, reset, content, ContentTrees, no_contents, content_and, FieldTree, PrimTree, TextPlaceTree}
-use Rattle.jser_value.specs.TableAfter.{Entries, add, after_fields, after_value, after_class, after_values, after_notes, after_contents, chain_of_class}
-use Rattle.jser_value.specs.Parts.{elements_of, is_external}
+use Rattle.jser_grammar.specs.Codes.{letter_of, object_count}
+use Rattle.jser_grammar.specs.Trees.{ValueTree, null, back, string, descriptor, class_object, array, enum_constant, object, DescTree, plain, proxy, ClassPlaceTree, no_class, back_class, new_class, BodyTree, raw_body, value_body, ValueTrees, no_values, value_and, value_count, SectionTree, section, SectionTrees, no_sections, section_and, NotesTree, no_notes, annotation, block, reset, content, ContentTrees, no_contents, content_and, FieldTree, PrimTree, TextPlaceTree}
+use Rattle.jser_grammar.specs.TableAfter.{Entries, add, after_fields, after_value, after_class, after_values, after_notes, after_contents, chain_of_class}
+use Rattle.jser_grammar.specs.Parts.{elements_of, is_external}
 use Rattle.jser_value.specs.PartTests.{obeys_text, obeys_class_name, obeys_class_names, obeys_flags, obeys_back, obeys_back_to_class, obeys_text_place, obeys_fields, is_prim_of, obeys_prims, obeys_block}
 
 -- the type code of an array's raw elements

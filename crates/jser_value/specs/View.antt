@@ -17,8 +17,8 @@ use Rattle.jser_value.specs.declared.tree.Content.{Content}
 use Rattle.jser_value.specs.declared.tree.Desc.{Desc}
 use Rattle.jser_value.specs.declared.tree.Value.{Value}
 use Rattle.jser_value.specs.declared.tree.Section.{Section}
-use Rattle.jser_value.specs.Codes.{byte_code, char_code, double_code, float_code, int_code, long_code, short_code, boolean_code}
-use Rattle.jser_value.specs.Trees.{TextTree, TextPlaceTree, new_text, back_text, FieldTree, PrimTree, ValueTree, null, back, string, descriptor, class_object, array, enum_constant, object, DescTree, plain, proxy, ClassPlaceTree, no_class, back_class, new_class, BodyTree, raw_body, value_body, ValueTrees, no_values, value_and, SectionTree, section, SectionTrees, no_sections, section_and, NotesTree, no_notes, annotation, ContentTree, block, reset, content, ContentTrees, no_contents, content_and}
+use Rattle.jser_grammar.specs.Codes.{byte_code, char_code, double_code, float_code, int_code, long_code, short_code, boolean_code}
+use Rattle.jser_grammar.specs.Trees.{TextTree, TextPlaceTree, new_text, back_text, FieldTree, PrimTree, ValueTree, null, back, string, descriptor, class_object, array, enum_constant, object, DescTree, plain, proxy, ClassPlaceTree, no_class, back_class, new_class, BodyTree, raw_body, value_body, ValueTrees, no_values, value_and, SectionTree, section, SectionTrees, no_sections, section_and, NotesTree, no_notes, annotation, ContentTree, block, reset, content, ContentTrees, no_contents, content_and}
 
 abbrev pub view_text : Text → TextTree
 view_text t = record { long = t.long; units = t.units.items }

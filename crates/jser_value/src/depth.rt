@@ -1,7 +1,7 @@
 //! How deep a tree goes, tested without going further down than it may. `specs/Counts.antt` says where a
 //! place is one deeper; there `room`, how many levels are left, is one less.
 ghost use Rattle.std.specs.Prelude.{suc, [], ◌∷◌};
-ghost use Rattle.jser_value.specs.Counts.{depth_of_value, depth_in_desc, depth_in_class, depth_in_body, depth_in_values, depth_in_sections, depth_in_contents};
+ghost use Rattle.jser_grammar.specs.Counts.{depth_of_value, depth_in_desc, depth_in_class, depth_in_body, depth_in_values, depth_in_sections, depth_in_contents};
 ghost use Rattle.jser_value.specs.Rooms.{FitsRoom};
 ghost use Rattle.jser_value.specs.View.{view_value, view_desc, view_class_place, view_body, view_values, view_sections, view_contents};
 

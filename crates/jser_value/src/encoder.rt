@@ -12,7 +12,7 @@ ghost use Rattle.jser_value.specs.Encoding.{field_spelling, section_spelling, pl
 ghost use Rattle.jser_value.specs.Encoded.{WroteFirst};
 ghost use Rattle.jser_value.specs.Outgoing.{PutsTo};
 ghost use Rattle.jser_value.specs.View.{view_text, view_text_place, view_field, view_prim, view_body, view_class_place, view_content, view_desc, view_value, view_section, view_values, view_sections, view_contents};
-ghost use Rattle.jser_value.specs.Spelling.{value_spelling, desc_spelling, class_spelling, body_spelling, values_spelling, sections_spelling, notes_spelling, annotation_spelling, content_spelling, contents_spelling, string_spelling, text_place_spelling, type_spelling, fields_spelling, interfaces_spelling, prim_spelling, prims_spelling, utf, long_utf, reference, block_head, spelling};
+ghost use Rattle.jser_grammar.specs.Spelling.{value_spelling, desc_spelling, class_spelling, body_spelling, values_spelling, sections_spelling, notes_spelling, annotation_spelling, content_spelling, contents_spelling, string_spelling, text_place_spelling, type_spelling, fields_spelling, interfaces_spelling, prim_spelling, prims_spelling, utf, long_utf, reference, block_head, spelling};
 
 use crate::contents::Contents;
 use crate::outbox::Outbox;

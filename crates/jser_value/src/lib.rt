@@ -1,6 +1,6 @@
-//! What a stream is: the trees of its contents, the bytes that spell them, and which trees obey the
-//! format. `specs/` has the definitions, by the grammar of the Java Object Serialization Specification,
-//! section 6.4; `laws` has what holds of them alone.
+//! Trees of a Java object serialization stream (Java Object Serialization Specification, section 6.4): the
+//! check that a list of contents obeys the format, and the encoder that writes it. What a stream is stands in
+//! jser_grammar; `laws` has what holds of the definitions alone.
 #![tactic(auto)]
 
 mod contents;

@@ -7,11 +7,11 @@ ghost use Rattle.std.specs.Option.{option_copied};
 ghost use Rattle.jser_table.specs.Chains.{own_layer};
 ghost use Rattle.jser_table.specs.Entries.{is_closed, chain_at, other_entry};
 ghost use Rattle.jser_table.specs.Tables.{new_entry};
-ghost use Rattle.jser_value.specs.Parts.{is_external};
+ghost use Rattle.jser_grammar.specs.Parts.{is_external};
 ghost use Rattle.jser_value.specs.PartTests.{obeys_text_place, obeys_type, obeys_fields, obeys_back_to_class};
-ghost use Rattle.jser_value.specs.TableAfter.{add, plain_layer, proxy_layer, after_text_place, after_type, after_fields, after_value, after_desc, after_class, after_body, after_values, after_sections, after_notes, after_contents, chain_of_class, chain_of_desc};
+ghost use Rattle.jser_grammar.specs.TableAfter.{add, plain_layer, proxy_layer, after_text_place, after_type, after_fields, after_value, after_desc, after_class, after_body, after_values, after_sections, after_notes, after_contents, chain_of_class, chain_of_desc};
 ghost use Rattle.jser_value.specs.Tests.{element_code, is_bare, obeys_layer, obeys_head, obeys_interfaces, obeys_value, obeys_desc, obeys_class, obeys_superclass, obeys_raw_body, obeys_body, obeys_values, obeys_external, obeys_sections, obeys_notes, obeys_contents, obeys_array, obeys_enum_constant, obeys_object, obeys_section_at, obeys_alone, after_section, Judges, IsClassAt, IsParentAt};
-ghost use Rattle.jser_value.specs.Trees.{value_body};
+ghost use Rattle.jser_grammar.specs.Trees.{value_body};
 ghost use Rattle.jser_value.specs.View.{view_text_place, view_field, view_prim, view_value, view_desc, view_class_place, view_body, view_values, view_section, view_sections, view_contents};
 
 use crate::parts::{

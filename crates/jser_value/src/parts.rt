@@ -2,10 +2,10 @@
 //! `specs/Parts.antt` has the rules.
 ghost use Rattle.std.specs.Prelude.{◌≡◌, map, is_some, option_map, IfOk};
 ghost use Rattle.std.specs.List.{list_all};
-ghost use Rattle.jser_value.specs.Codes.{prim_code_of, is_object_code, letter_of, object_count};
-ghost use Rattle.jser_value.specs.Parts.{elements_of_kind};
+ghost use Rattle.jser_grammar.specs.Codes.{prim_code_of, is_object_code, letter_of, object_count};
+ghost use Rattle.jser_grammar.specs.Parts.{elements_of_kind};
 ghost use Rattle.jser_value.specs.PartTests.{obeys_text, obeys_class_name, obeys_class_names, obeys_flags, is_handle, is_prim_of, obeys_prims, obeys_block};
-ghost use Rattle.jser_value.specs.TableAfter.{codes_of};
+ghost use Rattle.jser_grammar.specs.TableAfter.{codes_of};
 ghost use Rattle.jser_value.specs.View.{view_prim, view_field};
 
 use crate::size::after_units;

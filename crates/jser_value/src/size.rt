@@ -7,7 +7,7 @@ ghost use Rattle.std.specs.Option.{option_map};
 ghost use Rattle.jser_prim.specs.ModifiedUtf8.{modified_utf8, unit_spelling};
 ghost use Rattle.jser_value.specs.Rooms.{Leaves};
 ghost use Rattle.jser_value.specs.View.{view_text, view_text_place, view_field, view_prim, view_value, view_desc, view_class_place, view_body, view_values, view_sections, view_contents, view_content};
-ghost use Rattle.jser_value.specs.Spelling.{value_spelling, desc_spelling, class_spelling, body_spelling, values_spelling, sections_spelling, annotation_spelling, content_spelling, contents_spelling, string_spelling, text_place_spelling, type_spelling, fields_spelling, interfaces_spelling, prims_spelling, utf};
+ghost use Rattle.jser_grammar.specs.Spelling.{value_spelling, desc_spelling, class_spelling, body_spelling, values_spelling, sections_spelling, annotation_spelling, content_spelling, contents_spelling, string_spelling, text_place_spelling, type_spelling, fields_spelling, interfaces_spelling, prims_spelling, utf};
 
 use crate::tree::{Body, ClassPlace, Content, Desc, Field, Prim, Section, Text, TextPlace, Value};
 

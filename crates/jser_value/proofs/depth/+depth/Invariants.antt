@@ -1,5 +1,5 @@
 use Rattle.std.proofs.Common.{drop}
-use Rattle.jser_value.specs.Counts.{depth_in_values, depth_in_sections, depth_in_contents}
+use Rattle.jser_grammar.specs.Counts.{depth_in_values, depth_in_sections, depth_in_contents}
 use Rattle.jser_value.specs.View.{view_values, view_sections, view_contents}
 use Rattle.jser_value.proofs.DepthLemmas.{IsLeft}
 use Rattle.jser_value.proofs.depth.+depth.Given as goal

@@ -1,4 +1,3 @@
-use Rattle.std.proofs.Common.{arith, refl}
 use Rattle.jser_value.specs.Encoding.{field_spelling}
 use Rattle.jser_value.specs.View.{view_field}
 use Rattle.jser_value.proofs.EncodeLemmas.{puts_next, puts_all, fields_flat}

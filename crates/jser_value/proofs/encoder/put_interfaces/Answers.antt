@@ -1,5 +1,4 @@
-use Rattle.std.proofs.Common.{arith, refl}
-use Rattle.jser_value.specs.Spelling.{utf}
+use Rattle.jser_grammar.specs.Spelling.{utf}
 use Rattle.jser_value.proofs.EncodeLemmas.{puts_next, puts_all, interfaces_flat}
 use Rattle.jser_value.proofs.encoder.put_interfaces.Goals as goal
 

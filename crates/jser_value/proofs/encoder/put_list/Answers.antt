@@ -1,5 +1,4 @@
-use Rattle.std.proofs.Common.{arith, refl}
-use Rattle.jser_value.specs.Spelling.{content_spelling}
+use Rattle.jser_grammar.specs.Spelling.{content_spelling}
 use Rattle.jser_value.specs.View.{view_content}
 use Rattle.jser_value.proofs.EncodeLemmas.{puts_next, puts_all, contents_flat}
 use Rattle.jser_value.proofs.encoder.put_list.Goals as goal

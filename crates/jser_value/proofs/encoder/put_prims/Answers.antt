@@ -1,6 +1,5 @@
-use Rattle.std.proofs.Common.{arith, refl}
 use Rattle.std.proofs.lemmas.List.{get_or_default}
-use Rattle.jser_value.specs.Spelling.{prim_spelling}
+use Rattle.jser_grammar.specs.Spelling.{prim_spelling}
 use Rattle.jser_value.specs.View.{view_prim}
 use Rattle.jser_value.proofs.EncodeLemmas.{puts_next, puts_all, prims_flat}
 use Rattle.jser_value.proofs.encoder.put_prims.Goals as goal

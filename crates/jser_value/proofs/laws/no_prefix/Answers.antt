@@ -1,4 +1,4 @@
-use Rattle.jser_value.proofs.OneReading.{no_prefix_law}
+use Rattle.jser_reading.proofs.OneReading.{no_prefix_law}
 use Rattle.jser_value.proofs.laws.no_prefix.Goals as goal
 
 pub returns : goal.returns

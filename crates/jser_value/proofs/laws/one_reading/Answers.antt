@@ -1,4 +1,4 @@
-use Rattle.jser_value.proofs.OneReading.{one_reading_law}
+use Rattle.jser_reading.proofs.OneReading.{one_reading_law}
 use Rattle.jser_value.proofs.laws.one_reading.Goals as goal
 
 pub returns : goal.returns

@@ -1,6 +1,6 @@
 use Rattle.std.proofs.Common.{drop, length}
 use Rattle.jser_table.specs.Entries.{chain_at}
-use Rattle.jser_value.specs.TableAfter.{after_values, after_sections, after_contents}
+use Rattle.jser_grammar.specs.TableAfter.{after_values, after_sections, after_contents}
 use Rattle.jser_value.specs.Tests.{obeys_values, obeys_sections, obeys_notes}
 use Rattle.jser_value.specs.View.{view_values, view_sections, view_contents}
 use Rattle.jser_value.proofs.ObeysLemmas.{Awaits, AwaitsSections}

@@ -1,6 +1,6 @@
 use Rattle.std.proofs.Common.{map, drop, false}
 use Rattle.jser_value.specs.PartTests.{obeys_fields}
-use Rattle.jser_value.specs.TableAfter.{after_fields}
+use Rattle.jser_grammar.specs.TableAfter.{after_fields}
 use Rattle.jser_value.specs.View.{view_field}
 use Rattle.jser_value.proofs.ObeysLemmas.{Awaits}
 use Rattle.jser_value.proofs.obeys.check_fields.Given as goal

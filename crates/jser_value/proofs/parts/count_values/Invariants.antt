@@ -1,5 +1,5 @@
 use Rattle.std.proofs.Common.{◌≡◌, ◌≤◌, ◌+◌, drop}
-use Rattle.jser_value.specs.Codes.{object_count}
+use Rattle.jser_grammar.specs.Codes.{object_count}
 use Rattle.jser_value.proofs.parts.count_values.Given as goal
 
 abbrev pub invariant-loop-code : goal.invariant-loop-code

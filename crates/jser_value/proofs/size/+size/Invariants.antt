@@ -1,5 +1,5 @@
 use Rattle.std.proofs.Common.{◌≡◌, ◌+◌, length, drop}
-use Rattle.jser_value.specs.Spelling.{values_spelling, sections_spelling, contents_spelling}
+use Rattle.jser_grammar.specs.Spelling.{values_spelling, sections_spelling, contents_spelling}
 use Rattle.jser_value.specs.View.{view_values, view_sections, view_contents}
 use Rattle.jser_value.proofs.size.+size.Given as goal
 

@@ -1,5 +1,5 @@
 use Rattle.std.proofs.Common.{◌≡◌, ◌+◌, length, map, drop}
-use Rattle.jser_value.specs.Spelling.{fields_spelling}
+use Rattle.jser_grammar.specs.Spelling.{fields_spelling}
 use Rattle.jser_value.specs.View.{view_field}
 use Rattle.jser_value.proofs.size.after_fields.Given as goal
 

@@ -1,5 +1,5 @@
 use Rattle.std.proofs.Common.{◌≡◌, ◌+◌, length, map, drop}
-use Rattle.jser_value.specs.Spelling.{interfaces_spelling}
+use Rattle.jser_grammar.specs.Spelling.{interfaces_spelling}
 use Rattle.jser_value.proofs.size.after_interfaces.Given as goal
 
 abbrev pub invariant-loop-name : goal.invariant-loop-name

@@ -1,5 +1,5 @@
 use Rattle.std.proofs.Common.{◌≡◌, ◌+◌, length, map, drop}
-use Rattle.jser_value.specs.Spelling.{prims_spelling}
+use Rattle.jser_grammar.specs.Spelling.{prims_spelling}
 use Rattle.jser_value.specs.View.{view_prim}
 use Rattle.jser_value.proofs.size.after_prims.Given as goal
 

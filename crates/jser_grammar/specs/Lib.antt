@@ -1,0 +1,9 @@
+pub mod Codes
+pub mod Trees
+pub mod Spelling
+pub mod TableAfter
+pub mod Parts
+pub mod WellFormed
+pub mod Streams
+pub mod CheckedNames
+pub mod Counts

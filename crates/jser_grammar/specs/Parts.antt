@@ -1,0 +1,126 @@
+-- What may stand in the parts of a tree: texts, names, flags, references, fields, raw values and blocks
+-- (Java Object Serialization Specification, sections 6.2 and 6.4).
+use Rattle.std.specs.Prelude.{ℕ, ◌+◌, ◌^◌, ◌<◌, ◌≡◌, Bool, true, false, ◌&&◌, ◌||◌, IsTrue, IsFalse, nat_lt, List, [], ◌∷◌, length, slice_get, Option, Some, None, is_some}
+use Rattle.std.specs.List.{list_all}
+use Rattle.jser_prim.specs.ModifiedUtf8.{modified_utf8, IsUnits}
+use Rattle.jser_table.specs.declared.layer.Layer.{Layer}
+use Rattle.jser_table.specs.declared.layer.LayerKind.{LayerKind}
+use Rattle.jser_table.specs.declared.layer.LayerKind.TheVariants as kind
+use Rattle.jser_table.specs.declared.layer.BodyKind.{BodyKind}
+use Rattle.jser_table.specs.declared.layer.BodyKind.TheVariants as body
+use Rattle.jser_table.specs.Chains.{is_serializable, is_externalizable, own_layer}
+use Rattle.jser_table.specs.Entries.{is_text, is_closed}
+use Rattle.jser_table.specs.Names.{NameKind, plain_name, array_name, malformed_name, name_kind}
+use Rattle.jser_grammar.specs.Codes.{PrimCode, size_of, prim_code_of, is_object_code}
+use Rattle.jser_grammar.specs.Trees.{TextPlaceTree, new_text, back_text, FieldTree, PrimTree}
+use Rattle.jser_grammar.specs.TableAfter.{Entries, after_type}
+
+-- the modified UTF-8 of a text has a length of 2 bytes, or of 8 bytes and below 2 ^ 63
+abbrev pub text_bound : Bool → ℕ
+text_bound false = 2 ^ 16
+text_bound true = 2 ^ 63
+
+abbrev pub IsText : Bool → List ℕ → Type 0
+IsText long units = IsUnits units × (length (modified_utf8 units) < text_bound long)
+
+-- the name of a class or an interface: none that begins with `[` and is no array name
+abbrev pub is_malformed : NameKind → Bool
+is_malformed plain_name = false
+is_malformed (array_name elements) = false
+is_malformed malformed_name = true
+
+abbrev pub IsClassName : List ℕ → Type 0
+IsClassName name = IsText false name × IsFalse (is_malformed (name_kind name))
+
+abbrev pub AreClassNames : List (List ℕ) → Type 0
+AreClassNames [] = Unit {0}
+AreClassNames (name ∷ names) = IsClassName name × AreClassNames names
+
+-- no bit of E0, and not SC_SERIALIZABLE together with SC_EXTERNALIZABLE
+abbrev pub IsFlags : ℕ → Type 0
+IsFlags flags = (flags < 32) × IsFalse (is_serializable flags && is_externalizable flags)
+
+-- the handle has four bytes
+abbrev pub IsHandle : ℕ → Type 0
+IsHandle n = 0x7E0000 + n < 2 ^ 32
+
+-- a reference in a value place names any handle before it
+abbrev pub IsBack : Entries → ℕ → Type 0
+IsBack T n = (n < length T) × IsHandle n
+
+-- in a text place it names a string
+abbrev pub IsBackToText : Entries → ℕ → Type 0
+IsBackToText T n = IsTrue (is_text (slice_get T n)) × IsHandle n
+
+-- in a class place it names a descriptor whose superclass place has been read
+abbrev pub IsBackToClass : Entries → ℕ → Type 0
+IsBackToClass T n = IsTrue (is_closed (slice_get T n)) × IsHandle n
+
+abbrev pub WellFormedText : Entries → TextPlaceTree → Type 0
+WellFormedText T (new_text t) = IsText t.long t.units
+WellFormedText T (back_text n) = IsBackToText T n
+
+-- A field without a type text has a primitive code and no object field before it; one with a type text has
+-- the code `[` or `L`. `seen` tells of an object field before it.
+abbrev pub WellFormedType : Entries → Bool → ℕ → Option TextPlaceTree → Type 0
+WellFormedType T seen code None = IsTrue (is_some (prim_code_of code)) × IsFalse seen
+WellFormedType T seen code (Some t) = IsTrue (is_object_code code) × WellFormedText T t
+
+abbrev pub WellFormedFields : Entries → Bool → List FieldTree → Type 0
+WellFormedFields T seen [] = Unit {0}
+WellFormedFields T seen (f ∷ fs) =
+    IsText false f.name × WellFormedType T seen f.code f.text
+    × WellFormedFields (after_type T f.text) (seen || is_object_code f.code) fs
+
+-- a raw value of this type
+abbrev pub IsPrimOf : PrimCode → PrimTree → Type 0
+IsPrimOf c p = (p.code ≡ c) × (p.bits < 256 ^ size_of c)
+
+-- raw values of this type
+abbrev pub ArePrimsOf : PrimCode → List PrimTree → Type 0
+ArePrimsOf c [] = Unit {0}
+ArePrimsOf c (p ∷ ps) = IsPrimOf c p × ArePrimsOf c ps
+
+-- one raw value for each code, in order
+abbrev pub ArePrims : List PrimCode → List PrimTree → Type 0
+ArePrims [] [] = Unit {0}
+ArePrims [] (p ∷ ps) = ⊥
+ArePrims (c ∷ cs) [] = ⊥
+ArePrims (c ∷ cs) (p ∷ ps) = IsPrimOf c p × ArePrims cs ps
+
+-- these numbers are bytes
+abbrev pub IsBytes : List ℕ → Type 0
+IsBytes bytes = IsTrue (list_all (λ b. nat_lt b 0x100) bytes)
+
+-- the size of block data in 1 byte, or in 4 bytes with the highest bit 0
+abbrev pub block_bound : Bool → ℕ
+block_bound false = 2 ^ 8
+block_bound true = 2 ^ 31
+
+abbrev pub IsBlock : Bool → List ℕ → Type 0
+IsBlock long bytes = IsBytes bytes × (length bytes < block_bound long)
+
+-- the elements of an array of this class: raw values of one type, or values
+abbrev pub elements_of_body : BodyKind → Option PrimCode
+elements_of_body (body.Prim c) = prim_code_of c
+elements_of_body body.Values = None
+
+abbrev pub elements_of_kind : LayerKind → Option PrimCode
+elements_of_kind kind.Proxy = None
+elements_of_kind (kind.Array elements) = elements_of_body elements
+elements_of_kind kind.Other = None
+
+abbrev pub elements_of_layer : Option Layer → Option PrimCode
+elements_of_layer None = None
+elements_of_layer (Some own) = elements_of_kind own.kind
+
+abbrev pub elements_of : List Layer → Option PrimCode
+elements_of chain = elements_of_layer (own_layer chain)
+
+-- the class named by the object itself is externalizable
+abbrev pub is_external_layer : Option Layer → Bool
+is_external_layer None = false
+is_external_layer (Some own) = is_externalizable own.flags
+
+abbrev pub is_external : List Layer → Bool
+is_external chain = is_external_layer (own_layer chain)

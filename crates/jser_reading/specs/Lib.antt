@@ -1,0 +1,15 @@
+pub mod Roles
+pub mod Moments
+pub mod Labels
+pub mod Fields
+pub mod FieldBytes
+pub mod Goals
+pub mod Accepts
+pub mod Machine
+pub mod ComesNext
+pub mod Laws
+pub mod ByteLaws
+pub mod Scanner
+pub mod WalkLaws
+pub mod GateLimits
+pub mod Totals

@@ -1,5 +1,0 @@
-use Rattle.jser_value.proofs.Faults.{no_fault_law}
-use Rattle.jser_value.proofs.laws.no_fault_passed.Goals as goal
-
-pub returns : goal.returns
-returns c = no_fault_law

@@ -1,5 +1,0 @@
-use Rattle.jser_value.proofs.StackBounds.{stack_law}
-use Rattle.jser_value.proofs.laws.stack_is_bounded.Goals as goal
-
-pub returns : goal.returns
-returns c = stack_law
