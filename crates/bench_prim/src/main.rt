@@ -1,6 +1,6 @@
 //! How fast texts are scanned, byte by byte and in slices: `rt run -- 200` scans 200 MB of each kind of
-//! unit in both ways, and prints the megabytes of a second. With no argument it scans a little and prints
-//! nothing, so that the gate runs it.
+//! unit in both ways, and prints megabytes per second. Without an argument it scans a little and prints
+//! nothing, as the gate runs it.
 #![tactic(auto)]
 
 use anyhow::{Result, ensure};
@@ -21,7 +21,7 @@ const KINDS: [(&str, [u8; 6]); 4] = [
     ("all kinds in turn", [0x61, 0xC3, 0xA9, 0xE4, 0xB8, 0x80]),
 ];
 
-/// How the bytes of a text are given to its scan.
+/// How the bytes of a text are handed to its scan.
 #[derive(Clone, Copy)]
 enum Way {
     /// One by one, by `push`.
@@ -56,7 +56,7 @@ fn repeated(alloc: Global, pattern: &[u8]) -> Result<Vec<u8>, AllocError> {
     Ok(text)
 }
 
-/// How many megabytes of a text are gone over in a second.
+/// How many megabytes of a text are scanned in a second.
 fn speed(rt: &impl Clock, text: &[u8], megabytes: u32, way: Way) -> Result<u64> {
     let len = text.len() as u64;
     let turns = u64::from(megabytes) * 1_000_000 / len.max(1);

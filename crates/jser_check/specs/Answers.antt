@@ -32,7 +32,7 @@ report_of bytes contents =
 abbrev pub Reports : List ℕ → Report → Type 0
 Reports bytes report = (contents : List Content) → IsAdmitted bytes contents → report ≡ report_of bytes contents
 
--- The refusal is right of the bytes: they are no admitted stream, and its first `to_byte` bytes decide
+-- The refusal is right of the bytes: they are not an admitted stream, and its first `to_byte` bytes decide
 -- it, so that no admitted stream begins with them. Truncated speaks of all the bytes.
 pub record Refuses (bytes : List ℕ) (refusal : Refusal) : Type 0 where
   pub none : (contents : List Content) → IsAdmitted bytes contents → ⊥
@@ -57,7 +57,7 @@ IfRefused (Err (fault.Stop stop.OutOfMemory)) P = Unit {0}
 IfRefused (Err (fault.Stop stop.Spent)) P = Unit {0}
 IfRefused (Err fault.ReadFault) P = Unit {0}
 
--- no answer for all the bytes of a source: it is neither a yes nor Truncated
+-- an answer that says nothing of all the bytes of a source: neither a yes nor Truncated
 abbrev pub SpeaksOfNoEnd : {X : Type 0} → Result X CheckFault → Type 0
 SpeaksOfNoEnd (Ok x) = ⊥
 SpeaksOfNoEnd (Err (fault.Stop (stop.Refused refusal))) = refusal.reason ≢ reason.Truncated

@@ -2,13 +2,13 @@
 use Rattle.std.specs.Prelude.{◌≡◌, ℕ, ◌≤◌, List, ◌++◌, length, Option}
 use Rattle.std.specs.Io.KnownBytes.{Consumes}
 
--- the source gave at most so many bytes
+-- at most so many bytes came from the source
 pub record TakesAtMost (most : ℕ) (old new : Option (List ℕ)) : Type 0 where
   pub bytes : List ℕ
   pub few : length bytes ≤ most
   pub off : Consumes old new bytes
 
--- these bytes were read behind those that were there
+-- these bytes were read after those that were there
 pub record ReadsOnto (old new : Option (List ℕ)) (there now : List ℕ) : Type 0 where
   pub bytes : List ℕ
   pub added : now ≡ there ++ bytes

@@ -11,8 +11,8 @@ pub data Content : Type 0 where
   back : ℕ → Content
   text : List ℕ → Content
 
--- Spelling (sections 6.4.1 and 6.4.2): STREAM_MAGIC and STREAM_VERSION, and then each content behind its
--- tag, TC_NULL, TC_REFERENCE or TC_STRING. Handles count up from baseWireHandle, 7E0000.
+-- Spelling (sections 6.4.1 and 6.4.2): STREAM_MAGIC and STREAM_VERSION, and then each content after its
+-- tag, TC_NULL, TC_REFERENCE or TC_STRING. Handles count up from baseWireHandle, 0x7E0000.
 
 abbrev pub header : List ℕ
 header = 0xAC ∷ 0xED ∷ 0x00 ∷ 0x05 ∷ []

@@ -17,26 +17,28 @@ pub struct Report {
     pub handles: u64,
 }
 
-/// Why bytes are refused, in the order in which ties are decided (save that `Truncated` comes last).
+/// Why bytes are refused, in the order in which ties are decided (except that `Truncated` comes last).
 #[derive(Clone, Copy, PartialEq, Eq, Debug)]
 pub enum Reason {
     /// There are more bytes than the limit.
     BytesExceeded,
-    /// The stream does not begin with AC ED 00 05.
+    /// The bytes do not begin with the header 0xAC 0xED 0x00 0x05.
     BadHeader,
-    /// A byte that is no tag, or a tag that may not stand there.
+    /// A byte that is not a tag, or a tag that may not stand there. So far also a tag that begins a form
+    /// which the check does not read: then the bytes begin no stream of the part of the grammar that it
+    /// reads, though they may begin a stream of the whole grammar.
     BadTag,
-    /// TC_EXCEPTION, which is not read.
+    /// TC_EXCEPTION, which is not supported.
     ExceptionTag,
     /// TC_RESET within an object.
     ResetInside,
-    /// A text that is no modified UTF-8.
+    /// A text that is not modified UTF-8.
     BadText,
     /// A count or a length whose highest bit is set.
     NegativeLength,
-    /// A byte that is no type code of a field.
+    /// A byte that is not the type code of a field.
     BadTypeCode,
-    /// A primitive field behind an object field.
+    /// A primitive field after an object field.
     FieldOrder,
     /// Flags that no class has.
     BadFlags,
@@ -44,11 +46,11 @@ pub enum Reason {
     NullClass,
     /// A handle that was not assigned before.
     NoSuchHandle,
-    /// A handle of something else than its place asks for.
+    /// A handle of something other than what its place requires.
     WrongKind,
     /// A descriptor whose superclass place was not read yet.
     OpenDescriptor,
-    /// A name that begins with `[` and is no array name.
+    /// A name that begins with `[` and is not an array name.
     BadArrayName,
     /// A class that the value may not have.
     WrongClass,
@@ -121,12 +123,13 @@ impl Reason {
     }
 }
 
-/// A refusal: the first `to_byte` bytes decide it, whatever follows them.
+/// A refusal: the first `to_byte` bytes decide it, whatever follows them. It speaks of the part of the
+/// grammar that the check reads so far.
 #[derive(Clone, Copy, PartialEq, Eq, Debug)]
 pub struct Refusal {
-    /// Where the faulty field starts, in bytes from the start of the stream.
+    /// The offset at which the faulty field starts, in bytes.
     pub from_byte: u64,
-    /// How many bytes of the stream decide.
+    /// How many bytes decide.
     pub to_byte: u64,
     /// What is wrong.
     pub reason: Reason,
@@ -137,9 +140,9 @@ pub struct Refusal {
 pub enum Stop {
     /// The bytes are refused.
     Refused(Refusal),
-    /// Memory was wanted and not to be had.
+    /// Memory ran out.
     OutOfMemory,
-    /// The reader has answered before, and reads no more.
+    /// The reader has answered before, and reads no further.
     Spent,
 }
 

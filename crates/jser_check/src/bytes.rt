@@ -14,13 +14,15 @@ pub(crate) const BYTE_CAP: usize = 0x7FFF_FFFF;
 /// STREAM_MAGIC and STREAM_VERSION.
 const HEADER: [u8; 4] = [0xAC, 0xED, 0x00, 0x05];
 
-/// Checks whether bytes are one stream, and gives its counts.
+/// Checks whether bytes are one stream of the part of the grammar that is read so far (the header, NULL,
+/// references and strings of tag 0x74), and returns its counts.
 ///
-/// It takes no memory, and looks at each byte once.
+/// It allocates nothing, and looks at each byte a bounded number of times.
 ///
 /// # Errors
 ///
-/// `Stop::Refused` where the bytes are no stream, with the first bytes that decide it and the reason.
+/// `Stop::Refused` where the bytes are not such a stream, with the first bytes that decide it and the
+/// reason.
 pub fn check_bytes(_alloc: Global, bytes: &[u8]) -> Result<Report, Stop>
     ensures accepted { IfOk result (λ _. IsAdmittedStream bytes.now) }
     ensures reported { IfOk result (Reports bytes.now) }
@@ -32,7 +34,7 @@ pub fn check_bytes(_alloc: Global, bytes: &[u8]) -> Result<Report, Stop>
     }
 }
 
-/// Checks bytes, of which there may be more than a stream may have.
+/// Checks bytes that may be more than a stream may have.
 #[tactic(auto, using(crate::proofs::Streams::refuses_front))]
 fn check_capped(bytes: &[u8]) -> Result<Report, Refusal>
     ensures admitted { IfOk result (λ _. IsAdmittedStream bytes.now) }
@@ -99,7 +101,7 @@ pub(crate) fn check_within_cap(bytes: &[u8]) -> Result<Report, Refusal>
     })
 }
 
-/// The bytes behind the header.
+/// The bytes after the header.
 #[tactic(auto, using(crate::proofs::Header::header_cut, crate::proofs::Header::header_bad, crate::proofs::Header::header_read))]
 fn behind_header(bytes: &[u8]) -> Result<&[u8], Refusal>
     ensures rest { IfOk result (λ rest. bytes.now ≡ header ++ rest.now) }

@@ -13,7 +13,7 @@ const TC_NULL: u8 = 0x70;
 const TC_REFERENCE: u8 = 0x71;
 /// STRING: a new string, whose length takes two bytes.
 const TC_STRING: u8 = 0x74;
-/// EXCEPTION: the stream's writer failed. It is left out of the grammar, and refused by its own name.
+/// EXCEPTION: the stream's writer failed. It is not part of the grammar, and has a reason of its own.
 const TC_EXCEPTION: u8 = 0x7B;
 
 /// The first handle of a stream.
@@ -24,11 +24,11 @@ const BASE_WIRE_HANDLE: u32 = 0x7E0000;
 pub(crate) struct Taken<'a> {
     /// How many handles it assigned: one, or none.
     pub assigned: usize,
-    /// The bytes behind it.
+    /// The bytes after it.
     pub rest: &'a [u8],
 }
 
-/// What is wrong with the content at the front of some bytes, by places in those bytes.
+/// What is wrong with the content at the front of some bytes, by offsets in those bytes.
 #[derive(Clone, Copy)]
 pub(crate) struct Fault {
     /// Where the faulty field starts.
@@ -152,7 +152,7 @@ fn string(rest: &[u8]) -> Result<Taken<'_>, Fault>
     })
 }
 
-/// The field behind the tag is cut short by the end of the bytes.
+/// The field after the tag is cut short by the end of the bytes.
 fn cut(rest: &[u8]) -> Fault
     requires { length rest.now + 1 < 2 ^ 64 }
     ensures { result ≡ record { from = 1; to = 1 + length rest.now; reason = Reason.Truncated } }

@@ -20,11 +20,12 @@ enum ReadError {
     OutOfMemory,
 }
 
-/// Checks whether the bytes of a source are one stream, and gives its counts.
+/// Checks whether the bytes of a source are one stream of the part of the grammar that is read so far, and
+/// returns its counts.
 ///
-/// It reads to the end, or until 2^31 bytes are there, which no stream has; it holds them in memory. Each
-/// read asks for at least one byte. After a failed read, a refusal that the bytes before it decide is
-/// answered, where it is not `Truncated`.
+/// It reads to the end, or until there are 2^31 bytes, which is more than a stream may have, and holds them
+/// in memory. Each read asks for at least one byte. After a failed read, a refusal that the bytes before it
+/// decide is answered, unless it is `Truncated`.
 ///
 /// # Errors
 ///
@@ -93,7 +94,7 @@ fn new_buffer(alloc: Global) -> Result<Vec<u8>, AllocError>
     vec![in alloc; 0u8; BUFFER_LEN]
 }
 
-/// One read: adds the bytes that it gives to `all`. `false` is the end.
+/// One read, whose bytes are added to `all`. `false` is the end.
 #[tactic(auto, using(crate::proofs::SourceLemmas::takes_none))]
 fn read_some<R: Source>(
     source: &mut R,

@@ -8,7 +8,7 @@ use std::process::Abort;
 /// A string, NULL and a reference to the string.
 const ABC_NULL_REF: [u8; 16] = *b"\xAC\xED\x00\x05\x74\x00\x03abc\x70\x71\x00\x7E\x00\x00";
 
-/// Gives its bytes, at most so many a call, and then ends or fails.
+/// Returns its bytes, at most so many a call, and then ends or fails.
 #[derive(Drop)]
 struct Pieces<'a> {
     rest: &'a [u8],
@@ -56,7 +56,7 @@ fn no(reason: Reason, from_byte: u64, to_byte: u64) -> Result<Report, Stop> {
     }))
 }
 
-/// The answer of `check_bytes`, which that of `check_reader` must be too, by sources that give all at once,
+/// The answer of `check_bytes`, which that of `check_reader` must be too, by sources that return all at once,
 /// one byte and three bytes a call.
 fn checked(rt: &(impl Abort + AllocGlobal), bytes: &[u8]) -> Result<Report, Stop> {
     let answer = check_bytes(rt.alloc(), bytes);
@@ -121,7 +121,7 @@ fn odd_texts(rt: HostRuntime) {
     assert_eq!(rt; checked(&rt, null), no(Reason::BadText, 5, 8));
 }
 
-/// Every front of a stream is a stream, where it ends behind a content, or `Truncated` at its end, in the
+/// Every front of a stream is a stream, where it ends after a content, or `Truncated` at its end, in the
 /// field that is cut.
 #[test]
 fn cuts(rt: HostRuntime) {
@@ -138,7 +138,7 @@ fn cuts(rt: HostRuntime) {
     }
 }
 
-/// A read that fails behind any number of bytes is told, and never taken for the end.
+/// A read that fails after any number of bytes is reported, and never taken for the end.
 #[test]
 fn read_fails_anywhere(rt: HostRuntime) {
     for count in 0..17 {

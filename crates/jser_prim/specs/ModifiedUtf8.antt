@@ -1,6 +1,6 @@
 -- Modified UTF-8, the coding of text in a stream: `java.io.DataInput`, "Modified UTF-8". It codes 16-bit
--- units, each by itself, also those of a surrogate pair: 0001 to 007F in one byte, 0000 and 0080 to 07FF
--- in two, 0800 to FFFF in three.
+-- units, each by itself, also those of a surrogate pair: 0x0001 to 0x007F in one byte,
+-- 0x0000 and 0x0080 to 0x07FF in two, 0x0800 to 0xFFFF in three.
 use Rattle.std.specs.Prelude.{ℕ, IsTrue, ◌+◌, ◌/◌, ◌%◌, ◌&&◌, nat_lt, nat_le, if◌then◌else◌, List, [], ◌∷◌, ◌++◌}
 use Rattle.std.specs.Char.Escape.{encode_utf16}
 use Rattle.std.specs.List.{flat_map, list_all}

@@ -1,4 +1,4 @@
-//! Plain ASCII, many bytes at a time: a text's units of one byte each, 0001 to 007F.
+//! Plain ASCII, many bytes at a time: a text's units of one byte each, 0x0001 to 0x007F.
 ghost use Rattle.std.specs.Prelude.{◌≡◌, ◌+◌, ◌≤◌, IsTrue, length};
 ghost use Rattle.jser_prim.specs.WholeUnits.{IsAsciiBetween, first_set};
 
@@ -10,7 +10,7 @@ const LANES: usize = 16;
 /// How many bytes are tested together within a long run.
 const BLOCK: usize = 64;
 
-/// How many bytes at the front of `bytes` come before the first that is no unit of one byte.
+/// How many bytes at the front of `bytes` come before the first that is not a unit of one byte.
 pub(crate) fn ascii_len(bytes: &[u8]) -> usize
     ensures within { result ≤ length bytes.now }
     ensures ascii { IsAsciiBetween bytes.now 0 result }
@@ -30,7 +30,7 @@ pub(crate) fn ascii_len(bytes: &[u8]) -> usize
     len
 }
 
-/// Where the blocks from `at` on end that hold nothing but units of one byte.
+/// The end of the blocks from `at` on that hold only units of one byte.
 fn after_blocks(bytes: &[u8], at: usize) -> usize
     requires { at ≤ length bytes.now }
     ensures within { result ≤ length bytes.now }
@@ -44,7 +44,7 @@ fn after_blocks(bytes: &[u8], at: usize) -> usize
     end
 }
 
-/// Whether the block of bytes from `at` on holds nothing but units of one byte.
+/// Whether the block of bytes from `at` on holds only units of one byte.
 #[inline(always)]
 fn is_ascii_block(bytes: &[u8], at: usize) -> bool
     requires { at + BLOCK ≤ length bytes.now }
@@ -54,7 +54,7 @@ fn is_ascii_block(bytes: &[u8], at: usize) -> bool
     stops.to_bitmask() == 0
 }
 
-/// How many bytes from `at` on, of one load, come before the first that is no unit of one byte.
+/// How many bytes from `at` on, of one load, come before the first that is not a unit of one byte.
 #[inline(always)]
 fn ascii_run(bytes: &[u8], at: usize) -> usize
     requires { at + LANES ≤ length bytes.now }

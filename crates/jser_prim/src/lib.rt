@@ -1,5 +1,5 @@
-//! The ground that reading and writing of Java object streams stands on: modified UTF-8, big-endian
-//! numbers, and the devices that bytes come from and go to.
+//! What reading and writing of Java object streams stands on: modified UTF-8, big-endian numbers, and the
+//! devices that bytes come from and go to.
 //!
 //! Nothing here knows the stream's grammar, and nothing here ends the process.
 #![tactic(auto)]

@@ -7,9 +7,9 @@ ghost use Rattle.jser_prim.specs.Places.{CanStand, TakesByte, cut_at, is_fault};
 pub(crate) enum Place {
     /// It is the first byte of a unit.
     First,
-    /// It is the second byte of three, after the first byte `E0 + high`.
+    /// It is the second byte of three, after the first byte `0xE0 + high`.
     Middle { high: u8 },
-    /// It is the last byte, after bytes that give the unit without its six low bits.
+    /// It is the last byte, after bytes that determine the unit but for its six low bits.
     Last { high: u16 },
     /// Nowhere: there was a fault.
     Fault,
@@ -57,7 +57,7 @@ fn take_first(byte: u8, room: u64) -> Taken
     }
 }
 
-/// The second byte of three, after the first byte `E0 + high`, with `room` bytes after it in the text.
+/// The second byte of three, after the first byte `0xE0 + high`, with `room` bytes after it in the text.
 #[tactic(auto, using(crate::proofs::PlaceLemmas::middle_cut))]
 fn take_middle(high: u8, byte: u8, room: u64) -> Taken
     requires high { high < 16 }
@@ -73,7 +73,7 @@ fn take_middle(high: u8, byte: u8, room: u64) -> Taken
     }
 }
 
-/// The last byte of a unit, after bytes that give the unit without its six low bits.
+/// The last byte of a unit, after bytes that determine the unit but for its six low bits.
 #[tactic(auto, using(crate::proofs::PlaceLemmas::last_unit))]
 fn take_last(high: u16, byte: u8) -> Taken
     requires high { high < 1024 }

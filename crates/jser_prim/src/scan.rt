@@ -1,7 +1,7 @@
 //! Reading a text of modified UTF-8 whose length is known, from bytes in any pieces.
 //!
 //! A `TextScan` keeps the few bits of the unit that is being read and nothing of what went before, so it
-//! takes no memory, and refuses a text at the first byte that no text of its length can have there.
+//! allocates nothing. It refuses a text at the first byte that no text of its length can have there.
 ghost use Rattle.std.specs.Prelude.{◌≡◌, ◌+◌, ◌-◌, ◌<◌, ◌≤◌, ◌↔◌, ℕ, List, [], ◌∷◌, ◌++◌, length, true, false, IsTrue, IsOk, IsErr, IfOk, IfErr, OnOk, OnErr};
 ghost use Rattle.std.specs.Option.{option_to_list};
 ghost use Rattle.jser_prim.specs.ModifiedUtf8.{modified_utf8};
@@ -15,12 +15,12 @@ use thiserror::Error;
 
 /// A byte that no text of the scan's length can have where it stands.
 #[derive(Clone, Copy, PartialEq, Eq, Debug, Error)]
-#[error("no modified UTF-8 of this length")]
+#[error("not modified UTF-8 of this length")]
 pub struct TextFault;
 
-/// A byte of some that were given together, which no text of the scan's length can have where it stands.
+/// A byte of a slice, which no text of the scan's length can have where it stands.
 #[derive(Clone, Copy, PartialEq, Eq, Debug, Error)]
-#[error("no modified UTF-8 of this length after {accepted} bytes")]
+#[error("not modified UTF-8 of this length after {accepted} bytes")]
 pub struct TextFaultAfter {
     /// How many bytes were accepted before it.
     pub accepted: usize,
@@ -69,7 +69,7 @@ impl TextScan {
         self.left == 0
     }
 
-    /// Takes the next byte of the text, and gives the unit that it ends, if it ends one.
+    /// Takes the next byte of the text, and returns the unit that it ends, if it ends one.
     ///
     /// # Errors
     ///
@@ -103,12 +103,13 @@ impl TextScan {
         }
     }
 
-    /// Takes the next bytes of the text, as pushing them one by one would, and gives no units.
+    /// Takes the next bytes of the text, as pushing them one by one would, and returns no units.
     ///
     /// # Errors
     ///
     /// `TextFaultAfter` at the first byte with which no text of this length goes on, with the number of
-    /// bytes that were accepted before it; from then on at once.
+    /// bytes that were accepted before it. From then on each call with at least one byte
+    /// fails at its first byte.
     pub fn push_all(&mut self, bytes: &[u8]) -> Result<(), TextFaultAfter>
         requires { length bytes.now ≤ self.old.left }
         ensures accepts { (len : ℕ) (before units : List ℕ) → HasAccepted len before units self.old
@@ -141,7 +142,7 @@ impl TextScan {
         Ok(())
     }
 
-    /// Pushes some of the bytes, at least one where there are any, and gives how many.
+    /// Pushes some of the bytes, at least one where there are any, and returns how many.
     fn push_some(&mut self, bytes: &[u8]) -> Result<usize, TextFaultAfter>
         requires { length bytes.now ≤ self.old.left }
         ensures some { IfOk result (λ accepted. 0 < length bytes.now → 0 < accepted) }
@@ -159,7 +160,7 @@ impl TextScan {
         }
     }
 
-    /// Accepts whole units from the front of `bytes`, where no unit is cut, and gives how many bytes.
+    /// Accepts whole units from the front of `bytes`, where no unit is cut, and returns how many bytes.
     fn skip_units(&mut self, bytes: &[u8]) -> usize
         requires { length bytes.now ≤ self.old.left }
         ensures { PushesFront self.old bytes.now result self.new }

@@ -15,11 +15,11 @@ pub trait Sink {
     /// Whether a `give` has failed.
     ghost has_failed: { Self → Bool };
 
-    /// Takes bytes from the front of `bytes`, at least one where there are any, and gives how many.
+    /// Takes bytes from the front of `bytes`, at least one where there are any, and returns how many.
     ///
     /// # Errors
     ///
-    /// `Failed` where the device did, and then no byte was taken.
+    /// `Failed` where the device failed; then no byte was taken.
     fn give(&mut self, bytes: &[u8]) -> Result<usize, Failed>
         ensures within { IfOk result (λ count. count ≤ length bytes.now) }
         ensures some { IfOk result (λ count. 0 < length bytes.now → 0 < count) }
@@ -32,10 +32,10 @@ pub trait Sink {
         ensures { result ≡ has_failed self.now };
 }
 
-/// A sink into a writer. Every `Err` of the writer is a failure, and so is a write that takes nothing of
-/// some bytes.
+/// A sink into a writer. Every `Err` of the writer is a failure, and so is a write that takes none of at
+/// least one byte.
 ///
-/// It allocates nothing. Memory that the writer takes is the writer's own.
+/// The adapter itself allocates nothing.
 #[derive(Debug, Drop)]
 pub struct ToWrite<W: Write> {
     writer: W,

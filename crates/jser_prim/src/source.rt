@@ -15,12 +15,12 @@ pub trait Source {
     /// Whether a `take` has failed.
     ghost has_failed: { Self → Bool };
 
-    /// Puts the next bytes at the front of `buf`, and gives how many. No bytes, for a `buf` that is not
-    /// empty, is the end.
+    /// Puts the next bytes at the front of `buf`, and returns how many. For a `buf` that is not empty, 0 is
+    /// the end.
     ///
     /// # Errors
     ///
-    /// `Failed` where the device did, and then no byte was taken.
+    /// `Failed` where the device failed; then no byte was taken.
     fn take(&mut self, buf: &mut [u8]) -> Result<usize, Failed>
         ensures within { IfOk result (λ count. count ≤ length buf.new) }
         ensures bytes { ReadConsumes (to_come self.old) (to_come self.new) result buf.new }
@@ -32,9 +32,9 @@ pub trait Source {
         ensures { result ≡ has_failed self.now };
 }
 
-/// A source of what a reader gives. Every `Err` of the reader is a failure, an interrupted read too.
+/// A source over a reader. Every `Err` of the reader is a failure, an interrupted read too.
 ///
-/// It allocates nothing. Memory that the reader takes is the reader's own.
+/// The adapter itself allocates nothing.
 #[derive(Debug, Drop)]
 pub struct FromRead<R: Read> {
     reader: R,
@@ -50,7 +50,7 @@ impl<R: Read> Model for FromRead<R> {
 }
 
 impl<R: Read> FromRead<R> {
-    /// A source of what `reader` has left.
+    /// A source of the bytes that `reader` has left.
     pub fn new(reader: R) -> FromRead<R>
         ensures bytes { result.bytes ≡ R.remaining reader }
         ensures failed { result.has_failed ≡ false }

@@ -9,7 +9,7 @@ use std::alloc::{AllocError, Global};
 ///
 /// # Errors
 ///
-/// `AllocError` where the bytes found no memory.
+/// `AllocError` where there was no memory for the bytes.
 #[tactic(auto, using(crate::proofs::TextLemmas::modified_utf8_more))]
 pub fn text_bytes(alloc: Global, units: &[u16]) -> Result<Vec<u8>, AllocError>
     ensures { IfOk result (λ bytes. bytes.items ≡ modified_utf8 units.now) }
@@ -26,7 +26,7 @@ pub fn text_bytes(alloc: Global, units: &[u16]) -> Result<Vec<u8>, AllocError>
 ///
 /// # Errors
 ///
-/// `AllocError` where the units found no memory.
+/// `AllocError` where there was no memory for the units.
 #[tactic(auto, using(std::proofs::lemmas::List::flat_map_more))]
 pub fn units_of(alloc: Global, text: &str) -> Result<Vec<u16>, AllocError>
     ensures { IfOk result (λ units. units.items ≡ utf16_units text.now) }
@@ -38,7 +38,7 @@ pub fn units_of(alloc: Global, text: &str) -> Result<Vec<u16>, AllocError>
     Ok(units)
 }
 
-/// The bytes of a unit in modified UTF-8, written into a buffer. It takes no memory.
+/// The bytes of a unit in modified UTF-8, written into a buffer. It allocates nothing.
 #[tactic(auto, unfolding(crate::specs::ModifiedUtf8::unit_spelling))]
 pub fn spell_unit(unit: u16, buffer: &mut [u8; 3]) -> &[u8]
     ensures { result.now ≡ unit_spelling unit }

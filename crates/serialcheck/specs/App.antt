@@ -8,7 +8,7 @@ use Rattle.serialcheck.specs.declared.line.Line.TheVariants as line
 use Rattle.serialcheck.specs.declared.line.LineFault.{LineFault}
 use Rattle.serialcheck.specs.declared.line.LineFault.TheVariants as fault
 
--- the stream's file, which each command wants
+-- the stream's file, which each command requires
 abbrev pub file_rule : Rule
 file_rule = record (new_rule (codes "file")) { required = true }
 

@@ -13,7 +13,9 @@ fn check_command<'a>(alloc: Global) -> Result<Command<'a>, AllocError>
     ensures local { IfOk result (λ command. (out-Command command).has_globals ≡ false) }
 {
     Command::new(alloc, "check")
-        .about("Checks whether a file is one Java serialization stream, and prints its counts")
+        .about(
+            "Checks whether a file is one Java serialization stream, and prints its counts. So far only the header, NULL, references and strings of tag 0x74 are read, and any other tag is refused",
+        )
         .arg(file_arg(alloc))
 }
 
@@ -32,6 +34,8 @@ pub(crate) fn command<'a>(alloc: Global) -> Result<Command<'a>, AllocError>
     ensures { IfOk result (λ command. app_of command ≡ the_app) }
 {
     Command::new(alloc, "serialcheck")
-        .about("Checks Java serialization streams, and runs none of their classes")
+        .about(
+            "Checks Java serialization streams, and runs none of their classes. So far a part of the format is read; see check --help",
+        )
         .subcommand(check_command(alloc)?)
 }

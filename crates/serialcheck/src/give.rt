@@ -4,11 +4,11 @@ ghost use Rattle.std.specs.Io.KnownBytes.{Appends};
 
 use jser_prim::{Failed, Sink};
 
-/// Gives all the bytes to the sink.
+/// Hands all the bytes to the sink.
 ///
 /// # Errors
 ///
-/// `Failed` where the sink failed; it took some of the first bytes then.
+/// `Failed` where the sink failed; it has then taken some of the first bytes, perhaps none.
 #[tactic(auto, using(crate::proofs::Giving::gave_start, crate::proofs::Giving::gave_more, crate::proofs::Giving::gave_all))]
 pub(crate) fn give_all<W: Sink>(sink: &mut W, bytes: &[u8]) -> Result<(), Failed>
     ensures ok { OnOk result (Appends (W.gone_out sink.old) (W.gone_out sink.new) bytes.now) }

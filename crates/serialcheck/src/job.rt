@@ -1,4 +1,4 @@
-//! What the program does: one job on an opened input, printed to an output, faults told on a third.
+//! What the program does: one job on an opened input, printed to an output; faults go to another one.
 ghost use Rattle.std.specs.Prelude.{◌≡◌, ◌⊎◌, ◌<◌, ◌++◌, IfOk, OnOk, IfSome, IsOkAnd, true, string_bytes};
 ghost use Rattle.std.specs.Fmt.{decimal};
 ghost use Rattle.std.specs.Io.KnownBytes.{Appends, Keeps};
@@ -16,7 +16,7 @@ pub(crate) const ACCEPTED: u8 = 0;
 pub(crate) const REFUSED: u8 = 1;
 /// The command line asks for nothing that can be done.
 pub(crate) const MISUSED: u8 = 2;
-/// A device failed, or memory was wanted.
+/// A device failed, or memory ran out.
 pub(crate) const FAILED: u8 = 3;
 
 /// What is to be done.
@@ -26,8 +26,8 @@ pub enum Job {
     Check,
 }
 
-/// Does the job: reads `input`, prints the answer to `output`, and gives the status. Faults of the devices
-/// and want of memory are told on `faults`; a fault of `faults` itself changes nothing.
+/// Does the job: reads `input`, prints the answer to `output`, and returns the status. Faults of the devices
+/// and a lack of memory are reported on `faults`; a fault of `faults` itself changes nothing.
 ///
 /// Nothing is printed to `output` before the input was accepted or refused.
 pub fn run<R: Source, W: Sink, E: Sink>(
@@ -96,7 +96,7 @@ fn text_of_refusal(alloc: Global, refusal: Refusal) -> Result<String, AllocError
     Ok(text)
 }
 
-/// Adds some words and a number in decimal.
+/// Appends some words and a number in decimal.
 fn push_count(text: &mut String, words: &str, count: u64) -> Result<(), AllocError>
     ensures { OnOk result (string_bytes text.new ≡ string_bytes text.old ++ words.now ++ decimal count) }
 {
@@ -105,7 +105,7 @@ fn push_count(text: &mut String, words: &str, count: u64) -> Result<(), AllocErr
     Ok(())
 }
 
-/// Prints a line, and gives its status, or tells why it could not be printed.
+/// Prints a line, and returns its status, or tells why it could not be printed.
 #[tactic(auto, using(crate::proofs::Lines::kept))]
 fn print_line<W: Sink, E: Sink>(
     output: &mut W,
@@ -127,7 +127,7 @@ fn print_line<W: Sink, E: Sink>(
     }
 }
 
-/// Tells a fault, as far as that can be done, and gives the status of a failure.
+/// Tells a fault, as far as that can be done, and returns the status of a failure.
 pub(crate) fn tell_failure<E: Sink>(faults: &mut E, line: &str) -> u8
     ensures { result ≡ 3 }
 {

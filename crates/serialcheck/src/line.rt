@@ -21,13 +21,13 @@ pub enum Line {
 /// Why a command line asks for nothing.
 #[derive(Debug, Drop)]
 pub enum LineFault {
-    /// The words are no command of the program, or ask for help.
+    /// The words are not a command of the program, or ask for help.
     Clap(Error),
-    /// Memory was wanted and not to be had.
+    /// Memory ran out.
     OutOfMemory,
 }
 
-/// What the words ask for, the first of which names the program. `None` is no command.
+/// What the words ask for; the first of them names the program. `None` where they name no command.
 ///
 /// # Errors
 ///

@@ -96,7 +96,7 @@ fn on_file<W: Sink, E: Sink>(
     }
 }
 
-/// Tells what is wrong with the command line, as far as that can be done, and gives the status of it.
+/// Tells what is wrong with the command line, as far as that can be done, and returns the status for it.
 fn tell_misuse<E: Sink>(faults: &mut E, text: &str) -> u8
     ensures { result ≡ 2 }
 {

@@ -75,8 +75,8 @@ impl Page {
     }
 }
 
-/// The job on these bytes prints this line, and gives this status, also where the output takes a byte a
-/// call; or memory was wanted.
+/// The job on these bytes prints this line, and returns this status, also where the output takes a byte a
+/// call; or memory ran out.
 fn prints(rt: &(impl Abort + AllocGlobal), bytes: &[u8], status: u8, line: &str) {
     for most in [1, 1000] {
         let mut output = new_page(rt.alloc(), most, 1000);
@@ -96,7 +96,7 @@ fn prints(rt: &(impl Abort + AllocGlobal), bytes: &[u8], status: u8, line: &str)
     }
 }
 
-/// Whether memory was wanted in this run, by the program or by a page of the test.
+/// Whether memory ran out in this run, in the program or in the test itself.
 fn ran_short(output: &Page, faults: &Page) -> bool {
     faults.holds("out of memory\n") || faults.failed || output.failed
 }
@@ -152,7 +152,7 @@ fn read_fails(rt: HostRuntime) {
     assert!(rt; faults.holds("read failed\n") || ran_short(&output, &faults));
 }
 
-/// The output fails at once, or behind some bytes of the line.
+/// The output fails at once, or after some bytes of the line.
 #[test]
 fn run_write_fails(rt: HostRuntime) {
     for (room, front) in [(0, ""), (7, "yes 16 ")] {
@@ -189,7 +189,7 @@ fn faults_fail(rt: HostRuntime) {
     assert!(rt; faults.failed);
 }
 
-/// Whether the words ask for a check of this file, or memory was wanted.
+/// Whether the words ask for a check of this file, or memory ran out.
 fn asks_check(asked: &Result<Option<Line>, LineFault>, name: &str) -> bool {
     match asked {
         Ok(Some(Line::Check { file })) => file.as_str() == name,
@@ -198,7 +198,7 @@ fn asks_check(asked: &Result<Option<Line>, LineFault>, name: &str) -> bool {
     }
 }
 
-/// Whether the words are no command, or memory was wanted.
+/// Whether the words name no command, or memory ran out.
 fn asks_nothing(asked: &Result<Option<Line>, LineFault>) -> bool {
     matches!(asked, Ok(None) | Err(LineFault::OutOfMemory))
 }

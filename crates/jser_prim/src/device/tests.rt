@@ -4,7 +4,7 @@ use crate::{Failed, FromRead, Sink, Source, ToWrite};
 use std::io::{self, Error, ErrorKind, Read, Write};
 use std::test::Fail;
 
-/// Gives one byte a call from `bytes`, but answers an interrupted read at each third call.
+/// Returns one byte a call from `bytes`, but an interrupted read at each third call.
 #[derive(Drop)]
 struct ThirdInterrupted<'a> {
     bytes: &'a [u8],

@@ -13,7 +13,7 @@ fn pushed(bytes: &[u8], scan: &mut TextScan) -> usize {
     bytes.len()
 }
 
-/// Pushes one byte, which the scan still wants.
+/// Pushes one byte, which the scan still expects.
 fn push(rt: &impl Abort, scan: &mut TextScan, byte: u8) -> Result<Option<u16>, TextFault> {
     assert!(rt; !scan.is_done());
     scan.push(byte)
@@ -134,7 +134,7 @@ fn each_two_and_three_bytes_by_table(rt: HostRuntime) {
                     right,
                     "{first:02x} {second:02x} {third:02x}"
                 );
-                // Where a byte before it is wrong already, no third one is looked at.
+                // Where an earlier byte is wrong already, the third is not looked at.
                 if right < 2 {
                     break;
                 }

@@ -33,8 +33,8 @@ fn units_of_two(rt: HostRuntime) -> Result<(), Fail> {
     Ok(())
 }
 
-/// Where a growth is refused, want of memory is the answer, and no other answer changes. (With memory at
-/// hand this shows nothing that the tests above do not: run it with refused allocations.)
+/// Where an allocation is refused, the answer is that memory ran out, and no other answer changes. (Where
+/// memory suffices this shows nothing beyond the tests above: run it with refused allocations.)
 #[test]
 fn refused_growth_changes_no_answer(rt: HostRuntime) -> Result<(), Fail> {
     for text in ["", "a", "serial", "\u{0}\u{e9}\u{4e00}\u{1F600}"] {
