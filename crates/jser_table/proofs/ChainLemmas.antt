@@ -10,8 +10,8 @@ use Rattle.jser_table.specs.declared.descriptor.Descriptor.{Descriptor}
 use Rattle.jser_table.specs.declared.layer.Purpose.{Purpose}
 use Rattle.jser_table.specs.declared.layer.Fit.{Fit}
 use Rattle.jser_table.specs.Fits.{class_fit, fit_of_own, fit_of}
-use Rattle.jser_table.specs.Chains.{own_layer, all_serial, is_serial, is_filled}
-use Rattle.jser_table.specs.Descriptors.{chain_in, chain_above, with_chain, chains_of, IsFront, AreLinks, Knows, IsTold, AreTold, LinksTo, LinkUnder, IsUnder, chain_of_parent, KnowsBelow}
+use Rattle.jser_table.specs.Chains.{own_layer, all_serial, is_serial, is_filled, chain_in, IsFront}
+use Rattle.jser_table.specs.Descriptors.{chain_above, with_chain, chains_of, AreLinks, Knows, IsTold, AreTold, LinksTo, LinkUnder, IsUnder, chain_of_parent, KnowsBelow}
 
 chains_of-push : (ds : List Descriptor) (d : Descriptor) → chains_of (ds ++ d ∷ []) ≡ with_chain (chains_of ds) d
 unfolding chains_of

@@ -8,8 +8,8 @@ use Rattle.std.proofs.lemmas.List.Sums.{sum_by-append, sum_by-cons}
 use Rattle.jser_table.specs.declared.layer.Layer.{Layer}
 use Rattle.jser_table.specs.declared.descriptor.Descriptor.{Descriptor}
 use Rattle.jser_table.specs.declared.descriptor.Counted.TheVariants as counted
-use Rattle.jser_table.specs.Chains.{is_filled, next_filled}
-use Rattle.jser_table.specs.Descriptors.{chain_in, chain_above, IsFront, front_of, IsTold, IsHighest}
+use Rattle.jser_table.specs.Chains.{is_filled, next_filled, chain_in, IsFront}
+use Rattle.jser_table.specs.Descriptors.{chain_above, front_of, IsTold, IsHighest}
 
 count_by-append : (p : Layer → Bool) (xs ys : List Layer) → count_by p (xs ++ ys) ≡ count_by p xs + count_by p ys
 count_by-append p xs ys = sum_by-append (λ x. cond (p x) 1 0) xs ys

@@ -1,17 +1,15 @@
 -- How closed descriptors stand for chains. They are kept in the order in which they were closed, so a
 -- superclass stands before its subclasses: the chain of a descriptor is that of its parent and then its own
 -- layer.
-use Rattle.std.specs.Prelude.{ℕ, ◌≡◌, ◌+◌, ◌-◌, ◌<◌, ◌≤◌, List, [], ◌∷◌, ◌++◌, length, take, drop, fold, count_by, slice_index_or, Option, Some, None}
+use Rattle.std.specs.Prelude.{ℕ, ◌≡◌, ◌+◌, ◌-◌, ◌^◌, ◌<◌, ◌≤◌, List, [], ◌∷◌, ◌++◌, length, take, drop, fold, count_by, slice_index_or, IsTrue, Option, Some, None}
 use Rattle.jser_table.specs.declared.layer.Layer.{Layer}
 use Rattle.jser_table.specs.declared.descriptor.Links.{Links}
 use Rattle.jser_table.specs.declared.descriptor.Descriptor.{Descriptor}
 use Rattle.jser_table.specs.declared.descriptor.Counted.{Counted}
 use Rattle.jser_table.specs.declared.descriptor.Counted.TheVariants as counted
-use Rattle.jser_table.specs.Chains.{all_serial, is_filled}
-
--- the chain at this place
-abbrev pub chain_in : List (List Layer) → ℕ → List Layer
-chain_in chains place = slice_index_or chains place []
+use Rattle.jser_table.specs.Chains.{own_layer, chain_in, all_serial, is_filled, IsFront}
+use Rattle.jser_table.specs.Sections.{HasSection, sections_of, down_to, layer_of, filled_layers, HoldsFor}
+use Rattle.jser_table.specs.declared.descriptor.Filed.{Filed}
 
 -- the chain of this parent, if there is one
 abbrev pub chain_of_parent : List (List Layer) → Option ℕ → List Layer
@@ -29,10 +27,6 @@ with_chain chains d = chains ++ (chain_above chains d.links ++ d.layer ∷ []) �
 -- the chains of these descriptors, in the same order
 unfoldable pub chains_of : List Descriptor → List (List Layer)
 chains_of descriptors = fold with_chain [] descriptors
-
--- `whole` begins with `front`
-pub record IsFront (front whole : List Layer) : Type 0 where
-  pub rest : whole ≡ front ++ drop (length front) whole
 
 -- the superclasses of a chain: all layers but the last
 abbrev pub front_of : List Layer → List Layer
@@ -64,17 +58,42 @@ pub record Knows (chain : List Layer) (d : Descriptor) : Type 0 where
 abbrev pub KnowsBelow : Descriptor → Layer → Descriptor → Type 0
 KnowsBelow parent layer d = (chain : List Layer) → Knows chain parent → Knows (chain ++ layer ∷ []) d
 
+-- the number of the lowest section of a chain, if it has one
+abbrev pub IsLast : List (List Layer) → (chain : List Layer) → Option ℕ → Type 0
+IsLast chains chain None = filled_layers chain ≡ []
+IsLast chains chain (Some last) = HasSection chains last × (down_to chains last ≡ filled_layers chain)
+
 -- what a descriptor tells of its chain
 pub record IsTold (chains : List (List Layer)) (place : ℕ) (d : Descriptor) : Type 0 where
   pub own : chain_in chains place ≡ chain_above chains d.links ++ d.layer ∷ []
   pub known : Knows (chain_in chains place) d
   pub within : d.layers ≤ place + 1
   pub links : AreLinks chains place d.links
+  pub last : IsLast chains (chain_in chains place) d.last
 
 -- each descriptor tells of its chain
 abbrev pub AreTold : List Descriptor → Type 0
 AreTold descriptors =
     (place : ℕ) (d : Descriptor) → place < length descriptors → d ≡ slice_index_or descriptors place d → IsTold (chains_of descriptors) place d
+
+-- what is kept of a section
+pub record IsFiled (chains : List (List Layer)) (number : ℕ) (filed : Filed) : Type 0 where
+  pub class_in : filed.class < length chains
+  pub chain : down_to chains number ≡ filled_layers (chain_in chains filed.class)
+  pub filled : IsTrue (is_filled (layer_of chains number))
+  pub own : own_layer (chain_in chains filed.class) ≡ Some (layer_of chains number)
+  pub holds : HoldsFor (layer_of chains number) filed.section
+
+-- all sections are kept
+pub record AreFiled (chains : List (List Layer)) (sections : List Filed) : Type 0 where
+  pub count : length (sections_of chains) ≡ length sections
+  pub each : (number : ℕ) (filed : Filed) → number < length sections → filed ≡ slice_index_or sections number filed → IsFiled chains number filed
+
+-- the closed descriptors, and their sections
+pub record AreShelved (descriptors : List Descriptor) (sections : List Filed) : Type 0 where
+  pub told : AreTold descriptors
+  pub filed : AreFiled (chains_of descriptors) sections
+  pub fewer : length descriptors ≤ 2 ^ 32 - 3
 
 -- the links of a class under this parent
 pub record LinksTo (chains : List (List Layer)) (parent : ℕ) (links : Links) : Type 0 where
@@ -96,6 +115,7 @@ pub record IsUnder (chains : List (List Layer)) (parent : Option ℕ) (layer : L
   pub links : LinkUnder chains parent d.links
   pub known : Knows (chain_of_parent chains parent ++ layer ∷ []) d
   pub within : d.layers ≤ length chains + 1
+  pub last : IsLast (chains ++ (chain_of_parent chains parent ++ layer ∷ []) ∷ []) (chain_of_parent chains parent ++ layer ∷ []) d.last
 
 -- One link up from the class at this place, with a count that is still over the bound.
 pub record GoesUp (counted : Counted) (bound : ℕ) (chains : List (List Layer)) (place higher : ℕ) : Type 0 where

@@ -2,14 +2,18 @@
 //!
 //! Each descriptor keeps a link to its parent and one that jumps further up, so a chain takes no memory
 //! beyond its own layer, and any layer of it is found in a number of steps in the order of its logarithm.
-ghost use Rattle.std.specs.Prelude.{take, count_by, ◌≡◌, ◌+◌, ◌<◌, ◌≤◌, ◌^◌, [], ◌∷◌, ◌++◌, length, slice_get, Some, OnOk, OnErr, IfSome, IfNone, None, IsSomeAnd, ◌-◌};
+ghost use Rattle.std.specs.Prelude.{take, count_by, ◌≡◌, ◌+◌, ◌<◌, ◌≤◌, ◌^◌, [], ◌∷◌, ◌++◌, length, slice_get, Some, OnOk, OnErr, IfSome, IfNone, None, IsSomeAnd, ◌-◌, option_map};
 ghost use Rattle.std.specs.Option.{ForSome};
-ghost use Rattle.jser_table.specs.Chains.{all_serial, next_filled, is_filled};
+ghost use Rattle.jser_table.specs.Chains.{all_serial, next_filled, is_filled, is_external, elements_of, chain_in, IsFront};
+ghost use Rattle.jser_table.specs.Codes.{size_of, primitive_codes};
+ghost use Rattle.jser_table.specs.Sections.{HasSection, sections_of, layer_of, HoldsFor, IsOn, IsNext, AreSections};
 ghost use Rattle.jser_table.specs.Fits.{fit_of};
-ghost use Rattle.jser_table.specs.Descriptors.{AreTold, IsHighest, GoesUp, LinksTo, IsFront, IsUnder, IsTold, chains_of, chain_in, chain_of_parent, count_of, front_of};
+ghost use Rattle.jser_table.specs.Descriptors.{AreTold, IsHighest, GoesUp, LinksTo, IsUnder, IsTold, AreShelved, IsFiled, chains_of, chain_of_parent, count_of, front_of};
 
-use crate::descriptor::{Counted, Descriptor, Links};
+use crate::descriptor::{Counted, Descriptor, Filed, Links};
+use crate::entry::MOST_CHAINS;
 use crate::layer::{Fit, Layer, Purpose};
+use crate::section::{Section, SectionNumber, Sections};
 use std::alloc::{AllocError, Global};
 use std::marker::Model;
 
@@ -17,22 +21,24 @@ use std::marker::Model;
 #[derive(Debug, Drop)]
 pub(crate) struct Chains {
     descriptors: Vec<Descriptor>,
+    /// The sections of those that have one.
+    sections: Vec<Filed>,
 }
 
 impl Model for Chains {
-    ghost use Rattle.std.specs.Prelude.{◌-◌, vec_len, vec_capacity};
+    ghost use Rattle.std.specs.Prelude.{◌-◌, ◌^◌, min, vec_len, vec_capacity};
     ghost use Rattle.jser_table.specs.Stored.{ChainList};
 
     ghost Value = { ChainList };
 
-    ghost use Rattle.jser_table.specs.Descriptors.{AreTold, chains_of};
+    ghost use Rattle.jser_table.specs.Descriptors.{AreShelved, chains_of};
 
     ghost view = { λ a. record {
       listed = chains_of a.descriptors.items;
-      room = vec_capacity a.descriptors - vec_len a.descriptors;
+      room = min (2 ^ 32 - 3 - vec_len a.descriptors) (min (vec_capacity a.descriptors - vec_len a.descriptors) (vec_capacity a.sections - vec_len a.sections));
     } };
 
-    ghost invariant = { λ a. AreTold a.descriptors.items };
+    ghost invariant = { λ a. AreShelved a.descriptors.items a.sections.items };
 }
 
 impl Chains {
@@ -43,6 +49,7 @@ impl Chains {
     {
         Chains {
             descriptors: Vec::new(alloc),
+            sections: Vec::new(alloc),
         }
     }
 
@@ -52,6 +59,10 @@ impl Chains {
         ensures room { OnOk result (additional ≤ self.new.room) }
         ensures kept { self.old.room ≤ self.new.room }
     {
+        if MOST_CHAINS - self.descriptors.len() < additional {
+            return Err(AllocError);
+        }
+        self.sections.reserve(additional)?;
         self.descriptors.reserve(additional)
     }
 
@@ -60,14 +71,25 @@ impl Chains {
     #[tactic(auto, using(crate::proofs::ChainLemmas::length_chains_of, crate::proofs::ChainLemmas::told_push, crate::proofs::ChainLemmas::chains_push))]
     pub(crate) fn add(&mut self, layer: Layer, parent: Option<u32>) -> u32
         requires room { 0 < self.old.room }
-        requires fewer { length self.old.listed < 2 ^ 32 - 1 }
         requires parent_in { ForSome parent (λ number. number < length self.old.listed) }
         ensures added { self.new.listed ≡ self.old.listed ++ (chain_of_parent self.old.listed parent ++ layer ∷ []) ∷ [] }
         ensures number { result ≡ length self.old.listed }
+        ensures most { result < 2 ^ 32 - 3 }
         ensures room { self.old.room ≤ self.new.room + 1 }
     {
         let number = self.descriptors.len() as u32;
-        let descriptor = descriptor_under(&self.descriptors, parent, layer);
+        let section = self.sections.len() as u32;
+        if layer.is_filled() {
+            let filed = Filed {
+                section: layer.section(),
+                class: number,
+            };
+            match self.sections.push(filed) {
+                Ok(()) => (),
+                Err(_) => unreachable!(),
+            }
+        }
+        let descriptor = descriptor_under(&self.descriptors, parent, layer, section);
         match self.descriptors.push(descriptor) {
             Ok(()) => number,
             Err(_) => unreachable!(),
@@ -121,28 +143,99 @@ impl Chains {
         class.layer.fit(purpose, class.is_serial)
     }
 
+    /// Whether the class itself is externalizable.
+    pub(crate) fn is_external(&self, number: u32) -> bool
+        requires { number < length self.now.listed }
+        ensures { result ≡ is_external (chain_in self.now.listed number) }
+    {
+        descriptor_at(&self.descriptors, number as usize).layer.is_externalizable()
+    }
+
+    /// The size of the elements of an array of the class, where they are raw values.
+    pub(crate) fn element_size(&self, number: u32) -> Option<u8>
+        requires { number < length self.now.listed }
+        ensures { result ≡ option_map size_of (elements_of (chain_in self.now.listed number)) }
+    {
+        descriptor_at(&self.descriptors, number as usize).layer.element_size()
+    }
+
+    /// The sections of an object's data of this chain, if there are any.
+    pub(crate) fn sections(&self, number: u32) -> Option<Sections>
+        requires { number < length self.now.listed }
+        ensures { AreSections self.now.listed (chain_in self.now.listed number) result }
+    {
+        let last = descriptor_at(&self.descriptors, number as usize).last?;
+        let class = highest(&self.descriptors, number as usize, Counted::Filled, 0);
+        match descriptor_at(&self.descriptors, class).last {
+            Some(first) => Some(Sections {
+                first: SectionNumber { number: first },
+                last: SectionNumber { number: last },
+            }),
+            None => unreachable!(),
+        }
+    }
+
+    /// What the section holds.
+    pub(crate) fn section(&self, section: u32) -> Section
+        requires { HasSection self.now.listed section }
+        ensures { HoldsFor (layer_of self.now.listed section) result }
+    {
+        filed_at(&self.descriptors, &self.sections, section).section
+    }
+
+    /// The size of the raw value at this place of the section.
+    pub(crate) fn prim_size(&self, section: u32, pos: u16) -> u8
+        requires section { HasSection self.now.listed section }
+        requires pos { pos < length (primitive_codes (layer_of self.now.listed section).codes) }
+        ensures { option_map size_of (slice_get (primitive_codes (layer_of self.now.listed section).codes) pos) ≡ Some result }
+    {
+        let class = filed_at(&self.descriptors, &self.sections, section).class;
+        let layer = &descriptor_at(&self.descriptors, class as usize).layer;
+        layer.codes.prim_size(pos as usize)
+    }
+
+    /// The section that comes after this one in data that end with the section `last`.
+    pub(crate) fn next_section(&self, last: u32, section: u32) -> Option<u32>
+        requires { IsOn self.now.listed last section }
+        ensures { IsNext self.now.listed last section result }
+    {
+        let own = filed_at(&self.descriptors, &self.sections, last).class as usize;
+        let class = filed_at(&self.descriptors, &self.sections, section).class as usize;
+        let before = descriptor_at(&self.descriptors, class).count(Counted::Filled);
+        if descriptor_at(&self.descriptors, own).count(Counted::Filled) <= before {
+            return None;
+        }
+        let next = highest(&self.descriptors, own, Counted::Filled, before);
+        descriptor_at(&self.descriptors, next).last
+    }
+
     /// Forgets all chains, and keeps the room.
     #[tactic(auto, using(crate::proofs::ChainLemmas::chains_of_none))]
     pub(crate) fn clear(&mut self)
         ensures { self.new.listed ≡ [] }
     {
         self.descriptors.clear();
+        self.sections.clear();
     }
 }
 
 /// The descriptor of a class under this parent, if it has one.
 #[tactic(auto, using(crate::proofs::ChainLemmas::length_chains_of))]
-fn descriptor_under(descriptors: &[Descriptor], parent: Option<u32>, layer: Layer) -> Descriptor
+fn descriptor_under(descriptors: &[Descriptor], parent: Option<u32>, layer: Layer, section: u32) -> Descriptor
     requires told { AreTold descriptors.now }
     requires parent_in { ForSome parent (λ number. number < length descriptors.now) }
     requires fewer { length descriptors.now < 2 ^ 32 - 1 }
+    requires section { section ≡ length (sections_of (chains_of descriptors.now)) }
     ensures { IsUnder (chains_of descriptors.now) parent layer result }
 {
     let Some(parent) = parent else {
-        return Descriptor::root(layer);
+        let last = if layer.is_filled() { Some(section) } else { None };
+        return Descriptor::root(layer, last);
     };
     let jump = jump_from(descriptors, parent);
-    Descriptor::below(&descriptors[parent as usize], Links { parent, jump }, layer)
+    let above = &descriptors[parent as usize];
+    let last = if layer.is_filled() { Some(section) } else { above.last };
+    Descriptor::below(above, Links { parent, jump }, layer, last)
 }
 
 /// Where a class under this parent jumps to: beyond the parent's two last jumps where these are as long as
@@ -176,6 +269,15 @@ fn descriptor_at(descriptors: &[Descriptor], place: usize) -> &Descriptor
     ensures { IsTold (chains_of descriptors.now) place result.now }
 {
     &descriptors[place]
+}
+
+/// The section with this number.
+fn filed_at<'a>(descriptors: &[Descriptor], sections: &'a [Filed], number: u32) -> &'a Filed
+    requires shelved { AreShelved descriptors.now sections.now }
+    requires number_in { HasSection (chains_of descriptors.now) number }
+    ensures { IsFiled (chains_of descriptors.now) number result.now }
+{
+    &sections[number as usize]
 }
 
 /// The layer at this index of the chain at `start`.

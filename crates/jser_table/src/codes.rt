@@ -1,0 +1,117 @@
+//! The type codes of a class's fields (Java Object Serialization Specification, section 6.4.1).
+ghost use Rattle.std.specs.Prelude.{◌≡◌, ◌<◌, ◌≤◌, ◌^◌, ◌*◌, length, slice_get, option_map, Some};
+ghost use Rattle.jser_table.specs.Chains.{is_empty, has_write_method};
+ghost use Rattle.jser_table.specs.Codes.{prim_code_of, size_of, primitive_codes, object_count, raw_size};
+
+use crate::section::Section;
+use std::marker::Model;
+
+/// The type codes of a class's fields, in the order of its descriptor: at most 32,767, as the format has it.
+#[derive(Debug, Drop)]
+pub struct Codes {
+    codes: Vec<u8>,
+}
+
+impl Model for Codes {
+    ghost use Rattle.std.specs.Prelude.{List, ℕ, ◌<◌, ◌^◌, length};
+
+    ghost Value = { List ℕ };
+
+    ghost view = { λ a. a.codes.items };
+
+    ghost invariant = { λ a. length a.codes.items < 2 ^ 15 };
+}
+
+impl Codes {
+    /// These codes. Takes no memory.
+    pub fn new(codes: Vec<u8>) -> Codes
+        requires { length codes.items < 2 ^ 15 }
+        ensures { result ≡ codes.items }
+    {
+        Self { codes }
+    }
+
+    /// The codes, in order.
+    pub fn as_slice(&self) -> &[u8]
+        ensures { result.now ≡ self.now }
+    {
+        self.codes.as_slice()
+    }
+
+    /// Whether there are none.
+    pub fn is_empty(&self) -> bool
+        ensures { result ≡ is_empty self.now }
+    {
+        self.as_slice().is_empty()
+    }
+
+    /// Gives the vector back. Takes no memory.
+    pub fn into_vec(self) -> Vec<u8>
+        ensures { result.items ≡ self }
+    {
+        let Codes { codes } = self;
+        codes
+    }
+
+    /// How many of the codes are those of primitive types, how many bytes these have together, and how many
+    /// are left.
+    pub(crate) fn counts(&self) -> Counts
+        ensures prims { result.prims ≡ length (primitive_codes self.now) }
+        ensures values { result.values ≡ object_count self.now }
+        ensures raw_bytes { result.raw_bytes ≡ raw_size (primitive_codes self.now) }
+    {
+        let mut counts = Counts {
+            raw_bytes: 0,
+            prims: 0,
+            values: 0,
+        };
+        for code in self.codes.iter() {
+            match size_of_code(*code) {
+                Some(size) => {
+                    counts.prims += 1;
+                    counts.raw_bytes += u32::from(size);
+                }
+                None => counts.values += 1,
+            }
+        }
+        counts
+    }
+
+    /// The size of the raw value at this place among those of the class.
+    pub(crate) fn prim_size(&self, pos: usize) -> u8
+        requires { pos < length (primitive_codes self.now) }
+        ensures { option_map size_of (slice_get (primitive_codes self.now) pos) ≡ Some result }
+    {
+        let mut left = pos;
+        for code in self.codes.iter() {
+            if let Some(size) = size_of_code(*code) {
+                if left == 0 {
+                    return size;
+                }
+                left -= 1;
+            }
+        }
+        unreachable!()
+    }
+}
+
+/// How many codes of each sort a class has.
+#[derive(Clone, Copy, Debug)]
+pub(crate) struct Counts {
+    pub(crate) raw_bytes: u32,
+    pub(crate) prims: u16,
+    pub(crate) values: u16,
+}
+
+/// How many bytes a raw value of the type with this code has, if it is a primitive type.
+pub fn size_of_code(code: u8) -> Option<u8>
+    ensures { result ≡ option_map size_of (prim_code_of code) }
+{
+    match code {
+        0x42 | 0x5A => Some(1),
+        0x43 | 0x53 => Some(2),
+        0x46 | 0x49 => Some(4),
+        0x44 | 0x4A => Some(8),
+        _ => None,
+    }
+}
