@@ -1,5 +1,9 @@
 pub mod NameLemmas
+mod CodeLemmas
+pub mod LayerLemmas
+pub mod SectionLemmas
 pub mod ChainLemmas
 pub mod FlagLemmas
 pub mod WalkLemmas
+pub mod FiledLemmas
 pub mod TableLemmas

@@ -1,7 +1,7 @@
 -- How closed descriptors stand for chains. They are kept in the order in which they were closed, so a
 -- superclass stands before its subclasses: the chain of a descriptor is that of its parent and then its own
 -- layer.
-use Rattle.std.specs.Prelude.{ℕ, ◌≡◌, ◌+◌, ◌-◌, ◌^◌, ◌<◌, ◌≤◌, List, [], ◌∷◌, ◌++◌, length, take, drop, fold, count_by, slice_index_or, IsTrue, Option, Some, None}
+use Rattle.std.specs.Prelude.{ℕ, ◌≡◌, ◌+◌, ◌-◌, ◌^◌, ◌<◌, ◌≤◌, List, [], ◌∷◌, ◌++◌, length, take, drop, fold, count_by, slice_index_or, Bool, true, false, if◌then◌else◌, IsTrue, Option, Some, None}
 use Rattle.jser_table.specs.declared.layer.Layer.{Layer}
 use Rattle.jser_table.specs.declared.descriptor.Links.{Links}
 use Rattle.jser_table.specs.declared.descriptor.Descriptor.{Descriptor}
@@ -76,6 +76,10 @@ abbrev pub AreTold : List Descriptor → Type 0
 AreTold descriptors =
     (place : ℕ) (d : Descriptor) → place < length descriptors → d ≡ slice_index_or descriptors place d → IsTold (chains_of descriptors) place d
 
+-- the lowest section of a class: its own, if its layer has one, and else that of its parent
+abbrev pub IsLastUnder : Layer → (section : ℕ) (above last : Option ℕ) → Type 0
+IsLastUnder layer section above last = last ≡ (if is_filled layer then Some section else above)
+
 -- what is kept of a section
 pub record IsFiled (chains : List (List Layer)) (number : ℕ) (filed : Filed) : Type 0 where
   pub class_in : filed.class < length chains
@@ -88,6 +92,20 @@ pub record IsFiled (chains : List (List Layer)) (number : ℕ) (filed : Filed) :
 pub record AreFiled (chains : List (List Layer)) (sections : List Filed) : Type 0 where
   pub count : length (sections_of chains) ≡ length sections
   pub each : (number : ℕ) (filed : Filed) → number < length sections → filed ≡ slice_index_or sections number filed → IsFiled chains number filed
+
+-- one more class with this layer: its section comes at the end of the list, if it has one
+pub record FilesOne (layer : Layer) (class : ℕ) (old new : List Filed) : Type 0 where
+  pub filed : Filed
+  pub class_is : filed.class ≡ class
+  pub holds : HoldsFor layer filed.section
+  pub added : new ≡ old ++ filed ∷ []
+
+abbrev pub FilesIf : Bool → Layer → (class : ℕ) (old new : List Filed) → Type 0
+FilesIf true layer class old new = FilesOne layer class old new
+FilesIf false layer class old new = new ≡ old
+
+abbrev pub Files : Layer → (class : ℕ) (old new : List Filed) → Type 0
+Files layer class old new = FilesIf (is_filled layer) layer class old new
 
 -- the closed descriptors, and their sections
 pub record AreShelved (descriptors : List Descriptor) (sections : List Filed) : Type 0 where

@@ -2,13 +2,13 @@
 //!
 //! Each descriptor keeps a link to its parent and one that jumps further up, so a chain takes no memory
 //! beyond its own layer, and any layer of it is found in a number of steps in the order of its logarithm.
-ghost use Rattle.std.specs.Prelude.{take, count_by, ◌≡◌, ◌+◌, ◌<◌, ◌≤◌, ◌^◌, [], ◌∷◌, ◌++◌, length, slice_get, Some, OnOk, OnErr, IfSome, IfNone, None, IsSomeAnd, ◌-◌, option_map};
+ghost use Rattle.std.specs.Prelude.{take, count_by, ◌≡◌, ◌+◌, ◌<◌, ◌≤◌, ◌^◌, [], ◌∷◌, ◌++◌, length, slice_get, Some, OnOk, OnErr, IfSome, IfNone, None, IsSomeAnd, ◌-◌, option_map, vec_len, vec_capacity};
 ghost use Rattle.std.specs.Option.{ForSome};
 ghost use Rattle.jser_table.specs.Chains.{all_serial, next_filled, is_filled, is_external, elements_of, chain_in, IsFront};
 ghost use Rattle.jser_table.specs.Codes.{size_of, primitive_codes};
 ghost use Rattle.jser_table.specs.Sections.{HasSection, sections_of, layer_of, HoldsFor, IsOn, IsNext, AreSections};
 ghost use Rattle.jser_table.specs.Fits.{fit_of};
-ghost use Rattle.jser_table.specs.Descriptors.{AreTold, IsHighest, GoesUp, LinksTo, IsUnder, IsTold, AreShelved, IsFiled, chains_of, chain_of_parent, count_of, front_of};
+ghost use Rattle.jser_table.specs.Descriptors.{AreTold, IsHighest, GoesUp, LinksTo, IsUnder, IsTold, IsLastUnder, Files, AreShelved, IsFiled, chains_of, chain_of_parent, count_of, front_of};
 
 use crate::descriptor::{Counted, Descriptor, Filed, Links};
 use crate::entry::MOST_CHAINS;
@@ -43,7 +43,7 @@ impl Model for Chains {
 
 impl Chains {
     /// No chains. Takes no memory.
-    #[tactic(auto, using(crate::proofs::ChainLemmas::chains_of_none))]
+    #[tactic(auto, using(crate::proofs::ChainLemmas::chains_of_none, crate::proofs::FiledLemmas::shelved_none))]
     pub(crate) fn new(alloc: Global) -> Chains
         ensures { result.listed ≡ [] }
     {
@@ -79,16 +79,7 @@ impl Chains {
     {
         let number = self.descriptors.len() as u32;
         let section = self.sections.len() as u32;
-        if layer.is_filled() {
-            let filed = Filed {
-                section: layer.section(),
-                class: number,
-            };
-            match self.sections.push(filed) {
-                Ok(()) => (),
-                Err(_) => unreachable!(),
-            }
-        }
+        file(&mut self.sections, &layer, number);
         let descriptor = descriptor_under(&self.descriptors, parent, layer, section);
         match self.descriptors.push(descriptor) {
             Ok(()) => number,
@@ -144,6 +135,7 @@ impl Chains {
     }
 
     /// Whether the class itself is externalizable.
+    #[tactic(auto, using(crate::proofs::ChainLemmas::length_chains_of))]
     pub(crate) fn is_external(&self, number: u32) -> bool
         requires { number < length self.now.listed }
         ensures { result ≡ is_external (chain_in self.now.listed number) }
@@ -152,6 +144,7 @@ impl Chains {
     }
 
     /// The size of the elements of an array of the class, where they are raw values.
+    #[tactic(auto, using(crate::proofs::ChainLemmas::length_chains_of))]
     pub(crate) fn element_size(&self, number: u32) -> Option<u8>
         requires { number < length self.now.listed }
         ensures { result ≡ option_map size_of (elements_of (chain_in self.now.listed number)) }
@@ -160,22 +153,16 @@ impl Chains {
     }
 
     /// The sections of an object's data of this chain, if there are any.
+    #[tactic(auto, using(crate::proofs::ChainLemmas::length_chains_of))]
     pub(crate) fn sections(&self, number: u32) -> Option<Sections>
         requires { number < length self.now.listed }
         ensures { AreSections self.now.listed (chain_in self.now.listed number) result }
     {
-        let last = descriptor_at(&self.descriptors, number as usize).last?;
-        let class = highest(&self.descriptors, number as usize, Counted::Filled, 0);
-        match descriptor_at(&self.descriptors, class).last {
-            Some(first) => Some(Sections {
-                first: SectionNumber { number: first },
-                last: SectionNumber { number: last },
-            }),
-            None => unreachable!(),
-        }
+        sections_at(&self.descriptors, &self.sections, number as usize)
     }
 
     /// What the section holds.
+    #[tactic(auto, using(crate::proofs::ChainLemmas::length_chains_of))]
     pub(crate) fn section(&self, section: u32) -> Section
         requires { HasSection self.now.listed section }
         ensures { HoldsFor (layer_of self.now.listed section) result }
@@ -184,33 +171,28 @@ impl Chains {
     }
 
     /// The size of the raw value at this place of the section.
+    #[tactic(auto, using(crate::proofs::ChainLemmas::length_chains_of))]
     pub(crate) fn prim_size(&self, section: u32, pos: u16) -> u8
         requires section { HasSection self.now.listed section }
         requires pos { pos < length (primitive_codes (layer_of self.now.listed section).codes) }
         ensures { option_map size_of (slice_get (primitive_codes (layer_of self.now.listed section).codes) pos) ≡ Some result }
     {
-        let class = filed_at(&self.descriptors, &self.sections, section).class;
-        let layer = &descriptor_at(&self.descriptors, class as usize).layer;
-        layer.codes.prim_size(pos as usize)
+        section_layer(&self.descriptors, &self.sections, section)
+            .codes
+            .prim_size(pos as usize)
     }
 
     /// The section that comes after this one in data that end with the section `last`.
+    #[tactic(auto, using(crate::proofs::ChainLemmas::length_chains_of))]
     pub(crate) fn next_section(&self, last: u32, section: u32) -> Option<u32>
         requires { IsOn self.now.listed last section }
         ensures { IsNext self.now.listed last section result }
     {
-        let own = filed_at(&self.descriptors, &self.sections, last).class as usize;
-        let class = filed_at(&self.descriptors, &self.sections, section).class as usize;
-        let before = descriptor_at(&self.descriptors, class).count(Counted::Filled);
-        if descriptor_at(&self.descriptors, own).count(Counted::Filled) <= before {
-            return None;
-        }
-        let next = highest(&self.descriptors, own, Counted::Filled, before);
-        descriptor_at(&self.descriptors, next).last
+        section_after(&self.descriptors, &self.sections, last, section)
     }
 
     /// Forgets all chains, and keeps the room.
-    #[tactic(auto, using(crate::proofs::ChainLemmas::chains_of_none))]
+    #[tactic(auto, using(crate::proofs::ChainLemmas::chains_of_none, crate::proofs::FiledLemmas::shelved_none))]
     pub(crate) fn clear(&mut self)
         ensures { self.new.listed ≡ [] }
     {
@@ -219,7 +201,24 @@ impl Chains {
     }
 }
 
-/// The descriptor of a class under this parent, if it has one.
+/// Adds the section of the layer to the list, if it has one. Takes no memory.
+fn file(sections: &mut Vec<Filed>, layer: &Layer, class: u32)
+    requires room { vec_len sections.old < vec_capacity sections.old }
+    ensures filed { Files layer.now class sections.old.items sections.new.items }
+    ensures room { vec_capacity sections.old - vec_len sections.old ≤ vec_capacity sections.new - vec_len sections.new + 1 }
+{
+    if !layer.is_filled() {
+        return;
+    }
+    let section = layer.section();
+    match sections.push(Filed { section, class }) {
+        Ok(()) => (),
+        Err(_) => unreachable!(),
+    }
+}
+
+/// The descriptor of a class under this parent, if it has one. `section` is the number of its section, if it
+/// has one.
 #[tactic(auto, using(crate::proofs::ChainLemmas::length_chains_of))]
 fn descriptor_under(descriptors: &[Descriptor], parent: Option<u32>, layer: Layer, section: u32) -> Descriptor
     requires told { AreTold descriptors.now }
@@ -229,13 +228,20 @@ fn descriptor_under(descriptors: &[Descriptor], parent: Option<u32>, layer: Laye
     ensures { IsUnder (chains_of descriptors.now) parent layer result }
 {
     let Some(parent) = parent else {
-        let last = if layer.is_filled() { Some(section) } else { None };
+        let last = last_under(&layer, section, None);
         return Descriptor::root(layer, last);
     };
     let jump = jump_from(descriptors, parent);
     let above = &descriptors[parent as usize];
-    let last = if layer.is_filled() { Some(section) } else { above.last };
+    let last = last_under(&layer, section, above.last);
     Descriptor::below(above, Links { parent, jump }, layer, last)
+}
+
+/// The lowest section of a chain: the layer's own, if it has one, and else the one above.
+fn last_under(layer: &Layer, section: u32, above: Option<u32>) -> Option<u32>
+    ensures { IsLastUnder layer.now section above result }
+{
+    if layer.is_filled() { Some(section) } else { above }
 }
 
 /// Where a class under this parent jumps to: beyond the parent's two last jumps where these are as long as
@@ -278,6 +284,56 @@ fn filed_at<'a>(descriptors: &[Descriptor], sections: &'a [Filed], number: u32) 
     ensures { IsFiled (chains_of descriptors.now) number result.now }
 {
     &sections[number as usize]
+}
+
+/// The layer of the section with this number.
+#[tactic(auto, using(crate::proofs::ChainLemmas::length_chains_of, crate::proofs::FiledLemmas::layer_of_class))]
+fn section_layer<'a>(descriptors: &'a [Descriptor], sections: &[Filed], number: u32) -> &'a Layer
+    requires shelved { AreShelved descriptors.now sections.now }
+    requires number_in { HasSection (chains_of descriptors.now) number }
+    ensures { result.now ≡ layer_of (chains_of descriptors.now) number }
+{
+    let class = filed_at(descriptors, sections, number).class;
+    &descriptor_at(descriptors, class as usize).layer
+}
+
+/// The sections of an object's data of the chain at this place, if there are any.
+fn sections_at(descriptors: &[Descriptor], sections: &[Filed], place: usize) -> Option<Sections>
+    requires shelved { AreShelved descriptors.now sections.now }
+    requires place_in { place < length descriptors.now }
+    ensures { AreSections (chains_of descriptors.now) (chain_in (chains_of descriptors.now) place) result }
+{
+    let last = descriptor_at(descriptors, place).last?;
+    let class = highest(descriptors, place, Counted::Filled, 0);
+    match descriptor_at(descriptors, class).last {
+        Some(first) => Some(Sections {
+            first: SectionNumber { number: first },
+            last: SectionNumber { number: last },
+        }),
+        None => unreachable!(),
+    }
+}
+
+/// The section that comes after this one in data that end with the section `last`.
+#[tactic(auto, using(crate::proofs::ChainLemmas::length_chains_of))]
+fn section_after(
+    descriptors: &[Descriptor],
+    sections: &[Filed],
+    last: u32,
+    section: u32,
+) -> Option<u32>
+    requires shelved { AreShelved descriptors.now sections.now }
+    requires on { IsOn (chains_of descriptors.now) last section }
+    ensures { IsNext (chains_of descriptors.now) last section result }
+{
+    let own = filed_at(descriptors, sections, last).class as usize;
+    let class = filed_at(descriptors, sections, section).class as usize;
+    let before = descriptor_at(descriptors, class).count(Counted::Filled);
+    if descriptor_at(descriptors, own).count(Counted::Filled) <= before {
+        return None;
+    }
+    let next = highest(descriptors, own, Counted::Filled, before);
+    descriptor_at(descriptors, next).last
 }
 
 /// The layer at this index of the chain at `start`.

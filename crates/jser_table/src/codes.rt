@@ -60,21 +60,7 @@ impl Codes {
         ensures values { result.values ≡ object_count self.now }
         ensures raw_bytes { result.raw_bytes ≡ raw_size (primitive_codes self.now) }
     {
-        let mut counts = Counts {
-            raw_bytes: 0,
-            prims: 0,
-            values: 0,
-        };
-        for code in self.codes.iter() {
-            match size_of_code(*code) {
-                Some(size) => {
-                    counts.prims += 1;
-                    counts.raw_bytes += u32::from(size);
-                }
-                None => counts.values += 1,
-            }
-        }
-        counts
+        counts_of(self.codes.as_slice())
     }
 
     /// The size of the raw value at this place among those of the class.
@@ -82,16 +68,7 @@ impl Codes {
         requires { pos < length (primitive_codes self.now) }
         ensures { option_map size_of (slice_get (primitive_codes self.now) pos) ≡ Some result }
     {
-        let mut left = pos;
-        for code in self.codes.iter() {
-            if let Some(size) = size_of_code(*code) {
-                if left == 0 {
-                    return size;
-                }
-                left -= 1;
-            }
-        }
-        unreachable!()
+        prim_size_in(self.codes.as_slice(), pos)
     }
 }
 
@@ -101,6 +78,50 @@ pub(crate) struct Counts {
     pub(crate) raw_bytes: u32,
     pub(crate) prims: u16,
     pub(crate) values: u16,
+}
+
+/// The same of these codes.
+fn counts_of(codes: &[u8]) -> Counts
+    requires { length codes.now < 2 ^ 15 }
+    ensures prims { result.prims ≡ length (primitive_codes codes.now) }
+    ensures values { result.values ≡ object_count codes.now }
+    ensures raw_bytes { result.raw_bytes ≡ raw_size (primitive_codes codes.now) }
+{
+    let mut raw_bytes = 0u32;
+    let mut prims = 0u16;
+    let mut values = 0u16;
+    for code in codes {
+        match size_of_code(*code) {
+            Some(size) => {
+                prims += 1;
+                raw_bytes += u32::from(size);
+            }
+            None => values += 1,
+        }
+    }
+    Counts {
+        raw_bytes,
+        prims,
+        values,
+    }
+}
+
+/// The size of the raw value at this place among those of these codes.
+fn prim_size_in(codes: &[u8], pos: usize) -> u8
+    requires { pos < length (primitive_codes codes.now) }
+    ensures { option_map size_of (slice_get (primitive_codes codes.now) pos) ≡ Some result }
+{
+    let mut left = pos;
+    for code in codes {
+        let Some(size) = size_of_code(*code) else {
+            continue;
+        };
+        if left == 0 {
+            return size;
+        }
+        left -= 1;
+    }
+    unreachable!()
 }
 
 /// How many bytes a raw value of the type with this code has, if it is a primitive type.

@@ -31,7 +31,7 @@ pub(crate) struct Descriptor {
 }
 
 /// A section in the list of sections.
-#[derive(Clone, Copy, Debug)]
+#[derive(Debug, Drop)]
 pub(crate) struct Filed {
     /// What it holds.
     pub(crate) section: Section,
