@@ -182,8 +182,8 @@ section_found chains last place bound number d whole has is told highest here =
     in (
       record { last_in = has; section_in = at_number.0; front = front; filled = rw layer e.filled },
       ap (drop bound) all ∙ drop_at e.above (d.layer ∷ e.rest) bound e.at
-      ∙ rw (layer, own, all)
-        (ap (λ rest. d.layer ∷ rest) (sym (ap (drop (length (e.above ++ d.layer ∷ []))) (sym (append_assoc e.above (d.layer ∷ []) e.rest)) ∙ drop_at (e.above ++ d.layer ∷ []) e.rest (length (e.above ++ d.layer ∷ [])) refl))),
+          ∙ rw (layer, own, all)
+          (ap (λ rest. d.layer ∷ rest) (sym (ap (drop (length (e.above ++ d.layer ∷ []))) (sym (append_assoc e.above (d.layer ∷ []) e.rest)) ∙ drop_at (e.above ++ d.layer ∷ []) e.rest (length (e.above ++ d.layer ∷ [])) refl))),
     )
 
 -- after the last one there is none

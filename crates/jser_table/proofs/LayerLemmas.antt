@@ -44,4 +44,3 @@ pub own_layer_push : (chain : List Layer) (layer : Layer) → own_layer (chain +
 own_layer_push [] layer = refl
 own_layer_push (first ∷ []) layer = refl
 own_layer_push (first ∷ second ∷ chain) layer = own_layer_push (second ∷ chain) layer
-

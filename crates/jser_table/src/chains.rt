@@ -140,7 +140,9 @@ impl Chains {
         requires { number < length self.now.listed }
         ensures { result ≡ is_external (chain_in self.now.listed number) }
     {
-        descriptor_at(&self.descriptors, number as usize).layer.is_externalizable()
+        descriptor_at(&self.descriptors, number as usize)
+            .layer
+            .is_externalizable()
     }
 
     /// The size of the elements of an array of the class, where they are raw values.
@@ -149,7 +151,9 @@ impl Chains {
         requires { number < length self.now.listed }
         ensures { result ≡ option_map size_of (elements_of (chain_in self.now.listed number)) }
     {
-        descriptor_at(&self.descriptors, number as usize).layer.element_size()
+        descriptor_at(&self.descriptors, number as usize)
+            .layer
+            .element_size()
     }
 
     /// The sections of an object's data of this chain, if there are any.
@@ -220,7 +224,12 @@ fn file(sections: &mut Vec<Filed>, layer: &Layer, class: u32)
 /// The descriptor of a class under this parent, if it has one. `section` is the number of its section, if it
 /// has one.
 #[tactic(auto, using(crate::proofs::ChainLemmas::length_chains_of))]
-fn descriptor_under(descriptors: &[Descriptor], parent: Option<u32>, layer: Layer, section: u32) -> Descriptor
+fn descriptor_under(
+    descriptors: &[Descriptor],
+    parent: Option<u32>,
+    layer: Layer,
+    section: u32,
+) -> Descriptor
     requires told { AreTold descriptors.now }
     requires parent_in { ForSome parent (λ number. number < length descriptors.now) }
     requires fewer { length descriptors.now < 2 ^ 32 - 1 }
@@ -241,7 +250,11 @@ fn descriptor_under(descriptors: &[Descriptor], parent: Option<u32>, layer: Laye
 fn last_under(layer: &Layer, section: u32, above: Option<u32>) -> Option<u32>
     ensures { IsLastUnder layer.now section above result }
 {
-    if layer.is_filled() { Some(section) } else { above }
+    if layer.is_filled() {
+        Some(section)
+    } else {
+        above
+    }
 }
 
 /// Where a class under this parent jumps to: beyond the parent's two last jumps where these are as long as

@@ -67,7 +67,12 @@ impl Descriptor {
 
     /// A class with this superclass.
     #[tactic(auto, using(crate::proofs::ChainLemmas::knows_below))]
-    pub(crate) fn below(parent: &Descriptor, links: Links, layer: Layer, last: Option<u32>) -> Descriptor
+    pub(crate) fn below(
+        parent: &Descriptor,
+        links: Links,
+        layer: Layer,
+        last: Option<u32>,
+    ) -> Descriptor
         requires fewer { parent.now.layers < 2 ^ 32 - 1 }
         requires filled { parent.now.filled ≤ parent.now.layers }
         ensures layer { result.layer ≡ layer }

@@ -1,5 +1,5 @@
 //! Worked examples from the format, and long random runs against a plain list of chains.
-ghost use Rattle.std.specs.Prelude.{◌≡◌, slice_get};
+ghost use Rattle.std.specs.Prelude.{◌≡◌, ◌<◌, ◌^◌, length, slice_get};
 ghost use Rattle.jser_table.specs.Entries.{is_pending, is_closed};
 
 use crate::{
@@ -14,12 +14,9 @@ mod random;
 
 const INT: u8 = b'I';
 
-fn make_layer(
-    alloc: Global,
-    kind: LayerKind,
-    flags: u8,
-    codes: &[u8],
-) -> Result<Layer, AllocError> {
+fn make_layer(alloc: Global, kind: LayerKind, flags: u8, codes: &[u8]) -> Result<Layer, AllocError>
+    requires { length codes.now < 2 ^ 15 }
+{
     Ok(Layer {
         kind,
         flags,
