@@ -11,9 +11,10 @@ use Rattle.jser_table.specs.declared.section.Sections.{Sections}
 use Rattle.jser_table.specs.declared.descriptor.Counted.TheVariants as counted
 use Rattle.jser_table.specs.Chains.{own_layer, is_filled, chain_in, IsFront}
 use Rattle.jser_table.specs.Sections.{filled_layers, sections_of, HasSection, down_to, or_no_layer, layer_of, under, IsOn, HoldsFor, IsNext, AreSections}
-use Rattle.jser_table.specs.Descriptors.{chain_above, chain_of_parent, chains_of, IsTold, IsUnder, IsLast, IsFiled, AreFiled, FilesIf, Files, AreShelved, IsHighest}
+use Rattle.jser_table.specs.Descriptors.{chain_above, chain_of_parent, chains_of, IsTold, IsUnder, IsLast, IsRun, RunsOn, IsFiled, AreFiled, FilesIf, Files, AreShelved, IsHighest}
 use Rattle.jser_table.proofs.LayerLemmas.{IsFront-from, count_by_push, own_layer_push}
 use Rattle.jser_table.proofs.SectionLemmas.{sections_none, sections_push, sections_same, filled_push, length_filled, down_to_grows, layer_of_grows, new_down_to, new_layer_of}
+use Rattle.jser_table.proofs.RunLemmas.{run_grows, Follows, run_back}
 use Rattle.jser_table.proofs.ChainLemmas.{chains_of_none, length_chains_of, told_push, chains_push}
 use Rattle.jser_table.proofs.WalkLemmas.{EndsIn, front_of-EndsIn, something_added}
 
@@ -31,11 +32,12 @@ filed_grows chains chain number filed has told =
       filled = rw layer_same told.filled;
       own = rw (same, layer_same) told.own;
       holds = rw layer_same told.holds;
+      run = run_grows chains (chain ∷ []) filed.run number has told.run;
     }
 
 -- the section of the class that was closed last
-filed_new : (chains : List (List Layer)) (above : List Layer) (layer : Layer) (filed : Filed) → is_filled layer ≡ true → filed.class ≡ length chains → HoldsFor layer filed.section → IsFiled (chains ++ (above ++ layer ∷ []) ∷ []) (length (sections_of chains)) filed
-filed_new chains above layer filed is here holds =
+filed_new : (chains : List (List Layer)) (above : List Layer) (layer : Layer) (filed : Filed) → is_filled layer ≡ true → filed.class ≡ length chains → HoldsFor layer filed.section → IsRun (chains ++ (above ++ layer ∷ []) ∷ []) filed.run (length (sections_of chains)) → IsFiled (chains ++ (above ++ layer ∷ []) ∷ []) (length (sections_of chains)) filed
+filed_new chains above layer filed is here holds run =
     let chain : List Layer = above ++ layer ∷ [] in
     let own_chain : chain_in (chains ++ chain ∷ []) filed.class ≡ chain = get_or_push chains chain [] filed.class (sym here) in
     let own : layer_of (chains ++ chain ∷ []) (length (sections_of chains)) ≡ layer = new_layer_of chains above layer is in
@@ -45,11 +47,12 @@ filed_new chains above layer filed is here holds =
       filled = rw own is;
       own = rw (own_chain, own) (own_layer_push above layer);
       holds = rw own holds;
+      run = run;
     }
 
 -- a class with a section: it comes at the end
-pub filed_push : (chains : List (List Layer)) (above : List Layer) (layer : Layer) (sections : List Filed) (filed : Filed) → AreFiled chains sections → is_filled layer ≡ true → filed.class ≡ length chains → HoldsFor layer filed.section → AreFiled (chains ++ (above ++ layer ∷ []) ∷ []) (sections ++ filed ∷ [])
-filed_push chains above layer sections filed are is here holds =
+pub filed_push : (chains : List (List Layer)) (above : List Layer) (layer : Layer) (sections : List Filed) (filed : Filed) → AreFiled chains sections → is_filled layer ≡ true → filed.class ≡ length chains → HoldsFor layer filed.section → IsRun (chains ++ (above ++ layer ∷ []) ∷ []) filed.run (length (sections_of chains)) → AreFiled (chains ++ (above ++ layer ∷ []) ∷ []) (sections ++ filed ∷ [])
+filed_push chains above layer sections filed are is here holds run =
     let longer : length (sections_of (chains ++ (above ++ layer ∷ []) ∷ [])) ≡ length (sections_of chains) + 1 =
     ap (λ (s : List (List Layer)). length s) (sections_push chains above layer is) ∙ length_push (sections_of chains) (filled_layers (above ++ layer ∷ []))
     in
@@ -62,7 +65,7 @@ filed_push chains above layer sections filed are is here holds =
         | inr after ↦
             let last : length sections ≡ number = omega (arith, length_push sections filed) in
             let same : x ≡ filed = read ∙ get_or_push sections filed x number last in
-            rw (same, sym last, sym are.count) (filed_new chains above layer filed is here holds)
+            rw (same, sym last, sym are.count) (filed_new chains above layer filed is here holds run)
       ];
     }
 
@@ -86,16 +89,17 @@ shelved_none ds sections e f = rw (e, f) record {
 
 -- one more class
 
-filed_if : (b : Bool) (chains : List (List Layer)) (above : List Layer) (layer : Layer) (old new : List Filed) → is_filled layer ≡ b → AreFiled chains old → FilesIf b layer (length chains) old new → AreFiled (chains ++ (above ++ layer ∷ []) ∷ []) new
-filed_if true chains above layer old new is are files = rw files.added (filed_push chains above layer old files.filed are is files.class_is files.holds)
-filed_if false chains above layer old new is are files = rw files (filed_same chains above layer old are is)
+filed_if : (b : Bool) (chains : List (List Layer)) (above : List Layer) (layer : Layer) (last : Option ℕ) (run : ℕ) (old new : List Filed) → is_filled layer ≡ b → AreFiled chains old → IsLast chains above last → RunsOn chains last run → FilesIf b layer (length chains) run old new → AreFiled (chains ++ (above ++ layer ∷ []) ∷ []) new
+filed_if true chains above layer last run old new is are at_last runs files =
+    rw files.added (filed_push chains above layer old files.filed are is files.class_is files.holds (rw files.run_is (runs above layer at_last is)))
+filed_if false chains above layer last run old new is are at_last runs files = rw files (filed_same chains above layer old are is)
 
-pub shelved_push : (old new : List Descriptor) (d : Descriptor) (parent : Option ℕ) (layer : Layer) (sections filed : List Filed) → AreShelved old sections → length old < 2 ^ 32 - 3 → new ≡ old ++ d ∷ [] → IsUnder (chains_of old) parent layer d → Files layer (length old) sections filed → AreShelved new filed
-shelved_push old new d parent layer sections filed are few is under files = record {
+pub shelved_push : (old new : List Descriptor) (d : Descriptor) (parent : Option ℕ) (layer : Layer) (last : Option ℕ) (run : ℕ) (sections filed : List Filed) → AreShelved old sections → length old < 2 ^ 32 - 3 → new ≡ old ++ d ∷ [] → IsUnder (chains_of old) parent layer d → IsLast (chains_of old) (chain_of_parent (chains_of old) parent) last → RunsOn (chains_of old) last run → Files layer (length old) run sections filed → AreShelved new filed
+shelved_push old new d parent layer last run sections filed are few is under at_last runs files = record {
   told = told_push old new d parent layer are.told is under;
   filed =
       rw (chains_push old new d parent layer is under)
-      (filed_if (is_filled layer) (chains_of old) (chain_of_parent (chains_of old) parent) layer sections filed refl are.filed (rw (length_chains_of old) files));
+      (filed_if (is_filled layer) (chains_of old) (chain_of_parent (chains_of old) parent) layer last run sections filed refl are.filed at_last runs (rw (length_chains_of old) files));
   fewer = omega (arith, few, ap length is, length_push old d);
 }
 
@@ -109,7 +113,7 @@ pub section_in_list : (ds : List Descriptor) (sections : List Filed) (number : �
 section_in_list ds sections number are has = omega (arith, has, are.filed.count)
 
 no_filed : Filed
-no_filed = record { section = record { raw_bytes = 0; prims = 0; values = 0; is_annotated = false }; class = 0 }
+no_filed = record { section = record { raw_bytes = 0; prims = 0; values = 0; is_annotated = false }; class = 0; run = 0 }
 
 not_empty : (layers : List Layer) → IsTrue (is_filled (or_no_layer (own_layer layers))) → 0 < length layers
 not_empty [] filled = absurd (false≢true filled)
@@ -215,3 +219,48 @@ sections_found chains start place own d sections told_own own_is told highest he
     let at_last : IsLast chains (chain_in chains start) (Some sections.last) = subst (IsLast chains (chain_in chains start)) own_is told_own.last in
     let found = section_found chains sections.last place 0 sections.first d (chain_in chains start) at_last.0 at_last.1 told highest here in
     (found.0, sym at_last.1 ∙ found.1)
+
+-- within a run
+
+-- the last section has none after it
+pub after_last : (chains : List (List Layer)) (last section : ℕ) → section ≡ last → under chains last section ≡ []
+after_last chains last section is = none_after chains last section (rw is (omega arith))
+
+-- the next one is the next number
+pub next_in_run : (ds : List Descriptor) (sections : List Filed) (run last section next : ℕ) → AreShelved ds sections → IsOn (chains_of ds) last section → IsRun (chains_of ds) run last → run ≤ section → section < last → next ≡ section + 1 → IsNext (chains_of ds) last section (Some next)
+unfolding under
+next_in_run ds sections run last section next are on is_run low high is =
+    let chains : List (List Layer) = chains_of ds in
+    let here : HasSection chains (section + 1) = omega (arith, on.last_in, high) in
+    let step : down_to chains (section + 1) ≡ down_to chains section ++ layer_of chains (section + 1) ∷ [] = is_run.each section low high in
+    let follows : Follows chains (section + 1) last = run_back chains run last (last - (section + 1)) (section + 1) is_run (omega arith) (omega arith) in
+    let rest : List Layer = drop (length (down_to chains (section + 1))) (down_to chains last) in
+    let all : down_to chains last ≡ down_to chains section ++ layer_of chains (section + 1) ∷ rest =
+    follows.front.rest ∙ ap (λ front. front ++ rest) step ∙ append_assoc (down_to chains section) (layer_of chains (section + 1) ∷ []) rest
+    in
+    rw is (
+      record { last_in = on.last_in; section_in = here; front = follows.front; filled = (filed_at_place ds sections (section + 1) no_filed are here).filled },
+      ap (drop (length (down_to chains section))) all ∙ drop_at (down_to chains section) (layer_of chains (section + 1) ∷ rest) (length (down_to chains section)) refl,
+    )
+
+one_layer : (layers : List Layer) → length layers ≡ 1 → layers ≡ or_no_layer (own_layer layers) ∷ []
+one_layer [] e = absurd (omega arith)
+one_layer (layer ∷ []) e = refl
+one_layer (layer ∷ more ∷ layers) e = absurd (omega arith)
+
+-- the first one stands as many numbers back as there are others
+pub first_in_run : (ds : List Descriptor) (sections : List Filed) (start run : ℕ) (own : Descriptor) (found : Sections) → AreShelved ds sections → IsTold (chains_of ds) start own → own.last ≡ Some found.last → IsRun (chains_of ds) run found.last → found.first + own.filled ≡ found.last + 1 → run ≤ found.first → AreSections (chains_of ds) (chain_in (chains_of ds) start) (Some found)
+unfolding layer_of under
+first_in_run ds sections start run own found are told own_is is_run back low =
+    let chains : List (List Layer) = chains_of ds in
+    let at_last : IsLast chains (chain_in chains start) (Some found.last) = subst (IsLast chains (chain_in chains start)) own_is told.last in
+    let some : 0 < count_by is_filled (chain_in chains start) = has_filled ds sections start own found.last are told own_is in
+    let follows : Follows chains found.first found.last = run_back chains run found.last (found.last - found.first) found.first is_run (omega (arith, told.known.filled, some, back)) low in
+    let one : length (down_to chains found.first) ≡ 1 =
+    omega (arith, follows.longer, ap length at_last.1, length_filled (chain_in chains start), told.known.filled, some, back)
+    in
+    let here : HasSection chains found.first = omega (arith, at_last.0, told.known.filled, some, back) in
+    let single = one_layer (down_to chains found.first) one in (
+      record { last_in = at_last.0; section_in = here; front = follows.front; filled = (filed_at_place ds sections found.first no_filed are here).filled },
+      sym at_last.1 ∙ follows.front.rest ∙ ap (λ front. front ++ drop (length (down_to chains found.first)) (down_to chains found.last)) single,
+    )

@@ -80,6 +80,18 @@ AreTold descriptors =
 abbrev pub IsLastUnder : Layer → (section : ℕ) (above last : Option ℕ) → Type 0
 IsLastUnder layer section above last = last ≡ (if is_filled layer then Some section else above)
 
+-- Within a run the sections follow each other by one: each from `run` on down to this one is that of the next
+-- filled layer under the one before.
+pub record IsRun (chains : List (List Layer)) (run number : ℕ) : Type 0 where
+  pub before : run ≤ number
+  pub each : (n : ℕ) → run ≤ n → n < number → down_to chains (n + 1) ≡ down_to chains n ++ layer_of chains (n + 1) ∷ []
+
+-- the run of the next section, that of a filled layer under a chain whose lowest section is `above`
+abbrev pub RunsOn : List (List Layer) → (above : Option ℕ) → (run : ℕ) → Type 0
+RunsOn chains above run =
+    (front : List Layer) (layer : Layer) → IsLast chains front above → is_filled layer ≡ true
+    → IsRun (chains ++ (front ++ layer ∷ []) ∷ []) run (length (sections_of chains))
+
 -- what is kept of a section
 pub record IsFiled (chains : List (List Layer)) (number : ℕ) (filed : Filed) : Type 0 where
   pub class_in : filed.class < length chains
@@ -87,6 +99,7 @@ pub record IsFiled (chains : List (List Layer)) (number : ℕ) (filed : Filed) :
   pub filled : IsTrue (is_filled (layer_of chains number))
   pub own : own_layer (chain_in chains filed.class) ≡ Some (layer_of chains number)
   pub holds : HoldsFor (layer_of chains number) filed.section
+  pub run : IsRun chains filed.run number
 
 -- all sections are kept
 pub record AreFiled (chains : List (List Layer)) (sections : List Filed) : Type 0 where
@@ -94,18 +107,19 @@ pub record AreFiled (chains : List (List Layer)) (sections : List Filed) : Type 
   pub each : (number : ℕ) (filed : Filed) → number < length sections → filed ≡ slice_index_or sections number filed → IsFiled chains number filed
 
 -- one more class with this layer: its section comes at the end of the list, if it has one
-pub record FilesOne (layer : Layer) (class : ℕ) (old new : List Filed) : Type 0 where
+pub record FilesOne (layer : Layer) (class run : ℕ) (old new : List Filed) : Type 0 where
   pub filed : Filed
   pub class_is : filed.class ≡ class
+  pub run_is : filed.run ≡ run
   pub holds : HoldsFor layer filed.section
   pub added : new ≡ old ++ filed ∷ []
 
-abbrev pub FilesIf : Bool → Layer → (class : ℕ) (old new : List Filed) → Type 0
-FilesIf true layer class old new = FilesOne layer class old new
-FilesIf false layer class old new = new ≡ old
+abbrev pub FilesIf : Bool → Layer → (class run : ℕ) (old new : List Filed) → Type 0
+FilesIf true layer class run old new = FilesOne layer class run old new
+FilesIf false layer class run old new = new ≡ old
 
-abbrev pub Files : Layer → (class : ℕ) (old new : List Filed) → Type 0
-Files layer class old new = FilesIf (is_filled layer) layer class old new
+abbrev pub Files : Layer → (class run : ℕ) (old new : List Filed) → Type 0
+Files layer class run old new = FilesIf (is_filled layer) layer class run old new
 
 -- the closed descriptors, and their sections
 pub record AreShelved (descriptors : List Descriptor) (sections : List Filed) : Type 0 where

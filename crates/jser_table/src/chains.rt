@@ -8,7 +8,7 @@ ghost use Rattle.jser_table.specs.Chains.{all_serial, next_filled, is_filled, is
 ghost use Rattle.jser_table.specs.Codes.{size_of, primitive_codes};
 ghost use Rattle.jser_table.specs.Sections.{HasSection, sections_of, layer_of, HoldsFor, IsOn, IsNext, AreSections};
 ghost use Rattle.jser_table.specs.Fits.{fit_of};
-ghost use Rattle.jser_table.specs.Descriptors.{AreTold, IsHighest, GoesUp, LinksTo, IsUnder, IsTold, IsLastUnder, Files, AreShelved, IsFiled, chains_of, chain_of_parent, count_of, front_of};
+ghost use Rattle.jser_table.specs.Descriptors.{AreTold, IsHighest, GoesUp, LinksTo, IsUnder, IsTold, IsLast, IsLastUnder, RunsOn, Files, AreShelved, IsFiled, chains_of, chain_of_parent, count_of, front_of};
 
 use crate::descriptor::{Counted, Descriptor, Filed, Links};
 use crate::entry::MOST_CHAINS;
@@ -79,7 +79,9 @@ impl Chains {
     {
         let number = self.descriptors.len() as u32;
         let section = self.sections.len() as u32;
-        file(&mut self.sections, &layer, number);
+        let above = last_of(&self.descriptors, parent);
+        let run = run_under(&self.descriptors, &self.sections, above);
+        file(&mut self.sections, &layer, number, run);
         let descriptor = descriptor_under(&self.descriptors, parent, layer, section);
         match self.descriptors.push(descriptor) {
             Ok(()) => number,
@@ -205,17 +207,49 @@ impl Chains {
     }
 }
 
+/// The lowest section of the parent's chain, if there is one.
+#[tactic(auto, using(crate::proofs::ChainLemmas::length_chains_of))]
+fn last_of(descriptors: &[Descriptor], parent: Option<u32>) -> Option<u32>
+    requires told { AreTold descriptors.now }
+    requires parent_in { ForSome parent (λ number. number < length descriptors.now) }
+    ensures { IsLast (chains_of descriptors.now) (chain_of_parent (chains_of descriptors.now) parent) result }
+{
+    match parent {
+        Some(parent) => descriptor_at(descriptors, parent as usize).last,
+        None => None,
+    }
+}
+
+/// Where the run of the next section starts, if that stands under the section `above`: the run goes on where
+/// that one is the newest, and else the next section starts one.
+fn run_under(descriptors: &[Descriptor], sections: &[Filed], above: Option<u32>) -> u32
+    requires shelved { AreShelved descriptors.now sections.now }
+    requires above_in { ForSome above (HasSection (chains_of descriptors.now)) }
+    ensures { RunsOn (chains_of descriptors.now) above result }
+{
+    match above {
+        Some(above) if above as usize + 1 == sections.len() => {
+            filed_at(descriptors, sections, above).run
+        }
+        _ => sections.len() as u32,
+    }
+}
+
 /// Adds the section of the layer to the list, if it has one. Takes no memory.
-fn file(sections: &mut Vec<Filed>, layer: &Layer, class: u32)
+fn file(sections: &mut Vec<Filed>, layer: &Layer, class: u32, run: u32)
     requires room { vec_len sections.old < vec_capacity sections.old }
-    ensures filed { Files layer.now class sections.old.items sections.new.items }
+    ensures filed { Files layer.now class run sections.old.items sections.new.items }
     ensures room { vec_capacity sections.old - vec_len sections.old ≤ vec_capacity sections.new - vec_len sections.new + 1 }
 {
     if !layer.is_filled() {
         return;
     }
     let section = layer.section();
-    match sections.push(Filed { section, class }) {
+    match sections.push(Filed {
+        section,
+        class,
+        run,
+    }) {
         Ok(()) => (),
         Err(_) => unreachable!(),
     }
@@ -316,7 +350,17 @@ fn sections_at(descriptors: &[Descriptor], sections: &[Filed], place: usize) -> 
     requires place_in { place < length descriptors.now }
     ensures { AreSections (chains_of descriptors.now) (chain_in (chains_of descriptors.now) place) result }
 {
-    let last = descriptor_at(descriptors, place).last?;
+    let own = descriptor_at(descriptors, place);
+    let last = own.last?;
+    let back = own.filled - 1;
+    if back <= last - filed_at(descriptors, sections, last).run {
+        return Some(Sections {
+            first: SectionNumber {
+                number: last - back,
+            },
+            last: SectionNumber { number: last },
+        });
+    }
     let class = highest(descriptors, place, Counted::Filled, 0);
     match descriptor_at(descriptors, class).last {
         Some(first) => Some(Sections {
@@ -330,6 +374,28 @@ fn sections_at(descriptors: &[Descriptor], sections: &[Filed], place: usize) -> 
 /// The section that comes after this one in data that end with the section `last`.
 #[tactic(auto, using(crate::proofs::ChainLemmas::length_chains_of))]
 fn section_after(
+    descriptors: &[Descriptor],
+    sections: &[Filed],
+    last: u32,
+    section: u32,
+) -> Option<u32>
+    requires shelved { AreShelved descriptors.now sections.now }
+    requires on { IsOn (chains_of descriptors.now) last section }
+    ensures { IsNext (chains_of descriptors.now) last section result }
+{
+    if section == last {
+        return None;
+    }
+    let lowest = filed_at(descriptors, sections, last);
+    if lowest.run <= section && section < last {
+        return Some(section + 1);
+    }
+    section_after_by_walk(descriptors, sections, last, section)
+}
+
+/// The same by a walk up the chain, where the two sections are in no run.
+#[tactic(auto, using(crate::proofs::ChainLemmas::length_chains_of))]
+fn section_after_by_walk(
     descriptors: &[Descriptor],
     sections: &[Filed],
     last: u32,

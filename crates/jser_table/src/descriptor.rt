@@ -37,6 +37,8 @@ pub(crate) struct Filed {
     pub(crate) section: Section,
     /// The number of the closed descriptor whose layer it is.
     pub(crate) class: u32,
+    /// The first section of its run: from there on each section is the next under the one before.
+    pub(crate) run: u32,
 }
 
 /// What a walk up a chain counts: all layers, or those that have something to read.

@@ -1,18 +1,10 @@
-use Rattle.std.proofs.Common.{ℕ, ◌≡◌, ◌∙◌, refl, arith, length}
-use Rattle.jser_table.specs.Sections.{down_to}
-use Rattle.jser_table.specs.Descriptors.{chains_of}
-use Rattle.jser_table.proofs.FiledLemmas.{count_of_class, none_after, next_found}
+use Rattle.std.proofs.Common.{refl}
+use Rattle.jser_table.proofs.FiledLemmas.{after_last, next_in_run}
 use Rattle.jser_table.proofs.chains.section_after.Goals as goal
 
-pub returns-then-count-before : goal.returns-then-count-before
-returns-then-count-before c =
-    let ds = c.args.descriptors.now in
-    let last : c.count.result ≡ length (down_to (chains_of ds) c.args.last) = c.count.ensures ∙ count_of_class _ _ _ _ _ c.filed_at.ensures refl c.descriptor_at-2.ensures in
-    let own : c.count-before.result ≡ length (down_to (chains_of ds) c.args.section) = c.count-before.ensures ∙ count_of_class _ _ _ _ _ c.filed_at-2.ensures refl c.descriptor_at.ensures in
-    none_after _ _ _ (omega (arith, last, own, c.if-count-before.true))
+pub returns-then-section-last : goal.returns-then-section-last
+returns-then-section-last c = after_last _ _ _ c.if-section-last.true
 
-pub returns : goal.returns
-returns c =
-    let ds = c.args.descriptors.now in
-    let own : c.count-before.result ≡ length (down_to (chains_of ds) c.args.section) = c.count-before.ensures ∙ count_of_class _ _ _ _ _ c.filed_at-2.ensures refl c.descriptor_at.ensures in
-    next_found _ _ _ _ _ _ _ c.requires.on c.filed_at.ensures own c.descriptor_at-3.ensures c.highest-next.ensures.highest
+pub returns-then-section-last-2 : goal.returns-then-section-last-2
+returns-then-section-last-2 c =
+    next_in_run _ _ _ _ _ _ c.requires.shelved c.requires.on c.filed_at-lowest.ensures.run c.if-lowest-section.true c.if-section-last-2.true refl
