@@ -9,6 +9,7 @@ use Rattle.jser_table.specs.declared.descriptor.Descriptor.{Descriptor}
 use Rattle.jser_table.specs.declared.descriptor.Filed.{Filed}
 use Rattle.jser_table.specs.declared.section.Sections.{Sections}
 use Rattle.jser_table.specs.declared.descriptor.Counted.TheVariants as counted
+use Rattle.jser_table.specs.Codes.{AreLeading}
 use Rattle.jser_table.specs.Chains.{own_layer, is_filled, chain_in, IsFront}
 use Rattle.jser_table.specs.Sections.{filled_layers, sections_of, HasSection, down_to, or_no_layer, layer_of, under, IsOn, HoldsFor, IsNext, AreSections}
 use Rattle.jser_table.specs.Descriptors.{chain_above, chain_of_parent, chains_of, IsTold, IsUnder, IsLast, IsRun, RunsOn, IsFiled, AreFiled, FilesIf, Files, AreShelved, IsHighest}
@@ -32,12 +33,13 @@ filed_grows chains chain number filed has told =
       filled = rw layer_same told.filled;
       own = rw (same, layer_same) told.own;
       holds = rw layer_same told.holds;
+      leading = rw layer_same told.leading;
       run = run_grows chains (chain ∷ []) filed.run number has told.run;
     }
 
 -- the section of the class that was closed last
-filed_new : (chains : List (List Layer)) (above : List Layer) (layer : Layer) (filed : Filed) → is_filled layer ≡ true → filed.class ≡ length chains → HoldsFor layer filed.section → IsRun (chains ++ (above ++ layer ∷ []) ∷ []) filed.run (length (sections_of chains)) → IsFiled (chains ++ (above ++ layer ∷ []) ∷ []) (length (sections_of chains)) filed
-filed_new chains above layer filed is here holds run =
+filed_new : (chains : List (List Layer)) (above : List Layer) (layer : Layer) (filed : Filed) → is_filled layer ≡ true → filed.class ≡ length chains → HoldsFor layer filed.section → AreLeading layer.codes filed.leading → IsRun (chains ++ (above ++ layer ∷ []) ∷ []) filed.run (length (sections_of chains)) → IsFiled (chains ++ (above ++ layer ∷ []) ∷ []) (length (sections_of chains)) filed
+filed_new chains above layer filed is here holds leading run =
     let chain : List Layer = above ++ layer ∷ [] in
     let own_chain : chain_in (chains ++ chain ∷ []) filed.class ≡ chain = get_or_push chains chain [] filed.class (sym here) in
     let own : layer_of (chains ++ chain ∷ []) (length (sections_of chains)) ≡ layer = new_layer_of chains above layer is in
@@ -47,12 +49,13 @@ filed_new chains above layer filed is here holds run =
       filled = rw own is;
       own = rw (own_chain, own) (own_layer_push above layer);
       holds = rw own holds;
+      leading = rw own leading;
       run = run;
     }
 
 -- a class with a section: it comes at the end
-pub filed_push : (chains : List (List Layer)) (above : List Layer) (layer : Layer) (sections : List Filed) (filed : Filed) → AreFiled chains sections → is_filled layer ≡ true → filed.class ≡ length chains → HoldsFor layer filed.section → IsRun (chains ++ (above ++ layer ∷ []) ∷ []) filed.run (length (sections_of chains)) → AreFiled (chains ++ (above ++ layer ∷ []) ∷ []) (sections ++ filed ∷ [])
-filed_push chains above layer sections filed are is here holds run =
+pub filed_push : (chains : List (List Layer)) (above : List Layer) (layer : Layer) (sections : List Filed) (filed : Filed) → AreFiled chains sections → is_filled layer ≡ true → filed.class ≡ length chains → HoldsFor layer filed.section → AreLeading layer.codes filed.leading → IsRun (chains ++ (above ++ layer ∷ []) ∷ []) filed.run (length (sections_of chains)) → AreFiled (chains ++ (above ++ layer ∷ []) ∷ []) (sections ++ filed ∷ [])
+filed_push chains above layer sections filed are is here holds leading run =
     let longer : length (sections_of (chains ++ (above ++ layer ∷ []) ∷ [])) ≡ length (sections_of chains) + 1 =
     ap (λ (s : List (List Layer)). length s) (sections_push chains above layer is) ∙ length_push (sections_of chains) (filled_layers (above ++ layer ∷ []))
     in
@@ -65,7 +68,7 @@ filed_push chains above layer sections filed are is here holds run =
         | inr after ↦
             let last : length sections ≡ number = omega (arith, length_push sections filed) in
             let same : x ≡ filed = read ∙ get_or_push sections filed x number last in
-            rw (same, sym last, sym are.count) (filed_new chains above layer filed is here holds run)
+            rw (same, sym last, sym are.count) (filed_new chains above layer filed is here holds leading run)
       ];
     }
 
@@ -91,7 +94,7 @@ shelved_none ds sections e f = rw (e, f) record {
 
 filed_if : (b : Bool) (chains : List (List Layer)) (above : List Layer) (layer : Layer) (last : Option ℕ) (run : ℕ) (old new : List Filed) → is_filled layer ≡ b → AreFiled chains old → IsLast chains above last → RunsOn chains last run → FilesIf b layer (length chains) run old new → AreFiled (chains ++ (above ++ layer ∷ []) ∷ []) new
 filed_if true chains above layer last run old new is are at_last runs files =
-    rw files.added (filed_push chains above layer old files.filed are is files.class_is files.holds (rw files.run_is (runs above layer at_last is)))
+    rw files.added (filed_push chains above layer old files.filed are is files.class_is files.holds files.leading (rw files.run_is (runs above layer at_last is)))
 filed_if false chains above layer last run old new is are at_last runs files = rw files (filed_same chains above layer old are is)
 
 pub shelved_push : (old new : List Descriptor) (d : Descriptor) (parent : Option ℕ) (layer : Layer) (last : Option ℕ) (run : ℕ) (sections filed : List Filed) → AreShelved old sections → length old < 2 ^ 32 - 3 → new ≡ old ++ d ∷ [] → IsUnder (chains_of old) parent layer d → IsLast (chains_of old) (chain_of_parent (chains_of old) parent) last → RunsOn (chains_of old) last run → Files layer (length old) run sections filed → AreShelved new filed
@@ -113,7 +116,7 @@ pub section_in_list : (ds : List Descriptor) (sections : List Filed) (number : �
 section_in_list ds sections number are has = omega (arith, has, are.filed.count)
 
 no_filed : Filed
-no_filed = record { section = record { raw_bytes = 0; prims = 0; values = 0; is_annotated = false }; class = 0; run = 0 }
+no_filed = record { section = record { raw_bytes = 0; prims = 0; values = 0; is_annotated = false }; class = 0; run = 0; leading = 0 }
 
 not_empty : (layers : List Layer) → IsTrue (is_filled (or_no_layer (own_layer layers))) → 0 < length layers
 not_empty [] filled = absurd (false≢true filled)

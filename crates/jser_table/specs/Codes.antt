@@ -1,7 +1,7 @@
 -- Type codes, the first byte of a field in a class descriptor (Java Object Serialization Specification,
 -- section 6.4.1: prim_typecode and obj_typecode). The eight letters of primitive types stand for raw
 -- values of a size in bytes, `[` and `L` for a value.
-use Rattle.std.specs.Prelude.{ℕ, suc, ◌+◌, ◌==◌, ◌||◌, Bool, if◌then◌else◌, List, [], ◌∷◌, Option, Some, None}
+use Rattle.std.specs.Prelude.{ℕ, suc, ◌+◌, ◌<◌, ◌≤◌, ◌==◌, ◌||◌, Bool, IsTrue, if◌then◌else◌, List, [], ◌∷◌, length, slice_index_or, Option, Some, None, is_some}
 
 -- B, C, D, F, I, J, S, Z
 pub data PrimCode : Type 0 where
@@ -67,3 +67,8 @@ object_count (c ∷ codes) = one_more_value (prim_code_of c) (object_count codes
 abbrev pub raw_size : List PrimCode → ℕ
 raw_size [] = 0
 raw_size (c ∷ codes) = size_of c + raw_size codes
+
+-- so many codes at the beginning are those of primitive types
+pub record AreLeading (codes : List ℕ) (leading : ℕ) : Type 0 where
+  pub inside : leading ≤ length codes
+  pub each : (k : ℕ) → k < leading → IsTrue (is_some (prim_code_of (slice_index_or codes k 0)))

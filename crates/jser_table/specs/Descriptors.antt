@@ -7,6 +7,7 @@ use Rattle.jser_table.specs.declared.descriptor.Links.{Links}
 use Rattle.jser_table.specs.declared.descriptor.Descriptor.{Descriptor}
 use Rattle.jser_table.specs.declared.descriptor.Counted.{Counted}
 use Rattle.jser_table.specs.declared.descriptor.Counted.TheVariants as counted
+use Rattle.jser_table.specs.Codes.{AreLeading}
 use Rattle.jser_table.specs.Chains.{own_layer, chain_in, all_serial, is_filled, IsFront}
 use Rattle.jser_table.specs.Sections.{HasSection, sections_of, down_to, layer_of, filled_layers, HoldsFor}
 use Rattle.jser_table.specs.declared.descriptor.Filed.{Filed}
@@ -99,6 +100,7 @@ pub record IsFiled (chains : List (List Layer)) (number : ℕ) (filed : Filed) :
   pub filled : IsTrue (is_filled (layer_of chains number))
   pub own : own_layer (chain_in chains filed.class) ≡ Some (layer_of chains number)
   pub holds : HoldsFor (layer_of chains number) filed.section
+  pub leading : AreLeading (layer_of chains number).codes filed.leading
   pub run : IsRun chains filed.run number
 
 -- all sections are kept
@@ -112,6 +114,7 @@ pub record FilesOne (layer : Layer) (class run : ℕ) (old new : List Filed) : T
   pub class_is : filed.class ≡ class
   pub run_is : filed.run ≡ run
   pub holds : HoldsFor layer filed.section
+  pub leading : AreLeading layer.codes filed.leading
   pub added : new ≡ old ++ filed ∷ []
 
 abbrev pub FilesIf : Bool → Layer → (class run : ℕ) (old new : List Filed) → Type 0

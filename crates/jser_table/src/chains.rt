@@ -10,6 +10,7 @@ ghost use Rattle.jser_table.specs.Sections.{HasSection, sections_of, layer_of, H
 ghost use Rattle.jser_table.specs.Fits.{fit_of};
 ghost use Rattle.jser_table.specs.Descriptors.{AreTold, IsHighest, GoesUp, LinksTo, IsUnder, IsTold, IsLast, IsLastUnder, RunsOn, Files, AreShelved, IsFiled, chains_of, chain_of_parent, count_of, front_of};
 
+use crate::codes::leading_size;
 use crate::descriptor::{Counted, Descriptor, Filed, Links};
 use crate::entry::MOST_CHAINS;
 use crate::layer::{Fit, Layer, Purpose};
@@ -183,9 +184,7 @@ impl Chains {
         requires pos { pos < length (primitive_codes (layer_of self.now.listed section).codes) }
         ensures { option_map size_of (slice_get (primitive_codes (layer_of self.now.listed section).codes) pos) ≡ Some result }
     {
-        section_layer(&self.descriptors, &self.sections, section)
-            .codes
-            .prim_size(pos as usize)
+        prim_size_at(&self.descriptors, &self.sections, section, pos)
     }
 
     /// The section that comes after this one in data that end with the section `last`.
@@ -244,12 +243,13 @@ fn file(sections: &mut Vec<Filed>, layer: &Layer, class: u32, run: u32)
     if !layer.is_filled() {
         return;
     }
-    let section = layer.section();
-    match sections.push(Filed {
-        section,
+    let filed = Filed {
+        section: layer.section(),
         class,
         run,
-    }) {
+        leading: layer.codes.leading(),
+    };
+    match sections.push(filed) {
         Ok(()) => (),
         Err(_) => unreachable!(),
     }
@@ -333,15 +333,22 @@ fn filed_at<'a>(descriptors: &[Descriptor], sections: &'a [Filed], number: u32) 
     &sections[number as usize]
 }
 
-/// The layer of the section with this number.
-#[tactic(auto, using(crate::proofs::ChainLemmas::length_chains_of, crate::proofs::FiledLemmas::layer_of_class))]
-fn section_layer<'a>(descriptors: &'a [Descriptor], sections: &[Filed], number: u32) -> &'a Layer
+/// The size of the raw value at this place of the section. As long as the codes before it are those of
+/// primitive types, which holds in each stream, it is found at once.
+#[tactic(auto, using(crate::proofs::ChainLemmas::length_chains_of))]
+fn prim_size_at(descriptors: &[Descriptor], sections: &[Filed], section: u32, pos: u16) -> u8
     requires shelved { AreShelved descriptors.now sections.now }
-    requires number_in { HasSection (chains_of descriptors.now) number }
-    ensures { result.now ≡ layer_of (chains_of descriptors.now) number }
+    requires section { HasSection (chains_of descriptors.now) section }
+    requires pos { pos < length (primitive_codes (layer_of (chains_of descriptors.now) section).codes) }
+    ensures { option_map size_of (slice_get (primitive_codes (layer_of (chains_of descriptors.now) section).codes) pos) ≡ Some result }
 {
-    let class = filed_at(descriptors, sections, number).class;
-    &descriptor_at(descriptors, class as usize).layer
+    let filed = filed_at(descriptors, sections, section);
+    let codes = &descriptor_at(descriptors, filed.class as usize).layer.codes;
+    if pos < filed.leading {
+        leading_size(codes.as_slice(), filed.leading, pos)
+    } else {
+        codes.prim_size(pos as usize)
+    }
 }
 
 /// The sections of an object's data of the chain at this place, if there are any.

@@ -1,7 +1,7 @@
 //! The type codes of a class's fields (Java Object Serialization Specification, section 6.4.1).
 ghost use Rattle.std.specs.Prelude.{◌≡◌, ◌<◌, ◌≤◌, ◌^◌, ◌*◌, length, slice_get, option_map, Some};
 ghost use Rattle.jser_table.specs.Chains.{is_empty, has_write_method};
-ghost use Rattle.jser_table.specs.Codes.{prim_code_of, size_of, primitive_codes, object_count, raw_size};
+ghost use Rattle.jser_table.specs.Codes.{prim_code_of, size_of, primitive_codes, object_count, raw_size, AreLeading};
 
 use crate::section::Section;
 use std::marker::Model;
@@ -60,7 +60,14 @@ impl Codes {
         ensures values { result.values ≡ object_count self.now }
         ensures raw_bytes { result.raw_bytes ≡ raw_size (primitive_codes self.now) }
     {
-        counts_of(self.codes.as_slice())
+        counts_of(&self.codes)
+    }
+
+    /// How many of the codes come before the first that is not a primitive type's.
+    pub(crate) fn leading(&self) -> u16
+        ensures { AreLeading self.now result }
+    {
+        leading_of(&self.codes)
     }
 
     /// The size of the raw value at this place among those of the class.
@@ -68,7 +75,7 @@ impl Codes {
         requires { pos < length (primitive_codes self.now) }
         ensures { option_map size_of (slice_get (primitive_codes self.now) pos) ≡ Some result }
     {
-        prim_size_in(self.codes.as_slice(), pos)
+        prim_size_in(&self.codes, pos)
     }
 }
 
@@ -103,6 +110,33 @@ fn counts_of(codes: &[u8]) -> Counts
         raw_bytes,
         prims,
         values,
+    }
+}
+
+/// How many of these codes come before the first that is not a primitive type's.
+fn leading_of(codes: &[u8]) -> u16
+    requires { length codes.now < 2 ^ 15 }
+    ensures { AreLeading codes.now result }
+{
+    let mut leading = 0u16;
+    for code in codes {
+        if size_of_code(*code).is_none() {
+            return leading;
+        }
+        leading += 1;
+    }
+    leading
+}
+
+/// The size of the raw value at this place, where only codes of primitive types stand before it.
+pub(crate) fn leading_size(codes: &[u8], leading: u16, pos: u16) -> u8
+    requires leading { AreLeading codes.now leading }
+    requires pos_in { pos < leading }
+    ensures { option_map size_of (slice_get (primitive_codes codes.now) pos) ≡ Some result }
+{
+    match size_of_code(codes[pos as usize]) {
+        Some(size) => size,
+        None => unreachable!(),
     }
 }
 

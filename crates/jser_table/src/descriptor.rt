@@ -39,6 +39,8 @@ pub(crate) struct Filed {
     pub(crate) class: u32,
     /// The first section of its run: from there on each section is the next under the one before.
     pub(crate) run: u32,
+    /// How many of its codes come before the first that is not a primitive type's.
+    pub(crate) leading: u16,
 }
 
 /// What a walk up a chain counts: all layers, or those that have something to read.
