@@ -11,6 +11,7 @@ use std::process::Abort;
 use std::test::Fail;
 
 mod random;
+mod sections;
 
 const INT: u8 = b'I';
 
