@@ -3,12 +3,8 @@
 use Rattle.std.specs.Prelude.{ℕ, ◌+◌, ◌^◌, ◌<◌, ◌≡◌, Bool, true, false, ◌&&◌, ◌||◌, IsTrue, IsFalse, nat_lt, List, [], ◌∷◌, length, slice_get, Option, Some, None, is_some}
 use Rattle.std.specs.List.{list_all}
 use Rattle.jser_prim.specs.ModifiedUtf8.{modified_utf8, IsUnits}
-use Rattle.jser_table.specs.declared.layer.Layer.{Layer}
-use Rattle.jser_table.specs.declared.layer.LayerKind.{LayerKind}
-use Rattle.jser_table.specs.declared.layer.LayerKind.TheVariants as kind
-use Rattle.jser_table.specs.declared.layer.BodyKind.{BodyKind}
-use Rattle.jser_table.specs.declared.layer.BodyKind.TheVariants as body
-use Rattle.jser_table.specs.Chains.{is_serializable, is_externalizable, own_layer}
+use Rattle.jser_table.specs.Chains.{is_serializable, is_externalizable}
+pub use Rattle.jser_table.specs.Chains.{elements_of_body, elements_of_kind, elements_of_layer, elements_of, is_external_layer, is_external}
 use Rattle.jser_table.specs.Entries.{is_text, is_closed}
 use Rattle.jser_table.specs.Names.{NameKind, plain_name, array_name, malformed_name, name_kind}
 use Rattle.jser_grammar.specs.Codes.{PrimCode, size_of, prim_code_of, is_object_code}
@@ -99,28 +95,3 @@ block_bound true = 2 ^ 31
 
 abbrev pub IsBlock : Bool → List ℕ → Type 0
 IsBlock long bytes = IsBytes bytes × (length bytes < block_bound long)
-
--- the elements of an array of this class: raw values of one type, or values
-abbrev pub elements_of_body : BodyKind → Option PrimCode
-elements_of_body (body.Prim c) = prim_code_of c
-elements_of_body body.Values = None
-
-abbrev pub elements_of_kind : LayerKind → Option PrimCode
-elements_of_kind kind.Proxy = None
-elements_of_kind (kind.Array elements) = elements_of_body elements
-elements_of_kind kind.Other = None
-
-abbrev pub elements_of_layer : Option Layer → Option PrimCode
-elements_of_layer None = None
-elements_of_layer (Some own) = elements_of_kind own.kind
-
-abbrev pub elements_of : List Layer → Option PrimCode
-elements_of chain = elements_of_layer (own_layer chain)
-
--- the class named by the object itself is externalizable
-abbrev pub is_external_layer : Option Layer → Bool
-is_external_layer None = false
-is_external_layer (Some own) = is_externalizable own.flags
-
-abbrev pub is_external : List Layer → Bool
-is_external chain = is_external_layer (own_layer chain)

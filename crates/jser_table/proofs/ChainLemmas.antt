@@ -1,17 +1,21 @@
 -- Chains of closed descriptors: one more descriptor, fronts of chains, and what the links of a descriptor
 -- lead to.
-use Rattle.std.proofs.Common.{◌≡◌, ℕ, ◌+◌, ◌<◌, ◌≤◌, Bool, true, false, ◌&&◌, cond, List, [], ◌∷◌, ◌++◌, length, drop, fold, count_by, get_or, Option, Some, None, refl, ap, sym, ◌∙◌, subst, arith, append_assoc, append-nil, inl, inr}
+use Rattle.std.proofs.Common.{◌≡◌, ℕ, ◌+◌, ◌<◌, ◌≤◌, Bool, true, false, ◌&&◌, cond, List, [], ◌∷◌, ◌++◌, length, drop, fold, count_by, get_or, Option, Some, None, option_map, refl, ap, sym, ◌∙◌, subst, arith, append_assoc, append-nil, inl, inr}
 use Rattle.std.proofs.lemmas.Bool.{cases_lt}
 use Rattle.std.proofs.lemmas.List.{get_or_append_left, get_or_push, drop_at, length_push}
 use Rattle.std.proofs.lemmas.List.Sums.{fold_push, sum_by-append}
 use Rattle.jser_table.specs.declared.layer.Layer.{Layer}
 use Rattle.jser_table.specs.declared.descriptor.Links.{Links}
 use Rattle.jser_table.specs.declared.descriptor.Descriptor.{Descriptor}
+use Rattle.jser_table.proofs.LayerLemmas.{IsFront-append, IsFront-trans, count_by_push, and_true, all_serial_push, own_layer_push}
+use Rattle.jser_table.proofs.SectionLemmas.{last_grows, last_under}
 use Rattle.jser_table.specs.declared.layer.Purpose.{Purpose}
 use Rattle.jser_table.specs.declared.layer.Fit.{Fit}
 use Rattle.jser_table.specs.Fits.{class_fit, fit_of_own, fit_of}
-use Rattle.jser_table.specs.Chains.{own_layer, all_serial, is_serial, is_filled}
-use Rattle.jser_table.specs.Descriptors.{chain_in, chain_above, with_chain, chains_of, IsFront, AreLinks, Knows, IsTold, AreTold, LinksTo, LinkUnder, IsUnder, chain_of_parent, KnowsBelow}
+use Rattle.jser_table.specs.Sections.{sections_of}
+use Rattle.jser_table.specs.Codes.{size_of}
+use Rattle.jser_table.specs.Chains.{is_externalizable, is_external_layer, is_external, elements_of_kind, elements_of_layer, elements_of, own_layer, all_serial, is_serial, is_filled, chain_in, IsFront}
+use Rattle.jser_table.specs.Descriptors.{chain_above, with_chain, chains_of, AreLinks, Knows, IsTold, AreTold, LinksTo, LinkUnder, IsUnder, IsLast, IsLastUnder, chain_of_parent, KnowsBelow}
 
 chains_of-push : (ds : List Descriptor) (d : Descriptor) → chains_of (ds ++ d ∷ []) ≡ with_chain (chains_of ds) d
 unfolding chains_of
@@ -29,39 +33,6 @@ length-fold_with_chain chains (d ∷ ds) =
 pub length_chains_of : (ds : List Descriptor) → length (chains_of ds) ≡ length ds
 unfolding chains_of
 length_chains_of ds = length-fold_with_chain [] ds ∙ omega arith
-
--- fronts of chains
-
-pub IsFront-append : (xs ys : List Layer) → IsFront xs (xs ++ ys)
-IsFront-append xs ys = record { rest = ap (λ rest. xs ++ rest) (sym (drop_at xs ys (length xs) refl)) }
-
-pub IsFront-from : (xs ys whole : List Layer) → whole ≡ xs ++ ys → IsFront xs whole
-IsFront-from xs ys whole e = subst (IsFront xs) (sym e) (IsFront-append xs ys)
-
-pub IsFront-refl : (xs : List Layer) → IsFront xs xs
-IsFront-refl xs = IsFront-from xs [] xs (rw append-nil refl)
-
-pub IsFront-trans : (xs ys zs : List Layer) → IsFront xs ys → IsFront ys zs → IsFront xs zs
-IsFront-trans xs ys zs f g =
-    IsFront-from xs (drop (length xs) ys ++ drop (length ys) zs) zs
-    (g.rest ∙ ap (λ front. front ++ drop (length ys) zs) f.rest ∙ append_assoc xs (drop (length xs) ys) (drop (length ys) zs))
-
--- one more layer at the end of a chain
-
-pub count_by_push : (chain : List Layer) (layer : Layer) → count_by is_filled (chain ++ layer ∷ []) ≡ count_by is_filled chain + cond (is_filled layer) 1 0
-count_by_push chain layer = sum_by-append (λ l. cond (is_filled l) 1 0) chain (layer ∷ []) ∙ omega arith
-
-and_true : (b : Bool) → (b && true) ≡ (true && b)
-and_true true = refl
-and_true false = refl
-
-and_assoc_test : (a b c : Bool) → (a && (b && c)) ≡ (a && b && c)
-and_assoc_test true b c = refl
-and_assoc_test false b c = refl
-
-pub all_serial_push : (chain : List Layer) (layer : Layer) → all_serial (chain ++ layer ∷ []) ≡ (all_serial chain && is_serial layer)
-all_serial_push [] layer = and_true (is_serial layer)
-all_serial_push (first ∷ chain) layer = ap (λ rest. is_serial first && rest) (all_serial_push chain layer) ∙ and_assoc_test (is_serial first) (all_serial chain) (is_serial layer)
 
 -- one more descriptor
 
@@ -85,6 +56,7 @@ IsTold-push chains chain place d inside told =
       known = subst (λ (whole : List Layer). Knows whole d) (sym same) told.known;
       within = told.within;
       links = AreLinks-push chains chain place d.links inside told.links;
+      last = rw same (last_grows chains (chain ∷ []) (chain_in chains place) d.last told.last);
     }
 
 above_of_parent : (chains : List (List Layer)) (parent : Option ℕ) (links : Option Links) → LinkUnder chains parent links → chain_above chains links ≡ chain_of_parent chains parent
@@ -121,6 +93,8 @@ IsTold-new chains parent layer d under =
       known = subst (λ (whole : List Layer). Knows whole d) (is_chain ∙ sym here) under.known;
       within = under.within;
       links = links;
+      last = subst (λ (whole : List Layer). IsLast (with_chain chains d) whole d.last) (sym here)
+          (subst (λ (whole : List Layer). IsLast (chains ++ whole ∷ []) whole d.last) is_chain under.last);
     }
 
 pub told_push : (old new : List Descriptor) (d : Descriptor) (parent : Option ℕ) (layer : Layer) → AreTold old → new ≡ old ++ d ∷ [] → IsUnder (chains_of old) parent layer d → AreTold new
@@ -153,9 +127,19 @@ knows_below parent d layer layers filled serial = λ chain known. record {
   serial = serial ∙ ap (λ b. b && is_serial layer) known.serial ∙ sym (all_serial_push chain layer);
 }
 
--- the descriptor that is made of a parent, a jump and a layer
-pub under_parent : (ds : List Descriptor) (parent : Option ℕ) (number jump : ℕ) (layer : Layer) (above d : Descriptor) → AreTold ds → number < length ds → above ≡ get_or ds number above → parent ≡ Some number → jump < length ds → IsFront (chain_in (chains_of ds) jump) (chain_in (chains_of ds) number) → d.layer ≡ layer → d.links ≡ Some record { parent = number; jump = jump } → KnowsBelow above layer d → IsUnder (chains_of ds) parent layer d
-under_parent ds parent number jump layer above d told inside read is jump_in front layer_is links_are below =
+-- the descriptor that is made of a layer alone, or of a parent, a jump and a layer
+
+pub under_none : (ds : List Descriptor) (parent : Option ℕ) (layer : Layer) (section : ℕ) (last : Option ℕ) (d : Descriptor) → parent ≡ None → section ≡ length (sections_of (chains_of ds)) → IsLastUnder layer section None last → d.layer ≡ layer → d.links ≡ None → d.last ≡ last → Knows (layer ∷ []) d → IsUnder (chains_of ds) parent layer d
+under_none ds parent layer section last d is here under layer_is links_are last_is known = rw is record {
+  layer_is = layer_is;
+  links = rw links_are tt;
+  known = known;
+  within = omega (arith, known.layers);
+  last = rw last_is (last_under (chains_of ds) [] layer section None last here refl under);
+}
+
+pub under_parent : (ds : List Descriptor) (parent : Option ℕ) (number jump : ℕ) (layer : Layer) (section : ℕ) (last : Option ℕ) (above d : Descriptor) → AreTold ds → number < length ds → above ≡ get_or ds number above → parent ≡ Some number → jump < length ds → IsFront (chain_in (chains_of ds) jump) (chain_in (chains_of ds) number) → section ≡ length (sections_of (chains_of ds)) → IsLastUnder layer section above.last last → d.layer ≡ layer → d.links ≡ Some record { parent = number; jump = jump } → d.last ≡ last → KnowsBelow above layer d → IsUnder (chains_of ds) parent layer d
+under_parent ds parent number jump layer section last above d told inside read is jump_in front here under layer_is links_are last_is below =
     let at_parent : IsTold (chains_of ds) number above = told number above inside read in
     let known : Knows (chain_in (chains_of ds) number ++ layer ∷ []) d = below (chain_in (chains_of ds) number) at_parent.known in
     let links : LinksTo (chains_of ds) number record { parent = number; jump = jump } =
@@ -166,14 +150,8 @@ under_parent ds parent number jump layer above d told inside read is jump_in fro
       links = rw (is, links_are) links;
       known = rw is known;
       within = omega (arith, known.layers, length_push (chain_in (chains_of ds) number) layer, at_parent.known.layers, at_parent.within, length_chains_of ds);
+      last = rw (is, last_is) (last_under (chains_of ds) (chain_in (chains_of ds) number) layer section above.last last here at_parent.last under);
     }
-
--- own layers
-
-pub own_layer_push : (chain : List Layer) (layer : Layer) → own_layer (chain ++ layer ∷ []) ≡ Some layer
-own_layer_push [] layer = refl
-own_layer_push (first ∷ []) layer = refl
-own_layer_push (first ∷ second ∷ chain) layer = own_layer_push (second ∷ chain) layer
 
 -- whether a class fits, by its own layer and whether the classes above it are serial
 pub fit_of_push : (purpose : Purpose) (chain : List Layer) (layer : Layer) → fit_of purpose (chain ++ layer ∷ []) ≡ class_fit purpose layer (all_serial chain && is_serial layer)
@@ -185,3 +163,13 @@ pub fit_told : (chains : List (List Layer)) (place : ℕ) (d : Descriptor) (purp
 fit_told chains place d purpose fit told is =
     is ∙ ap (class_fit purpose d.layer) told.known.serial
     ∙ sym (ap (λ own. fit_of_own purpose own (chain_in chains place)) (ap own_layer told.own ∙ own_layer_push (chain_above chains d.links) d.layer))
+
+-- the own layer of a chain, by its descriptor
+pub own_told : (chains : List (List Layer)) (place : ℕ) (d : Descriptor) → IsTold chains place d → own_layer (chain_in chains place) ≡ Some d.layer
+own_told chains place d told = ap own_layer told.own ∙ own_layer_push (chain_above chains d.links) d.layer
+
+pub external_told : (chains : List (List Layer)) (place : ℕ) (d : Descriptor) (external : Bool) → IsTold chains place d → external ≡ is_externalizable d.layer.flags → external ≡ is_external (chain_in chains place)
+external_told chains place d external told is = is ∙ sym (ap is_external_layer (own_told chains place d told))
+
+pub elements_told : (chains : List (List Layer)) (place : ℕ) (d : Descriptor) (size : Option ℕ) → IsTold chains place d → size ≡ option_map size_of (elements_of_kind d.layer.kind) → size ≡ option_map size_of (elements_of (chain_in chains place))
+elements_told chains place d size told is = is ∙ sym (ap (λ own. option_map size_of (elements_of_layer own)) (own_told chains place d told))

@@ -1,5 +1,10 @@
 pub mod NameLemmas
+mod CodeLemmas
+pub mod LayerLemmas
+pub mod SectionLemmas
 pub mod ChainLemmas
+pub mod RunLemmas
 pub mod FlagLemmas
 pub mod WalkLemmas
+pub mod FiledLemmas
 pub mod TableLemmas

@@ -8,8 +8,8 @@ use Rattle.std.proofs.lemmas.List.Sums.{sum_by-append, sum_by-cons}
 use Rattle.jser_table.specs.declared.layer.Layer.{Layer}
 use Rattle.jser_table.specs.declared.descriptor.Descriptor.{Descriptor}
 use Rattle.jser_table.specs.declared.descriptor.Counted.TheVariants as counted
-use Rattle.jser_table.specs.Chains.{is_filled, next_filled}
-use Rattle.jser_table.specs.Descriptors.{chain_in, chain_above, IsFront, front_of, IsTold, IsHighest}
+use Rattle.jser_table.specs.Chains.{is_filled, next_filled, chain_in, IsFront}
+use Rattle.jser_table.specs.Descriptors.{chain_above, front_of, IsTold, IsHighest}
 
 count_by-append : (p : Layer → Bool) (xs ys : List Layer) → count_by p (xs ++ ys) ≡ count_by p xs + count_by p ys
 count_by-append p xs ys = sum_by-append (λ x. cond (p x) 1 0) xs ys
@@ -23,7 +23,7 @@ nothing_added true n none = absurd (omega arith)
 nothing_added false n none = (refl, omega arith)
 
 -- a test that adds something holds
-something_added : (b : Bool) (m n : ℕ) → m ≤ n → n < m + cond b 1 0 → b ≡ true
+pub something_added : (b : Bool) (m n : ℕ) → m ≤ n → n < m + cond b 1 0 → b ≡ true
 something_added true m n low high = refl
 something_added false m n low high = absurd (omega arith)
 
@@ -56,10 +56,10 @@ slice_get_at xs y ys k is =
     slice_get-get_or (xs ++ y ∷ ys) k y inside ∙ ap Some (get_or_at xs y ys y k is)
 
 -- `front` is made of the layers above one layer, and that layer
-record EndsIn (front above : List Layer) (layer : Layer) : Type 0 where
-  is : front ≡ above ++ layer ∷ []
+pub record EndsIn (front above : List Layer) (layer : Layer) : Type 0 where
+  pub is : front ≡ above ++ layer ∷ []
 
-front_of-EndsIn : (front above : List Layer) (layer : Layer) → EndsIn front above layer → front_of front ≡ above
+pub front_of-EndsIn : (front above : List Layer) (layer : Layer) → EndsIn front above layer → front_of front ≡ above
 front_of-EndsIn front above layer ends =
     let long : length front ≡ length above + 1 = ap length ends.is ∙ length_push above layer in
     let short : length front - 1 ≡ length above = omega arith in

@@ -1,9 +1,12 @@
 -- Chains of classes. A chain is the whole list of a class's layers, the highest superclass first and its
 -- own layer last; each layer has the flags of its descriptor (`java.io.ObjectStreamConstants`, SC_*).
-use Rattle.std.specs.Prelude.{ℕ, ◌+◌, ◌/◌, ◌%◌, Bool, true, false, not, ◌==◌, ◌&&◌, ◌||◌, List, [], ◌∷◌, drop, position, Option, Some, None, option_map}
+use Rattle.std.specs.Prelude.{ℕ, ◌≡◌, ◌++◌, length, slice_index_or, ◌+◌, ◌/◌, ◌%◌, Bool, true, false, not, ◌==◌, ◌&&◌, ◌||◌, List, [], ◌∷◌, drop, position, Option, Some, None, option_map}
+use Rattle.jser_table.specs.declared.layer.BodyKind.{BodyKind}
+use Rattle.jser_table.specs.declared.layer.BodyKind.TheVariants as body
 use Rattle.jser_table.specs.declared.layer.LayerKind.{LayerKind}
 use Rattle.jser_table.specs.declared.layer.LayerKind.TheVariants as kind
 use Rattle.jser_table.specs.declared.layer.Layer.{Layer}
+use Rattle.jser_table.specs.Codes.{PrimCode, prim_code_of}
 
 -- 01, SC_WRITE_METHOD: the class writes an annotation behind its fields
 abbrev pub has_write_method : ℕ → Bool
@@ -67,3 +70,36 @@ is_filled layer = not (is_empty layer.codes) || has_write_method layer.flags
 -- the index of the first layer, at k or after it, for which an object holds something to read
 abbrev pub next_filled : List Layer → ℕ → Option ℕ
 next_filled chain k = option_map (λ j. k + j) (position is_filled (drop k chain))
+
+-- the class named by the object itself is externalizable
+abbrev pub is_external_layer : Option Layer → Bool
+is_external_layer None = false
+is_external_layer (Some own) = is_externalizable own.flags
+
+abbrev pub is_external : List Layer → Bool
+is_external chain = is_external_layer (own_layer chain)
+
+-- the elements of an array of this class: raw values of one type, or values
+abbrev pub elements_of_body : BodyKind → Option PrimCode
+elements_of_body (body.Prim c) = prim_code_of c
+elements_of_body body.Values = None
+
+abbrev pub elements_of_kind : LayerKind → Option PrimCode
+elements_of_kind kind.Proxy = None
+elements_of_kind (kind.Array elements) = elements_of_body elements
+elements_of_kind kind.Other = None
+
+abbrev pub elements_of_layer : Option Layer → Option PrimCode
+elements_of_layer None = None
+elements_of_layer (Some own) = elements_of_kind own.kind
+
+abbrev pub elements_of : List Layer → Option PrimCode
+elements_of chain = elements_of_layer (own_layer chain)
+
+-- the chain with this number, where the chains are those of all classes in the order in which they were closed
+abbrev pub chain_in : List (List Layer) → ℕ → List Layer
+chain_in chains number = slice_index_or chains number []
+
+-- `whole` begins with `front`
+pub record IsFront (front whole : List Layer) : Type 0 where
+  pub rest : whole ≡ front ++ drop (length front) whole

@@ -1,17 +1,16 @@
 -- How closed descriptors stand for chains. They are kept in the order in which they were closed, so a
 -- superclass stands before its subclasses: the chain of a descriptor is that of its parent and then its own
 -- layer.
-use Rattle.std.specs.Prelude.{ℕ, ◌≡◌, ◌+◌, ◌-◌, ◌<◌, ◌≤◌, List, [], ◌∷◌, ◌++◌, length, take, drop, fold, count_by, slice_index_or, Option, Some, None}
+use Rattle.std.specs.Prelude.{ℕ, ◌≡◌, ◌+◌, ◌-◌, ◌^◌, ◌<◌, ◌≤◌, List, [], ◌∷◌, ◌++◌, length, take, drop, fold, count_by, slice_index_or, Bool, true, false, if◌then◌else◌, IsTrue, Option, Some, None}
 use Rattle.jser_table.specs.declared.layer.Layer.{Layer}
 use Rattle.jser_table.specs.declared.descriptor.Links.{Links}
 use Rattle.jser_table.specs.declared.descriptor.Descriptor.{Descriptor}
 use Rattle.jser_table.specs.declared.descriptor.Counted.{Counted}
 use Rattle.jser_table.specs.declared.descriptor.Counted.TheVariants as counted
-use Rattle.jser_table.specs.Chains.{all_serial, is_filled}
-
--- the chain at this place
-abbrev pub chain_in : List (List Layer) → ℕ → List Layer
-chain_in chains place = slice_index_or chains place []
+use Rattle.jser_table.specs.Codes.{AreLeading}
+use Rattle.jser_table.specs.Chains.{own_layer, chain_in, all_serial, is_filled, IsFront}
+use Rattle.jser_table.specs.Sections.{HasSection, sections_of, down_to, layer_of, filled_layers, HoldsFor}
+use Rattle.jser_table.specs.declared.descriptor.Filed.{Filed}
 
 -- the chain of this parent, if there is one
 abbrev pub chain_of_parent : List (List Layer) → Option ℕ → List Layer
@@ -29,10 +28,6 @@ with_chain chains d = chains ++ (chain_above chains d.links ++ d.layer ∷ []) �
 -- the chains of these descriptors, in the same order
 unfoldable pub chains_of : List Descriptor → List (List Layer)
 chains_of descriptors = fold with_chain [] descriptors
-
--- `whole` begins with `front`
-pub record IsFront (front whole : List Layer) : Type 0 where
-  pub rest : whole ≡ front ++ drop (length front) whole
 
 -- the superclasses of a chain: all layers but the last
 abbrev pub front_of : List Layer → List Layer
@@ -64,17 +59,76 @@ pub record Knows (chain : List Layer) (d : Descriptor) : Type 0 where
 abbrev pub KnowsBelow : Descriptor → Layer → Descriptor → Type 0
 KnowsBelow parent layer d = (chain : List Layer) → Knows chain parent → Knows (chain ++ layer ∷ []) d
 
+-- the number of the lowest section of a chain, if it has one
+abbrev pub IsLast : List (List Layer) → (chain : List Layer) → Option ℕ → Type 0
+IsLast chains chain None = filled_layers chain ≡ []
+IsLast chains chain (Some last) = HasSection chains last × (down_to chains last ≡ filled_layers chain)
+
 -- what a descriptor tells of its chain
 pub record IsTold (chains : List (List Layer)) (place : ℕ) (d : Descriptor) : Type 0 where
   pub own : chain_in chains place ≡ chain_above chains d.links ++ d.layer ∷ []
   pub known : Knows (chain_in chains place) d
   pub within : d.layers ≤ place + 1
   pub links : AreLinks chains place d.links
+  pub last : IsLast chains (chain_in chains place) d.last
 
 -- each descriptor tells of its chain
 abbrev pub AreTold : List Descriptor → Type 0
 AreTold descriptors =
     (place : ℕ) (d : Descriptor) → place < length descriptors → d ≡ slice_index_or descriptors place d → IsTold (chains_of descriptors) place d
+
+-- the lowest section of a class: its own, if its layer has one, and else that of its parent
+abbrev pub IsLastUnder : Layer → (section : ℕ) (above last : Option ℕ) → Type 0
+IsLastUnder layer section above last = last ≡ (if is_filled layer then Some section else above)
+
+-- Within a run the sections follow each other by one: each from `run` on down to this one is that of the next
+-- filled layer under the one before.
+pub record IsRun (chains : List (List Layer)) (run number : ℕ) : Type 0 where
+  pub before : run ≤ number
+  pub each : (n : ℕ) → run ≤ n → n < number → down_to chains (n + 1) ≡ down_to chains n ++ layer_of chains (n + 1) ∷ []
+
+-- the run of the next section, that of a filled layer under a chain whose lowest section is `above`
+abbrev pub RunsOn : List (List Layer) → (above : Option ℕ) → (run : ℕ) → Type 0
+RunsOn chains above run =
+    (front : List Layer) (layer : Layer) → IsLast chains front above → is_filled layer ≡ true
+    → IsRun (chains ++ (front ++ layer ∷ []) ∷ []) run (length (sections_of chains))
+
+-- what is kept of a section
+pub record IsFiled (chains : List (List Layer)) (number : ℕ) (filed : Filed) : Type 0 where
+  pub class_in : filed.class < length chains
+  pub chain : down_to chains number ≡ filled_layers (chain_in chains filed.class)
+  pub filled : IsTrue (is_filled (layer_of chains number))
+  pub own : own_layer (chain_in chains filed.class) ≡ Some (layer_of chains number)
+  pub holds : HoldsFor (layer_of chains number) filed.section
+  pub leading : AreLeading (layer_of chains number).codes filed.leading
+  pub run : IsRun chains filed.run number
+
+-- all sections are kept
+pub record AreFiled (chains : List (List Layer)) (sections : List Filed) : Type 0 where
+  pub count : length (sections_of chains) ≡ length sections
+  pub each : (number : ℕ) (filed : Filed) → number < length sections → filed ≡ slice_index_or sections number filed → IsFiled chains number filed
+
+-- one more class with this layer: its section comes at the end of the list, if it has one
+pub record FilesOne (layer : Layer) (class run : ℕ) (old new : List Filed) : Type 0 where
+  pub filed : Filed
+  pub class_is : filed.class ≡ class
+  pub run_is : filed.run ≡ run
+  pub holds : HoldsFor layer filed.section
+  pub leading : AreLeading layer.codes filed.leading
+  pub added : new ≡ old ++ filed ∷ []
+
+abbrev pub FilesIf : Bool → Layer → (class run : ℕ) (old new : List Filed) → Type 0
+FilesIf true layer class run old new = FilesOne layer class run old new
+FilesIf false layer class run old new = new ≡ old
+
+abbrev pub Files : Layer → (class run : ℕ) (old new : List Filed) → Type 0
+Files layer class run old new = FilesIf (is_filled layer) layer class run old new
+
+-- the closed descriptors, and their sections
+pub record AreShelved (descriptors : List Descriptor) (sections : List Filed) : Type 0 where
+  pub told : AreTold descriptors
+  pub filed : AreFiled (chains_of descriptors) sections
+  pub fewer : length descriptors ≤ 2 ^ 32 - 3
 
 -- the links of a class under this parent
 pub record LinksTo (chains : List (List Layer)) (parent : ℕ) (links : Links) : Type 0 where
@@ -96,6 +150,7 @@ pub record IsUnder (chains : List (List Layer)) (parent : Option ℕ) (layer : L
   pub links : LinkUnder chains parent d.links
   pub known : Knows (chain_of_parent chains parent ++ layer ∷ []) d
   pub within : d.layers ≤ length chains + 1
+  pub last : IsLast (chains ++ (chain_of_parent chains parent ++ layer ∷ []) ∷ []) (chain_of_parent chains parent ++ layer ∷ []) d.last
 
 -- One link up from the class at this place, with a count that is still over the bound.
 pub record GoesUp (counted : Counted) (bound : ℕ) (chains : List (List Layer)) (place higher : ℕ) : Type 0 where

@@ -1,7 +1,10 @@
+pub mod Codes
 pub mod Names
 pub mod Chains
 pub mod Entries
 pub mod Fits
+pub mod Sections
 pub mod Descriptors
 pub mod Stored
+pub mod Slots
 pub mod Tables

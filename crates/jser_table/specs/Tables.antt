@@ -1,19 +1,25 @@
 -- What contracts see of a table of handles: the list of its entries, and how many it may have.
-use Rattle.std.specs.Prelude.{codes, ℕ, ◌^◌, slice_get, ◌≡◌, ◌+◌, ◌<◌, ◌≤◌, Bool, true, false, List, [], ◌∷◌, ◌++◌, length, All, count_by, Option, Some, None}
+use Rattle.std.specs.Prelude.{codes, ℕ, ◌^◌, slice_get, ◌≡◌, ◌⊎◌, ◌+◌, ◌<◌, ◌≤◌, Bool, true, false, List, [], ◌∷◌, ◌++◌, length, All, count_by, Option, Some, None}
 use Rattle.jser_table.specs.declared.layer.Layer.{Layer}
 use Rattle.jser_table.specs.declared.entry.Kind.{Kind}
 use Rattle.jser_table.specs.declared.entry.Kind.TheVariants as kind
 use Rattle.jser_table.specs.declared.entry.Entry.{Entry}
 use Rattle.jser_table.specs.declared.entry.Entry.TheVariants as entry
+use Rattle.jser_table.specs.declared.entry.Kept.{Kept}
+use Rattle.jser_table.specs.declared.entry.Kept.TheVariants as kept
+use Rattle.jser_table.specs.declared.class.Class.{Class}
+use Rattle.jser_table.specs.declared.class.Class.TheVariants as class
 use Rattle.jser_table.specs.declared.table.TableFault.{TableFault}
 use Rattle.jser_table.specs.declared.table.TableFault.TheVariants as fault
 use Rattle.jser_table.specs.Entries.{TableEntry, text_entry, other_entry, pending_entry, closed_entry, chain_at}
-use Rattle.jser_table.specs.Descriptors.{chain_in}
+use Rattle.jser_table.specs.Chains.{chain_in}
 use Rattle.jser_table.specs.Stored.{ChainList}
 
--- a table
+-- a table: what each handle names; and the chains of all descriptors that have been closed, in the order in
+-- which they were closed
 pub record TableView : Type 0 where
   pub entries : List TableEntry
+  pub chains : List (List Layer)
   pub max : ℕ
 
 -- what a fault is printed as
@@ -38,26 +44,40 @@ closed_under entries parent layer = closed_entry (parent_chain entries parent ++
 
 -- The kept entries, and what they stand for.
 
-abbrev pub kept_entry : Kind → Entry
-kept_entry kind.Text = entry.Text
-kept_entry kind.Other = entry.Other
-kept_entry kind.Pending = entry.Pending
+abbrev pub new_kept : Kind → Kept
+new_kept kind.Text = kept.Text
+new_kept kind.Other = kept.Other
+new_kept kind.Pending = kept.Pending
 
-abbrev pub closed_kept : ℕ → Entry
-closed_kept chain = entry.Closed record { chain = chain }
+abbrev pub closed_kept : ℕ → Kept
+closed_kept chain = kept.Closed chain
 
 -- an entry, where a closed one keeps the number of its chain
-abbrev pub view_entry : List (List Layer) → Entry → TableEntry
-view_entry chains entry.Text = text_entry
-view_entry chains entry.Other = other_entry
-view_entry chains entry.Pending = pending_entry
-view_entry chains (entry.Closed closed) = closed_entry (chain_in chains closed.chain)
+abbrev pub view_entry : List (List Layer) → Kept → TableEntry
+view_entry chains kept.Text = text_entry
+view_entry chains kept.Other = other_entry
+view_entry chains kept.Pending = pending_entry
+view_entry chains (kept.Closed chain) = closed_entry (chain_in chains chain)
 
-abbrev pub is_pending_kept : Entry → Bool
-is_pending_kept entry.Text = false
-is_pending_kept entry.Other = false
-is_pending_kept entry.Pending = true
-is_pending_kept (entry.Closed closed) = false
+abbrev pub is_pending_kept : Kept → Bool
+is_pending_kept kept.Text = false
+is_pending_kept kept.Other = false
+is_pending_kept kept.Pending = true
+is_pending_kept (kept.Closed chain) = false
+
+abbrev pub is_closed_kept : Kept → Bool
+is_closed_kept kept.Text = false
+is_closed_kept kept.Other = false
+is_closed_kept kept.Pending = false
+is_closed_kept (kept.Closed chain) = true
+
+abbrev pub is_pending_slot : Option Kept → Bool
+is_pending_slot None = false
+is_pending_slot (Some k) = is_pending_kept k
+
+abbrev pub is_closed_slot : Option Kept → Bool
+is_closed_slot None = false
+is_closed_slot (Some k) = is_closed_kept k
 
 -- what an answer of `get` says of an entry
 abbrev pub is_text_entry : Option Entry → Bool
@@ -81,22 +101,29 @@ is_closed_entry (Some entry.Other) = false
 is_closed_entry (Some entry.Pending) = false
 is_closed_entry (Some (entry.Closed closed)) = true
 
+-- what an answer of `class_at` says of an entry
+abbrev pub IsClass : List (List Layer) → Option TableEntry → Class → Type 0
+IsClass chains entry class.NotThere = entry ≡ None
+IsClass chains entry class.NoClass = (entry ≡ Some text_entry) ⊎ (entry ≡ Some other_entry)
+IsClass chains entry class.Open = entry ≡ Some pending_entry
+IsClass chains entry (class.Closed chain) = (entry ≡ Some (closed_entry (chain_in chains chain))) × (chain < length chains)
+
 -- the numbers of the chains of these entries, if there is one
-abbrev pub IsNumberOf : List Entry → Option ℕ → Option ℕ → Type 0
+abbrev pub IsNumberOf : List Kept → Option ℕ → Option ℕ → Type 0
 IsNumberOf entries None None = Unit {0}
 IsNumberOf entries None (Some chain) = ⊥
 IsNumberOf entries (Some number) None = ⊥
 IsNumberOf entries (Some number) (Some chain) = slice_get entries number ≡ Some (closed_kept chain)
 
 -- a closed entry keeps the number of one of so many chains
-abbrev pub IsAmong : ℕ → Entry → Type 0
-IsAmong chains entry.Text = Unit {0}
-IsAmong chains entry.Other = Unit {0}
-IsAmong chains entry.Pending = Unit {0}
-IsAmong chains (entry.Closed closed) = closed.chain < chains
+abbrev pub IsAmong : ℕ → Kept → Type 0
+IsAmong chains kept.Text = Unit {0}
+IsAmong chains kept.Other = Unit {0}
+IsAmong chains kept.Pending = Unit {0}
+IsAmong chains (kept.Closed n) = n < chains
 
 -- what the fields of a table keep
-pub record IsSound (entries : List Entry) (chains : ChainList) (pending max : ℕ) : Type 0 where
+pub record IsSound (entries : List Kept) (chains : ChainList) (pending max : ℕ) : Type 0 where
   pub within : length entries ≤ max
   pub max_fits : max < 2 ^ 32
   pub counted : pending ≡ count_by is_pending_kept entries

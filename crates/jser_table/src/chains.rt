@@ -2,14 +2,19 @@
 //!
 //! Each descriptor keeps a link to its parent and one that jumps further up, so a chain takes no memory
 //! beyond its own layer, and any layer of it is found in a number of steps in the order of its logarithm.
-ghost use Rattle.std.specs.Prelude.{take, count_by, ◌≡◌, ◌+◌, ◌<◌, ◌≤◌, ◌^◌, [], ◌∷◌, ◌++◌, length, slice_get, Some, OnOk, OnErr, IfSome, IfNone, None, IsSomeAnd, ◌-◌};
+ghost use Rattle.std.specs.Prelude.{take, count_by, ◌≡◌, ◌+◌, ◌<◌, ◌≤◌, ◌^◌, [], ◌∷◌, ◌++◌, length, slice_get, Some, OnOk, OnErr, IfSome, IfNone, None, IsSomeAnd, ◌-◌, option_map, vec_len, vec_capacity};
 ghost use Rattle.std.specs.Option.{ForSome};
-ghost use Rattle.jser_table.specs.Chains.{all_serial, next_filled, is_filled};
+ghost use Rattle.jser_table.specs.Chains.{all_serial, next_filled, is_filled, is_external, elements_of, chain_in, IsFront};
+ghost use Rattle.jser_table.specs.Codes.{size_of, primitive_codes};
+ghost use Rattle.jser_table.specs.Sections.{HasSection, sections_of, layer_of, HoldsFor, IsOn, IsNext, AreSections};
 ghost use Rattle.jser_table.specs.Fits.{fit_of};
-ghost use Rattle.jser_table.specs.Descriptors.{AreTold, IsHighest, GoesUp, LinksTo, IsFront, IsUnder, IsTold, chains_of, chain_in, chain_of_parent, count_of, front_of};
+ghost use Rattle.jser_table.specs.Descriptors.{AreTold, IsHighest, GoesUp, LinksTo, IsUnder, IsTold, IsLast, IsLastUnder, RunsOn, Files, AreShelved, IsFiled, chains_of, chain_of_parent, count_of, front_of};
 
-use crate::descriptor::{Counted, Descriptor, Links};
+use crate::codes::leading_size;
+use crate::descriptor::{Counted, Descriptor, Filed, Links};
+use crate::entry::MOST_CHAINS;
 use crate::layer::{Fit, Layer, Purpose};
+use crate::section::{Section, SectionNumber, Sections};
 use std::alloc::{AllocError, Global};
 use std::marker::Model;
 
@@ -17,32 +22,35 @@ use std::marker::Model;
 #[derive(Debug, Drop)]
 pub(crate) struct Chains {
     descriptors: Vec<Descriptor>,
+    /// The sections of those that have one.
+    sections: Vec<Filed>,
 }
 
 impl Model for Chains {
-    ghost use Rattle.std.specs.Prelude.{◌-◌, vec_len, vec_capacity};
+    ghost use Rattle.std.specs.Prelude.{◌-◌, ◌^◌, min, vec_len, vec_capacity};
     ghost use Rattle.jser_table.specs.Stored.{ChainList};
 
     ghost Value = { ChainList };
 
-    ghost use Rattle.jser_table.specs.Descriptors.{AreTold, chains_of};
+    ghost use Rattle.jser_table.specs.Descriptors.{AreShelved, chains_of};
 
     ghost view = { λ a. record {
       listed = chains_of a.descriptors.items;
-      room = vec_capacity a.descriptors - vec_len a.descriptors;
+      room = min (2 ^ 32 - 3 - vec_len a.descriptors) (min (vec_capacity a.descriptors - vec_len a.descriptors) (vec_capacity a.sections - vec_len a.sections));
     } };
 
-    ghost invariant = { λ a. AreTold a.descriptors.items };
+    ghost invariant = { λ a. AreShelved a.descriptors.items a.sections.items };
 }
 
 impl Chains {
     /// No chains. Takes no memory.
-    #[tactic(auto, using(crate::proofs::ChainLemmas::chains_of_none))]
+    #[tactic(auto, using(crate::proofs::ChainLemmas::chains_of_none, crate::proofs::FiledLemmas::shelved_none))]
     pub(crate) fn new(alloc: Global) -> Chains
         ensures { result.listed ≡ [] }
     {
         Chains {
             descriptors: Vec::new(alloc),
+            sections: Vec::new(alloc),
         }
     }
 
@@ -52,6 +60,10 @@ impl Chains {
         ensures room { OnOk result (additional ≤ self.new.room) }
         ensures kept { self.old.room ≤ self.new.room }
     {
+        if MOST_CHAINS - self.descriptors.len() < additional {
+            return Err(AllocError);
+        }
+        self.sections.reserve(additional)?;
         self.descriptors.reserve(additional)
     }
 
@@ -60,14 +72,18 @@ impl Chains {
     #[tactic(auto, using(crate::proofs::ChainLemmas::length_chains_of, crate::proofs::ChainLemmas::told_push, crate::proofs::ChainLemmas::chains_push))]
     pub(crate) fn add(&mut self, layer: Layer, parent: Option<u32>) -> u32
         requires room { 0 < self.old.room }
-        requires fewer { length self.old.listed < 2 ^ 32 - 1 }
         requires parent_in { ForSome parent (λ number. number < length self.old.listed) }
         ensures added { self.new.listed ≡ self.old.listed ++ (chain_of_parent self.old.listed parent ++ layer ∷ []) ∷ [] }
         ensures number { result ≡ length self.old.listed }
+        ensures most { result < 2 ^ 32 - 3 }
         ensures room { self.old.room ≤ self.new.room + 1 }
     {
         let number = self.descriptors.len() as u32;
-        let descriptor = descriptor_under(&self.descriptors, parent, layer);
+        let section = self.sections.len() as u32;
+        let above = last_of(&self.descriptors, parent);
+        let run = run_under(&self.descriptors, &self.sections, above);
+        file(&mut self.sections, &layer, number, run);
+        let descriptor = descriptor_under(&self.descriptors, parent, layer, section);
         match self.descriptors.push(descriptor) {
             Ok(()) => number,
             Err(_) => unreachable!(),
@@ -121,28 +137,158 @@ impl Chains {
         class.layer.fit(purpose, class.is_serial)
     }
 
+    /// Whether the class itself is externalizable.
+    #[tactic(auto, using(crate::proofs::ChainLemmas::length_chains_of))]
+    pub(crate) fn is_external(&self, number: u32) -> bool
+        requires { number < length self.now.listed }
+        ensures { result ≡ is_external (chain_in self.now.listed number) }
+    {
+        descriptor_at(&self.descriptors, number as usize)
+            .layer
+            .is_externalizable()
+    }
+
+    /// The size of the elements of an array of the class, where they are raw values.
+    #[tactic(auto, using(crate::proofs::ChainLemmas::length_chains_of))]
+    pub(crate) fn element_size(&self, number: u32) -> Option<u8>
+        requires { number < length self.now.listed }
+        ensures { result ≡ option_map size_of (elements_of (chain_in self.now.listed number)) }
+    {
+        descriptor_at(&self.descriptors, number as usize)
+            .layer
+            .element_size()
+    }
+
+    /// The sections of an object's data of this chain, if there are any.
+    #[tactic(auto, using(crate::proofs::ChainLemmas::length_chains_of))]
+    pub(crate) fn sections(&self, number: u32) -> Option<Sections>
+        requires { number < length self.now.listed }
+        ensures { AreSections self.now.listed (chain_in self.now.listed number) result }
+    {
+        sections_at(&self.descriptors, &self.sections, number as usize)
+    }
+
+    /// What the section holds.
+    #[tactic(auto, using(crate::proofs::ChainLemmas::length_chains_of))]
+    pub(crate) fn section(&self, section: u32) -> Section
+        requires { HasSection self.now.listed section }
+        ensures { HoldsFor (layer_of self.now.listed section) result }
+    {
+        filed_at(&self.descriptors, &self.sections, section).section
+    }
+
+    /// The size of the raw value at this place of the section.
+    #[tactic(auto, using(crate::proofs::ChainLemmas::length_chains_of))]
+    pub(crate) fn prim_size(&self, section: u32, pos: u16) -> u8
+        requires section { HasSection self.now.listed section }
+        requires pos { pos < length (primitive_codes (layer_of self.now.listed section).codes) }
+        ensures { option_map size_of (slice_get (primitive_codes (layer_of self.now.listed section).codes) pos) ≡ Some result }
+    {
+        prim_size_at(&self.descriptors, &self.sections, section, pos)
+    }
+
+    /// The section that comes after this one in data that end with the section `last`.
+    #[tactic(auto, using(crate::proofs::ChainLemmas::length_chains_of))]
+    pub(crate) fn next_section(&self, last: u32, section: u32) -> Option<u32>
+        requires { IsOn self.now.listed last section }
+        ensures { IsNext self.now.listed last section result }
+    {
+        section_after(&self.descriptors, &self.sections, last, section)
+    }
+
     /// Forgets all chains, and keeps the room.
-    #[tactic(auto, using(crate::proofs::ChainLemmas::chains_of_none))]
+    #[tactic(auto, using(crate::proofs::ChainLemmas::chains_of_none, crate::proofs::FiledLemmas::shelved_none))]
     pub(crate) fn clear(&mut self)
         ensures { self.new.listed ≡ [] }
     {
         self.descriptors.clear();
+        self.sections.clear();
     }
 }
 
-/// The descriptor of a class under this parent, if it has one.
+/// The lowest section of the parent's chain, if there is one.
 #[tactic(auto, using(crate::proofs::ChainLemmas::length_chains_of))]
-fn descriptor_under(descriptors: &[Descriptor], parent: Option<u32>, layer: Layer) -> Descriptor
+fn last_of(descriptors: &[Descriptor], parent: Option<u32>) -> Option<u32>
+    requires told { AreTold descriptors.now }
+    requires parent_in { ForSome parent (λ number. number < length descriptors.now) }
+    ensures { IsLast (chains_of descriptors.now) (chain_of_parent (chains_of descriptors.now) parent) result }
+{
+    match parent {
+        Some(parent) => descriptor_at(descriptors, parent as usize).last,
+        None => None,
+    }
+}
+
+/// Where the run of the next section starts, if that stands under the section `above`: the run goes on where
+/// that one is the newest, and else the next section starts one.
+fn run_under(descriptors: &[Descriptor], sections: &[Filed], above: Option<u32>) -> u32
+    requires shelved { AreShelved descriptors.now sections.now }
+    requires above_in { ForSome above (HasSection (chains_of descriptors.now)) }
+    ensures { RunsOn (chains_of descriptors.now) above result }
+{
+    match above {
+        Some(above) if above as usize + 1 == sections.len() => {
+            filed_at(descriptors, sections, above).run
+        }
+        _ => sections.len() as u32,
+    }
+}
+
+/// Adds the section of the layer to the list, if it has one. Takes no memory.
+fn file(sections: &mut Vec<Filed>, layer: &Layer, class: u32, run: u32)
+    requires room { vec_len sections.old < vec_capacity sections.old }
+    ensures filed { Files layer.now class run sections.old.items sections.new.items }
+    ensures room { vec_capacity sections.old - vec_len sections.old ≤ vec_capacity sections.new - vec_len sections.new + 1 }
+{
+    if !layer.is_filled() {
+        return;
+    }
+    let filed = Filed {
+        section: layer.section(),
+        class,
+        run,
+        leading: layer.codes.leading(),
+    };
+    match sections.push(filed) {
+        Ok(()) => (),
+        Err(_) => unreachable!(),
+    }
+}
+
+/// The descriptor of a class under this parent, if it has one. `section` is the number of its section, if it
+/// has one.
+#[tactic(auto, using(crate::proofs::ChainLemmas::length_chains_of))]
+fn descriptor_under(
+    descriptors: &[Descriptor],
+    parent: Option<u32>,
+    layer: Layer,
+    section: u32,
+) -> Descriptor
     requires told { AreTold descriptors.now }
     requires parent_in { ForSome parent (λ number. number < length descriptors.now) }
     requires fewer { length descriptors.now < 2 ^ 32 - 1 }
+    requires section { section ≡ length (sections_of (chains_of descriptors.now)) }
     ensures { IsUnder (chains_of descriptors.now) parent layer result }
 {
     let Some(parent) = parent else {
-        return Descriptor::root(layer);
+        let last = last_under(&layer, section, None);
+        return Descriptor::root(layer, last);
     };
     let jump = jump_from(descriptors, parent);
-    Descriptor::below(&descriptors[parent as usize], Links { parent, jump }, layer)
+    let above = &descriptors[parent as usize];
+    let last = last_under(&layer, section, above.last);
+    Descriptor::below(above, Links { parent, jump }, layer, last)
+}
+
+/// The lowest section of a chain: the layer's own, if it has one, and else the one above.
+fn last_under(layer: &Layer, section: u32, above: Option<u32>) -> Option<u32>
+    ensures { IsLastUnder layer.now section above result }
+{
+    if layer.is_filled() {
+        Some(section)
+    } else {
+        above
+    }
 }
 
 /// Where a class under this parent jumps to: beyond the parent's two last jumps where these are as long as
@@ -176,6 +322,104 @@ fn descriptor_at(descriptors: &[Descriptor], place: usize) -> &Descriptor
     ensures { IsTold (chains_of descriptors.now) place result.now }
 {
     &descriptors[place]
+}
+
+/// The section with this number.
+fn filed_at<'a>(descriptors: &[Descriptor], sections: &'a [Filed], number: u32) -> &'a Filed
+    requires shelved { AreShelved descriptors.now sections.now }
+    requires number_in { HasSection (chains_of descriptors.now) number }
+    ensures { IsFiled (chains_of descriptors.now) number result.now }
+{
+    &sections[number as usize]
+}
+
+/// The size of the raw value at this place of the section. As long as the codes before it are those of
+/// primitive types, which holds in each stream, it is found at once.
+#[tactic(auto, using(crate::proofs::ChainLemmas::length_chains_of))]
+fn prim_size_at(descriptors: &[Descriptor], sections: &[Filed], section: u32, pos: u16) -> u8
+    requires shelved { AreShelved descriptors.now sections.now }
+    requires section { HasSection (chains_of descriptors.now) section }
+    requires pos { pos < length (primitive_codes (layer_of (chains_of descriptors.now) section).codes) }
+    ensures { option_map size_of (slice_get (primitive_codes (layer_of (chains_of descriptors.now) section).codes) pos) ≡ Some result }
+{
+    let filed = filed_at(descriptors, sections, section);
+    let codes = &descriptor_at(descriptors, filed.class as usize).layer.codes;
+    if pos < filed.leading {
+        leading_size(codes.as_slice(), filed.leading, pos)
+    } else {
+        codes.prim_size(pos as usize)
+    }
+}
+
+/// The sections of an object's data of the chain at this place, if there are any.
+fn sections_at(descriptors: &[Descriptor], sections: &[Filed], place: usize) -> Option<Sections>
+    requires shelved { AreShelved descriptors.now sections.now }
+    requires place_in { place < length descriptors.now }
+    ensures { AreSections (chains_of descriptors.now) (chain_in (chains_of descriptors.now) place) result }
+{
+    let own = descriptor_at(descriptors, place);
+    let last = own.last?;
+    let back = own.filled - 1;
+    if back <= last - filed_at(descriptors, sections, last).run {
+        return Some(Sections {
+            first: SectionNumber {
+                number: last - back,
+            },
+            last: SectionNumber { number: last },
+        });
+    }
+    let class = highest(descriptors, place, Counted::Filled, 0);
+    match descriptor_at(descriptors, class).last {
+        Some(first) => Some(Sections {
+            first: SectionNumber { number: first },
+            last: SectionNumber { number: last },
+        }),
+        None => unreachable!(),
+    }
+}
+
+/// The section that comes after this one in data that end with the section `last`.
+#[tactic(auto, using(crate::proofs::ChainLemmas::length_chains_of))]
+fn section_after(
+    descriptors: &[Descriptor],
+    sections: &[Filed],
+    last: u32,
+    section: u32,
+) -> Option<u32>
+    requires shelved { AreShelved descriptors.now sections.now }
+    requires on { IsOn (chains_of descriptors.now) last section }
+    ensures { IsNext (chains_of descriptors.now) last section result }
+{
+    if section == last {
+        return None;
+    }
+    let lowest = filed_at(descriptors, sections, last);
+    if lowest.run <= section && section < last {
+        return Some(section + 1);
+    }
+    section_after_by_walk(descriptors, sections, last, section)
+}
+
+/// The same by a walk up the chain, where the two sections are in no run.
+#[tactic(auto, using(crate::proofs::ChainLemmas::length_chains_of))]
+fn section_after_by_walk(
+    descriptors: &[Descriptor],
+    sections: &[Filed],
+    last: u32,
+    section: u32,
+) -> Option<u32>
+    requires shelved { AreShelved descriptors.now sections.now }
+    requires on { IsOn (chains_of descriptors.now) last section }
+    ensures { IsNext (chains_of descriptors.now) last section result }
+{
+    let own = filed_at(descriptors, sections, last).class as usize;
+    let class = filed_at(descriptors, sections, section).class as usize;
+    let before = descriptor_at(descriptors, class).count(Counted::Filled);
+    if descriptor_at(descriptors, own).count(Counted::Filled) <= before {
+        return None;
+    }
+    let next = highest(descriptors, own, Counted::Filled, before);
+    descriptor_at(descriptors, next).last
 }
 
 /// The layer at this index of the chain at `start`.

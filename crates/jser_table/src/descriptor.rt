@@ -3,6 +3,7 @@ ghost use Rattle.std.specs.Prelude.{◌≡◌, ◌<◌, ◌≤◌, ◌^◌, ◌-
 ghost use Rattle.jser_table.specs.Descriptors.{told_count, Knows, KnowsBelow};
 
 use crate::layer::Layer;
+use crate::section::Section;
 
 /// Where a descriptor's superclasses stand in the list of closed descriptors: the parent, and an ancestor
 /// further up. The jumps are those of a skew-binary list (E. Myers, "An applicative random-access stack",
@@ -23,8 +24,23 @@ pub(crate) struct Descriptor {
     pub(crate) layers: u32,
     /// How many of them have something to read.
     pub(crate) filled: u32,
+    /// The number of the lowest section of the chain, if it has one.
+    pub(crate) last: Option<u32>,
     /// Whether each of them is a proxy or serializable.
     pub(crate) is_serial: bool,
+}
+
+/// A section in the list of sections.
+#[derive(Debug, Drop)]
+pub(crate) struct Filed {
+    /// What it holds.
+    pub(crate) section: Section,
+    /// The number of the closed descriptor whose layer it is.
+    pub(crate) class: u32,
+    /// The first section of its run: from there on each section is the next under the one before.
+    pub(crate) run: u32,
+    /// How many of its codes come before the first that is not a primitive type's.
+    pub(crate) leading: u16,
 }
 
 /// What a walk up a chain counts: all layers, or those that have something to read.
@@ -37,8 +53,9 @@ pub(crate) enum Counted {
 impl Descriptor {
     /// A class with no superclass.
     #[tactic(auto, using(crate::proofs::ChainLemmas::knows_root))]
-    pub(crate) fn root(layer: Layer) -> Descriptor
+    pub(crate) fn root(layer: Layer, last: Option<u32>) -> Descriptor
         ensures layer { result.layer ≡ layer }
+        ensures last { result.last ≡ last }
         ensures links { result.links ≡ None }
         ensures known { Knows (layer ∷ []) result }
     {
@@ -46,6 +63,7 @@ impl Descriptor {
             links: None,
             layers: 1,
             filled: u32::from(layer.is_filled()),
+            last,
             is_serial: layer.is_serial(),
             layer,
         }
@@ -53,10 +71,16 @@ impl Descriptor {
 
     /// A class with this superclass.
     #[tactic(auto, using(crate::proofs::ChainLemmas::knows_below))]
-    pub(crate) fn below(parent: &Descriptor, links: Links, layer: Layer) -> Descriptor
+    pub(crate) fn below(
+        parent: &Descriptor,
+        links: Links,
+        layer: Layer,
+        last: Option<u32>,
+    ) -> Descriptor
         requires fewer { parent.now.layers < 2 ^ 32 - 1 }
         requires filled { parent.now.filled ≤ parent.now.layers }
         ensures layer { result.layer ≡ layer }
+        ensures last { result.last ≡ last }
         ensures links { result.links ≡ Some links }
         ensures known { KnowsBelow parent.now layer result }
     {
@@ -64,6 +88,7 @@ impl Descriptor {
             links: Some(links),
             layers: parent.layers + 1,
             filled: parent.filled + u32::from(layer.is_filled()),
+            last,
             is_serial: parent.is_serial && layer.is_serial(),
             layer,
         }

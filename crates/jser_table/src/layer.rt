@@ -1,9 +1,12 @@
 //! Layers: what an object's data needs of each class of a chain.
-ghost use Rattle.std.specs.Prelude.{◌≡◌};
-ghost use Rattle.jser_table.specs.Chains.{has_write_method, is_serializable, is_externalizable, has_block_data, is_enum, is_empty, is_filled, is_serial, is_array_kind};
+ghost use Rattle.std.specs.Prelude.{◌≡◌, option_map};
+ghost use Rattle.jser_table.specs.Chains.{has_write_method, is_serializable, is_externalizable, has_block_data, is_enum, is_filled, is_serial, is_array_kind, elements_of_kind};
+ghost use Rattle.jser_table.specs.Codes.{size_of};
+ghost use Rattle.jser_table.specs.Sections.{HoldsFor};
 ghost use Rattle.jser_table.specs.Fits.{class_fit, object_fit};
 
-use std::marker::Model;
+use crate::codes::{Codes, size_of_code};
+use crate::section::Section;
 
 const SC_WRITE_METHOD: u8 = 0x01;
 
@@ -57,51 +60,6 @@ pub enum Fit {
     ExternalRaw,
     /// A class in an object's chain is neither a proxy nor serializable.
     NotSerializable,
-}
-
-/// The type codes of a class's fields, in the order of its descriptor.
-#[derive(Debug, Drop)]
-pub struct Codes {
-    codes: Vec<u8>,
-}
-
-impl Model for Codes {
-    ghost use Rattle.std.specs.Prelude.{List, ℕ};
-
-    ghost Value = { List ℕ };
-
-    ghost view = { λ a. a.codes.items };
-}
-
-impl Codes {
-    /// These codes. Takes no memory.
-    pub fn new(codes: Vec<u8>) -> Codes
-        ensures { result ≡ codes.items }
-    {
-        Self { codes }
-    }
-
-    /// The codes, in order.
-    pub fn as_slice(&self) -> &[u8]
-        ensures { result.now ≡ self.now }
-    {
-        self.codes.as_slice()
-    }
-
-    /// Whether there are none.
-    pub fn is_empty(&self) -> bool
-        ensures { result ≡ is_empty self.now }
-    {
-        self.as_slice().is_empty()
-    }
-
-    /// Gives the vector back. Takes no memory.
-    pub fn into_vec(self) -> Vec<u8>
-        ensures { result.items ≡ self }
-    {
-        let Codes { codes } = self;
-        codes
-    }
 }
 
 /// One class of a chain, as far as the data of its objects depends on it.
@@ -169,6 +127,19 @@ impl Layer {
         self.kind == LayerKind::Proxy || self.is_serializable()
     }
 
+    /// What an object's data holds for this class.
+    pub(crate) fn section(&self) -> Section
+        ensures { HoldsFor self.now result }
+    {
+        let counts = self.codes.counts();
+        Section {
+            raw_bytes: counts.raw_bytes,
+            prims: counts.prims,
+            values: counts.values,
+            is_annotated: self.has_write_method(),
+        }
+    }
+
     /// Whether this class fits the purpose. `all_serial` tells whether each class of its chain, itself
     /// included, is a proxy or serializable.
     pub(crate) fn fit(&self, purpose: Purpose, all_serial: bool) -> Fit
@@ -199,6 +170,16 @@ impl Layer {
             Fit::Fits
         } else {
             Fit::NotSerializable
+        }
+    }
+
+    /// The size of an array's elements, where they are raw values.
+    pub(crate) fn element_size(&self) -> Option<u8>
+        ensures { result ≡ option_map size_of (elements_of_kind self.now.kind) }
+    {
+        match self.kind {
+            LayerKind::Array(BodyKind::Prim(code)) => size_of_code(code),
+            _ => None,
         }
     }
 

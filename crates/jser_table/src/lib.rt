@@ -3,15 +3,21 @@
 #![tactic(auto)]
 
 mod chains;
+mod class;
+mod codes;
 mod descriptor;
 mod entry;
 mod layer;
 mod name;
+mod section;
 mod table;
 #[cfg(test)]
 mod tests;
 
+pub use class::{ChainNumber, Class};
+pub use codes::{Codes, size_of_code};
 pub use entry::{Closed, Entry, Kind};
-pub use layer::{BodyKind, Codes, Fit, Layer, LayerKind, Purpose};
+pub use layer::{BodyKind, Fit, Layer, LayerKind, Purpose};
 pub use name::{Element, element_of, layer_kind_of};
+pub use section::{Section, SectionNumber, Sections};
 pub use table::{Table, TableFault};

@@ -1,17 +1,21 @@
 //! The table of handles of one epoch: a list of entries in the order of their handles.
 //!
-//! Each entry takes eight bytes. What only descriptors need lies apart, and its room is reserved when a
+//! Each entry takes four bytes. What only descriptors need lies apart, and its room is reserved when a
 //! descriptor's handle is assigned, so closing a descriptor takes no memory.
-ghost use Rattle.std.specs.Prelude.{◌≡◌, ◌≢◌, ◌<◌, ◌≤◌, ◌↔◌, [], ◌∷◌, ◌++◌, length, map, slice_get, slice_set, is_some, Some, None, IsTrue, IfOk, OnErr};
+ghost use Rattle.std.specs.Prelude.{◌≡◌, ◌≢◌, ◌<◌, ◌≤◌, ◌↔◌, [], ◌∷◌, ◌++◌, length, map, slice_get, slice_set, is_some, Some, None, IsTrue, IfOk, OnErr, option_map};
 ghost use Rattle.std.specs.Option.{ForSome, option_copied};
-ghost use Rattle.jser_table.specs.Chains.{all_serial, next_filled};
+ghost use Rattle.jser_table.specs.Chains.{all_serial, next_filled, is_external, elements_of, chain_in};
+ghost use Rattle.jser_table.specs.Codes.{size_of, primitive_codes};
+ghost use Rattle.jser_table.specs.Sections.{HasSection, layer_of, HoldsFor, IsOn, IsNext, AreSections};
 ghost use Rattle.jser_table.specs.Entries.{is_text, is_pending, is_closed, chain_at};
 ghost use Rattle.jser_table.specs.Fits.{fit_of};
-ghost use Rattle.jser_table.specs.Tables.{new_entry, closed_under, is_text_entry, is_pending_entry, is_closed_entry, closed_kept, IsNumberOf, text_of};
+ghost use Rattle.jser_table.specs.Tables.{new_entry, closed_under, is_text_entry, is_pending_entry, is_closed_entry, is_closed_slot, closed_kept, parent_chain, IsClass, IsNumberOf, text_of};
 
 use crate::chains::Chains;
-use crate::entry::{Closed, Entry, Kind, new_entry};
+use crate::class::{ChainNumber, Class};
+use crate::entry::{Closed, Entry, Kept, Kind, Slot};
 use crate::layer::{Fit, Layer, Purpose};
+use crate::section::{Section, SectionNumber, Sections};
 use std::alloc::Global;
 use std::error::Error;
 use std::fmt;
@@ -42,7 +46,7 @@ impl Error for TableFault {}
 /// The entries of one epoch, in the order of their handles.
 #[derive(Debug, Drop)]
 pub struct Table {
-    entries: Vec<Entry>,
+    entries: Vec<Slot>,
     chains: Chains,
     /// How many entries are pending: the room that `chains` owes.
     pending: u32,
@@ -57,7 +61,7 @@ impl Model for Table {
 
     ghost use Rattle.jser_table.specs.Tables.{view_entry, IsSound};
 
-    ghost view = { λ a. record { entries = map (view_entry a.chains.listed) a.entries.items; max = a.max } };
+    ghost view = { λ a. record { entries = map (view_entry a.chains.listed) a.entries.items; chains = a.chains.listed; max = a.max } };
 
     ghost invariant = { λ a. IsSound a.entries.items a.chains a.pending a.max };
 }
@@ -66,6 +70,7 @@ impl Table {
     /// A table with no entries, which may have up to `max`. Takes no memory.
     pub fn new(alloc: Global, max: u32) -> Table
         ensures entries { result.entries ≡ [] }
+        ensures chains { result.chains ≡ [] }
         ensures max { result.max ≡ max }
     {
         Table {
@@ -82,6 +87,7 @@ impl Table {
         ensures added { IfOk result (λ _. self.new.entries ≡ self.old.entries ++ new_entry kind ∷ []) }
         ensures full { (result ≡ Err TableFault.Full) ↔ (length self.old.entries ≡ self.old.max) }
         ensures unchanged { OnErr result (self.new ≡ self.old) }
+        ensures chains { self.new.chains ≡ self.old.chains }
         ensures max { self.new.max ≡ self.old.max }
         ensures below { IfOk result (λ number. number < self.old.max) }
     {
@@ -92,7 +98,7 @@ impl Table {
         if kind == Kind::Pending && self.chains.reserve(self.pending as usize + 1).is_err() {
             return Err(TableFault::OutOfMemory);
         }
-        if self.entries.push(new_entry(kind)).is_err() {
+        if self.entries.push(Slot::new(kind)).is_err() {
             return Err(TableFault::OutOfMemory);
         }
         if kind == Kind::Pending {
@@ -114,11 +120,12 @@ impl Table {
         requires pending { IsTrue (is_pending (slice_get self.old.entries number)) }
         requires parent { ForSome parent (λ p. IsTrue (is_closed (slice_get self.old.entries p))) }
         ensures closed { self.new.entries ≡ slice_set self.old.entries number (closed_under self.old.entries parent layer) }
+        ensures chains { self.new.chains ≡ self.old.chains ++ (parent_chain self.old.entries parent ++ layer ∷ []) ∷ [] }
         ensures max { self.new.max ≡ self.old.max }
     {
         let parent = parent_chain_number(&self.entries, parent);
         let chain = self.chains.add(layer, parent);
-        self.entries[number as usize] = Entry::Closed(Closed { chain });
+        self.entries[number as usize] = Slot::closed(chain);
         self.pending -= 1;
     }
 
@@ -129,7 +136,27 @@ impl Table {
         ensures pending { is_pending_entry (option_copied result) ≡ is_pending (slice_get self.now.entries number) }
         ensures closed { is_closed_entry (option_copied result) ≡ is_closed (slice_get self.now.entries number) }
     {
-        self.entries.get(number as usize)
+        match self.entries.get(number as usize)?.kept() {
+            Kept::Text => Some(&Entry::Text),
+            Kept::Other => Some(&Entry::Other),
+            Kept::Pending => Some(&Entry::Pending),
+            Kept::Closed(_) => Some(&Entry::Closed(Closed { nothing: () })),
+        }
+    }
+
+    /// What the number names, as a class. The other calls find the chain of a closed descriptor at once by
+    /// its number.
+    pub fn class_at(&self, number: u32) -> Class
+        ensures { IsClass self.now.chains (slice_get self.now.entries number) result }
+    {
+        match self.entries.get(number as usize) {
+            None => Class::NotThere,
+            Some(slot) => match slot.kept() {
+                Kept::Text | Kept::Other => Class::NoClass,
+                Kept::Pending => Class::Open,
+                Kept::Closed(number) => Class::Closed(ChainNumber { number }),
+            },
+        }
     }
 
     /// How many layers the chain of a closed entry has.
@@ -178,9 +205,71 @@ impl Table {
             .fit(chain_number(&self.entries, number), purpose)
     }
 
+    /// Whether the class with this chain fits the purpose, or what is wrong with it: `fit` of its entry.
+    pub fn chain_fit(&self, chain: ChainNumber, purpose: Purpose) -> Fit
+        requires { chain < length self.now.chains }
+        ensures { result ≡ fit_of purpose (chain_in self.now.chains chain) }
+    {
+        self.chains.fit(chain.number, purpose)
+    }
+
+    /// Whether the class itself, the last of this chain, is externalizable.
+    pub fn is_external(&self, chain: ChainNumber) -> bool
+        requires { chain < length self.now.chains }
+        ensures { result ≡ is_external (chain_in self.now.chains chain) }
+    {
+        self.chains.is_external(chain.number)
+    }
+
+    /// How many bytes an element of an array of this class has, where the elements are raw values; None where
+    /// they are values, or the class is not an array's.
+    pub fn element_size(&self, chain: ChainNumber) -> Option<u8>
+        requires { chain < length self.now.chains }
+        ensures { result ≡ option_map size_of (elements_of (chain_in self.now.chains chain)) }
+    {
+        self.chains.element_size(chain.number)
+    }
+
+    /// The sections of the data of an object with this chain, by the first and the last; None where there
+    /// are none. The number of steps is in the order of the logarithm of the chain.
+    pub fn sections(&self, chain: ChainNumber) -> Option<Sections>
+        requires { chain < length self.now.chains }
+        ensures { AreSections self.now.chains (chain_in self.now.chains chain) result }
+    {
+        self.chains.sections(chain.number)
+    }
+
+    /// What a section holds.
+    pub fn section(&self, section: SectionNumber) -> Section
+        requires { HasSection self.now.chains section }
+        ensures { HoldsFor (layer_of self.now.chains section) result }
+    {
+        self.chains.section(section.number)
+    }
+
+    /// How many bytes the raw value at this place has, among the raw values at the beginning of the section.
+    pub fn prim_size(&self, section: SectionNumber, pos: u16) -> u8
+        requires section { HasSection self.now.chains section }
+        requires pos { pos < length (primitive_codes (layer_of self.now.chains section).codes) }
+        ensures { option_map size_of (slice_get (primitive_codes (layer_of self.now.chains section).codes) pos) ≡ Some result }
+    {
+        self.chains.prim_size(section.number, pos)
+    }
+
+    /// The section that comes after this one in an object's data, of which `last` is the last section; None
+    /// after the last. The number of steps is in the order of the logarithm of the chain.
+    pub fn next_section(&self, last: SectionNumber, section: SectionNumber) -> Option<SectionNumber>
+        requires { IsOn self.now.chains last section }
+        ensures { IsNext self.now.chains last section result }
+    {
+        let number = self.chains.next_section(last.number, section.number)?;
+        Some(SectionNumber { number })
+    }
+
     /// Forgets all entries, and keeps the memory for the next ones.
     pub fn reset(&mut self)
         ensures entries { self.new.entries ≡ [] }
+        ensures chains { self.new.chains ≡ [] }
         ensures max { self.new.max ≡ self.old.max }
     {
         self.entries.clear();
@@ -190,19 +279,19 @@ impl Table {
 }
 
 /// The number of the chain of a closed entry.
-fn chain_number(entries: &[Entry], number: u32) -> u32
-    requires { IsTrue (is_closed_entry (slice_get entries.now number)) }
+fn chain_number(entries: &[Slot], number: u32) -> u32
+    requires { IsTrue (is_closed_slot (slice_get entries.now number)) }
     ensures { slice_get entries.now number ≡ Some (closed_kept result) }
 {
-    match entries[number as usize] {
-        Entry::Closed(closed) => closed.chain,
+    match entries[number as usize].kept() {
+        Kept::Closed(chain) => chain,
         _ => unreachable!(),
     }
 }
 
 /// The number of the chain of the parent's entry, if there is a parent.
-fn parent_chain_number(entries: &[Entry], parent: Option<u32>) -> Option<u32>
-    requires { ForSome parent (λ p. IsTrue (is_closed_entry (slice_get entries.now p))) }
+fn parent_chain_number(entries: &[Slot], parent: Option<u32>) -> Option<u32>
+    requires { ForSome parent (λ p. IsTrue (is_closed_slot (slice_get entries.now p))) }
     ensures { IsNumberOf entries.now parent result }
 {
     match parent {

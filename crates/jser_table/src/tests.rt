@@ -1,5 +1,5 @@
 //! Worked examples from the format, and long random runs against a plain list of chains.
-ghost use Rattle.std.specs.Prelude.{◌≡◌, slice_get};
+ghost use Rattle.std.specs.Prelude.{◌≡◌, ◌<◌, ◌^◌, length, slice_get};
 ghost use Rattle.jser_table.specs.Entries.{is_pending, is_closed};
 
 use crate::{
@@ -11,15 +11,13 @@ use std::process::Abort;
 use std::test::Fail;
 
 mod random;
+mod sections;
 
 const INT: u8 = b'I';
 
-fn make_layer(
-    alloc: Global,
-    kind: LayerKind,
-    flags: u8,
-    codes: &[u8],
-) -> Result<Layer, AllocError> {
+fn make_layer(alloc: Global, kind: LayerKind, flags: u8, codes: &[u8]) -> Result<Layer, AllocError>
+    requires { length codes.now < 2 ^ 15 }
+{
     Ok(Layer {
         kind,
         flags,

@@ -14,6 +14,10 @@ pub codes_of_fields : (fields : List Field) → codes_of (map view_field fields)
 codes_of_fields [] = refl
 codes_of_fields (field ∷ fields) = ap (λ codes. field.code ∷ codes) (codes_of_fields fields)
 
+pub length_codes_of : (fields : List Field) → length (codes_of (map view_field fields)) ≡ length fields
+length_codes_of [] = refl
+length_codes_of (field ∷ fields) = ap (λ n. suc n) (length_codes_of fields)
+
 pub test_below : (n bound : ℕ) → n < bound → nat_lt n bound ≡ true
 test_below n bound h = grind (arith, nat_tests)
 

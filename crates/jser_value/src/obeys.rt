@@ -104,7 +104,9 @@ fn check_fields(table: &mut Table, fields: &[Field]) -> Result<(), Fault>
 }
 
 /// The layer of a plain descriptor.
+#[tactic(auto, using(crate::proofs::PartLemmas::length_codes_of))]
 fn plain_layer(alloc: Global, name: &[u16], flags: u8, fields: &[Field]) -> Result<Layer, Fault>
+    requires { length fields.now < 2 ^ 15 }
     ensures layer { IfOk result (λ layer. layer ≡ plain_layer name.now flags (map view_field fields.now)) }
     ensures memory { IfErr result (λ fault. fault ≡ Fault.OutOfMemory) }
 {
@@ -182,7 +184,8 @@ fn is_bare(section: &Section) -> bool
 
 /// Whether a plain descriptor's own data is right, but for the types of its fields.
 fn is_head(name: &[u16], suid: u64, flags: u8, fields: &[Field]) -> bool
-    ensures { result ≡ obeys_head name.now suid flags (map view_field fields.now) }
+    ensures head { result ≡ obeys_head name.now suid flags (map view_field fields.now) }
+    ensures few { result ≡ true → length fields.now < 2 ^ 15 }
 {
     let _ = suid;
     is_class_name(name) && is_flags(flags) && fields.len() <= MOST_FIELDS

@@ -11,11 +11,11 @@ use std::time::Instant;
 
 /// A linear congruential generator (Knuth's MMIX), so that each run is the same.
 #[derive(Drop)]
-struct Random(u64);
+pub(super) struct Random(pub(super) u64);
 
 impl Random {
     /// A number below this one.
-    fn below(&mut self, bound: u64) -> u64
+    pub(super) fn below(&mut self, bound: u64) -> u64
         requires { 0 < bound }
         ensures { result < bound }
     {

@@ -1,8 +1,13 @@
-use Rattle.jser_table.proofs.ChainLemmas.{under_parent}
+use Rattle.jser_table.proofs.ChainLemmas.{under_none, under_parent}
 use Rattle.jser_table.proofs.chains.descriptor_under.Goals as goal
 
 pub returns : goal.returns
 returns c =
-    under_parent _ _ _ _ _ _ _ c.requires.told (c.requires.parent_in _ c.in-Some.is) c.index-descriptors-parent.is c.in-Some.is
+    under_parent _ _ _ _ _ _ _ _ _ c.requires.told (c.requires.parent_in _ c.in-Some.is) c.index-descriptors-parent.is c.in-Some.is
     c.jump_from-jump.ensures.inside c.jump_from-jump.ensures.front
-    c.below.ensures.layer c.below.ensures.links c.below.ensures.known
+    c.requires.section c.last_under-last-2.ensures
+    c.below.ensures.layer c.below.ensures.links c.below.ensures.last c.below.ensures.known
+
+pub returns-in_default : goal.returns-in_default
+returns-in_default c =
+    under_none _ _ _ _ _ _ c.in_default.is c.requires.section c.last_under-last.ensures c.root.ensures.layer c.root.ensures.links c.root.ensures.last c.root.ensures.known

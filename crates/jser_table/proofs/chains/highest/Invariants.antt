@@ -1,5 +1,6 @@
 use Rattle.std.proofs.Common.{◌<◌, length}
-use Rattle.jser_table.specs.Descriptors.{chains_of, chain_in, count_of, IsFront}
+use Rattle.jser_table.specs.Chains.{chain_in, IsFront}
+use Rattle.jser_table.specs.Descriptors.{chains_of, count_of}
 use Rattle.jser_table.proofs.chains.highest.Given as goal
 
 abbrev pub invariant-walk : goal.invariant-walk

@@ -14,13 +14,6 @@ add-chain-requires-clause-room c =
     let one = pending_counted own.chains.listed own.entries.items c.args.self.now own.max c.args.number c.self.view_is c.requires.pending in
     omega (arith, one.1, c.self.invariant.counted, c.self.invariant.room)
 
-pub add-chain-requires-clause-fewer : goal.add-chain-requires-clause-fewer
-add-chain-requires-clause-fewer c =
-    let own = c.self.inside in
-    let one = pending_counted own.chains.listed own.entries.items c.args.self.now own.max c.args.number c.self.view_is c.requires.pending in
-    let kept = c.self.invariant in
-    omega (arith, one.1, kept.counted, kept.fewer, kept.within, kept.max_fits)
-
 pub add-chain-requires-clause-parent_in : goal.add-chain-requires-clause-parent_in
 add-chain-requires-clause-parent_in c =
     let own = c.self.inside in
@@ -43,10 +36,10 @@ overflow_sub-self c =
 
 pub invariant_of-self : goal.invariant_of-self
 invariant_of-self c =
-    rw c.add-chain.ensures.number
+    rw (c.closed.ensures, c.add-chain.ensures.number)
     (sound_close _ _ _ _ _ c.args.number _ c.self.invariant (pending_kept _ _ c.args.self.now _ c.args.number c.self.view_is c.requires.pending) c.add-chain.ensures.added c.add-chain.ensures.room)
 
 pub returns-clause-closed : goal.returns-clause-closed
 returns-clause-closed c =
-    rw (c.add-chain.ensures.number, ← c.self.view_is)
+    rw (c.closed.ensures, c.add-chain.ensures.number, ← c.self.view_is)
     (closed_view _ _ _ c.args.number c.args.parent _ c.args.layer c.self.invariant.among (rw (← c.deref.ensures.value) c.parent_chain_number-parent.ensures) c.add-chain.ensures.added)

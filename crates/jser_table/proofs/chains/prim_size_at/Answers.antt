@@ -1,0 +1,28 @@
+use Rattle.std.proofs.Common.{◌≡◌, ◌<◌, ℕ, Some, length, ap, sym, subst, refl, option_map}
+use Rattle.std.specs.Prelude.{slice_get}
+use Rattle.jser_table.specs.Codes.{primitive_codes, size_of, AreLeading}
+use Rattle.jser_table.specs.declared.layer.Layer.{Layer}
+use Rattle.jser_table.specs.Sections.{layer_of}
+use Rattle.jser_table.specs.Descriptors.{chains_of}
+use Rattle.jser_table.proofs.FiledLemmas.{layer_of_class}
+use Rattle.jser_table.proofs.chains.prim_size_at.Goals as goal
+
+pub leading_size-requires-clause-leading : goal.leading_size-requires-clause-leading
+leading_size-requires-clause-leading c =
+    let same = layer_of_class _ _ _ _ _ c.filed_at-filed.ensures refl c.descriptor_at.ensures in
+    rw (c.as_slice.ensures, same) c.filed_at-filed.ensures.leading
+
+pub prim_size-requires : goal.prim_size-requires
+prim_size-requires c =
+    let same = layer_of_class _ _ _ _ _ c.filed_at-filed.ensures refl c.descriptor_at.ensures in
+    rw same c.requires.pos
+
+pub returns-then-pos-filed : goal.returns-then-pos-filed
+returns-then-pos-filed c =
+    let same = layer_of_class _ _ _ _ _ c.filed_at-filed.ensures refl c.descriptor_at.ensures in
+    rw (← same, ← c.as_slice.ensures) c.leading_size.ensures
+
+pub returns-else-pos-filed : goal.returns-else-pos-filed
+returns-else-pos-filed c =
+    let same = layer_of_class _ _ _ _ _ c.filed_at-filed.ensures refl c.descriptor_at.ensures in
+    rw (← same) c.prim_size.ensures
