@@ -1,0 +1,14 @@
+pub mod Order
+pub mod Texts
+pub mod Fronts
+pub mod Ends
+pub mod Scans
+pub mod Completes
+pub mod Wholes
+pub mod Turns
+pub mod FirstFaults
+pub mod Passing
+pub mod WalkFaults
+pub mod OneFault
+pub mod AnswerLaws
+pub mod ForGood

@@ -1,0 +1,5 @@
+use Rattle.jser_verdict.proofs.FirstFaults as laws
+use Rattle.jser_verdict.proofs.same_verdict.Goals as goal
+
+pub returns : goal.returns
+returns c = laws.same_verdict
