@@ -1,5 +1,5 @@
 -- The answer is right: accepted exactly for the streams that pass, refused exactly with the first fault, for good.
-use Rattle.std.proofs.Common.{◌≡◌, ℕ, suc, ◌+◌, ◌-◌, ◌<◌, ◌≤◌, Bool, true, false, ◌&&◌, if◌then◌else◌, List, [], ◌∷◌, ◌++◌, length, refl, sym, ◌∙◌, ap, ap₂, subst, arith, nat_le, take, drop, append_assoc, append-nil, length-append, leb-true, le-leb, inl, inr, true≢false}
+use Rattle.std.proofs.Common.{◌≡◌, ℕ, suc, ◌+◌, ◌-◌, ◌<◌, ◌≤◌, Bool, true, false, ◌&&◌, if◌then◌else◌, List, [], ◌∷◌, ◌++◌, length, refl, sym, ◌∙◌, ap, ap₂, subst, arith, nat_le, take, drop, append-nil, length-append, leb-true, le-leb, inl, inr, true≢false}
 use Rattle.std.proofs.lemmas.Bool.{leb-false}
 use Rattle.std.proofs.lemmas.List.{take-append-drop, length-take-le}
 use Rattle.jser_reading.proofs.Vocabulary.{ContentTrees, Goal, IsBytes, IsDone, begin_state, settled, top_goal}
@@ -8,16 +8,17 @@ use Rattle.jser_reading.specs.GateLimits.{gate_of}
 use Rattle.jser_reading.specs.Scanner.{Outcome, ended, refused, walk, PassesBy}
 use Rattle.jser_verdict.specs.Reasons.{Reason, bytes_exceeded, truncated, turn, reason_with}
 use Rattle.jser_verdict.specs.Gates.{Gate, limits_of}
-use Rattle.jser_verdict.specs.Passing.{Passes}
 use Rattle.jser_verdict.specs.Verdicts.{verdict}
 use Rattle.jser_verdict.specs.FirstFault.{IsFault, IsFirstFault}
 use Rattle.jser_verdict.specs.Answers.{Told, accepted, refused_at, is_top, is_none, told_whole, told_over, answer}
 use Rattle.jser_verdict.specs.AnswerLaws.{AcceptsPassing, AcceptsNoFault, RefusesFirstFault}
 use Rattle.jser_verdict.proofs.Turns.{reason_of_turn}
-use Rattle.jser_verdict.proofs.FirstFaults.{bytes_left, no_row, same_walk}
+use Rattle.jser_verdict.proofs.OpenFields.{no_row}
+use Rattle.jser_verdict.proofs.SameWalks.{same_walk}
 use Rattle.jser_verdict.proofs.Passing.{by_fields, by_tree}
 use Rattle.jser_verdict.proofs.WalkFaults.{refuses_the_first, cut_is_the_first, over_is_the_first, takes, taken}
 use Rattle.jser_verdict.proofs.OneFault.{one_first_fault}
+use Rattle.jser_verdict.proofs.ByteLists.{bytes_left}
 
 top_done : (gs : List Goal) → is_top gs ≡ true → gs ≡ top_goal ∷ []
 top_done (top_goal ∷ []) h = refl

@@ -1,6 +1,6 @@
 -- A refusal, save Truncated, is the same with any bytes after those that decide, and no stream that passes begins with
 -- them.
-use Rattle.std.proofs.Common.{◌≡◌, ℕ, zero, suc, ◌+◌, ◌-◌, ◌<◌, ◌≤◌, Bool, true, false, ◌&&◌, if◌then◌else◌, List, [], ◌∷◌, ◌++◌, length, refl, sym, ◌∙◌, ap, ap₂, subst, arith, nat_le, take, drop, append_assoc, append-nil, length-append, leb-true, le-leb, inl, inr}
+use Rattle.std.proofs.Common.{◌≡◌, ℕ, suc, ◌-◌, ◌<◌, ◌≤◌, Bool, true, false, ◌&&◌, if◌then◌else◌, List, [], ◌++◌, length, refl, sym, ◌∙◌, ap, subst, arith, nat_le, take, drop, append_assoc, append-nil, length-append, le-leb, inl, inr}
 use Rattle.std.proofs.lemmas.Bool.{cases_lt}
 use Rattle.std.proofs.lemmas.List.{take-append-drop, length-take-le, take_at}
 use Rattle.std.proofs.lemmas.Bool.Decides.{nat_tests}
@@ -12,22 +12,9 @@ use Rattle.jser_verdict.specs.Passing.{Passes}
 use Rattle.jser_verdict.specs.Verdicts.{verdict}
 use Rattle.jser_verdict.specs.Answers.{Told, accepted, refused_at, is_top, is_none, told_whole, told_over, answer}
 use Rattle.jser_verdict.specs.AnswerLaws.{RefusedForGood}
-use Rattle.jser_verdict.proofs.FirstFaults.{bytes_left}
-use Rattle.jser_verdict.proofs.WalkFaults.{decides_alone, bytes_both}
+use Rattle.jser_verdict.proofs.WalkFaults.{decides_alone}
 use Rattle.jser_verdict.proofs.AnswerLaws.{accepts_passing}
-
--- the first bytes of first bytes
-take_again : (n : ℕ) (xs ys : List ℕ) → n < length xs → take n (take (suc n) xs ++ ys) ≡ take n xs
-take_again zero xs ys h = refl
-take_again (suc n) [] ys h = absurd (omega arith)
-take_again (suc n) (x ∷ xs) ys h = ap (λ z. x ∷ z) (take_again n xs ys (omega arith))
-
-take_past : (xs ys : List ℕ) (n : ℕ) → length xs ≤ n → take n (xs ++ ys) ≡ xs ++ take (n - length xs) ys
-take_past [] ys n h = let e : n ≡ n - 0 = omega arith in ap (λ k. take k ys) e
-take_past (x ∷ xs) ys zero h = absurd (omega arith)
-take_past (x ∷ xs) ys (suc n) h =
-    let e : n - length xs ≡ suc n - suc (length xs) = omega arith in
-    ap (λ z. x ∷ z) (take_past xs ys n (omega arith)) ∙ ap (λ k. x ∷ (xs ++ take k ys)) e
+use Rattle.jser_verdict.proofs.ByteLists.{bytes_left, bytes_both, take_again, take_past}
 
 module _ (g : Gate) where
   -- the answer, by whether the bytes are within the limit

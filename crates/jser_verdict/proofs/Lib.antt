@@ -6,9 +6,17 @@ pub mod Scans
 pub mod Completes
 pub mod Wholes
 pub mod Turns
+pub mod ByteLists
+pub mod ReadFields
+pub mod ToldRows
+pub mod RefusedRows
+pub mod OpenFields
 pub mod FirstFaults
+pub mod SameWalks
 pub mod Passing
 pub mod WalkFaults
 pub mod OneFault
 pub mod AnswerLaws
 pub mod ForGood
+pub mod WorkedStreams
+pub mod WorkedAnswers

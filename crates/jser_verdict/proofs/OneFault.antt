@@ -1,9 +1,8 @@
 -- There is one first fault: its end and its reason by the order, its start because bytes are cut into fields in one way.
-use Rattle.std.proofs.Common.{◌≡◌, ℕ, ◌+◌, ◌<◌, ◌≤◌, Bool, true, false, List, [], ◌∷◌, ◌++◌, length, refl, sym, ◌∙◌, ap, ap₂, subst, arith, IsTrue, append_assoc, append-nil, length-append, true≢false, ◌⊎◌, inl, inr}
-use Rattle.jser_reading.proofs.Vocabulary.{StreamField, Label, Piece, piece, State, settled, label_of, Accepts, advance, begin_state, Runs, left}
+use Rattle.std.proofs.Common.{◌≡◌, ℕ, ◌+◌, ◌<◌, ◌≤◌, true, false, List, [], ◌∷◌, ◌++◌, length, refl, sym, ◌∙◌, ap, ap₂, subst, arith, append_assoc, append-nil, length-append, true≢false, ◌⊎◌, inl, inr}
+use Rattle.jser_reading.proofs.Vocabulary.{Label, Piece, piece, State, settled, label_of, Accepts, advance, begin_state, Runs, left}
 use Rattle.jser_reading.specs.FieldBytes.{bytes_of, joined}
-use Rattle.jser_reading.specs.Scanner.{FieldGate, HasNoField, more, bad}
-use Rattle.jser_reading.proofs.Fronts.{Runs-append}
+use Rattle.jser_reading.specs.Scanner.{FieldGate, more, bad}
 use Rattle.jser_reading.proofs.Next.{next_law}
 use Rattle.jser_reading.proofs.PlainVerdict.{plain_verdict, scanner}
 use Rattle.jser_reading.proofs.Reading.{same_field}
@@ -12,11 +11,12 @@ use Rattle.jser_verdict.specs.Reasons.{Reason, bytes_exceeded, truncated, turn}
 use Rattle.jser_verdict.specs.Gates.{Gate}
 use Rattle.jser_verdict.specs.Rows.{row}
 use Rattle.jser_verdict.specs.Scanning.{scanning_verdict}
-use Rattle.jser_verdict.specs.FirstFault.{OpenAt, RowHolds, IsFault, IsFirstFault}
+use Rattle.jser_verdict.specs.FirstFault.{OpenAt, RowHolds, IsFault}
 use Rattle.jser_verdict.specs.AnswerLaws.{OneFirstFault}
 use Rattle.jser_verdict.proofs.Turns.{one_turn}
 use Rattle.jser_verdict.proofs.Scans.{verdict_scans}
-use Rattle.jser_verdict.proofs.FirstFaults.{row_bad, split_at}
+use Rattle.jser_verdict.proofs.ToldRows.{row_bad}
+use Rattle.jser_verdict.proofs.ByteLists.{split_at}
 
 -- a gate that lets each field through
 abbrev open_gate : FieldGate

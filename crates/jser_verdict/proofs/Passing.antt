@@ -1,10 +1,10 @@
 -- What a gate lets pass, in words of the tree, is what it lets pass field by field, within its limit of bytes.
-use Rattle.std.proofs.Common.{◌≡◌, ℕ, ◌≤◌, Bool, true, false, List, [], ◌∷◌, length, refl, sym, arith, IsTrue, true≢false}
+use Rattle.std.proofs.Common.{◌≡◌, ℕ, ◌≤◌, List, [], ◌∷◌, length, refl, sym, arith, IsTrue, true≢false}
 use Rattle.jser_reading.proofs.Vocabulary.{ContentTrees}
 use Rattle.jser_reading.specs.GateLimits.{gate_of, Each}
 use Rattle.jser_reading.specs.Scanner.{PassesBy}
 use Rattle.jser_reading.proofs.WithinLimits.{limited_law}
-use Rattle.jser_verdict.specs.Gates.{Answer, pass, rejected, unmatched, Gate, is_pass, limits_of, IsGate, lowered}
+use Rattle.jser_verdict.specs.Gates.{Answer, pass, rejected, unmatched, Gate, is_pass, limits_of}
 use Rattle.jser_verdict.specs.Passing.{Passes}
 use Rattle.jser_verdict.specs.AnswerLaws.{LoweredIsGate, LoweredPasses}
 

@@ -1,23 +1,22 @@
 -- The laws of the walk by the verdict that code follows: those of the walk by the verdict that looks at the format.
-use Rattle.std.proofs.Common.{◌≡◌, ℕ, ◌≤◌, true, false, ◌&&◌, List, [], ◌∷◌, ◌++◌, length, refl, sym, ◌∙◌, ap, ap₂, subst, arith, length-append, nat_lt, inl, inr, ◌⊎◌}
-use Rattle.std.specs.List.{list_all}
-use Rattle.jser_grammar.proofs.Bools.{and_left, and_right, and_both}
-use Rattle.jser_reading.proofs.Vocabulary.{ContentTrees, IsBytes, IsDone, State, StreamField, advance, begin_state, label_of, settled}
+use Rattle.std.proofs.Common.{◌≡◌, ℕ, List, [], ◌∷◌, ◌++◌, length, refl, sym, ◌∙◌, ap, ap₂, subst, arith, length-append, inl, inr}
+use Rattle.jser_reading.proofs.Vocabulary.{ContentTrees, IsBytes, State, StreamField, advance, begin_state, label_of, settled}
 use Rattle.jser_reading.specs.FieldBytes.{joined}
 use Rattle.jser_reading.specs.GateLimits.{gate_of}
 use Rattle.jser_reading.specs.Scanner.{Verdict, more, good, bad, VerdictOn, ended, refused, walk, PassesBy}
 use Rattle.jser_reading.specs.WalkLaws.{TakesWhole}
 use Rattle.jser_reading.proofs.Faults.{accepts_law}
-use Rattle.jser_verdict.specs.Reasons.{Reason}
 use Rattle.jser_verdict.specs.Gates.{Gate, limits_of}
 use Rattle.jser_verdict.specs.Passing.{Passes}
 use Rattle.jser_verdict.specs.Verdicts.{verdict}
 use Rattle.jser_verdict.specs.Scanning.{scanning_verdict}
-use Rattle.jser_verdict.specs.FirstFault.{IsFault}
 use Rattle.jser_verdict.specs.FaultLaws.{RefusesTheFirst, CutIsTheFirst, OverIsTheFirst, RefusesPromptly, DecidesAlone}
 use Rattle.jser_verdict.proofs.Scans.{verdict_scans}
-use Rattle.jser_verdict.proofs.FirstFaults.{bytes_left, no_row, refuses_first, cut_first, over_first, same_walk}
+use Rattle.jser_verdict.proofs.OpenFields.{no_row}
+use Rattle.jser_verdict.proofs.FirstFaults.{refuses_first, cut_first, over_first}
+use Rattle.jser_verdict.proofs.SameWalks.{same_walk}
 use Rattle.jser_verdict.proofs.Passing.{by_fields}
+use Rattle.jser_verdict.proofs.ByteLists.{bytes_left, bytes_both}
 
 pub refuses_the_first : RefusesTheFirst
 refuses_the_first g seen behind wrong rest k hb cap e =
@@ -73,12 +72,6 @@ walk_decides v (b ∷ bs) s p w q k e =
         let eq : bs ≡ q = cc in
         let ek : j ≡ k = cc in
         (b ∷ [], ap (λ z. b ∷ z) eq, λ x. rw ex (ap₂ (λ a c. refused a x c) ew ek))
-
-pub bytes_both : (a b : List ℕ) → IsBytes a → IsBytes b → IsBytes (a ++ b)
-bytes_both [] b h k = k
-bytes_both (x ∷ a) b h k =
-    and_both (nat_lt x 256) (list_all (λ b. nat_lt b 256) (a ++ b)) (and_left (nat_lt x 256) (list_all (λ b. nat_lt b 256) a) h)
-    (bytes_both a b (and_right (nat_lt x 256) (list_all (λ b. nat_lt b 256) a) h) k)
 
 pub decides_alone : DecidesAlone
 decides_alone g seen wrong rest k hb e =

@@ -1,7 +1,7 @@
 -- Bytes that are as many as the field needs, and for which no reason is told, are a field that the format takes.
 use Rattle.std.proofs.Common.{◌≡◌, ℕ, zero, suc, ◌+◌, ◌-◌, ◌*◌, ◌^◌, ◌<◌, ◌≤◌, Bool, true, false, ◌&&◌, ◌||◌, not, if◌then◌else◌, List, [], ◌∷◌, ◌++◌, length, refl, sym, ◌∙◌, ap, ap₂, subst, arith, Option, Some, None, IsTrue, nat_lt, nat_le, nat_eq, take, drop, length-append, leb-true, le-leb, ltb-false, append-nil, slice_get, is_some, true≢false}
 use Rattle.std.proofs.lemmas.Bool.Decides.{nat_tests}
-use Rattle.jser_reading.proofs.Vocabulary.{big_bytes, modified_utf8, is_serializable, is_externalizable, has_block_data, is_enum, all_serial, TableEntry, text_entry, other_entry, pending_entry, closed_entry, is_text, is_pending, is_closed, chain_of, chain_at, does_fit, NameKind, plain_name, array_name, malformed_name, name_kind, Layer, prim_code_of, is_object_code, Entries, IsText, text_bound, is_malformed, IsHandle, Owner, object_owner, array_owner, enum_owner, class_owner, ChainOwner, Role, own_class, superclass, FitsOwner, FitsRole, NameFits, FlagsFit, Moment, StreamField, header_field, handle_field, suid_field, flags_field, field_count_field, interface_count_field, array_length_field, code_field, text_field, block_length_field, prims_field, bytes_field, Position, nowhere, header_at, top_at, annotation_at, value_at, text_place_at, class_place_at, superclass_place_at, back_handle_at, text_handle_at, class_handle_at, superclass_handle_at, string_at, class_name_at, field_name_at, interface_name_at, suid_at, field_count_at, interface_count_at, array_length_at, flags_at, type_code_at, block_length_at, raw_at, bytes_at, Label, AcceptsAt, Accepts}
+use Rattle.jser_reading.proofs.Vocabulary.{big_bytes, modified_utf8, is_serializable, is_externalizable, has_block_data, is_enum, all_serial, TableEntry, text_entry, other_entry, pending_entry, closed_entry, is_text, is_pending, is_closed, chain_of, does_fit, NameKind, plain_name, array_name, malformed_name, name_kind, Layer, prim_code_of, is_object_code, Entries, IsText, text_bound, is_malformed, IsHandle, Owner, object_owner, array_owner, enum_owner, class_owner, ChainOwner, Role, own_class, superclass, FitsOwner, FitsRole, NameFits, FlagsFit, Moment, StreamField, header_field, handle_field, suid_field, flags_field, field_count_field, interface_count_field, array_length_field, code_field, text_field, block_length_field, prims_field, bytes_field, Position, nowhere, header_at, top_at, annotation_at, value_at, text_place_at, class_place_at, superclass_place_at, back_handle_at, text_handle_at, class_handle_at, superclass_handle_at, string_at, class_name_at, field_name_at, interface_name_at, suid_at, field_count_at, interface_count_at, array_length_at, flags_at, type_code_at, block_length_at, raw_at, bytes_at, Label, AcceptsAt, Accepts}
 use Rattle.jser_table.specs.declared.layer.Fit.{Fit}
 use Rattle.jser_table.specs.declared.layer.Fit.TheVariants as fit
 use Rattle.jser_grammar.specs.Spelling.{utf, long_utf}

@@ -39,9 +39,9 @@ OneFirstFault =
 abbrev pub RefusedForGood : Type 0
 RefusedForGood =
     (gate : Gate) (bytes : List ℕ) (at end : ℕ) (reason : Reason) → IsBytes bytes
-    → answer gate bytes ≡ refused_at at end reason → (reason ≡ truncated → ⊥) → (behind : List ℕ) → IsBytes behind
-    → (answer gate (take end bytes ++ behind) ≡ refused_at at end reason)
-    × ((list : ContentTrees) → Passes gate (take end bytes ++ behind) list → ⊥)
+    → answer gate bytes ≡ refused_at at end reason → (reason ≡ truncated → ⊥) → (after : List ℕ) → IsBytes after
+    → (answer gate (take end bytes ++ after) ≡ refused_at at end reason)
+    × ((list : ContentTrees) → Passes gate (take end bytes ++ after) list → ⊥)
 
 -- A gate with its limits of bytes and depth lowered is a gate ..
 abbrev pub LoweredIsGate : Type 0

@@ -1,5 +1,5 @@
 -- What the bytes of a field so far say, where it is a tag or a number: nothing, until they are as many as it has.
-use Rattle.std.specs.Prelude.{ℕ, ◌&&◌, ◌||◌, not, Bool, true, false, nat_eq, List, [], ◌∷◌, length}
+use Rattle.std.specs.Prelude.{ℕ, ◌&&◌, ◌||◌, not, Bool, false, nat_eq, List, [], ◌∷◌, length}
 use Rattle.jser_reading.specs.FieldsFromBytes.{number_of}
 
 -- of one byte

@@ -2,7 +2,7 @@
 -- 6.4.1): an object wants a class that is no array, and is externalizable with block data, or serializable with all its
 -- superclasses; an array wants an array class, an enum constant an enum. What is wrong shows at a new descriptor's
 -- name, flags or tag, at the flags of a superclass, or at the handle of a descriptor that was read before.
-use Rattle.std.specs.Prelude.{ℕ, ◌&&◌, not, Bool, true, false, List, Option, Some, None}
+use Rattle.std.specs.Prelude.{ℕ, ◌&&◌, not, Bool, true, false, List, Option, Some}
 use Rattle.jser_table.specs.Chains.{is_serializable, is_externalizable, has_block_data, is_enum, all_serial}
 use Rattle.jser_table.specs.declared.layer.Layer.{Layer}
 use Rattle.jser_table.specs.declared.layer.Fit.{Fit}

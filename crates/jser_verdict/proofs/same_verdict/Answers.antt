@@ -1,4 +1,4 @@
-use Rattle.jser_verdict.proofs.FirstFaults as laws
+use Rattle.jser_verdict.proofs.ToldRows as laws
 use Rattle.jser_verdict.proofs.same_verdict.Goals as goal
 
 pub returns : goal.returns

@@ -1,4 +1,4 @@
-use Rattle.jser_verdict.proofs.FirstFaults as laws
+use Rattle.jser_verdict.proofs.SameWalks as laws
 use Rattle.jser_verdict.proofs.same_walk.Goals as goal
 
 pub returns : goal.returns
