@@ -1,118 +1,8 @@
--- The first reason of which a test holds: it holds, and no reason of which it holds has an earlier turn.
-use Rattle.std.proofs.Common.{◌≡◌, ◌≤◌, Bool, true, false, if◌then◌else◌, List, [], ◌∷◌, refl, sym, ◌∙◌, ap, arith, Some, ◌⊎◌, inl, inr}
+-- The order of ties: a reason is known by its turn, and the first reason of which a test holds has the earliest turn.
+use Rattle.std.proofs.Common.{◌≡◌, ◌≤◌, Bool, true, false, ◌&&◌, ◌||◌, nat_eq, nat_le, if◌then◌else◌, List, [], ◌∷◌, refl, sym, ◌∙◌, ap, arith, Some, leb-true, true≢false}
+use Rattle.std.proofs.lemmas.Bool.{eqb-true}
+use Rattle.jser_grammar.proofs.Bools.{and_left, and_right}
 use Rattle.jser_verdict.specs.Reasons.{Reason, bytes_exceeded, bad_header, bad_tag, exception_tag, reset_inside, bad_text, negative_length, bad_type_code, field_order, bad_flags, null_class, no_such_handle, wrong_kind, open_descriptor, bad_array_name, wrong_class, external_raw, not_serializable, class_rejected, class_unmatched, depth_exceeded, refs_exceeded, array_exceeded, handle_space, truncated, in_order, first_that, turn, reason_with}
-
-InOrder : List Reason → Reason → Type 0
-InOrder [] r = ⊥
-InOrder (x ∷ xs) r = (x ≡ r) ⊎ ((turn x ≤ turn r) × InOrder xs r)
-
--- the test holds of the first that is told
-pub first_holds : (h : Reason → Bool) (rs : List Reason) (r : Reason) → first_that h rs ≡ Some r → h r ≡ true
-first_holds h [] r e = absurd (cc)
-first_holds h (x ∷ xs) r e = go (h x) refl e (first_holds h xs r)
-  where
-    go : (b : Bool) → h x ≡ b → (if b then Some x else first_that h xs) ≡ Some r → (first_that h xs ≡ Some r → h r ≡ true) → h r ≡ true
-    go true eb k ih = let q : x ≡ r = cc in rw (← q) eb
-    go false eb k ih = ih k
-
-abbrev pub Found : (Reason → Bool) → List Reason → Reason → Type 0
-Found h rs r = (first : Reason) × (first_that h rs ≡ Some first) × (turn first ≤ turn r)
-
-found_in : (h : Reason → Bool) (rs : List Reason) (r : Reason) → InOrder rs r → h r ≡ true → Found h rs r
-unfolding InOrder
-found_in h [] r i e = absurd i
-found_in h (x ∷ xs) r (inl q) e = (x, rw (q, e) refl, rw q (omega arith))
-found_in h (x ∷ xs) r (inr i) e = go (h x) refl (found_in h xs r i.1 e)
-  where
-    go : (b : Bool) → h x ≡ b → Found h xs r → Found h (x ∷ xs) r
-    go true eb f = (x, rw eb refl, i.0)
-    go false eb f = (f.0, rw eb f.1, f.2)
-
-each_in_order : (r : Reason) → InOrder in_order r
-unfolding InOrder
-each_in_order bytes_exceeded = inl refl
-each_in_order bad_header = inr (omega arith, inl refl)
-each_in_order bad_tag = inr (omega arith, inr (omega arith, inl refl))
-each_in_order exception_tag = inr (omega arith, inr (omega arith, inr (omega arith, inl refl)))
-each_in_order reset_inside = inr (omega arith, inr (omega arith, inr (omega arith, inr (omega arith, inl refl))))
-each_in_order bad_text = inr (omega arith, inr (omega arith, inr (omega arith, inr (omega arith, inr (omega arith, inl refl)))))
-each_in_order negative_length = inr (omega arith, inr (omega arith, inr (omega arith, inr (omega arith, inr (omega arith, inr (omega arith, inl refl))))))
-each_in_order bad_type_code = inr (omega arith, inr (omega arith, inr (omega arith, inr (omega arith, inr (omega arith, inr (omega arith, inr (omega arith, inl refl)))))))
-each_in_order field_order = inr (omega arith, inr (omega arith, inr (omega arith, inr (omega arith, inr (omega arith, inr (omega arith, inr (omega arith, inr (omega arith, inl refl))))))))
-each_in_order bad_flags = inr (omega arith, inr (omega arith, inr (omega arith, inr (omega arith, inr (omega arith, inr (omega arith, inr (omega arith, inr (omega arith, inr (omega arith, inl refl)))))))))
-each_in_order null_class = inr (omega arith, inr (omega arith, inr (omega arith, inr (omega arith, inr (omega arith, inr (omega arith, inr (omega arith, inr (omega arith, inr (omega arith, inr (omega arith, inl refl))))))))))
-each_in_order no_such_handle = inr (omega arith, inr (omega arith, inr (omega arith, inr (omega arith, inr (omega arith, inr (omega arith, inr (omega arith, inr (omega arith, inr (omega arith, inr (omega arith, inr (omega arith, inl refl)))))))))))
-each_in_order wrong_kind = inr (omega arith, inr (omega arith, inr (omega arith, inr (omega arith, inr (omega arith, inr (omega arith, inr (omega arith, inr (omega arith, inr (omega arith, inr (omega arith, inr (omega arith, inr (omega arith, inl refl))))))))))))
-each_in_order open_descriptor = inr (omega arith, inr (omega arith, inr (omega arith, inr (omega arith, inr (omega arith, inr (omega arith, inr (omega arith, inr (omega arith, inr (omega arith, inr (omega arith, inr (omega arith, inr (omega arith, inr (omega arith, inl refl)))))))))))))
-each_in_order bad_array_name = inr (omega arith, inr (omega arith, inr (omega arith, inr (omega arith, inr (omega arith, inr (omega arith, inr (omega arith, inr (omega arith, inr (omega arith, inr (omega arith, inr (omega arith, inr (omega arith, inr (omega arith, inr (omega arith, inl refl))))))))))))))
-each_in_order wrong_class = inr (omega arith, inr (omega arith, inr (omega arith, inr (omega arith, inr (omega arith, inr (omega arith, inr (omega arith, inr (omega arith, inr (omega arith, inr (omega arith, inr (omega arith, inr (omega arith, inr (omega arith, inr (omega arith, inr (omega arith, inl refl)))))))))))))))
-each_in_order external_raw = inr (omega arith, inr (omega arith, inr (omega arith, inr (omega arith, inr (omega arith, inr (omega arith, inr (omega arith, inr (omega arith, inr (omega arith, inr (omega arith, inr (omega arith, inr (omega arith, inr (omega arith, inr (omega arith, inr (omega arith, inr (omega arith, inl refl))))))))))))))))
-each_in_order not_serializable = inr (omega arith, inr (omega arith, inr (omega arith, inr (omega arith, inr (omega arith, inr (omega arith, inr (omega arith, inr (omega arith, inr (omega arith, inr (omega arith, inr (omega arith, inr (omega arith, inr (omega arith, inr (omega arith, inr (omega arith, inr (omega arith, inr (omega arith, inl refl)))))))))))))))))
-each_in_order class_rejected = inr (omega arith, inr (omega arith, inr (omega arith, inr (omega arith, inr (omega arith, inr (omega arith, inr (omega arith, inr (omega arith, inr (omega arith, inr (omega arith, inr (omega arith, inr (omega arith, inr (omega arith, inr (omega arith, inr (omega arith, inr (omega arith, inr (omega arith, inr (omega arith, inl refl))))))))))))))))))
-each_in_order class_unmatched = inr (omega arith, inr (omega arith, inr (omega arith, inr (omega arith, inr (omega arith, inr (omega arith, inr (omega arith, inr (omega arith, inr (omega arith, inr (omega arith, inr (omega arith, inr (omega arith, inr (omega arith, inr (omega arith, inr (omega arith, inr (omega arith, inr (omega arith, inr (omega arith, inr (omega arith, inl refl)))))))))))))))))))
-each_in_order depth_exceeded = inr (omega arith, inr (omega arith, inr (omega arith, inr (omega arith, inr (omega arith, inr (omega arith, inr (omega arith, inr (omega arith, inr (omega arith, inr (omega arith, inr (omega arith, inr (omega arith, inr (omega arith, inr (omega arith, inr (omega arith, inr (omega arith, inr (omega arith, inr (omega arith, inr (omega arith, inr (omega arith, inl refl))))))))))))))))))))
-each_in_order refs_exceeded = inr (omega arith, inr (omega arith, inr (omega arith, inr (omega arith, inr (omega arith, inr (omega arith, inr (omega arith, inr (omega arith, inr (omega arith, inr (omega arith, inr (omega arith, inr (omega arith, inr (omega arith, inr (omega arith, inr (omega arith, inr (omega arith, inr (omega arith, inr (omega arith, inr (omega arith, inr (omega arith, inr (omega arith, inl refl)))))))))))))))))))))
-each_in_order array_exceeded = inr (omega arith, inr (omega arith, inr (omega arith, inr (omega arith, inr (omega arith, inr (omega arith, inr (omega arith, inr (omega arith, inr (omega arith, inr (omega arith, inr (omega arith, inr (omega arith, inr (omega arith, inr (omega arith, inr (omega arith, inr (omega arith, inr (omega arith, inr (omega arith, inr (omega arith, inr (omega arith, inr (omega arith, inr (omega arith, inl refl))))))))))))))))))))))
-each_in_order handle_space = inr (omega arith, inr (omega arith, inr (omega arith, inr (omega arith, inr (omega arith, inr (omega arith, inr (omega arith, inr (omega arith, inr (omega arith, inr (omega arith, inr (omega arith, inr (omega arith, inr (omega arith, inr (omega arith, inr (omega arith, inr (omega arith, inr (omega arith, inr (omega arith, inr (omega arith, inr (omega arith, inr (omega arith, inr (omega arith, inr (omega arith, inl refl)))))))))))))))))))))))
-each_in_order truncated = inr (omega arith, inr (omega arith, inr (omega arith, inr (omega arith, inr (omega arith, inr (omega arith, inr (omega arith, inr (omega arith, inr (omega arith, inr (omega arith, inr (omega arith, inr (omega arith, inr (omega arith, inr (omega arith, inr (omega arith, inr (omega arith, inr (omega arith, inr (omega arith, inr (omega arith, inr (omega arith, inr (omega arith, inr (omega arith, inr (omega arith, inr (omega arith, inl refl))))))))))))))))))))))))
-
-pub found_first : (h : Reason → Bool) (r : Reason) → h r ≡ true → Found h in_order r
-found_first h r e = found_in h in_order r (each_in_order r) e
-
--- Truncated is the last, and BytesExceeded the first
-pub turn_most : (r : Reason) → turn r ≤ turn truncated
-turn_most bytes_exceeded = omega arith
-turn_most bad_header = omega arith
-turn_most bad_tag = omega arith
-turn_most exception_tag = omega arith
-turn_most reset_inside = omega arith
-turn_most bad_text = omega arith
-turn_most negative_length = omega arith
-turn_most bad_type_code = omega arith
-turn_most field_order = omega arith
-turn_most bad_flags = omega arith
-turn_most null_class = omega arith
-turn_most no_such_handle = omega arith
-turn_most wrong_kind = omega arith
-turn_most open_descriptor = omega arith
-turn_most bad_array_name = omega arith
-turn_most wrong_class = omega arith
-turn_most external_raw = omega arith
-turn_most not_serializable = omega arith
-turn_most class_rejected = omega arith
-turn_most class_unmatched = omega arith
-turn_most depth_exceeded = omega arith
-turn_most refs_exceeded = omega arith
-turn_most array_exceeded = omega arith
-turn_most handle_space = omega arith
-turn_most truncated = omega arith
-
-pub turn_least : (r : Reason) → turn bytes_exceeded ≤ turn r
-turn_least bytes_exceeded = omega arith
-turn_least bad_header = omega arith
-turn_least bad_tag = omega arith
-turn_least exception_tag = omega arith
-turn_least reset_inside = omega arith
-turn_least bad_text = omega arith
-turn_least negative_length = omega arith
-turn_least bad_type_code = omega arith
-turn_least field_order = omega arith
-turn_least bad_flags = omega arith
-turn_least null_class = omega arith
-turn_least no_such_handle = omega arith
-turn_least wrong_kind = omega arith
-turn_least open_descriptor = omega arith
-turn_least bad_array_name = omega arith
-turn_least wrong_class = omega arith
-turn_least external_raw = omega arith
-turn_least not_serializable = omega arith
-turn_least class_rejected = omega arith
-turn_least class_unmatched = omega arith
-turn_least depth_exceeded = omega arith
-turn_least refs_exceeded = omega arith
-turn_least array_exceeded = omega arith
-turn_least handle_space = omega arith
-turn_least truncated = omega arith
 
 -- a reason is known by its turn
 pub reason_of_turn : (r : Reason) → reason_with (turn r) ≡ r
@@ -144,3 +34,99 @@ reason_of_turn truncated = refl
 
 pub one_turn : (r r' : Reason) → turn r ≡ turn r' → r ≡ r'
 one_turn r r' e = sym (reason_of_turn r) ∙ ap reason_with e ∙ reason_of_turn r'
+
+-- BytesExceeded has the first turn, and Truncated the last
+is_between : (r : Reason) → (nat_le (turn bytes_exceeded) (turn r) && nat_le (turn r) (turn truncated)) ≡ true
+is_between bytes_exceeded = refl
+is_between bad_header = refl
+is_between bad_tag = refl
+is_between exception_tag = refl
+is_between reset_inside = refl
+is_between bad_text = refl
+is_between negative_length = refl
+is_between bad_type_code = refl
+is_between field_order = refl
+is_between bad_flags = refl
+is_between null_class = refl
+is_between no_such_handle = refl
+is_between wrong_kind = refl
+is_between open_descriptor = refl
+is_between bad_array_name = refl
+is_between wrong_class = refl
+is_between external_raw = refl
+is_between not_serializable = refl
+is_between class_rejected = refl
+is_between class_unmatched = refl
+is_between depth_exceeded = refl
+is_between refs_exceeded = refl
+is_between array_exceeded = refl
+is_between handle_space = refl
+is_between truncated = refl
+
+pub turn_least : (r : Reason) → turn bytes_exceeded ≤ turn r
+turn_least r = leb-true (turn bytes_exceeded) (turn r) (and_left (nat_le (turn bytes_exceeded) (turn r)) (nat_le (turn r) (turn truncated)) (is_between r))
+
+pub turn_most : (r : Reason) → turn r ≤ turn truncated
+turn_most r = leb-true (turn r) (turn truncated) (and_right (nat_le (turn bytes_exceeded) (turn r)) (nat_le (turn r) (turn truncated)) (is_between r))
+
+-- the test holds of the first that is told
+pub first_holds : (h : Reason → Bool) (rs : List Reason) (r : Reason) → first_that h rs ≡ Some r → h r ≡ true
+first_holds h [] r e = absurd (cc)
+first_holds h (x ∷ xs) r e = go (h x) refl e (first_holds h xs r)
+  where
+    go : (b : Bool) → h x ≡ b → (if b then Some x else first_that h xs) ≡ Some r → (first_that h xs ≡ Some r → h r ≡ true) → h r ≡ true
+    go true eb k ih = let q : x ≡ r = cc in rw (← q) eb
+    go false eb k ih = ih k
+
+-- the reason stands in the list, and none that stands before it has a later turn
+abbrev stands : List Reason → Reason → Bool
+stands [] r = false
+stands (x ∷ xs) r = nat_eq (turn x) (turn r) || (nat_le (turn x) (turn r) && stands xs r)
+
+each_stands : (r : Reason) → stands in_order r ≡ true
+each_stands bytes_exceeded = refl
+each_stands bad_header = refl
+each_stands bad_tag = refl
+each_stands exception_tag = refl
+each_stands reset_inside = refl
+each_stands bad_text = refl
+each_stands negative_length = refl
+each_stands bad_type_code = refl
+each_stands field_order = refl
+each_stands bad_flags = refl
+each_stands null_class = refl
+each_stands no_such_handle = refl
+each_stands wrong_kind = refl
+each_stands open_descriptor = refl
+each_stands bad_array_name = refl
+each_stands wrong_class = refl
+each_stands external_raw = refl
+each_stands not_serializable = refl
+each_stands class_rejected = refl
+each_stands class_unmatched = refl
+each_stands depth_exceeded = refl
+each_stands refs_exceeded = refl
+each_stands array_exceeded = refl
+each_stands handle_space = refl
+each_stands truncated = refl
+
+abbrev pub Found : (Reason → Bool) → List Reason → Reason → Type 0
+Found h rs r = (first : Reason) × (first_that h rs ≡ Some first) × (turn first ≤ turn r)
+
+found_in : (h : Reason → Bool) (rs : List Reason) (r : Reason) → stands rs r ≡ true → h r ≡ true → Found h rs r
+found_in h [] r s e = absurd (true≢false (sym s))
+found_in h (x ∷ xs) r s e = go (nat_eq (turn x) (turn r)) refl s (λ k. found_in h xs r k e)
+  where
+    later : (b : Bool) → h x ≡ b → turn x ≤ turn r → Found h xs r → Found h (x ∷ xs) r
+    later true eb le f = (x, rw eb refl, le)
+    later false eb le f = (f.0, rw eb f.1, f.2)
+
+    go : (b : Bool) → nat_eq (turn x) (turn r) ≡ b → (b || (nat_le (turn x) (turn r) && stands xs r)) ≡ true
+        → (stands xs r ≡ true → Found h xs r) → Found h (x ∷ xs) r
+    go true eb s ih = let q : x ≡ r = one_turn x r (eqb-true (turn x) (turn r) eb) in (x, rw (q, e) refl, rw q (omega arith))
+    go false eb s ih =
+        later (h x) refl (leb-true (turn x) (turn r) (and_left (nat_le (turn x) (turn r)) (stands xs r) s))
+        (ih (and_right (nat_le (turn x) (turn r)) (stands xs r) s))
+
+pub found_first : (h : Reason → Bool) (r : Reason) → h r ≡ true → Found h in_order r
+found_first h r e = found_in h in_order r (each_stands r) e
