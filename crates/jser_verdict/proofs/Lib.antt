@@ -20,3 +20,4 @@ pub mod AnswerLaws
 pub mod ForGood
 pub mod WorkedStreams
 pub mod WorkedAnswers
+pub mod WorkedLines

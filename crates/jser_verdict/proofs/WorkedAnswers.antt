@@ -1,12 +1,11 @@
--- Streams worked by computation: what is answered of each, by the verdict that code follows. The names are those of the
--- specification's rows; after them come further lines of its tables. Each reason occurs.
+-- Streams worked by computation: what is answered of each, by the verdict that code follows. Each row has the plain
+-- name by which the tests of the calls know it too. Each reason occurs.
 use Rattle.std.proofs.Common.{◌≡◌, ℕ, zero, suc, Bool, true, false, ◌&&◌, nat_eq, [], ◌∷◌, ◌++◌, take, refl, codes}
 use Rattle.std.specs.Prelude.{replicate}
 use Rattle.jser_reading.specs.FieldsFromBytes.{tag_from, units_in, prims_in}
 use Rattle.jser_verdict.specs.Reasons.{array_exceeded, bad_array_name, bad_flags, bad_header, bad_tag, bad_text, bad_type_code, bytes_exceeded, class_rejected, class_unmatched, depth_exceeded, exception_tag, external_raw, field_order, handle_space, negative_length, no_such_handle, not_serializable, null_class, open_descriptor, refs_exceeded, reset_inside, truncated, wrong_class, wrong_kind}
-use Rattle.jser_verdict.specs.Gates.{lowered}
 use Rattle.jser_verdict.specs.Answers.{Told, accepted, refused_at, answer}
-use Rattle.jser_verdict.proofs.WorkedStreams.{hex, linked_pair, int_array_of, enum_constant, proxy, array_list, external_over_serial, superclass_first, class_a, after_class_a, open_gate, with_bytes, with_depth, with_refs, with_array, with_handles, rejecting, rejecting_but, matching_none}
+use Rattle.jser_verdict.proofs.WorkedStreams.{hex, linked_pair, int_array_of, enum_constant, proxy, array_list, external_over_serial, superclass_first, class_a, open_gate, with_bytes, with_depth, with_refs, with_array, with_handles, rejecting, rejecting_but, matching_none}
 
 -- rows of streams
 
@@ -283,127 +282,6 @@ handle_space_tie = refl
 gate_rejects_b : answer (rejecting (codes "B")) external_over_serial ≡ refused_at 22 25 class_rejected
 unfolding tag_from units_in prims_in
 gate_rejects_b = refl
-
--- the other lines of the tables: a class that was read before, as the class of an object, an array, an enum constant
-
-raw_at_handle : answer open_gate (after_class_a (0x04 ∷ []) (hex (codes "73 71007E0000"))) ≡ refused_at 23 27 external_raw
-unfolding tag_from units_in prims_in
-raw_at_handle = refl
-
-unserial_at_handle : answer open_gate (after_class_a (0x00 ∷ []) (hex (codes "73 71007E0000"))) ≡ refused_at 23 27 not_serializable
-unfolding tag_from units_in prims_in
-unserial_at_handle = refl
-
-no_array_at_handle : answer open_gate (after_class_a (0x02 ∷ []) (hex (codes "75 71007E0000"))) ≡ refused_at 23 27 wrong_class
-unfolding tag_from units_in prims_in
-no_array_at_handle = refl
-
-no_enum_at_handle : answer open_gate (after_class_a (0x02 ∷ []) (hex (codes "7E 71007E0000"))) ≡ refused_at 23 27 wrong_class
-unfolding tag_from units_in prims_in
-no_enum_at_handle = refl
-
--- a new class of an object, an enum constant
-
-array_at_object : answer open_gate (hex (codes "ACED0005 73 72 0002 5B49")) ≡ refused_at 6 10 wrong_class
-unfolding tag_from units_in prims_in
-array_at_object = refl
-
-no_enum_flags : answer open_gate (hex (codes "ACED0005 7E 72 0001 41 0000000000000001 02")) ≡ refused_at 17 18 wrong_class
-unfolding tag_from units_in prims_in
-no_enum_flags = refl
-
-proxy_at_enum : answer open_gate (hex (codes "ACED0005 7E 7D")) ≡ refused_at 5 6 wrong_class
-unfolding tag_from units_in prims_in
-proxy_at_enum = refl
-
--- tags that are no tags of their place, and null in class places
-
-null_at_text : answer open_gate (hex (codes "ACED0005 7E 72 0001 45 0000000000000000 12 0000 78 70 70")) ≡ refused_at 22 23 bad_tag
-unfolding tag_from units_in prims_in
-null_at_text = refl
-
-string_at_class : answer open_gate (hex (codes "ACED0005 73 74")) ≡ refused_at 5 6 bad_tag
-unfolding tag_from units_in prims_in
-string_at_class = refl
-
-reset_at_class : answer open_gate (hex (codes "ACED0005 73 79")) ≡ refused_at 5 6 bad_tag
-unfolding tag_from units_in prims_in
-reset_at_class = refl
-
-exception_at_superclass : answer open_gate (class_a (hex (codes "02 0000 78 7B"))) ≡ refused_at 20 21 bad_tag
-unfolding tag_from units_in prims_in
-exception_at_superclass = refl
-
-block_at_value : answer open_gate (hex (codes "ACED0005 75 72 0004 5B4C413B 0000000000000001 02 0000 78 70 00000001 77")) ≡ refused_at 29 30 bad_tag
-unfolding tag_from units_in prims_in
-block_at_value = refl
-
-exception_at_value : answer open_gate (hex (codes "ACED0005 75 72 0004 5B4C413B 0000000000000001 02 0000 78 70 00000001 7B")) ≡ refused_at 29 30 exception_tag
-unfolding tag_from units_in prims_in
-exception_at_value = refl
-
-null_at_enum : answer open_gate (hex (codes "ACED0005 7E 70")) ≡ refused_at 5 6 null_class
-unfolding tag_from units_in prims_in
-null_at_enum = refl
-
--- a reference in a text place
-
-no_string_at_type : answer open_gate (class_a (hex (codes "02 0001 4C 0001 61 71007E0000"))) ≡ refused_at 24 28 wrong_kind
-unfolding tag_from units_in prims_in
-no_string_at_type = refl
-
--- counts, lengths, names of interfaces
-
-interface_count_bit : answer open_gate (hex (codes "ACED0005 7D FFFFFFFF")) ≡ refused_at 5 9 negative_length
-unfolding tag_from units_in prims_in
-interface_count_bit = refl
-
-array_length_bit : answer open_gate (int_array_of (hex (codes "FFFFFFFF"))) ≡ refused_at 23 27 negative_length
-unfolding tag_from units_in prims_in
-array_length_bit = refl
-
-malformed_interface : answer open_gate (hex (codes "ACED0005 7D 00000001 0002 5B56")) ≡ refused_at 9 13 bad_array_name
-unfolding tag_from units_in prims_in
-malformed_interface = refl
-
--- a byte that cannot stand in a text is told at once
-
-cut_unit : answer open_gate (hex (codes "ACED0005 74 0001 C3")) ≡ refused_at 5 8 bad_text
-unfolding tag_from units_in prims_in
-cut_unit = refl
-
-early_text : answer open_gate (hex (codes "ACED0005 74 0003 C300")) ≡ refused_at 5 9 bad_text
-unfolding tag_from units_in prims_in
-early_text = refl
-
--- a limit of bytes below the header
-
-header_or_limit : answer (with_bytes 0) (hex (codes "00")) ≡ refused_at 0 1 bytes_exceeded
-unfolding tag_from units_in prims_in
-header_or_limit = refl
-
--- the other fields at which a handle is assigned
-
-long_string_handle : answer (with_handles 0 65535) (hex (codes "ACED0005 7C")) ≡ refused_at 4 5 handle_space
-unfolding tag_from units_in prims_in
-long_string_handle = refl
-
-proxy_handle : answer (with_handles 0 65535) (hex (codes "ACED0005 7D")) ≡ refused_at 4 5 handle_space
-unfolding tag_from units_in prims_in
-proxy_handle = refl
-
-class_object_handle : answer (with_handles 1 65535) (after_class_a (0x02 ∷ []) (hex (codes "76 71007E0000"))) ≡ refused_at 23 27 handle_space
-unfolding tag_from units_in prims_in
-class_object_handle = refl
-
--- three arrays, one inside the other, where the depth of trees is 3: the caps of trees lower a gate's limits
-
-nested_too_deep :
-    answer (lowered 2147483647 3 open_gate)
-    (hex (codes "ACED0005 75 72 0004 5B4C413B 0000000000000001 02 0000 78 70 00000001 75 71007E0000 00000001 75 71007E0000 00000001 70"))
-    ≡ refused_at 49 50 depth_exceeded
-unfolding tag_from units_in prims_in
-nested_too_deep = refl
 
 -- linked-pair, cut: at 4 and 64 it is a stream; else Truncated, with the cut as its end
 
