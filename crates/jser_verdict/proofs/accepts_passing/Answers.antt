@@ -1,5 +1,0 @@
-use Rattle.jser_verdict.proofs.AnswerLaws as laws
-use Rattle.jser_verdict.proofs.accepts_passing.Goals as goal
-
-pub returns : goal.returns
-returns c = laws.accepts_passing

@@ -1,5 +1,0 @@
-use Rattle.jser_verdict.proofs.AnswerLaws as laws
-use Rattle.jser_verdict.proofs.refuses_first_fault.Goals as goal
-
-pub returns : goal.returns
-returns c = laws.refuses_first_fault

@@ -1,5 +1,0 @@
-use Rattle.jser_verdict.proofs.WalkFaults as laws
-use Rattle.jser_verdict.proofs.refuses_promptly.Goals as goal
-
-pub returns : goal.returns
-returns c = laws.refuses_promptly

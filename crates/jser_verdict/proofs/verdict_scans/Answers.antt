@@ -1,5 +1,0 @@
-use Rattle.jser_verdict.proofs.Scans as laws
-use Rattle.jser_verdict.proofs.verdict_scans.Goals as goal
-
-pub returns : goal.returns
-returns c = laws.verdict_scans
