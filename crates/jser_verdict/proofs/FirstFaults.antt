@@ -11,7 +11,7 @@ use Rattle.jser_verdict.specs.Gates.{Gate}
 use Rattle.jser_verdict.specs.Scanning.{scanning_verdict}
 use Rattle.jser_verdict.specs.FirstFault.{IsFault, IsFirstFault, RowHolds}
 use Rattle.jser_verdict.specs.FaultLaws.{IsCapped}
-use Rattle.jser_verdict.proofs.Turns.{turn_most, turn_least}
+use Rattle.jser_verdict.proofs.Turns.{by_turns, turn_most, turn_least}
 use Rattle.jser_verdict.proofs.Scans.{gate, verdict_scans}
 use Rattle.jser_verdict.proofs.RefusedRows.{has_row_told, row_no_earlier}
 use Rattle.jser_verdict.proofs.OpenFields.{open_end, quiet_no_field, no_row}
@@ -49,7 +49,7 @@ module _ (g : Gate) where
         ls,
         (
           (x.1, wrong, rest ++ behind, record { front = x.0; next = x.3; split = sp; begins = refl; no_field = x.5 }, refl, inl x.7),
-          λ at' end' r' f. first at x.2 x.6 ls at' end' r' f,
+          λ at' end' r' f. by_turns (at + length wrong) end' x.2 r' (first at x.2 x.6 ls at' end' r' f),
         ),
       )
     where
@@ -107,7 +107,7 @@ module _ (g : Gate) where
             lb,
             inr (inr (refl, (refl, quiet_no_field g x.label cut x.quiet, λ list st. nd (cut_short_law (gate g) v (verdict_scans g) bytes cut s e list st)))),
           ),
-          λ at' end' r' f. first at' end' r' f,
+          λ at' end' r' f. by_turns (length bytes) end' truncated r' (first at' end' r' f),
         ),
       )
     where
@@ -148,7 +148,7 @@ module _ (g : Gate) where
             omega (arith, lb, length-append cut (b ∷ [])),
             inr (inl (refl, (omega (arith, cap), omega (arith, lb)))),
           ),
-          λ at' end' r' f. first at' end' r' f,
+          λ at' end' r' f. by_turns (suc (length seen)) end' bytes_exceeded r' (first at' end' r' f),
         ),
       )
     where

@@ -13,7 +13,7 @@ use Rattle.jser_verdict.specs.Rows.{row}
 use Rattle.jser_verdict.specs.Scanning.{scanning_verdict}
 use Rattle.jser_verdict.specs.FirstFault.{OpenAt, RowHolds, IsFault}
 use Rattle.jser_verdict.specs.AnswerLaws.{OneFirstFault}
-use Rattle.jser_verdict.proofs.Turns.{one_turn}
+use Rattle.jser_verdict.proofs.Turns.{one_turn, to_turns}
 use Rattle.jser_verdict.proofs.Scans.{verdict_scans}
 use Rattle.jser_verdict.proofs.ToldRows.{row_bad}
 use Rattle.jser_verdict.proofs.ByteLists.{split_at}
@@ -139,7 +139,7 @@ module _ (g : Gate) (bytes : List ℕ) (r : Reason) where
       shorter (p ∷ c) e = absurd (no_longer_front at' at end l' l some' some rest' rest o' o ee' ee h' h p c e)
 
 pub one_first_fault : OneFirstFault
-one_first_fault g bytes at end at' end' r r' x y = go (x.1 at' end' r' y.0) (y.1 at end r x.0)
+one_first_fault g bytes at end at' end' r r' x y = go (to_turns end end' r r' (x.1 at' end' r' y.0)) (to_turns end' end r' r (y.1 at end r x.0))
   where
     same : end ≡ end' → turn r ≤ turn r' → turn r' ≤ turn r → (at ≡ at') × (end ≡ end') × (r ≡ r')
     same ee a b =

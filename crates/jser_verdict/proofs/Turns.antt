@@ -1,8 +1,9 @@
 -- The order of ties: a reason is known by its turn, and the first reason of which a test holds has the earliest turn.
-use Rattle.std.proofs.Common.{◌≡◌, ◌≤◌, Bool, true, false, ◌&&◌, ◌||◌, nat_eq, nat_le, if◌then◌else◌, List, [], ◌∷◌, refl, sym, ◌∙◌, ap, arith, Some, leb-true, true≢false}
+use Rattle.std.proofs.Common.{◌≡◌, ℕ, ◌<◌, ◌≤◌, Bool, true, false, ◌&&◌, ◌||◌, nat_eq, nat_le, if◌then◌else◌, List, [], ◌∷◌, refl, sym, ◌∙◌, ap, arith, Some, leb-true, true≢false, ◌⊎◌, inl, inr}
 use Rattle.std.proofs.lemmas.Bool.{eqb-true}
 use Rattle.jser_grammar.proofs.Bools.{and_left, and_right}
-use Rattle.jser_verdict.specs.Reasons.{Reason, bytes_exceeded, bad_header, bad_tag, exception_tag, reset_inside, bad_text, negative_length, bad_type_code, field_order, bad_flags, null_class, no_such_handle, wrong_kind, open_descriptor, bad_array_name, wrong_class, external_raw, not_serializable, class_rejected, class_unmatched, depth_exceeded, refs_exceeded, array_exceeded, handle_space, truncated, in_order, first_that, turn, reason_with}
+use Rattle.jser_verdict.specs.Reasons.{Reason, bytes_exceeded, bad_header, bad_tag, exception_tag, reset_inside, bad_text, negative_length, bad_type_code, field_order, bad_flags, null_class, no_such_handle, wrong_kind, open_descriptor, bad_array_name, wrong_class, external_raw, not_serializable, class_rejected, class_unmatched, depth_exceeded, refs_exceeded, array_exceeded, handle_space, truncated, number, ComesNoLater, in_order, first_that, turn, reason_with}
+use Rattle.jser_verdict.specs.FieldLaws.{TurnsAreInOrder}
 
 -- a reason is known by its turn
 pub reason_of_turn : (r : Reason) → reason_with (turn r) ≡ r
@@ -68,6 +69,83 @@ turn_least r = leb-true (turn bytes_exceeded) (turn r) (and_left (nat_le (turn b
 
 pub turn_most : (r : Reason) → turn r ≤ turn truncated
 turn_most r = leb-true (turn r) (turn truncated) (and_right (nat_le (turn bytes_exceeded) (turn r)) (nat_le (turn r) (turn truncated)) (is_between r))
+
+-- the turn of each reason is its number, save for two
+Placed : Reason → Type 0
+Placed r = ((number r ≡ turn r) × (turn r ≤ 23)) ⊎ ((r ≡ handle_space) ⊎ (r ≡ truncated))
+
+placed : (r : Reason) → Placed r
+unfolding Placed
+placed bytes_exceeded = inl (refl, omega arith)
+placed bad_header = inl (refl, omega arith)
+placed bad_tag = inl (refl, omega arith)
+placed exception_tag = inl (refl, omega arith)
+placed reset_inside = inl (refl, omega arith)
+placed bad_text = inl (refl, omega arith)
+placed negative_length = inl (refl, omega arith)
+placed bad_type_code = inl (refl, omega arith)
+placed field_order = inl (refl, omega arith)
+placed bad_flags = inl (refl, omega arith)
+placed null_class = inl (refl, omega arith)
+placed no_such_handle = inl (refl, omega arith)
+placed wrong_kind = inl (refl, omega arith)
+placed open_descriptor = inl (refl, omega arith)
+placed bad_array_name = inl (refl, omega arith)
+placed wrong_class = inl (refl, omega arith)
+placed external_raw = inl (refl, omega arith)
+placed not_serializable = inl (refl, omega arith)
+placed class_rejected = inl (refl, omega arith)
+placed class_unmatched = inl (refl, omega arith)
+placed depth_exceeded = inl (refl, omega arith)
+placed refs_exceeded = inl (refl, omega arith)
+placed array_exceeded = inl (refl, omega arith)
+placed handle_space = inr (inl refl)
+placed truncated = inr (inr refl)
+
+not_truncated : (r : Reason) → turn r ≤ 24 → r ≡ truncated → ⊥
+not_truncated r h e = let t : turn r ≡ 25 = ap turn e in omega (arith, h)
+
+in_turn_order : (r o : Reason) → Placed r → Placed o → turn r ≤ turn o → ComesNoLater r o
+unfolding Placed
+in_turn_order r o p (inr (inr eo)) h = inl eo
+in_turn_order r o (inl (er, lr)) (inl (eo, lo)) h = inr (not_truncated r (omega (arith, lr)), omega (arith, er, eo, h))
+in_turn_order r o (inl (er, lr)) (inr (inl eo)) h =
+    let n : number o ≡ 25 = ap number eo in inr (not_truncated r (omega (arith, lr)), omega (arith, er, lr, n))
+in_turn_order r o (inr (inl er)) (inl (eo, lo)) h = let t : turn r ≡ 24 = ap turn er in absurd (omega (arith, h, lo, t))
+in_turn_order r o (inr (inl er)) (inr (inl eo)) h =
+    let t : turn r ≡ 24 = ap turn er in
+    let n : number r ≡ 25 = ap number er in
+    let m : number o ≡ 25 = ap number eo in
+    inr (not_truncated r (omega (arith, t)), omega (arith, n, m))
+in_turn_order r o (inr (inr er)) (inl (eo, lo)) h = let t : turn r ≡ 25 = ap turn er in absurd (omega (arith, h, lo, t))
+in_turn_order r o (inr (inr er)) (inr (inl eo)) h =
+    let t : turn r ≡ 25 = ap turn er in let u : turn o ≡ 24 = ap turn eo in absurd (omega (arith, h, t, u))
+
+turn_of_order : (r o : Reason) → Placed r → Placed o → ComesNoLater r o → turn r ≤ turn o
+unfolding Placed
+turn_of_order r o p q (inl eo) = let t : turn o ≡ 25 = ap turn eo in let k = turn_most r in omega (arith, t, k)
+turn_of_order r o (inr (inr er)) q (inr (nt, h)) = absurd (nt er)
+turn_of_order r o p (inr (inr eo)) (inr (nt, h)) = let t : turn o ≡ 25 = ap turn eo in let k = turn_most r in omega (arith, t, k)
+turn_of_order r o (inl (er, lr)) (inl (eo, lo)) (inr (nt, h)) = omega (arith, er, eo, h)
+turn_of_order r o (inl (er, lr)) (inr (inl eo)) (inr (nt, h)) = let t : turn o ≡ 24 = ap turn eo in omega (arith, lr, t)
+turn_of_order r o (inr (inl er)) (inl (eo, lo)) (inr (nt, h)) =
+    let n : number r ≡ 25 = ap number er in absurd (omega (arith, n, eo, lo, h))
+turn_of_order r o (inr (inl er)) (inr (inl eo)) (inr (nt, h)) =
+    let t : turn r ≡ 24 = ap turn er in let u : turn o ≡ 24 = ap turn eo in omega (arith, t, u)
+
+pub turns_are_in_order : TurnsAreInOrder
+turns_are_in_order r o = (in_turn_order r o (placed r) (placed o), turn_of_order r o (placed r) (placed o))
+
+-- no earlier end, or no later in the order of ties at the same end
+pub by_turns : (end end' : ℕ) (r o : Reason) → (end < end') ⊎ ((end ≡ end') × (turn r ≤ turn o))
+    → (end < end') ⊎ ((end ≡ end') × ComesNoLater r o)
+by_turns end end' r o (inl h) = inl h
+by_turns end end' r o (inr (e, h)) = inr (e, (turns_are_in_order r o).0 h)
+
+pub to_turns : (end end' : ℕ) (r o : Reason) → (end < end') ⊎ ((end ≡ end') × ComesNoLater r o)
+    → (end < end') ⊎ ((end ≡ end') × (turn r ≤ turn o))
+to_turns end end' r o (inl h) = inl h
+to_turns end end' r o (inr (e, h)) = inr (e, (turns_are_in_order r o).1 h)
 
 -- the test holds of the first that is told
 pub first_holds : (h : Reason → Bool) (rs : List Reason) (r : Reason) → first_that h rs ≡ Some r → h r ≡ true

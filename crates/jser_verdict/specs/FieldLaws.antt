@@ -1,5 +1,5 @@
 -- What holds of the verdict on one field: it tells the rows, in the order of ties, and goes with the gate of its limits.
-use Rattle.std.specs.Prelude.{ℕ, zero, IsTrue, ◌≤◌, ◌≡◌, Bool, true, false, List, [], ◌∷◌, ◌++◌, length}
+use Rattle.std.specs.Prelude.{ℕ, zero, IsTrue, ◌≤◌, ◌≡◌, ◌↔◌, Bool, true, false, List, [], ◌∷◌, ◌++◌, length}
 use Rattle.jser_prim.specs.Texts.{BeginsText}
 use Rattle.jser_grammar.specs.Parts.{IsBytes}
 use Rattle.jser_reading.specs.Labels.{Label, Position, nowhere, raw_at, bytes_at}
@@ -7,7 +7,7 @@ use Rattle.jser_reading.specs.FieldsFromBytes.{size_in}
 use Rattle.jser_reading.specs.GateLimits.{gate_of}
 use Rattle.jser_reading.specs.Machine.{begin_state}
 use Rattle.jser_reading.specs.Scanner.{more, bad, IsScanner, walk}
-use Rattle.jser_verdict.specs.Reasons.{Reason, turn}
+use Rattle.jser_verdict.specs.Reasons.{Reason, ComesNoLater, turn}
 use Rattle.jser_verdict.specs.Gates.{Gate, limits_of}
 use Rattle.jser_verdict.specs.TextsSoFar.{has_head, text_length, text_bytes, has_wrong_byte}
 use Rattle.jser_verdict.specs.Rows.{row}
@@ -20,6 +20,10 @@ IsRead nowhere = ⊥
 IsRead (raw_at code zero) = ⊥
 IsRead (bytes_at zero) = ⊥
 IsRead _ = Unit {0}
+
+-- The turns, which the walk passes on, are the order of ties.
+abbrev pub TurnsAreInOrder : Type 0
+TurnsAreInOrder = (reason other : Reason) → (turn reason ≤ turn other) ↔ ComesNoLater reason other
 
 -- Where a row holds, a reason is told that comes no later: so where more is wanted, or a field is found, none holds.
 abbrev pub TellsEachRow : Type 0

@@ -8,7 +8,7 @@ use Rattle.jser_reading.specs.FieldBytes.{bytes_of, joined}
 use Rattle.jser_reading.specs.Accepts.{Accepts}
 use Rattle.jser_reading.specs.ComesNext.{ComesNext}
 use Rattle.jser_reading.specs.Scanner.{HasNoField}
-use Rattle.jser_verdict.specs.Reasons.{Reason, bytes_exceeded, truncated, turn}
+use Rattle.jser_verdict.specs.Reasons.{Reason, bytes_exceeded, truncated, ComesNoLater}
 use Rattle.jser_verdict.specs.Gates.{Gate}
 use Rattle.jser_verdict.specs.Rows.{row}
 
@@ -42,9 +42,9 @@ IsFault gate bytes at end reason =
     (label : Label) × (some : List ℕ) × (rest : List ℕ) × OpenAt bytes at label some rest × (end ≡ at + length some)
     × RowHolds gate bytes at end label some rest reason
 
--- no fault has a lesser end, and none at the same end an earlier turn
+-- no fault has a lesser end, and none at the same end comes earlier in the order of ties
 abbrev pub IsFirstFault : Gate → List ℕ → (at end : ℕ) → Reason → Type 0
 IsFirstFault gate bytes at end reason =
     IsFault gate bytes at end reason
     × ((at' end' : ℕ) (reason' : Reason) → IsFault gate bytes at' end' reason'
-    → (end < end') ⊎ ((end ≡ end') × (turn reason ≤ turn reason')))
+    → (end < end') ⊎ ((end ≡ end') × ComesNoLater reason reason'))

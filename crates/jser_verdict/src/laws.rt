@@ -1,9 +1,14 @@
 //! Laws of the definitions alone: no call of the product stands behind them. Each is the clause of an empty function, so
 //! that the check insists on its proof; the statements are in `specs/`, as `FieldLaws`, `FaultLaws` and `AnswerLaws`.
 
-ghost use Rattle.jser_verdict.specs.FieldLaws.{TellsEachRow, TellsTheFirstRow, BadTextIsExact, VerdictScans, SameVerdict, SameWalk};
+ghost use Rattle.jser_verdict.specs.FieldLaws.{TurnsAreInOrder, TellsEachRow, TellsTheFirstRow, BadTextIsExact, VerdictScans, SameVerdict, SameWalk};
 ghost use Rattle.jser_verdict.specs.FaultLaws.{RefusesTheFirst, CutIsTheFirst, OverIsTheFirst, RefusesPromptly, DecidesAlone};
 ghost use Rattle.jser_verdict.specs.AnswerLaws.{AcceptsPassing, AcceptsNoFault, RefusesFirstFault, OneFirstFault, RefusedForGood, LoweredIsGate, LoweredPasses};
+
+/// The turns of the reasons are the order of ties: the lowest number first, Truncated after all others.
+pub fn turns_are_in_order()
+    ensures { TurnsAreInOrder }
+{}
 
 /// Where the row of a reason holds, the verdict tells a reason, and one that comes no later.
 pub fn tells_each_row()
