@@ -147,6 +147,50 @@ long_string_text : answer open_gate (hex (codes "ACED0005 7C 0000000000000001 00
 unfolding tag_from units_in prims_in
 long_string_text = refl
 
+-- modified UTF-8: which bytes may stand where
+
+bare_null : answer open_gate (hex (codes "ACED0005 74 0001 00")) ≡ refused_at 5 8 bad_text
+unfolding tag_from units_in prims_in
+bare_null = refl
+
+tail_first : answer open_gate (hex (codes "ACED0005 74 0001 80")) ≡ refused_at 5 8 bad_text
+unfolding tag_from units_in prims_in
+tail_first = refl
+
+four_bytes : answer open_gate (hex (codes "ACED0005 74 0004 F0")) ≡ refused_at 5 8 bad_text
+unfolding tag_from units_in prims_in
+four_bytes = refl
+
+null_in_two : answer open_gate (hex (codes "ACED0005 74 0002 C080")) ≡ accepted
+unfolding tag_from units_in prims_in
+null_in_two = refl
+
+other_after_c0 : answer open_gate (hex (codes "ACED0005 74 0002 C081")) ≡ refused_at 5 9 bad_text
+unfolding tag_from units_in prims_in
+other_after_c0 = refl
+
+short_in_three : answer open_gate (hex (codes "ACED0005 74 0003 E080")) ≡ refused_at 5 9 bad_text
+unfolding tag_from units_in prims_in
+short_in_three = refl
+
+least_in_three : answer open_gate (hex (codes "ACED0005 74 0003 E0A080")) ≡ accepted
+unfolding tag_from units_in prims_in
+least_in_three = refl
+
+three_without_room : answer open_gate (hex (codes "ACED0005 74 0002 E0")) ≡ refused_at 5 8 bad_text
+unfolding tag_from units_in prims_in
+three_without_room = refl
+
+-- which class a handle names
+
+second_class : answer open_gate (after_class_a (0x00 ∷ []) (hex (codes "72 0001 42 0000000000000001 02 0000 78 70 73 71007E0001"))) ≡ accepted
+unfolding tag_from units_in prims_in
+second_class = refl
+
+first_class : answer open_gate (after_class_a (0x00 ∷ []) (hex (codes "72 0001 42 0000000000000001 02 0000 78 70 73 71007E0000"))) ≡ refused_at 40 44 not_serializable
+unfolding tag_from units_in prims_in
+first_class = refl
+
 -- flags with a bit of E0
 
 unknown_flags : answer open_gate (class_a (hex (codes "22"))) ≡ refused_at 16 17 bad_flags
