@@ -9,11 +9,7 @@ use Rattle.jser_prim.specs.ModifiedUtf8.{unit_spelling}
 use Rattle.jser_grammar.specs.Spelling.{prim_spelling, prims_spelling}
 use Rattle.jser_reading.specs.FieldBytes.{tag_byte, bytes_of}
 use Rattle.jser_grammar.proofs.Bools.{and_left, and_right}
-
--- the number with these bytes, the highest first
-abbrev pub number_of : List ℕ → ℕ
-number_of [] = 0
-number_of (b ∷ bs) = b * 256 ^ length bs + number_of bs
+use Rattle.jser_reading.specs.FieldsFromBytes.{number_of, first, after_first, units_in, tag_from, prims_in}
 
 pub number_1 : (n : ℕ) → n < 2 ^ 8 → number_of (big_bytes 1 n) ≡ n
 number_1 n h = omega arith
@@ -30,23 +26,6 @@ number_8 n h = omega arith
 pub length-big_bytes : (k n : ℕ) → length (big_bytes k n) ≡ k
 length-big_bytes zero n = refl
 length-big_bytes (suc k) n = ap (λ j. suc j) (length-big_bytes k n)
-
-abbrev pub first : List ℕ → ℕ
-first [] = 0
-first (b ∷ bs) = b
-
-abbrev behind : List ℕ → List ℕ
-behind [] = []
-behind (b ∷ bs) = bs
-
--- the units in modified UTF-8, so many at most
-pub units_in : ℕ → List ℕ → List ℕ
-units_in zero p = []
-units_in (suc k) [] = []
-units_in (suc k) (b ∷ bs) =
-    cond (nat_lt b 128) (b ∷ units_in k bs)
-    (cond (nat_lt b 224) (((b - 192) * 64 + (first bs - 128)) ∷ units_in k (behind bs))
-    (((b - 224) * 4096 + (first bs - 128) * 64 + (first (behind bs) - 128)) ∷ units_in k (behind (behind bs))))
 
 pub not_lt : (a b : ℕ) → b ≤ a → nat_lt a b ≡ false
 not_lt a b h = search rules
@@ -102,18 +81,6 @@ units_back (u ∷ us) (suc k) h l =
 
 -- tags
 
-pub tag_from : ℕ → Option StreamField
-tag_from b =
-    cond (nat_eq b 0x70) (Some (tag_field null_tag))
-    (cond (nat_eq b 0x71) (Some (tag_field reference_tag)) (cond (nat_eq b 0x72) (Some (tag_field class_desc_tag))
-    (cond (nat_eq b 0x73) (Some (tag_field object_tag))
-    (cond (nat_eq b 0x74) (Some (tag_field string_tag)) (cond (nat_eq b 0x75) (Some (tag_field array_tag))
-    (cond (nat_eq b 0x76) (Some (tag_field class_tag))
-    (cond (nat_eq b 0x77) (Some (block_tag_field false)) (cond (nat_eq b 0x78) (Some end_tag_field)
-    (cond (nat_eq b 0x79) (Some reset_tag_field)
-    (cond (nat_eq b 0x7A) (Some (block_tag_field true)) (cond (nat_eq b 0x7C) (Some (tag_field long_string_tag))
-    (cond (nat_eq b 0x7D) (Some (tag_field proxy_desc_tag)) (cond (nat_eq b 0x7E) (Some (tag_field enum_tag)) None)))))))))))))
-
 pub tag_back : (tag : Tag) → tag_from (tag_byte tag) ≡ Some (tag_field tag)
 unfolding tag_from
 tag_back null_tag = refl
@@ -141,10 +108,6 @@ unfolding tag_from
 reset_tag_back = refl
 
 -- raw values of one type
-
-pub prims_in : PrimCode → ℕ → List ℕ → List PrimTree
-prims_in c zero p = []
-prims_in c (suc n) p = record { code = c; bits = number_of (take (size_of c) p) } ∷ prims_in c n (drop (size_of c) p)
 
 number_prim : (c : PrimCode) (n : ℕ) → n < 256 ^ size_of c → number_of (big_bytes (size_of c) n) ≡ n
 number_prim byte_code n h = number_1 n h

@@ -48,13 +48,13 @@ module _ (gate : FieldGate) (verdict : VerdictOn) (sc : IsScanner gate verdict) 
       (x.0, l, (next_law x.0 l).1 (x.1, refl), x.3, undecided_no_field gate verdict sc l wrong x.5, x.4)
 
   -- the first field that the gate stops
-  abbrev Stopped : State → List Piece → Type 0
+  abbrev pub Stopped : State → List Piece → Type 0
   Stopped s front =
       (a b : List Piece) × (f : StreamField) × (front ≡ a ++ (piece (label_of (settled (left s a))) f ∷ b)) × Runs s a
       × AllPass gate a
       × Accepts (label_of (settled (left s a))) f × IsFalse (gate (label_of (settled (left s a))) f)
 
-  all_or_stopped : (front : List Piece) (s : State) → Runs s front → AllPass gate front ⊎ Stopped s front
+  pub all_or_stopped : (front : List Piece) (s : State) → Runs s front → AllPass gate front ⊎ Stopped s front
   all_or_stopped [] s h = inl tt
   all_or_stopped (piece l f ∷ ps) s h = go (gate l f) refl (all_or_stopped ps (advance (settled s) f) h.2)
     where

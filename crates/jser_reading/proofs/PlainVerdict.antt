@@ -9,85 +9,16 @@ use Rattle.jser_reading.specs.FieldBytes.{bytes_of}
 use Rattle.jser_reading.specs.Scanner.{Verdict, more, good, bad, FieldGate, IsUndecided, IsScanner}
 use Rattle.jser_reading.specs.WalkLaws.{EachGateHasAVerdict}
 use Rattle.jser_reading.proofs.Deciding.{decide_at, decide_bytes}
-use Rattle.jser_reading.proofs.Decoding.{number_of, number_1, number_2, number_4, number_8, length-big_bytes, first, units_in, not_lt, units_back, tag_from, tag_back, block_tag_back, end_tag_back, reset_tag_back, prims_in, prims_back, length-prims_spelling}
+use Rattle.jser_reading.proofs.Decoding.{number_1, number_2, number_4, number_8, length-big_bytes, not_lt, units_back, tag_back, block_tag_back, end_tag_back, reset_tag_back, prims_back, length-prims_spelling}
+use Rattle.jser_reading.specs.FieldsFromBytes.{number_of, first, units_in, tag_from, prims_in, head_size, text_in, field_in, text_size, size_in}
 
-abbrev pub head_size : Bool → ℕ
-head_size true = 8
-head_size false = 2
-
-abbrev pub text_in : Bool → List ℕ → Option StreamField
-text_in long p = Some (text_field long (units_in (length p) (drop (head_size long) p)))
-
--- the field in these bytes
-abbrev pub field_in : Position → List ℕ → Option StreamField
-field_in nowhere p = None
-field_in header_at p = Some header_field
-field_in top_at p = tag_from (first p)
-field_in annotation_at p = tag_from (first p)
-field_in value_at p = tag_from (first p)
-field_in text_place_at p = tag_from (first p)
-field_in (class_place_at owner) p = tag_from (first p)
-field_in (superclass_place_at owner strict) p = tag_from (first p)
-field_in back_handle_at p = Some (handle_field (number_of p - 0x7E0000))
-field_in text_handle_at p = Some (handle_field (number_of p - 0x7E0000))
-field_in (class_handle_at owner) p = Some (handle_field (number_of p - 0x7E0000))
-field_in (superclass_handle_at owner strict) p = Some (handle_field (number_of p - 0x7E0000))
-field_in (string_at long) p = text_in long p
-field_in (class_name_at role) p = text_in false p
-field_in field_name_at p = text_in false p
-field_in interface_name_at p = text_in false p
-field_in suid_at p = Some (suid_field (number_of p))
-field_in field_count_at p = Some (field_count_field (number_of p))
-field_in interface_count_at p = Some (interface_count_field (number_of p))
-field_in array_length_at p = Some (array_length_field (number_of p))
-field_in (flags_at role) p = Some (flags_field (first p))
-field_in (type_code_at seen) p = Some (code_field (first p))
-field_in (block_length_at long) p = Some (block_length_field long (number_of p))
-field_in (raw_at c n) p = Some (prims_field (prims_in c n p))
-field_in (bytes_at n) p = Some (bytes_field p)
-
-abbrev pub text_size : Bool → List ℕ → ℕ
-text_size long p =
-    cond (nat_lt (length p) (head_size long)) (head_size long) (head_size long + number_of (take (head_size long) p))
-
--- how many bytes the field needs, as far as these tell
-abbrev pub size_in : Position → List ℕ → ℕ
-size_in nowhere p = 1
-size_in header_at p = 4
-size_in top_at p = 1
-size_in annotation_at p = 1
-size_in value_at p = 1
-size_in text_place_at p = 1
-size_in (class_place_at owner) p = 1
-size_in (superclass_place_at owner strict) p = 1
-size_in back_handle_at p = 4
-size_in text_handle_at p = 4
-size_in (class_handle_at owner) p = 4
-size_in (superclass_handle_at owner strict) p = 4
-size_in (string_at long) p = text_size long p
-size_in (class_name_at role) p = text_size false p
-size_in field_name_at p = text_size false p
-size_in interface_name_at p = text_size false p
-size_in suid_at p = 8
-size_in field_count_at p = 2
-size_in interface_count_at p = 4
-size_in array_length_at p = 4
-size_in (flags_at role) p = 1
-size_in (type_code_at seen) p = 1
-size_in (block_length_at true) p = 4
-size_in (block_length_at false) p = 1
-size_in (raw_at c zero) p = 1
-size_in (raw_at c (suc n)) p = suc n * size_of c
-size_in (bytes_at zero) p = 1
-size_in (bytes_at (suc n)) p = suc n
-
-abbrev judge : {A B : Type 0} → StreamField → Dec A → Bool → Dec B → Verdict
+abbrev pub judge : {A B : Type 0} → StreamField → Dec A → Bool → Dec B → Verdict
 judge f (yes a) true (yes e) = good f
 judge f (yes a) true (no h) = bad 0
 judge f (yes a) false e = bad 0
 judge f (no h) g e = bad 0
 
-abbrev judged : FieldGate → Label → Option StreamField → List ℕ → Verdict
+abbrev pub judged : FieldGate → Label → Option StreamField → List ℕ → Verdict
 judged gate l None p = bad 0
 judged gate l (Some f) p = judge f (decide_at l.position l.moment f) (gate l f) (decide_bytes p (bytes_of f))
 
@@ -95,15 +26,15 @@ abbrev pub plain_verdict : FieldGate → Label → List ℕ → Verdict
 plain_verdict gate l p = cond (nat_lt (length p) (size_in l.position p)) more (judged gate l (field_in l.position p) p)
 
 -- what the verdict needs of a field at a position
-record Whole (w : Position) (f : StreamField) : Type 0 where
-  found : field_in w (bytes_of f) ≡ Some f
-  enough : size_in w (bytes_of f) ≤ length (bytes_of f)
-  fronts : (a : List ℕ) (c : ℕ) (b : List ℕ) → bytes_of f ≡ a ++ (c ∷ b) → length a < size_in w a
+pub record Whole (w : Position) (f : StreamField) : Type 0 where
+  pub found : field_in w (bytes_of f) ≡ Some f
+  pub enough : size_in w (bytes_of f) ≤ length (bytes_of f)
+  pub fronts : (a : List ℕ) (c : ℕ) (b : List ℕ) → bytes_of f ≡ a ++ (c ∷ b) → length a < size_in w a
 
 shorter : (s a : List ℕ) (c : ℕ) (b : List ℕ) → s ≡ a ++ (c ∷ b) → length a < length s
 shorter s a c b e = omega (arith, length-append a (c ∷ b), ap length e)
 
-abbrev size_by_head : ℕ → List ℕ → ℕ
+abbrev pub size_by_head : ℕ → List ℕ → ℕ
 size_by_head k p = cond (nat_lt (length p) k) k (k + number_of (take k p))
 
 size_whole : (k n : ℕ) (head body : List ℕ) → length head ≡ k → number_of head ≡ n → length body ≡ n
@@ -126,7 +57,7 @@ size_front k n head body a c b lh nh lb e = go (nat_lt (length a) k) refl
         rw (ex, t, nh) (omega (arith, length-append head body))
 
 -- a text, by the size of the number in front of it
-text_parts : (k : ℕ) (u : List ℕ) → IsUnits u → number_of (big_bytes k (length (modified_utf8 u))) ≡ length (modified_utf8 u)
+pub text_parts : (k : ℕ) (u : List ℕ) → IsUnits u → number_of (big_bytes k (length (modified_utf8 u))) ≡ length (modified_utf8 u)
     → (units_in (length (big_bytes k (length (modified_utf8 u))
     ++ modified_utf8 u)) (drop k (big_bytes k (length (modified_utf8 u)) ++ modified_utf8 u)) ≡ u)
     × (size_by_head k (big_bytes k (length (modified_utf8 u))
@@ -186,7 +117,7 @@ length-block_tag : (long : Bool) → length (bytes_of (block_tag_field long)) �
 length-block_tag true = refl
 length-block_tag false = refl
 
-whole : (w : Position) (m : Moment) (f : StreamField) → AcceptsAt w m f → Whole w f
+pub whole : (w : Position) (m : Moment) (f : StreamField) → AcceptsAt w m f → Whole w f
 whole header_at m header_field a = fixed header_at header_field 4 refl refl (λ p. refl)
 whole top_at m (tag_field t) a = fixed top_at (tag_field t) 1 (tag_back t) refl (λ p. refl)
 whole top_at m (block_tag_field long) a =
@@ -246,7 +177,7 @@ whole (bytes_at zero) m f a = absurd a
 whole (bytes_at (suc n)) m _ a = absurd a
 whole _ m _ a = absurd a
 
-some_size : (w : Position) → 0 < size_in w []
+pub some_size : (w : Position) → 0 < size_in w []
 some_size (string_at true) = omega arith
 some_size (string_at false) = omega arith
 some_size (block_length_at true) = omega arith
@@ -290,7 +221,7 @@ module _ (gate : FieldGate) where
       (not_lt (length (bytes_of f)) (size_in l.position (bytes_of f)) w.enough)
       ∙ ap (λ o. judged gate l o (bytes_of f)) w.found
 
-  in_front : (l : Label) (f : StreamField) → Accepts l f → IsUndecided (plain_verdict gate) l (bytes_of f)
+  pub in_front : (l : Label) (f : StreamField) → Accepts l f → IsUndecided (plain_verdict gate) l (bytes_of f)
   in_front l f h a c b e =
       let w = whole l.position l.moment f h in
       ap (λ x. cond x more (judged gate l (field_in l.position a) a))

@@ -28,7 +28,7 @@ abbrev pub fields_of_value : Moment → ValueTree → List Piece
 fields_of_value m v = at value_at 1 m (tag_field (tag_of v)) ∷ cut_value 1 m v []
 
 module _ (gate : FieldGate) (verdict : VerdictOn) (sc : IsScanner gate verdict) where
-  same_field : (l : Label) (f g : StreamField) (x y : List ℕ) → Accepts l f → IsTrue (gate l f) → Accepts l g → IsTrue (gate l g)
+  pub same_field : (l : Label) (f g : StreamField) (x y : List ℕ) → Accepts l f → IsTrue (gate l f) → Accepts l g → IsTrue (gate l g)
       → bytes_of f ++ x ≡ bytes_of g ++ y → (f ≡ g) × (x ≡ y)
   same_field l f g x y h hp k kp e = go (fronts (bytes_of f) (bytes_of g) x y e)
     where

@@ -6,11 +6,11 @@ use Rattle.std.proofs.Common.{length-append}
 use Rattle.jser_reading.specs.FieldBytes.{bytes_of, joined}
 use Rattle.jser_reading.specs.Scanner.{Verdict, more, good, bad, VerdictOn, FieldGate, IsUndecided, IsScanner, Outcome, ended, refused, by_verdict, walk, AllPass, HasNoField}
 
-snoc_more : (p : List ℕ) (b : ℕ) (q : List ℕ) → (p ++ (b ∷ [])) ++ q ≡ p ++ (b ∷ q)
+pub snoc_more : (p : List ℕ) (b : ℕ) (q : List ℕ) → (p ++ (b ∷ [])) ++ q ≡ p ++ (b ∷ q)
 snoc_more p b q = append_assoc p (b ∷ []) q
 
 -- a proper front of p and one more is a front of p
-front_of : (a p : List ℕ) (x c : ℕ) (b : List ℕ) → p ++ (x ∷ []) ≡ a ++ (c ∷ b) → (d : List ℕ) × (p ≡ a ++ d)
+pub front_of : (a p : List ℕ) (x c : ℕ) (b : List ℕ) → p ++ (x ∷ []) ≡ a ++ (c ∷ b) → (d : List ℕ) × (p ≡ a ++ d)
 front_of [] p x c b e = (p, refl)
 front_of (y ∷ a) [] x c b e = absurd (nonempty a c b (cc))
   where
@@ -113,23 +113,40 @@ module _ (gate : FieldGate) (verdict : VerdictOn) (sc : IsScanner gate verdict) 
       let x = walk_wrong b c [] (left begin_state front) rest r v u in
       (x.0, x.1, x.2, walk_front front begin_state (c ∷ (b ++ rest)) h g ∙ x.3, x.4)
 
-  -- what was found on the way
+  -- each front of these bytes, all of them too, wants more
+  abbrev pub Quiet : Label → List ℕ → Type 0
+  Quiet l p = (a b : List ℕ) → p ≡ a ++ b → verdict l a ≡ more
+
+  pub quiet_more : (l : Label) (p : List ℕ) (x : ℕ) → Quiet l p → verdict l (p ++ (x ∷ [])) ≡ more → Quiet l (p ++ (x ∷ []))
+  quiet_more l p x q v a [] e = let n : p ++ (x ∷ []) ≡ a = e ∙ append-nil a in rw (← n) v
+  quiet_more l p x q v a (c ∷ b) e = let r = front_of a p x c b e in q a r.0 r.1
+
+  pub undecided_more : (l : Label) (p : List ℕ) (x : ℕ) → Quiet l p → IsUndecided verdict l (p ++ (x ∷ []))
+  undecided_more l p x q a c b e = let r = front_of a p x c b e in q a r.0 r.1
+
+  pub quiet_none : (l : Label) → Quiet l []
+  quiet_none l [] b e = sc.nothing_yet l
+  quiet_none l (x ∷ a) b e = absurd (cc)
+
+  -- what was found on the way: whole fields, and bytes that decide nothing, or that are refused
   abbrev pub Found : State → List ℕ → Outcome → Type 0
   Found s bs (ended t q) =
       (front : List Piece) × Runs s front × AllPass gate front × (left s front ≡ t) × (bs ≡ joined front ++ q)
+      × Quiet (label_of (settled t)) q
   Found s bs (refused p rest r) = (front : List Piece) × Runs s front × AllPass gate front × (bs ≡ joined front ++ (p ++ rest))
       × (verdict (label_of (settled (left s front))) p ≡ bad r) × IsUndecided verdict (label_of (settled (left s front))) p
 
   found_more : (out : Outcome) (s : State) (f : StreamField) (bs : List ℕ) → Accepts (label_of (settled s)) f
       → IsTrue (gate (label_of (settled s)) f)
       → Found (advance (settled s) f) bs out → Found s (bytes_of f ++ bs) out
-  found_more (ended t q) s f bs h g (front, r, ga, e, eb) = (
+  found_more (ended t q) s f bs h g (front, r, ga, e, eb, u) = (
     piece (label_of (settled s)) f ∷ front,
     (refl, h, r),
     (g, ga),
     e,
     ap (λ x. bytes_of f
         ++ x) eb ∙ sym (append_assoc (bytes_of f) (joined front) q),
+    u,
   )
   found_more (refused p rest k) s f bs h g (front, r, ga, eb, v, u) = (
     piece (label_of (settled s)) f ∷ front,
@@ -141,23 +158,8 @@ module _ (gate : FieldGate) (verdict : VerdictOn) (sc : IsScanner gate verdict) 
     u,
   )
 
-  -- each front of these bytes, all of them too, wants more
-  abbrev Quiet : Label → List ℕ → Type 0
-  Quiet l p = (a b : List ℕ) → p ≡ a ++ b → verdict l a ≡ more
-
-  quiet_more : (l : Label) (p : List ℕ) (x : ℕ) → Quiet l p → verdict l (p ++ (x ∷ [])) ≡ more → Quiet l (p ++ (x ∷ []))
-  quiet_more l p x q v a [] e = let n : p ++ (x ∷ []) ≡ a = e ∙ append-nil a in rw (← n) v
-  quiet_more l p x q v a (c ∷ b) e = let r = front_of a p x c b e in q a r.0 r.1
-
-  undecided_more : (l : Label) (p : List ℕ) (x : ℕ) → Quiet l p → IsUndecided verdict l (p ++ (x ∷ []))
-  undecided_more l p x q a c b e = let r = front_of a p x c b e in q a r.0 r.1
-
-  quiet_none : (l : Label) → Quiet l []
-  quiet_none l [] b e = sc.nothing_yet l
-  quiet_none l (x ∷ a) b e = absurd (cc)
-
   walk_found : (bs : List ℕ) (s : State) (p : List ℕ) → Quiet (label_of (settled s)) p → Found s (p ++ bs) (walk verdict s p bs)
-  walk_found [] s p q = ([], tt, tt, refl, append-nil p)
+  walk_found [] s p q = ([], tt, tt, refl, append-nil p, q)
   walk_found (b ∷ bs) s p q =
       go (verdict l (p ++ (b ∷ []))) refl (λ v. walk_found bs s (p
       ++ (b ∷ [])) (quiet_more l p b q v))

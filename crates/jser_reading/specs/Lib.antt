@@ -3,6 +3,7 @@ pub mod Moments
 pub mod Labels
 pub mod Fields
 pub mod FieldBytes
+pub mod FieldsFromBytes
 pub mod Goals
 pub mod Accepts
 pub mod Machine

@@ -1,0 +1,5 @@
+use Rattle.jser_verdict.proofs.AnswerLaws as laws
+use Rattle.jser_verdict.proofs.laws.accepts_passing.Goals as goal
+
+pub returns : goal.returns
+returns c = laws.accepts_passing

@@ -1,0 +1,5 @@
+use Rattle.jser_verdict.proofs.Passing as laws
+use Rattle.jser_verdict.proofs.laws.lowered_passes.Goals as goal
+
+pub returns : goal.returns
+returns c = laws.lowered_passes

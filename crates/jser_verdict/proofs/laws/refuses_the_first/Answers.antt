@@ -1,0 +1,5 @@
+use Rattle.jser_verdict.proofs.WalkFaults as laws
+use Rattle.jser_verdict.proofs.laws.refuses_the_first.Goals as goal
+
+pub returns : goal.returns
+returns c = laws.refuses_the_first

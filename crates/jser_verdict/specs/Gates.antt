@@ -1,0 +1,59 @@
+-- A gate: its limits, and its answer to each checked name. What its limits may be at most is `IsGate`; of what the
+-- limits say, see `Passing` for whole lists and `Rows` for the bytes of one field.
+use Rattle.std.specs.Prelude.{ℕ, ◌-◌, ◌^◌, ◌≤◌, min, Bool, true, false, List}
+use Rattle.jser_reading.specs.GateLimits.{GateLimits}
+
+pub data Answer : Type 0 where
+  pass rejected unmatched : Answer
+
+-- The limits are those on the number of bytes, the depth of each place, the number of places, the length of each
+-- array, and the number of handles of each epoch; a number exceeds a limit when it is greater.
+pub record Gate : Type 0 where
+  pub bytes : ℕ
+  pub depth : ℕ
+  pub refs : ℕ
+  pub array : ℕ
+  pub handles : ℕ
+  pub answer : List ℕ → Answer
+
+-- The caps that each gate keeps: 2^40 bytes, depth 65,535; and handles go from 0x7E0000 to 0x7FFFFFFF.
+abbrev pub IsGate : Gate → Type 0
+IsGate gate =
+    (gate.bytes ≤ 2 ^ 40) × (gate.depth ≤ 65535) × (gate.refs ≤ 2 ^ 63 - 1) × (gate.array ≤ 2 ^ 31 - 1)
+    × (gate.handles ≤ 2139226112)
+
+-- The gate with its limits of bytes and depth lowered, as a call that makes trees lowers them by the caps of trees.
+abbrev pub lowered : (most deepest : ℕ) → Gate → Gate
+lowered most deepest gate = record {
+  bytes = min gate.bytes most;
+  depth = min gate.depth deepest;
+  refs = gate.refs;
+  array = gate.array;
+  handles = gate.handles;
+  answer = gate.answer;
+}
+
+abbrev pub is_pass : Answer → Bool
+is_pass pass = true
+is_pass rejected = false
+is_pass unmatched = false
+
+abbrev pub is_rejected : Answer → Bool
+is_rejected pass = false
+is_rejected rejected = true
+is_rejected unmatched = false
+
+abbrev pub is_unmatched : Answer → Bool
+is_unmatched pass = false
+is_unmatched rejected = false
+is_unmatched unmatched = true
+
+-- what it limits field by field: all but the number of bytes
+abbrev pub limits_of : Gate → GateLimits
+limits_of gate = record {
+  depth = gate.depth;
+  refs = gate.refs;
+  array = gate.array;
+  handles = gate.handles;
+  passes = λ name. is_pass (gate.answer name);
+}

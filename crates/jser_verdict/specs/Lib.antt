@@ -1,0 +1,16 @@
+pub mod Reasons
+pub mod Gates
+pub mod Passing
+pub mod BytesSoFar
+pub mod TextsSoFar
+pub mod TagRows
+pub mod HandleRows
+pub mod ClassRows
+pub mod Rows
+pub mod Verdicts
+pub mod Scanning
+pub mod FirstFault
+pub mod FieldLaws
+pub mod FaultLaws
+pub mod Answers
+pub mod AnswerLaws
