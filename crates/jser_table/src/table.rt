@@ -90,6 +90,7 @@ impl Table {
         ensures chains { self.new.chains ≡ self.old.chains }
         ensures max { self.new.max ≡ self.old.max }
         ensures below { IfOk result (λ number. number < self.old.max) }
+        ensures room { (result ≡ Err TableFault.OutOfMemory) → length self.old.entries < self.old.max }
     {
         let number = self.entries.len();
         if number >= self.max as usize {
