@@ -1,6 +1,6 @@
 -- Fields out of their bytes: numbers, the units of modified UTF-8, tags and raw values are found again.
-use Rattle.std.proofs.Common.{◌≡◌, ℕ, zero, suc, ◌+◌, ◌-◌, ◌*◌, ◌/◌, ◌%◌, ◌^◌, ◌<◌, ◌≤◌, Bool, true, false, cond, ◌&&◌, List, [], ◌∷◌, ◌++◌, length, refl, sym, ◌∙◌, ap, ap₂, arith, rules, Option, Some, None, nat_lt, nat_eq}
-use Rattle.jser_reading.proofs.Vocabulary.{big_bytes, modified_utf8, IsUnits, PrimCode, byte_code, char_code, double_code, float_code, int_code, long_code, short_code, boolean_code, size_of, PrimTree, ArePrimsOf, Tag, null_tag, reference_tag, class_desc_tag, object_tag, string_tag, array_tag, class_tag, long_string_tag, proxy_desc_tag, enum_tag, StreamField, tag_field, block_tag_field, end_tag_field, reset_tag_field}
+use Rattle.std.proofs.Common.{◌≡◌, ℕ, zero, suc, ◌+◌, ◌-◌, ◌*◌, ◌/◌, ◌%◌, ◌^◌, ◌<◌, ◌≤◌, Bool, true, false, ◌&&◌, List, [], ◌∷◌, ◌++◌, length, refl, sym, ◌∙◌, ap, ap₂, arith, rules, Some, nat_lt}
+use Rattle.jser_reading.proofs.Vocabulary.{big_bytes, modified_utf8, IsUnits, PrimCode, byte_code, char_code, double_code, float_code, int_code, long_code, short_code, boolean_code, size_of, PrimTree, ArePrimsOf, Tag, null_tag, reference_tag, class_desc_tag, object_tag, string_tag, array_tag, class_tag, long_string_tag, proxy_desc_tag, enum_tag, tag_field, block_tag_field, end_tag_field, reset_tag_field}
 use Rattle.std.proofs.Common.{take, drop, length-append, leb-true, le-leb}
 use Rattle.std.specs.Prelude.{nat_le}
 use Rattle.std.specs.List.{list_all}
@@ -9,7 +9,7 @@ use Rattle.jser_prim.specs.ModifiedUtf8.{unit_spelling}
 use Rattle.jser_grammar.specs.Spelling.{prim_spelling, prims_spelling}
 use Rattle.jser_reading.specs.FieldBytes.{tag_byte, bytes_of}
 use Rattle.jser_grammar.proofs.Bools.{and_left, and_right}
-use Rattle.jser_reading.specs.FieldsFromBytes.{number_of, first, after_first, units_in, tag_from, prims_in}
+use Rattle.jser_reading.specs.FieldsFromBytes.{number_of, first, units_in, tag_from, prims_in}
 
 pub number_1 : (n : ℕ) → n < 2 ^ 8 → number_of (big_bytes 1 n) ≡ n
 number_1 n h = omega arith

@@ -1,7 +1,7 @@
 -- A plain verdict: wait for as many bytes as the field needs, find the field in them, and compare its bytes. It
 -- tells no early fault and knows one reason, but it meets the premise of the byte laws, for every gate.
 use Rattle.std.proofs.Common.{◌≡◌, ℕ, zero, suc, ◌+◌, ◌-◌, ◌*◌, ◌<◌, ◌≤◌, Bool, true, false, cond, List, [], ◌∷◌, ◌++◌, length, refl, sym, ◌∙◌, ap, subst, arith, Option, Some, None, IsTrue, IsFalse, nat_lt, append-nil, true≢false}
-use Rattle.jser_reading.proofs.Vocabulary.{big_bytes, modified_utf8, IsUnits, byte_code, char_code, double_code, float_code, int_code, long_code, short_code, boolean_code, size_of, IsText, IsHandle, Moment, StreamField, header_field, tag_field, block_tag_field, end_tag_field, reset_tag_field, handle_field, suid_field, flags_field, field_count_field, interface_count_field, array_length_field, code_field, text_field, block_length_field, prims_field, bytes_field, Position, nowhere, header_at, top_at, annotation_at, value_at, text_place_at, class_place_at, superclass_place_at, back_handle_at, text_handle_at, class_handle_at, superclass_handle_at, string_at, class_name_at, field_name_at, interface_name_at, suid_at, field_count_at, interface_count_at, array_length_at, flags_at, type_code_at, block_length_at, raw_at, bytes_at, Label, AcceptsAt, Accepts}
+use Rattle.jser_reading.proofs.Vocabulary.{big_bytes, modified_utf8, IsUnits, byte_code, char_code, double_code, float_code, int_code, long_code, short_code, boolean_code, size_of, IsText, IsHandle, Moment, StreamField, header_field, tag_field, block_tag_field, end_tag_field, reset_tag_field, handle_field, suid_field, flags_field, field_count_field, interface_count_field, array_length_field, code_field, text_field, block_length_field, prims_field, bytes_field, Position, header_at, top_at, annotation_at, value_at, text_place_at, class_place_at, superclass_place_at, back_handle_at, text_handle_at, class_handle_at, superclass_handle_at, string_at, class_name_at, field_name_at, interface_name_at, suid_at, field_count_at, interface_count_at, array_length_at, flags_at, type_code_at, block_length_at, raw_at, bytes_at, Label, AcceptsAt, Accepts}
 use Rattle.std.proofs.Common.{take, drop, length-append, leb-true, le-leb, ltb-false}
 use Rattle.std.proofs.lemmas.List.{take_at, drop_at, take-append-le}
 use Rattle.jser_grammar.specs.Spelling.{utf, long_utf, prims_spelling}
@@ -10,7 +10,7 @@ use Rattle.jser_reading.specs.Scanner.{Verdict, more, good, bad, FieldGate, IsUn
 use Rattle.jser_reading.specs.WalkLaws.{EachGateHasAVerdict}
 use Rattle.jser_reading.proofs.Deciding.{decide_at, decide_bytes}
 use Rattle.jser_reading.proofs.Decoding.{number_1, number_2, number_4, number_8, length-big_bytes, not_lt, units_back, tag_back, block_tag_back, end_tag_back, reset_tag_back, prims_back, length-prims_spelling}
-use Rattle.jser_reading.specs.FieldsFromBytes.{number_of, first, units_in, tag_from, prims_in, head_size, text_in, field_in, text_size, size_in}
+use Rattle.jser_reading.specs.FieldsFromBytes.{number_of, units_in, prims_in, text_in, field_in, text_size, size_in}
 
 abbrev pub judge : {A B : Type 0} → StreamField → Dec A → Bool → Dec B → Verdict
 judge f (yes a) true (yes e) = good f
