@@ -8,7 +8,7 @@ use Rattle.jser_reading.proofs.Walking.{snoc_more, undecided_no_field, Quiet, un
 use Rattle.jser_reading.proofs.Faults.{cut_short_law}
 use Rattle.jser_verdict.specs.Reasons.{Reason, bytes_exceeded, truncated, turn}
 use Rattle.jser_verdict.specs.Gates.{Gate}
-use Rattle.jser_verdict.specs.Scanning.{scanning_verdict}
+use Rattle.jser_verdict.proofs.Scanning.{scanning_verdict}
 use Rattle.jser_verdict.specs.FirstFault.{IsFault, IsFirstFault, RowHolds}
 use Rattle.jser_verdict.specs.FaultLaws.{IsCapped}
 use Rattle.jser_verdict.proofs.Turns.{by_turns, turn_most, turn_least}

@@ -1,3 +1,4 @@
+pub mod Scanning
 pub mod Order
 pub mod Texts
 pub mod Fronts

@@ -10,7 +10,7 @@ use Rattle.jser_reading.proofs.Walking.{joined-append}
 use Rattle.jser_verdict.specs.Reasons.{Reason, bytes_exceeded, truncated, turn}
 use Rattle.jser_verdict.specs.Gates.{Gate}
 use Rattle.jser_verdict.specs.Rows.{row}
-use Rattle.jser_verdict.specs.Scanning.{scanning_verdict}
+use Rattle.jser_verdict.proofs.Scanning.{scanning_verdict}
 use Rattle.jser_verdict.specs.FirstFault.{OpenAt, RowHolds, IsFault}
 use Rattle.jser_verdict.specs.AnswerLaws.{OneFirstFault}
 use Rattle.jser_verdict.proofs.Turns.{one_turn, to_turns}

@@ -10,7 +10,7 @@ use Rattle.jser_reading.proofs.Faults.{no_fault_law}
 use Rattle.jser_verdict.specs.Reasons.{Reason}
 use Rattle.jser_verdict.specs.Gates.{Gate}
 use Rattle.jser_verdict.specs.Rows.{row}
-use Rattle.jser_verdict.specs.Scanning.{scanning_verdict}
+use Rattle.jser_verdict.proofs.Scanning.{scanning_verdict}
 use Rattle.jser_verdict.proofs.Scans.{gate, verdict_scans}
 use Rattle.jser_verdict.proofs.ToldRows.{row_bad}
 

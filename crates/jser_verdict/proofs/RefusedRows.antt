@@ -11,7 +11,7 @@ use Rattle.jser_verdict.specs.Reasons.{Reason, in_order, turn}
 use Rattle.jser_verdict.specs.Gates.{Gate}
 use Rattle.jser_verdict.specs.Rows.{row}
 use Rattle.jser_verdict.specs.Verdicts.{reason_at}
-use Rattle.jser_verdict.specs.Scanning.{scanning_verdict}
+use Rattle.jser_verdict.proofs.Scanning.{scanning_verdict}
 use Rattle.jser_verdict.proofs.Order.{in_turn}
 use Rattle.jser_verdict.proofs.Turns.{first_holds}
 use Rattle.jser_verdict.proofs.Scans.{gate, verdict_scans}

@@ -7,8 +7,8 @@ use Rattle.jser_reading.proofs.Next.{next_law}
 use Rattle.jser_reading.proofs.Walking.{snoc_more}
 use Rattle.jser_verdict.specs.Gates.{Gate}
 use Rattle.jser_verdict.specs.Verdicts.{verdict}
-use Rattle.jser_verdict.specs.Scanning.{scanning_verdict}
-use Rattle.jser_verdict.specs.FieldLaws.{SameWalk}
+use Rattle.jser_verdict.proofs.Scanning.{scanning_verdict}
+use Rattle.jser_verdict.specs.FieldLaws.{VerdictScans}
 use Rattle.jser_verdict.proofs.Scans.{verdict_scans}
 use Rattle.jser_verdict.proofs.ToldRows.{more_short, same_verdict}
 use Rattle.jser_verdict.proofs.ByteLists.{bytes_left, bytes_right}
@@ -71,5 +71,10 @@ walk_same g (b ∷ bs) front p r m h =
         ∙ sym (ap (λ y. by_verdict y (walk (scanning_verdict g) (left begin_state front) (p ++ (b ∷ [])) bs)
         (λ f. walk (scanning_verdict g) (advance (settled (left begin_state front)) f) [] bs) (λ k. refused (p ++ (b ∷ [])) bs k)) ev)
 
-pub same_walk : SameWalk
+pub same_walk : (g : Gate) (bytes : List ℕ) → IsBytes bytes
+    → walk (verdict g) begin_state [] bytes ≡ walk (scanning_verdict g) begin_state [] bytes
 same_walk g bytes h = walk_same g bytes [] [] tt ((verdict_scans g).nothing_yet (label_of (settled begin_state))) h
+
+pub verdict_scans_law : VerdictScans
+verdict_scans_law g =
+    (scanning_verdict g, verdict_scans g, λ l p rd hb le. same_verdict g l p rd hb le, λ bytes hb. same_walk g bytes hb)

@@ -9,7 +9,7 @@ use Rattle.jser_reading.proofs.PlainVerdict.{plain_verdict, in_front, scanner}
 use Rattle.jser_verdict.specs.Reasons.{Reason, turn}
 use Rattle.jser_verdict.specs.Gates.{Gate, limits_of}
 use Rattle.jser_verdict.specs.Verdicts.{reason_at, by_reason}
-use Rattle.jser_verdict.specs.Scanning.{scanning_verdict}
+use Rattle.jser_verdict.proofs.Scanning.{scanning_verdict}
 use Rattle.jser_verdict.proofs.Ends.{Agrees, quiet_before, ends_agree}
 
 none_yet : (g : Gate) (l : Label) (w : Position) → reason_at g l w [] ≡ None

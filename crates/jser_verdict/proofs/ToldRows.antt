@@ -8,8 +8,8 @@ use Rattle.jser_verdict.specs.Reasons.{Reason, in_order, first_that, turn}
 use Rattle.jser_verdict.specs.Gates.{Gate}
 use Rattle.jser_verdict.specs.Rows.{row}
 use Rattle.jser_verdict.specs.Verdicts.{reason_at, by_reason, found_field, verdict}
-use Rattle.jser_verdict.specs.Scanning.{scanning_verdict}
-use Rattle.jser_verdict.specs.FieldLaws.{IsRead, TellsEachRow, TellsTheFirstRow, SameVerdict}
+use Rattle.jser_verdict.proofs.Scanning.{scanning_verdict}
+use Rattle.jser_verdict.specs.FieldLaws.{IsRead, TellsEachRow, TellsTheFirstRow}
 use Rattle.jser_verdict.proofs.Order.{in_turn}
 use Rattle.jser_verdict.proofs.Turns.{first_holds, found_first}
 use Rattle.jser_verdict.proofs.Ends.{Agrees, ends_agree}
@@ -105,6 +105,11 @@ told_some g l p r e =
 pub tells_each_row : TellsEachRow
 tells_each_row g l p r h =
     let x = found_first (λ r. row r g l p) r h in (x.0, told_some g l p x.0 (in_turn g l p ∙ x.1), x.2)
+
+abbrev SameVerdict : Type 0
+SameVerdict =
+    (g : Gate) (l : Label) (p : List ℕ) → IsRead l.position → IsBytes p → length p ≤ size_in l.position p
+    → verdict g l p ≡ scanning_verdict g l p
 
 pub same_verdict : SameVerdict
 same_verdict g l p rd hb le = go (reason_at g l l.position p) refl

@@ -9,7 +9,7 @@ use Rattle.jser_reading.proofs.Faults.{accepts_law}
 use Rattle.jser_verdict.specs.Gates.{Gate, limits_of}
 use Rattle.jser_verdict.specs.Passing.{Passes}
 use Rattle.jser_verdict.specs.Verdicts.{verdict}
-use Rattle.jser_verdict.specs.Scanning.{scanning_verdict}
+use Rattle.jser_verdict.proofs.Scanning.{scanning_verdict}
 use Rattle.jser_verdict.specs.FaultLaws.{RefusesTheFirst, CutIsTheFirst, OverIsTheFirst, RefusesPromptly, DecidesAlone}
 use Rattle.jser_verdict.proofs.Scans.{verdict_scans}
 use Rattle.jser_verdict.proofs.OpenFields.{no_row}

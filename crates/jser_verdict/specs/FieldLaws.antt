@@ -6,13 +6,12 @@ use Rattle.jser_reading.specs.Labels.{Label, Position, nowhere, raw_at, bytes_at
 use Rattle.jser_reading.specs.FieldsFromBytes.{size_in}
 use Rattle.jser_reading.specs.GateLimits.{gate_of}
 use Rattle.jser_reading.specs.Machine.{begin_state}
-use Rattle.jser_reading.specs.Scanner.{more, bad, IsScanner, walk}
+use Rattle.jser_reading.specs.Scanner.{more, bad, VerdictOn, IsScanner, walk}
 use Rattle.jser_verdict.specs.Reasons.{Reason, ComesNoLater, turn}
 use Rattle.jser_verdict.specs.Gates.{Gate, limits_of}
 use Rattle.jser_verdict.specs.TextsSoFar.{has_head, text_length, text_bytes, has_wrong_byte}
 use Rattle.jser_verdict.specs.Rows.{row}
 use Rattle.jser_verdict.specs.Verdicts.{verdict}
-use Rattle.jser_verdict.specs.Scanning.{scanning_verdict}
 
 -- some field is read at the position
 abbrev pub IsRead : Position → Type 0
@@ -47,18 +46,11 @@ BadTextIsExact =
     → (has_wrong_byte long bytes ≡ false → BeginsText (text_length long bytes) (text_bytes long bytes))
     × (BeginsText (text_length long bytes) (text_bytes long bytes) → has_wrong_byte long bytes ≡ false)
 
--- The verdict that looks at the format goes with the gate of its limits: the premise of the laws of the walk.
+-- Some verdict goes with the gate of its limits, and so has all the laws of the walk, which says the same of all bytes
+-- that a walk asks about: those of a field that is read, no more than it needs. So the walks by the two are equal.
 abbrev pub VerdictScans : Type 0
-VerdictScans = (gate : Gate) → IsScanner (gate_of (limits_of gate)) (scanning_verdict gate)
-
--- It says the same of all bytes that a walk asks about: those of a field that is read, no more than it needs ..
-abbrev pub SameVerdict : Type 0
-SameVerdict =
-    (gate : Gate) (label : Label) (bytes : List ℕ) → IsRead label.position → IsBytes bytes
-    → length bytes ≤ size_in label.position bytes → verdict gate label bytes ≡ scanning_verdict gate label bytes
-
--- .. so the walks by the two are equal.
-abbrev pub SameWalk : Type 0
-SameWalk =
-    (gate : Gate) (bytes : List ℕ) → IsBytes bytes
-    → walk (verdict gate) begin_state [] bytes ≡ walk (scanning_verdict gate) begin_state [] bytes
+VerdictScans =
+    (gate : Gate) → (scanning : VerdictOn) × IsScanner (gate_of (limits_of gate)) scanning
+    × ((label : Label) (bytes : List ℕ) → IsRead label.position → IsBytes bytes → length bytes ≤ size_in label.position bytes
+    → verdict gate label bytes ≡ scanning label bytes)
+    × ((bytes : List ℕ) → IsBytes bytes → walk (verdict gate) begin_state [] bytes ≡ walk scanning begin_state [] bytes)

@@ -1,6 +1,6 @@
 -- The faults of bytes by the rows of the reasons, and the first of them. No machine and no verdict occurs here: which
 -- field may come next is told by whole streams.
-use Rattle.std.specs.Prelude.{ℕ, suc, ◌+◌, ◌<◌, ◌≤◌, ◌≡◌, ◌⊎◌, IsTrue, List, [], ◌++◌, length}
+use Rattle.std.specs.Prelude.{ℕ, suc, ◌+◌, ◌<◌, ◌≡◌, ◌⊎◌, IsTrue, List, [], ◌++◌, length}
 use Rattle.jser_grammar.specs.Trees.{ContentTrees}
 use Rattle.jser_grammar.specs.Streams.{IsStreamOf}
 use Rattle.jser_reading.specs.Labels.{StreamField, Label, Piece}

@@ -8,7 +8,6 @@ pub mod HandleRows
 pub mod ClassRows
 pub mod Rows
 pub mod Verdicts
-pub mod Scanning
 pub mod FirstFault
 pub mod FieldLaws
 pub mod FaultLaws

@@ -1,7 +1,7 @@
 //! Laws of the definitions alone: no call of the product stands behind them. Each is the clause of an empty function, so
 //! that the check insists on its proof; the statements are in `specs/`, as `FieldLaws`, `FaultLaws` and `AnswerLaws`.
 
-ghost use Rattle.jser_verdict.specs.FieldLaws.{TurnsAreInOrder, TellsEachRow, TellsTheFirstRow, BadTextIsExact, VerdictScans, SameVerdict, SameWalk};
+ghost use Rattle.jser_verdict.specs.FieldLaws.{TurnsAreInOrder, TellsEachRow, TellsTheFirstRow, BadTextIsExact, VerdictScans};
 ghost use Rattle.jser_verdict.specs.FaultLaws.{RefusesTheFirst, CutIsTheFirst, OverIsTheFirst, RefusesPromptly, DecidesAlone};
 ghost use Rattle.jser_verdict.specs.AnswerLaws.{AcceptsPassing, AcceptsNoFault, RefusesFirstFault, OneFirstFault, RefusedForGood, LoweredIsGate, LoweredPasses};
 
@@ -25,19 +25,10 @@ pub fn bad_text_is_exact()
     ensures { BadTextIsExact }
 {}
 
-/// The verdict that looks at the format goes with the gate of its limits: the premise of the laws of the walk.
+/// A verdict that goes with the gate of its limits says the same wherever a walk asks: so the laws of the walk hold of
+/// the verdict that code follows.
 pub fn verdict_scans()
     ensures { VerdictScans }
-{}
-
-/// It says the same as the verdict that only counts bytes, wherever a walk asks.
-pub fn same_verdict()
-    ensures { SameVerdict }
-{}
-
-/// So the walks by the two are equal.
-pub fn same_walk()
-    ensures { SameWalk }
 {}
 
 /// What the walk refuses is the first fault.

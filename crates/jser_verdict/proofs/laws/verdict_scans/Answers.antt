@@ -1,5 +1,5 @@
-use Rattle.jser_verdict.proofs.Scans as laws
+use Rattle.jser_verdict.proofs.SameWalks as laws
 use Rattle.jser_verdict.proofs.laws.verdict_scans.Goals as goal
 
 pub returns : goal.returns
-returns c = laws.verdict_scans
+returns c = laws.verdict_scans_law

@@ -1,5 +1,5 @@
 -- The verdict again, which besides looks at what the format takes at the position, and compares the bytes. It meets the
--- premise of the laws of the walk, for every label and all lists of numbers; the verdict of `Verdicts`, which only
+-- premise of the laws of the walk for every label and all lists of numbers; the verdict of `specs/Verdicts`, which only
 -- counts bytes, says the same of all bytes that a walk asks about.
 use Rattle.jser_reading.specs.GateLimits.{gate_of}
 use Rattle.jser_reading.specs.Scanner.{VerdictOn}
