@@ -46,8 +46,9 @@ BadTextIsExact =
     → (has_wrong_byte long bytes ≡ false → BeginsText (text_length long bytes) (text_bytes long bytes))
     × (BeginsText (text_length long bytes) (text_bytes long bytes) → has_wrong_byte long bytes ≡ false)
 
--- Some verdict goes with the gate of its limits, and so has all the laws of the walk, which says the same of all bytes
--- that a walk asks about: those of a field that is read, no more than it needs. So the walks by the two are equal.
+-- There is a verdict that goes with the gate of these limits, so that the laws of the walk hold of it, and that says the
+-- same of all bytes that a walk asks about: those of a field that is read, no more than it needs. So the walks by the two
+-- are equal.
 abbrev pub VerdictScans : Type 0
 VerdictScans =
     (gate : Gate) → (scanning : VerdictOn) × IsScanner (gate_of (limits_of gate)) scanning
