@@ -1,9 +1,9 @@
 -- Runs: within a run the sections follow each other by one.
-use Rattle.std.proofs.Common.{◌≡◌, ℕ, zero, suc, ◌+◌, ◌-◌, ◌<◌, ◌≤◌, List, [], ◌∷◌, ◌++◌, length, Option, Some, None, true, refl, ap, sym, ◌∙◌, subst, arith, inl, inr}
+use Rattle.std.proofs.Common.{◌≡◌, ℕ, zero, suc, ◌+◌, ◌≤◌, List, [], ◌∷◌, ◌++◌, length, Option, Some, refl, ap, ◌∙◌, subst, arith, inl, inr}
 use Rattle.std.proofs.lemmas.Bool.{cases_lt}
 use Rattle.std.proofs.lemmas.List.{length_push}
 use Rattle.jser_table.specs.declared.layer.Layer.{Layer}
-use Rattle.jser_table.specs.Chains.{is_filled, IsFront}
+use Rattle.jser_table.specs.Chains.{IsFront}
 use Rattle.jser_table.specs.Sections.{filled_layers, sections_of, HasSection, down_to, layer_of}
 use Rattle.jser_table.specs.Descriptors.{IsLast, IsRun, RunsOn}
 use Rattle.jser_table.proofs.LayerLemmas.{IsFront-refl, IsFront-from, IsFront-trans}

@@ -1,12 +1,12 @@
 -- Sections: one more class adds at most one, and changes none of those before it.
-use Rattle.std.proofs.Common.{◌≡◌, ℕ, ◌+◌, ◌<◌, ◌≤◌, Bool, true, false, cond, IsTrue, List, [], ◌∷◌, ◌++◌, length, map, drop, take, get_or, count_by, Option, Some, None, refl, ap, sym, ◌∙◌, subst, arith, append_assoc, append-nil, length-append, if◌then◌else◌}
+use Rattle.std.proofs.Common.{◌≡◌, ℕ, ◌≤◌, Bool, true, false, cond, List, [], ◌∷◌, ◌++◌, length, map, get_or, count_by, Option, Some, None, refl, ap, sym, ◌∙◌, arith, append-nil, length-append, if◌then◌else◌}
 use Rattle.std.specs.List.{filter}
 use Rattle.std.proofs.lemmas.List.{get_or_append_left, get_or_push, length_push, length-map, map-append}
 use Rattle.std.proofs.lemmas.List.Elements.{filter-append}
 use Rattle.std.proofs.lemmas.List.Sums.{length-filter, count_by-le-length}
 use Rattle.jser_table.specs.declared.layer.Layer.{Layer}
-use Rattle.jser_table.specs.Chains.{own_layer, is_filled, chain_in, IsFront}
-use Rattle.jser_table.specs.Sections.{filled_layers, is_filled_own, ends_filled, sections_of, HasSection, down_to, no_layer, or_no_layer, layer_of, under, IsOn}
+use Rattle.jser_table.specs.Chains.{own_layer, is_filled}
+use Rattle.jser_table.specs.Sections.{filled_layers, is_filled_own, ends_filled, sections_of, HasSection, down_to, or_no_layer, layer_of, under, IsOn}
 use Rattle.jser_table.specs.Descriptors.{IsLast, IsLastUnder}
 use Rattle.jser_table.proofs.LayerLemmas.{own_layer_push}
 

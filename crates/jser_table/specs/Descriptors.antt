@@ -1,7 +1,7 @@
 -- How closed descriptors stand for chains. They are kept in the order in which they were closed, so a
 -- superclass stands before its subclasses: the chain of a descriptor is that of its parent and then its own
 -- layer.
-use Rattle.std.specs.Prelude.{ℕ, ◌≡◌, ◌+◌, ◌-◌, ◌^◌, ◌<◌, ◌≤◌, List, [], ◌∷◌, ◌++◌, length, take, drop, fold, count_by, slice_index_or, Bool, true, false, if◌then◌else◌, IsTrue, Option, Some, None}
+use Rattle.std.specs.Prelude.{ℕ, ◌≡◌, ◌+◌, ◌-◌, ◌^◌, ◌<◌, ◌≤◌, List, [], ◌∷◌, ◌++◌, length, take, fold, count_by, slice_index_or, Bool, true, false, if◌then◌else◌, IsTrue, Option, Some, None}
 use Rattle.jser_table.specs.declared.layer.Layer.{Layer}
 use Rattle.jser_table.specs.declared.descriptor.Links.{Links}
 use Rattle.jser_table.specs.declared.descriptor.Descriptor.{Descriptor}

@@ -1,9 +1,4 @@
-use Rattle.std.proofs.Common.{◌≡◌, ◌<◌, ℕ, Some, length, ap, sym, subst, refl, option_map}
-use Rattle.std.specs.Prelude.{slice_get}
-use Rattle.jser_table.specs.Codes.{primitive_codes, size_of, AreLeading}
-use Rattle.jser_table.specs.declared.layer.Layer.{Layer}
-use Rattle.jser_table.specs.Sections.{layer_of}
-use Rattle.jser_table.specs.Descriptors.{chains_of}
+use Rattle.std.proofs.Common.{refl}
 use Rattle.jser_table.proofs.FiledLemmas.{layer_of_class}
 use Rattle.jser_table.proofs.chains.prim_size_at.Goals as goal
 

@@ -1,4 +1,4 @@
-use Rattle.std.proofs.Common.{ℕ, ◌≡◌, ◌∙◌, refl, arith, length}
+use Rattle.std.proofs.Common.{◌≡◌, ◌∙◌, refl, arith, length}
 use Rattle.jser_table.specs.Sections.{down_to}
 use Rattle.jser_table.specs.Descriptors.{chains_of}
 use Rattle.jser_table.proofs.FiledLemmas.{count_of_class, none_after, next_found}

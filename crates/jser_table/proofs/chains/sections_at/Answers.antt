@@ -1,4 +1,4 @@
-use Rattle.std.proofs.Common.{◌<◌, arith}
+use Rattle.std.proofs.Common.{arith}
 use Rattle.jser_table.proofs.FiledLemmas.{has_filled, sections_found, first_in_run}
 use Rattle.jser_table.proofs.chains.sections_at.Goals as goal
 
