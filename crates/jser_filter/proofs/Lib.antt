@@ -5,4 +5,9 @@ pub mod ModulesLemmas
 pub mod LawLemmas
 pub mod PlaceLemmas
 pub mod PositionLemmas
+pub mod PackageLemmas
+pub mod TreeLemmas
+pub mod TrieLemmas
+pub mod WordLemmas
+pub mod MatchLemmas
 pub mod IndexLemmas

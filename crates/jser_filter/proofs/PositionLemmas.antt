@@ -6,6 +6,7 @@ use Rattle.std.proofs.lemmas.List.{length_push}
 use Rattle.std.proofs.lemmas.List.Sums.{prefix_len-le-length}
 use Rattle.std.proofs.lemmas.List.Folds.{position_or_len_push}
 use Rattle.jser_filter.specs.Places.{or_else}
+use Rattle.jser_filter.specs.Trie.{least}
 
 position_step : {X : Type 0} (test : X → Bool) (items : List X) (item : X) (found passes : Bool) → ltb (position_or_len test items) (length items) ≡ found → test item ≡ passes → position test (items ++ item ∷ []) ≡ or_else (cond found (Some (position_or_len test items)) None) (cond passes (Some (length items)) None)
 position_step test items item true passes is says =
@@ -49,3 +50,16 @@ pub position_from-shift : {X : Type 0} (test : X → Bool) (first : ℕ) (items 
 position_from-shift test first [] = refl
 position_from-shift test first (item ∷ items) =
     ap (λ o. cond (test item) (Some (first + 1)) o) (position_from-shift test (first + 1) items) ∙ shift_cond (test item) first (position_from test (first + 1) items)
+
+-- the last place is never the lesser
+last_least : (passes : Bool) (place last : ℕ) (inside : Bool) → ltb place last ≡ inside → or_else (cond inside (Some place) None) (cond passes (Some last) None) ≡ cond passes (least (cond inside (Some place) None) (Some last)) (cond inside (Some place) None)
+last_least true place last true is =
+    let before : place < last = ltb-true place last is in
+    rw (le-ltb last place (omega arith)) refl
+last_least false place last true is = refl
+last_least true place last false is = refl
+last_least false place last false is = refl
+
+pub position-push_least : {X : Type 0} (test : X → Bool) (items : List X) (item : X) → position test (items ++ item ∷ []) ≡ cond (test item) (least (position test items) (Some (length items))) (position test items)
+position-push_least test items item =
+    position-push test items item ∙ last_least (test item) (position_or_len test items) (length items) (ltb (position_or_len test items) (length items)) refl

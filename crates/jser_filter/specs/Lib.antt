@@ -6,5 +6,7 @@ pub mod Tables
 pub mod Filters
 pub mod Laws
 pub mod Places
+pub mod Trie
+pub mod Words
 pub mod Index
 pub mod Faults

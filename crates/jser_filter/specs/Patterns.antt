@@ -2,7 +2,7 @@
 -- "If the pattern ends with `.**` it matches any class in the package and all subpackages. If the pattern
 -- ends with `.*` it matches any class in the package. If the pattern ends with `*`, it matches any class
 -- with the pattern as a prefix. If the pattern is equal to the class name, it matches."
-use Rattle.std.specs.Prelude.{ℕ, ◌-◌, Bool, not, ◌==◌, ◌&&◌, if◌then◌else◌, List, length, take, drop, nat_eq, codes, Option}
+use Rattle.std.specs.Prelude.{ℕ, ◌-◌, Bool, not, ◌==◌, ◌&&◌, if◌then◌else◌, List, [], ◌∷◌, ◌++◌, length, take, drop, nat_eq, codes, Option}
 use Rattle.std.specs.List.{starts_with, ends_with, list_any}
 use Rattle.std.specs.Str.{bytes_eq}
 use Rattle.jser_filter.specs.declared.pattern.NamePattern.{NamePattern as Kept}
@@ -42,6 +42,6 @@ package_of name = before_last 0x2E name
 -- a pattern that is kept
 abbrev pub view_name : Kept → NamePattern
 view_name (kept.BelowPackage front) = below_package front
-view_name (kept.InPackage front) = in_package front
+view_name (kept.InPackage package_name) = in_package (package_name ++ 0x2E ∷ [])
 view_name (kept.Prefix front) = prefix front
 view_name (kept.Exact units) = exact units

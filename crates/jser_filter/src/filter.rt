@@ -3,13 +3,15 @@ ghost use Rattle.std.specs.Prelude.{List, ℕ, ◌≡◌, ◌≢◌, [], option_
 ghost use Rattle.jser_table.specs.Names.{element, element_of, malformed_element};
 ghost use Rattle.jser_prim.specs.ModifiedUtf8.{utf16_units};
 ghost use Rattle.jser_filter.specs.Cuts.{part_now};
+ghost use Rattle.jser_filter.specs.Patterns.{package_of};
 ghost use Rattle.jser_filter.specs.Pieces.{pieces_of};
 ghost use Rattle.jser_filter.specs.Filters.{IsFirstFault, AreSound, limits_of, matches_piece, verdict_of, verdict_by, verdict_at};
 
-use crate::cut::next_part;
+use crate::cut::{before_last, next_part};
 use crate::fault::{FilterCause, FilterFault};
 use crate::limit::Limits;
 use crate::modules::Modules;
+use crate::pattern::DOT;
 use crate::pieces::Pieces;
 use crate::verdict::Verdict;
 use jser_prim::units_of;
@@ -92,15 +94,24 @@ impl Filter {
     fn judge_class(&self, class: &[u16]) -> Verdict
         ensures { result ≡ verdict_by self.now (element class.now) }
     {
-        judge_by(&self.pieces, self.modules.of_class(class), class)
+        let package = before_last(class, DOT);
+        let found = self.modules.of_package(package);
+        judge_by(&self.pieces, found, package, class)
     }
 }
 
-/// What the pieces say of a name, whose package is in the module that was found, if in any.
-fn judge_by(pieces: &Pieces, found: Option<&[u16]>, name: &[u16]) -> Verdict
+/// What the pieces say of a name, which is in this package, if in any, and in the module that was found, if in
+/// any.
+fn judge_by(
+    pieces: &Pieces,
+    found: Option<&[u16]>,
+    package: Option<&[u16]>,
+    name: &[u16],
+) -> Verdict
+    requires { option_map part_now «package» ≡ package_of name.now }
     ensures { result ≡ verdict_at pieces.now (position (matches_piece (option_map part_now found.entry) name.now) pieces.now) }
 {
-    let Some(index) = pieces.first_match(found, name) else {
+    let Some(index) = pieces.first_match(found, package, name) else {
         return Verdict::Undecided;
     };
     if pieces.rejects(index) {
@@ -126,7 +137,9 @@ fn read_pieces(alloc: Global, units: &[u16]) -> Result<Pieces, FilterFault>
     ensures sound { IfOk result AreSound }
     ensures fault { IfErr result (IsFirstFault (pieces_of units.now)) }
 {
-    let mut pieces = Pieces::new(alloc);
+    let Ok(mut pieces) = Pieces::new(alloc) else {
+        return Err(no_memory_at_first());
+    };
     let mut rest = Some(units);
     'pieces: while let Some(text) = rest {
         let (piece, more) = next_part(text, SEMICOLON);

@@ -5,6 +5,7 @@
 mod cut;
 mod fault;
 mod filter;
+mod index;
 pub mod laws;
 mod limit;
 mod modules;
@@ -14,8 +15,10 @@ mod pieces;
 mod places;
 #[cfg(test)]
 mod tests;
+mod trie;
 mod units;
 mod verdict;
+mod words;
 
 pub use fault::{FilterCause, FilterFault, ModulesCause, ModulesFault};
 pub use filter::Filter;

@@ -1,10 +1,10 @@
 //! The table of modules: which module each package is in.
-ghost use Rattle.std.specs.Prelude.{List, ◌≡◌, ◌≢◌, ℕ, ◌<◌, [], length, option_map, map, None, IfOk, IfErr, OnOk, ◌++◌, ◌∷◌};
+ghost use Rattle.std.specs.Prelude.{List, ◌≡◌, ◌≢◌, ℕ, ◌<◌, [], length, option_map, option_and_then, map, None, IfOk, IfErr, OnOk, ◌++◌, ◌∷◌};
 ghost use Rattle.jser_prim.specs.ModifiedUtf8.{utf16_units};
 ghost use Rattle.jser_filter.specs.Cuts.{cut, part_now, both_now};
-ghost use Rattle.jser_filter.specs.Tables.{module_of, module_of_class, module_at, entry_of, view_entry, view_sides, read_sides, read_line, lines_of, table_of, fault_in, IsLineCause, AreSoundLines, IsFirstLineFault};
+ghost use Rattle.jser_filter.specs.Tables.{module_of, module_at, entry_of, view_entry, view_sides, read_sides, read_line, lines_of, table_of, fault_in, IsLineCause, AreSoundLines, IsFirstLineFault};
 
-use crate::cut::{before_last, cut, next_part};
+use crate::cut::{cut, next_part};
 use crate::fault::{ModulesCause, ModulesFault};
 use crate::places::{Places, put};
 use crate::units::Units;
@@ -39,8 +39,6 @@ impl Model for Modules {
 
     ghost invariant = { λ a. ArePackages (map view_entry a.entries.items) a.packages };
 }
-
-const DOT: u16 = 0x2E;
 
 const EQUALS: u16 = 0x3D;
 
@@ -84,11 +82,11 @@ impl Modules {
         }
     }
 
-    /// The module of a class, by its package. Takes no memory.
-    pub(crate) fn of_class(&self, name: &[u16]) -> Option<&[u16]>
-        ensures { option_map part_now result ≡ module_of_class self.now name.now }
+    /// The module of a package, if there is one and the table has it.
+    pub(crate) fn of_package(&self, package: Option<&[u16]>) -> Option<&[u16]>
+        ensures { option_map part_now result ≡ option_and_then (module_of self.now) (option_map part_now «package».entry) }
     {
-        match before_last(name, DOT) {
+        match package {
             Some(package) => self.get(package),
             None => None,
         }

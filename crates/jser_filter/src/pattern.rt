@@ -1,16 +1,16 @@
 //! Patterns: which names they match, and which of these they reject.
 ghost use Rattle.std.specs.Prelude.{◌≡◌, ◌≤◌, length, IfOk};
-ghost use Rattle.jser_filter.specs.Patterns.{name_pattern, matches_name, view_name, has_dot, without_last};
+ghost use Rattle.jser_filter.specs.Patterns.{name_pattern, view_name, without_last};
 
 use crate::units::Units;
 use std::alloc::{AllocError, Global};
 
-/// A name pattern, read once: the units are those in front of its stars, or all.
+/// A name pattern, read once: the units are those in front of its stars, or all of them.
 #[derive(Debug, Drop)]
 pub(crate) enum NamePattern {
     /// `P.**`, with its `P.`
     BelowPackage(Units),
-    /// `P.*`, with its `P.`
+    /// `P.*`, with its `P`
     InPackage(Units),
     /// `X*`, with its `X`
     Prefix(Units),
@@ -18,7 +18,7 @@ pub(crate) enum NamePattern {
     Exact(Units),
 }
 
-const DOT: u16 = 0x2E;
+pub(crate) const DOT: u16 = 0x2E;
 
 const STAR: u16 = 0x2A;
 
@@ -28,33 +28,18 @@ const INSIDE: [u16; 2] = [DOT, STAR];
 
 impl NamePattern {
     /// Reads a name pattern. The cases are tried in the order of the variants.
+    #[tactic(auto, using(crate::proofs::PackageLemmas::package_read))]
     pub(crate) fn read(alloc: Global, units: &[u16]) -> Result<NamePattern, AllocError>
         ensures { IfOk result (λ pattern. view_name pattern ≡ name_pattern units.now) }
     {
         if units.ends_with(&BELOW) {
             Ok(NamePattern::BelowPackage(without_last(alloc, units, 2)?))
         } else if units.ends_with(&INSIDE) {
-            Ok(NamePattern::InPackage(without_last(alloc, units, 1)?))
+            Ok(NamePattern::InPackage(without_last(alloc, units, 2)?))
         } else if units.ends_with(&[STAR]) {
             Ok(NamePattern::Prefix(without_last(alloc, units, 1)?))
         } else {
             Ok(NamePattern::Exact(Units::copy_of(alloc, units)?))
-        }
-    }
-
-    /// Whether the name has this pattern.
-    pub(crate) fn matches(&self, name: &[u16]) -> bool
-        ensures { result ≡ matches_name (view_name self.now) name.now }
-    {
-        match self {
-            NamePattern::BelowPackage(front) | NamePattern::Prefix(front) => {
-                name.starts_with(front.as_slice())
-            }
-            NamePattern::InPackage(front) => {
-                let front = front.as_slice();
-                name.starts_with(front) && !has_dot(name.split_at(front.len()).1)
-            }
-            NamePattern::Exact(units) => name == units.as_slice(),
         }
     }
 }
@@ -66,10 +51,4 @@ fn without_last(alloc: Global, units: &[u16], count: usize) -> Result<Units, All
 {
     let (front, _) = units.split_at(units.len() - count);
     Units::copy_of(alloc, front)
-}
-
-fn has_dot(units: &[u16]) -> bool
-    ensures { result ≡ has_dot units.now }
-{
-    units.iter().any(|unit| *unit == DOT)
 }

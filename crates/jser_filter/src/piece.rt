@@ -1,9 +1,6 @@
 //! The pieces of a filter's text: limits, patterns and empty ones.
-ghost use Rattle.std.specs.Prelude.{◌≡◌, IfOk, IfErr, option_map};
-ghost use Rattle.jser_filter.specs.Pieces.{read_piece, read_limit, read_pattern, read_named, read_name, lacks_package, view_piece, view_pattern, IsCauseOf};
-ghost use Rattle.jser_filter.specs.Cuts.{part_now};
-ghost use Rattle.jser_filter.specs.Index.{name_of_piece, is_pattern};
-ghost use Rattle.jser_filter.specs.Filters.{matches_piece, matches_pattern, is_in_module};
+ghost use Rattle.std.specs.Prelude.{◌≡◌, IfOk, IfErr};
+ghost use Rattle.jser_filter.specs.Pieces.{read_piece, read_limit, read_pattern, read_named, read_name, lacks_package, view_piece, IsCauseOf};
 
 use crate::cut::cut;
 use crate::fault::FilterCause;
@@ -46,59 +43,6 @@ impl Piece {
         match cut(units, EQUALS) {
             Some((name, value)) => read_limit(name, value),
             None => read_pattern(alloc, units),
-        }
-    }
-
-    /// The name, where this is an exact pattern in no module.
-    pub(crate) fn exact_name(&self) -> Option<&[u16]>
-        ensures { option_map part_now result ≡ name_of_piece (view_piece self.now) }
-    {
-        match self {
-            Piece::Pattern(
-                Pattern {
-                    in_module: None,
-                    name: NamePattern::Exact(units),
-                    ..
-                },
-            ) => Some(units.as_slice()),
-            _ => None,
-        }
-    }
-
-    /// Whether this is a pattern.
-    pub(crate) fn is_pattern(&self) -> bool
-        ensures { result ≡ is_pattern (view_piece self.now) }
-    {
-        matches!(self, Piece::Pattern(_))
-    }
-
-    /// Whether this is a pattern that matches the name, whose package is in the module that was found, if
-    /// in any.
-    pub(crate) fn matches(&self, found: Option<&[u16]>, name: &[u16]) -> bool
-        ensures { result ≡ matches_piece (option_map part_now found.entry) name.now (view_piece self.now) }
-    {
-        match self {
-            Piece::Empty | Piece::Limit(..) => false,
-            Piece::Pattern(pattern) => pattern.matches(found, name),
-        }
-    }
-}
-
-impl Pattern {
-    fn matches(&self, found: Option<&[u16]>, name: &[u16]) -> bool
-        ensures { result ≡ matches_pattern (option_map part_now found.entry) name.now (view_pattern self.now) }
-    {
-        self.is_in(found) && self.name.matches(name)
-    }
-
-    /// Whether the module that was found is the one that the pattern asks for, if it asks for one.
-    fn is_in(&self, found: Option<&[u16]>) -> bool
-        ensures { result ≡ is_in_module (option_map part_now found.entry) self.now.in_module }
-    {
-        match (&self.in_module, found) {
-            (None, _) => true,
-            (Some(_), None) => false,
-            (Some(wanted), Some(found)) => found == wanted.as_slice(),
         }
     }
 }

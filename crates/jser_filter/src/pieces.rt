@@ -1,23 +1,25 @@
-//! The pieces of a filter's text, with an index that finds exact names without trying each.
-ghost use Rattle.std.specs.Prelude.{◌≡◌, ◌<◌, vec_len, vec_capacity, ◌++◌, [], ◌∷◌, length, map, position, slice_get, slice_index, option_map, false, OnOk, OnErr, IfErr};
+//! The pieces of a filter's text, with an index that finds the first match of a name.
+ghost use Rattle.std.specs.Prelude.{◌≡◌, ◌++◌, [], ◌∷◌, length, map, position, slice_get, option_map, false, IfOk, OnOk, OnErr, IfErr};
 ghost use Rattle.jser_filter.specs.Cuts.{part_now};
+ghost use Rattle.jser_filter.specs.Patterns.{package_of};
 ghost use Rattle.jser_filter.specs.Pieces.{read_piece, view_piece, IsCauseOf};
-ghost use Rattle.jser_filter.specs.Index.{AddsPlace, KeepsIndex, first_by_index, matches_at};
+ghost use Rattle.jser_filter.specs.Index.{AddsPlace, KeepsIndex};
+ghost use Rattle.jser_filter.specs.Trie.{IsTrie};
 ghost use Rattle.jser_filter.specs.Filters.{matches_piece, rejects, limits_of, limits_after, is_faulty};
 
 use crate::fault::{FilterCause, FilterFault};
+use crate::index::Index;
 use crate::limit::Limits;
 use crate::piece::Piece;
-use crate::places::{Places, put};
+use crate::places::put;
 use std::alloc::{AllocError, Global};
 use std::marker::Model;
 
-/// The pieces in their order. Exact names are found by `names`; the places of all other patterns are `others`.
+/// The pieces in their order.
 #[derive(Debug, Drop)]
 pub(crate) struct Pieces {
     pieces: Vec<Piece>,
-    names: Places,
-    others: Vec<usize>,
+    index: Index,
 }
 
 impl Model for Pieces {
@@ -30,19 +32,18 @@ impl Model for Pieces {
 
     ghost view = { λ a. map view_piece a.pieces.items };
 
-    ghost invariant = { λ a. IsIndex (map view_piece a.pieces.items) a.names a.others.items };
+    ghost invariant = { λ a. IsIndex (map view_piece a.pieces.items) a.index };
 }
 
 impl Pieces {
-    /// No pieces. Takes no memory.
-    pub(crate) fn new(alloc: Global) -> Pieces
-        ensures { result ≡ [] }
+    /// No pieces.
+    pub(crate) fn new(alloc: Global) -> Result<Pieces, AllocError>
+        ensures { IfOk result (λ pieces. pieces ≡ []) }
     {
-        Pieces {
+        Ok(Pieces {
             pieces: Vec::new(alloc),
-            names: Places::new(alloc),
-            others: Vec::new(alloc),
-        }
+            index: Index::new(alloc)?,
+        })
     }
 
     /// Adds what a piece of a text says, or tells what is wrong with it.
@@ -66,14 +67,19 @@ impl Pieces {
         }
     }
 
-    /// The index of the first piece whose pattern matches the name, whose package is in the module that was
-    /// found, if in any. Takes no memory.
+    /// The index of the first piece whose pattern matches the name, which is in this package, if in any, and in
+    /// the module that was found, if in any.
     #[tactic(auto, using(crate::proofs::IndexLemmas::first_is))]
-    pub(crate) fn first_match(&self, found: Option<&[u16]>, name: &[u16]) -> Option<usize>
+    pub(crate) fn first_match(
+        &self,
+        found: Option<&[u16]>,
+        package: Option<&[u16]>,
+        name: &[u16],
+    ) -> Option<usize>
+        requires { option_map part_now «package» ≡ package_of name.now }
         ensures { result ≡ position (matches_piece (option_map part_now found.entry) name.now) self.now }
     {
-        let exact = self.names.get(name);
-        first_by_index(&self.pieces, &self.others, exact, found, name)
+        self.index.first(found, package, name)
     }
 
     /// Whether the piece with this index is a rejecting pattern.
@@ -96,65 +102,27 @@ impl Pieces {
         ensures kept { OnErr result (self.new ≡ self.old) }
     {
         self.pieces.reserve(1)?;
-        self.others.reserve(1)?;
         let place = self.pieces.len();
-        add_place(alloc, &mut self.names, &mut self.others, &piece, place)?;
+        add_place(alloc, &mut self.index, &piece, place)?;
         put(&mut self.pieces, piece);
         Ok(())
     }
 }
 
-/// The index of the first match: the exact name's, or that of another pattern before it.
-fn first_by_index(
-    pieces: &[Piece],
-    others: &[usize],
-    exact: Option<usize>,
-    found: Option<&[u16]>,
-    name: &[u16],
-) -> Option<usize>
-    ensures { result ≡ first_by_index (matches_at (option_map part_now found.entry) name.now (map view_piece pieces.now)) exact others.now }
-{
-    for place in others {
-        if exact.is_some_and(|exact| exact < *place) {
-            return exact;
-        }
-        if matches_at(pieces, *place, found, name) {
-            return Some(*place);
-        }
-    }
-    exact
-}
-
-/// Whether the piece at this place is a pattern that matches the name.
-fn matches_at(pieces: &[Piece], place: usize, found: Option<&[u16]>, name: &[u16]) -> bool
-    ensures { result ≡ matches_at (option_map part_now found.entry) name.now (map view_piece pieces.now) place }
-{
-    match pieces.get(place) {
-        Some(piece) => piece.matches(found, name),
-        None => false,
-    }
-}
-
-/// Adds the place of a piece to the index.
+/// Adds the place of a piece to the index, if it is a pattern.
 fn add_place(
     alloc: Global,
-    names: &mut Places,
-    others: &mut Vec<usize>,
+    index: &mut Index,
     piece: &Piece,
     place: usize,
 ) -> Result<(), AllocError>
-    requires { vec_len others.old < vec_capacity others.old }
-    ensures ok { OnOk result (AddsPlace names.old names.new others.old.items others.new.items (view_piece piece.now) place) }
-    ensures err { OnErr result (KeepsIndex names.old names.new others.old.items others.new.items) }
+    requires { IsTrie index.old.words }
+    ensures ok { OnOk result (AddsPlace index.old index.new (view_piece piece.now) place) }
+    ensures err { OnErr result (KeepsIndex index.old index.new) }
 {
-    match piece.exact_name() {
-        Some(name) => names.add(alloc, name, place),
-        None => {
-            if piece.is_pattern() {
-                put(others, place);
-            }
-            Ok(())
-        }
+    match piece {
+        Piece::Pattern(pattern) => index.add(alloc, pattern, place),
+        Piece::Empty | Piece::Limit(..) => Ok(()),
     }
 }
 
@@ -176,7 +144,7 @@ fn limits_in(pieces: &[Piece]) -> Limits
     limits
 }
 
-/// The limits behind a piece.
+/// The limits after a piece.
 fn limits_after(limits: Limits, piece: &Piece) -> Limits
     ensures { result ≡ limits_after limits (view_piece piece.now) }
 {

@@ -5,5 +5,5 @@ use Rattle.jser_filter.proofs.pieces.Pieces.push.Goals as goal
 pub invariant_of-self-2 : goal.invariant_of-self-2
 invariant_of-self-2 c =
     let own = c.self.inside in
-    index_pushed own.pieces.items c.reserve.new.self.items c.put.new.items.items c.args.piece own.names c.add_place.new.names own.others.items c.reserve-2.new.self.items c.add_place.new.others.items c.len-place.result
-    c.self.invariant c.in_ok-reserve.ensures.items c.in_ok-reserve-2.ensures.items c.in_ok-add_place.ensures.ok (search rules) c.put.ensures
+    index_pushed own.pieces.items c.reserve.new.self.items c.put.new.items.items c.args.piece own.index c.add_place.new.index c.len-place.result
+    c.self.invariant c.in_ok-reserve.ensures.items c.in_ok-add_place.ensures.ok (search rules) c.put.ensures

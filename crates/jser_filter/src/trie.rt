@@ -1,0 +1,163 @@
+//! A trie: words of letters, each with a place, and the least place of the words that begin a text.
+//!
+//! A node has a number, and the edges of all nodes are found by one hash map, so that a letter costs one look-up
+//! whatever the number of words.
+ghost use Rattle.std.specs.Prelude.{◌≡◌, ◌+◌, ◌<◌, ◌∷◌, [], List, ℕ, None, IfOk, length};
+ghost use Rattle.jser_filter.specs.Trie.{Keeps, LeadsOn, IsTrie, Reaches, AddsWord, edge_of, first_of, least, mark_of, step, walk_along};
+ghost use Rattle.jser_filter.specs.Words.{letter, letters};
+
+use crate::places::put;
+use std::alloc::{AllocError, Global};
+use std::collections::HashMap;
+
+/// Words, each with a place.
+#[derive(Debug, Drop)]
+pub(crate) struct Trie {
+    edges: HashMap<(usize, u32), usize>,
+    marks: Vec<Option<usize>>,
+}
+
+/// How far the letters so far lead: the node, if the trie has it, and the least place met.
+#[derive(Clone, Copy, Debug)]
+pub(crate) struct Walk {
+    node: Option<usize>,
+    pub(crate) first: Option<usize>,
+}
+
+/// The node of the empty word.
+pub(crate) const ROOT: usize = 0;
+
+/// The letter of a unit. Odd numbers are the letters of no unit.
+pub(crate) fn letter(unit: u16) -> u32
+    ensures { result ≡ letter unit }
+{
+    u32::from(unit) + u32::from(unit)
+}
+
+/// The lesser of two places, if there is one.
+pub(crate) fn least(one: Option<usize>, other: Option<usize>) -> Option<usize>
+    ensures { result ≡ least one other }
+{
+    match (one, other) {
+        (None, _) => other,
+        (Some(_), None) => one,
+        (Some(first), Some(second)) => { if second < first { other } else { one } }
+    }
+}
+
+impl Trie {
+    /// No words.
+    #[tactic(auto, using(crate::proofs::TrieLemmas::empty_trie, crate::proofs::TrieLemmas::no_words))]
+    pub(crate) fn new(alloc: Global) -> Result<Trie, AllocError>
+        ensures is_trie { IfOk result IsTrie }
+        ensures none { IfOk result (λ trie. (word : List ℕ) → first_of trie word ≡ None) }
+    {
+        let mut marks = Vec::new(alloc);
+        marks.push(None)?;
+        Ok(Trie {
+            edges: HashMap::new(alloc),
+            marks,
+        })
+    }
+
+    /// The node to which a letter leads.
+    fn child(&self, node: usize, letter: u32) -> Option<usize>
+        ensures { result ≡ edge_of self.now node letter }
+    {
+        self.edges.get(&(node, letter)).copied()
+    }
+
+    /// Goes from a node along a letter, and makes the next node where there is none.
+    #[tactic(auto, using(crate::proofs::TrieLemmas::leads_there))]
+    pub(crate) fn extend(&mut self, node: usize, letter: u32) -> Result<usize, AllocError>
+        requires is_trie { IsTrie self.old }
+        requires inside { node < length self.old.marks.items }
+        ensures keeps { Keeps self.old self.new }
+        ensures leads { IfOk result (LeadsOn self.old self.new node (letter ∷ [])) }
+    {
+        match self.child(node, letter) {
+            Some(next) => Ok(next),
+            None => self.grow(node, letter),
+        }
+    }
+
+    /// Makes the node to which a letter leads.
+    fn grow(&mut self, node: usize, letter: u32) -> Result<usize, AllocError>
+        requires is_trie { IsTrie self.old }
+        requires inside { node < length self.old.marks.items }
+        requires free { edge_of self.old node letter ≡ None }
+        ensures keeps { Keeps self.old self.new }
+        ensures leads { IfOk result (LeadsOn self.old self.new node (letter ∷ [])) }
+    {
+        self.marks.reserve(1)?;
+        let next = self.marks.len();
+        self.edges.insert((node, letter), next)?;
+        put(&mut self.marks, None);
+        Ok(next)
+    }
+
+    /// Marks the node at the end of a word with a place, unless it has a lesser one.
+    #[tactic(auto, using(crate::proofs::TrieLemmas::marked_word))]
+    pub(crate) fn mark(&mut self, node: usize, place: usize)
+        requires is_trie { IsTrie self.old }
+        requires inside { node < length self.old.marks.items }
+        ensures { (word : List ℕ) → Reaches self.old word node → AddsWord self.old self.new word place }
+    {
+        let marked = least(self.mark_at(node), Some(place));
+        self.marks[node] = marked;
+    }
+
+    /// The walk along no letters.
+    pub(crate) fn start(&self) -> Walk
+        ensures { result ≡ record { node = Some 0; first = mark_of self.now 0 } }
+    {
+        Walk {
+            node: Some(ROOT),
+            first: self.mark_at(ROOT),
+        }
+    }
+
+    /// One letter further.
+    pub(crate) fn step(&self, walk: Walk, letter: u32) -> Walk
+        ensures { result ≡ step (edge_of self.now) (mark_of self.now) walk letter }
+    {
+        let Some(node) = walk.node else {
+            return walk;
+        };
+        match self.child(node, letter) {
+            None => Walk {
+                node: None,
+                first: walk.first,
+            },
+            Some(next) => Walk {
+                node: Some(next),
+                first: least(walk.first, self.mark_at(next)),
+            },
+        }
+    }
+
+    /// The letters of some units further.
+    #[tactic(auto, using(crate::proofs::TreeLemmas::walk_ended))]
+    pub(crate) fn along(&self, walk: Walk, units: &[u16]) -> Walk
+        ensures { result ≡ walk_along (edge_of self.now) (mark_of self.now) walk (letters units.now) }
+    {
+        let mut walk = walk;
+        'units: for unit in units {
+            if walk.node.is_none() {
+                return walk;
+            }
+            walk = self.step(walk, letter(*unit));
+        }
+        walk
+    }
+
+    /// The mark of a node.
+    fn mark_at(&self, node: usize) -> Option<usize>
+        ensures { result ≡ mark_of self.now node }
+    {
+        match self.marks.get(node) {
+            Some(mark) => *mark,
+            None => None,
+        }
+    }
+}
