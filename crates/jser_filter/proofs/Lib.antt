@@ -8,6 +8,6 @@ pub mod PositionLemmas
 pub mod PackageLemmas
 pub mod TreeLemmas
 pub mod TrieLemmas
-pub mod WordLemmas
 pub mod MatchLemmas
+pub mod WordLemmas
 pub mod IndexLemmas

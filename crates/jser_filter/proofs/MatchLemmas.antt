@@ -150,9 +150,9 @@ starts_more (unit ∷ front) (other ∷ name) rest starts =
     let both = and_parts (nat_eq unit other) (starts_with nat_eq name front) starts in
     and_from (nat_eq unit other) (starts_with nat_eq (name ++ rest) front) both.0 (starts_more front name rest both.1)
 
-record Cut (name package_name : List ℕ) : Type 0 where
-  rest : List ℕ
-  joined : name ≡ (package_name ++ 0x2E ∷ []) ++ rest
+pub record Cut (name package_name : List ℕ) : Type 0 where
+  pub rest : List ℕ
+  pub joined : name ≡ (package_name ++ 0x2E ∷ []) ++ rest
 
 cut_here : (unit : ℕ) (name package_name : List ℕ) (later : Option (List ℕ)) (test : Bool) → (unit == 0x2E) ≡ test
     → ((before : List ℕ) → later ≡ Some before → Cut name before) → front_with 0x2E unit later ≡ Some package_name → Cut (unit ∷ name) package_name
@@ -174,7 +174,7 @@ cut_here unit name package_name None false is deeper told = absurd (no_list (ap 
     no_list : {x : List ℕ} → None ≡ Some x → ⊥
     no_list e = cc
 
-cut_name : (name package_name : List ℕ) → before_last 0x2E name ≡ Some package_name → Cut name package_name
+pub cut_name : (name package_name : List ℕ) → before_last 0x2E name ≡ Some package_name → Cut name package_name
 cut_name [] package_name told = absurd (no_list told)
   where
     no_list : {x : List ℕ} → None ≡ Some x → ⊥

@@ -1,10 +1,11 @@
 -- Maps from names: what an insert leaves at any name.
-use Rattle.std.proofs.Common.{◌≡◌, ℕ, Bool, true, false, cond, List, Option, Some, None, sym, ap, subst, ◌∙◌, ⊎_elim}
+use Rattle.std.proofs.Common.{◌≡◌, ℕ, Bool, true, false, cond, length, List, Option, Some, None, sym, ap, subst, ◌∙◌, ⊎_elim}
 use Rattle.std.specs.declared.vec.Vec.{Vec}
 use Rattle.std.specs.HashMap as hash
 use Rattle.std.specs.HashMap.{HashMap}
 use Rattle.std.specs.Map.{KeepsOthers, IsKeyTest, AreApart, lookup}
 use Rattle.std.specs.Str.{bytes_eq}
+use Rattle.std.proofs.lemmas.List.{nil_from_length}
 use Rattle.std.proofs.lemmas.Bool.{cases_Bool, cond-true, cond-false}
 use Rattle.std.proofs.lemmas.Cmp.{nat_list_eq_equiv}
 use Rattle.std.proofs.lemmas.Slice.Eq.{bytes_eq-Decides}
@@ -38,3 +39,6 @@ put_first m n key name place h is absent q =
     ap (λ o. cond (bytes_eq name q) (or_else o (Some place)) (at_name m q)) (sym none))
     (λ other. cond-false (bytes_eq name q) (Some place) (at_name m q) other ∙ sym (cond-false (bytes_eq name q) (or_else (at_name m q) (Some place)) (at_name m q) other))
     (cases_Bool (bytes_eq name q))
+
+pub no_place : {K Z S : Type 0} (m : HashMap K Z S) (test : K → Bool) → length m.entries ≡ 0 → None ≡ hash.get_by test m
+no_place m test none = sym (ap (lookup test) (nil_from_length m.entries none))

@@ -1,9 +1,11 @@
 -- Patterns as words of a trie: the way of a word, and a word at its end.
-use Rattle.std.proofs.Common.{◌≡◌, ℕ, ◌+◌, ◌<◌, Bool, true, false, cond, List, [], ◌∷◌, ◌++◌, length, map, take, get_or, Option, Some, None, refl, ap, sym, ◌∙◌, subst, append_assoc}
-use Rattle.std.proofs.lemmas.List.{append-nil, map_more, map_push}
+use Rattle.std.proofs.Common.{◌≡◌, ℕ, ◌+◌, ◌<◌, ◌≤◌, Bool, true, false, cond, List, [], ◌∷◌, ◌++◌, length, map, take, drop, get_or, Option, Some, None, refl, ap, sym, ◌∙◌, subst, arith, append_assoc, length-append}
+use Rattle.std.proofs.lemmas.List.{append-nil, map_more, map_push, map-append, drop_at}
 use Rattle.jser_filter.specs.declared.trie.Walk.{Walk}
 use Rattle.jser_filter.specs.declared.trie.Trie.{Trie}
-use Rattle.jser_filter.specs.Index.{name_in, package_in}
+use Rattle.jser_filter.specs.Index.{name_in, package_in, first_in_module}
+use Rattle.jser_filter.specs.Patterns.{package_of}
+use Rattle.jser_filter.proofs.MatchLemmas.{cut_name}
 use Rattle.jser_filter.specs.Trie.{Edges, Marks, IsTrie, Keeps, LeadsOn, Reaches, AddsWord, edge_of, mark_of, first_of, first_from, least, begins, step, walk_along}
 use Rattle.jser_filter.specs.Words.{letter, letters, in_module, of_module, of_name, of_end, of_package}
 use Rattle.jser_filter.proofs.TreeLemmas.{walk-append, walk_first}
@@ -29,7 +31,7 @@ leads_into old mid new at to module_name name one two =
     subst (λ w. LeadsOn old new 0 (of_module ∷ w) to) (append_assoc (letters module_name) (of_name ∷ []) name)
     (leads_on old mid new 0 at to (of_module ∷ (letters module_name ++ of_name ∷ [])) name one two)
 
-pub leads_nowhere : (trie : Trie) (node : ℕ) → node < length trie.marks.items → LeadsOn trie trie node [] node
+pub leads_nowhere : (trie : Trie) (node : ℕ) → node < length trie.nodes.items → LeadsOn trie trie node [] node
 leads_nowhere trie node inside = record {
   inside = inside;
   reached = λ word after. subst (λ w. Reaches trie w node) (sym (append-nil word)) after;
@@ -83,18 +85,49 @@ walk_in trie module_name word =
     ∙ ap (λ w. (walk_of trie (at_root trie) (of_module ∷ w)).first) (append_assoc (letters module_name) (of_name ∷ []) word)
     ∙ walk_is_first trie (in_module module_name word)
 
-pub walk_to_name : (trie : Trie) (module_name name : List ℕ) (walk : Walk) → walk ≡ walk_of trie (at_root trie) (of_module ∷ (letters module_name ++ of_name ∷ []))
-    → (step (edge_of trie) (mark_of trie) (walk_of trie walk (letters name)) of_end).first ≡ first_of trie (name_in module_name name)
-walk_to_name trie module_name name walk is =
-    ap (λ w. w.first) (sym (walk-append (edge_of trie) (mark_of trie) walk (letters name) (of_end ∷ [])))
-    ∙ ap (λ w. (walk_of trie w (letters name ++ of_end ∷ [])).first) is
-    ∙ walk_in trie module_name (letters name ++ of_end ∷ [])
+pub walk_name : (trie : Trie) (walk : Walk) (units : List ℕ) → step (edge_of trie) (mark_of trie) (walk_of trie walk (letters units)) of_end ≡ walk_of trie walk (letters units ++ of_end ∷ [])
+walk_name trie walk units = sym (walk-append (edge_of trie) (mark_of trie) walk (letters units) (of_end ∷ []))
 
-pub walk_to_package : (trie : Trie) (module_name package_name : List ℕ) (walk : Walk) → walk ≡ walk_of trie (at_root trie) (of_module ∷ (letters module_name ++ of_name ∷ []))
-    → (step (edge_of trie) (mark_of trie) (step (edge_of trie) (mark_of trie) (walk_of trie walk (letters package_name)) (letter 0x2E)) of_package).first ≡ first_of trie (package_in module_name package_name)
-walk_to_package trie module_name package_name walk is =
-    ap (λ w. (step (edge_of trie) (mark_of trie) w of_package).first) (sym (walk-append (edge_of trie) (mark_of trie) walk (letters package_name) (letter 0x2E ∷ [])))
-    ∙ ap (λ us. (step (edge_of trie) (mark_of trie) (walk_of trie walk us) of_package).first) (sym (map_push letter package_name 0x2E))
-    ∙ ap (λ w. w.first) (sym (walk-append (edge_of trie) (mark_of trie) walk (letters (package_name ++ 0x2E ∷ [])) (of_package ∷ [])))
-    ∙ ap (λ w. (walk_of trie w (letters (package_name ++ 0x2E ∷ []) ++ of_package ∷ [])).first) is
+-- a name by its package and what is left of it
+package_front : (name package_name : List ℕ) → package_of name ≡ Some package_name → package_name ++ drop (length package_name) name ≡ name
+package_front name package_name is =
+    let cut = cut_name name package_name is in
+    let whole : name ≡ package_name ++ 0x2E ∷ cut.rest = cut.joined ∙ append_assoc package_name (0x2E ∷ []) cut.rest in
+    ap (λ n. package_name ++ drop (length package_name) n) whole
+    ∙ ap (λ back. package_name ++ back) (drop_at package_name (0x2E ∷ cut.rest) (length package_name) refl)
+    ∙ sym whole
+
+pub package_within : (name package_name : List ℕ) → package_of name ≡ Some package_name → length package_name ≤ length name
+package_within name package_name is =
+    omega (arith, ap length (package_front name package_name is), length-append package_name (drop (length package_name) name))
+
+pub name_first : (trie : Trie) (module_name name : List ℕ) (walk : Walk) (first : Option ℕ) → walk ≡ walk_of trie (at_root trie) (of_module ∷ (letters module_name ++ of_name ∷ []))
+    → first ≡ (walk_of trie walk (letters name ++ of_end ∷ [])).first → first ≡ first_of trie (name_in module_name name)
+name_first trie module_name name walk first is told =
+    told ∙ ap (λ w. (walk_of trie w (letters name ++ of_end ∷ [])).first) is ∙ walk_in trie module_name (letters name ++ of_end ∷ [])
+
+pub package_first : (trie : Trie) (module_name package_name name : List ℕ) (walk inside : Walk) (aside on first : Option ℕ) → package_of name ≡ Some package_name
+    → walk ≡ walk_of trie (at_root trie) (of_module ∷ (letters module_name ++ of_name ∷ [])) → inside ≡ walk_of trie walk (letters package_name)
+    → aside ≡ (walk_of trie inside (letter 0x2E ∷ of_package ∷ [])).first
+    → on ≡ (walk_of trie inside (letters (drop (length package_name) name) ++ of_end ∷ [])).first
+    → first ≡ least aside on → first ≡ first_in_module trie module_name (Some package_name) name
+package_first trie module_name package_name name walk inside aside on first its is in_package aside_is on_is told =
+    let base : Walk = walk_of trie (at_root trie) (of_module ∷ (letters module_name ++ of_name ∷ [])) in
+    let there : inside ≡ walk_of trie base (letters package_name) = in_package ∙ ap (λ w. walk_of trie w (letters package_name)) is in
+    let one : aside ≡ first_of trie (package_in module_name package_name) =
+    aside_is
+    ∙ ap (λ w. (walk_of trie w (letter 0x2E ∷ of_package ∷ [])).first) there
+    ∙ ap (λ w. w.first) (sym (walk-append (edge_of trie) (mark_of trie) base (letters package_name) (letter 0x2E ∷ of_package ∷ [])))
+    ∙ ap (λ ls. (walk_of trie base ls).first) (sym (append_assoc (letters package_name) (letter 0x2E ∷ []) (of_package ∷ [])) ∙ ap (λ ls. ls ++ of_package ∷ []) (sym (map_push letter package_name 0x2E)))
     ∙ walk_in trie module_name (letters (package_name ++ 0x2E ∷ []) ++ of_package ∷ [])
+    in
+    let rest : List ℕ = drop (length package_name) name in
+    let two : on ≡ first_of trie (name_in module_name name) =
+    on_is
+    ∙ ap (λ w. (walk_of trie w (letters rest ++ of_end ∷ [])).first) there
+    ∙ ap (λ w. w.first) (sym (walk-append (edge_of trie) (mark_of trie) base (letters package_name) (letters rest ++ of_end ∷ [])))
+    ∙ ap (λ ls. (walk_of trie base ls).first)
+    (sym (append_assoc (letters package_name) (letters rest) (of_end ∷ [])) ∙ ap (λ ls. ls ++ of_end ∷ []) (sym (map-append letter package_name rest) ∙ ap letters (package_front name package_name its)))
+    ∙ walk_in trie module_name (letters name ++ of_end ∷ [])
+    in
+    told ∙ ap (λ o. least o on) one ∙ ap (least (first_of trie (package_in module_name package_name))) two

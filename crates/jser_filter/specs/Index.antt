@@ -4,6 +4,7 @@ use Rattle.std.specs.Prelude.{ℕ, ◌≡◌, Bool, false, if◌then◌else◌, 
 use Rattle.std.specs.Str.{bytes_eq}
 use Rattle.jser_filter.specs.declared.index.Index.{Index}
 use Rattle.jser_filter.specs.declared.places.Places.{Places}
+use Rattle.jser_filter.specs.declared.trie.Trie.{Trie}
 use Rattle.jser_filter.specs.Patterns.{NamePattern, below_package, in_package, prefix, exact}
 use Rattle.jser_filter.specs.Pieces.{Piece, empty_piece, limit_piece, pattern_piece, faulty_piece}
 use Rattle.jser_filter.specs.Tables.{Entry, ModuleTable}
@@ -86,14 +87,17 @@ name_in module_name name = in_module module_name (letters name ++ of_end ∷ [])
 abbrev pub package_in : List ℕ → List ℕ → List ℕ
 package_in module_name package_name = in_module module_name (letters (package_name ++ 0x2E ∷ []) ++ of_package ∷ [])
 
-abbrev pub first_package_in : Index → List ℕ → Option (List ℕ) → Option ℕ
-first_package_in index module_name None = None
-first_package_in index module_name (Some package_name) = first_of index.words (package_in module_name package_name)
+abbrev pub first_package_in : Trie → List ℕ → Option (List ℕ) → Option ℕ
+first_package_in words module_name None = None
+first_package_in words module_name (Some package_name) = first_of words (package_in module_name package_name)
+
+abbrev pub first_in_module : Trie → List ℕ → Option (List ℕ) → List ℕ → Option ℕ
+first_in_module words module_name package_found name =
+    least (first_package_in words module_name package_found) (first_of words (name_in module_name name))
 
 abbrev pub first_in : Index → Option (List ℕ) → Option (List ℕ) → List ℕ → Option ℕ
 first_in index None package_found name = None
-first_in index (Some module_name) package_found name =
-    least (first_package_in index module_name package_found) (first_of index.words (name_in module_name name))
+first_in index (Some module_name) package_found name = first_in_module index.words module_name package_found name
 
 abbrev pub first_by : Index → Option (List ℕ) → Option (List ℕ) → List ℕ → Option ℕ
 first_by index found package_found name =

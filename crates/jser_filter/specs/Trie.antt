@@ -3,6 +3,8 @@
 use Rattle.std.specs.Prelude.{ℕ, ◌≡◌, ◌+◌, ◌<◌, length, slice_index_or, List, [], ◌∷◌, ◌++◌, Option, Some, None, option_and_then, nat_lt, nat_eq, if◌then◌else◌, Bool, true, false, ◌==◌, ◌&&◌}
 use Rattle.std.specs.HashMap.{get}
 use Rattle.jser_filter.specs.declared.trie.Trie.{Trie}
+use Rattle.jser_filter.specs.declared.trie.Node.{Node}
+use Rattle.jser_filter.specs.declared.trie.Edge.{Edge}
 use Rattle.jser_filter.specs.declared.trie.Walk.{Walk}
 
 -- the node to which a letter leads, and the mark of a node
@@ -57,15 +59,30 @@ walk_along edge mark walk (letter ∷ letters) = walk_along edge mark (step edge
 
 -- What a kept trie is.
 
-abbrev pub edge_of : Trie → Edges
-edge_of trie node letter = get (λ x y. nat_eq x.0 y.0 && nat_eq x.1 y.1) trie.edges (node, letter)
+-- the node of a number, or a new one
+abbrev pub blank : Node
+blank = record { mark = None; first = None }
+
+abbrev pub node_of : Trie → ℕ → Node
+node_of trie node = slice_index_or trie.nodes.items node blank
 
 abbrev pub mark_of : Trie → Marks
-mark_of trie node = slice_index_or trie.marks.items node None
+mark_of trie node = (node_of trie node).mark
+
+-- the first edge, or another
+abbrev pub edge_with : Option Edge → Option ℕ → ℕ → Option ℕ
+edge_with None other letter = other
+edge_with (Some edge) other letter = if edge.letter == letter then Some edge.to else other
+
+abbrev pub other_edge : Trie → Edges
+other_edge trie node letter = get (λ x y. nat_eq x.0 y.0 && nat_eq x.1 y.1) trie.others (node, letter)
+
+abbrev pub edge_of : Trie → Edges
+edge_of trie node letter = edge_with (node_of trie node).first (other_edge trie node letter) letter
 
 pub record IsTrie (trie : Trie) : Type 0 where
-  pub tree : IsTree (edge_of trie) (length trie.marks.items)
-  pub rooted : 0 < length trie.marks.items
+  pub tree : IsTree (edge_of trie) (length trie.nodes.items)
+  pub rooted : 0 < length trie.nodes.items
 
 -- the least place of a word that begins these letters
 abbrev pub first_of : Trie → List ℕ → Option ℕ
@@ -83,7 +100,7 @@ pub record Keeps (old new : Trie) : Type 0 where
 
 -- the way on from a node leads to another
 pub record LeadsOn (old new : Trie) (from : ℕ) (letters : List ℕ) (to : ℕ) : Type 0 where
-  pub inside : to < length new.marks.items
+  pub inside : to < length new.nodes.items
   pub reached : (word : List ℕ) → Reaches old word from → Reaches new (word ++ letters) to
 
 -- one word more, with its place

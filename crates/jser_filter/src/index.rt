@@ -2,6 +2,7 @@
 ghost use Rattle.std.specs.Prelude.{◌≡◌, List, ℕ, None, OnOk, OnErr, IfOk, option_map};
 ghost use Rattle.jser_filter.specs.Cuts.{part_now};
 ghost use Rattle.jser_filter.specs.Index.{AddsPlace, KeepsIndex, first_by, first_in, first_inside};
+ghost use Rattle.jser_filter.specs.Patterns.{package_of};
 ghost use Rattle.jser_filter.specs.Pieces.{pattern_piece, view_pattern};
 ghost use Rattle.jser_filter.specs.Places.{place_of};
 ghost use Rattle.jser_filter.specs.Trie.{IsTrie, first_of};
@@ -10,7 +11,7 @@ use crate::pattern::NamePattern;
 use crate::piece::Pattern;
 use crate::places::Places;
 use crate::trie::{Trie, least};
-use crate::words::{add_front, add_in_module, first_along, first_name_in, first_package_in};
+use crate::words::{add_front, add_in_module, first_along, first_in_module};
 use std::alloc::{AllocError, Global};
 
 /// Where patterns stand. Those in no module that are an exact name or `P.*` are found by hash maps, all others
@@ -73,6 +74,7 @@ impl Index {
         package: Option<&[u16]>,
         name: &[u16],
     ) -> Option<usize>
+        requires { option_map part_now «package» ≡ package_of name.now }
         ensures { result ≡ first_by self.now (option_map part_now found.entry) (option_map part_now «package».entry) name.now }
     {
         let whole = least(self.names.get(name), self.first_inside(package));
@@ -100,15 +102,12 @@ impl Index {
         package: Option<&[u16]>,
         name: &[u16],
     ) -> Option<usize>
+        requires { option_map part_now «package» ≡ package_of name.now }
         ensures { result ≡ first_in self.now (option_map part_now found.entry) (option_map part_now «package».entry) name.now }
     {
-        let Some(module) = found else {
-            return None;
-        };
-        let in_package = match package {
-            Some(package) => first_package_in(&self.words, module, package),
+        match found {
+            Some(module) => first_in_module(&self.words, module, package, name),
             None => None,
-        };
-        least(in_package, first_name_in(&self.words, module, name))
+        }
     }
 }

@@ -12,7 +12,7 @@ pub(crate) struct Places {
 }
 
 impl Places {
-    /// No names. Takes no memory.
+    /// No names.
     pub(crate) fn new(alloc: Global) -> Places
         ensures { (name : List ℕ) → place_of result name ≡ None }
     {
@@ -21,10 +21,14 @@ impl Places {
         }
     }
 
-    /// The first place of the name. Takes no memory.
+    /// The first place of the name. Where there are no names, none is hashed.
+    #[tactic(auto, using(crate::proofs::PlaceLemmas::no_place))]
     pub(crate) fn get(&self, name: &[u16]) -> Option<usize>
         ensures { result ≡ place_of self.now name.now }
     {
+        if self.map.is_empty() {
+            return None;
+        }
         self.map.get(name).copied()
     }
 

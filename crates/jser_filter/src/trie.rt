@@ -1,9 +1,9 @@
 //! A trie: words of letters, each with a place, and the least place of the words that begin a text.
 //!
-//! A node has a number, and the edges of all nodes are found by one hash map, so that a letter costs one look-up
-//! whatever the number of words.
+//! A node keeps the first edge that was made from it; one hash map has the other edges of all nodes. So a letter
+//! costs a comparison, or a look-up where words part, whatever the number of words.
 ghost use Rattle.std.specs.Prelude.{◌≡◌, ◌+◌, ◌<◌, ◌∷◌, [], List, ℕ, None, IfOk, length};
-ghost use Rattle.jser_filter.specs.Trie.{Keeps, LeadsOn, IsTrie, Reaches, AddsWord, edge_of, first_of, least, mark_of, step, walk_along};
+ghost use Rattle.jser_filter.specs.Trie.{Keeps, LeadsOn, IsTrie, Reaches, AddsWord, edge_of, first_of, least, mark_of, node_of, step, walk_along};
 ghost use Rattle.jser_filter.specs.Words.{letter, letters};
 
 use crate::places::put;
@@ -13,9 +13,29 @@ use std::collections::HashMap;
 /// Words, each with a place.
 #[derive(Debug, Drop)]
 pub(crate) struct Trie {
-    edges: HashMap<(usize, u32), usize>,
-    marks: Vec<Option<usize>>,
+    nodes: Vec<Node>,
+    others: HashMap<(usize, u32), usize>,
 }
+
+/// A node: the place of the word that ends there, if one does, and the first edge from it.
+#[derive(Clone, Copy, Debug)]
+struct Node {
+    mark: Option<usize>,
+    first: Option<Edge>,
+}
+
+/// The node to which a letter leads.
+#[derive(Clone, Copy, Debug)]
+struct Edge {
+    letter: u32,
+    to: usize,
+}
+
+/// A new node.
+const BLANK: Node = Node {
+    mark: None,
+    first: None,
+};
 
 /// How far the letters so far lead: the node, if the trie has it, and the least place met.
 #[derive(Clone, Copy, Debug)]
@@ -52,11 +72,11 @@ impl Trie {
         ensures is_trie { IfOk result IsTrie }
         ensures none { IfOk result (λ trie. (word : List ℕ) → first_of trie word ≡ None) }
     {
-        let mut marks = Vec::new(alloc);
-        marks.push(None)?;
+        let mut nodes = Vec::new(alloc);
+        nodes.push(BLANK)?;
         Ok(Trie {
-            edges: HashMap::new(alloc),
-            marks,
+            nodes,
+            others: HashMap::new(alloc),
         })
     }
 
@@ -64,14 +84,27 @@ impl Trie {
     fn child(&self, node: usize, letter: u32) -> Option<usize>
         ensures { result ≡ edge_of self.now node letter }
     {
-        self.edges.get(&(node, letter)).copied()
+        match self.node_at(node).first {
+            Some(edge) if edge.letter == letter => Some(edge.to),
+            _ => self.others.get(&(node, letter)).copied(),
+        }
+    }
+
+    /// What is kept of a node, or a new node where there is none of this number.
+    fn node_at(&self, node: usize) -> Node
+        ensures { result ≡ node_of self.now node }
+    {
+        match self.nodes.get(node) {
+            Some(kept) => *kept,
+            None => BLANK,
+        }
     }
 
     /// Goes from a node along a letter, and makes the next node where there is none.
     #[tactic(auto, using(crate::proofs::TrieLemmas::leads_there))]
     pub(crate) fn extend(&mut self, node: usize, letter: u32) -> Result<usize, AllocError>
         requires is_trie { IsTrie self.old }
-        requires inside { node < length self.old.marks.items }
+        requires inside { node < length self.old.nodes.items }
         ensures keeps { Keeps self.old self.new }
         ensures leads { IfOk result (LeadsOn self.old self.new node (letter ∷ [])) }
     {
@@ -84,27 +117,64 @@ impl Trie {
     /// Makes the node to which a letter leads.
     fn grow(&mut self, node: usize, letter: u32) -> Result<usize, AllocError>
         requires is_trie { IsTrie self.old }
-        requires inside { node < length self.old.marks.items }
+        requires inside { node < length self.old.nodes.items }
         requires free { edge_of self.old node letter ≡ None }
         ensures keeps { Keeps self.old self.new }
         ensures leads { IfOk result (LeadsOn self.old self.new node (letter ∷ [])) }
     {
-        self.marks.reserve(1)?;
-        let next = self.marks.len();
-        self.edges.insert((node, letter), next)?;
-        put(&mut self.marks, None);
-        Ok(next)
+        match self.node_at(node).first {
+            None => self.grow_first(node, letter),
+            Some(_) => self.grow_other(node, letter),
+        }
+    }
+
+    /// Makes the first edge from a node.
+    fn grow_first(&mut self, node: usize, letter: u32) -> Result<usize, AllocError>
+        requires is_trie { IsTrie self.old }
+        requires inside { node < length self.old.nodes.items }
+        requires free { edge_of self.old node letter ≡ None }
+        requires first { (node_of self.old node).first ≡ None }
+        ensures keeps { Keeps self.old self.new }
+        ensures leads { IfOk result (LeadsOn self.old self.new node (letter ∷ [])) }
+    {
+        self.nodes.reserve(1)?;
+        let to = self.nodes.len();
+        let mark = self.node_at(node).mark;
+        self.nodes[node] = Node {
+            mark,
+            first: Some(Edge { letter, to }),
+        };
+        put(&mut self.nodes, BLANK);
+        Ok(to)
+    }
+
+    /// Makes another edge from a node.
+    fn grow_other(&mut self, node: usize, letter: u32) -> Result<usize, AllocError>
+        requires is_trie { IsTrie self.old }
+        requires inside { node < length self.old.nodes.items }
+        requires free { edge_of self.old node letter ≡ None }
+        ensures keeps { Keeps self.old self.new }
+        ensures leads { IfOk result (LeadsOn self.old self.new node (letter ∷ [])) }
+    {
+        self.nodes.reserve(1)?;
+        let to = self.nodes.len();
+        self.others.insert((node, letter), to)?;
+        put(&mut self.nodes, BLANK);
+        Ok(to)
     }
 
     /// Marks the node at the end of a word with a place, unless it has a lesser one.
     #[tactic(auto, using(crate::proofs::TrieLemmas::marked_word))]
     pub(crate) fn mark(&mut self, node: usize, place: usize)
         requires is_trie { IsTrie self.old }
-        requires inside { node < length self.old.marks.items }
+        requires inside { node < length self.old.nodes.items }
         ensures { (word : List ℕ) → Reaches self.old word node → AddsWord self.old self.new word place }
     {
-        let marked = least(self.mark_at(node), Some(place));
-        self.marks[node] = marked;
+        let kept = self.node_at(node);
+        self.nodes[node] = Node {
+            mark: least(kept.mark, Some(place)),
+            first: kept.first,
+        };
     }
 
     /// The walk along no letters.
@@ -113,7 +183,7 @@ impl Trie {
     {
         Walk {
             node: Some(ROOT),
-            first: self.mark_at(ROOT),
+            first: self.node_at(ROOT).mark,
         }
     }
 
@@ -131,7 +201,7 @@ impl Trie {
             },
             Some(next) => Walk {
                 node: Some(next),
-                first: least(walk.first, self.mark_at(next)),
+                first: least(walk.first, self.node_at(next).mark),
             },
         }
     }
@@ -149,15 +219,5 @@ impl Trie {
             walk = self.step(walk, letter(*unit));
         }
         walk
-    }
-
-    /// The mark of a node.
-    fn mark_at(&self, node: usize) -> Option<usize>
-        ensures { result ≡ mark_of self.now node }
-    {
-        match self.marks.get(node) {
-            Some(mark) => *mark,
-            None => None,
-        }
     }
 }

@@ -1,12 +1,13 @@
 //! Patterns and names as words of a trie.
-ghost use Rattle.std.specs.Prelude.{◌≡◌, ◌<◌, ◌++◌, ◌∷◌, [], length, Some, OnOk, OnErr, IfOk};
-ghost use Rattle.jser_filter.specs.Patterns.{view_name};
-ghost use Rattle.jser_filter.specs.Index.{name_in, package_in};
+ghost use Rattle.std.specs.Prelude.{◌≡◌, ◌<◌, ◌++◌, ◌∷◌, [], length, Some, OnOk, OnErr, IfOk, option_map};
+ghost use Rattle.jser_filter.specs.Cuts.{part_now};
+ghost use Rattle.jser_filter.specs.Patterns.{package_of, view_name};
+ghost use Rattle.jser_filter.specs.Index.{first_in_module};
 ghost use Rattle.jser_filter.specs.Trie.{AddsWord, IsTrie, Keeps, LeadsOn, edge_of, first_of, mark_of, walk_along};
-ghost use Rattle.jser_filter.specs.Words.{in_module, letters, name_word, of_module, of_name};
+ghost use Rattle.jser_filter.specs.Words.{in_module, letter, letters, name_word, of_end, of_module, of_name, of_package};
 
 use crate::pattern::{DOT, NamePattern};
-use crate::trie::{ROOT, Trie, Walk, letter};
+use crate::trie::{ROOT, Trie, Walk, least, letter};
 use std::alloc::AllocError;
 
 /// The letter in front of a module.
@@ -64,7 +65,7 @@ fn extend_module(trie: &mut Trie, module: &[u16]) -> Result<usize, AllocError>
 /// Goes from a node along the word of a name pattern.
 fn extend_name(trie: &mut Trie, node: usize, name: &NamePattern) -> Result<usize, AllocError>
     requires is_trie { IsTrie trie.old }
-    requires inside { node < length trie.old.marks.items }
+    requires inside { node < length trie.old.nodes.items }
     ensures keeps { Keeps trie.old trie.new }
     ensures leads { IfOk result (LeadsOn trie.old trie.new node (name_word (view_name name.now))) }
 {
@@ -88,7 +89,7 @@ fn extend_name(trie: &mut Trie, node: usize, name: &NamePattern) -> Result<usize
 #[tactic(auto, using(crate::proofs::WordLemmas::gone_on, crate::proofs::WordLemmas::leads_nowhere))]
 fn extend_along(trie: &mut Trie, node: usize, units: &[u16]) -> Result<usize, AllocError>
     requires is_trie { IsTrie trie.old }
-    requires inside { node < length trie.old.marks.items }
+    requires inside { node < length trie.old.nodes.items }
     ensures keeps { Keeps trie.old trie.new }
     ensures leads { IfOk result (LeadsOn trie.old trie.new node (letters units.now)) }
 {
@@ -110,21 +111,45 @@ pub(crate) fn first_along(trie: &Trie, name: &[u16]) -> Option<usize>
     trie.along(trie.start(), name).first
 }
 
-/// The least place of a word in a module that begins a name there.
-pub(crate) fn first_name_in(trie: &Trie, module: &[u16], name: &[u16]) -> Option<usize>
-    ensures { result ≡ first_of trie.now (name_in module.now name.now) }
+/// The least place of a word in a module that begins a name there. The name is walked once: from its package
+/// one letter leads aside, to the patterns of that package.
+#[tactic(auto, using(crate::proofs::WordLemmas::package_within))]
+pub(crate) fn first_in_module(
+    trie: &Trie,
+    module: &[u16],
+    package: Option<&[u16]>,
+    name: &[u16],
+) -> Option<usize>
+    requires { option_map part_now «package» ≡ package_of name.now }
+    ensures { result ≡ first_in_module trie.now module.now (option_map part_now «package».entry) name.now }
 {
-    let named = trie.along(into_module(trie, module), name);
-    trie.step(named, OF_END).first
+    let in_module = into_module(trie, module);
+    match package {
+        None => first_of_name(trie, in_module, name),
+        Some(package) => {
+            let (_, rest) = name.split_at(package.len());
+            let in_package = trie.along(in_module, package);
+            least(
+                first_of_package(trie, in_package),
+                first_of_name(trie, in_package, rest),
+            )
+        }
+    }
 }
 
-/// The least place of a word in a module that begins a package there.
-pub(crate) fn first_package_in(trie: &Trie, module: &[u16], package: &[u16]) -> Option<usize>
-    ensures { result ≡ first_of trie.now (package_in module.now «package».now) }
+/// The least place met on the way to the end of a name, of which these units are left.
+#[tactic(auto, using(crate::proofs::WordLemmas::walk_name))]
+fn first_of_name(trie: &Trie, walk: Walk, rest: &[u16]) -> Option<usize>
+    ensures { result ≡ (walk_along (edge_of trie.now) (mark_of trie.now) walk (letters rest.now ++ of_end ∷ [])).first }
 {
-    let named = trie.along(into_module(trie, module), package);
-    let inside = trie.step(named, letter(DOT));
-    trie.step(inside, OF_PACKAGE).first
+    trie.step(trie.along(walk, rest), OF_END).first
+}
+
+/// The least place met on the way to the patterns `P.*` of the package whose units were walked.
+fn first_of_package(trie: &Trie, walk: Walk) -> Option<usize>
+    ensures { result ≡ (walk_along (edge_of trie.now) (mark_of trie.now) walk (letter 0x2E ∷ of_package ∷ [])).first }
+{
+    trie.step(trie.step(walk, letter(DOT)), OF_PACKAGE).first
 }
 
 /// The walk to the names in a module.
