@@ -4,7 +4,7 @@ use Rattle.std.proofs.lemmas.Bool.{ne_eqb, eq-eqb, ltb-true, ltb-false}
 use Rattle.std.specs.List.{position_or_len, onto_first}
 use Rattle.std.proofs.lemmas.List.{length-drop}
 use Rattle.std.proofs.lemmas.List.Splits.{slice_split_first}
-use Rattle.jser_filter.specs.Cuts.{cut, parts, before_last, front_with}
+use Rattle.jser_filter.specs.Cuts.{cut, split_at_each, before_last, front_with}
 
 front_with-cond : (at unit : ℕ) (test : Bool) (rest : List ℕ) → front_with at unit (cond test (Some rest) (before_last at rest)) ≡ cond test (Some (unit ∷ rest)) (before_last at (unit ∷ rest))
 front_with-cond at unit true rest = refl
@@ -24,29 +24,29 @@ before_last_earlier at last front rest is other = rw (is, before_last-push at la
 
 -- the parts of a text
 
-none_step : (at unit : ℕ) (units : List ℕ) (test : Bool) → (length units ≤ position_or_len (λ u. u == at) units → parts at units ≡ units ∷ []) → suc (length units) ≤ cond (not test) (1 + position_or_len (λ u. u == at) units) 0 → cond test ([] ∷ parts at units) (onto_first unit (parts at units)) ≡ (unit ∷ units) ∷ []
+none_step : (at unit : ℕ) (units : List ℕ) (test : Bool) → (length units ≤ position_or_len (λ u. u == at) units → split_at_each at units ≡ units ∷ []) → suc (length units) ≤ cond (not test) (1 + position_or_len (λ u. u == at) units) 0 → cond test ([] ∷ split_at_each at units) (onto_first unit (split_at_each at units)) ≡ (unit ∷ units) ∷ []
 none_step at unit units true others none = absurd (omega arith)
 none_step at unit units false others none = ap (onto_first unit) (others (omega arith))
 
-one_part : (at : ℕ) (units : List ℕ) → length units ≤ position_or_len (λ u. u == at) units → parts at units ≡ units ∷ []
+one_part : (at : ℕ) (units : List ℕ) → length units ≤ position_or_len (λ u. u == at) units → split_at_each at units ≡ units ∷ []
 one_part at [] none = refl
 one_part at (unit ∷ units) none = none_step at unit units (unit == at) (one_part at units) none
 
 abbrev parts_after : ℕ → List ℕ → Option (List ℕ × List ℕ) → List (List ℕ)
 parts_after at units None = units ∷ []
-parts_after at units (Some (part, rest)) = part ∷ parts at rest
+parts_after at units (Some (part, rest)) = part ∷ split_at_each at rest
 
-parts_by_place : (at : ℕ) (units : List ℕ) (test : Bool) → ltb (position_or_len (λ u. u == at) units) (length units) ≡ test → parts at units ≡ parts_after at units (option_map (λ place. (take place units, drop (place + 1) units)) (cond test (Some (position_or_len (λ u. u == at) units)) None))
+parts_by_place : (at : ℕ) (units : List ℕ) (test : Bool) → ltb (position_or_len (λ u. u == at) units) (length units) ≡ test → split_at_each at units ≡ parts_after at units (option_map (λ place. (take place units, drop (place + 1) units)) (cond test (Some (position_or_len (λ u. u == at) units)) None))
 parts_by_place at units true is = slice_split_first (λ u. u == at) units 0 (ltb-true (position_or_len (λ u. u == at) units) (length units) is)
 parts_by_place at units false is = one_part at units (ltb-false (position_or_len (λ u. u == at) units) (length units) is)
 
-parts_by_cut : (at : ℕ) (units : List ℕ) → parts at units ≡ parts_after at units (cut at units)
+parts_by_cut : (at : ℕ) (units : List ℕ) → split_at_each at units ≡ parts_after at units (cut at units)
 parts_by_cut at units = parts_by_place at units (ltb (position_or_len (λ u. u == at) units) (length units)) refl
 
-pub parts_cut : (at : ℕ) (units part rest : List ℕ) → Some (part, rest) ≡ cut at units → parts at units ≡ part ∷ parts at rest
+pub parts_cut : (at : ℕ) (units part rest : List ℕ) → Some (part, rest) ≡ cut at units → split_at_each at units ≡ part ∷ split_at_each at rest
 parts_cut at units part rest is = parts_by_cut at units ∙ ap (parts_after at units) (sym is)
 
-pub parts_uncut : (at : ℕ) (units : List ℕ) → None ≡ cut at units → parts at units ≡ units ∷ []
+pub parts_uncut : (at : ℕ) (units : List ℕ) → None ≡ cut at units → split_at_each at units ≡ units ∷ []
 parts_uncut at units is = parts_by_cut at units ∙ ap (parts_after at units) (sym is)
 
 abbrev rest_of : Option (List ℕ × List ℕ) → List ℕ

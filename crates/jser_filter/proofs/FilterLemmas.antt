@@ -9,7 +9,7 @@ use Rattle.jser_filter.specs.declared.fault.FilterCause.TheVariants as cause
 use Rattle.std.proofs.lemmas.List.Splits.{length-slice_split}
 use Rattle.jser_filter.specs.declared.piece.Piece.{Piece as KeptPiece}
 use Rattle.jser_filter.specs.declared.piece.Piece.TheVariants as kept
-use Rattle.jser_filter.specs.Cuts.{parts, parts_with}
+use Rattle.jser_filter.specs.Cuts.{split_at_each, split_with}
 use Rattle.jser_filter.specs.Pieces.{Piece, pieces_of, read_piece, view_piece, IsCauseOf}
 use Rattle.jser_filter.specs.Filters.{IsFirstFault, AreSound, is_faulty, later_or, value_in, last_value, limits_of, limits_after}
 use Rattle.jser_filter.specs.declared.limit.Limit.{Limit}
@@ -26,7 +26,7 @@ abbrev pub left_length : Option (Bor (List ℕ)) → ℕ
 left_length None = 0
 left_length (Some text) = length text.now + 1
 
-left_after : (text : List ℕ) (part : Bor (List ℕ)) (rest : Option (Bor (List ℕ))) → parts 0x3B text ≡ parts_with 0x3B (part, rest) → pieces_of text ≡ read_piece part.now ∷ left_pieces rest
+left_after : (text : List ℕ) (part : Bor (List ℕ)) (rest : Option (Bor (List ℕ))) → split_at_each 0x3B text ≡ split_with 0x3B (part, rest) → pieces_of text ≡ read_piece part.now ∷ left_pieces rest
 left_after text part None is = ap (map read_piece) is
 left_after text part (Some rest) is = ap (map read_piece) is
 
@@ -41,7 +41,7 @@ pub record HasRead (whole old : List Piece) (rest : Option (Bor (List ℕ))) : T
   pub are : old ++ left_pieces rest ≡ whole
   pub sound : AreSound old
 
-pub piece_read : (whole old new : List Piece) (text part : Bor (List ℕ)) (rest : Option (Bor (List ℕ))) → HasRead whole old (Some text) → parts 0x3B text.now ≡ parts_with 0x3B (part, rest) → new ≡ old ++ read_piece part.now ∷ [] → is_faulty (read_piece part.now) ≡ false → HasRead whole new rest
+pub piece_read : (whole old new : List Piece) (text part : Bor (List ℕ)) (rest : Option (Bor (List ℕ))) → HasRead whole old (Some text) → split_at_each 0x3B text.now ≡ split_with 0x3B (part, rest) → new ≡ old ++ read_piece part.now ∷ [] → is_faulty (read_piece part.now) ≡ false → HasRead whole new rest
 piece_read whole old new text part rest read split added sound = record {
   are =
       ap (λ front. front ++ left_pieces rest) added
@@ -58,7 +58,7 @@ slice_get-at (first ∷ front) piece back = slice_get-at front piece back
 some_injective : (x y : Piece) → Some x ≡ Some y → x ≡ y
 some_injective x y e = cc
 
-pub fault_found : (whole old : List Piece) (text part : Bor (List ℕ)) (rest : Option (Bor (List ℕ))) (fault : FilterFault) → HasRead whole old (Some text) → parts 0x3B text.now ≡ parts_with 0x3B (part, rest) → fault.pattern ≡ length old → IsCauseOf (read_piece part.now) fault.cause → IsFirstFault whole fault
+pub fault_found : (whole old : List Piece) (text part : Bor (List ℕ)) (rest : Option (Bor (List ℕ))) (fault : FilterFault) → HasRead whole old (Some text) → split_at_each 0x3B text.now ≡ split_with 0x3B (part, rest) → fault.pattern ≡ length old → IsCauseOf (read_piece part.now) fault.cause → IsFirstFault whole fault
 fault_found whole old text part rest fault read split place cause =
     let split_whole : old ++ read_piece part.now ∷ left_pieces rest ≡ whole = ap (λ back. old ++ back) (sym (left_after text.now part rest split)) ∙ read.are in
     record {
@@ -107,7 +107,7 @@ limits_more pieces index piece limits next so_far inside here is =
 -- where there is no memory for the text as a whole
 
 some_pieces : (text : List ℕ) → 0 < length (pieces_of text)
-some_pieces text = omega (arith, length-map (parts 0x3B text) read_piece, length-slice_split (λ unit. unit == 0x3B) text)
+some_pieces text = omega (arith, length-map (split_at_each 0x3B text) read_piece, length-slice_split (λ unit. unit == 0x3B) text)
 
 pub fault_at_first : (fault : FilterFault) → fault.pattern ≡ 0 → fault.cause ≡ cause.OutOfMemory → (text : List ℕ) → IsFirstFault (pieces_of text) fault
 fault_at_first fault pattern is text = record {

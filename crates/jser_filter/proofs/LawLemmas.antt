@@ -7,16 +7,16 @@ use Rattle.std.proofs.lemmas.List.Splits.{length-slice_split}
 use Rattle.jser_table.specs.Names.{ElementOf, element, primitive_element, malformed_element, element_of}
 use Rattle.jser_filter.specs.declared.limit.Limit.{Limit}
 use Rattle.jser_filter.specs.declared.verdict.Verdict.TheVariants as verdict
-use Rattle.jser_filter.specs.Cuts.{cut, parts}
+use Rattle.jser_filter.specs.Cuts.{cut, split_at_each}
 use Rattle.jser_filter.specs.Limits.{limit_named, limit_value}
 use Rattle.jser_filter.specs.Tables.{ModuleTable, module_of_class}
-use Rattle.jser_filter.specs.Pieces.{Piece, empty_piece, limit_piece, pattern_piece, faulty_piece, limit_of, lacks_package, read_name, read_named, read_pattern, read_cut, read_piece, pieces_of}
+use Rattle.jser_filter.specs.Pieces.{Piece, empty_piece, limit_piece, pattern_piece, faulty_piece, limit_or_fault, lacks_package, read_name, read_named, read_pattern, read_cut, read_piece, pieces_of}
 use Rattle.jser_filter.specs.Filters.{matches_piece, rejects, verdict_at, verdict_by, verdict_of}
 use Rattle.jser_filter.specs.Laws.{NeedsNoTable, KeepsDecided}
 
 -- appended pieces
 
-some_parts : (at : ℕ) (units : List ℕ) → 0 < length (parts at units)
+some_parts : (at : ℕ) (units : List ℕ) → 0 < length (split_at_each at units)
 some_parts at units = omega (arith, length-slice_split (λ u. u == at) units)
 
 onto_first-append : (unit : ℕ) (front back : List (List ℕ)) → 0 < length front → onto_first unit (front ++ back) ≡ onto_first unit front ++ back
@@ -27,16 +27,16 @@ cond-append : (test : Bool) (x y back : List (List ℕ)) → cond test (x ++ bac
 cond-append true x y back = refl
 cond-append false x y back = refl
 
-parts-append : (at : ℕ) (units more : List ℕ) → parts at (units ++ at ∷ more) ≡ parts at units ++ parts at more
+parts-append : (at : ℕ) (units more : List ℕ) → split_at_each at (units ++ at ∷ more) ≡ split_at_each at units ++ split_at_each at more
 parts-append at [] more = rw (eq-eqb at at refl) refl
 parts-append at (unit ∷ units) more =
     let rest = parts-append at units more in
     ap (λ ps. cond (unit == at) ([] ∷ ps) (onto_first unit ps)) rest
-    ∙ ap (λ ps. cond (unit == at) ([] ∷ (parts at units ++ parts at more)) ps) (onto_first-append unit (parts at units) (parts at more) (some_parts at units))
-    ∙ cond-append (unit == at) ([] ∷ parts at units) (onto_first unit (parts at units)) (parts at more)
+    ∙ ap (λ ps. cond (unit == at) ([] ∷ (split_at_each at units ++ split_at_each at more)) ps) (onto_first-append unit (split_at_each at units) (split_at_each at more) (some_parts at units))
+    ∙ cond-append (unit == at) ([] ∷ split_at_each at units) (onto_first unit (split_at_each at units)) (split_at_each at more)
 
 pieces_of-append : (text more : List ℕ) → pieces_of (text ++ 0x3B ∷ more) ≡ pieces_of text ++ pieces_of more
-pieces_of-append text more = ap (map read_piece) (parts-append 0x3B text more) ∙ map-append read_piece (parts 0x3B text) (parts 0x3B more)
+pieces_of-append text more = ap (map read_piece) (parts-append 0x3B text more) ∙ map-append read_piece (split_at_each 0x3B text) (split_at_each 0x3B more)
 
 prefix_len-append : (test : Piece → Bool) (front back : List Piece) → prefix_len test front < length front → prefix_len test (front ++ back) ≡ prefix_len test front
 prefix_len-append test [] back less = absurd (omega arith)
@@ -96,12 +96,12 @@ either_none : (test : Bool) (x y : List (List ℕ)) → NoneHas x → NoneHas y 
 either_none true x y first second = first
 either_none false x y first second = second
 
-parts_none : (units : List ℕ) → has_slash units ≡ false → NoneHas (parts 0x3B units)
+parts_none : (units : List ℕ) → has_slash units ≡ false → NoneHas (split_at_each 0x3B units)
 parts_none [] none = (refl, tt)
 parts_none (unit ∷ units) none =
     let both = or_false (unit == 0x2F) (has_slash units) none in
     let others = parts_none units both.1 in
-    either_none (unit == 0x3B) ([] ∷ parts 0x3B units) (onto_first unit (parts 0x3B units)) (refl, others) (onto_first_none unit (parts 0x3B units) both.0 others)
+    either_none (unit == 0x3B) ([] ∷ split_at_each 0x3B units) (onto_first unit (split_at_each 0x3B units)) (refl, others) (onto_first_none unit (split_at_each 0x3B units) both.0 others)
 
 prefix_len-none : (units : List ℕ) → has_slash units ≡ false → prefix_len (λ unit. not (unit == 0x2F)) units ≡ length units
 prefix_len-none [] none = refl
@@ -136,7 +136,7 @@ read_pattern_plain (unit ∷ units) none =
     let both = or_false (unit == 0x2F) (has_slash units) none in
     either_plain (unit == 0x21) _ _ (read_named_plain true units both.1) (read_named_plain false (unit ∷ units) none)
 
-limit_of_plain : (limit : Option Limit) (value : Option ℕ) → IsPlain (limit_of limit value)
+limit_of_plain : (limit : Option Limit) (value : Option ℕ) → IsPlain (limit_or_fault limit value)
 limit_of_plain None value = tt
 limit_of_plain (Some limit) None = tt
 limit_of_plain (Some limit) (Some value) = tt
@@ -179,4 +179,4 @@ element_alike pieces one other malformed_element plain = refl
 
 pub needs_no_table : NeedsNoTable
 needs_no_table text one other name none =
-    element_alike (pieces_of text) one other (element_of name) (pieces_plain (parts 0x3B text) (parts_none text none))
+    element_alike (pieces_of text) one other (element_of name) (pieces_plain (split_at_each 0x3B text) (parts_none text none))

@@ -9,7 +9,7 @@ use Rattle.jser_filter.specs.declared.fault.ModulesFault.{ModulesFault}
 use Rattle.jser_filter.specs.declared.fault.ModulesCause.TheVariants as cause
 use Rattle.std.proofs.lemmas.List.Splits.{length-slice_split}
 use Rattle.jser_filter.specs.declared.modules.Entry.{Entry as KeptEntry}
-use Rattle.jser_filter.specs.Cuts.{parts, parts_with}
+use Rattle.jser_filter.specs.Cuts.{split_at_each, split_with}
 use Rattle.jser_filter.specs.Tables.{Entry, ModuleTable, module_of, module_at, Line, empty_line, bad_line, entry_line, read_line, lines_of, table_of, fault_in, line_fault, view_entry, IsLineCause, NoFaultBefore, IsFirstLineFault}
 use Rattle.std.specs.List.{position_from}
 use Rattle.std.specs.Str.{bytes_eq}
@@ -32,7 +32,7 @@ pub record HasRead (units : List ℕ) (entries : ModuleTable) (rest : Option (Bo
   pub sound : NoFaultBefore (lines_of units) number
   pub count : number + left_length rest ≤ length units + 1
 
-left_after : (text : List ℕ) (part : Bor (List ℕ)) (rest : Option (Bor (List ℕ))) → parts 0x0A text ≡ parts_with 0x0A (part, rest) → lines_of text ≡ read_line part.now ∷ left_lines rest
+left_after : (text : List ℕ) (part : Bor (List ℕ)) (rest : Option (Bor (List ℕ))) → split_at_each 0x0A text ≡ split_with 0x0A (part, rest) → lines_of text ≡ read_line part.now ∷ left_lines rest
 left_after text part None is = ap (map read_line) is
 left_after text part (Some rest) is = ap (map read_line) is
 
@@ -62,7 +62,7 @@ next_line lines number line left is =
       upto = take_more lines number line inside ∙ ap (λ last. take number lines ++ last ∷ []) same;
     }
 
-read_next : (units text : List ℕ) (number : ℕ) (part : Bor (List ℕ)) (rest : Option (Bor (List ℕ))) → drop number (lines_of units) ≡ lines_of text → parts 0x0A text ≡ parts_with 0x0A (part, rest) → IsNext (lines_of units) number (read_line part.now) (left_lines rest)
+read_next : (units text : List ℕ) (number : ℕ) (part : Bor (List ℕ)) (rest : Option (Bor (List ℕ))) → drop number (lines_of units) ≡ lines_of text → split_at_each 0x0A text ≡ split_with 0x0A (part, rest) → IsNext (lines_of units) number (read_line part.now) (left_lines rest)
 read_next units text number part rest left split = next_line (lines_of units) number (read_line part.now) (left_lines rest) (left ∙ left_after text part rest split)
 
 fault_here : (lines : List Line) (number : ℕ) (line : Line) (table : ModuleTable) → slice_get lines number ≡ Some line → table ≡ table_of (take number lines) → line_fault lines number ≡ fault_in table line
@@ -76,7 +76,7 @@ sound_more lines number before here = λ earlier below.
       | inr more ↦ let same : number ≡ earlier = omega arith in subst (λ n. line_fault lines n ≡ None) same here
     ]
 
-pub line_read : (units : List ℕ) (old new : ModuleTable) (number : ℕ) (text part : Bor (List ℕ)) (rest : Option (Bor (List ℕ))) → HasRead units old (Some text) number → parts 0x0A text.now ≡ parts_with 0x0A (part, rest) → new ≡ old ++ table_of (read_line part.now ∷ []) → fault_in old (read_line part.now) ≡ None → left_length rest ≤ length text.now → HasRead units new rest (number + 1)
+pub line_read : (units : List ℕ) (old new : ModuleTable) (number : ℕ) (text part : Bor (List ℕ)) (rest : Option (Bor (List ℕ))) → HasRead units old (Some text) number → split_at_each 0x0A text.now ≡ split_with 0x0A (part, rest) → new ≡ old ++ table_of (read_line part.now ∷ []) → fault_in old (read_line part.now) ≡ None → left_length rest ≤ length text.now → HasRead units new rest (number + 1)
 line_read units old new number text part rest read split added sound less =
     let next = read_next units text.now number part rest read.left split in
     record {
@@ -86,7 +86,7 @@ line_read units old new number text part rest read split added sound less =
       count = omega (arith, read.count);
     }
 
-pub line_faulty : (units : List ℕ) (old : ModuleTable) (number : ℕ) (text part : Bor (List ℕ)) (rest : Option (Bor (List ℕ))) (fault : ModulesFault) → HasRead units old (Some text) number → parts 0x0A text.now ≡ parts_with 0x0A (part, rest) → fault.line ≡ number → IsLineCause (fault_in old (read_line part.now)) fault.cause → IsFirstLineFault (lines_of units) fault
+pub line_faulty : (units : List ℕ) (old : ModuleTable) (number : ℕ) (text part : Bor (List ℕ)) (rest : Option (Bor (List ℕ))) (fault : ModulesFault) → HasRead units old (Some text) number → split_at_each 0x0A text.now ≡ split_with 0x0A (part, rest) → fault.line ≡ number → IsLineCause (fault_in old (read_line part.now)) fault.cause → IsFirstLineFault (lines_of units) fault
 line_faulty units old number text part rest fault read split line cause =
     let next = read_next units text.now number part rest read.left split in
     let here = fault_here (lines_of units) number (read_line part.now) old next.here read.table in
@@ -109,7 +109,7 @@ left_less text (Some rest) less = omega (arith, less)
 -- where there is no memory for the text as a whole
 
 some_lines : (text : List ℕ) → 0 < length (lines_of text)
-some_lines text = omega (arith, length-map (parts 0x0A text) read_line, length-slice_split (λ unit. unit == 0x0A) text)
+some_lines text = omega (arith, length-map (split_at_each 0x0A text) read_line, length-slice_split (λ unit. unit == 0x0A) text)
 
 pub fault_at_first : (fault : ModulesFault) → fault.line ≡ 0 → fault.cause ≡ cause.OutOfMemory → (text : List ℕ) → IsFirstLineFault (lines_of text) fault
 fault_at_first fault line is text = record {

@@ -1,4 +1,4 @@
--- What faults are printed as.
+-- The texts of faults.
 use Rattle.std.specs.Prelude.{ℕ, List, ◌++◌, codes}
 use Rattle.std.specs.Fmt.{decimal}
 use Rattle.jser_filter.specs.declared.fault.FilterCause.{FilterCause}

@@ -19,7 +19,7 @@ pub record FilterView : Type 0 where
   pub pieces : List Piece
   pub modules : ModuleTable
 
--- the module that a pattern asks for is the one that the name's package has
+-- the module of a pattern, if it has one, is the one that was found for the name's package
 abbrev pub is_in_module : Option (List ℕ) → Option (List ℕ) → Bool
 is_in_module found None = true
 is_in_module None (Some wanted) = false
@@ -35,9 +35,9 @@ matches_piece found name (limit_piece limit value) = false
 matches_piece found name (pattern_piece pattern) = matches_pattern found name pattern
 matches_piece found name (faulty_piece cause) = false
 
--- the least index of a piece whose pattern matches the name
+-- the least index of a piece whose pattern matches the name of an element
 abbrev pub first_match : FilterView → List ℕ → Option ℕ
-first_match filter name = position (matches_piece (module_of_class filter.modules name) name) filter.pieces
+first_match filter element_name = position (matches_piece (module_of_class filter.modules element_name) element_name) filter.pieces
 
 abbrev pub rejects : Option Piece → Bool
 rejects None = false
@@ -51,7 +51,7 @@ abbrev pub verdict_at : List Piece → Option ℕ → Verdict
 verdict_at pieces None = verdict.Undecided
 verdict_at pieces (Some index) = if rejects (slice_get pieces index) then verdict.Rejected index else verdict.Allowed index
 
--- A name is judged by its element. A primitive names no class; no verdict is asked of a malformed name.
+-- A name is judged by its element. A primitive names no class; `judge` requires a name that is not malformed.
 abbrev pub verdict_by : FilterView → ElementOf → Verdict
 verdict_by filter (element name) = verdict_at filter.pieces (first_match filter name)
 verdict_by filter primitive_element = verdict.NoClass
@@ -94,7 +94,7 @@ limits_of pieces = record {
   array = last_value limit.Array pieces;
 }
 
--- the limits behind one more piece
+-- the limits after one more piece
 abbrev pub limits_after : Limits → Piece → Limits
 limits_after limits piece = record {
   depth = later_or (value_in limit.Depth piece) limits.depth;

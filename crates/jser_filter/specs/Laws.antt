@@ -7,17 +7,17 @@ use Rattle.jser_filter.specs.Tables.{ModuleTable}
 use Rattle.jser_filter.specs.Pieces.{pieces_of}
 use Rattle.jser_filter.specs.Filters.{verdict_of}
 
--- the verdict that a text, with a table of modules, gives a name
+-- the verdict of a text, with a table of modules, on a name
 abbrev pub verdict_with : List ℕ → ModuleTable → List ℕ → Verdict
 verdict_with text modules name = verdict_of record { pieces = pieces_of text; modules = modules } name
 
--- a text without `/` gives the same verdicts with every table of modules
+-- a text without `/` has the same verdicts with every table of modules
 abbrev pub NeedsNoTable : Type 0
 NeedsNoTable =
     (text : List ℕ) (one other : ModuleTable) (name : List ℕ) → list_any (λ unit. unit == 0x2F) text ≡ false
     → verdict_with text one name ≡ verdict_with text other name
 
--- what a text decides of a name, it decides with more pieces behind it
+-- a name that a text decides is decided in the same way with more pieces after it
 abbrev pub KeepsDecided : Type 0
 KeepsDecided =
     (text more : List ℕ) (modules : ModuleTable) (name : List ℕ) → verdict_with text modules name ≢ verdict.Undecided

@@ -23,19 +23,19 @@ abbrev pub digit_value : ℕ → Option ℕ
 digit_value unit = if is_digit unit then Some (unit - 0x30) else None
 
 -- the number that decimal digits write
-abbrev pub decimal : List ℕ → ℕ
-decimal digits = fold (λ value digit. 10 * value + (digit - 0x30)) 0 digits
+abbrev pub number_written : List ℕ → ℕ
+number_written digits = fold (λ value digit. 10 * value + (digit - 0x30)) 0 digits
 
--- no units are no digits
+-- at least one unit, and each of them a digit
 abbrev pub are_digits : List ℕ → Bool
 are_digits [] = false
 are_digits (unit ∷ units) = list_all is_digit (unit ∷ units)
 
 -- digits that write at most this number
 abbrev pub number_up_to : ℕ → List ℕ → Option ℕ
-number_up_to most units = if are_digits units && nat_le (decimal units) most then Some (decimal units) else None
+number_up_to most units = if are_digits units && nat_le (number_written units) most then Some (number_written units) else None
 
--- a `+` changes nothing, and behind a `-` only 0 may stand
+-- a `+` changes nothing, and after a `-` only 0 may stand
 abbrev pub limit_value : List ℕ → Option ℕ
 limit_value [] = None
 limit_value (unit ∷ units) =

@@ -1,6 +1,6 @@
 -- The pieces of a filter's text, which is cut at each `;` (`ObjectInputFilter.Config.createFilter`: "The
--- pattern string is a sequence of patterns separated by `;`"). White space counts, and an empty piece says
--- nothing.
+-- pattern string is a sequence of patterns separated by `;`"). White space is part of a piece, and an empty
+-- piece says nothing.
 use Rattle.std.specs.Prelude.{ℕ, ◌≡◌, Bool, true, false, ◌==◌, ◌||◌, if◌then◌else◌, List, [], ◌∷◌, map, codes, Option, Some, None}
 use Rattle.std.specs.Str.{bytes_eq}
 use Rattle.jser_filter.specs.declared.limit.Limit.{Limit}
@@ -9,11 +9,11 @@ use Rattle.jser_filter.specs.declared.fault.FilterCause.TheVariants as cause
 use Rattle.jser_filter.specs.declared.piece.Pattern.{Pattern as KeptPattern}
 use Rattle.jser_filter.specs.declared.piece.Piece.{Piece as KeptPiece}
 use Rattle.jser_filter.specs.declared.piece.Piece.TheVariants as kept
-use Rattle.jser_filter.specs.Cuts.{cut, parts}
+use Rattle.jser_filter.specs.Cuts.{cut, split_at_each}
 use Rattle.jser_filter.specs.Patterns.{NamePattern, name_pattern, view_name}
 use Rattle.jser_filter.specs.Limits.{limit_named, limit_value}
 
--- a pattern: whether it rejects, the module that it asks for, if any, and its name pattern
+-- a pattern: whether it rejects, its module, if it has one, and its name pattern
 pub record Pattern : Type 0 where
   pub rejects : Bool
   pub in_module : Option (List ℕ)
@@ -26,13 +26,13 @@ pub data Piece : Type 0 where
   faulty_piece : FilterCause → Piece
 
 -- `name=value`
-abbrev pub limit_of : Option Limit → Option ℕ → Piece
-limit_of None value = faulty_piece cause.UnknownLimit
-limit_of (Some limit) None = faulty_piece cause.BadLimit
-limit_of (Some limit) (Some value) = limit_piece limit value
+abbrev pub limit_or_fault : Option Limit → Option ℕ → Piece
+limit_or_fault None value = faulty_piece cause.UnknownLimit
+limit_or_fault (Some limit) None = faulty_piece cause.BadLimit
+limit_or_fault (Some limit) (Some value) = limit_piece limit value
 
 abbrev pub read_limit : List ℕ × List ℕ → Piece
-read_limit (name, value) = limit_of (limit_named name) (limit_value value)
+read_limit (name, value) = limit_or_fault (limit_named name) (limit_value value)
 
 -- `.*` and `.**` alone have no package
 abbrev pub lacks_package : List ℕ → Bool
@@ -69,7 +69,7 @@ read_piece (unit ∷ units) = read_cut (unit ∷ units) (cut 0x3D (unit ∷ unit
 
 -- what the pieces of a text say, in their order
 abbrev pub pieces_of : List ℕ → List Piece
-pieces_of text = map read_piece (parts 0x3B text)
+pieces_of text = map read_piece (split_at_each 0x3B text)
 
 -- What is kept of a piece, and when it is kept.
 

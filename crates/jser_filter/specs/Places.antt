@@ -4,7 +4,7 @@ use Rattle.std.specs.Str.{bytes_eq}
 use Rattle.std.specs.HashMap.{get_by}
 use Rattle.jser_filter.specs.declared.places.Places.{Places}
 
--- the place that is kept for a name
+-- the place that is kept for a name, if one is
 abbrev pub place_of : Places → List ℕ → Option ℕ
 place_of places name = get_by (λ key. bytes_eq name key.items) places.map
 

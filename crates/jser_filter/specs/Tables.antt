@@ -1,12 +1,12 @@
--- Tables of modules: lines `package=module`, parted by line feeds. White space counts, and an empty line says
--- nothing.
+-- Tables of modules: lines `package=module`, separated by line feeds. White space is part of a line, and an
+-- empty line says nothing.
 use Rattle.std.specs.Prelude.{ℕ, ◌≡◌, ◌<◌, length, Bool, if◌then◌else◌, List, [], ◌∷◌, map, take, slice_get, Option, Some, None, option_and_then, option_map, is_some}
 use Rattle.std.specs.Str.{bytes_eq}
 use Rattle.jser_filter.specs.declared.fault.ModulesCause.{ModulesCause}
 use Rattle.jser_filter.specs.declared.fault.ModulesCause.TheVariants as cause
 use Rattle.jser_filter.specs.declared.fault.ModulesFault.{ModulesFault}
 use Rattle.jser_filter.specs.declared.modules.Entry.{Entry as KeptEntry}
-use Rattle.jser_filter.specs.Cuts.{cut, parts}
+use Rattle.jser_filter.specs.Cuts.{cut, split_at_each}
 use Rattle.jser_filter.specs.Patterns.{package_of}
 
 -- a package and its module
@@ -56,7 +56,7 @@ read_line [] = empty_line
 read_line (unit ∷ units) = read_sides (cut 0x3D (unit ∷ units))
 
 abbrev pub lines_of : List ℕ → List Line
-lines_of text = map read_line (parts 0x0A text)
+lines_of text = map read_line (split_at_each 0x0A text)
 
 -- the table that lines make
 abbrev pub table_of : List Line → ModuleTable
@@ -65,7 +65,7 @@ table_of (empty_line ∷ lines) = table_of lines
 table_of (bad_line ∷ lines) = table_of lines
 table_of (entry_line entry ∷ lines) = entry ∷ table_of lines
 
--- what is wrong with a line behind others that make this table
+-- what is wrong with a line after others that make this table
 abbrev pub fault_in : ModuleTable → Line → Option ModulesCause
 fault_in table empty_line = None
 fault_in table bad_line = Some cause.BadLine

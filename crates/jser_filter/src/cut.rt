@@ -1,8 +1,8 @@
 //! Cutting a list of units at a unit.
 ghost use Rattle.std.specs.Prelude.{◌≡◌, ◌==◌, ◌<◌, length, position, option_map, IfSome};
-ghost use Rattle.jser_filter.specs.Cuts.{cut, before_last, both_now, part_now, parts, parts_with};
+ghost use Rattle.jser_filter.specs.Cuts.{cut, before_last, both_now, part_now, split_at_each, split_with};
 
-/// What stands before and behind the first such unit, if there is one.
+/// What stands before and after the first such unit, if there is one.
 pub(crate) fn cut(units: &[u16], at: u16) -> Option<(&[u16], &[u16])>
     ensures { option_map both_now result ≡ cut at units.now }
 {
@@ -22,10 +22,10 @@ fn first_place(units: &[u16], at: u16) -> Option<usize>
     units.iter().position(|unit| *unit == at)
 }
 
-/// The first part of a text that is cut at each such unit, and what stands behind the unit that ends it.
+/// The first part of a text that is cut at each such unit, and what follows the unit that ends it.
 #[tactic(auto, using(crate::proofs::CutLemmas::parts_cut, crate::proofs::CutLemmas::parts_uncut, crate::proofs::CutLemmas::shorter_back))]
 pub(crate) fn next_part(units: &[u16], at: u16) -> (&[u16], Option<&[u16]>)
-    ensures parts { parts at units.now ≡ parts_with at result }
+    ensures parts { split_at_each at units.now ≡ split_with at result }
     ensures shorter { IfSome result.1 (λ rest. length rest.now < length units.now) }
 {
     match cut(units, at) {

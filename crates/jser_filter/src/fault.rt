@@ -3,20 +3,20 @@ use std::alloc::AllocError;
 use std::error::Error;
 use std::fmt;
 
-/// What is wrong with a piece of a filter's text. Where several faults hold, the first of these is told.
+/// What is wrong with a piece of a filter's text. Where several of these apply, the first is told.
 #[derive(Clone, Copy, PartialEq, Eq, Debug)]
 pub enum FilterCause {
     /// A limit with none of the names `maxdepth`, `maxrefs`, `maxbytes` and `maxarray`.
     UnknownLimit,
-    /// The value of a limit is no number from 0 to 2^63 - 1.
+    /// The value of a limit is not a number from 0 to 2^63 - 1.
     BadLimit,
-    /// Nothing stands before the first `/`.
+    /// There is nothing before the first `/`.
     ModuleMissing,
     /// The name pattern is empty.
     NameMissing,
     /// The name pattern is `.*` or `.**` alone.
     PackageMissing,
-    /// There was no memory for the piece.
+    /// Memory ran out for the piece.
     OutOfMemory,
 }
 
@@ -74,14 +74,14 @@ impl Error for FilterCause {}
 
 impl Error for FilterFault {}
 
-/// What is wrong with a line of a table of modules. Where both faults hold, the first is told.
+/// What is wrong with a line of a table of modules. Where both apply, the first is told.
 #[derive(Clone, Copy, PartialEq, Eq, Debug)]
 pub enum ModulesCause {
     /// Not exactly one `=`, or an empty side.
     BadLine,
     /// The package stands in an earlier line.
     PackageTwice,
-    /// There was no memory for the line.
+    /// Memory ran out for the line.
     OutOfMemory,
 }
 

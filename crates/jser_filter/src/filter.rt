@@ -40,8 +40,8 @@ impl Filter {
     /// Reads a filter's text. Its table of modules is empty.
     ///
     /// # Errors
-    /// The first faulty piece, and the first of the causes that it has. `OutOfMemory` comes at the piece for
-    /// which memory ran out, and the whole text's growth belongs to piece 0; no earlier piece is faulty then.
+    /// The first faulty piece, with the first of its causes. `OutOfMemory` is told at the piece for which memory
+    /// ran out, and at piece 0 for what is made of the whole text; no earlier piece is faulty then.
     pub fn parse(alloc: Global, text: &str) -> Result<Filter, FilterFault>
         ensures pieces { IfOk result (λ filter. filter.pieces ≡ pieces_of (utf16_units text.now)) }
         ensures sound { IfOk result (λ filter. AreSound filter.pieces) }
@@ -61,8 +61,8 @@ impl Filter {
         }
     }
 
-    /// What the filter says of a name, which is not malformed: a name is judged by its element. Takes no
-    /// memory.
+    /// What the filter says of a name, which must not be malformed: a name is judged by its element. It
+    /// allocates nothing, and its time grows with the name and not with the number of patterns.
     pub fn judge(&self, name: &[u16]) -> Verdict
         requires { element_of name.now ≢ malformed_element }
         ensures { result ≡ verdict_of self.now name.now }
@@ -74,14 +74,14 @@ impl Filter {
         }
     }
 
-    /// The last value that the text gives each limit. Takes no memory.
+    /// The last value that the text sets for each limit. It allocates nothing.
     pub fn limits(&self) -> Limits
         ensures { result ≡ limits_of self.now.pieces }
     {
         self.pieces.limits()
     }
 
-    /// Puts this table of modules in place of the filter's own. Takes no memory.
+    /// Puts this table of modules in place of the filter's own. It allocates nothing.
     pub fn with_modules(self, modules: Modules) -> Filter
         ensures pieces { result.pieces ≡ self.pieces }
         ensures modules { result.modules ≡ modules }

@@ -13,7 +13,7 @@ pub(crate) enum Limit {
     Array,
 }
 
-/// The limits that a filter's text gives, each the last value that it gives that limit.
+/// The limits of a filter's text: for each, the last value that the text sets.
 #[derive(Clone, Copy, PartialEq, Eq, Debug, Default)]
 pub struct Limits {
     /// The greatest depth of a place: `maxdepth`.
@@ -96,7 +96,7 @@ const ZERO: u16 = 0x30;
 const NINE: u16 = 0x39;
 
 /// The number that these digits write, if it is at most `most`.
-#[tactic(auto, using(crate::proofs::LimitLemmas::decimal_next, crate::proofs::LimitLemmas::no_number_other, crate::proofs::LimitLemmas::no_number_above, crate::proofs::LimitLemmas::number_is))]
+#[tactic(auto, using(crate::proofs::LimitLemmas::number_written_next, crate::proofs::LimitLemmas::no_number_other, crate::proofs::LimitLemmas::no_number_above, crate::proofs::LimitLemmas::number_is))]
 fn number_up_to(most: u64, digits: &[u16]) -> Option<u64>
     requires { most < 2 ^ 63 }
     ensures { result ≡ number_up_to most digits.now }

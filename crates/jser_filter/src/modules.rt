@@ -45,7 +45,7 @@ const EQUALS: u16 = 0x3D;
 const LINE_FEED: u16 = 0x0A;
 
 impl Modules {
-    /// The empty table. Takes no memory.
+    /// The empty table. It allocates nothing.
     pub fn none(alloc: Global) -> Modules
         ensures { result ≡ [] }
     {
@@ -58,8 +58,8 @@ impl Modules {
     /// Reads a table of modules from lines `package=module`.
     ///
     /// # Errors
-    /// The first faulty line, and the first of the causes that it has. `OutOfMemory` comes at the line for
-    /// which memory ran out, and the whole text's growth belongs to line 0; no earlier line is faulty then.
+    /// The first faulty line, with the first of its causes. `OutOfMemory` is told at the line for which memory
+    /// ran out, and at line 0 for what is made of the whole text; no earlier line is faulty then.
     pub fn parse(alloc: Global, text: &str) -> Result<Modules, ModulesFault>
         ensures table { IfOk result (λ modules. modules ≡ table_of (lines_of (utf16_units text.now))) }
         ensures sound { IfOk result (λ _. AreSoundLines (lines_of (utf16_units text.now))) }
@@ -71,7 +71,7 @@ impl Modules {
         }
     }
 
-    /// The module of a package, if the table has it. Takes no memory.
+    /// The module of a package, if the table has it. It allocates nothing.
     #[tactic(auto, using(crate::proofs::ModulesLemmas::module_at_place, crate::proofs::ModulesLemmas::module_nowhere))]
     pub fn get(&self, package: &[u16]) -> Option<&[u16]>
         ensures { option_map part_now result ≡ module_of self.now «package».now }

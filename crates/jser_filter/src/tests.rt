@@ -9,6 +9,7 @@ use std::process::Abort;
 use std::test::Fail;
 
 mod costs;
+mod memory;
 mod verdicts;
 
 /// What the filter says of a name, or `None` for a malformed one.
@@ -256,39 +257,4 @@ fn filters_with_modules(rt: HostRuntime) -> Result<(), Fail> {
         assert_eq!(rt; judge(&filter, &name), Some(verdict), "{text}");
     }
     Ok(())
-}
-
-/// Run with each allocation refused in turn: a refused growth is told at its piece or line, before the faulty
-/// one; otherwise the right answer comes.
-#[test]
-fn want_of_memory(rt: HostRuntime) {
-    let alloc = rt.alloc();
-    for (text, faulty) in [("a;b;max=1", 2), ("a;b;m/c.*;!d*;max=1", 4), ("max=1", 0)] {
-        match fault_of(alloc, text) {
-            Some(FilterFault { pattern, cause }) if cause == FilterCause::OutOfMemory => {
-                assert!(rt; pattern < faulty || pattern == 0, "{text}");
-            }
-            fault => {
-                let wanted = FilterFault {
-                    pattern: faulty,
-                    cause: FilterCause::UnknownLimit,
-                };
-                assert_eq!(rt; fault, Some(wanted), "{text}");
-            }
-        }
-    }
-    for (text, faulty) in [("a=b\na=c", 1), ("a=b\nc=d\n\ne=f\na=g", 4)] {
-        match modules_fault_of(alloc, text) {
-            Some(ModulesFault { line, cause }) if cause == ModulesCause::OutOfMemory => {
-                assert!(rt; line < faulty, "{text}");
-            }
-            fault => {
-                let wanted = ModulesFault {
-                    line: faulty,
-                    cause: ModulesCause::PackageTwice,
-                };
-                assert_eq!(rt; fault, Some(wanted), "{text}");
-            }
-        }
-    }
 }
