@@ -1,0 +1,248 @@
+-- Class places: their tags, and the handles of classes that have been read.
+use Rattle.std.proofs.Common.{◌≡◌, ℕ, suc, ◌-◌, zero, ◌<◌, ◌≤◌, ◌⊎◌, inl, inr, Bool, true, false, nat_le, List, [], ◌∷◌, length, slice_get, Option, Some, None, refl, sym, ap, subst, arith}
+use Rattle.std.proofs.lemmas.Bool.Decides.{nat_tests}
+use Rattle.jser_table.specs.declared.layer.Fit.{Fit}
+use Rattle.jser_table.specs.declared.layer.Fit.TheVariants as fit
+use Rattle.jser_table.specs.declared.class.Class.TheVariants as class
+use Rattle.jser_table.specs.Chains.{chain_in}
+use Rattle.jser_table.specs.Entries.{TableEntry, text_entry, other_entry, pending_entry, closed_entry, is_pending, chain_at, chain_of}
+use Rattle.jser_table.specs.Tables.{IsClass}
+use Rattle.jser_reading.specs.Labels.{class_place_at, class_handle_at}
+use Rattle.jser_reading.specs.FieldBytes.{tag_byte}
+use Rattle.jser_reading.specs.FieldsFromBytes.{tag_from}
+use Rattle.jser_reading.specs.Goals.{State}
+use Rattle.jser_reading.specs.Roles.{object_owner, array_owner, enum_owner, class_owner}
+use Rattle.jser_reading.specs.Roles.{Owner as GoalOwner}
+use Rattle.jser_verdict.specs.Reasons.{Reason, bad_tag, null_class, no_such_handle, wrong_kind, open_descriptor, wrong_class, external_raw, not_serializable, handle_space}
+use Rattle.jser_verdict.specs.TagRows.{is_known_tag}
+use Rattle.jser_verdict.specs.HandleRows.{is_no_handle, entry_named, is_no_descriptor}
+use Rattle.jser_verdict.specs.ClassRows.{fit_of_owner, fit_at, is_wrong, is_raw, is_unserial}
+use Rattle.jser_verdict.specs.Verdicts.{told_if, class_tag_reason, class_handle_reason}
+use Rattle.jser_reader.specs.declared.frame.Owner.{Owner}
+use Rattle.jser_reader.specs.declared.frame.Owner.TheVariants as owner
+use Rattle.jser_reader.specs.declared.frame.Role.TheVariants as role
+use Rattle.jser_reader.specs.declared.phase.Phase.TheVariants as phase
+use Rattle.jser_reader.specs.declared.refusal.Reason.TheVariants as reason
+use Rattle.jser_reader.specs.declared.refusal.Reason.{Reason as CodeReason}
+use Rattle.jser_reader.specs.declared.tag.ValueTag.{ValueTag}
+use Rattle.jser_reader.specs.declared.tag.ValueTag.TheVariants as value
+use Rattle.jser_reader.specs.Tags.{told_tag, block_byte, IsTagOf}
+use Rattle.jser_reader.specs.Reasons.{named}
+use Rattle.jser_reader.specs.Frames.{goal_owner}
+use Rattle.jser_reader.specs.Readers.{Seen, Ready}
+use Rattle.jser_reader.specs.Classes.{fit_reason}
+use Rattle.jser_reader.specs.Handlers.{StopsWith, refusal, Tells, IsNext, is_full, plain_gate, label_at, after_class_tag, opens_class, opens_proxy, owner_state}
+use Rattle.jser_reader.proofs.EndLemmas.{next_is, tells_next, tells_refusal}
+
+-- the reason for a byte in the class place of this owner
+abbrev tag_reason : Seen → GoalOwner → ℕ → Option Reason
+tag_reason r o b = class_tag_reason (plain_gate r) (label_at (class_place_at o) (suc (length r.frames)) r) o b
+
+-- tags that are refused
+
+refused : (reason : Reason) (o : GoalOwner) (b : ℕ) (s : State) (found : Bool) (old new : Seen) → tag_reason old o b ≡ Some reason
+    → StopsWith (refusal old.meter (named reason)) old new → found ≡ false → Tells (tag_reason old o b) s found old new
+refused reason o b s found old new e h ef = tells_refusal reason (tag_reason old o b) s found old new h ef e
+
+not_known : (b : ℕ) (o : GoalOwner) → (b < 0x70) ⊎ (0x7E < b) → is_known_tag (class_place_at o) b ≡ false
+not_known b o (inl h) = grind (arith, nat_tests)
+not_known b o (inr h) = grind (arith, nat_tests)
+
+pub no_class_tag : (b : ℕ) (s : State) (found : Bool) (old new : Seen) → IsTagOf b None → StopsWith (refusal old.meter (named bad_tag)) old new → found ≡ false
+    → Tells (tag_reason old (goal_owner old.owner) b) s found old new
+no_class_tag b s found old new t h ef =
+    let k = not_known b (goal_owner old.owner) t in
+    refused bad_tag (goal_owner old.owner) b s found old new (rw k refl) h ef
+
+pub class_block : (long : Bool) (b : ℕ) (s : State) (found : Bool) (old new : Seen) → b ≡ block_byte long → StopsWith (refusal old.meter (named bad_tag)) old new → found ≡ false
+    → Tells (tag_reason old (goal_owner old.owner) b) s found old new
+class_block false b s found old new e h ef = rw e (refused bad_tag (goal_owner old.owner) 0x77 s found old new refl h ef)
+class_block true b s found old new e h ef = rw e (refused bad_tag (goal_owner old.owner) 0x7A s found old new refl h ef)
+
+pub class_other : (b : ℕ) (s : State) (found : Bool) (old new : Seen) → (b ≡ 0x78) ⊎ ((b ≡ 0x79) ⊎ (b ≡ 0x7B)) → StopsWith (refusal old.meter (named bad_tag)) old new → found ≡ false
+    → Tells (tag_reason old (goal_owner old.owner) b) s found old new
+class_other b s found old new (inl e) h ef = rw e (refused bad_tag (goal_owner old.owner) 0x78 s found old new refl h ef)
+class_other b s found old new (inr (inl e)) h ef = rw e (refused bad_tag (goal_owner old.owner) 0x79 s found old new refl h ef)
+class_other b s found old new (inr (inr e)) h ef = rw e (refused bad_tag (goal_owner old.owner) 0x7B s found old new refl h ef)
+
+pub null_class_tag : (s : State) (found : Bool) (old new : Seen) → StopsWith (refusal old.meter (named null_class)) old new → found ≡ false
+    → Tells (tag_reason old (goal_owner old.owner) (tag_byte (told_tag value.Null))) s found old new
+null_class_tag s found old new h ef = refused null_class (goal_owner old.owner) 0x70 s found old new refl h ef
+
+abbrev IsNoClass : ValueTag → Type 0
+IsNoClass value.Null = ⊥
+IsNoClass value.Reference = ⊥
+IsNoClass value.ClassDesc = ⊥
+IsNoClass value.ProxyClassDesc = ⊥
+IsNoClass _ = Unit {0}
+
+no_class_reason : (t : ValueTag) (o : GoalOwner) (r : Seen) → IsNoClass t → tag_reason r o (tag_byte (told_tag t)) ≡ Some bad_tag
+no_class_reason value.Object o r i = refl
+no_class_reason value.String o r i = refl
+no_class_reason value.LongString o r i = refl
+no_class_reason value.Array o r i = refl
+no_class_reason value.Class o r i = refl
+no_class_reason value.Enum o r i = refl
+no_class_reason value.Null o r i = absurd i
+no_class_reason value.Reference o r i = absurd i
+no_class_reason value.ClassDesc o r i = absurd i
+no_class_reason value.ProxyClassDesc o r i = absurd i
+
+pub no_class_value : (t : ValueTag) (s : State) (found : Bool) (old new : Seen) → StopsWith (refusal old.meter (named bad_tag)) old new → found ≡ false → IsNoClass t
+    → Tells (tag_reason old (goal_owner old.owner) (tag_byte (told_tag t))) s found old new
+no_class_value t s found old new h ef i = refused bad_tag (goal_owner old.owner) (tag_byte (told_tag t)) s found old new (no_class_reason t (goal_owner old.owner) old i) h ef
+
+pub value_tag : (t : ValueTag) (b : ℕ) (found : Bool) (old new : Seen) → b ≡ tag_byte (told_tag t)
+    → Tells (tag_reason old (goal_owner old.owner) (tag_byte (told_tag t))) (after_class_tag old (tag_from (tag_byte (told_tag t)))) found old new
+    → Tells (tag_reason old (goal_owner old.owner) b) (after_class_tag old (tag_from b)) found old new
+value_tag t b found old new e h = rw e h
+
+-- tags that are taken
+
+quiet_reference : (o : GoalOwner) (r : Seen) → tag_reason r o 0x71 ≡ None
+unfolding tag_from
+quiet_reference object_owner r = refl
+quiet_reference array_owner r = refl
+quiet_reference enum_owner r = refl
+quiet_reference class_owner r = refl
+
+quiet_class : (o : GoalOwner) (r : Seen) → tag_reason r o 0x72 ≡ None
+unfolding tag_from
+quiet_class object_owner r = refl
+quiet_class array_owner r = refl
+quiet_class enum_owner r = refl
+quiet_class class_owner r = refl
+
+pub class_reference : (found : Bool) (old new : Seen) → IsNext phase.ClassHandle old.owner old.elements old.header old.text old new → found ≡ true
+    → Tells (tag_reason old (goal_owner old.owner) (tag_byte (told_tag value.Reference))) (after_class_tag old (tag_from (tag_byte (told_tag value.Reference)))) found old new
+unfolding tag_from Ready
+class_reference found old new n ef =
+    let ready : Ready new (after_class_tag old (tag_from 0x71)) = rw (next_is phase.ClassHandle old.owner old.elements old.header old.text old new n) refl in
+    tells_next (tag_reason old (goal_owner old.owner) 0x71) (after_class_tag old (tag_from 0x71)) found old new (record { ready = ready; meter = n.meter }) ef (quiet_reference (goal_owner old.owner) old)
+
+pub new_class : (found : Bool) (old new : Seen) → Tells None (opens_class old (role.ClassOf old.owner)) found old new
+    → Tells (tag_reason old (goal_owner old.owner) (tag_byte (told_tag value.ClassDesc))) (after_class_tag old (tag_from (tag_byte (told_tag value.ClassDesc)))) found old new
+unfolding tag_from
+new_class found old new h =
+    subst (λ k. Tells k (after_class_tag old (tag_from 0x72)) found old new) (sym (quiet_class (goal_owner old.owner) old)) h
+
+pub proxy_tag : (found : Bool) (old new : Seen) → Tells (tag_reason old (goal_owner old.owner) 0x7D) (after_class_tag old (tag_from 0x7D)) found old new
+    → Tells (tag_reason old (goal_owner old.owner) (tag_byte (told_tag value.ProxyClassDesc))) (after_class_tag old (tag_from (tag_byte (told_tag value.ProxyClassDesc)))) found old new
+proxy_tag found old new h = h
+
+at_owner : (o : Owner) (found : Bool) (old new : Seen) → old.owner ≡ o → Tells (tag_reason old (goal_owner o) 0x7D) (opens_proxy old (role.ClassOf o)) found old new
+    → Tells (tag_reason old (goal_owner old.owner) 0x7D) (after_class_tag old (tag_from 0x7D)) found old new
+unfolding tag_from
+at_owner o found old new e h = subst (λ w. Tells (tag_reason old (goal_owner w) 0x7D) (opens_proxy old (role.ClassOf w)) found old new) (sym e) h
+
+pub object_proxy : (found : Bool) (old new : Seen) → Tells (told_if (is_full old) handle_space None) (opens_proxy old (role.ClassOf owner.Object)) found old new → old.owner ≡ owner.Object
+    → Tells (tag_reason old (goal_owner old.owner) 0x7D) (after_class_tag old (tag_from 0x7D)) found old new
+unfolding tag_from
+object_proxy found old new h e = at_owner owner.Object found old new e h
+
+pub class_proxy : (found : Bool) (old new : Seen) → Tells (told_if (is_full old) handle_space None) (opens_proxy old (role.ClassOf owner.ClassObject)) found old new → old.owner ≡ owner.ClassObject
+    → Tells (tag_reason old (goal_owner old.owner) 0x7D) (after_class_tag old (tag_from 0x7D)) found old new
+unfolding tag_from
+class_proxy found old new h e = at_owner owner.ClassObject found old new e h
+
+pub array_proxy : (found : Bool) (old new : Seen) → StopsWith (refusal old.meter (named wrong_class)) old new → found ≡ false → old.owner ≡ owner.Array
+    → Tells (tag_reason old (goal_owner old.owner) 0x7D) (after_class_tag old (tag_from 0x7D)) found old new
+array_proxy found old new h ef e = at_owner owner.Array found old new e (refused wrong_class array_owner 0x7D (opens_proxy old (role.ClassOf owner.Array)) found old new refl h ef)
+
+pub enum_proxy : (found : Bool) (old new : Seen) → StopsWith (refusal old.meter (named wrong_class)) old new → found ≡ false → old.owner ≡ owner.EnumConst
+    → Tells (tag_reason old (goal_owner old.owner) 0x7D) (after_class_tag old (tag_from 0x7D)) found old new
+enum_proxy found old new h ef e = at_owner owner.EnumConst found old new e (refused wrong_class enum_owner 0x7D (opens_proxy old (role.ClassOf owner.EnumConst)) found old new refl h ef)
+
+-- handles
+
+abbrev handle_reason : Seen → GoalOwner → ℕ → Option Reason
+handle_reason r o n = class_handle_reason (plain_gate r) (label_at (class_handle_at o) (suc (length r.frames)) r) o n
+
+-- the reason by the entry, where the handle is one
+abbrev entry_reason : Seen → GoalOwner → Option TableEntry → Option Reason
+entry_reason r o e =
+    told_if (is_no_descriptor e) wrong_kind
+    (told_if (is_pending e) open_descriptor
+    (told_if (fit_at o e is_wrong) wrong_class
+    (told_if (fit_at o e is_raw) external_raw
+    (told_if (fit_at o e is_unserial) not_serializable (told_if (is_full r) handle_space None)))))
+
+pub within : (T : List TableEntry) (k : ℕ) (e : TableEntry) → slice_get T k ≡ Some e → k < length T
+within [] k e h = absurd (cc)
+within (x ∷ T) zero e h = omega arith
+within (x ∷ T) (suc k) e h = let l = within T k e h in omega arith
+
+pub beyond : (T : List TableEntry) (k : ℕ) → slice_get T k ≡ None → length T ≤ k
+beyond [] k h = omega arith
+beyond (x ∷ T) zero h = absurd (cc)
+beyond (x ∷ T) (suc k) h = let l = beyond T k h in omega arith
+
+at_entry : (r : Seen) (o : GoalOwner) (n : ℕ) (e : TableEntry) → 0x7E0000 ≤ n → slice_get r.table.entries (n - 0x7E0000) ≡ Some e → handle_reason r o n ≡ entry_reason r o (Some e)
+at_entry r o n e low h =
+    let l = within r.table.entries (n - 0x7E0000) e h in
+    let is : is_no_handle r.table.entries n ≡ false = grind (arith, nat_tests) in
+    let named_is : entry_named r.table.entries n ≡ Some e = let t : nat_le 0x7E0000 n ≡ true = grind (arith, nat_tests) in rw t h in
+    rw is (ap (entry_reason r o) named_is)
+
+pub low_class : (n : ℕ) (s : State) (found : Bool) (old new : Seen) → StopsWith (refusal old.meter (named no_such_handle)) old new → found ≡ false → n < 0x7E0000
+    → Tells (handle_reason old (goal_owner old.owner) n) s found old new
+low_class n s found old new h ef l =
+    let is : is_no_handle old.table.entries n ≡ true = grind (arith, nat_tests) in
+    tells_refusal no_such_handle (handle_reason old (goal_owner old.owner) n) s found old new h ef (rw is refl)
+
+pub no_such_class : (n : ℕ) (s : State) (found : Bool) (old new : Seen) → StopsWith (refusal old.meter (named no_such_handle)) old new → found ≡ false
+    → IsClass old.table.chains (slice_get old.table.entries (n - 0x7E0000)) class.NotThere → (n < 0x7E0000 → ⊥)
+    → Tells (handle_reason old (goal_owner old.owner) n) s found old new
+no_such_class n s found old new h ef none low =
+    let l = beyond old.table.entries (n - 0x7E0000) none in
+    let is : is_no_handle old.table.entries n ≡ true = grind (arith, nat_tests) in
+    tells_refusal no_such_handle (handle_reason old (goal_owner old.owner) n) s found old new h ef (rw is refl)
+
+pub no_class : (n : ℕ) (s : State) (found : Bool) (old new : Seen) → StopsWith (refusal old.meter (named wrong_kind)) old new → found ≡ false
+    → IsClass old.table.chains (slice_get old.table.entries (n - 0x7E0000)) class.NoClass → (n < 0x7E0000 → ⊥)
+    → Tells (handle_reason old (goal_owner old.owner) n) s found old new
+no_class n s found old new h ef (inl t) low =
+    tells_refusal wrong_kind (handle_reason old (goal_owner old.owner) n) s found old new h ef (at_entry old (goal_owner old.owner) n text_entry (omega arith) t)
+no_class n s found old new h ef (inr t) low =
+    tells_refusal wrong_kind (handle_reason old (goal_owner old.owner) n) s found old new h ef (at_entry old (goal_owner old.owner) n other_entry (omega arith) t)
+
+pub open_class : (n : ℕ) (s : State) (found : Bool) (old new : Seen) → StopsWith (refusal old.meter (named open_descriptor)) old new → found ≡ false
+    → IsClass old.table.chains (slice_get old.table.entries (n - 0x7E0000)) class.Open → (n < 0x7E0000 → ⊥)
+    → Tells (handle_reason old (goal_owner old.owner) n) s found old new
+open_class n s found old new h ef t low =
+    tells_refusal open_descriptor (handle_reason old (goal_owner old.owner) n) s found old new h ef (at_entry old (goal_owner old.owner) n pending_entry (omega arith) t)
+
+abbrev fit_told : Fit → Option Reason → Option Reason
+fit_told f others = told_if (is_wrong f) wrong_class (told_if (is_raw f) external_raw (told_if (is_unserial f) not_serializable others))
+
+pub wrong_class_handle : (n chain : ℕ) (why : CodeReason) (s : State) (found : Bool) (old new : Seen) → StopsWith (refusal old.meter why) old new → found ≡ false
+    → IsClass old.table.chains (slice_get old.table.entries (n - 0x7E0000)) (class.Closed chain) → (n < 0x7E0000 → ⊥)
+    → Some why ≡ fit_reason (fit_of_owner (goal_owner old.owner) (chain_in old.table.chains chain))
+    → Tells (handle_reason old (goal_owner old.owner) n) s found old new
+wrong_class_handle n chain why s found old new h ef t low e =
+    let at = at_entry old (goal_owner old.owner) n (closed_entry (chain_in old.table.chains chain)) (omega arith) t.0 in
+    subst (λ k. Tells k s found old new) (sym at) (go (fit_of_owner (goal_owner old.owner) (chain_in old.table.chains chain)) e)
+  where
+    go : (f : Fit) → Some why ≡ fit_reason f → Tells (fit_told f (told_if (is_full old) handle_space None)) s found old new
+    go fit.Fits e = absurd (cc)
+    go fit.WrongClass e = let w : why ≡ reason.WrongClass = cc in tells_refusal wrong_class (Some wrong_class) s found old new (subst (λ k. StopsWith (refusal old.meter k) old new) w h) ef refl
+    go fit.ExternalRaw e = let w : why ≡ reason.ExternalRaw = cc in tells_refusal external_raw (Some external_raw) s found old new (subst (λ k. StopsWith (refusal old.meter k) old new) w h) ef refl
+    go fit.NotSerializable e = let w : why ≡ reason.NotSerializable = cc in tells_refusal not_serializable (Some not_serializable) s found old new (subst (λ k. StopsWith (refusal old.meter k) old new) w h) ef refl
+
+pub right_class : (n chain : ℕ) (found : Bool) (old new : Seen)
+    → Tells (told_if (is_full old) handle_space None) (owner_state old (chain_in old.table.chains chain)) found old new
+    → IsClass old.table.chains (slice_get old.table.entries (n - 0x7E0000)) (class.Closed chain) → (n < 0x7E0000 → ⊥)
+    → None ≡ fit_reason (fit_of_owner (goal_owner old.owner) (chain_in old.table.chains chain))
+    → Tells (handle_reason old (goal_owner old.owner) n) (owner_state old (chain_at old.table.entries (n - 0x7E0000))) found old new
+right_class n chain found old new h t low e =
+    let at = at_entry old (goal_owner old.owner) n (closed_entry (chain_in old.table.chains chain)) (omega arith) t.0 in
+    let same : chain_at old.table.entries (n - 0x7E0000) ≡ chain_in old.table.chains chain = ap chain_of t.0 in
+    subst (λ k. Tells k (owner_state old (chain_at old.table.entries (n - 0x7E0000))) found old new) (sym at)
+    (subst (λ c. Tells (fit_told (fit_of_owner (goal_owner old.owner) (chain_in old.table.chains chain)) (told_if (is_full old) handle_space None)) (owner_state old c) found old new) (sym same)
+    (go (fit_of_owner (goal_owner old.owner) (chain_in old.table.chains chain)) e))
+  where
+    go : (f : Fit) → None ≡ fit_reason f → Tells (fit_told f (told_if (is_full old) handle_space None)) (owner_state old (chain_in old.table.chains chain)) found old new
+    go fit.Fits e = h
+    go fit.WrongClass e = absurd (cc)
+    go fit.ExternalRaw e = absurd (cc)
+    go fit.NotSerializable e = absurd (cc)

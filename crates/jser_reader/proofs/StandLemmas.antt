@@ -1,0 +1,178 @@
+-- From the contract of a handler to the walk over bytes: what the machine stands for before and after a field.
+use Rattle.std.proofs.Common.{◌≡◌, ℕ, suc, ◌+◌, ◌*◌, ◌<◌, ◌≤◌, Bool, true, false, List, [], ◌++◌, length, Option, Some, None, refl, sym, ◌∙◌, ap, ap₂, arith, append-nil, length-append}
+use Rattle.jser_table.specs.Codes.{PrimCode, byte_code, char_code, double_code, float_code, int_code, long_code, short_code, boolean_code, size_of}
+use Rattle.jser_reading.specs.Labels.{StreamField}
+use Rattle.jser_reading.specs.FieldsFromBytes.{size_in, field_in}
+use Rattle.jser_reading.specs.Goals.{State, settled}
+use Rattle.jser_reading.specs.Accepts.{label_of}
+use Rattle.jser_reading.specs.Machine.{advance, begin_state}
+use Rattle.jser_reading.specs.Scanner.{good, bad, IsUndecided, by_verdict, walk, refused, ended}
+use Rattle.jser_verdict.specs.Reasons.{turn}
+use Rattle.jser_verdict.specs.Reasons.{Reason as ToldReason}
+use Rattle.jser_verdict.specs.Gates.{Gate, Answer}
+use Rattle.jser_verdict.specs.Verdicts.{reason_at, verdict}
+use Rattle.jser_reader.specs.declared.phase.Phase.{Phase}
+use Rattle.jser_reader.specs.declared.phase.Phase.TheVariants as phase
+use Rattle.jser_reader.specs.Readers.{Seen, Ready, ReadyAt, PrimsReady, BytesReady}
+use Rattle.jser_reader.specs.Handlers.{Tells, TellCases, TellsSurely}
+use Rattle.jser_reader.specs.Walks.{gate_with, PrimsStands, BytesStands, StandsAt, Stands, StandsFor, Took, Takes, Keeps, Counts}
+use Rattle.jser_reader.proofs.WalkLemmas.{walk_on, judged_by, walk_field, verdict_good, verdict_bad}
+
+-- ---- where a field begins
+
+some_size : (c : PrimCode) → 0 < size_of c
+some_size byte_code = omega arith
+some_size char_code = omega arith
+some_size double_code = omega arith
+some_size float_code = omega arith
+some_size int_code = omega arith
+some_size long_code = omega arith
+some_size short_code = omega arith
+some_size boolean_code = omega arith
+
+prims_begin : (r : Seen) (s : State) → PrimsReady r s → PrimsStands r s []
+prims_begin r s h = record {
+  depth = h.depth;
+  type_code = h.type_code;
+  more = h.more;
+  parts = h.parts;
+  goals = h.goals;
+  is = h.is;
+  size = let e = h.size in omega arith;
+  goes_on = let e = h.size in let k = some_size h.type_code in some h.more (size_of h.type_code) r.left k e;
+  after = h.after;
+}
+  where
+    some : (n k left : ℕ) → 0 < k → left ≡ suc n * k → 0 < left
+    some n k left h e = omega (arith, e)
+
+bytes_begin : (r : Seen) (s : State) → BytesReady r s → BytesStands r s []
+bytes_begin r s h = record {
+  depth = h.depth;
+  more = h.more;
+  is = h.is;
+  size = let e = h.size in omega arith;
+  goes_on = let e = h.size in omega arith;
+}
+
+stands_at : (p : Phase) (r : Seen) (s : State) → ReadyAt p r s → StandsAt p r s []
+stands_at phase.Prims r s h = prims_begin r s h
+stands_at phase.Bytes r s h = bytes_begin r s h
+stands_at phase.Text r s h = absurd h
+stands_at phase.Cut r s h = absurd h
+stands_at phase.Stopped r s h = absurd h
+stands_at p r s h = (h, refl)
+
+-- a machine that is ready has no cut field
+pub stands_ready : (gate : Gate) (r : Seen) (s : State) → Ready r s → gate_with r gate.answer ≡ gate → r.meter.at ≡ r.meter.from
+    → Stands gate r s []
+unfolding Ready
+stands_ready gate r s h g e =
+    record { limits_are = g; stands = stands_at r.phase r s h; counts = omega arith }
+
+-- the limits stay what they are
+pub same_limits : (old new : Seen) (answer : List ℕ → Answer) → new.meter.limits ≡ old.meter.limits → new.table.max ≡ old.table.max
+    → gate_with new answer ≡ gate_with old answer
+same_limits old new answer el em =
+    ap₂ (λ l n. record { bytes = l.bytes; depth = l.depth; refs = l.refs; array = l.array; handles = n; answer = answer }) el em
+
+-- ---- a field that a handler judged
+
+-- the bytes are a field that leads to this state
+pub record LeadsTo (s : State) (bytes : List ℕ) (next : State) : Type 0 where
+  pub field : StreamField
+  pub enough : size_in (label_of s).position bytes ≤ length bytes
+  pub found : field_in (label_of s).position bytes ≡ Some field
+  pub goes : settled (advance s field) ≡ next
+
+-- what a handler that takes no memory tells, or one that cannot fail
+pub tells_surely : (told : Option ToldReason) (s : State) (found : Bool) (old new : Seen) → TellsSurely told s found old new → Tells told s found old new
+unfolding Tells TellsSurely
+tells_surely None s true old new h = h
+tells_surely None s false old new h = absurd h
+tells_surely (Some k) s true old new h = absurd h
+tells_surely (Some k) s false old new h = h
+
+took_field : (gate : Gate) (told : Option ToldReason) (next : State) (found : Bool) (old mid new : Seen) (s : State) (cut taken : List ℕ)
+    → TellCases told next found mid new → Stands gate old (settled s) cut → Counts taken old mid → (found ≡ true → new.table.max ≡ mid.table.max)
+    → ((rest : List ℕ) → walk (verdict gate) s cut (taken ++ rest) ≡ judged_by (verdict gate) s (cut ++ taken) rest)
+    → reason_at gate (label_of (settled s)) (label_of (settled s)).position (cut ++ taken) ≡ told
+    → (told ≡ None → LeadsTo (settled s) (cut ++ taken) next)
+    → Took gate s cut taken found old new
+took_field gate None next true old mid new s cut taken h st c em w e leads =
+    let x = leads refl in
+    let v : verdict gate (label_of (settled s)) (cut ++ taken) ≡ good x.field =
+    verdict_good gate (label_of (settled s)) (cut ++ taken) x.field e x.enough x.found in
+    record {
+      state = advance (settled s) x.field;
+      walks =
+          λ rest. w rest
+          ∙ ap (λ y. by_verdict y (walk (verdict gate) s (cut ++ taken) rest) (λ f. walk (verdict gate) (advance (settled s) f) [] rest)
+          (λ r. refused (cut ++ taken) rest r)) v;
+      stands =
+          rw x.goes
+          (stands_ready gate new next h.ready
+          (same_limits old new gate.answer (ap (λ m. m.limits) h.meter ∙ c.limits) (em refl ∙ ap (λ t. t.max) c.table) ∙ st.limits_are)
+          (ap (λ m. m.at) h.meter ∙ sym (ap (λ m. m.from) h.meter)));
+      at = ap (λ m. m.at) h.meter ∙ c.at;
+    }
+took_field gate (Some k) next true old mid new s cut taken h st c em w e leads = absurd h
+took_field gate None next false old mid new s cut taken h st c em w e leads = rw h.stop tt
+took_field gate (Some k) next false old mid new s cut taken h st c em w e leads =
+    let v : verdict gate (label_of (settled s)) (cut ++ taken) ≡ bad (turn k) = verdict_bad gate (label_of (settled s)) (cut ++ taken) k e in
+    rw h.stop (record {
+      reason = k;
+      is_named = refl;
+      walks =
+          λ rest. w rest
+          ∙ ap (λ y. by_verdict y (walk (verdict gate) s (cut ++ taken) rest) (λ f. walk (verdict gate) (advance (settled s) f) [] rest)
+          (λ r. refused (cut ++ taken) rest r)) v;
+      begins = c.from;
+      ends =
+          let n : length (cut ++ taken) ≡ length cut + length taken = length-append cut taken in
+          let a = c.at in
+          let k = st.counts in
+          omega arith;
+    })
+
+-- the bytes of a field of which no front decides, as its handler judged them
+pub judged : (gate : Gate) (told : Option ToldReason) (next : State) (found : Bool) (old mid new : Seen) (s : State) (cut taken : List ℕ)
+    → Tells told next found mid new → Stands gate old (settled s) cut → Counts taken old mid → (found ≡ true → new.table.max ≡ mid.table.max) → 0 < length taken
+    → IsUndecided (verdict gate) (label_of (settled s)) (cut ++ taken)
+    → reason_at gate (label_of (settled s)) (label_of (settled s)).position (cut ++ taken) ≡ told
+    → (told ≡ None → LeadsTo (settled s) (cut ++ taken) next)
+    → Took gate s cut taken found old new
+unfolding Tells
+judged gate told next found old mid new s cut taken h st c em some u e leads =
+    took_field gate told next found old mid new s cut taken h st c em (λ rest. walk_field (verdict gate) s taken cut rest some u) e leads
+
+-- ---- the bytes that the machine stands for
+
+pub took_stands : (gate : Gate) (old new : Seen) (bytes taken : List ℕ) → Takes gate taken true old new → StandsFor gate bytes old
+    → StandsFor gate (bytes ++ taken) new
+unfolding Takes
+took_stands gate old new bytes taken h st =
+    let x = h st.state st.cut st.stands in
+    let w : walk (verdict gate) begin_state [] (bytes ++ taken) ≡ ended x.state [] =
+    walk_on (verdict gate) bytes taken begin_state st.state [] st.cut st.walked
+    ∙ ap (walk (verdict gate) st.state st.cut) (sym (append-nil taken)) ∙ x.walks [] in
+    let n : length (bytes ++ taken) ≡ length bytes + length taken = length-append bytes taken in
+    let a = x.at in
+    let t = st.taken in
+    record { state = x.state; cut = []; walked = w; stands = x.stands; taken = omega arith }
+
+pub kept_stands : (gate : Gate) (old new : Seen) (bytes piece : List ℕ) → Keeps gate piece old new → StandsFor gate bytes old
+    → StandsFor gate (bytes ++ piece) new
+unfolding Keeps
+kept_stands gate old new bytes piece h st =
+    let x = h st.state st.cut st.stands in
+    let n : length (bytes ++ piece) ≡ length bytes + length piece = length-append bytes piece in
+    let a = x.at in
+    let t = st.taken in
+    record {
+      state = st.state;
+      cut = st.cut ++ piece;
+      walked = walk_on (verdict gate) bytes piece begin_state st.state [] st.cut st.walked ∙ x.walks;
+      stands = x.stands;
+      taken = omega arith;
+    }

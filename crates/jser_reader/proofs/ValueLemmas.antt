@@ -1,0 +1,168 @@
+-- The tag of a value, and where it leads.
+use Rattle.std.proofs.Common.{◌≡◌, ℕ, suc, ◌≤◌, Bool, true, false, nat_lt, nat_le, length, Option, Some, None, refl, ◌∙◌, ap, subst, arith}
+use Rattle.std.proofs.lemmas.Bool.Decides.{nat_tests}
+use Rattle.jser_table.specs.Entries.{TableEntry, text_entry, pending_entry}
+use Rattle.jser_reading.specs.Labels.{Tag, null_tag, reference_tag, class_desc_tag, object_tag, string_tag, array_tag, class_tag, long_string_tag, proxy_desc_tag, enum_tag}
+use Rattle.jser_reading.specs.Goals.{State}
+use Rattle.jser_verdict.specs.Reasons.{Reason, handle_space, depth_exceeded, refs_exceeded}
+use Rattle.jser_verdict.specs.Verdicts.{told_if}
+use Rattle.jser_reader.specs.declared.frame.Owner.TheVariants as owner
+use Rattle.jser_reader.specs.declared.frame.Role.{Role}
+use Rattle.jser_reader.specs.declared.frame.Role.TheVariants as role
+use Rattle.jser_reader.specs.declared.phase.Phase.TheVariants as phase
+use Rattle.jser_reader.specs.declared.phase.TextFor.{TextFor}
+use Rattle.jser_reader.specs.declared.phase.TextFor.TheVariants as text
+use Rattle.jser_reader.specs.Reasons.{named}
+use Rattle.jser_reader.specs.Readers.{Seen, in_role, in_proxy, length_phase, Ready, IsForm}
+use Rattle.jser_reader.specs.Steps.{after_value}
+use Rattle.jser_reader.specs.Handlers.{StopsWith, refusal, moved, Comes, Tells, TellCases, IsNext, Assigns, AssignCases, is_full, handle_reason, begun, place_reason, counted, after_tag, opens_text, opens_class, opens_proxy}
+use Rattle.jser_reader.proofs.EndLemmas.{next_is, tells_next}
+
+-- nothing is refused and the state comes
+goes : (s : State) (b : Bool) (old new : Seen) → Comes old new s → b ≡ true → Tells None s b old new
+goes s b old new h e = tells_next None s b old new h e refl
+
+pub null_begun : (b : Bool) (old new : Seen) → Comes old new (after_value old) → b ≡ true → Tells (handle_reason old null_tag) (begun old null_tag) b old new
+unfolding begun after_value
+null_begun b old new h e = goes (begun old null_tag) b old new h e
+
+pub back_begun : (b : Bool) (old new : Seen) → IsNext phase.BackHandle old.owner old.elements old.header old.text old new → b ≡ true
+    → Tells (handle_reason old reference_tag) (begun old reference_tag) b old new
+unfolding begun Ready
+back_begun b old new n e =
+    let r : Ready new (begun old reference_tag) = rw (next_is phase.BackHandle old.owner old.elements old.header old.text old new n) refl in
+    goes (begun old reference_tag) b old new (record { ready = r; meter = n.meter }) e
+
+pub object_begun : (b : Bool) (old new : Seen) → IsNext phase.ClassTag owner.Object old.elements old.header old.text old new → b ≡ true
+    → Tells (handle_reason old object_tag) (begun old object_tag) b old new
+unfolding begun Ready
+object_begun b old new n e =
+    let r : Ready new (begun old object_tag) = rw (next_is phase.ClassTag owner.Object old.elements old.header old.text old new n) refl in
+    goes (begun old object_tag) b old new (record { ready = r; meter = n.meter }) e
+
+pub array_begun : (b : Bool) (old new : Seen) → IsNext phase.ClassTag owner.Array old.elements old.header old.text old new → b ≡ true
+    → Tells (handle_reason old array_tag) (begun old array_tag) b old new
+unfolding begun Ready
+array_begun b old new n e =
+    let r : Ready new (begun old array_tag) = rw (next_is phase.ClassTag owner.Array old.elements old.header old.text old new n) refl in
+    goes (begun old array_tag) b old new (record { ready = r; meter = n.meter }) e
+
+pub class_begun : (b : Bool) (old new : Seen) → IsNext phase.ClassTag owner.ClassObject old.elements old.header old.text old new → b ≡ true
+    → Tells (handle_reason old class_tag) (begun old class_tag) b old new
+unfolding begun Ready
+class_begun b old new n e =
+    let r : Ready new (begun old class_tag) = rw (next_is phase.ClassTag owner.ClassObject old.elements old.header old.text old new n) refl in
+    goes (begun old class_tag) b old new (record { ready = r; meter = n.meter }) e
+
+pub enum_begun : (b : Bool) (old new : Seen) → IsNext phase.ClassTag owner.EnumConst old.elements old.header old.text old new → b ≡ true
+    → Tells (handle_reason old enum_tag) (begun old enum_tag) b old new
+unfolding begun Ready
+enum_begun b old new n e =
+    let r : Ready new (begun old enum_tag) = rw (next_is phase.ClassTag owner.EnumConst old.elements old.header old.text old new n) refl in
+    goes (begun old enum_tag) b old new (record { ready = r; meter = n.meter }) e
+
+pub desc_begun : (b : Bool) (old new : Seen) → Tells None (opens_class old role.Value) b old new → Tells (handle_reason old class_desc_tag) (begun old class_desc_tag) b old new
+unfolding begun opens_class
+desc_begun b old new h = h
+
+pub proxy_begun : (b : Bool) (old new : Seen) → Tells (told_if (is_full old) handle_space None) (opens_proxy old role.Value) b old new
+    → Tells (handle_reason old proxy_desc_tag) (begun old proxy_desc_tag) b old new
+unfolding begun opens_proxy
+proxy_begun b old new h = h
+
+pub string_begun : (b : Bool) (old new : Seen) → Tells (told_if (is_full old) handle_space None) (opens_text old text.Value false) b old new
+    → Tells (handle_reason old string_tag) (begun old string_tag) b old new
+unfolding begun opens_text
+string_begun b old new h = h
+
+pub long_string_begun : (b : Bool) (old new : Seen) → Tells (told_if (is_full old) handle_space None) (opens_text old text.Value true) b old new
+    → Tells (handle_reason old long_string_tag) (begun old long_string_tag) b old new
+unfolding begun opens_text
+long_string_begun b old new h = h
+
+-- handles
+
+pub no_entry : (entry : TableEntry) (s : State) (b : Bool) (old new : Seen) → Assigns entry None old new → b ≡ false → Tells (told_if (is_full old) handle_space None) s b old new
+unfolding Assigns Tells
+no_entry entry s b old new h e = rw e (by_room (is_full old) h)
+  where
+    by_room : (full : Bool) → AssignCases entry None full old new → TellCases (told_if full handle_space None) s false old new
+    by_room true k = k
+    by_room false k = k
+
+pub no_text : (s : State) (b : Bool) (old new : Seen) → Assigns text_entry None old new → b ≡ false → Tells (told_if (is_full old) handle_space None) s b old new
+no_text s b old new h e = no_entry text_entry s b old new h e
+
+pub no_proxy : (s : State) (b : Bool) (old new : Seen) → Assigns pending_entry None old new → b ≡ false → Tells (told_if (is_full old) handle_space None) s b old new
+no_proxy s b old new h e = no_entry pending_entry s b old new h e
+
+pub after_entry : (entry : TableEntry) (number : ℕ) (s : State) (b : Bool) (old mid new : Seen) → Assigns entry (Some number) old mid → Comes mid new s → b ≡ true
+    → Tells (told_if (is_full old) handle_space None) s b old new
+unfolding Assigns
+after_entry entry number s b old mid new h k e =
+    tells_next (told_if (is_full old) handle_space None) s b old new
+    (record { ready = k.ready; meter = k.meter ∙ ap (λ r. moved r.meter) h.2 }) e (ap (λ f. told_if f handle_space None) h.1)
+
+pub new_text : (number : ℕ) (long : Bool) (t : TextFor) (b : Bool) (old mid new : Seen) → Assigns text_entry (Some number) old mid
+    → IsNext (length_phase long) mid.owner mid.elements mid.header t mid new → IsForm t true → b ≡ true
+    → Tells (told_if (is_full old) handle_space None) (opens_text old t long) b old new
+unfolding Assigns opens_text Ready
+new_text number long t b old mid new h n form e =
+    after_entry text_entry number (opens_text old t long) b old mid new h (record { ready = by_form long t form n; meter = n.meter }) e
+  where
+    by_form : (l : Bool) (u : TextFor) → IsForm u true → IsNext (length_phase l) mid.owner mid.elements mid.header u mid new → Ready new (opens_text old u l)
+    by_form false text.Value form n = rw (next_is phase.Length2 mid.owner mid.elements mid.header text.Value mid new n) (rw h.2 refl)
+    by_form true text.Value form n = rw (next_is phase.Length8 mid.owner mid.elements mid.header text.Value mid new n) (rw h.2 (form, refl))
+    by_form false text.FieldType form n = rw (next_is phase.Length2 mid.owner mid.elements mid.header text.FieldType mid new n) (rw h.2 refl)
+    by_form true text.FieldType form n = rw (next_is phase.Length8 mid.owner mid.elements mid.header text.FieldType mid new n) (rw h.2 (form, refl))
+    by_form l (text.FieldName is_object) form n = absurd form
+    by_form l text.ClassName form n = absurd form
+    by_form l text.InterfaceName form n = absurd form
+
+pub new_class : (r : Role) (b : Bool) (old mid new : Seen) → IsNext phase.Length2 mid.owner mid.elements mid.header text.ClassName mid new → b ≡ true
+    → mid.header ≡ in_role old.header r → mid.meter ≡ old.meter → mid.frames ≡ old.frames → mid.layers ≡ old.layers → mid.table ≡ old.table → mid.refs ≡ old.refs
+    → Tells None (opens_class old r) b old new
+unfolding opens_class Ready
+new_class r b old mid new n e eh em ef ey et er =
+    let ready : Ready new (opens_class old r) =
+    rw (next_is phase.Length2 mid.owner mid.elements mid.header text.ClassName mid new n) (rw eh (rw ef (rw ey (rw et (rw er refl))))) in
+    goes (opens_class old r) b old new (record { ready = ready; meter = n.meter ∙ ap moved em }) e
+
+pub new_proxy : (number : ℕ) (r : Role) (b : Bool) (old mid new : Seen) → Assigns pending_entry (Some number) old mid
+    → IsNext phase.InterfaceCount mid.owner mid.elements (in_proxy mid.header r number) mid.text mid new → b ≡ true
+    → Tells (told_if (is_full old) handle_space None) (opens_proxy old r) b old new
+unfolding Assigns opens_proxy Ready
+new_proxy number r b old mid new h n e =
+    let ready : Ready new (opens_proxy old r) =
+    rw (next_is phase.InterfaceCount mid.owner mid.elements (in_proxy mid.header r number) mid.text mid new n) (rw h.2 (rw h.0 refl)) in
+    after_entry pending_entry number (opens_proxy old r) b old mid new h (record { ready = ready; meter = n.meter }) e
+
+-- the tag of a place
+
+pub too_deep : (tag : Tag) (s : State) (b : Bool) (old new : Seen) → StopsWith (refusal old.meter (named depth_exceeded)) old new → b ≡ false
+    → old.meter.limits.depth ≤ length old.frames → Tells (place_reason old tag) s b old new
+unfolding Tells
+too_deep tag s b old new h e le =
+    let deep : nat_lt old.meter.limits.depth (suc (length old.frames)) ≡ true = grind (arith, nat_tests) in rw e (rw deep h)
+
+pub too_many : (tag : Tag) (s : State) (b : Bool) (old mid new : Seen) → StopsWith (refusal mid.meter (named refs_exceeded)) mid new → b ≡ false → mid.meter ≡ old.meter
+    → (old.meter.limits.depth ≤ length old.frames → ⊥) → old.meter.limits.refs ≤ old.refs → Tells (place_reason old tag) s b old new
+unfolding Tells
+too_many tag s b old mid new h e em shallow le =
+    let deep : nat_lt old.meter.limits.depth (suc (length old.frames)) ≡ false = grind (arith, nat_tests) in
+    let many : nat_le old.meter.limits.refs old.refs ≡ true = grind (arith, nat_tests) in
+    rw e (rw deep (rw many (record { phase = h.phase; stop = h.stop ∙ ap (λ m. refusal m (named refs_exceeded)) em })))
+
+pub counted_tag : (tag : Tag) (b : Bool) (old mid new : Seen) → Tells (handle_reason mid tag) (begun mid tag) b mid new → mid ≡ counted old
+    → (old.meter.limits.depth ≤ length old.frames → ⊥) → (old.meter.limits.refs ≤ old.refs → ⊥) → Tells (place_reason old tag) (after_tag old tag) b old new
+unfolding Tells after_tag
+counted_tag tag b old mid new h em shallow few =
+    let deep : nat_lt old.meter.limits.depth (suc (length old.frames)) ≡ false = grind (arith, nat_tests) in
+    let many : nat_le old.meter.limits.refs old.refs ≡ false = grind (arith, nat_tests) in
+    rw deep (rw many (by_case (handle_reason old tag) b (subst (λ r. TellCases (handle_reason r tag) (begun r tag) b r new) em h)))
+  where
+    by_case : (told : Option Reason) (b : Bool) → TellCases told (begun (counted old) tag) b (counted old) new → TellCases told (begun (counted old) tag) b old new
+    by_case None true k = record { ready = k.ready; meter = k.meter }
+    by_case None false k = record { phase = k.phase; stop = k.stop }
+    by_case (Some r) true k = k
+    by_case (Some r) false k = record { phase = k.phase; stop = k.stop }

@@ -1,0 +1,50 @@
+-- The numbers of the frames are those of sections and of descriptors that are open.
+use Rattle.std.specs.Prelude.{◌≡◌, ℕ, ◌≤◌, ◌<◌, List, [], ◌∷◌, length, slice_get, IsTrue}
+use Rattle.jser_table.specs.declared.layer.Layer.{Layer}
+use Rattle.jser_table.specs.Codes.{primitive_codes}
+use Rattle.jser_table.specs.Entries.{TableEntry, is_pending}
+use Rattle.jser_table.specs.Sections.{layer_of, IsOn}
+use Rattle.jser_reader.specs.declared.frame.Frame.{Frame}
+use Rattle.jser_reader.specs.declared.frame.Frame.TheVariants as frame
+
+-- the numbers of a section's frame
+abbrev pub FrameFits : List TableEntry → List (List Layer) → Frame → Type 0
+FrameFits T C (frame.Elements left) = Unit {0}
+FrameFits T C (frame.Fields last section pos prims values) =
+    IsOn C last section × (prims ≡ length (primitive_codes (layer_of C section).codes)) × (pos ≤ prims)
+FrameFits T C (frame.Notes last section) = IsOn C last section
+FrameFits T C frame.ExternalNotes = Unit {0}
+FrameFits T C (frame.Descriptor number role) = IsTrue (is_pending (slice_get T number))
+
+-- those of outer descriptors are lower
+abbrev pub bound_below : ℕ → Frame → ℕ
+bound_below bound (frame.Elements left) = bound
+bound_below bound (frame.Fields last section pos prims values) = bound
+bound_below bound (frame.Notes last section) = bound
+bound_below bound frame.ExternalNotes = bound
+bound_below bound (frame.Descriptor number role) = number
+
+abbrev pub IsBelow : ℕ → Frame → Type 0
+IsBelow bound (frame.Elements left) = Unit {0}
+IsBelow bound (frame.Fields last section pos prims values) = Unit {0}
+IsBelow bound (frame.Notes last section) = Unit {0}
+IsBelow bound frame.ExternalNotes = Unit {0}
+IsBelow bound (frame.Descriptor number role) = number < bound
+
+abbrev pub FramesFit : List TableEntry → List (List Layer) → ℕ → List Frame → Type 0
+FramesFit T C bound [] = Unit {0}
+FramesFit T C bound (f ∷ fs) = FrameFits T C f × IsBelow bound f × FramesFit T C (bound_below bound f) fs
+
+abbrev pub IsDescriptor : Frame → Type 0
+IsDescriptor (frame.Elements left) = ⊥
+IsDescriptor (frame.Fields last section pos prims values) = ⊥
+IsDescriptor (frame.Notes last section) = ⊥
+IsDescriptor frame.ExternalNotes = ⊥
+IsDescriptor (frame.Descriptor number role) = Unit {0}
+
+abbrev pub HasDescriptor : List Frame → Type 0
+HasDescriptor [] = ⊥
+HasDescriptor (f ∷ fs) = IsDescriptor f
+
+pub record AllFit (T : List TableEntry) (C : List (List Layer)) (frames : List Frame) : Type 0 where
+  pub all : FramesFit T C (length T) frames

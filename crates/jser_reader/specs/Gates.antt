@@ -1,0 +1,15 @@
+-- What a gate answers, and the gate that passes all.
+use Rattle.std.specs.Prelude.{◌^◌, ◌-◌}
+use Rattle.jser_verdict.specs.Gates.{Gate, pass, rejected, unmatched}
+use Rattle.jser_verdict.specs.Gates.{Answer as ToldAnswer}
+use Rattle.jser_reader.specs.declared.gate.Answer.{Answer}
+use Rattle.jser_reader.specs.declared.gate.Answer.TheVariants as answer
+
+abbrev pub told_answer : Answer → ToldAnswer
+told_answer answer.Pass = pass
+told_answer answer.Rejected = rejected
+told_answer answer.Unmatched = unmatched
+
+-- all names pass, and each limit is its cap
+abbrev pub open_gate : Gate
+open_gate = record { bytes = 2 ^ 40; depth = 65535; refs = 2 ^ 63 - 1; array = 2 ^ 31 - 1; handles = 2139226112; answer = λ name. pass }

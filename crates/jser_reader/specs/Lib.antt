@@ -1,0 +1,15 @@
+pub mod Walks
+pub mod TextStates
+pub mod Stacks
+pub mod Frames
+pub mod Readers
+pub mod Fitting
+pub mod Tags
+pub mod Reasons
+pub mod Steps
+pub mod Handlers
+pub mod Classes
+pub mod Closing
+pub mod Superclasses
+pub mod Numbers
+pub mod Gates

@@ -1,0 +1,38 @@
+-- The bytes of tags (`java.io.ObjectStreamConstants`), and the fields that they are.
+use Rattle.std.specs.Prelude.{◌≡◌, ℕ, ◌<◌, ◌⊎◌, Bool, true, false, Option, Some, None}
+use Rattle.jser_reading.specs.Labels.{null_tag, reference_tag, class_desc_tag, object_tag, string_tag, array_tag, class_tag, long_string_tag, proxy_desc_tag, enum_tag}
+use Rattle.jser_reading.specs.Labels.{Tag as ToldTag}
+use Rattle.jser_reading.specs.FieldBytes.{tag_byte}
+use Rattle.jser_reader.specs.declared.tag.Tag.{Tag}
+use Rattle.jser_reader.specs.declared.tag.Tag.TheVariants as tag
+use Rattle.jser_reader.specs.declared.tag.ValueTag.{ValueTag}
+use Rattle.jser_reader.specs.declared.tag.ValueTag.TheVariants as value
+
+abbrev pub told_tag : ValueTag → ToldTag
+told_tag value.Null = null_tag
+told_tag value.Reference = reference_tag
+told_tag value.ClassDesc = class_desc_tag
+told_tag value.Object = object_tag
+told_tag value.String = string_tag
+told_tag value.LongString = long_string_tag
+told_tag value.Array = array_tag
+told_tag value.Class = class_tag
+told_tag value.ProxyClassDesc = proxy_desc_tag
+told_tag value.Enum = enum_tag
+
+-- TC_BLOCKDATA and TC_BLOCKDATALONG
+abbrev pub block_byte : (long : Bool) → ℕ
+block_byte false = 0x77
+block_byte true = 0x7A
+
+abbrev pub byte_of : Tag → ℕ
+byte_of (tag.Value t) = tag_byte (told_tag t)
+byte_of (tag.Block long) = block_byte long
+byte_of tag.EndBlockData = 0x78
+byte_of tag.Reset = 0x79
+byte_of tag.Exception = 0x7B
+
+-- the byte is this tag, or no tag
+abbrev pub IsTagOf : ℕ → Option Tag → Type 0
+IsTagOf byte None = (byte < 0x70) ⊎ (0x7E < byte)
+IsTagOf byte (Some t) = byte ≡ byte_of t

@@ -1,0 +1,54 @@
+-- The end of a text: for what it is refused, and what comes after it.
+use Rattle.std.specs.Prelude.{◌≡◌, ℕ, ◌-◌, true, false, List, [], ◌∷◌, ◌++◌, length, Option, Some, None}
+use Rattle.jser_prim.specs.ModifiedUtf8.{IsUnits, modified_utf8}
+use Rattle.jser_prim.specs.Texts.{HasAccepted}
+use Rattle.jser_table.specs.Names.{name_kind}
+use Rattle.jser_reading.specs.Moments.{next_number}
+use Rattle.jser_reading.specs.Labels.{StreamField, tag_field, reference_tag, string_tag, long_string_tag}
+use Rattle.jser_reading.specs.Goals.{State, settle, text_handle_goal, suid_goal}
+use Rattle.jser_reading.specs.Machine.{type_goals}
+use Rattle.jser_verdict.specs.Reasons.{Reason}
+use Rattle.jser_verdict.specs.Gates.{Gate}
+use Rattle.jser_verdict.specs.Verdicts.{class_name_reason, interface_reason}
+use Rattle.jser_reader.specs.declared.phase.TextFor.{TextFor}
+use Rattle.jser_reader.specs.declared.phase.TextFor.TheVariants as text
+use Rattle.jser_reader.specs.Readers.{Seen, moment_of, depth_of, goals_of, head_role, header_goals, fields_goals, interfaces_goals, text_depth, text_rest}
+use Rattle.jser_reader.specs.Handlers.{opens_text}
+
+-- a class name and an interface name are asked of the gate
+abbrev pub text_reason_of : Gate → Seen → TextFor → List ℕ → Option Reason
+text_reason_of gate r text.Value units = None
+text_reason_of gate r text.FieldType units = None
+text_reason_of gate r (text.FieldName is_object) units = None
+text_reason_of gate r text.ClassName units = class_name_reason gate (head_role r) units
+text_reason_of gate r text.InterfaceName units = interface_reason gate units
+
+abbrev pub text_reason : Gate → Seen → List ℕ → Option Reason
+text_reason gate r units = text_reason_of gate r r.text units
+
+abbrev pub text_state_of : Seen → TextFor → List ℕ → State
+text_state_of r text.Value units = settle (moment_of r) (goals_of r)
+text_state_of r text.FieldType units = settle (moment_of r) (fields_goals r r.header.fields)
+text_state_of r (text.FieldName is_object) units = settle (moment_of r) (type_goals is_object (length r.frames) (fields_goals r r.header.fields))
+text_state_of r text.ClassName units =
+    (moment_of r, suid_goal (head_role r) (depth_of r) (name_kind units) ∷ header_goals r (next_number (moment_of r)))
+text_state_of r text.InterfaceName units = settle (moment_of r) (interfaces_goals r (r.header.fields - 1))
+
+-- the state after the text that the machine reads, with these units
+unfoldable pub after_text : Seen → List ℕ → State
+after_text r units = text_state_of r r.text units
+
+-- the state after the tag of a text place
+abbrev pub after_text_tag : Seen → Option StreamField → State
+after_text_tag r (Some (tag_field reference_tag)) = (moment_of r, text_handle_goal (text_depth r r.text) ∷ text_rest r r.text)
+after_text_tag r (Some (tag_field string_tag)) = opens_text r r.text false
+after_text_tag r (Some (tag_field long_string_tag)) = opens_text r r.text true
+after_text_tag r _ = (moment_of r, [])
+
+-- these bytes end the text that the scan reads, and these are its units
+pub record EndsText (r : Seen) (taken units : List ℕ) : Type 0 where
+  pub before : List ℕ
+  pub first_units : List ℕ
+  pub accepted : HasAccepted (length (before ++ taken)) before first_units r.scan
+  pub spelled : modified_utf8 units ≡ before ++ taken
+  pub are_units : IsUnits units

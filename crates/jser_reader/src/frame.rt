@@ -1,0 +1,69 @@
+//! Frames: what is open while a field is read, one for each array, object and descriptor.
+
+use jser_table::SectionNumber;
+
+/// What a class place belongs to.
+#[derive(Clone, Copy)]
+pub(crate) enum Owner {
+    /// An object.
+    Object,
+    /// An array.
+    Array,
+    /// An enum constant.
+    EnumConst,
+    /// A class object.
+    ClassObject,
+}
+
+/// What a descriptor is read as.
+#[derive(Clone, Copy)]
+pub(crate) enum Role {
+    /// A value of its own.
+    Value,
+    /// The class of this owner.
+    ClassOf(Owner),
+    /// A superclass of the descriptor round it.
+    Superclass {
+        /// Whether it must be a proxy or serializable.
+        strict: bool,
+    },
+}
+
+/// What is open, in few bytes.
+#[derive(Clone, Copy)]
+pub(crate) enum Frame {
+    /// An array of values.
+    Elements {
+        /// How many come after the one that is being read.
+        left: u32,
+    },
+    /// The fields of one section of an object.
+    Fields {
+        /// The last section of the object.
+        last: SectionNumber,
+        /// This section.
+        section: SectionNumber,
+        /// How many raw values have been read, or are being read.
+        pos: u16,
+        /// How many raw values there are.
+        prims: u16,
+        /// How many values are still to come.
+        values: u16,
+    },
+    /// The annotation of a section.
+    Notes {
+        /// The last section of the object.
+        last: SectionNumber,
+        /// This section.
+        section: SectionNumber,
+    },
+    /// The annotation that is all the data of an externalizable object.
+    ExternalNotes,
+    /// A descriptor whose fields have begun: its fields, its annotation, its superclass.
+    Descriptor {
+        /// Its number in the table.
+        number: u32,
+        /// What it is read as.
+        role: Role,
+    },
+}

@@ -1,0 +1,90 @@
+//! Gates: what may pass besides being a stream (`ObjectInputFilter`, JEP 290: the limits of a filter, and its
+//! answer to the name of each class).
+ghost use Rattle.std.specs.Prelude.{◌≡◌, ℕ, ◌≢◌};
+ghost use Rattle.jser_table.specs.Names.{name_kind, malformed_name};
+ghost use Rattle.jser_verdict.specs.Gates.{Gate as ToldGate, IsGate, pass};
+ghost use Rattle.jser_reader.specs.Gates.{told_answer, open_gate};
+
+/// What a gate says of the name of a class.
+#[derive(Clone, Copy, PartialEq, Eq, Hash, Debug)]
+pub enum Answer {
+    /// It may pass.
+    Pass,
+    /// It is rejected: the stream is refused as `ClassRejected`.
+    Rejected,
+    /// No pattern matches it, and that is not enough: the stream is refused as `ClassUnmatched`.
+    Unmatched,
+}
+
+/// Limits, and an answer to each checked name: that of each plain descriptor, and each interface of a proxy.
+///
+/// Each answer depends on the gate and the question alone, and the limits are at most the caps: 2^40 bytes, depth
+/// 65,535, 2^63 - 1 places, arrays of 2^31 - 1 elements, and 2,139,226,112 handles in an epoch.
+pub trait Gate {
+    /// What the gate is, as the definitions of refusals see it.
+    ghost told: { Self → ToldGate };
+
+    /// What it says of this name, which is not malformed.
+    fn name(&self, name: &[u16]) -> Answer
+        requires { name_kind name.now ≢ malformed_name }
+        ensures { told_answer result ≡ (told self.now).answer name.now };
+
+    /// The greatest number of bytes.
+    fn max_bytes(&self) -> u64
+        ensures { result ≡ (told self.now).bytes };
+
+    /// The greatest depth of a place.
+    fn max_depth(&self) -> u32
+        ensures { result ≡ (told self.now).depth };
+
+    /// The greatest number of places.
+    fn max_refs(&self) -> u64
+        ensures { result ≡ (told self.now).refs };
+
+    /// The greatest length of an array.
+    fn max_array(&self) -> u32
+        ensures { result ≡ (told self.now).array };
+
+    /// The greatest number of handles in an epoch.
+    fn max_handles(&self) -> u32
+        ensures { result ≡ (told self.now).handles };
+
+    /// The limits are at most the caps.
+    ghost within: { (gate : Self) → IsGate (told gate) };
+}
+
+/// The gate that passes all names, and has the greatest limits.
+#[derive(Clone, Copy, PartialEq, Eq, Hash, Debug)]
+pub struct OpenGate;
+
+impl Gate for OpenGate {
+    ghost told = { λ _. open_gate };
+
+    fn name(&self, _: &[u16]) -> Answer {
+        Answer::Pass
+    }
+
+    fn max_bytes(&self) -> u64 {
+        0x100_0000_0000
+    }
+
+    fn max_depth(&self) -> u32 {
+        65_535
+    }
+
+    fn max_refs(&self) -> u64 {
+        0x7FFF_FFFF_FFFF_FFFF
+    }
+
+    fn max_array(&self) -> u32 {
+        0x7FFF_FFFF
+    }
+
+    fn max_handles(&self) -> u32 {
+        2_139_226_112
+    }
+
+    ghost use Rattle.std.proofs.Common.{rules};
+
+    ghost within = { λ _. Prim.search rules };
+}

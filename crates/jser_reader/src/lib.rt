@@ -1,0 +1,15 @@
+//! The reader: takes a Java object serialization stream in pieces of any sizes, and lends its fields one by one
+//! (Java Object Serialization Specification, chapter 6). It keeps no tree and no text but the one class name
+//! that is being read.
+#![tactic(auto)]
+
+mod frame;
+mod gate;
+mod machine;
+mod phase;
+mod refusal;
+mod stack;
+mod tag;
+
+pub use gate::{Answer, Gate, OpenGate};
+pub use refusal::{Reason, Refusal, Stop};

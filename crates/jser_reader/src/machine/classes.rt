@@ -1,0 +1,114 @@
+//! Class places: the tag and the handle of the class of an object, an array, an enum constant or a class object.
+ghost use Rattle.std.specs.Prelude.{◌≡◌, ◌<◌, ◌-◌, length, suc};
+ghost use Rattle.jser_table.specs.Chains.{chain_in};
+ghost use Rattle.jser_table.specs.Entries.{chain_at};
+ghost use Rattle.jser_reading.specs.FieldBytes.{tag_byte};
+ghost use Rattle.jser_reading.specs.FieldsFromBytes.{tag_from};
+ghost use Rattle.jser_reading.specs.Labels.{class_place_at, class_handle_at};
+ghost use Rattle.jser_verdict.specs.ClassRows.{fit_of_owner};
+ghost use Rattle.jser_verdict.specs.Verdicts.{class_tag_reason, class_handle_reason};
+ghost use Rattle.jser_reader.specs.Frames.{goal_owner};
+ghost use Rattle.jser_reader.specs.Handlers.{Tells, plain_gate, label_at, after_class_tag, owner_state};
+ghost use Rattle.jser_reader.specs.Classes.{fit_reason};
+ghost use Rattle.jser_reader.specs.Tags.{told_tag};
+
+use crate::frame::{Owner, Role};
+use crate::machine::Machine;
+use crate::phase::Phase;
+use crate::refusal::Reason;
+use crate::tag::{Tag, ValueTag, tag_of};
+use jser_table::{ChainNumber, Class, Fit, Purpose};
+
+/// 0x7E0000, `baseWireHandle`: the first handle of an epoch.
+pub(super) const FIRST_HANDLE: u32 = 0x7E_0000;
+
+impl Machine {
+    /// A new proxy descriptor as the class of the owner.
+    #[tactic(auto, using(crate::proofs::ClassLemmas::object_proxy, crate::proofs::ClassLemmas::array_proxy, crate::proofs::ClassLemmas::enum_proxy, crate::proofs::ClassLemmas::class_proxy))]
+    fn proxy_class(&mut self) -> bool
+        ensures { Tells (class_tag_reason (plain_gate self.old) (label_at (class_place_at (goal_owner self.old.owner)) (suc (length self.old.frames)) self.old) (goal_owner self.old.owner) 0x7D)
+            (after_class_tag self.old (tag_from 0x7D)) result self.old self.new }
+    {
+        match self.owner {
+            Owner::Array => self.refuse(Reason::WrongClass),
+            Owner::EnumConst => self.refuse(Reason::WrongClass),
+            Owner::Object => self.new_proxy(Role::ClassOf(Owner::Object)),
+            Owner::ClassObject => self.new_proxy(Role::ClassOf(Owner::ClassObject)),
+        }
+    }
+
+    /// A value's tag in a class place.
+    #[tactic(auto, using(crate::proofs::ClassLemmas::class_reference, crate::proofs::ClassLemmas::new_class, crate::proofs::ClassLemmas::null_class_tag, crate::proofs::ClassLemmas::proxy_tag, crate::proofs::ClassLemmas::no_class_value))]
+    fn class_value(&mut self, tag: ValueTag) -> bool
+        ensures { Tells (class_tag_reason (plain_gate self.old) (label_at (class_place_at (goal_owner self.old.owner)) (suc (length self.old.frames)) self.old) (goal_owner self.old.owner) (tag_byte (told_tag tag)))
+            (after_class_tag self.old (tag_from (tag_byte (told_tag tag)))) result self.old self.new }
+    {
+        match tag {
+            ValueTag::Reference => self.done(Phase::ClassHandle),
+            ValueTag::ClassDesc => self.new_class(Role::ClassOf(self.owner)),
+            ValueTag::ProxyClassDesc => self.proxy_class(),
+            ValueTag::Null => self.refuse(Reason::NullClass),
+            ValueTag::Object => self.refuse(Reason::BadTag),
+            ValueTag::String => self.refuse(Reason::BadTag),
+            ValueTag::LongString => self.refuse(Reason::BadTag),
+            ValueTag::Array => self.refuse(Reason::BadTag),
+            ValueTag::Class => self.refuse(Reason::BadTag),
+            ValueTag::Enum => self.refuse(Reason::BadTag),
+        }
+    }
+
+    /// A tag in a class place.
+    #[tactic(auto, using(crate::proofs::ClassLemmas::no_class_tag, crate::proofs::ClassLemmas::value_tag, crate::proofs::ClassLemmas::class_block, crate::proofs::ClassLemmas::class_other))]
+    pub(super) fn class_tag(&mut self, byte: u8) -> bool
+        ensures { Tells (class_tag_reason (plain_gate self.old) (label_at (class_place_at (goal_owner self.old.owner)) (suc (length self.old.frames)) self.old) (goal_owner self.old.owner) byte)
+            (after_class_tag self.old (tag_from byte)) result self.old self.new }
+    {
+        match tag_of(byte) {
+            None => self.refuse(Reason::BadTag),
+            Some(Tag::Value(tag)) => self.class_value(tag),
+            Some(Tag::Block(_)) => self.refuse(Reason::BadTag),
+            Some(Tag::EndBlockData) => self.refuse(Reason::BadTag),
+            Some(Tag::Reset) => self.refuse(Reason::BadTag),
+            Some(Tag::Exception) => self.refuse(Reason::BadTag),
+        }
+    }
+
+    /// Whether the class with this chain fits its owner, or the first thing that is wrong with it.
+    fn fit(&self, chain: ChainNumber) -> Option<Reason>
+        requires { chain < length self.now.table.chains }
+        ensures { result ≡ fit_reason (fit_of_owner (goal_owner self.now.owner) (chain_in self.now.table.chains chain)) }
+    {
+        let purpose = match self.owner {
+            Owner::Object => Purpose::Object,
+            Owner::Array => Purpose::Array,
+            Owner::EnumConst => Purpose::EnumConst,
+            Owner::ClassObject => return None,
+        };
+        match self.table.chain_fit(chain, purpose) {
+            Fit::Fits => None,
+            Fit::WrongClass => Some(Reason::WrongClass),
+            Fit::ExternalRaw => Some(Reason::ExternalRaw),
+            Fit::NotSerializable => Some(Reason::NotSerializable),
+        }
+    }
+
+    /// The handle of a reference in a class place.
+    #[tactic(auto, using(crate::proofs::ClassLemmas::low_class, crate::proofs::ClassLemmas::no_such_class, crate::proofs::ClassLemmas::no_class, crate::proofs::ClassLemmas::open_class, crate::proofs::ClassLemmas::wrong_class_handle, crate::proofs::ClassLemmas::right_class))]
+    pub(super) fn class_handle(&mut self, n: u32) -> bool
+        ensures { Tells (class_handle_reason (plain_gate self.old) (label_at (class_handle_at (goal_owner self.old.owner)) (suc (length self.old.frames)) self.old) (goal_owner self.old.owner) n)
+            (owner_state self.old (chain_at self.old.table.entries (n - 0x7E0000))) result self.old self.new }
+    {
+        if n < FIRST_HANDLE {
+            return self.refuse(Reason::NoSuchHandle);
+        }
+        match self.table.class_at(n - FIRST_HANDLE) {
+            Class::NotThere => self.refuse(Reason::NoSuchHandle),
+            Class::NoClass => self.refuse(Reason::WrongKind),
+            Class::Open => self.refuse(Reason::OpenDescriptor),
+            Class::Closed(chain) => match self.fit(chain) {
+                Some(reason) => self.refuse(reason),
+                None => self.begin_owner(chain),
+            },
+        }
+    }
+}

@@ -1,0 +1,55 @@
+//! How the handler of a field ends: the machine stops, or it knows which field comes next.
+ghost use Rattle.std.specs.Prelude.{◌≡◌, ◌∷◌, true, false};
+ghost use Rattle.jser_reader.specs.Handlers.{StopsWith, refusal, IsNext, Comes};
+ghost use Rattle.jser_reader.specs.Steps.{after_value};
+
+use crate::machine::Machine;
+use crate::phase::Phase;
+use crate::refusal::{Reason, Refusal, Stop};
+
+impl Machine {
+    /// The open field is refused; its bytes so far decide.
+    pub(super) fn refuse(&mut self, reason: Reason) -> bool
+        ensures stops { StopsWith (refusal self.old.meter reason) self.old self.new }
+        ensures result { result ≡ false }
+    {
+        self.stop = Stop::Refused(Refusal {
+            from_byte: self.from,
+            to_byte: self.at,
+            reason,
+        });
+        self.phase = Phase::Stopped;
+        false
+    }
+
+    /// Memory ran out.
+    pub(super) fn no_memory(&mut self) -> bool
+        ensures stops { StopsWith Stop.OutOfMemory self.old self.new }
+        ensures result { result ≡ false }
+    {
+        self.stop = Stop::OutOfMemory;
+        self.phase = Phase::Stopped;
+        false
+    }
+
+    /// The field has ended, and this one comes next.
+    pub(super) fn done(&mut self, phase: Phase) -> bool
+        ensures next { IsNext phase self.old.owner self.old.elements self.old.header self.old.text self.old self.new }
+        ensures result { result ≡ true }
+    {
+        self.from = self.at;
+        self.phase = phase;
+        true
+    }
+
+    /// The field has ended, and a value with it.
+    #[tactic(auto, using(crate::proofs::EndLemmas::ends))]
+    pub(super) fn ended(&mut self) -> bool
+        ensures comes { Comes self.old self.new (after_value self.old) }
+        ensures result { result ≡ true }
+    {
+        self.from = self.at;
+        self.value_done();
+        true
+    }
+}

@@ -1,0 +1,98 @@
+//! What comes after the class of an object, an array, an enum constant or a class object.
+ghost use Rattle.std.specs.Prelude.{◌≡◌, ◌<◌, length, true, None, option_map};
+ghost use Rattle.jser_table.specs.Chains.{chain_in, elements_of};
+ghost use Rattle.jser_table.specs.Codes.{size_of};
+ghost use Rattle.jser_verdict.specs.Reasons.{handle_space};
+ghost use Rattle.jser_verdict.specs.Verdicts.{told_if};
+ghost use Rattle.jser_reader.specs.declared.frame.Frame.{Frame};
+ghost use Rattle.jser_reader.specs.Handlers.{Tells, BeginsObject, Pushes, IsNext, is_full, object_state, owner_state};
+
+use crate::frame::{Frame, Owner};
+use crate::machine::Machine;
+use crate::phase::{Phase, TextFor};
+use jser_table::{ChainNumber, Kind};
+
+impl Machine {
+    /// Puts the frame of what begins on the stack, to be told which part of it comes first.
+    #[tactic(auto, using(crate::proofs::OwnerLemmas::pushes, crate::proofs::OwnerLemmas::pushes_nothing, crate::proofs::OwnerLemmas::fits_external))]
+    fn open(&mut self) -> bool
+        ensures frame { Pushes Frame.ExternalNotes result self.old self.new }
+        ensures some { result ≡ true → 0 < length self.new.frames }
+        ensures table { result ≡ true → self.new.table ≡ self.old.table }
+    {
+        if self.frames.push(Frame::ExternalNotes).is_err() {
+            return self.no_memory();
+        }
+        true
+    }
+
+    /// The data of an object whose class has this chain.
+    #[tactic(auto, using(crate::proofs::OwnerLemmas::external_object, crate::proofs::OwnerLemmas::bare_object, crate::proofs::OwnerLemmas::filled_object, crate::proofs::OwnerLemmas::no_room))]
+    fn begin_object(&mut self, chain: ChainNumber) -> bool
+        requires { chain < length self.old.table.chains }
+        ensures { BeginsObject (chain_in self.old.table.chains chain) result self.old self.new }
+    {
+        if self.table.is_external(chain) {
+            if !self.open() {
+                return false;
+            }
+            self.phase = Phase::Note;
+            return true;
+        }
+        let Some(sections) = self.table.sections(chain) else {
+            self.value_done();
+            return true;
+        };
+        if !self.open() {
+            return false;
+        }
+        self.begin_section(sections.last, sections.first);
+        true
+    }
+
+    /// The length of an array of this class comes next.
+    fn next_array(&mut self, chain: ChainNumber) -> bool
+        requires { chain < length self.old.table.chains }
+        ensures next { IsNext Phase.ArrayLength self.old.owner (option_map size_of (elements_of (chain_in self.old.table.chains chain))) self.old.header self.old.text self.old self.new }
+        ensures result { result ≡ true }
+    {
+        self.elements = self.table.element_size(chain);
+        self.done(Phase::ArrayLength)
+    }
+
+    /// The name of an enum constant comes next: a string, or a reference to one.
+    fn next_constant(&mut self) -> bool
+        ensures next { IsNext Phase.TextTag self.old.owner self.old.elements self.old.header TextFor.Value self.old self.new }
+        ensures result { result ≡ true }
+    {
+        self.text = TextFor::Value;
+        self.done(Phase::TextTag)
+    }
+
+    /// The object's data, of which nothing has been counted.
+    #[tactic(auto, using(crate::proofs::OwnerLemmas::object_begins))]
+    fn next_object(&mut self, chain: ChainNumber) -> bool
+        requires { chain < length self.old.table.chains }
+        ensures { Tells None (object_state self.old (chain_in self.old.table.chains chain)) result self.old self.new }
+    {
+        self.from = self.at;
+        self.begin_object(chain)
+    }
+
+    /// The class has been read, and has this chain: its owner's handle is assigned.
+    #[tactic(auto, using(crate::proofs::OwnerLemmas::no_owner, crate::proofs::OwnerLemmas::object_owned, crate::proofs::OwnerLemmas::array_owned, crate::proofs::OwnerLemmas::constant_owned, crate::proofs::OwnerLemmas::class_owned))]
+    pub(super) fn begin_owner(&mut self, chain: ChainNumber) -> bool
+        requires { chain < length self.old.table.chains }
+        ensures { Tells (told_if (is_full self.old) handle_space None) (owner_state self.old (chain_in self.old.table.chains chain)) result self.old self.new }
+    {
+        if self.assign(Kind::Other).is_none() {
+            return false;
+        }
+        match self.owner {
+            Owner::Object => self.next_object(chain),
+            Owner::Array => self.next_array(chain),
+            Owner::EnumConst => self.next_constant(),
+            Owner::ClassObject => self.ended(),
+        }
+    }
+}

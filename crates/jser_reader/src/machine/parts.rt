@@ -1,0 +1,181 @@
+//! What comes after a value: the next part of the array, object or descriptor that is open.
+ghost use Rattle.std.specs.Prelude.{◌≡◌, ◌∷◌, ◌<◌, length, true};
+ghost use Rattle.jser_table.specs.Chains.{has_write_method};
+ghost use Rattle.jser_table.specs.Sections.{layer_of, under, IsOn};
+ghost use Rattle.jser_reading.specs.Goals.{section_parts, annotation_if};
+ghost use Rattle.jser_reader.specs.declared.frame.Frame.{Frame};
+ghost use Rattle.jser_reader.specs.Frames.{rest_of_section};
+ghost use Rattle.jser_reader.specs.Fitting.{FrameFits};
+ghost use Rattle.jser_reader.specs.Readers.{Ready};
+ghost use Rattle.jser_reader.specs.Stacks.{tail_of};
+ghost use Rattle.jser_reader.specs.Steps.{Kept, PartGives, GoesOn, after_value};
+
+use crate::frame::Frame;
+use crate::machine::Machine;
+use crate::phase::Phase;
+use jser_table::SectionNumber;
+
+impl Machine {
+    /// Begins this section of the object on top.
+    #[tactic(auto, using(crate::proofs::PartLemmas::fits_fields, crate::proofs::PartLemmas::fits_notes, crate::proofs::PartLemmas::begins_prims, crate::proofs::PartLemmas::begins_value, crate::proofs::PartLemmas::begins_notes))]
+    pub(super) fn begin_section(&mut self, last: SectionNumber, section: SectionNumber)
+        requires some { 0 < length self.old.frames }
+        requires on { IsOn self.old.table.chains last section }
+        ensures meter { self.new.meter ≡ self.old.meter }
+        ensures part { PartGives true self.old self.new (section_parts (layer_of self.old.table.chains section ∷ under self.old.table.chains last section)) }
+    {
+        let held = self.table.section(section);
+        if held.prims > 0 {
+            self.left = u64::from(self.table.prim_size(section, 0));
+            self.frames.set_top(Frame::Fields {
+                last,
+                section,
+                pos: 1,
+                prims: held.prims,
+                values: held.values,
+            });
+            self.phase = Phase::Prims;
+        } else if held.values > 0 {
+            self.frames.set_top(Frame::Fields {
+                last,
+                section,
+                pos: 0,
+                prims: 0,
+                values: held.values - 1,
+            });
+            self.phase = Phase::Value;
+        } else {
+            self.frames.set_top(Frame::Notes { last, section });
+            self.phase = Phase::Note;
+        }
+    }
+
+    /// The section after this one, if there is one.
+    #[tactic(auto, using(crate::proofs::PartLemmas::no_section, crate::proofs::PartLemmas::one_section))]
+    pub(super) fn next_section(&mut self, last: SectionNumber, section: SectionNumber) -> bool
+        requires some { 0 < length self.old.frames }
+        requires on { IsOn self.old.table.chains last section }
+        ensures meter { self.new.meter ≡ self.old.meter }
+        ensures part { PartGives result self.old self.new (section_parts (under self.old.table.chains last section)) }
+    {
+        match self.table.next_section(last, section) {
+            None => false,
+            Some(next) => {
+                self.begin_section(last, next);
+                true
+            }
+        }
+    }
+
+    /// After the fields of a section: its annotation, or the section after it.
+    #[tactic(auto, using(crate::proofs::PartLemmas::fits_notes, crate::proofs::PartLemmas::ends_in_notes, crate::proofs::PartLemmas::ends_without))]
+    fn section_end(&mut self, last: SectionNumber, section: SectionNumber) -> bool
+        requires some { 0 < length self.old.frames }
+        requires on { IsOn self.old.table.chains last section }
+        ensures meter { self.new.meter ≡ self.old.meter }
+        ensures part { PartGives result self.old self.new
+            (annotation_if (has_write_method (layer_of self.old.table.chains section).flags) (section_parts (under self.old.table.chains last section))) }
+    {
+        if self.table.section(section).is_annotated {
+            self.frames.set_top(Frame::Notes { last, section });
+            self.phase = Phase::Note;
+            return true;
+        }
+        self.next_section(last, section)
+    }
+
+    /// The next part of the object on top.
+    #[tactic(auto, using(crate::proofs::PartLemmas::fits_fields, crate::proofs::PartLemmas::goes_prims, crate::proofs::PartLemmas::goes_value, crate::proofs::PartLemmas::goes_on))]
+    fn next_part(
+        &mut self,
+        last: SectionNumber,
+        section: SectionNumber,
+        pos: u16,
+        prims: u16,
+        values: u16,
+    ) -> bool
+        requires some { 0 < length self.old.frames }
+        requires fits { FrameFits self.old.table.entries self.old.table.chains (Frame.Fields last section pos prims values) }
+        ensures meter { self.new.meter ≡ self.old.meter }
+        ensures part { PartGives result self.old self.new
+            (rest_of_section pos values (layer_of self.old.table.chains section) (under self.old.table.chains last section)) }
+    {
+        if pos < prims {
+            self.left = u64::from(self.table.prim_size(section, pos));
+            self.frames.set_top(Frame::Fields {
+                last,
+                section,
+                pos: pos + 1,
+                prims,
+                values,
+            });
+            self.phase = Phase::Prims;
+            return true;
+        }
+        if values > 0 {
+            self.frames.set_top(Frame::Fields {
+                last,
+                section,
+                pos,
+                prims,
+                values: values - 1,
+            });
+            self.phase = Phase::Value;
+            return true;
+        }
+        self.section_end(last, section)
+    }
+
+    /// The next part of what is on top, which is this frame; where there is none, the frame is taken off.
+    #[tactic(auto, using(crate::proofs::PartLemmas::fits_elements, crate::proofs::PartLemmas::fits_tail, crate::proofs::PartLemmas::leaves_elements, crate::proofs::PartLemmas::leaves_parts, crate::proofs::PartLemmas::at_element, crate::proofs::PartLemmas::at_part, crate::proofs::PartLemmas::at_notes))]
+    fn go_on(&mut self, frame: Frame) -> bool
+        requires top { self.old.frames ≡ frame ∷ tail_of self.old.frames }
+        requires fits { FrameFits self.old.table.entries self.old.table.chains frame }
+        ensures meter { self.new.meter ≡ self.old.meter }
+        ensures goes { GoesOn result self.old self.new }
+    {
+        match frame {
+            Frame::Elements { left } => {
+                if left > 0 {
+                    self.frames.set_top(Frame::Elements { left: left - 1 });
+                    self.phase = Phase::Value;
+                    return true;
+                }
+                self.frames.pop();
+                false
+            }
+            Frame::Fields {
+                last,
+                section,
+                pos,
+                prims,
+                values,
+            } => {
+                if self.next_part(last, section, pos, prims, values) {
+                    return true;
+                }
+                self.frames.pop();
+                false
+            }
+            Frame::Notes { .. } | Frame::ExternalNotes | Frame::Descriptor { .. } => {
+                self.phase = Phase::Note;
+                true
+            }
+        }
+    }
+
+    /// A value has ended.
+    #[tactic(auto, using(crate::proofs::PartLemmas::at_top, crate::proofs::PartLemmas::comes_at_last, crate::proofs::PartLemmas::kept_on, crate::proofs::PartLemmas::left_over, crate::proofs::PartLemmas::goes_shorter, crate::proofs::PartLemmas::fits_top))]
+    pub(super) fn value_done(&mut self)
+        ensures ready { Ready self.new (after_value self.old) }
+        ensures kept { Kept self.old self.new }
+        ensures meter { self.new.meter ≡ self.old.meter }
+    {
+        'frames: while let Some(frame) = self.frames.top() {
+            if self.go_on(frame) {
+                return;
+            }
+        }
+        self.phase = Phase::Top;
+    }
+}

@@ -1,0 +1,156 @@
+//! Superclass places: the tag, and the handle of a superclass that has been read.
+ghost use Rattle.std.specs.Prelude.{◌≡◌, ◌-◌, Some};
+ghost use Rattle.jser_reading.specs.FieldBytes.{tag_byte};
+ghost use Rattle.jser_reading.specs.FieldsFromBytes.{tag_from};
+ghost use Rattle.jser_reader.specs.Tags.{told_tag};
+ghost use Rattle.jser_reader.specs.Fitting.{HasDescriptor};
+ghost use Rattle.jser_reader.specs.Handlers.{Tells};
+ghost use Rattle.jser_reader.specs.Closing.{closed_state};
+ghost use Rattle.jser_reader.specs.Superclasses.{CountsPlace, strict_in, super_reason, super_handle_reason, after_super_tag};
+
+use crate::frame::{Frame, Owner, Role};
+use crate::machine::Machine;
+use crate::machine::classes::FIRST_HANDLE;
+use crate::phase::Phase;
+use crate::refusal::Reason;
+use crate::tag::{Tag, ValueTag, tag_of};
+use jser_table::Class;
+
+impl Machine {
+    /// Counts a place, if it is not too deep and not one too many.
+    #[tactic(auto, using(crate::proofs::PlaceLemmas::too_deep, crate::proofs::PlaceLemmas::too_many, crate::proofs::PlaceLemmas::counts))]
+    fn count_place(&mut self) -> bool
+        ensures { CountsPlace result self.old self.new }
+    {
+        if self.frames.len() >= self.limits.depth as usize {
+            return self.refuse(Reason::DepthExceeded);
+        }
+        if self.refs >= self.limits.refs {
+            return self.refuse(Reason::RefsExceeded);
+        }
+        self.refs += 1;
+        true
+    }
+
+    /// Whether the superclass of the descriptor on top must be a proxy or serializable.
+    #[tactic(auto, using(crate::proofs::SuperTagLemmas::strict_value, crate::proofs::SuperTagLemmas::strict_object, crate::proofs::SuperTagLemmas::strict_other, crate::proofs::SuperTagLemmas::strict_super, crate::proofs::SuperTagLemmas::strict_none, crate::proofs::SuperTagLemmas::strict_array, crate::proofs::SuperTagLemmas::strict_enum, crate::proofs::SuperTagLemmas::strict_class))]
+    fn is_strict(&self) -> bool
+        ensures { result ≡ strict_in self.now.layers self.now.frames }
+    {
+        let Some(frame) = self.frames.top() else {
+            return false;
+        };
+        let Frame::Descriptor { role, .. } = frame else {
+            return false;
+        };
+        match role {
+            Role::Value => false,
+            Role::ClassOf(Owner::Object) => !self.layer.is_externalizable(),
+            Role::ClassOf(Owner::Array) => false,
+            Role::ClassOf(Owner::EnumConst) => false,
+            Role::ClassOf(Owner::ClassObject) => false,
+            Role::Superclass { strict } => strict,
+        }
+    }
+
+    /// NULL in a superclass place, a class with no superclass.
+    #[tactic(auto, using(crate::proofs::SuperTagLemmas::null_fails, crate::proofs::SuperTagLemmas::null_closes))]
+    fn null_super(&mut self) -> bool
+        ensures { HasDescriptor self.old.frames → Tells (super_reason self.old 0x70) (after_super_tag self.old (tag_from 0x70)) result self.old self.new }
+    {
+        if !self.count_place() {
+            return false;
+        }
+        self.close(None)
+    }
+
+    /// A reference in a superclass place.
+    #[tactic(auto, using(crate::proofs::SuperTagLemmas::back_fails, crate::proofs::SuperTagLemmas::back_goes))]
+    fn back_super(&mut self) -> bool
+        ensures { HasDescriptor self.old.frames → Tells (super_reason self.old 0x71) (after_super_tag self.old (tag_from 0x71)) result self.old self.new }
+    {
+        if !self.count_place() {
+            return false;
+        }
+        self.done(Phase::SuperHandle)
+    }
+
+    /// A new plain descriptor in a superclass place.
+    #[tactic(auto, using(crate::proofs::SuperTagLemmas::plain_fails, crate::proofs::SuperTagLemmas::plain_goes))]
+    fn plain_super(&mut self) -> bool
+        ensures { Tells (super_reason self.old 0x72) (after_super_tag self.old (tag_from 0x72)) result self.old self.new }
+    {
+        if !self.count_place() {
+            return false;
+        }
+        let strict = self.is_strict();
+        self.new_class(Role::Superclass { strict })
+    }
+
+    /// A new proxy descriptor in a superclass place.
+    #[tactic(auto, using(crate::proofs::SuperTagLemmas::proxy_fails, crate::proofs::SuperTagLemmas::proxy_goes))]
+    fn proxy_super(&mut self) -> bool
+        ensures { Tells (super_reason self.old 0x7D) (after_super_tag self.old (tag_from 0x7D)) result self.old self.new }
+    {
+        if !self.count_place() {
+            return false;
+        }
+        let strict = self.is_strict();
+        self.new_proxy(Role::Superclass { strict })
+    }
+
+    /// A value's tag in a superclass place.
+    #[tactic(auto, using(crate::proofs::SuperTagLemmas::no_super_value))]
+    fn super_value(&mut self, tag: ValueTag) -> bool
+        ensures { HasDescriptor self.old.frames → Tells (super_reason self.old (tag_byte (told_tag tag))) (after_super_tag self.old (tag_from (tag_byte (told_tag tag)))) result self.old self.new }
+    {
+        match tag {
+            ValueTag::Null => self.null_super(),
+            ValueTag::Reference => self.back_super(),
+            ValueTag::ClassDesc => self.plain_super(),
+            ValueTag::ProxyClassDesc => self.proxy_super(),
+            ValueTag::Object => self.refuse(Reason::BadTag),
+            ValueTag::String => self.refuse(Reason::BadTag),
+            ValueTag::LongString => self.refuse(Reason::BadTag),
+            ValueTag::Array => self.refuse(Reason::BadTag),
+            ValueTag::Class => self.refuse(Reason::BadTag),
+            ValueTag::Enum => self.refuse(Reason::BadTag),
+        }
+    }
+
+    /// A tag in a superclass place.
+    #[tactic(auto, using(crate::proofs::SuperTagLemmas::no_super_tag, crate::proofs::SuperTagLemmas::super_value_tag, crate::proofs::SuperTagLemmas::super_block, crate::proofs::SuperTagLemmas::super_other))]
+    pub(super) fn super_tag(&mut self, byte: u8) -> bool
+        ensures { HasDescriptor self.old.frames → Tells (super_reason self.old byte) (after_super_tag self.old (tag_from byte)) result self.old self.new }
+    {
+        match tag_of(byte) {
+            None => self.refuse(Reason::BadTag),
+            Some(Tag::Value(tag)) => self.super_value(tag),
+            Some(Tag::Block(_)) => self.refuse(Reason::BadTag),
+            Some(Tag::EndBlockData) => self.refuse(Reason::BadTag),
+            Some(Tag::Reset) => self.refuse(Reason::BadTag),
+            Some(Tag::Exception) => self.refuse(Reason::BadTag),
+        }
+    }
+
+    /// The handle of a reference in a superclass place.
+    #[tactic(auto, using(crate::proofs::SuperTagLemmas::low_super, crate::proofs::SuperTagLemmas::no_such_super, crate::proofs::SuperTagLemmas::no_class_super, crate::proofs::SuperTagLemmas::open_super, crate::proofs::SuperTagLemmas::unserial_super, crate::proofs::SuperTagLemmas::right_super, crate::proofs::SuperTagLemmas::is_read))]
+    pub(super) fn super_handle(&mut self, n: u32) -> bool
+        ensures { HasDescriptor self.old.frames → Tells (super_handle_reason self.old n) (closed_state self.old (Some (n - 0x7E0000))) result self.old self.new }
+    {
+        if n < FIRST_HANDLE {
+            return self.refuse(Reason::NoSuchHandle);
+        }
+        match self.table.class_at(n - FIRST_HANDLE) {
+            Class::NotThere => self.refuse(Reason::NoSuchHandle),
+            Class::NoClass => self.refuse(Reason::WrongKind),
+            Class::Open => self.refuse(Reason::OpenDescriptor),
+            Class::Closed(_) => {
+                if self.is_strict() && !self.table.all_serial(n - FIRST_HANDLE) {
+                    return self.refuse(Reason::NotSerializable);
+                }
+                self.close(Some(n - FIRST_HANDLE))
+            }
+        }
+    }
+}

@@ -1,0 +1,106 @@
+//! Superclass places: the end of a descriptor, and of those round it whose superclass it is.
+ghost use Rattle.std.specs.Prelude.{◌≡◌, ◌∷◌, IsTrue, slice_get, None};
+ghost use Rattle.std.specs.Option.{ForSome};
+ghost use Rattle.jser_table.specs.Entries.{is_closed, chain_at};
+ghost use Rattle.jser_verdict.specs.Reasons.{handle_space};
+ghost use Rattle.jser_verdict.specs.Verdicts.{told_if};
+ghost use Rattle.jser_reader.specs.Handlers.{Tells, is_full};
+ghost use Rattle.jser_reader.specs.Fitting.{HasDescriptor};
+ghost use Rattle.jser_reader.specs.declared.frame.Frame.{Frame};
+ghost use Rattle.jser_reader.specs.Stacks.{tail_of};
+ghost use Rattle.jser_reader.specs.Frames.{head_layer};
+ghost use Rattle.jser_reader.specs.Closing.{ClosesTop, ClosesOne, PopsLayer, closing_reason, closed_state, made_state};
+
+use crate::frame::{Frame, Owner, Role};
+use crate::machine::Machine;
+use jser_table::{Class, Codes, Layer, LayerKind};
+
+/// What came of closing a descriptor.
+#[derive(Clone, Copy)]
+enum Closing {
+    /// What waited for it has begun, or the machine has stopped: a handler's answer.
+    Ended(bool),
+    /// It is the superclass of the descriptor that is on top now.
+    Superclass(u32),
+}
+
+impl Machine {
+    /// Takes the layer of the innermost open descriptor, and puts that of the next one in its place.
+    #[tactic(auto, using(crate::proofs::CloseLemmas::next_layer, crate::proofs::CloseLemmas::last_layer))]
+    fn pop_layer(&mut self) -> Layer
+        ensures layer { result ≡ head_layer self.old.layers }
+        ensures rest { PopsLayer self.old self.new }
+    {
+        let outer = match self.outer.pop() {
+            Some(layer) => layer,
+            None => Layer {
+                kind: LayerKind::Other,
+                flags: 0,
+                codes: Codes::new(Vec::new(self.alloc)),
+            },
+        };
+        std::mem::replace(&mut self.layer, outer)
+    }
+
+    /// Closes the descriptor on top, which has this number, and takes it off.
+    #[tactic(auto, using(crate::proofs::CloseLemmas::fits_closed, crate::proofs::CloseLemmas::is_open, crate::proofs::CloseLemmas::closes, crate::proofs::SuperLemmas::closes_top))]
+    fn close_top(&mut self, number: u32, role: Role, parent: Option<u32>)
+        requires top { self.old.frames ≡ Frame.Descriptor number role ∷ tail_of self.old.frames }
+        requires parent { ForSome parent (λ p. IsTrue (is_closed (slice_get self.old.table.entries p))) }
+        ensures { ClosesTop number role parent self.old self.new }
+    {
+        let layer = self.pop_layer();
+        self.frames.pop();
+        self.table.close(number, layer, parent);
+    }
+
+    /// The class with this number has been read: its owner's handle is assigned.
+    #[tactic(auto, using(crate::proofs::SuperLemmas::owner_found, crate::proofs::SuperLemmas::not_there, crate::proofs::SuperLemmas::not_class, crate::proofs::SuperLemmas::not_open))]
+    fn owner_of(&mut self, number: u32, owner: Owner) -> bool
+        requires closed { IsTrue (is_closed (slice_get self.old.table.entries number)) }
+        ensures { Tells (told_if (is_full self.old) handle_space None) (made_state self.old owner (chain_at self.old.table.entries number)) result self.old self.new }
+    {
+        self.owner = owner;
+        match self.table.class_at(number) {
+            Class::Closed(chain) => self.begin_owner(chain),
+            Class::NotThere => self.ended(),
+            Class::NoClass => self.ended(),
+            Class::Open => self.ended(),
+        }
+    }
+
+    /// Closes the descriptor on top, and begins what waited for it, if that is not the descriptor round it.
+    #[tactic(auto, using(crate::proofs::SuperLemmas::value_closed, crate::proofs::SuperLemmas::owner_closed, crate::proofs::SuperLemmas::super_closed, crate::proofs::SuperLemmas::entry_closed))]
+    fn close_one(&mut self, number: u32, role: Role, parent: Option<u32>) -> Closing
+        requires top { self.old.frames ≡ Frame.Descriptor number role ∷ tail_of self.old.frames }
+        requires parent { ForSome parent (λ p. IsTrue (is_closed (slice_get self.old.table.entries p))) }
+        ensures { ClosesOne result parent self.old self.new }
+    {
+        self.close_top(number, role, parent);
+        match role {
+            Role::Value => Closing::Ended(self.ended()),
+            Role::ClassOf(owner) => Closing::Ended(self.owner_of(number, owner)),
+            Role::Superclass { .. } => Closing::Superclass(number),
+        }
+    }
+
+    /// The superclass place of the descriptor on top has ended, with this class in it, or with NULL: the descriptor is
+    /// closed, and those round it whose superclass it is; and what waited for them goes on.
+    #[tactic(auto, using(crate::proofs::SuperLemmas::closes_last, crate::proofs::SuperLemmas::closes_more, crate::proofs::SuperLemmas::closes_shorter, crate::proofs::SuperLemmas::closes_open, crate::proofs::SuperLemmas::closing_starts, crate::proofs::SuperLemmas::none_open, crate::proofs::SuperLemmas::other_open))]
+    pub(super) fn close(&mut self, parent: Option<u32>) -> bool
+        requires { ForSome parent (λ p. IsTrue (is_closed (slice_get self.old.table.entries p))) }
+        ensures { Tells (closing_reason self.old) (closed_state self.old parent) result self.old self.new }
+    {
+        let mut above = parent;
+        'closing: while let Some(frame) = self.frames.top() {
+            let Frame::Descriptor { number, role } = frame else {
+                return self.ended();
+            };
+            match self.close_one(number, role, above) {
+                Closing::Ended(goes_on) => return goes_on,
+                Closing::Superclass(closed) => above = Some(closed),
+            }
+        }
+        self.ended()
+    }
+}

@@ -1,0 +1,133 @@
+//! The tag of a value, and what comes after it.
+ghost use Rattle.std.specs.Prelude.{◌≡◌, true, false, Some, None, IfSome};
+ghost use Rattle.jser_table.specs.Tables.{new_entry};
+ghost use Rattle.jser_verdict.specs.Reasons.{handle_space};
+ghost use Rattle.jser_verdict.specs.Verdicts.{told_if};
+ghost use Rattle.jser_reader.specs.Tags.{told_tag};
+ghost use Rattle.jser_reader.specs.Readers.{in_proxy, length_phase, IsForm};
+ghost use Rattle.jser_reader.specs.Handlers.{Tells, Assigns, IsNext, is_full, handle_reason, begun, place_reason, after_tag, opens_class, opens_proxy, opens_text};
+
+use crate::frame::{Owner, Role};
+use crate::machine::Machine;
+use crate::phase::{Phase, TextFor};
+use crate::refusal::Reason;
+use crate::tag::ValueTag;
+use jser_table::{Kind, TableFault};
+
+impl Machine {
+    /// Assigns the next handle, if there is one and memory lasts.
+    #[tactic(auto, using(crate::proofs::EntryLemmas::fits_entry, crate::proofs::EntryLemmas::assigned_full, crate::proofs::EntryLemmas::assigned_no_memory, crate::proofs::EntryLemmas::assigned))]
+    pub(super) fn assign(&mut self, kind: Kind) -> Option<u32>
+        ensures given { Assigns (new_entry kind) result self.old self.new }
+        ensures chains { IfSome result (λ _. self.new.table.chains ≡ self.old.table.chains) }
+    {
+        match self.table.assign(kind) {
+            Ok(number) => Some(number),
+            Err(TableFault::Full) => {
+                self.refuse(Reason::HandleSpace);
+                None
+            }
+            Err(TableFault::OutOfMemory) => {
+                self.no_memory();
+                None
+            }
+        }
+    }
+
+    /// A class place comes next.
+    fn next_class(&mut self, owner: Owner) -> bool
+        ensures next { IsNext Phase.ClassTag owner self.old.elements self.old.header self.old.text self.old self.new }
+        ensures result { result ≡ true }
+    {
+        self.owner = owner;
+        self.done(Phase::ClassTag)
+    }
+
+    /// The length of a text comes next, in two bytes, or in eight in the long form.
+    pub(super) fn next_text(&mut self, text: TextFor, long: bool) -> bool
+        ensures next { IsNext (length_phase long) self.old.owner self.old.elements self.old.header text self.old self.new }
+        ensures result { result ≡ true }
+    {
+        self.text = text;
+        if long {
+            return self.done(Phase::Length8);
+        }
+        self.done(Phase::Length2)
+    }
+
+    /// A new string: its handle is assigned at its tag.
+    #[tactic(auto, using(crate::proofs::ValueLemmas::no_text, crate::proofs::ValueLemmas::new_text))]
+    pub(super) fn new_text(&mut self, text: TextFor, long: bool) -> bool
+        requires string { IsForm text true }
+        ensures { Tells (told_if (is_full self.old) handle_space None) (opens_text self.old text long) result self.old self.new }
+    {
+        if self.assign(Kind::Text).is_none() {
+            return false;
+        }
+        self.next_text(text, long)
+    }
+
+    /// The name of a new plain descriptor comes next, which is read in this role.
+    #[tactic(auto, using(crate::proofs::ValueLemmas::new_class))]
+    pub(super) fn new_class(&mut self, role: Role) -> bool
+        ensures { Tells None (opens_class self.old role) result self.old self.new }
+    {
+        self.role = role;
+        self.next_text(TextFor::ClassName, false)
+    }
+
+    /// The number of interfaces of the proxy descriptor comes next that has this number and is read in this role.
+    fn next_proxy(&mut self, role: Role, number: u32) -> bool
+        ensures next { IsNext Phase.InterfaceCount self.old.owner self.old.elements (in_proxy self.old.header role number) self.old.text self.old self.new }
+        ensures result { result ≡ true }
+    {
+        self.role = role;
+        self.number = number;
+        self.done(Phase::InterfaceCount)
+    }
+
+    /// A new proxy descriptor, read in this role: its handle is assigned at its tag.
+    #[tactic(auto, using(crate::proofs::ValueLemmas::no_proxy, crate::proofs::ValueLemmas::new_proxy))]
+    pub(super) fn new_proxy(&mut self, role: Role) -> bool
+        ensures { Tells (told_if (is_full self.old) handle_space None) (opens_proxy self.old role) result self.old self.new }
+    {
+        match self.assign(Kind::Pending) {
+            None => false,
+            Some(number) => self.next_proxy(role, number),
+        }
+    }
+
+    /// The tag of a value whose place has been counted.
+    #[tactic(auto, using(crate::proofs::ValueLemmas::null_begun, crate::proofs::ValueLemmas::back_begun, crate::proofs::ValueLemmas::object_begun, crate::proofs::ValueLemmas::array_begun, crate::proofs::ValueLemmas::class_begun, crate::proofs::ValueLemmas::enum_begun, crate::proofs::ValueLemmas::desc_begun, crate::proofs::ValueLemmas::proxy_begun, crate::proofs::ValueLemmas::string_begun, crate::proofs::ValueLemmas::long_string_begun))]
+    fn begin(&mut self, tag: ValueTag) -> bool
+        ensures { Tells (handle_reason self.old (told_tag tag)) (begun self.old (told_tag tag)) result self.old self.new }
+    {
+        match tag {
+            ValueTag::Null => self.ended(),
+            ValueTag::Reference => self.done(Phase::BackHandle),
+            ValueTag::ClassDesc => self.new_class(Role::Value),
+            ValueTag::ProxyClassDesc => self.new_proxy(Role::Value),
+            ValueTag::Object => self.next_class(Owner::Object),
+            ValueTag::Array => self.next_class(Owner::Array),
+            ValueTag::Class => self.next_class(Owner::ClassObject),
+            ValueTag::Enum => self.next_class(Owner::EnumConst),
+            ValueTag::String => self.new_text(TextFor::Value, false),
+            ValueTag::LongString => self.new_text(TextFor::Value, true),
+        }
+    }
+
+    /// The tag of a value, of which nothing has been counted.
+    #[tactic(auto, using(crate::proofs::ValueLemmas::too_deep, crate::proofs::ValueLemmas::too_many, crate::proofs::ValueLemmas::counted_tag))]
+    pub(super) fn place(&mut self, tag: ValueTag) -> bool
+        ensures { Tells (place_reason self.old (told_tag tag)) (after_tag self.old (told_tag tag)) result self.old self.new }
+    {
+        if self.frames.len() >= self.limits.depth as usize {
+            return self.refuse(Reason::DepthExceeded);
+        }
+        if self.refs >= self.limits.refs {
+            return self.refuse(Reason::RefsExceeded);
+        }
+        self.refs += 1;
+        self.begin(tag)
+    }
+}

@@ -1,0 +1,73 @@
+//! The field that comes next or is being read.
+
+/// What a text is, which decides what comes after it.
+#[derive(Clone, Copy, PartialEq, Eq)]
+pub(crate) enum TextFor {
+    /// A string that is a value, or the name of an enum constant.
+    Value,
+    /// The type of a field.
+    FieldType,
+    /// The name of a field, and whether the field has a type text.
+    FieldName(bool),
+    /// The name of a class.
+    ClassName,
+    /// The name of an interface.
+    InterfaceName,
+}
+
+/// The field that comes next or is being read.
+#[derive(Clone, Copy, PartialEq, Eq)]
+pub(crate) enum Phase {
+    /// The header of the stream.
+    Header,
+    /// A tag at the top.
+    Top,
+    /// A tag in an annotation.
+    Note,
+    /// A tag in a value place.
+    Value,
+    /// A tag in a class place.
+    ClassTag,
+    /// A tag in a superclass place.
+    SuperTag,
+    /// A tag in a text place.
+    TextTag,
+    /// The handle of a reference in a value place.
+    BackHandle,
+    /// The handle of a reference in a class place.
+    ClassHandle,
+    /// The handle of a reference in a superclass place.
+    SuperHandle,
+    /// The handle of a reference in a text place.
+    TextHandle,
+    /// The length of a text, in two bytes.
+    Length2,
+    /// The length of a text, in eight bytes.
+    Length8,
+    /// The bytes of a text.
+    Text,
+    /// The suid of a descriptor.
+    Suid,
+    /// The flags of a descriptor.
+    Flags,
+    /// The number of fields of a descriptor.
+    FieldCount,
+    /// The type code of a field.
+    TypeCode,
+    /// The number of interfaces of a proxy descriptor.
+    InterfaceCount,
+    /// The length of an array.
+    ArrayLength,
+    /// The length of a block, in one byte.
+    BlockLength1,
+    /// The length of a block, in four bytes.
+    BlockLength4,
+    /// Raw values.
+    Prims,
+    /// The bytes of a block.
+    Bytes,
+    /// A number of which a part came in an earlier piece.
+    Cut,
+    /// Nothing: the reader has stopped.
+    Stopped,
+}

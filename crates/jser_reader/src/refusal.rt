@@ -1,0 +1,78 @@
+//! Why bytes are refused: the reasons, and the bytes that decide.
+
+/// A reason for which bytes are not a stream, or not one that the gate passes.
+#[derive(Clone, Copy, PartialEq, Eq, Hash, Debug)]
+pub enum Reason {
+    /// More bytes than the limit.
+    BytesExceeded,
+    /// The first four bytes are not 0xAC 0xED 0x00 0x05.
+    BadHeader,
+    /// No tag that may stand there.
+    BadTag,
+    /// The tag 0x7B, `TC_EXCEPTION`.
+    ExceptionTag,
+    /// The tag 0x79, `TC_RESET`, below the top.
+    ResetInside,
+    /// No modified UTF-8 of the text's length.
+    BadText,
+    /// A count or a length whose highest bit is set.
+    NegativeLength,
+    /// None of the ten type codes.
+    BadTypeCode,
+    /// A primitive field after a field of another type.
+    FieldOrder,
+    /// Flags with a bit of 0xE0, or with both 0x02 and 0x04.
+    BadFlags,
+    /// NULL as the class of an object, array, enum constant or class object.
+    NullClass,
+    /// A handle that has not been assigned.
+    NoSuchHandle,
+    /// A handle of another kind than the place wants.
+    WrongKind,
+    /// A class whose superclass place has not been read.
+    OpenDescriptor,
+    /// A name that begins with `[` and is not an array name.
+    BadArrayName,
+    /// A class that does not fit its purpose.
+    WrongClass,
+    /// Externalizable data without block mode.
+    ExternalRaw,
+    /// An object of a class that is not serializable.
+    NotSerializable,
+    /// The gate rejects the name.
+    ClassRejected,
+    /// No pattern matches the name, and the gate is strict.
+    ClassUnmatched,
+    /// A place deeper than the limit.
+    DepthExceeded,
+    /// More places than the limit.
+    RefsExceeded,
+    /// An array longer than the limit.
+    ArrayExceeded,
+    /// The input ends before the stream does.
+    Truncated,
+    /// More handles in an epoch than the limit.
+    HandleSpace,
+}
+
+/// The bytes that are refused.
+#[derive(Clone, Copy, PartialEq, Eq, Hash, Debug)]
+pub struct Refusal {
+    /// Where the faulty field starts, counted from 0.
+    pub from_byte: u64,
+    /// How many bytes of the stream decide.
+    pub to_byte: u64,
+    /// Why.
+    pub reason: Reason,
+}
+
+/// Why a reader stopped.
+#[derive(Clone, Copy, PartialEq, Eq, Hash, Debug)]
+pub enum Stop {
+    /// The bytes are refused.
+    Refused(Refusal),
+    /// Memory ran out.
+    OutOfMemory,
+    /// The reader had stopped before: memory ran out, or the stream has ended.
+    Spent,
+}
