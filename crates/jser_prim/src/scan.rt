@@ -69,6 +69,13 @@ impl TextScan {
         self.left == 0
     }
 
+    /// How many bytes are still to come.
+    pub fn left(&self) -> u64
+        ensures { result ≡ self.now.left }
+    {
+        self.left
+    }
+
     /// Takes the next byte of the text, and returns the unit that it ends, if it ends one.
     ///
     /// # Errors

@@ -36,7 +36,7 @@ raw_elements size n (Some c) b old mid new k e el some es ef ey et er em =
     subst (Ready new) (sym (raw_state old c n some))
     (rw (next_is phase.Prims mid.owner mid.elements mid.header mid.text mid new k) (rw ef (rw ey (rw et (rw er
     (record { depth = suc (length old.frames); type_code = c; more = n - 1; parts = []; goals = goals_of old; is = refl; size = size_is; after = refl })))))) in
-    tells_next None (after_length old (Some c) n) b old new (record { ready = ready; meter = k.meter ∙ ap moved em }) e refl
+    tells_next None (after_length old (Some c) n) b old new (record { ready = ready; meter = k.meter ∙ ap moved em; max = ap (λ t. t.max) (k.table ∙ et) }) e refl
 
 -- elements that are values
 
@@ -53,7 +53,7 @@ value_elements n b old mid new k e some ef ey et er em =
     let ready : Ready new (after_length old None n) =
     subst (Ready new) (sym (value_state old n some))
     (rw (next_is phase.Value mid.owner mid.elements mid.header mid.text mid new k) (rw ef (rw ey (rw et (rw er (tt, refl)))))) in
-    tells_next None (after_length old None n) b old new (record { ready = ready; meter = k.meter ∙ ap moved em }) e refl
+    tells_next None (after_length old None n) b old new (record { ready = ready; meter = k.meter ∙ ap moved em; max = ap (λ t. t.max) (k.table ∙ et) }) e refl
 
 pub no_room : (s : State) (b : Bool) (old new : Seen) → StopsWith stop.OutOfMemory old new → b ≡ false → Tells None s b old new
 unfolding Tells

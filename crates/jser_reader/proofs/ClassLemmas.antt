@@ -118,7 +118,7 @@ pub class_reference : (found : Bool) (old new : Seen) → IsNext phase.ClassHand
 unfolding tag_from Ready
 class_reference found old new n ef =
     let ready : Ready new (after_class_tag old (tag_from 0x71)) = rw (next_is phase.ClassHandle old.owner old.elements old.header old.text old new n) refl in
-    tells_next (tag_reason old (goal_owner old.owner) 0x71) (after_class_tag old (tag_from 0x71)) found old new (record { ready = ready; meter = n.meter }) ef (quiet_reference (goal_owner old.owner) old)
+    tells_next (tag_reason old (goal_owner old.owner) 0x71) (after_class_tag old (tag_from 0x71)) found old new (record { ready = ready; meter = n.meter; max = ap (λ t. t.max) n.table }) ef (quiet_reference (goal_owner old.owner) old)
 
 pub new_class : (found : Bool) (old new : Seen) → Tells None (opens_class old (role.ClassOf old.owner)) found old new
     → Tells (tag_reason old (goal_owner old.owner) (tag_byte (told_tag value.ClassDesc))) (after_class_tag old (tag_from (tag_byte (told_tag value.ClassDesc)))) found old new

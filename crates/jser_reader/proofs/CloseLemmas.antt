@@ -14,8 +14,8 @@ use Rattle.jser_reader.specs.declared.frame.Role.{Role}
 use Rattle.jser_reader.specs.Stacks.{tail_of}
 use Rattle.jser_reader.specs.Fitting.{FramesFit, AllFit}
 use Rattle.jser_reader.specs.Frames.{head_layer, tail_layers, chain_owner, rest_of_section, alone, with_frame, stack_goals, StackGoals}
-use Rattle.jser_reader.specs.Readers.{Seen}
-use Rattle.jser_reader.specs.Closing.{rest_layers, top_number, Closes, PopsLayer}
+use Rattle.jser_reader.specs.Readers.{Seen, top_number}
+use Rattle.jser_reader.specs.Closing.{rest_layers, Closes, PopsLayer}
 use Rattle.jser_reader.proofs.PartLemmas.{fits_lower}
 
 -- layers

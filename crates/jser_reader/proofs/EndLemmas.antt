@@ -7,22 +7,22 @@ use Rattle.jser_reader.specs.declared.phase.Phase.{Phase}
 use Rattle.jser_reader.specs.declared.phase.TextFor.{TextFor}
 use Rattle.jser_reader.specs.Reasons.{named}
 use Rattle.jser_reader.specs.Readers.{Seen, Header, Ready}
-use Rattle.jser_reader.specs.Steps.{after_value}
+use Rattle.jser_reader.specs.Steps.{Kept, after_value}
 use Rattle.jser_reader.specs.Handlers.{StopsWith, refusal, moved, Comes, Tells, IsNext}
 
 same_value : (old new : Seen) → new.frames ≡ old.frames → new.layers ≡ old.layers → new.table ≡ old.table → new.refs ≡ old.refs → after_value new ≡ after_value old
 unfolding after_value
 same_value old new ef ey et er = rw ef (rw ey (rw et (rw er refl)))
 
-pub ends : (old mid new : Seen) → Ready new (after_value mid) → new.meter ≡ mid.meter → mid.meter ≡ moved old.meter
+pub ends : (old mid new : Seen) → Ready new (after_value mid) → Kept mid new → new.meter ≡ mid.meter → mid.meter ≡ moved old.meter
     → mid.frames ≡ old.frames → mid.layers ≡ old.layers → mid.table ≡ old.table → mid.refs ≡ old.refs
     → Comes old new (after_value old)
-ends old mid new h em en ef ey et er =
-    record { ready = subst (Ready new) (same_value old mid ef ey et er) h; meter = em ∙ en }
+ends old mid new h k em en ef ey et er =
+    record { ready = subst (Ready new) (same_value old mid ef ey et er) h; meter = em ∙ en; max = ap (λ t. t.max) (k.table ∙ et) }
 
 -- what is seen where this field comes next
 pub next_is : (p : Phase) (o : Owner) (chain : Option ℕ) (h : Header) (t : TextFor) (old new : Seen) → IsNext p o chain h t old new
-    → new ≡ record { meter = moved old.meter; phase = p; frames = old.frames; layers = old.layers; table = old.table; refs = old.refs; owner = o; elements = chain; header = h; text = t; left = new.left; scan = new.scan }
+    → new ≡ record { meter = moved old.meter; phase = p; frames = old.frames; layers = old.layers; table = old.table; refs = old.refs; owner = o; elements = chain; header = h; text = t; left = new.left; scan = new.scan; name = new.name }
 next_is p o chain h t old new n =
     rw (← n.meter) (rw (← n.phase_is) (rw (← n.frames) (rw (← n.layers) (rw (← n.table) (rw (← n.refs) (rw (← n.owner_is) (rw (← n.chain_is) (rw (← n.header_is) (rw (← n.text_is) refl)))))))))
 
@@ -37,9 +37,9 @@ unfolding Tells
 tells_next told s b old new h eb et = rw eb (rw et h)
 
 -- the same, said of a machine that was as far
-pub tells_from : (told : Option Reason) (s t : State) (b : Bool) (old mid new : Seen) → Tells told s b mid new → mid.meter ≡ old.meter → s ≡ t → Tells told t b old new
+pub tells_from : (told : Option Reason) (s t : State) (b : Bool) (old mid new : Seen) → Tells told s b mid new → mid.meter ≡ old.meter → mid.table.max ≡ old.table.max → s ≡ t → Tells told t b old new
 unfolding Tells
-tells_from None s t true old mid new h em e = record { ready = subst (Ready new) e h.ready; meter = h.meter ∙ ap moved em }
-tells_from None s t false old mid new h em e = record { phase = h.phase; stop = h.stop }
-tells_from (Some r) s t true old mid new h em e = h
-tells_from (Some r) s t false old mid new h em e = record { phase = h.phase; stop = h.stop ∙ ap (λ m. refusal m (named r)) em }
+tells_from None s t true old mid new h em ex e = record { ready = subst (Ready new) e h.ready; meter = h.meter ∙ ap moved em; max = h.max ∙ ex }
+tells_from None s t false old mid new h em ex e = record { phase = h.phase; stop = h.stop }
+tells_from (Some r) s t true old mid new h em ex e = h
+tells_from (Some r) s t false old mid new h em ex e = record { phase = h.phase; stop = h.stop ∙ ap (λ m. refusal m (named r)) em }

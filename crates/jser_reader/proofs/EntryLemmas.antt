@@ -18,7 +18,7 @@ get_more [] e k h = absurd (cc)
 get_more (x ∷ T) e zero h = h
 get_more (x ∷ T) e (suc k) h = get_more T e k h
 
-fits_more : (T : List TableEntry) (e : TableEntry) (C : List (List Layer)) (bound : ℕ) (fs : List Frame) → FramesFit T C bound fs → FramesFit (T ++ (e ∷ [])) C bound fs
+pub fits_more : (T : List TableEntry) (e : TableEntry) (C : List (List Layer)) (bound : ℕ) (fs : List Frame) → FramesFit T C bound fs → FramesFit (T ++ (e ∷ [])) C bound fs
 fits_more T e C bound [] fit = tt
 fits_more T e C bound (frame.Elements left ∷ fs) fit = (tt, tt, fits_more T e C bound fs fit.2)
 fits_more T e C bound (frame.Fields last section pos prims values ∷ fs) fit = (fit.0, tt, fits_more T e C bound fs fit.2)

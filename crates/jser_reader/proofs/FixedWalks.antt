@@ -1,5 +1,5 @@
 -- A tag, a number or the header, whole or cut, and the walk over its bytes.
-use Rattle.std.proofs.Common.{true, ◌≡◌, ℕ, ◌+◌, ◌<◌, ◌≤◌, Bool, false, List, [], ◌∷◌, ◌++◌, length, Option, None, refl, sym, ◌∙◌, ap, subst, arith, length-append, append-nil, inl, inr}
+use Rattle.std.proofs.Common.{◌≡◌, ℕ, ◌+◌, ◌<◌, ◌≤◌, Bool, false, List, [], ◌∷◌, ◌++◌, length, Option, None, refl, sym, ◌∙◌, ap, subst, arith, length-append, append-nil, inl, inr}
 use Rattle.jser_reading.specs.Labels.{header_field, Label}
 use Rattle.jser_reading.specs.FieldsFromBytes.{size_in, field_in}
 use Rattle.jser_reading.specs.Goals.{top_goal, State, settled}
@@ -45,9 +45,9 @@ pub fixed_took : (gate : Gate) (p : Phase) (told : Option Reason) (next : State)
     → (ReadyAt p mid (settled s) → gate_with mid gate.answer ≡ gate → IsJudged gate told next (settled s) (cut_of old ++ taken))
     → open_phase old ≡ p → IsFixed p → 0 < length taken → length (cut_of old ++ taken) ≤ size_of_phase p
     → (IsRightSoFar p (cut_of old) → (a : List ℕ) (c : ℕ) (d : List ℕ) → cut_of old ++ taken ≡ a ++ (c ∷ d) → IsRightSoFar p a)
-    → Counts taken old mid → (found ≡ true → new.table.max ≡ mid.table.max)
+    → Counts taken old mid
     → Took gate s cut taken found old new
-fixed_took gate p told next found old mid new taken s cut st h j eo i some size right c em =
+fixed_took gate p told next found old mid new taken s cut st h j eo i some size right c =
     let o = is_open p old (settled s) cut st.stands eo (fixed_some p i) in
     let is : cut_of old ++ taken ≡ cut ++ taken = ap (λ x. x ++ taken) (sym o.cut_is) in
     let ready : ReadyAt p mid (settled s) = ready_counted p taken old mid (settled s) c (fixed_some p i) o.ready in
@@ -55,7 +55,7 @@ fixed_took gate p told next found old mid new taken s cut st h j eo i some size 
     subst (λ bytes. IsUndecided (verdict gate) (label_of (settled s)) bytes
     → reason_at gate (label_of (settled s)) (label_of (settled s)).position bytes ≡ told
     → (told ≡ None → LeadsTo (settled s) bytes next) → Took gate s cut taken found old new) (sym is)
-    (λ u e leads. judged gate told next found old mid new s cut taken (h ready) st c em some u e leads)
+    (λ u e leads. judged gate told next found old mid new s cut taken (h ready) st c some u e leads)
     (fixed_undecided gate p old (settled s) (cut_of old ++ taken) i o.ready size (right (subst (IsRightSoFar p) o.cut_is o.right)))
     k.reason (λ e. k.leads e)
 
@@ -64,11 +64,11 @@ pub fixed_taken : (gate : Gate) (p : Phase) (told : Option Reason) (next : State
     → ((s : State) → ReadyAt p mid s → gate_with mid gate.answer ≡ gate → IsJudged gate told next s (cut_of old ++ taken))
     → open_phase old ≡ p → IsFixed p → 0 < length taken → length (cut_of old ++ taken) ≤ size_of_phase p
     → (IsRightSoFar p (cut_of old) → (a : List ℕ) (c : ℕ) (d : List ℕ) → cut_of old ++ taken ≡ a ++ (c ∷ d) → IsRightSoFar p a)
-    → Counts taken old mid → (found ≡ true → new.table.max ≡ mid.table.max)
+    → Counts taken old mid
     → Takes gate taken found old new
 unfolding Takes
-fixed_taken gate p told next found old mid new taken h j eo i some size right c em = λ s cut st.
-    fixed_took gate p told next found old mid new taken s cut st (λ r. h (settled s) r) (λ r e. j (settled s) r e) eo i some size right c em
+fixed_taken gate p told next found old mid new taken h j eo i some size right c = λ s cut st.
+    fixed_took gate p told next found old mid new taken s cut st (λ r. h (settled s) r) (λ r e. j (settled s) r e) eo i some size right c
 
 -- all bytes are right but those of the header
 pub right_but_header : (p : Phase) (a : List ℕ) → (p ≡ phase.Header → ⊥) → IsRightSoFar p a
@@ -80,14 +80,14 @@ right_but_header _ a h = tt
 pub byte_taken : (gate : Gate) (p : Phase) (told : Option Reason) (next : State) (found : Bool) (old mid new : Seen) (b : ℕ)
     → ((s : State) → ReadyAt p mid s → Tells told next found mid new)
     → ((s : State) → ReadyAt p mid s → gate_with mid gate.answer ≡ gate → IsJudged gate told next s (b ∷ []))
-    → open_phase old ≡ p → cut_of old ≡ [] → IsFixed p → (p ≡ phase.Header → ⊥) → Counts (b ∷ []) old mid → (found ≡ true → new.table.max ≡ mid.table.max)
+    → open_phase old ≡ p → cut_of old ≡ [] → IsFixed p → (p ≡ phase.Header → ⊥) → Counts (b ∷ []) old mid
     → Takes gate (b ∷ []) found old new
-byte_taken gate p told next found old mid new b h j eo ec i other c em =
+byte_taken gate p told next found old mid new b h j eo ec i other c =
     let is : cut_of old ++ (b ∷ []) ≡ b ∷ [] = ap (λ x. x ++ (b ∷ [])) ec in
     fixed_taken gate p told next found old mid new (b ∷ []) h
     (λ s r e. subst (IsJudged gate told next s) (sym is) (j s r e)) eo i (omega arith)
     (let n : length (cut_of old ++ (b ∷ [])) ≡ 1 = ap length is in let k = fixed_some p i in omega arith)
-    (λ _ a c d e. right_but_header p a other) c em
+    (λ _ a c d e. right_but_header p a other) c
 
 -- a number or the header is cut, or cut again: `bytes` are those that were kept of it
 pub fixed_kept : (gate : Gate) (p : Phase) (old new : Seen) (piece : List ℕ)
@@ -209,24 +209,28 @@ header_judged gate r s bytes h whole = record {
 
 -- the byte is the last of the header, or it differs
 pub header_taken : (gate : Gate) (b : ℕ) (found : Bool) (old mid new : Seen)
-    → (mid.frames ≡ [] → Tells (header_reason (cut_of old ++ (b ∷ []))) (moment_of mid, top_goal ∷ []) found mid new)
+    → (differs header_bytes (cut_of old) ≡ false → mid.frames ≡ [] → Tells (header_reason (cut_of old ++ (b ∷ []))) (moment_of mid, top_goal ∷ []) found mid new)
     → open_phase old ≡ phase.Header → length (cut_of old ++ (b ∷ [])) ≤ 4
-    → (header_reason (cut_of old ++ (b ∷ [])) ≡ None → length (cut_of old ++ (b ∷ [])) ≡ 4)
-    → Counts (b ∷ []) old mid → (found ≡ true → new.table.max ≡ mid.table.max)
+    → (differs header_bytes (cut_of old) ≡ false → header_reason (cut_of old ++ (b ∷ [])) ≡ None → length (cut_of old ++ (b ∷ [])) ≡ 4)
+    → Counts (b ∷ []) old mid
     → Takes gate (b ∷ []) found old new
-header_taken gate b found old mid new h ep size whole c em =
-    fixed_taken gate phase.Header (header_reason (cut_of old ++ (b ∷ []))) (moment_of mid, top_goal ∷ []) found old mid new (b ∷ [])
-    (λ s r. h r.0) (λ s r e. header_judged gate mid s (cut_of old ++ (b ∷ [])) r whole) ep tt (omega arith) size
-    (λ right a c d e. header_right (cut_of old) b right a c d e) c em
+unfolding Takes
+header_taken gate b found old mid new h ep size whole c = λ s cut st.
+    let o = is_open phase.Header old (settled s) cut st.stands ep (omega arith) in
+    let so_far : differs header_bytes (cut_of old) ≡ false = subst (IsRightSoFar phase.Header) o.cut_is o.right in
+    fixed_took gate phase.Header (header_reason (cut_of old ++ (b ∷ []))) (moment_of mid, top_goal ∷ []) found old mid new (b ∷ []) s cut st
+    (λ r. h so_far r.0) (λ r e. header_judged gate mid (settled s) (cut_of old ++ (b ∷ [])) r (whole so_far)) ep tt (omega arith) size
+    (λ right a c d e. header_right (cut_of old) b right a c d e) c
 
 -- the byte is right, and others are to come
 pub header_kept : (gate : Gate) (b : ℕ) (old new : Seen)
     → new.phase ≡ phase.Cut → new.meter.cut_phase ≡ phase.Header → new.meter.kept ≡ cut_of old ++ (b ∷ [])
-    → open_phase old ≡ phase.Header → length (cut_of old ++ (b ∷ [])) < 4 → differs header_bytes (cut_of old ++ (b ∷ [])) ≡ false
+    → open_phase old ≡ phase.Header → length (cut_of old ++ (b ∷ [])) < 4
+    → (differs header_bytes (cut_of old) ≡ false → differs header_bytes (cut_of old ++ (b ∷ [])) ≡ false)
     → Counts (b ∷ []) old new → Keeps gate (b ∷ []) old new
 header_kept gate b old new ep ec ek eo short right c =
     fixed_kept gate phase.Header old new (b ∷ []) ep ec ek eo tt (some (cut_of old)) short
-    (λ _ a d e. differs_less header_bytes a d (subst (λ x. differs header_bytes x ≡ false) e right)) c
+    (λ so_far a d e. differs_less header_bytes a d (subst (λ x. differs header_bytes x ≡ false) e (right so_far))) c
   where
     some : (xs : List ℕ) → 0 < length (xs ++ (b ∷ []))
     some xs = omega (arith, length-append xs (b ∷ []))

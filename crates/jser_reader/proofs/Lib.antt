@@ -8,10 +8,16 @@ pub mod NumberWalks
 pub mod RawWalks
 pub mod TextSteps
 pub mod StreamWalks
+pub mod JoinLemmas
+pub mod TakeLemmas
+pub mod CutLemmas
+pub mod HeaderLemmas
+pub mod TakeRawLemmas
 pub mod PartLemmas
 pub mod EntryLemmas
 pub mod EndLemmas
 pub mod ValueLemmas
+pub mod TextLemmas
 pub mod TagLemmas
 pub mod OwnerLemmas
 pub mod ClassLemmas
@@ -21,3 +27,5 @@ pub mod PlaceLemmas
 pub mod SuperTagLemmas
 pub mod NumberLemmas
 pub mod ArrayLemmas
+pub mod DescriptorLemmas
+pub mod FieldLemmas

@@ -54,13 +54,13 @@ pub some_bytes : (n : ℕ) (b : Bool) (old mid new : Seen) → IsNext phase.Byte
 unfolding Ready
 some_bytes n b old mid new k e el some ef ey et er em =
     let positive : 0 < n = omega arith in
-    let at : new ≡ record { meter = moved mid.meter; phase = phase.Bytes; frames = mid.frames; layers = mid.layers; table = mid.table; refs = mid.refs; owner = mid.owner; elements = mid.elements; header = mid.header; text = mid.text; left = new.left; scan = new.scan } =
+    let at : new ≡ record { meter = moved mid.meter; phase = phase.Bytes; frames = mid.frames; layers = mid.layers; table = mid.table; refs = mid.refs; owner = mid.owner; elements = mid.elements; header = mid.header; text = mid.text; left = new.left; scan = new.scan; name = new.name } =
     next_is phase.Bytes mid.owner mid.elements mid.header mid.text mid new k in
     let size : new.left ≡ suc (n - 1) = el ∙ (let h : n ≡ suc (n - 1) = omega arith in h) in
     let ready : Ready new (after_block_length old n) =
     subst (Ready new) (sym (block_state old n positive))
     (rw at (rw ef (rw ey (rw et (rw er (record { depth = length old.frames; more = n - 1; is = refl; size = size })))))) in
-    surely_next None (after_block_length old n) b old new (record { ready = ready; meter = k.meter ∙ ap moved em }) e refl
+    surely_next None (after_block_length old n) b old new (record { ready = ready; meter = k.meter ∙ ap moved em; max = ap (λ t. t.max) (k.table ∙ et) }) e refl
 
 pub long_negative : (n : ℕ) (s : State) (b : Bool) (old new : Seen) → StopsWith (refusal old.meter (named negative_length)) old new → b ≡ false → 0x80000000 ≤ n → TellsSurely (count_reason (2 ^ 31) n) s b old new
 long_negative n s b old new h e l =

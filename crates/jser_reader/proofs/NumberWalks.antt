@@ -22,10 +22,11 @@ use Rattle.jser_reader.specs.declared.frame.Owner.TheVariants as owner
 use Rattle.jser_reader.specs.declared.phase.Phase.{Phase}
 use Rattle.jser_reader.specs.declared.phase.Phase.TheVariants as phase
 use Rattle.jser_reader.specs.Frames.{goal_owner}
-use Rattle.jser_reader.specs.Readers.{Seen, moment_of, depth_of, goals_of, head_role, field_role, name_kind_of, header_goals, opened_goals, fields_goals, text_depth, text_rest, LengthReady, superclass_handle_goals, ReadyAt}
+use Rattle.jser_reader.specs.Readers.{Seen, moment_of, depth_of, goals_of, top_role, fields_goals, field_count_state, text_depth, text_rest, IsForm, IsInside, LengthReady, superclass_handle_goals, ReadyAt}
 use Rattle.jser_reader.specs.Fitting.{HasDescriptor}
 use Rattle.jser_reader.specs.Closing.{closed_state}
 use Rattle.jser_reader.specs.Superclasses.{super_handle_reason}
+use Rattle.jser_reader.specs.Descriptors.{after_suid, after_field_count, after_code, after_interfaces}
 use Rattle.jser_reader.specs.Numbers.{back_reason, after_length, after_block_length}
 use Rattle.jser_reader.specs.Steps.{after_value}
 use Rattle.jser_reader.specs.Handlers.{Tells, TellsSurely, is_full, plain_gate, label_at, object_state, owner_state}
@@ -108,12 +109,12 @@ pub number_taken : (gate : Gate) (p : Phase) (n : ℕ) (told : Option Reason) (n
     → ((s : State) → ReadyAt p mid s → Tells told next found mid new)
     → ((s : State) → ReadyAt p mid s → gate_with mid gate.answer ≡ gate → IsJudged gate told next s (cut_of old ++ taken))
     → open_phase old ≡ p → IsFixed p → (p ≡ phase.Header → ⊥) → 0 < length taken → IsNumber (size_of_phase p) n (cut_of old ++ taken)
-    → Counts taken old mid → (found ≡ true → new.table.max ≡ mid.table.max)
+    → Counts taken old mid
     → Takes gate taken found old new
-number_taken gate p n told next found old mid new taken h j eo i other some b c em =
+number_taken gate p n told next found old mid new taken h j eo i other some b c =
     fixed_taken gate p told next found old mid new taken h j eo i some
     (let l = number_long (size_of_phase p) n (cut_of old ++ taken) b in omega arith)
-    (λ _ a c d e. right_but_header p a other) c em
+    (λ _ a c d e. right_but_header p a other) c
 
 -- ---- handles
 
@@ -121,15 +122,15 @@ number_taken gate p n told next found old mid new taken h j eo i other some b c 
 pub back_handle_taken : (gate : Gate) (n : ℕ) (found : Bool) (old mid new : Seen) (taken : List ℕ)
     → TellsSurely (back_reason mid n) (after_value mid) found mid new
     → open_phase old ≡ phase.BackHandle → 0 < length taken → IsNumber 4 n (cut_of old ++ taken)
-    → Counts taken old mid → (found ≡ true → new.table.max ≡ mid.table.max) → Takes gate taken found old new
+    → Counts taken old mid → Takes gate taken found old new
 unfolding after_value
-back_handle_taken gate n found old mid new taken h ep some b c em =
+back_handle_taken gate n found old mid new taken h ep some b c =
     number_taken gate phase.BackHandle n (back_reason mid n) (after_value mid) found old mid new taken
     (λ s r. tells_surely (back_reason mid n) (after_value mid) found mid new h)
     (λ s r e. number_judged gate phase.BackHandle mid s n (cut_of old ++ taken) (back_reason mid n) (after_value mid)
     (handle_field (n - 0x7E0000)) tt r e b (on_whole 4 n (cut_of old ++ taken) (back_reason mid) b)
     (ap (λ k. Some (handle_field (k - 0x7E0000))) b.number) (λ _. ap (λ t. settled (advance t (handle_field (n - 0x7E0000)))) r))
-    ep tt (λ e. absurd (cc)) some b c em
+    ep tt (λ e. absurd (cc)) some b c
 
 -- the handle of a reference in a class place
 class_handle_goes : (r : Seen) (o : Owner) (k : ℕ) → r.owner ≡ o
@@ -144,8 +145,8 @@ pub class_handle_taken : (gate : Gate) (n : ℕ) (found : Bool) (old mid new : S
     → Tells (class_handle_reason (plain_gate mid) (label_at (class_handle_at (goal_owner mid.owner)) (suc (length mid.frames)) mid) (goal_owner mid.owner) n)
     (owner_state mid (chain_at mid.table.entries (n - 0x7E0000))) found mid new
     → open_phase old ≡ phase.ClassHandle → 0 < length taken → IsNumber 4 n (cut_of old ++ taken)
-    → Counts taken old mid → (found ≡ true → new.table.max ≡ mid.table.max) → Takes gate taken found old new
-class_handle_taken gate n found old mid new taken h ep some b c em =
+    → Counts taken old mid → Takes gate taken found old new
+class_handle_taken gate n found old mid new taken h ep some b c =
     let told = class_handle_reason (plain_gate mid) (label_at (class_handle_at (goal_owner mid.owner)) (suc (length mid.frames)) mid) (goal_owner mid.owner) n in
     let next = owner_state mid (chain_at mid.table.entries (n - 0x7E0000)) in
     number_taken gate phase.ClassHandle n told next found old mid new taken (λ s r. h)
@@ -154,7 +155,7 @@ class_handle_taken gate n found old mid new taken h ep some b c em =
     (class_handle_reason (plain_gate mid) (label_at (class_handle_at (goal_owner mid.owner)) (suc (length mid.frames)) mid) (goal_owner mid.owner)) b)
     (ap (λ k. Some (handle_field (k - 0x7E0000))) b.number)
     (λ _. ap (λ t. settled (advance t (handle_field (n - 0x7E0000)))) r ∙ class_handle_goes mid mid.owner (n - 0x7E0000) refl))
-    ep tt (λ e. absurd (cc)) some b c em
+    ep tt (λ e. absurd (cc)) some b c
 
 -- the handle of a reference in a superclass place
 super_handle_goes : (r : Seen) (fs : List Frame) (k : ℕ) → HasDescriptor fs → r.frames ≡ fs
@@ -170,8 +171,8 @@ super_handle_goes r [] k n e = absurd n
 pub super_handle_taken : (gate : Gate) (n : ℕ) (found : Bool) (old mid new : Seen) (taken : List ℕ)
     → (HasDescriptor mid.frames → Tells (super_handle_reason mid n) (closed_state mid (Some (n - 0x7E0000))) found mid new)
     → open_phase old ≡ phase.SuperHandle → 0 < length taken → IsNumber 4 n (cut_of old ++ taken)
-    → Counts taken old mid → (found ≡ true → new.table.max ≡ mid.table.max) → Takes gate taken found old new
-super_handle_taken gate n found old mid new taken h ep some b c em =
+    → Counts taken old mid → Takes gate taken found old new
+super_handle_taken gate n found old mid new taken h ep some b c =
     let told = super_handle_reason mid n in
     let next = closed_state mid (Some (n - 0x7E0000)) in
     number_taken gate phase.SuperHandle n told next found old mid new taken (λ s r. h r.0)
@@ -179,22 +180,23 @@ super_handle_taken gate n found old mid new taken h ep some b c em =
     (on_whole 4 n (cut_of old ++ taken) (super_handle_reason mid) b)
     (ap (λ k. Some (handle_field (k - 0x7E0000))) b.number)
     (λ _. ap (λ t. settled (advance t (handle_field (n - 0x7E0000)))) r.1 ∙ super_handle_goes mid mid.frames (n - 0x7E0000) r.0 refl))
-    ep tt (λ e. absurd (cc)) some b c em
+    ep tt (λ e. absurd (cc)) some b c
 
 -- the handle of a reference in a text place
 pub text_handle_taken : (gate : Gate) (n : ℕ) (found : Bool) (old mid new : Seen) (taken : List ℕ)
-    → Tells (text_handle_reason (label_at text_handle_at (text_depth mid mid.text) mid) n) (settle (moment_of mid) (text_rest mid mid.text)) found mid new
+    → (IsForm mid.text true → IsInside mid.text mid.frames
+    → TellsSurely (text_handle_reason (label_at text_handle_at (text_depth mid mid.text) mid) n) (settle (moment_of mid) (text_rest mid mid.text)) found mid new)
     → open_phase old ≡ phase.TextHandle → 0 < length taken → IsNumber 4 n (cut_of old ++ taken)
-    → Counts taken old mid → (found ≡ true → new.table.max ≡ mid.table.max) → Takes gate taken found old new
-text_handle_taken gate n found old mid new taken h ep some b c em =
+    → Counts taken old mid → Takes gate taken found old new
+text_handle_taken gate n found old mid new taken h ep some b c =
     let told = text_handle_reason (label_at text_handle_at (text_depth mid mid.text) mid) n in
     let next = settle (moment_of mid) (text_rest mid mid.text) in
-    number_taken gate phase.TextHandle n told next found old mid new taken (λ s r. h)
+    number_taken gate phase.TextHandle n told next found old mid new taken (λ s r. tells_surely told next found mid new (h r.0 r.1))
     (λ s r e. number_judged gate phase.TextHandle mid s n (cut_of old ++ taken) told next (handle_field (n - 0x7E0000)) tt r e b
     (on_whole 4 n (cut_of old ++ taken) (text_handle_reason (label_at text_handle_at (text_depth mid mid.text) mid)) b)
     (ap (λ k. Some (handle_field (k - 0x7E0000))) b.number)
-    (λ _. ap (λ t. settled (advance t (handle_field (n - 0x7E0000)))) r))
-    ep tt (λ e. absurd (cc)) some b c em
+    (λ _. ap (λ t. settled (advance t (handle_field (n - 0x7E0000)))) r.2))
+    ep tt (λ e. absurd (cc)) some b c
 
 -- ---- lengths and counts
 
@@ -202,9 +204,9 @@ text_handle_taken gate n found old mid new taken h ep some b c em =
 pub array_length_taken : (gate : Gate) (n : ℕ) (found : Bool) (old mid new : Seen) (taken : List ℕ)
     → ((elements : Option PrimCode) → mid.elements ≡ option_map size_of elements → Tells (array_reason (plain_gate mid) n) (after_length mid elements n) found mid new)
     → open_phase old ≡ phase.ArrayLength → 0 < length taken → IsNumber 4 n (cut_of old ++ taken)
-    → Counts taken old mid → (found ≡ true → new.table.max ≡ mid.table.max) → Takes gate taken found old new
+    → Counts taken old mid → Takes gate taken found old new
 unfolding Takes after_length
-array_length_taken gate n found old mid new taken h ep some b c em = λ s cut st.
+array_length_taken gate n found old mid new taken h ep some b c = λ s cut st.
     let r = is_open phase.ArrayLength old (settled s) cut st.stands ep (omega arith) in
     let ready : LengthReady mid (settled s) = ready_counted phase.ArrayLength taken old mid (settled s) c (omega arith) r.ready in
     fixed_took gate phase.ArrayLength (array_reason (plain_gate mid) n) (after_length mid ready.elements n) found old mid new taken s cut st
@@ -212,122 +214,107 @@ array_length_taken gate n found old mid new taken h ep some b c em = λ s cut st
     (λ r e. number_judged gate phase.ArrayLength mid (settled s) n (cut_of old ++ taken) (array_reason (plain_gate mid) n) (after_length mid ready.elements n)
     (array_length_field n) tt r e b (on_whole 4 n (cut_of old ++ taken) (array_reason (plain_gate mid)) b)
     (ap (λ k. Some (array_length_field k)) b.number) (λ _. ap (λ t. settled (advance t (array_length_field n))) ready.is))
-    ep tt some (let l = number_long 4 n (cut_of old ++ taken) b in omega arith) (λ _ a c d e. tt) c em
+    ep tt some (let l = number_long 4 n (cut_of old ++ taken) b in omega arith) (λ _ a c d e. tt) c
 
 -- the length of a block
 pub block_length_taken : (gate : Gate) (n : ℕ) (found : Bool) (old mid new : Seen) (taken : List ℕ)
     → TellsSurely (count_reason (2 ^ 31) n) (after_block_length mid n) found mid new
     → open_phase old ≡ phase.BlockLength4 → 0 < length taken → IsNumber 4 n (cut_of old ++ taken)
-    → Counts taken old mid → (found ≡ true → new.table.max ≡ mid.table.max) → Takes gate taken found old new
+    → Counts taken old mid → Takes gate taken found old new
 unfolding after_block_length
-block_length_taken gate n found old mid new taken h ep some b c em =
+block_length_taken gate n found old mid new taken h ep some b c =
     let told = count_reason (2 ^ 31) n in
     number_taken gate phase.BlockLength4 n told (after_block_length mid n) found old mid new taken
     (λ s r. tells_surely told (after_block_length mid n) found mid new h)
     (λ s r e. number_judged gate phase.BlockLength4 mid s n (cut_of old ++ taken) told (after_block_length mid n) (block_length_field true n) tt r e b
     (on_whole 4 n (cut_of old ++ taken) (count_reason (2 ^ 31)) b)
     (ap (λ k. Some (block_length_field true k)) b.number) (λ _. ap (λ t. settled (advance t (block_length_field true n))) r))
-    ep tt (λ e. absurd (cc)) some b c em
+    ep tt (λ e. absurd (cc)) some b c
 
 -- the length of a short block, of one byte
 pub byte_length_taken : (gate : Gate) (n : ℕ) (found : Bool) (old mid new : Seen)
     → TellsSurely None (after_block_length mid n) found mid new
-    → old.phase ≡ phase.BlockLength1 → Counts (n ∷ []) old mid → (found ≡ true → new.table.max ≡ mid.table.max) → Takes gate (n ∷ []) found old new
+    → old.phase ≡ phase.BlockLength1 → Counts (n ∷ []) old mid → Takes gate (n ∷ []) found old new
 unfolding after_block_length
-byte_length_taken gate n found old mid new h ep c em =
+byte_length_taken gate n found old mid new h ep c =
     let one : n * 256 ^ 0 + 0 ≡ n = omega arith in
     byte_taken gate phase.BlockLength1 None (after_block_length mid n) found old mid new n
     (λ s r. tells_surely None (after_block_length mid n) found mid new h)
     (λ s r e. byte_judged gate phase.BlockLength1 mid s n None (after_block_length mid n) (block_length_field false n) tt r e refl refl
     (ap (λ k. Some (block_length_field false k)) one) (λ _. ap (λ t. settled (advance t (block_length_field false n))) r))
-    (ap (λ q. open_in q old.meter.cut_phase) ep) (ap (λ q. cut_in q old.meter.kept) ep) tt (λ e. absurd (cc)) c em
+    (ap (λ q. open_in q old.meter.cut_phase) ep) (ap (λ q. cut_in q old.meter.kept) ep) tt (λ e. absurd (cc)) c
 
 -- ---- a descriptor
 
 -- the suid of a plain descriptor, whose handle it assigns
 pub suid_taken : (gate : Gate) (n : ℕ) (found : Bool) (old mid new : Seen) (taken : List ℕ)
-    → Tells (told_if (is_full mid) handle_space None)
-    (assign (moment_of mid) pending_entry, flags_goal (head_role mid) (depth_of mid) (next_number (moment_of mid)) (name_kind_of mid.header.kind) ∷ header_goals mid (next_number (moment_of mid))) found mid new
+    → Tells (told_if (is_full mid) handle_space None) (after_suid mid) found mid new
     → open_phase old ≡ phase.Suid → 0 < length taken → IsNumber 8 n (cut_of old ++ taken)
-    → Counts taken old mid → (found ≡ true → new.table.max ≡ mid.table.max) → Takes gate taken found old new
-suid_taken gate n found old mid new taken h ep some b c em =
+    → Counts taken old mid → Takes gate taken found old new
+unfolding after_suid
+suid_taken gate n found old mid new taken h ep some b c =
     let told = told_if (is_full mid) handle_space None in
-    let next : State = (assign (moment_of mid) pending_entry, flags_goal (head_role mid) (depth_of mid) (next_number (moment_of mid)) (name_kind_of mid.header.kind) ∷ header_goals mid (next_number (moment_of mid))) in
+    let next : State = after_suid mid in
     number_taken gate phase.Suid n told next found old mid new taken (λ s r. h)
     (λ s r e. number_judged gate phase.Suid mid s n (cut_of old ++ taken) told next (suid_field n) tt r e b
     (on_whole 8 n (cut_of old ++ taken) (λ n. told_if (is_full mid) handle_space None) b)
     (ap (λ k. Some (suid_field k)) b.number) (λ _. ap (λ t. settled (advance t (suid_field n))) r))
-    ep tt (λ e. absurd (cc)) some b c em
+    ep tt (λ e. absurd (cc)) some b c
 
 -- its flags
 pub flags_taken : (gate : Gate) (n : ℕ) (found : Bool) (old mid new : Seen)
-    → Tells (flags_reason (head_role mid) n)
-    (moment_of mid, field_count_goal (head_role mid) (depth_of mid) mid.header.number (name_kind_of mid.header.kind) n ∷ header_goals mid mid.header.number) found mid new
-    → old.phase ≡ phase.Flags → Counts (n ∷ []) old mid → (found ≡ true → new.table.max ≡ mid.table.max) → Takes gate (n ∷ []) found old new
-flags_taken gate n found old mid new h ep c em =
-    let told = flags_reason (head_role mid) n in
-    let next : State = (moment_of mid, field_count_goal (head_role mid) (depth_of mid) mid.header.number (name_kind_of mid.header.kind) n ∷ header_goals mid mid.header.number) in
-    byte_taken gate phase.Flags told next found old mid new n (λ s r. h)
-    (λ s r e. byte_judged gate phase.Flags mid s n told next (flags_field n) tt r e refl refl refl (λ _. ap (λ t. settled (advance t (flags_field n))) r))
-    (ap (λ q. open_in q old.meter.cut_phase) ep) (ap (λ q. cut_in q old.meter.kept) ep) tt (λ e. absurd (cc)) c em
+    → (HasDescriptor mid.frames → Tells (flags_reason (top_role mid.frames) n) (field_count_state mid n) found mid new)
+    → old.phase ≡ phase.Flags → Counts (n ∷ []) old mid → Takes gate (n ∷ []) found old new
+flags_taken gate n found old mid new h ep c =
+    let told = flags_reason (top_role mid.frames) n in
+    let next : State = field_count_state mid n in
+    byte_taken gate phase.Flags told next found old mid new n (λ s r. h r.0)
+    (λ s r e. byte_judged gate phase.Flags mid s n told next (flags_field n) tt r e refl refl refl (λ _. ap (λ t. settled (advance t (flags_field n))) r.1))
+    (ap (λ q. open_in q old.meter.cut_phase) ep) (ap (λ q. cut_in q old.meter.kept) ep) tt (λ e. absurd (cc)) c
 
 -- the number of its fields
 pub field_count_taken : (gate : Gate) (n : ℕ) (found : Bool) (old mid new : Seen) (taken : List ℕ)
-    → Tells (count_reason (2 ^ 15) n)
-    (settle (moment_of mid) (fields_goal (head_role mid) (depth_of mid) mid.header.number (name_kind_of mid.header.kind) mid.header.flags false [] n ∷ header_goals mid mid.header.number)) found mid new
+    → (HasDescriptor mid.frames → Tells (count_reason (2 ^ 15) n) (after_field_count mid n) found mid new)
     → open_phase old ≡ phase.FieldCount → 0 < length taken → IsNumber 2 n (cut_of old ++ taken)
-    → Counts taken old mid → (found ≡ true → new.table.max ≡ mid.table.max) → Takes gate taken found old new
-field_count_taken gate n found old mid new taken h ep some b c em =
+    → Counts taken old mid → Takes gate taken found old new
+unfolding after_field_count
+field_count_taken gate n found old mid new taken h ep some b c =
     let told = count_reason (2 ^ 15) n in
-    let next = settle (moment_of mid) (fields_goal (head_role mid) (depth_of mid) mid.header.number (name_kind_of mid.header.kind) mid.header.flags false [] n ∷ header_goals mid mid.header.number) in
-    number_taken gate phase.FieldCount n told next found old mid new taken (λ s r. h)
+    let next = after_field_count mid n in
+    number_taken gate phase.FieldCount n told next found old mid new taken (λ s r. h r.0)
     (λ s r e. number_judged gate phase.FieldCount mid s n (cut_of old ++ taken) told next (field_count_field n) tt r e b
     (on_whole 2 n (cut_of old ++ taken) (count_reason (2 ^ 15)) b)
-    (ap (λ k. Some (field_count_field k)) b.number) (λ _. ap (λ t. settled (advance t (field_count_field n))) r))
-    ep tt (λ e. absurd (cc)) some b c em
+    (ap (λ k. Some (field_count_field k)) b.number) (λ _. ap (λ t. settled (advance t (field_count_field n))) r.1))
+    ep tt (λ e. absurd (cc)) some b c
 
 -- the type code of a field: its name comes next, and its type text, if it has one
-code_goes : (r : Seen) (n b : ℕ) → 0 < n
-    → settled (advance (moment_of r, fields_goals r n) (code_field b)) ≡ (
-      moment_of r,
-      field_name_goal (length r.frames) ∷ type_goals (is_object_code b) (length r.frames)
-          (fields_goal (field_role r) (length r.frames) r.header.number (name_kind_of r.header.kind) r.header.flags (r.header.seen || is_object_code b) (b ∷ reverse r.header.codes) (n - 1) ∷ opened_goals r.table.chains r.layers r.frames),
-    )
-code_goes r zero b h = absurd (omega arith)
-code_goes r (suc n) b h = let d : suc n - 1 ≡ n = omega arith in rw d refl
+code_goes : (r : Seen) (n b : ℕ) → r.header.fields ≡ n → 0 < n → settled (advance (moment_of r, fields_goals r n) (code_field b)) ≡ after_code r b
+unfolding after_code
+code_goes r zero b e h = absurd (omega arith)
+code_goes r (suc n) b e h = let d : suc n - 1 ≡ n = omega arith in rw e (rw d refl)
 
 pub type_code_taken : (gate : Gate) (b : ℕ) (found : Bool) (old mid new : Seen)
-    → (0 < mid.header.fields → Tells (code_reason mid.header.seen b) (
-      moment_of mid,
-      field_name_goal (length mid.frames) ∷ type_goals (is_object_code b) (length mid.frames)
-          (fields_goal (field_role mid) (length mid.frames) mid.header.number (name_kind_of mid.header.kind) mid.header.flags (mid.header.seen || is_object_code b) (b ∷ reverse mid.header.codes) (mid.header.fields - 1)
-          ∷ opened_goals mid.table.chains mid.layers mid.frames),
-    ) found mid new)
-    → old.phase ≡ phase.TypeCode → Counts (b ∷ []) old mid → (found ≡ true → new.table.max ≡ mid.table.max) → Takes gate (b ∷ []) found old new
-type_code_taken gate b found old mid new h ep c em =
+    → (HasDescriptor mid.frames → 0 < mid.header.fields → Tells (code_reason mid.header.seen b) (after_code mid b) found mid new)
+    → old.phase ≡ phase.TypeCode → Counts (b ∷ []) old mid → Takes gate (b ∷ []) found old new
+type_code_taken gate b found old mid new h ep c =
     let told = code_reason mid.header.seen b in
-    let next : State = (
-      moment_of mid,
-      field_name_goal (length mid.frames) ∷ type_goals (is_object_code b) (length mid.frames)
-          (fields_goal (field_role mid) (length mid.frames) mid.header.number (name_kind_of mid.header.kind) mid.header.flags (mid.header.seen || is_object_code b) (b ∷ reverse mid.header.codes) (mid.header.fields - 1)
-          ∷ opened_goals mid.table.chains mid.layers mid.frames),
-    ) in
-    byte_taken gate phase.TypeCode told next found old mid new b (λ s r. h r.0)
+    let next : State = after_code mid b in
+    byte_taken gate phase.TypeCode told next found old mid new b (λ s r. h r.0 r.1)
     (λ s r e. byte_judged gate phase.TypeCode mid s b told next (code_field b) tt r e refl refl refl
-    (λ _. ap (λ t. settled (advance t (code_field b))) r.1 ∙ code_goes mid mid.header.fields b r.0))
-    (ap (λ q. open_in q old.meter.cut_phase) ep) (ap (λ q. cut_in q old.meter.kept) ep) tt (λ e. absurd (cc)) c em
+    (λ _. ap (λ t. settled (advance t (code_field b))) r.2 ∙ code_goes mid mid.header.fields b refl r.1))
+    (ap (λ q. open_in q old.meter.cut_phase) ep) (ap (λ q. cut_in q old.meter.kept) ep) tt (λ e. absurd (cc)) c
 
 -- the number of interfaces of a proxy descriptor
 pub interface_count_taken : (gate : Gate) (n : ℕ) (found : Bool) (old mid new : Seen) (taken : List ℕ)
-    → Tells (count_reason (2 ^ 31) n)
-    (settle (moment_of mid) (interfaces_goal (head_role mid) (depth_of mid) mid.header.number n ∷ header_goals mid mid.header.number)) found mid new
+    → (HasDescriptor mid.frames → Tells (count_reason (2 ^ 31) n) (after_interfaces mid n) found mid new)
     → open_phase old ≡ phase.InterfaceCount → 0 < length taken → IsNumber 4 n (cut_of old ++ taken)
-    → Counts taken old mid → (found ≡ true → new.table.max ≡ mid.table.max) → Takes gate taken found old new
-interface_count_taken gate n found old mid new taken h ep some b c em =
+    → Counts taken old mid → Takes gate taken found old new
+unfolding after_interfaces
+interface_count_taken gate n found old mid new taken h ep some b c =
     let told = count_reason (2 ^ 31) n in
-    let next = settle (moment_of mid) (interfaces_goal (head_role mid) (depth_of mid) mid.header.number n ∷ header_goals mid mid.header.number) in
-    number_taken gate phase.InterfaceCount n told next found old mid new taken (λ s r. h)
+    let next = after_interfaces mid n in
+    number_taken gate phase.InterfaceCount n told next found old mid new taken (λ s r. h r.0)
     (λ s r e. number_judged gate phase.InterfaceCount mid s n (cut_of old ++ taken) told next (interface_count_field n) tt r e b
     (on_whole 4 n (cut_of old ++ taken) (count_reason (2 ^ 31)) b)
-    (ap (λ k. Some (interface_count_field k)) b.number) (λ _. ap (λ t. settled (advance t (interface_count_field n))) r))
-    ep tt (λ e. absurd (cc)) some b c em
+    (ap (λ k. Some (interface_count_field k)) b.number) (λ _. ap (λ t. settled (advance t (interface_count_field n))) r.1))
+    ep tt (λ e. absurd (cc)) some b c

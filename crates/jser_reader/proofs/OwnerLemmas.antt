@@ -21,7 +21,7 @@ use Rattle.jser_reader.specs.Stacks.{tail_of}
 use Rattle.jser_reader.specs.Fitting.{AllFit}
 use Rattle.jser_reader.specs.Frames.{frame_goals}
 use Rattle.jser_reader.specs.Readers.{Seen, Ready, moment_of, goals_of, depth_of}
-use Rattle.jser_reader.specs.Steps.{before_parts, PartGives, after_value}
+use Rattle.jser_reader.specs.Steps.{Kept, before_parts, PartGives, after_value}
 use Rattle.jser_reader.specs.Handlers.{StopsWith, moved, Comes, Tells, TellCases, IsNext, Assigns, added, with_entry, is_full, Pushes, pushed, object_state, BeginsObject, owner_state_at, owner_state}
 use Rattle.jser_reader.proofs.PartLemmas.{made}
 use Rattle.jser_reader.proofs.EndLemmas.{next_is, tells_next}
@@ -81,17 +81,17 @@ external_object chain false found old mid new h e et x ep ef ey eb er em = absur
 external_object chain true found old mid new h e et x ep ef ey eb er em =
     let made_new = made new phase.Note (frame.ExternalNotes ∷ old.frames) old.layers old.table old.refs new.left ep
     (ef ∙ ap (λ r. r.frames) h) (ey ∙ ap (λ r. r.layers) h) (eb ∙ ap (λ r. r.table) h) (er ∙ ap (λ r. r.refs) h) refl in
-    rw et (rw x (rw made_new (tt, refl), em ∙ ap (λ r. r.meter) h))
+    rw et (rw x (rw made_new (tt, refl), em ∙ ap (λ r. r.meter) h, ap (λ t. t.max) eb ∙ ap (λ r. r.table.max) h))
 
 pub bare_object : (C : List (List Layer)) (chain : List Layer) (found : Bool) (old new : Seen) → AreSections C chain None → found ≡ true → is_external chain ≡ false
-    → Ready new (after_value old) → new.meter ≡ old.meter → BeginsObject chain found old new
+    → Ready new (after_value old) → new.meter ≡ old.meter → Kept old new → BeginsObject chain found old new
 unfolding BeginsObject object_state after_value
-bare_object C chain found old new none et x ready em =
+bare_object C chain found old new none et x ready em kept =
     let parts : object_parts (is_external chain) chain ≡ [] =
     ap (λ b. object_parts b chain) x ∙ sym (filled_parts chain) ∙ ap section_parts none in
     let same : after_value old ≡ object_state old chain =
     sym (ap (λ ps. settle (moment_of old) (parts_goal (depth_of old) ps ∷ goals_of old)) parts) in
-    rw et (subst (Ready new) same ready, em)
+    rw et (subst (Ready new) same ready, em, ap (λ t. t.max) kept.table)
 
 pub filled_object : (chain : List Layer) (sections : Sections) (b found : Bool) (old mid new : Seen)
     → PartGives true mid new (section_parts (layer_of mid.table.chains sections.first ∷ under mid.table.chains sections.last sections.first))
@@ -107,7 +107,7 @@ filled_object chain sections true found old mid new p h e et x are em =
     ≡ before_parts old old.frames (section_parts (layer_of C sections.first ∷ under C sections.last sections.first)) =
     ap (λ r. before_parts r (tail_of r.frames) (section_parts (layer_of r.table.chains sections.first ∷ under r.table.chains sections.last sections.first))) h in
     let same = at_mid ∙ sym (ap (λ ps. settle (moment_of old) (parts_goal (depth_of old) ps ∷ goals_of old)) parts) in
-    rw et (subst (Ready new) same p.0, em ∙ ap (λ r. r.meter) h)
+    rw et (subst (Ready new) same p.0, em ∙ ap (λ r. r.meter) h, ap (λ t. t.max) p.1.table ∙ ap (λ r. r.table.max) h)
 
 pub object_comes : (chain : List Layer) (b : Bool) (old mid new : Seen) → BeginsObject chain b mid new → b ≡ true
     → mid.frames ≡ old.frames → mid.layers ≡ old.layers → mid.table ≡ old.table → mid.refs ≡ old.refs → mid.meter ≡ moved old.meter
@@ -116,14 +116,14 @@ unfolding BeginsObject
 object_comes chain false old mid new h e ef ey et er em = absurd (cc)
 object_comes chain true old mid new h e ef ey et er em =
     tells_next None (object_state old chain) true old new
-    (record { ready = subst (Ready new) (same_object old mid chain ef ey et er) h.0; meter = h.1 ∙ em }) refl refl
+    (record { ready = subst (Ready new) (same_object old mid chain ef ey et er) h.0; meter = h.1 ∙ em; max = h.2 ∙ ap (λ t. t.max) et }) refl refl
 
 pub object_begins : (chain : List Layer) (b : Bool) (old mid new : Seen) → BeginsObject chain b mid new
     → mid.frames ≡ old.frames → mid.layers ≡ old.layers → mid.table ≡ old.table → mid.refs ≡ old.refs → mid.meter ≡ moved old.meter
     → Tells None (object_state old chain) b old new
 unfolding BeginsObject Tells
 object_begins chain false old mid new h ef ey et er em = record { phase = h.phase; stop = h.stop }
-object_begins chain true old mid new h ef ey et er em = record { ready = subst (Ready new) (same_object old mid chain ef ey et er) h.0; meter = h.1 ∙ em }
+object_begins chain true old mid new h ef ey et er em = record { ready = subst (Ready new) (same_object old mid chain ef ey et er) h.0; meter = h.1 ∙ em; max = h.2 ∙ ap (λ t. t.max) et }
 
 -- owners
 
@@ -139,7 +139,7 @@ owned o number chain b old mid new h eo k =
     subst (λ t. TellCases t (owner_state_at old.owner old chain) b old new) (sym told) (subst (λ s. TellCases None s b old new) same (from_old b k))
   where
     from_old : (b : Bool) → TellCases None (owner_state_at o old chain) b mid new → TellCases None (owner_state_at o old chain) b old new
-    from_old true k = record { ready = k.ready; meter = k.meter ∙ ap (λ r. moved r.meter) h.2 }
+    from_old true k = record { ready = k.ready; meter = k.meter ∙ ap (λ r. moved r.meter) h.2; max = k.max ∙ ap (λ r. r.table.max) h.2 }
     from_old false k = record { phase = k.phase; stop = k.stop }
 
 pub object_owned : (number n : ℕ) (b : Bool) (old mid new : Seen) → Tells None (object_state mid (chain_in mid.table.chains n)) b mid new
@@ -161,7 +161,7 @@ array_owned number n b old mid new k e h eo =
     rw (next_is phase.ArrayLength mid.owner (option_map size_of (elements_of (chain_in mid.table.chains n))) mid.header mid.text mid new k)
     (rw h.2 (record { elements = E; is = refl; size = refl })) in
     owned owner.Array number (chain_in old.table.chains n) b old mid new h (sym (ap (λ r. r.owner) h.2) ∙ eo)
-    (tells_next None (owner_state_at owner.Array old (chain_in old.table.chains n)) b mid new (record { ready = ready; meter = k.meter }) e refl)
+    (tells_next None (owner_state_at owner.Array old (chain_in old.table.chains n)) b mid new (record { ready = ready; meter = k.meter; max = ap (λ t. t.max) k.table }) e refl)
 
 pub constant_owned : (number : ℕ) (chain : List Layer) (b : Bool) (old mid new : Seen) → IsNext phase.TextTag mid.owner mid.elements mid.header text.Value mid new → b ≡ true
     → Assigns other_entry (Some number) old mid → mid.owner ≡ owner.EnumConst
@@ -169,9 +169,9 @@ pub constant_owned : (number : ℕ) (chain : List Layer) (b : Bool) (old mid new
 unfolding Assigns Ready
 constant_owned number chain b old mid new k e h eo =
     let ready : Ready new (owner_state_at owner.EnumConst old chain) =
-    rw (next_is phase.TextTag mid.owner mid.elements mid.header text.Value mid new k) (rw h.2 refl) in
+    rw (next_is phase.TextTag mid.owner mid.elements mid.header text.Value mid new k) (rw h.2 (tt, tt, refl)) in
     owned owner.EnumConst number chain b old mid new h (sym (ap (λ r. r.owner) h.2) ∙ eo)
-    (tells_next None (owner_state_at owner.EnumConst old chain) b mid new (record { ready = ready; meter = k.meter }) e refl)
+    (tells_next None (owner_state_at owner.EnumConst old chain) b mid new (record { ready = ready; meter = k.meter; max = ap (λ t. t.max) k.table }) e refl)
 
 pub class_owned : (number : ℕ) (chain : List Layer) (b : Bool) (old mid new : Seen) → Comes mid new (after_value mid) → b ≡ true
     → Assigns other_entry (Some number) old mid → mid.owner ≡ owner.ClassObject
@@ -180,7 +180,7 @@ unfolding Assigns after_value
 class_owned number chain b old mid new k e h eo =
     let same : after_value mid ≡ owner_state_at owner.ClassObject old chain = ap (λ r. settle (moment_of r) (goals_of r)) h.2 in
     owned owner.ClassObject number chain b old mid new h (sym (ap (λ r. r.owner) h.2) ∙ eo)
-    (tells_next None (owner_state_at owner.ClassObject old chain) b mid new (record { ready = subst (Ready new) same k.ready; meter = k.meter }) e refl)
+    (tells_next None (owner_state_at owner.ClassObject old chain) b mid new (record { ready = subst (Ready new) same k.ready; meter = k.meter; max = k.max }) e refl)
 
 -- the state after a class depends on the stack, the table and the count of places alone
 pub same_owner_state : (o : Owner) (chain : List Layer) (old mid : Seen) → mid.frames ≡ old.frames → mid.layers ≡ old.layers → mid.table ≡ old.table → mid.refs ≡ old.refs

@@ -21,7 +21,7 @@ use Rattle.jser_reader.specs.Steps.{Kept, before_parts, PartGives, after_value, 
 -- what is seen of a machine whose phase, stack, table and counters are these
 pub made : (new : Seen) (p : Phase) (fs : List Frame) (ls : List Layer) (T : TableView) (refs left : ℕ)
     → new.phase ≡ p → new.frames ≡ fs → new.layers ≡ ls → new.table ≡ T → new.refs ≡ refs → new.left ≡ left
-    → new ≡ record { meter = new.meter; phase = p; frames = fs; layers = ls; table = T; refs = refs; owner = new.owner; elements = new.elements; header = new.header; text = new.text; left = left; scan = new.scan }
+    → new ≡ record { meter = new.meter; phase = p; frames = fs; layers = ls; table = T; refs = refs; owner = new.owner; elements = new.elements; header = new.header; text = new.text; left = left; scan = new.scan; name = new.name }
 made new p fs ls T refs left ep ef ey et er el = rw (← ep) (rw (← ef) (rw (← ey) (rw (← et) (rw (← er) (rw (← el) refl)))))
 
 values_step : (n : ℕ) (parts : List Part) → 0 < n → value_parts n parts ≡ value_part ∷ value_parts (n - 1) parts

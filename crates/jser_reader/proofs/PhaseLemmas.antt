@@ -22,7 +22,7 @@ use Rattle.jser_reader.specs.declared.phase.Phase.TheVariants as phase
 use Rattle.jser_reader.specs.declared.phase.TextFor.{TextFor}
 use Rattle.jser_reader.specs.declared.phase.TextFor.TheVariants as text
 use Rattle.jser_reader.specs.Frames.{goal_owner, chain_owner}
-use Rattle.jser_reader.specs.Readers.{Seen, Meter, moment_of, goals_of, head_role, fields_goals, text_depth, text_rest, text_goal, IsForm, HasNotes, HasPart, value_goals, superclass_goals, superclass_handle_goals, ReadyAt}
+use Rattle.jser_reader.specs.Readers.{Seen, Meter, moment_of, goals_of, head_role, top_role, fields_goals, text_depth, text_rest, text_goal, IsForm, HasNotes, HasPart, value_goals, superclass_goals, superclass_handle_goals, ReadyAt}
 use Rattle.jser_reader.specs.Fitting.{HasDescriptor}
 use Rattle.jser_reader.specs.Handlers.{label_at}
 use Rattle.jser_reader.specs.Superclasses.{strict_in}
@@ -55,7 +55,7 @@ phase_position phase.ClassHandle r = class_handle_at (goal_owner r.owner)
 phase_position phase.SuperHandle r = superclass_handle_at (chain_owner r.frames) (strict_in r.layers r.frames)
 phase_position phase.TextHandle r = text_handle_at
 phase_position phase.Suid r = suid_at
-phase_position phase.Flags r = flags_at (head_role r)
+phase_position phase.Flags r = flags_at (top_role r.frames)
 phase_position phase.FieldCount r = field_count_at
 phase_position phase.TypeCode r = type_code_at r.header.seen
 phase_position phase.InterfaceCount r = interface_count_at
@@ -69,7 +69,10 @@ phase_depth phase.Header r = 0
 phase_depth phase.Top r = 1
 phase_depth phase.TextTag r = text_depth r r.text
 phase_depth phase.TextHandle r = text_depth r r.text
+phase_depth phase.Flags r = length r.frames
+phase_depth phase.FieldCount r = length r.frames
 phase_depth phase.TypeCode r = length r.frames
+phase_depth phase.InterfaceCount r = length r.frames
 phase_depth phase.BlockLength1 r = length r.frames
 phase_depth phase.BlockLength4 r = length r.frames
 phase_depth _ r = suc (length r.frames)
@@ -121,16 +124,16 @@ label_is phase.Note r s i h = ap label_of h.1 ∙ note_label r r.frames h.0 refl
 label_is phase.Value r s i h = ap label_of h.1 ∙ value_label r r.frames h.0 refl
 label_is phase.ClassTag r s i h = ap label_of h
 label_is phase.SuperTag r s i h = ap label_of h.1 ∙ super_label r r.frames h.0 refl
-label_is phase.TextTag r s i h = ap label_of h
+label_is phase.TextTag r s i h = ap label_of h.2
 label_is phase.BackHandle r s i h = ap label_of h
 label_is phase.ClassHandle r s i h = ap label_of h
 label_is phase.SuperHandle r s i h = ap label_of h.1 ∙ super_handle_label r r.frames h.0 refl
-label_is phase.TextHandle r s i h = ap label_of h
+label_is phase.TextHandle r s i h = ap label_of h.2
 label_is phase.Suid r s i h = ap label_of h
-label_is phase.Flags r s i h = ap label_of h
-label_is phase.FieldCount r s i h = ap label_of h
-label_is phase.TypeCode r s i h = ap label_of h.1 ∙ code_label r r.header.fields h.0
-label_is phase.InterfaceCount r s i h = ap label_of h
+label_is phase.Flags r s i h = ap label_of h.1
+label_is phase.FieldCount r s i h = ap label_of h.1
+label_is phase.TypeCode r s i h = ap label_of h.2 ∙ code_label r r.header.fields h.1
+label_is phase.InterfaceCount r s i h = ap label_of h.1
 label_is phase.ArrayLength r s i h = ap label_of h.is
 label_is phase.BlockLength1 r s i h = ap label_of h
 label_is phase.BlockLength4 r s i h = ap label_of h
@@ -159,7 +162,7 @@ quiet_phase g l phase.SuperHandle r bytes i k right =
     number_front 4 bytes (superclass_handle_reason g l (chain_owner r.frames) (strict_in r.layers r.frames)) k
 quiet_phase g l phase.TextHandle r bytes i k right = number_front 4 bytes (text_handle_reason l) k
 quiet_phase g l phase.Suid r bytes i k right = number_front 8 bytes (λ n. told_if (is_full g l) handle_space None) k
-quiet_phase g l phase.Flags r bytes i k right = byte_front bytes (flags_reason (head_role r)) k
+quiet_phase g l phase.Flags r bytes i k right = byte_front bytes (flags_reason (top_role r.frames)) k
 quiet_phase g l phase.FieldCount r bytes i k right = number_front 2 bytes (count_reason (2 ^ 15)) k
 quiet_phase g l phase.TypeCode r bytes i k right = byte_front bytes (code_reason r.header.seen) k
 quiet_phase g l phase.InterfaceCount r bytes i k right = number_front 4 bytes (count_reason (2 ^ 31)) k
@@ -237,11 +240,11 @@ text_position r text.InterfaceName long = interface_name_at
 pub record IsTextOf (r : Seen) (long : Bool) (s : State) : Type 0 where
   pub position : (label_of s).position ≡ text_position r r.text long
   pub is_text : IsTextAt long (label_of s).position
-  pub some : r.text ≡ text.InterfaceName → 0 < r.header.fields
+  pub some : r.text ≡ text.InterfaceName → 0 < r.header.interfaces
 
 text_at : (t : TextFor) (r : Seen) (long : Bool) → IsForm t long → NoneIsZero (text_goal r t long ∷ text_rest r t)
     → ((label_of (moment_of r, text_goal r t long ∷ text_rest r t)).position ≡ text_position r t long) × IsTextAt long (text_position r t long)
-    × (t ≡ text.InterfaceName → 0 < r.header.fields)
+    × (t ≡ text.InterfaceName → 0 < r.header.interfaces)
 text_at text.Value r true f h = (refl, tt, λ e. absurd (cc))
 text_at text.Value r false f h = (refl, tt, λ e. absurd (cc))
 text_at text.FieldType r true f h = (refl, tt, λ e. absurd (cc))
@@ -251,11 +254,11 @@ text_at (text.FieldName is_object) r true f h = absurd f
 text_at text.ClassName r false f h = (refl, tt, λ e. absurd (cc))
 text_at text.ClassName r true f h = absurd f
 text_at text.InterfaceName r true f h = absurd f
-text_at text.InterfaceName r false f h = go r.header.fields refl h
+text_at text.InterfaceName r false f h = go r.header.interfaces refl h
   where
-    go : (n : ℕ) → r.header.fields ≡ n → NoneIsZero (text_goal r text.InterfaceName false ∷ text_rest r text.InterfaceName)
+    go : (n : ℕ) → r.header.interfaces ≡ n → NoneIsZero (text_goal r text.InterfaceName false ∷ text_rest r text.InterfaceName)
         → ((label_of (moment_of r, text_goal r text.InterfaceName false ∷ text_rest r text.InterfaceName)).position ≡ interface_name_at)
-        × IsTextAt false interface_name_at × (text.InterfaceName ≡ text.InterfaceName → 0 < r.header.fields)
+        × IsTextAt false interface_name_at × (text.InterfaceName ≡ text.InterfaceName → 0 < r.header.interfaces)
     go zero e h = absurd (rw e at h)
     go (suc n) e h = (rw e refl, tt, λ _. omega (arith, e))
 
@@ -325,6 +328,7 @@ same_but r meter phase left mid = record {
   text = r.text;
   left = left;
   scan = mid.scan;
+  name = mid.name;
 }
 
 pub counted_is : (bytes : List ℕ) (old mid : Seen) → Counts bytes old mid → mid ≡ same_but old mid.meter mid.phase mid.left mid

@@ -48,4 +48,4 @@ unfolding CountsPlace
 after_count false found others s old mid new h e k = absurd (cc)
 after_count true found others s old mid new h e k =
     let same : others ≡ with_limits old others = sym (ap (λ d. told_if d depth_exceeded (told_if (is_one_too_many old) refs_exceeded others)) h.1 ∙ ap (λ m. told_if m refs_exceeded others) h.2) in
-    subst (λ t. Tells t s found old new) same (tells_from others s s found old mid new k (ap (λ r. r.meter) h.0) refl)
+    subst (λ t. Tells t s found old new) same (tells_from others s s found old mid new k (ap (λ r. r.meter) h.0) (ap (λ r. r.table.max) h.0) refl)

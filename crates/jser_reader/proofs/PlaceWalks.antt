@@ -19,7 +19,7 @@ use Rattle.jser_reader.specs.declared.phase.TextFor.{TextFor}
 use Rattle.jser_reader.specs.declared.phase.TextFor.TheVariants as text
 use Rattle.jser_reader.specs.Frames.{goal_owner, chain_owner}
 use Rattle.jser_reader.specs.Fitting.{HasDescriptor}
-use Rattle.jser_reader.specs.Readers.{Seen, moment_of, depth_of, goals_of, text_depth, text_rest, IsForm, HasNotes, HasPart, value_goals, superclass_goals, ReadyAt}
+use Rattle.jser_reader.specs.Readers.{Seen, moment_of, depth_of, goals_of, text_depth, text_rest, IsForm, IsInside, HasNotes, HasPart, value_goals, superclass_goals, ReadyAt}
 use Rattle.jser_reader.specs.Handlers.{Tells, plain_gate, label_at, begin_counted, begun, after_tag, after_content, after_end, after_class_tag, opens_class, opens_proxy, opens_text}
 use Rattle.jser_reader.specs.Closing.{closed_state}
 use Rattle.jser_reader.specs.Superclasses.{strict_in, super_reason, after_super_tag}
@@ -85,12 +85,12 @@ top_judged gate r b s h e = record {
 
 pub top_taken : (gate : Gate) (b : ℕ) (found : Bool) (old mid new : Seen)
     → (mid.frames ≡ [] → Tells (content_reason (plain_gate mid) (label_at top_at 1 mid) b) (after_content mid (tag_from b)) found mid new)
-    → old.phase ≡ phase.Top → Counts (b ∷ []) old mid → (found ≡ true → new.table.max ≡ mid.table.max)
+    → old.phase ≡ phase.Top → Counts (b ∷ []) old mid
     → Takes gate (b ∷ []) found old new
-top_taken gate b found old mid new h ep c em =
+top_taken gate b found old mid new h ep c =
     byte_taken gate phase.Top (content_reason (plain_gate mid) (label_at top_at 1 mid) b) (after_content mid (tag_from b)) found old mid new b
     (λ s r. h r.0) (λ s r e. top_judged gate mid b s r e) (ap (λ q. open_in q old.meter.cut_phase) ep) (ap (λ q. cut_in q old.meter.kept) ep) tt
-    (λ e. absurd (cc)) c em
+    (λ e. absurd (cc)) c
 
 -- in an annotation
 
@@ -125,12 +125,12 @@ note_judged gate r b s h e = record {
 
 pub note_taken : (gate : Gate) (b : ℕ) (found : Bool) (old mid new : Seen)
     → (HasNotes mid.frames → Tells (inner_reason (plain_gate mid) (label_at annotation_at (suc (length mid.frames)) mid) b) (after_content mid (tag_from b)) found mid new)
-    → old.phase ≡ phase.Note → Counts (b ∷ []) old mid → (found ≡ true → new.table.max ≡ mid.table.max)
+    → old.phase ≡ phase.Note → Counts (b ∷ []) old mid
     → Takes gate (b ∷ []) found old new
-note_taken gate b found old mid new h ep c em =
+note_taken gate b found old mid new h ep c =
     byte_taken gate phase.Note (inner_reason (plain_gate mid) (label_at annotation_at (suc (length mid.frames)) mid) b) (after_content mid (tag_from b)) found old mid new b
     (λ s r. h r.0) (λ s r e. note_judged gate mid b s r e) (ap (λ q. open_in q old.meter.cut_phase) ep) (ap (λ q. cut_in q old.meter.kept) ep) tt
-    (λ e. absurd (cc)) c em
+    (λ e. absurd (cc)) c
 
 -- in a value place
 
@@ -157,12 +157,12 @@ value_judged gate r b s h e = record {
 
 pub value_taken : (gate : Gate) (b : ℕ) (found : Bool) (old mid new : Seen)
     → Tells (inner_reason (plain_gate mid) (label_at value_at (suc (length mid.frames)) mid) b) (after_content mid (tag_from b)) found mid new
-    → old.phase ≡ phase.Value → Counts (b ∷ []) old mid → (found ≡ true → new.table.max ≡ mid.table.max)
+    → old.phase ≡ phase.Value → Counts (b ∷ []) old mid
     → Takes gate (b ∷ []) found old new
-value_taken gate b found old mid new h ep c em =
+value_taken gate b found old mid new h ep c =
     byte_taken gate phase.Value (inner_reason (plain_gate mid) (label_at value_at (suc (length mid.frames)) mid) b) (after_content mid (tag_from b)) found old mid new b
     (λ s r. h) (λ s r e. value_judged gate mid b s r e) (ap (λ q. open_in q old.meter.cut_phase) ep) (ap (λ q. cut_in q old.meter.kept) ep) tt
-    (λ e. absurd (cc)) c em
+    (λ e. absurd (cc)) c
 
 -- in a class place
 
@@ -199,13 +199,13 @@ class_judged gate r b s h e = record {
 pub class_tag_taken : (gate : Gate) (b : ℕ) (found : Bool) (old mid new : Seen)
     → Tells (class_tag_reason (plain_gate mid) (label_at (class_place_at (goal_owner mid.owner)) (suc (length mid.frames)) mid) (goal_owner mid.owner) b)
     (after_class_tag mid (tag_from b)) found mid new
-    → old.phase ≡ phase.ClassTag → Counts (b ∷ []) old mid → (found ≡ true → new.table.max ≡ mid.table.max)
+    → old.phase ≡ phase.ClassTag → Counts (b ∷ []) old mid
     → Takes gate (b ∷ []) found old new
-class_tag_taken gate b found old mid new h ep c em =
+class_tag_taken gate b found old mid new h ep c =
     byte_taken gate phase.ClassTag (class_tag_reason (plain_gate mid) (label_at (class_place_at (goal_owner mid.owner)) (suc (length mid.frames)) mid) (goal_owner mid.owner) b)
     (after_class_tag mid (tag_from b)) found old mid new b
     (λ s r. h) (λ s r e. class_judged gate mid b s r e) (ap (λ q. open_in q old.meter.cut_phase) ep) (ap (λ q. cut_in q old.meter.kept) ep) tt
-    (λ e. absurd (cc)) c em
+    (λ e. absurd (cc)) c
 
 -- in a superclass place
 
@@ -237,12 +237,12 @@ super_judged gate r b s h e = record {
 
 pub super_tag_taken : (gate : Gate) (b : ℕ) (found : Bool) (old mid new : Seen)
     → (HasDescriptor mid.frames → Tells (super_reason mid b) (after_super_tag mid (tag_from b)) found mid new)
-    → old.phase ≡ phase.SuperTag → Counts (b ∷ []) old mid → (found ≡ true → new.table.max ≡ mid.table.max)
+    → old.phase ≡ phase.SuperTag → Counts (b ∷ []) old mid
     → Takes gate (b ∷ []) found old new
-super_tag_taken gate b found old mid new h ep c em =
+super_tag_taken gate b found old mid new h ep c =
     byte_taken gate phase.SuperTag (super_reason mid b) (after_super_tag mid (tag_from b)) found old mid new b
     (λ s r. h r.0) (λ s r e. super_judged gate mid b s r e) (ap (λ q. open_in q old.meter.cut_phase) ep) (ap (λ q. cut_in q old.meter.kept) ep) tt
-    (λ e. absurd (cc)) c em
+    (λ e. absurd (cc)) c
 
 -- in a text place, of an enum constant's name or a field's type
 
@@ -261,21 +261,22 @@ text_place_goes r text.InterfaceName f i e h = absurd i
 text_place_goes r text.Value _ i e h = absurd h
 text_place_goes r text.FieldType _ i e h = absurd h
 
-text_tag_judged : (gate : Gate) (r : Seen) (b : ℕ) (s : State) → IsForm r.text true → ReadyAt phase.TextTag r s → gate_with r gate.answer ≡ gate
+text_tag_judged : (gate : Gate) (r : Seen) (b : ℕ) (s : State) → ReadyAt phase.TextTag r s → gate_with r gate.answer ≡ gate
     → IsJudged gate (other_tag_reason (plain_gate r) (label_at text_place_at (text_depth r r.text) r) b) (after_text_tag r (tag_from b)) s (b ∷ [])
-text_tag_judged gate r b s i h e = record {
+text_tag_judged gate r b s h e = record {
   reason = phase_reason gate phase.TextTag r s (b ∷ []) tt h e;
   leads =
       λ k. byte_leads text_place_at (moment_of r) s b (after_text_tag r) (ap (λ l. l.position) (label_is phase.TextTag r s tt h))
       (text_place_byte (plain_gate r) (text_depth r r.text) (moment_of r) b k)
-      (λ f a. ap (λ t. settled (advance t f)) h ∙ text_place_goes r r.text f i refl a) refl (λ _. refl);
+      (λ f a. ap (λ t. settled (advance t f)) h.2 ∙ text_place_goes r r.text f h.0 refl a) refl (λ _. refl);
 }
 
 pub text_tag_taken : (gate : Gate) (b : ℕ) (found : Bool) (old mid new : Seen)
-    → Tells (other_tag_reason (plain_gate mid) (label_at text_place_at (text_depth mid mid.text) mid) b) (after_text_tag mid (tag_from b)) found mid new
-    → IsForm mid.text true → old.phase ≡ phase.TextTag → Counts (b ∷ []) old mid → (found ≡ true → new.table.max ≡ mid.table.max)
+    → (IsForm mid.text true → IsInside mid.text mid.frames
+    → Tells (other_tag_reason (plain_gate mid) (label_at text_place_at (text_depth mid mid.text) mid) b) (after_text_tag mid (tag_from b)) found mid new)
+    → old.phase ≡ phase.TextTag → Counts (b ∷ []) old mid
     → Takes gate (b ∷ []) found old new
-text_tag_taken gate b found old mid new h i ep c em =
+text_tag_taken gate b found old mid new h ep c =
     byte_taken gate phase.TextTag (other_tag_reason (plain_gate mid) (label_at text_place_at (text_depth mid mid.text) mid) b) (after_text_tag mid (tag_from b)) found old mid new b
-    (λ s r. h) (λ s r e. text_tag_judged gate mid b s i r e) (ap (λ q. open_in q old.meter.cut_phase) ep) (ap (λ q. cut_in q old.meter.kept) ep) tt
-    (λ e. absurd (cc)) c em
+    (λ s r. h r.0 r.1) (λ s r e. text_tag_judged gate mid b s r e) (ap (λ q. open_in q old.meter.cut_phase) ep) (ap (λ q. cut_in q old.meter.kept) ep) tt
+    (λ e. absurd (cc)) c

@@ -1,5 +1,5 @@
 -- Raw values, the bytes of a block, and the walk over them: any bytes, so many.
-use Rattle.std.proofs.Common.{true, ◌≡◌, ℕ, suc, ◌+◌, ◌*◌, ◌<◌, ◌≤◌, Bool, List, ◌∷◌, ◌++◌, length, Some, None, refl, sym, ◌∙◌, ap, ap₂, subst, arith, length-append}
+use Rattle.std.proofs.Common.{◌≡◌, ℕ, suc, ◌+◌, ◌*◌, ◌<◌, ◌≤◌, Bool, List, ◌∷◌, ◌++◌, length, Some, None, refl, sym, ◌∙◌, ap, ap₂, subst, arith, length-append}
 use Rattle.jser_table.specs.Codes.{PrimCode, size_of}
 use Rattle.jser_reading.specs.Labels.{StreamField, prims_field, bytes_field, Label}
 use Rattle.jser_reading.specs.FieldsFromBytes.{size_in, field_in, prims_in}
@@ -63,12 +63,12 @@ same_goals bytes old mid c = rw c.frames (rw c.layers (rw c.table refl))
 -- the last raw bytes end the field
 raw_taken : (gate : Gate) (found : Bool) (old mid new : Seen) (s : State) (cut taken : List ℕ) (size : ℕ) (field : List ℕ → StreamField)
     → IsRaw (label_of (settled s)) size field
-    → Tells None (after_value mid) found mid new → Stands gate old (settled s) cut → Counts taken old mid → (found ≡ true → new.table.max ≡ mid.table.max)
+    → Tells None (after_value mid) found mid new → Stands gate old (settled s) cut → Counts taken old mid
     → 0 < length taken → length (cut ++ taken) ≡ size
     → settled (advance (settled s) (field (cut ++ taken))) ≡ after_value mid
     → Took gate s cut taken found old new
-raw_taken gate found old mid new s cut taken size field i h st c em some n goes =
-    judged gate None (after_value mid) found old mid new s cut taken h st c em some
+raw_taken gate found old mid new s cut taken size field i h st c some n goes =
+    judged gate None (after_value mid) found old mid new s cut taken h st c some
     (raw_undecided gate (label_of (settled s)) size field (cut ++ taken) i (omega arith)) (i.quiet gate (cut ++ taken))
     (λ _. record {
       field = field (cut ++ taken);
@@ -78,27 +78,27 @@ raw_taken gate found old mid new s cut taken size field i h st c em some n goes 
     })
 
 pub prims_taken : (gate : Gate) (found : Bool) (old mid new : Seen) (taken : List ℕ) → Tells None (after_value mid) found mid new
-    → old.phase ≡ phase.Prims → 0 < length taken → length taken ≡ old.left → Counts taken old mid → (found ≡ true → new.table.max ≡ mid.table.max)
+    → old.phase ≡ phase.Prims → 0 < length taken → length taken ≡ old.left → Counts taken old mid
     → Takes gate taken found old new
 unfolding Takes
-prims_taken gate found old mid new taken h ep some n c em = λ s cut st.
+prims_taken gate found old mid new taken h ep some n c = λ s cut st.
     let x : PrimsStands old (settled s) cut = subst (λ p. StandsAt p old (settled s) cut) ep st.stands in
     let z = x.size in
     let l : length (cut ++ taken) ≡ length cut + length taken = length-append cut taken in
     raw_taken gate found old mid new s cut taken (suc x.more * size_of x.type_code) (λ bytes. prims_field (prims_in x.type_code (suc x.more) bytes))
-    (prims_raw (settled s) old x.depth x.type_code x.more x.parts x.goals x.is) h st c em some (l ∙ ap (λ k. length cut + k) n ∙ z)
+    (prims_raw (settled s) old x.depth x.type_code x.more x.parts x.goals x.is) h st c some (l ∙ ap (λ k. length cut + k) n ∙ z)
     (ap (λ t. settled (advance t (prims_field (prims_in x.type_code (suc x.more) (cut ++ taken))))) x.is ∙ x.after ∙ same_after taken old mid c)
 
 pub block_taken : (gate : Gate) (found : Bool) (old mid new : Seen) (taken : List ℕ) → Tells None (after_value mid) found mid new
-    → old.phase ≡ phase.Bytes → 0 < length taken → length taken ≡ old.left → Counts taken old mid → (found ≡ true → new.table.max ≡ mid.table.max)
+    → old.phase ≡ phase.Bytes → 0 < length taken → length taken ≡ old.left → Counts taken old mid
     → Takes gate taken found old new
 unfolding Takes
-block_taken gate found old mid new taken h ep some n c em = λ s cut st.
+block_taken gate found old mid new taken h ep some n c = λ s cut st.
     let x : BytesStands old (settled s) cut = subst (λ p. StandsAt p old (settled s) cut) ep st.stands in
     let z = x.size in
     let l : length (cut ++ taken) ≡ length cut + length taken = length-append cut taken in
     raw_taken gate found old mid new s cut taken (suc x.more) (λ bytes. bytes_field bytes)
-    (block_raw (settled s) old x.depth x.more (goals_of old) x.is) h st c em some (l ∙ ap (λ k. length cut + k) n ∙ z)
+    (block_raw (settled s) old x.depth x.more (goals_of old) x.is) h st c some (l ∙ ap (λ k. length cut + k) n ∙ z)
     (ap (λ t. settled (advance t (bytes_field (cut ++ taken)))) x.is ∙ same_after taken old mid c)
 
 -- others leave it open

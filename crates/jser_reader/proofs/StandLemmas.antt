@@ -1,16 +1,26 @@
 -- From the contract of a handler to the walk over bytes: what the machine stands for before and after a field.
-use Rattle.std.proofs.Common.{◌≡◌, ℕ, suc, ◌+◌, ◌*◌, ◌<◌, ◌≤◌, Bool, true, false, List, [], ◌++◌, length, Option, Some, None, refl, sym, ◌∙◌, ap, ap₂, arith, append-nil, length-append}
+use Rattle.std.proofs.Common.{◌≡◌, ℕ, suc, ◌+◌, ◌*◌, ◌<◌, ◌≤◌, Bool, true, false, List, [], ◌∷◌, ◌++◌, length, Option, Some, None, refl, sym, ◌∙◌, ap, ap₂, subst, arith, append_assoc, append-nil, length-append}
 use Rattle.jser_table.specs.Codes.{PrimCode, byte_code, char_code, double_code, float_code, int_code, long_code, short_code, boolean_code, size_of}
-use Rattle.jser_reading.specs.Labels.{StreamField}
+use Rattle.jser_grammar.specs.Parts.{IsBytes}
+use Rattle.jser_reading.specs.Labels.{StreamField, Piece, piece}
+use Rattle.jser_reading.specs.FieldBytes.{bytes_of, joined}
 use Rattle.jser_reading.specs.FieldsFromBytes.{size_in, field_in}
 use Rattle.jser_reading.specs.Goals.{State, settled}
-use Rattle.jser_reading.specs.Accepts.{label_of}
-use Rattle.jser_reading.specs.Machine.{advance, begin_state}
+use Rattle.jser_reading.specs.Accepts.{label_of, Accepts}
+use Rattle.jser_reading.specs.Machine.{advance, begin_state, Runs, left}
 use Rattle.jser_reading.specs.Scanner.{good, bad, IsUndecided, by_verdict, walk, refused, ended}
+use Rattle.jser_reading.proofs.Fronts.{left-append, Runs-append}
+use Rattle.jser_reading.proofs.Next.{next_law}
+use Rattle.jser_reading.proofs.Walking.{joined-append}
 use Rattle.jser_verdict.specs.Reasons.{turn}
 use Rattle.jser_verdict.specs.Reasons.{Reason as ToldReason}
 use Rattle.jser_verdict.specs.Gates.{Gate, Answer}
 use Rattle.jser_verdict.specs.Verdicts.{reason_at, verdict}
+use Rattle.jser_verdict.proofs.Scanning.{scanning_verdict}
+use Rattle.jser_verdict.proofs.Scans.{verdict_scans}
+use Rattle.jser_verdict.proofs.ToldRows.{same_verdict}
+use Rattle.jser_verdict.proofs.ByteLists.{bytes_both, bytes_right}
+use Rattle.jser_verdict.proofs.ReadFields.{read_next}
 use Rattle.jser_reader.specs.declared.phase.Phase.{Phase}
 use Rattle.jser_reader.specs.declared.phase.Phase.TheVariants as phase
 use Rattle.jser_reader.specs.Readers.{Seen, Ready, ReadyAt, PrimsReady, BytesReady}
@@ -81,7 +91,7 @@ same_limits old new answer el em =
 -- the bytes are a field that leads to this state
 pub record LeadsTo (s : State) (bytes : List ℕ) (next : State) : Type 0 where
   pub field : StreamField
-  pub enough : size_in (label_of s).position bytes ≤ length bytes
+  pub enough : size_in (label_of s).position bytes ≡ length bytes
   pub found : field_in (label_of s).position bytes ≡ Some field
   pub goes : settled (advance s field) ≡ next
 
@@ -94,17 +104,19 @@ tells_surely (Some k) s true old new h = absurd h
 tells_surely (Some k) s false old new h = h
 
 took_field : (gate : Gate) (told : Option ToldReason) (next : State) (found : Bool) (old mid new : Seen) (s : State) (cut taken : List ℕ)
-    → TellCases told next found mid new → Stands gate old (settled s) cut → Counts taken old mid → (found ≡ true → new.table.max ≡ mid.table.max)
+    → TellCases told next found mid new → Stands gate old (settled s) cut → Counts taken old mid
     → ((rest : List ℕ) → walk (verdict gate) s cut (taken ++ rest) ≡ judged_by (verdict gate) s (cut ++ taken) rest)
     → reason_at gate (label_of (settled s)) (label_of (settled s)).position (cut ++ taken) ≡ told
     → (told ≡ None → LeadsTo (settled s) (cut ++ taken) next)
     → Took gate s cut taken found old new
-took_field gate None next true old mid new s cut taken h st c em w e leads =
+took_field gate None next true old mid new s cut taken h st c w e leads =
     let x = leads refl in
     let v : verdict gate (label_of (settled s)) (cut ++ taken) ≡ good x.field =
-    verdict_good gate (label_of (settled s)) (cut ++ taken) x.field e x.enough x.found in
+    verdict_good gate (label_of (settled s)) (cut ++ taken) x.field e (let w = x.enough in omega arith) x.found in
     record {
-      state = advance (settled s) x.field;
+      field = x.field;
+      is_good = v;
+      whole = x.enough;
       walks =
           λ rest. w rest
           ∙ ap (λ y. by_verdict y (walk (verdict gate) s (cut ++ taken) rest) (λ f. walk (verdict gate) (advance (settled s) f) [] rest)
@@ -112,13 +124,13 @@ took_field gate None next true old mid new s cut taken h st c em w e leads =
       stands =
           rw x.goes
           (stands_ready gate new next h.ready
-          (same_limits old new gate.answer (ap (λ m. m.limits) h.meter ∙ c.limits) (em refl ∙ ap (λ t. t.max) c.table) ∙ st.limits_are)
+          (same_limits old new gate.answer (ap (λ m. m.limits) h.meter ∙ c.limits) (h.max ∙ ap (λ t. t.max) c.table) ∙ st.limits_are)
           (ap (λ m. m.at) h.meter ∙ sym (ap (λ m. m.from) h.meter)));
       at = ap (λ m. m.at) h.meter ∙ c.at;
     }
-took_field gate (Some k) next true old mid new s cut taken h st c em w e leads = absurd h
-took_field gate None next false old mid new s cut taken h st c em w e leads = rw h.stop tt
-took_field gate (Some k) next false old mid new s cut taken h st c em w e leads =
+took_field gate (Some k) next true old mid new s cut taken h st c w e leads = absurd h
+took_field gate None next false old mid new s cut taken h st c w e leads = rw h.stop tt
+took_field gate (Some k) next false old mid new s cut taken h st c w e leads =
     let v : verdict gate (label_of (settled s)) (cut ++ taken) ≡ bad (turn k) = verdict_bad gate (label_of (settled s)) (cut ++ taken) k e in
     rw h.stop (record {
       reason = k;
@@ -137,42 +149,75 @@ took_field gate (Some k) next false old mid new s cut taken h st c em w e leads 
 
 -- the bytes of a field of which no front decides, as its handler judged them
 pub judged : (gate : Gate) (told : Option ToldReason) (next : State) (found : Bool) (old mid new : Seen) (s : State) (cut taken : List ℕ)
-    → Tells told next found mid new → Stands gate old (settled s) cut → Counts taken old mid → (found ≡ true → new.table.max ≡ mid.table.max) → 0 < length taken
+    → Tells told next found mid new → Stands gate old (settled s) cut → Counts taken old mid → 0 < length taken
     → IsUndecided (verdict gate) (label_of (settled s)) (cut ++ taken)
     → reason_at gate (label_of (settled s)) (label_of (settled s)).position (cut ++ taken) ≡ told
     → (told ≡ None → LeadsTo (settled s) (cut ++ taken) next)
     → Took gate s cut taken found old new
 unfolding Tells
-judged gate told next found old mid new s cut taken h st c em some u e leads =
-    took_field gate told next found old mid new s cut taken h st c em (λ rest. walk_field (verdict gate) s taken cut rest some u) e leads
+judged gate told next found old mid new s cut taken h st c some u e leads =
+    took_field gate told next found old mid new s cut taken h st c (λ rest. walk_field (verdict gate) s taken cut rest some u) e leads
 
 -- ---- the bytes that the machine stands for
 
-pub took_stands : (gate : Gate) (old new : Seen) (bytes taken : List ℕ) → Takes gate taken true old new → StandsFor gate bytes old
+-- what ends the open field is a field that may come there
+field_read : (gate : Gate) (fields : List Piece) (bytes : List ℕ) (field : StreamField)
+    → let l = label_of (settled (left begin_state fields)) in
+    Runs begin_state fields → verdict gate l bytes ≡ good field → size_in l.position bytes ≡ length bytes → IsBytes bytes
+    → (bytes ≡ bytes_of field) × Accepts l field
+field_read gate fields bytes field r v e h =
+    let l = label_of (settled (left begin_state fields)) in
+    let same : verdict gate l bytes ≡ scanning_verdict gate l bytes =
+    same_verdict gate l bytes (read_next fields l ((next_law fields l).1 (r, refl))) h (omega arith) in
+    let g = (verdict_scans gate).good_is l bytes field (sym same ∙ v) in (g.0, g.1)
+
+pub took_stands : (gate : Gate) (old new : Seen) (bytes taken : List ℕ) → Takes gate taken true old new → IsBytes taken → StandsFor gate bytes old
     → StandsFor gate (bytes ++ taken) new
 unfolding Takes
-took_stands gate old new bytes taken h st =
-    let x = h st.state st.cut st.stands in
-    let w : walk (verdict gate) begin_state [] (bytes ++ taken) ≡ ended x.state [] =
-    walk_on (verdict gate) bytes taken begin_state st.state [] st.cut st.walked
-    ∙ ap (walk (verdict gate) st.state st.cut) (sym (append-nil taken)) ∙ x.walks [] in
+took_stands gate old new bytes taken h bt st =
+    let s = left begin_state st.fields in
+    let l = label_of (settled s) in
+    let x = h s st.cut st.stands in
+    let all : IsBytes (bytes ++ taken) = bytes_both bytes taken st.all_bytes bt in
+    let is : bytes ++ taken ≡ joined st.fields ++ (st.cut ++ taken) = ap (λ b. b ++ taken) st.are_fields ∙ append_assoc (joined st.fields) st.cut taken in
+    let of_field : IsBytes (st.cut ++ taken) = bytes_right (joined st.fields) (st.cut ++ taken) (subst IsBytes is all) in
+    let f = field_read gate st.fields (st.cut ++ taken) x.field st.runs x.is_good x.whole of_field in
+    let after : left begin_state (st.fields ++ (piece l x.field ∷ [])) ≡ advance (settled s) x.field = left-append st.fields (piece l x.field ∷ []) begin_state in
+    let w : walk (verdict gate) begin_state [] (bytes ++ taken) ≡ ended (advance (settled s) x.field) [] =
+    walk_on (verdict gate) bytes taken begin_state s [] st.cut st.walked
+    ∙ ap (walk (verdict gate) s st.cut) (sym (append-nil taken)) ∙ x.walks [] in
     let n : length (bytes ++ taken) ≡ length bytes + length taken = length-append bytes taken in
     let a = x.at in
     let t = st.taken in
-    record { state = x.state; cut = []; walked = w; stands = x.stands; taken = omega arith }
+    record {
+      fields = st.fields ++ (piece l x.field ∷ []);
+      cut = [];
+      runs = Runs-append st.fields (piece l x.field ∷ []) begin_state st.runs (refl, f.1, tt);
+      are_fields =
+          is ∙ ap (λ b. joined st.fields ++ b) (f.0 ∙ sym (append-nil (bytes_of x.field)))
+          ∙ sym (joined-append st.fields (piece l x.field ∷ [])) ∙ sym (append-nil (joined (st.fields ++ (piece l x.field ∷ []))));
+      walked = w ∙ ap (λ t. ended t []) (sym after);
+      stands = subst (λ t. Stands gate new (settled t) []) (sym after) x.stands;
+      taken = omega arith;
+      all_bytes = all;
+    }
 
-pub kept_stands : (gate : Gate) (old new : Seen) (bytes piece : List ℕ) → Keeps gate piece old new → StandsFor gate bytes old
-    → StandsFor gate (bytes ++ piece) new
+pub kept_stands : (gate : Gate) (old new : Seen) (bytes taken : List ℕ) → Keeps gate taken old new → IsBytes taken → StandsFor gate bytes old
+    → StandsFor gate (bytes ++ taken) new
 unfolding Keeps
-kept_stands gate old new bytes piece h st =
-    let x = h st.state st.cut st.stands in
-    let n : length (bytes ++ piece) ≡ length bytes + length piece = length-append bytes piece in
+kept_stands gate old new bytes taken h bp st =
+    let s = left begin_state st.fields in
+    let x = h s st.cut st.stands in
+    let n : length (bytes ++ taken) ≡ length bytes + length taken = length-append bytes taken in
     let a = x.at in
     let t = st.taken in
     record {
-      state = st.state;
-      cut = st.cut ++ piece;
-      walked = walk_on (verdict gate) bytes piece begin_state st.state [] st.cut st.walked ∙ x.walks;
+      fields = st.fields;
+      cut = st.cut ++ taken;
+      runs = st.runs;
+      are_fields = ap (λ b. b ++ taken) st.are_fields ∙ append_assoc (joined st.fields) st.cut taken;
+      walked = walk_on (verdict gate) bytes taken begin_state s [] st.cut st.walked ∙ x.walks;
       stands = x.stands;
       taken = omega arith;
+      all_bytes = bytes_both bytes taken st.all_bytes bp;
     }

@@ -1,7 +1,7 @@
 -- What a machine that stands for bytes says of the stream: where it begins, where it may end, and why it stops.
 use Rattle.std.proofs.Common.{◌≡◌, ℕ, ◌+◌, Bool, true, false, List, [], ◌∷◌, ◌++◌, length, refl, sym, ◌∙◌, ap, subst, arith, append_assoc, length-append}
 use Rattle.jser_reading.specs.Goals.{Goal, State, settled}
-use Rattle.jser_reading.specs.Machine.{begin_state, IsDone}
+use Rattle.jser_reading.specs.Machine.{begin_state, left, IsDone}
 use Rattle.jser_reading.specs.Scanner.{walk}
 use Rattle.jser_verdict.specs.Gates.{Gate}
 use Rattle.jser_verdict.specs.Verdicts.{verdict}
@@ -24,8 +24,10 @@ new_stands gate r n e =
     let a = n.at in
     let f = n.from in
     record {
-      state = begin_state;
+      fields = [];
       cut = [];
+      runs = tt;
+      are_fields = refl;
       walked = refl;
       stands = record {
         limits_are = e;
@@ -33,15 +35,16 @@ new_stands gate r n e =
         counts = omega arith;
       };
       taken = omega arith;
+      all_bytes = refl;
     }
 
 -- the machine stops, and says why
 pub stop_stands : (gate : Gate) (old new : Seen) (bytes taken : List ℕ) → Takes gate taken false old new → StandsFor gate bytes old
     → StopsFor gate (bytes ++ taken) new.meter.stop
 unfolding Takes
-stop_stands gate old new bytes taken h st = go new.meter.stop (h st.state st.cut st.stands)
+stop_stands gate old new bytes taken h st = go new.meter.stop (h (left begin_state st.fields) st.cut st.stands)
   where
-    go : (why : Stop) → StopTold gate st.state st.cut taken old.meter.from why → StopsFor gate (bytes ++ taken) why
+    go : (why : Stop) → StopTold gate (left begin_state st.fields) st.cut taken old.meter.from why → StopsFor gate (bytes ++ taken) why
     go (stop.Refused refusal) x =
         let n : length (bytes ++ taken) ≡ length bytes + length taken = length-append bytes taken in
         let m : length (st.cut ++ taken) ≡ length st.cut + length taken = length-append st.cut taken in
@@ -55,7 +58,7 @@ stop_stands gate old new bytes taken h st = go new.meter.stop (h st.state st.cut
           is_named = x.is_named;
           walks =
               λ rest. ap (walk (verdict gate) begin_state []) (append_assoc bytes taken rest)
-              ∙ walk_on (verdict gate) bytes (taken ++ rest) begin_state st.state [] st.cut st.walked ∙ x.walks rest;
+              ∙ walk_on (verdict gate) bytes (taken ++ rest) begin_state (left begin_state st.fields) [] st.cut st.walked ∙ x.walks rest;
           begins = omega arith;
           ends = omega arith;
         }
@@ -116,19 +119,19 @@ no_end_at phase.Note r s cut h top d = not_done s _ h.0.1 (note_not_done r r.fra
 no_end_at phase.Value r s cut h top d = not_done s _ h.0.1 (value_not_done r r.frames h.0.0 refl) d.0
 no_end_at phase.ClassTag r s cut h top d = not_done s _ h.0 (λ k. absurd (cc)) d.0
 no_end_at phase.SuperTag r s cut h top d = not_done s _ h.0.1 (super_not_done r r.frames h.0.0 refl).0 d.0
-no_end_at phase.TextTag r s cut h top d = not_done s _ h.0 (λ k. absurd (cc)) d.0
+no_end_at phase.TextTag r s cut h top d = not_done s _ h.0.2 (λ k. absurd (cc)) d.0
 no_end_at phase.BackHandle r s cut h top d = not_done s _ h.0 (λ k. absurd (cc)) d.0
 no_end_at phase.ClassHandle r s cut h top d = not_done s _ h.0 (λ k. absurd (cc)) d.0
 no_end_at phase.SuperHandle r s cut h top d = not_done s _ h.0.1 (super_not_done r r.frames h.0.0 refl).1 d.0
-no_end_at phase.TextHandle r s cut h top d = not_done s _ h.0 (λ k. absurd (cc)) d.0
-no_end_at phase.Length2 r s cut h top d = not_done s _ h.0 (text_not_done r r.text false (text_rest r r.text)) d.0
-no_end_at phase.Length8 r s cut h top d = not_done s _ h.0.1 (text_not_done r r.text true (text_rest r r.text)) d.0
+no_end_at phase.TextHandle r s cut h top d = not_done s _ h.0.2 (λ k. absurd (cc)) d.0
+no_end_at phase.Length2 r s cut h top d = not_done s _ h.0.1 (text_not_done r r.text false (text_rest r r.text)) d.0
+no_end_at phase.Length8 r s cut h top d = not_done s _ h.0.2 (text_not_done r r.text true (text_rest r r.text)) d.0
 no_end_at phase.Text r s cut h top d = not_done s _ h.is (text_not_done r r.text h.long (text_rest r r.text)) d.0
 no_end_at phase.Suid r s cut h top d = not_done s _ h.0 (λ k. absurd (cc)) d.0
-no_end_at phase.Flags r s cut h top d = not_done s _ h.0 (λ k. absurd (cc)) d.0
-no_end_at phase.FieldCount r s cut h top d = not_done s _ h.0 (λ k. absurd (cc)) d.0
-no_end_at phase.TypeCode r s cut h top d = not_done s _ h.0.1 (λ k. absurd (cc)) d.0
-no_end_at phase.InterfaceCount r s cut h top d = not_done s _ h.0 (λ k. absurd (cc)) d.0
+no_end_at phase.Flags r s cut h top d = not_done s _ h.0.1 (λ k. absurd (cc)) d.0
+no_end_at phase.FieldCount r s cut h top d = not_done s _ h.0.1 (λ k. absurd (cc)) d.0
+no_end_at phase.TypeCode r s cut h top d = not_done s _ h.0.2 (λ k. absurd (cc)) d.0
+no_end_at phase.InterfaceCount r s cut h top d = not_done s _ h.0.1 (λ k. absurd (cc)) d.0
 no_end_at phase.ArrayLength r s cut h top d = not_done s _ h.0.is (λ k. absurd (cc)) d.0
 no_end_at phase.BlockLength1 r s cut h top d = not_done s _ h.0 (λ k. absurd (cc)) d.0
 no_end_at phase.BlockLength4 r s cut h top d = not_done s _ h.0 (λ k. absurd (cc)) d.0

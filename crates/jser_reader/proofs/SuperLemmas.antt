@@ -19,10 +19,10 @@ use Rattle.jser_reader.specs.declared.frame.Role.TheVariants as role
 use Rattle.jser_reader.specs.Stacks.{tail_of}
 use Rattle.jser_reader.specs.Fitting.{FramesFit, AllFit}
 use Rattle.jser_reader.specs.Frames.{goal_owner, owner_in, head_layer, tail_layers, chain_owner, after_class, stack_goals, frame_goals, closed_goals}
-use Rattle.jser_reader.specs.Readers.{Seen, moment_of, depth_of, goals_of}
+use Rattle.jser_reader.specs.Readers.{Seen, moment_of, depth_of, goals_of, top_number}
 use Rattle.jser_reader.specs.Steps.{after_value}
 use Rattle.jser_reader.specs.Handlers.{Comes, Tells, is_full, object_state, owner_state, owner_state_at}
-use Rattle.jser_reader.specs.Closing.{rest_layers, top_number, closed_at, closed_state, closing_reason, Closes, made_state, new_chain, ClosesTop, ClosesOne, PopsLayer, ClosingOn}
+use Rattle.jser_reader.specs.Closing.{rest_layers, closed_at, closed_state, closing_reason, Closes, made_state, new_chain, ClosesTop, ClosesOne, PopsLayer, ClosingOn}
 use Rattle.jser_reader.specs.declared.machine.supers.Closing.TheVariants as closing_is
 use Rattle.jser_reader.proofs.EndLemmas.{tells_next, tells_from}
 use Rattle.jser_reader.proofs.OwnerLemmas.{same_owner_state}
@@ -42,7 +42,7 @@ owner_found chain number o b old mid new h t eo ef ey et er em =
     let room : told_if (is_full mid) handle_space None ≡ told_if (is_full old) handle_space None =
     ap (λ T. told_if (nat_le T.max (length T.entries)) handle_space None) et in
     subst (λ k. Tells k (owner_state_at o old (chain_at old.table.entries number)) b old new) room
-    (tells_from (told_if (is_full mid) handle_space None) (owner_state mid ch) (owner_state_at o old (chain_at old.table.entries number)) b old mid new h em same)
+    (tells_from (told_if (is_full mid) handle_space None) (owner_state mid ch) (owner_state_at o old (chain_at old.table.entries number)) b old mid new h em (ap (λ T. T.max) et) same)
 
 -- a closed entry is a class
 closed_is : (T : List TableEntry) (n : ℕ) → IsTrue (is_closed (slice_get T n)) → (chain : List Layer) × (slice_get T n ≡ Some (closed_entry chain))
@@ -147,7 +147,7 @@ value_closed old mid new parent number b c e h eb =
     let r : closing_reason old ≡ None = reason_by old number role.Value e in
     let k : Tells None (after_value mid) b mid new = tells_next None (after_value mid) b mid new h eb refl in
     subst (λ t. Tells t (closed_state old parent) b old new) (sym r)
-    (tells_from None (after_value mid) (closed_state old parent) b old mid new k c.meter (sym (goes_by old mid parent number role.Value c e)))
+    (tells_from None (after_value mid) (closed_state old parent) b old mid new k c.meter c.max (sym (goes_by old mid parent number role.Value c e)))
 
 made_settles : (o : Owner) (r : Seen) (number : ℕ) → settle (moment_of r) (made_goal (goal_owner o) (depth_of r) number ∷ goals_of r) ≡ made_state r o (chain_at r.table.entries number)
 unfolding made_state object_state
@@ -164,7 +164,7 @@ owner_closed old mid new parent number o b c e h =
     ap (λ f. told_if f handle_space None) (same_room old mid c.size c.max) ∙ sym (reason_by old number (role.ClassOf o) e) in
     let s : made_state mid o (chain_at mid.table.entries number) ≡ closed_state old parent =
     sym (made_settles o mid number) ∙ sym (goes_by old mid parent number (role.ClassOf o) c e) in
-    subst (λ t. Tells t (closed_state old parent) b old new) r (tells_from (told_if (is_full mid) handle_space None) (made_state mid o (chain_at mid.table.entries number)) (closed_state old parent) b old mid new h c.meter s)
+    subst (λ t. Tells t (closed_state old parent) b old new) r (tells_from (told_if (is_full mid) handle_space None) (made_state mid o (chain_at mid.table.entries number)) (closed_state old parent) b old mid new h c.meter c.max s)
 
 above_settles : (r : Seen) (number : ℕ) → settle (moment_of r) ((stack_goals r.table.chains r.layers r.frames).above number) ≡ closed_state r (Some number)
 unfolding closed_state after_value
@@ -190,7 +190,7 @@ super_closed old mid parent number strict c e =
     let fewer : length mid.frames < length old.frames =
     let a : length old.frames ≡ suc (length (tail_of old.frames)) = ap length e in
     let b : length mid.frames ≡ length (tail_of old.frames) = ap length c.frames in omega arith in
-    (s, r, c.meter, ap is_closed c.entry, fewer)
+    (s, r, c.meter, ap is_closed c.entry, fewer, c.max)
 
 pub entry_closed : (old mid : Seen) (parent : Option ℕ) (number : ℕ) (w : Role) → ClosesTop number w parent old mid → IsTrue (is_closed (slice_get mid.table.entries number))
 entry_closed old mid parent number w c = ap is_closed c.entry
@@ -208,14 +208,14 @@ closes_at old mid new parent number w p fit top ee ec ex ef ey er em =
 -- the loop over the stack
 
 pub closing_starts : (start : Seen) (parent : Option ℕ) → ForSome parent (λ p. IsTrue (is_closed (slice_get start.table.entries p))) → ClosingOn start parent start parent
-closing_starts start parent h = record { state = refl; reason = refl; meter = refl; is_read = h }
+closing_starts start parent h = record { state = refl; reason = refl; meter = refl; max = refl; is_read = h }
 
 pub closes_last : (start old new : Seen) (parent above : Option ℕ) (b : Bool) → ClosesOne (closing_is.Ended b) above old new → ClosingOn start parent old above
     → Tells (closing_reason start) (closed_state start parent) b start new
 unfolding ClosesOne
 closes_last start old new parent above b h on =
     subst (λ t. Tells t (closed_state start parent) b start new) on.reason
-    (tells_from (closing_reason old) (closed_state old above) (closed_state start parent) b start old new h on.meter on.state)
+    (tells_from (closing_reason old) (closed_state old above) (closed_state start parent) b start old new h on.meter on.max on.state)
 
 pub closes_more : (start old new : Seen) (parent above : Option ℕ) (n : ℕ) → ClosesOne (closing_is.Superclass n) above old new → ClosingOn start parent old above
     → ClosingOn start parent new (Some n)
@@ -224,6 +224,7 @@ closes_more start old new parent above n h on = record {
   state = h.0 ∙ on.state;
   reason = h.1 ∙ on.reason;
   meter = h.2 ∙ on.meter;
+  max = h.5 ∙ on.max;
   is_read = λ k e. subst (λ p. IsTrue (is_closed (slice_get new.table.entries p))) (let same : n ≡ k = cc in same) h.3;
 }
 
@@ -241,7 +242,7 @@ ended_there : (start old new : Seen) (parent above : Option ℕ) (b : Bool) → 
 ended_there start old new parent above b on h e none same =
     subst (λ t. Tells t (closed_state start parent) b start new) on.reason
     (tells_from (closing_reason old) (closed_state old above) (closed_state start parent) b start old new
-    (tells_next (closing_reason old) (closed_state old above) b old new (subst (Comes old new) (sym same) h) e none) on.meter on.state)
+    (tells_next (closing_reason old) (closed_state old above) b old new (subst (Comes old new) (sym same) h) e none) on.meter on.max on.state)
 
 pub none_open : (start old new : Seen) (parent above : Option ℕ) (b : Bool) → ClosingOn start parent old above → old.frames ≡ [] → Comes old new (after_value old) → b ≡ true
     → Tells (closing_reason start) (closed_state start parent) b start new

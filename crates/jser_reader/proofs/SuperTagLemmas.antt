@@ -140,7 +140,7 @@ unfolding tag_from Ready
 back_goes b found old mid new h eb n ef d =
     let c = is_counted b old mid h eb in
     let ready : Ready new (after_super_tag old (tag_from 0x71)) = rw (next_is phase.SuperHandle mid.owner mid.elements mid.header mid.text mid new n) (rw c (d, refl)) in
-    let here = tells_next None (after_super_tag old (tag_from 0x71)) found mid new (record { ready = ready; meter = n.meter }) ef refl in
+    let here = tells_next None (after_super_tag old (tag_from 0x71)) found mid new (record { ready = ready; meter = n.meter; max = ap (λ t. t.max) n.table }) ef refl in
     subst (λ t. Tells t (after_super_tag old (tag_from 0x71)) found old new) (sym (back_reason old)) (after_count b found None (after_super_tag old (tag_from 0x71)) old mid new h eb here)
 
 pub plain_goes : (b found strict : Bool) (old mid new : Seen) → CountsPlace b old mid → b ≡ true → Tells None (opens_class mid (role.Superclass strict)) found mid new → strict ≡ strict_in mid.layers mid.frames

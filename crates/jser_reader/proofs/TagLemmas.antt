@@ -19,7 +19,7 @@ use Rattle.jser_reader.specs.Stacks.{tail_of}
 use Rattle.jser_reader.specs.Reasons.{named}
 use Rattle.jser_reader.specs.Frames.{frame_goals}
 use Rattle.jser_reader.specs.Readers.{Seen, Ready, block_phase, moment_of}
-use Rattle.jser_reader.specs.Steps.{before_parts, PartGives, after_value}
+use Rattle.jser_reader.specs.Steps.{Kept, before_parts, PartGives, after_value}
 use Rattle.jser_reader.specs.Handlers.{StopsWith, refusal, moved, Comes, Tells, IsNext, place_reason, after_tag, plain_gate, label_at, after_content, after_end, after_block_tag, tail_goals}
 use Rattle.jser_reader.proofs.EndLemmas.{next_is, tells_next, tells_refusal}
 
@@ -119,8 +119,8 @@ value_value t b found old new e h = rw e (rw (value_reason t old) (rw (tag_told 
 
 block_comes : (long : Bool) (old new : Seen) → IsNext (block_phase long) old.owner old.elements old.header old.text old new → Comes old new (after_block_tag old long)
 unfolding Ready
-block_comes false old new n = record { ready = rw (next_is phase.BlockLength1 old.owner old.elements old.header old.text old new n) refl; meter = n.meter }
-block_comes true old new n = record { ready = rw (next_is phase.BlockLength4 old.owner old.elements old.header old.text old new n) refl; meter = n.meter }
+block_comes false old new n = record { ready = rw (next_is phase.BlockLength1 old.owner old.elements old.header old.text old new n) refl; meter = n.meter; max = ap (λ t. t.max) n.table }
+block_comes true old new n = record { ready = rw (next_is phase.BlockLength4 old.owner old.elements old.header old.text old new n) refl; meter = n.meter; max = ap (λ t. t.max) n.table }
 
 pub top_block : (long : Bool) (b : ℕ) (found : Bool) (old new : Seen) → b ≡ block_byte long → IsNext (block_phase long) old.owner old.elements old.header old.text old new → found ≡ true
     → Tells (content_reason (plain_gate old) (label_at top_at 1 old) b) (after_content old (tag_from b)) found old new
@@ -179,13 +179,14 @@ note_end b found old new e h ef = rw e (tells_next None (after_end old) found ol
 
 -- a reset
 pub resets : (old mid new : Seen) → IsNext phase.Top mid.owner mid.elements mid.header mid.text mid new → old.frames ≡ []
-    → mid.frames ≡ [] → mid.table.entries ≡ [] → mid.refs ≡ old.refs → mid.meter ≡ old.meter
+    → mid.frames ≡ [] → mid.table.entries ≡ [] → mid.table.max ≡ old.table.max → mid.refs ≡ old.refs → mid.meter ≡ old.meter
     → Comes old new (after_content old (Some reset_tag_field))
 unfolding Ready
-resets old mid new n none ef et er em =
+resets old mid new n none ef et ex er em =
     record {
       ready = rw (next_is phase.Top mid.owner mid.elements mid.header mid.text mid new n) (rw none (rw ef (rw et (rw er (refl, refl)))));
       meter = n.meter ∙ ap moved em;
+      max = ap (λ t. t.max) n.table ∙ ex;
     }
 
 -- the end of an annotation
@@ -194,7 +195,7 @@ pub descriptor_ends : (old new : Seen) (number : ℕ) (r : Role) → IsNext phas
     → old.frames ≡ frame.Descriptor number r ∷ tail_of old.frames → Comes old new (after_end old)
 unfolding Ready after_end
 descriptor_ends old new number r n e =
-    record { ready = rw (next_is phase.SuperTag old.owner old.elements old.header old.text old new n) (rw e (tt, refl)); meter = n.meter }
+    record { ready = rw (next_is phase.SuperTag old.owner old.elements old.header old.text old new n) (rw e (tt, refl)); meter = n.meter; max = ap (λ t. t.max) n.table }
 
 pub external_ends : (old mid new : Seen) → Comes mid new (after_value mid) → old.frames ≡ frame.ExternalNotes ∷ tail_of old.frames
     → mid.frames ≡ tail_of old.frames → mid.layers ≡ old.layers → mid.table ≡ old.table → mid.refs ≡ old.refs → mid.meter ≡ old.meter
@@ -203,7 +204,7 @@ unfolding after_end after_value
 external_ends old mid new h e ef ey et er em =
     let same : after_value mid ≡ after_end old =
     rw ef (rw ey (rw et (rw er (sym (ap (λ fs. settle (moment_of old) (tail_goals (frame_goals old.table.chains old.layers fs))) e))))) in
-    record { ready = subst (Ready new) same h.ready; meter = h.meter ∙ ap moved em }
+    record { ready = subst (Ready new) same h.ready; meter = h.meter ∙ ap moved em; max = h.max ∙ ap (λ t. t.max) et }
 
 sections_left : (old : Seen) (last section : ℕ) → old.frames ≡ frame.Notes last section ∷ tail_of old.frames
     → after_end old ≡ before_parts old (tail_of old.frames) (section_parts (under old.table.chains last section))
@@ -226,21 +227,21 @@ pub section_ends : (old mid new : Seen) (last section : ℕ) (found : Bool) → 
 unfolding PartGives
 section_ends old mid new last section false h ef0 e ef ey et er en em = absurd (cc)
 section_ends old mid new last section true h ef0 e ef ey et er en em =
-    record { ready = subst (Ready new) (same_parts old mid last section ef ey et er ∙ sym (sections_left old last section e)) h.0; meter = en ∙ em }
+    record { ready = subst (Ready new) (same_parts old mid last section ef ey et er ∙ sym (sections_left old last section e)) h.0; meter = en ∙ em; max = ap (λ t. t.max) (h.1.table ∙ et) }
 
 -- no section is left
 pub sections_end : (old mid last_mid popped new : Seen) (last section : ℕ) (found : Bool) → PartGives found mid last_mid (section_parts (under mid.table.chains last section)) → found ≡ false
-    → Ready new (after_value popped)
+    → Ready new (after_value popped) → Kept popped new
     → old.frames ≡ frame.Notes last section ∷ tail_of old.frames
     → mid.frames ≡ old.frames → mid.layers ≡ old.layers → mid.table ≡ old.table → mid.refs ≡ old.refs → mid.meter ≡ moved old.meter
     → popped.frames ≡ tail_of last_mid.frames → popped.layers ≡ last_mid.layers → popped.table ≡ last_mid.table → popped.refs ≡ last_mid.refs → popped.meter ≡ last_mid.meter
     → new.meter ≡ popped.meter
     → Comes old new (after_end old)
 unfolding PartGives after_value
-sections_end old mid last_mid popped new last section true h ef0 ready e ef ey et er em pf py pt pr pm en = absurd (cc)
-sections_end old mid last_mid popped new last section false h ef0 ready e ef ey et er em pf py pt pr pm en =
+sections_end old mid last_mid popped new last section true h ef0 ready kept e ef ey et er em pf py pt pr pm en = absurd (cc)
+sections_end old mid last_mid popped new last section false h ef0 ready kept e ef ey et er em pf py pt pr pm en =
     let same = h.1 in
     let to_mid : after_value popped ≡ settle (moment_of mid) (frame_goals mid.table.chains mid.layers (tail_of mid.frames)) =
     rw pf (rw py (rw pt (rw pr (ap (λ r. settle (moment_of r) (frame_goals r.table.chains r.layers (tail_of r.frames))) same)))) in
     let goes = to_mid ∙ sym h.0 ∙ same_parts old mid last section ef ey et er ∙ sym (sections_left old last section e) in
-    record { ready = subst (Ready new) goes ready; meter = en ∙ pm ∙ ap (λ r. r.meter) same ∙ em }
+    record { ready = subst (Ready new) goes ready; meter = en ∙ pm ∙ ap (λ r. r.meter) same ∙ em; max = ap (λ t. t.max) (kept.table ∙ pt ∙ ap (λ r. r.table) same ∙ et) }

@@ -18,7 +18,7 @@ use Rattle.jser_verdict.specs.Verdicts.{reason_at, verdict}
 use Rattle.jser_reader.specs.declared.phase.Phase.TheVariants as phase
 use Rattle.jser_reader.specs.declared.phase.TextFor.{TextFor}
 use Rattle.jser_reader.specs.declared.phase.TextFor.TheVariants as text
-use Rattle.jser_reader.specs.Readers.{Seen, moment_of, text_goal, text_rest, IsForm, ReadyAt, length_phase}
+use Rattle.jser_reader.specs.Readers.{Seen, moment_of, text_goal, text_rest, IsForm, IsInside, ReadyAt, length_phase}
 use Rattle.jser_reader.specs.Handlers.{Tells}
 use Rattle.jser_reader.specs.TextStates.{text_reason_of, text_reason, text_state_of, after_text, EndsText}
 use Rattle.jser_reader.specs.Walks.{size_of_phase, IsRightSoFar, CutStands, TextStands, StandsAt, Stands, Took, Takes, Keeps, Counts, open_phase, cut_of}
@@ -33,6 +33,7 @@ use Rattle.jser_reader.proofs.TextWalks.{IsTextAt, name_reason, no_head, spelled
 -- the length of a text is open, or its bytes
 pub record TextOpen (r : Seen) (s : State) (long : Bool) : Type 0 where
   pub form : IsForm r.text long
+  pub inside : IsInside r.text r.frames
   pub is : settled s ≡ (moment_of r, text_goal r r.text long ∷ text_rest r r.text)
 
 short_form : (t : TextFor) → IsForm t false
@@ -43,8 +44,8 @@ short_form text.ClassName = tt
 short_form text.InterfaceName = tt
 
 length_open : (long : Bool) (r : Seen) (s : State) → ReadyAt (length_phase long) r (settled s) → TextOpen r s long
-length_open false r s h = record { form = short_form r.text; is = h }
-length_open true r s h = record { form = h.0; is = h.1 }
+length_open false r s h = record { form = short_form r.text; inside = h.0; is = h.1 }
+length_open true r s h = record { form = h.0; inside = h.1; is = h.2 }
 
 text_of : (r : Seen) (s : State) (long : Bool) → TextOpen r s long → IsTextOf r long (settled s)
 text_of r s long o = text_is r long s o.form o.is
@@ -52,18 +53,18 @@ text_of r s long o = text_is r long s o.form o.is
 -- it is the same text after bytes were counted
 same_text : (bytes : List ℕ) (old mid : Seen) (s : State) (long : Bool) → Counts bytes old mid → TextOpen old s long → TextOpen mid s long
 same_text bytes old mid s long c o =
-    subst (λ r. TextOpen r s long) (sym (counted_is bytes old mid c)) (record { form = o.form; is = o.is })
+    subst (λ r. TextOpen r s long) (sym (counted_is bytes old mid c)) (record { form = o.form; inside = o.inside; is = o.is })
 
 -- where its end leads
-text_goes : (t : TextFor) (r : Seen) (long : Bool) (units : List ℕ) → (t ≡ text.InterfaceName → 0 < r.header.fields)
+text_goes : (t : TextFor) (r : Seen) (long : Bool) (units : List ℕ) → (t ≡ text.InterfaceName → 0 < r.header.interfaces)
     → settled (advance (moment_of r, text_goal r t long ∷ text_rest r t) (text_field long units)) ≡ text_state_of r t units
 text_goes text.Value r long units k = refl
 text_goes text.FieldType r long units k = refl
 text_goes (text.FieldName is_object) r long units k = refl
 text_goes text.ClassName r long units k = refl
-text_goes text.InterfaceName r long units k = go r.header.fields refl (k refl)
+text_goes text.InterfaceName r long units k = go r.header.interfaces refl (k refl)
   where
-    go : (n : ℕ) → r.header.fields ≡ n → 0 < r.header.fields
+    go : (n : ℕ) → r.header.interfaces ≡ n → 0 < r.header.interfaces
         → settled (advance (moment_of r, text_goal r text.InterfaceName long ∷ text_rest r text.InterfaceName) (text_field long units))
         ≡ text_state_of r text.InterfaceName units
     go zero e h = absurd (omega arith)
@@ -80,15 +81,15 @@ same_reason gate r text.InterfaceName long units = refl
 
 whole_taken : (gate : Gate) (found : Bool) (old mid new : Seen) (s : State) (cut taken : List ℕ) (long : Bool) (units : List ℕ)
     → Tells (text_reason gate mid units) (after_text mid units) found mid new
-    → Stands gate old (settled s) cut → Counts taken old mid → (found ≡ true → new.table.max ≡ mid.table.max) → 0 < length taken
+    → Stands gate old (settled s) cut → Counts taken old mid → 0 < length taken
     → TextOpen old s long → IsText long units → spelled long units ≡ cut ++ taken
     → Took gate s cut taken found old new
 unfolding after_text
-whole_taken gate found old mid new s cut taken long units h st c em some o t e =
+whole_taken gate found old mid new s cut taken long units h st c some o t e =
     let om = same_text taken old mid s long c o in
     let i = text_of mid s long om in
     let f = spelled_found (label_of (settled s)) long units i.is_text t in
-    judged gate (text_reason gate mid units) (after_text mid units) found old mid new s cut taken h st c em some
+    judged gate (text_reason gate mid units) (after_text mid units) found old mid new s cut taken h st c some
     (subst (λ bytes. IsUndecided (verdict gate) (label_of (settled s)) bytes) e (spelled_undecided gate (label_of (settled s)) long units i.is_text t))
     (subst (λ bytes. reason_at gate (label_of (settled s)) (label_of (settled s)).position bytes ≡ text_reason gate mid units) e
     (spelled_reason gate (label_of (settled s)) long units i.is_text t ∙ ap (λ w. name_reason gate w units) i.position ∙ same_reason gate mid mid.text long units))
@@ -156,12 +157,12 @@ length_kept gate long old new piece ep ec ek eo some short c = λ s cut st.
 pub empty_text_taken : (gate : Gate) (long : Bool) (found : Bool) (old mid new : Seen) (taken : List ℕ)
     → Tells (text_reason gate mid []) (after_text mid []) found mid new
     → open_phase old ≡ length_phase long → 0 < length taken → big_bytes (head_size long) 0 ≡ cut_of old ++ taken
-    → Counts taken old mid → (found ≡ true → new.table.max ≡ mid.table.max)
+    → Counts taken old mid
     → Takes gate taken found old new
 unfolding Takes
-empty_text_taken gate long found old mid new taken h eo some e c em = λ s cut st.
+empty_text_taken gate long found old mid new taken h eo some e c = λ s cut st.
     let o = is_open (length_phase long) old (settled s) cut st.stands eo (length_some long) in
-    whole_taken gate found old mid new s cut taken long [] h st c em some (length_open long old s o.ready) (empty long)
+    whole_taken gate found old mid new s cut taken long [] h st c some (length_open long old s o.ready) (empty long)
     (append-nil (big_bytes (head_size long) 0) ∙ e ∙ ap (λ x. x ++ taken) (sym o.cut_is))
   where
     empty : (long : Bool) → IsText long []
@@ -191,6 +192,7 @@ text_opened gate long len old new taken ep acc some bound eo e c = λ s cut st.
       before = [];
       units = [];
       form = tn.form;
+      inside = tn.inside;
       is = tn.is;
       bound = bound;
       cut_is = is;
@@ -215,15 +217,15 @@ text_opened gate long len old new taken ep acc some bound eo e c = λ s cut st.
 pub negative_taken : (gate : Gate) (n : ℕ) (next : State) (found : Bool) (old mid new : Seen) (taken : List ℕ)
     → Tells (Some negative_length) next found mid new → 2 ^ 63 ≤ n → n < 2 ^ 64
     → open_phase old ≡ phase.Length8 → 0 < length taken → big_bytes 8 n ≡ cut_of old ++ taken
-    → Counts taken old mid → (found ≡ true → new.table.max ≡ mid.table.max)
+    → Counts taken old mid
     → Takes gate taken found old new
 unfolding Takes
-negative_taken gate n next found old mid new taken h lo hi eo some e c em = λ s cut st.
+negative_taken gate n next found old mid new taken h lo hi eo some e c = λ s cut st.
     let o = is_open phase.Length8 old (settled s) cut st.stands eo (omega arith) in
     let i = text_of old s true (length_open true old s o.ready) in
     let is : big_bytes 8 n ≡ cut ++ taken = e ∙ ap (λ x. x ++ taken) (sym o.cut_is) in
     let k : length (cut ++ taken) ≡ 8 = sym (ap length is) ∙ length-big_bytes 8 n in
-    judged gate (Some negative_length) next found old mid new s cut taken h st c em some
+    judged gate (Some negative_length) next found old mid new s cut taken h st c some
     (head_undecided gate (label_of (settled s)) true (cut ++ taken) i.is_text (omega arith))
     (subst (λ bytes. reason_at gate (label_of (settled s)) (label_of (settled s)).position bytes ≡ Some negative_length) is
     (negative_reason gate (label_of (settled s)) n i.is_text lo hi))
@@ -235,7 +237,7 @@ text_stands : (r : Seen) (s : State) (cut : List ℕ) → r.phase ≡ phase.Text
 text_stands r s cut ep h = subst (λ p. StandsAt p r (settled s) cut) ep h
 
 text_open : (r : Seen) (s : State) (cut : List ℕ) (x : TextStands r (settled s) cut) → TextOpen r s x.long
-text_open r s cut x = record { form = x.form; is = x.is }
+text_open r s cut x = record { form = x.form; inside = x.inside; is = x.is }
 
 with_more : (long : Bool) (len : ℕ) (cut before taken : List ℕ) → cut ≡ with_length long len before → cut ++ taken ≡ with_length long len (before ++ taken)
 with_more long len cut before taken e = ap (λ x. x ++ taken) e ∙ append_assoc (big_bytes (head_size long) len) before taken
@@ -265,6 +267,7 @@ text_kept gate old new piece ep en push left c = λ s cut st.
       before = x.before ++ piece;
       units = x.units ++ y.more;
       form = tn.form;
+      inside = tn.inside;
       is = tn.is;
       bound = x.bound;
       cut_is = is;
@@ -290,10 +293,10 @@ pub text_taken : (gate : Gate) (found : Bool) (old mid new : Seen) (taken : List
     → ((units : List ℕ) → EndsText old taken units → Tells (text_reason gate mid units) (after_text mid units) found mid new)
     → old.phase ≡ phase.Text → 0 < length taken
     → ((len : ℕ) (before units : List ℕ) → HasAccepted len before units old.scan → HasAcceptedAfter len (before ++ taken) units mid.scan)
-    → mid.scan.left ≡ 0 → Counts taken old mid → (found ≡ true → new.table.max ≡ mid.table.max)
+    → mid.scan.left ≡ 0 → Counts taken old mid
     → Takes gate taken found old new
 unfolding Takes
-text_taken gate found old mid new taken h ep some push left c em = λ s cut st.
+text_taken gate found old mid new taken h ep some push left c = λ s cut st.
     let x = text_stands old s cut ep st.stands in
     let y = push x.len x.before x.units x.accepted in
     let counted = y.accepted.counted in
@@ -309,7 +312,7 @@ text_taken gate found old mid new taken h ep some push left c em = λ s cut st.
       spelled = sym text;
       are_units = y.accepted.are_units;
     } in
-    whole_taken gate found old mid new s cut taken x.long units (h units end) st c em some (text_open old s cut x)
+    whole_taken gate found old mid new s cut taken x.long units (h units end) st c some (text_open old s cut x)
     (y.accepted.are_units, omega arith)
     (ap₂ (λ n bytes. big_bytes (head_size x.long) n ++ bytes) size (sym text) ∙ sym (with_more x.long x.len cut x.before taken x.cut_is))
 
@@ -330,16 +333,16 @@ last_undecided g l long len body b i k t short a c d e =
     ]
 
 bad_text_last : (gate : Gate) (next : State) (found : Bool) (old mid new : Seen) (s : State) (cut front taken : List ℕ) (b : ℕ) (x : TextStands old (settled s) cut)
-    → Tells (Some bad_text) next found mid new → Stands gate old (settled s) cut → Counts taken old mid → (found ≡ true → new.table.max ≡ mid.table.max)
+    → Tells (Some bad_text) next found mid new → Stands gate old (settled s) cut → Counts taken old mid
     → taken ≡ front ++ (b ∷ []) → length (x.before ++ taken) ≤ x.len → BeginsText x.len (x.before ++ front) → (BeginsText x.len (x.before ++ taken) → ⊥)
     → Took gate s cut taken found old new
-bad_text_last gate next found old mid new s cut front taken b x h st c em et size t none =
+bad_text_last gate next found old mid new s cut front taken b x h st c et size t none =
     let i = text_of old s x.long (text_open old s cut x) in
     let is = with_more x.long x.len cut x.before taken x.cut_is in
     let eb : x.before ++ taken ≡ (x.before ++ front) ++ (b ∷ []) = ap (λ z. x.before ++ z) et ∙ sym (append_assoc x.before front (b ∷ [])) in
     let n : length (x.before ++ taken) ≡ length (x.before ++ front) + 1 = ap length eb ∙ length-append (x.before ++ front) (b ∷ []) in
     let m : length taken ≡ length front + 1 = ap length et ∙ length-append front (b ∷ []) in
-    judged gate (Some bad_text) next found old mid new s cut taken h st c em (omega arith)
+    judged gate (Some bad_text) next found old mid new s cut taken h st c (omega arith)
     (subst (λ bytes. IsUndecided (verdict gate) (label_of (settled s)) bytes) (sym (is ∙ ap (with_length x.long x.len) eb))
     (last_undecided gate (label_of (settled s)) x.long x.len (x.before ++ front) b i.is_text x.bound t (omega arith)))
     (subst (λ bytes. reason_at gate (label_of (settled s)) (label_of (settled s)).position bytes ≡ Some bad_text) (sym is)
@@ -350,10 +353,10 @@ pub bad_text_taken : (gate : Gate) (next : State) (found : Bool) (old mid new : 
     → Tells (Some bad_text) next found mid new
     → old.phase ≡ phase.Text → length piece ≤ old.scan.left
     → ((len : ℕ) (before units : List ℕ) → HasAccepted len before units old.scan → FaultsAfter len before piece accepted)
-    → Counts (take (accepted + 1) piece) old mid → (found ≡ true → new.table.max ≡ mid.table.max)
+    → Counts (take (accepted + 1) piece) old mid
     → Takes gate (take (accepted + 1) piece) found old new
 unfolding Takes
-bad_text_taken gate next found old mid new piece accepted h ep within push c em = λ s cut st.
+bad_text_taken gate next found old mid new piece accepted h ep within push c = λ s cut st.
     let x = text_stands old s cut ep st.stands in
     let y = push x.len x.before x.units x.accepted in
     let r = take_last accepted piece y.within in
@@ -363,4 +366,4 @@ bad_text_taken gate next found old mid new piece accepted h ep within push c em 
     let inside = y.within in
     let n : length (take (accepted + 1) piece) ≡ accepted + 1 = length-take-le (accepted + 1) piece (omega arith) in
     let m : length (x.before ++ take (accepted + 1) piece) ≡ length x.before + length (take (accepted + 1) piece) = length-append x.before (take (accepted + 1) piece) in
-    bad_text_last gate next found old mid new s cut (take accepted piece) (take (accepted + 1) piece) r.0 x h st c em split (omega arith) y.begins y.fault
+    bad_text_last gate next found old mid new s cut (take accepted piece) (take (accepted + 1) piece) r.0 x h st c split (omega arith) y.begins y.fault

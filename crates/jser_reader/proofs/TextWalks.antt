@@ -18,6 +18,8 @@ use Rattle.jser_verdict.specs.TextsSoFar.{has_head, text_length, text_bytes, has
 use Rattle.jser_verdict.specs.Verdicts.{class_name_reason, interface_reason, reason_at, verdict}
 use Rattle.jser_verdict.proofs.Texts.{bad_text_is_exact}
 use Rattle.jser_verdict.proofs.Fronts.{FrontIsRight, text_front_short, text_front_long, not_whole, not_le}
+use Rattle.jser_verdict.proofs.ByteLists.{last_split}
+use Rattle.jser_verdict.proofs.ReadFields.{size_next}
 use Rattle.jser_verdict.proofs.Ends.{whole_short, units_short}
 use Rattle.jser_reader.proofs.WalkLemmas.{verdict_more}
 
@@ -126,13 +128,24 @@ spelled_reason g l long units i h = spelled_reason_at g l long l.position units 
 
 -- it is the field with these units
 pub spelled_found : (l : Label) (long : Bool) (units : List ℕ) → IsTextAt long l.position → IsText long units
-    → (size_in l.position (spelled long units) ≤ length (spelled long units))
+    → (size_in l.position (spelled long units) ≡ length (spelled long units))
     × (field_in l.position (spelled long units) ≡ Some (text_field long units))
 spelled_found l long units i h =
     let x = spelled_whole long units h in
     let size = size_at_text long l.position (spelled long units) i in
     let k = x.1 in
+    let least = go (spelled long units) refl in
     (omega arith, field_at_text long l.position (spelled long units) i ∙ x.0)
+  where
+    go : (bytes : List ℕ) → spelled long units ≡ bytes → length (spelled long units) ≤ size_in l.position (spelled long units)
+    go [] e = let n : length (spelled long units) ≡ 0 = ap length e in omega arith
+    go (b ∷ bytes) e =
+        let sp = last_split b bytes in
+        let is : spelled long units ≡ sp.0 ++ (sp.1 ∷ []) = e ∙ sp.2 in
+        let short = (spelled_whole long units h).2 sp.0 sp.1 [] is in
+        let size = size_at_text long l.position sp.0 i in
+        let n : length (sp.0 ++ (sp.1 ∷ [])) ≤ size_in l.position (sp.0 ++ (sp.1 ∷ [])) = size_next l.position sp.0 sp.1 (omega arith) in
+        subst (λ a. length a ≤ size_in l.position a) (sym is) n
 
 -- ---- the bytes that begin a text of this length
 

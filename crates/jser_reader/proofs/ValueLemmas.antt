@@ -13,7 +13,7 @@ use Rattle.jser_reader.specs.declared.phase.Phase.TheVariants as phase
 use Rattle.jser_reader.specs.declared.phase.TextFor.{TextFor}
 use Rattle.jser_reader.specs.declared.phase.TextFor.TheVariants as text
 use Rattle.jser_reader.specs.Reasons.{named}
-use Rattle.jser_reader.specs.Readers.{Seen, in_role, in_proxy, length_phase, Ready, IsForm}
+use Rattle.jser_reader.specs.Readers.{Seen, in_role, length_phase, Ready, IsForm, IsInside}
 use Rattle.jser_reader.specs.Steps.{after_value}
 use Rattle.jser_reader.specs.Handlers.{StopsWith, refusal, moved, Comes, Tells, TellCases, IsNext, Assigns, AssignCases, is_full, handle_reason, begun, place_reason, counted, after_tag, opens_text, opens_class, opens_proxy}
 use Rattle.jser_reader.proofs.EndLemmas.{next_is, tells_next}
@@ -31,35 +31,35 @@ pub back_begun : (b : Bool) (old new : Seen) → IsNext phase.BackHandle old.own
 unfolding begun Ready
 back_begun b old new n e =
     let r : Ready new (begun old reference_tag) = rw (next_is phase.BackHandle old.owner old.elements old.header old.text old new n) refl in
-    goes (begun old reference_tag) b old new (record { ready = r; meter = n.meter }) e
+    goes (begun old reference_tag) b old new (record { ready = r; meter = n.meter; max = ap (λ t. t.max) n.table }) e
 
 pub object_begun : (b : Bool) (old new : Seen) → IsNext phase.ClassTag owner.Object old.elements old.header old.text old new → b ≡ true
     → Tells (handle_reason old object_tag) (begun old object_tag) b old new
 unfolding begun Ready
 object_begun b old new n e =
     let r : Ready new (begun old object_tag) = rw (next_is phase.ClassTag owner.Object old.elements old.header old.text old new n) refl in
-    goes (begun old object_tag) b old new (record { ready = r; meter = n.meter }) e
+    goes (begun old object_tag) b old new (record { ready = r; meter = n.meter; max = ap (λ t. t.max) n.table }) e
 
 pub array_begun : (b : Bool) (old new : Seen) → IsNext phase.ClassTag owner.Array old.elements old.header old.text old new → b ≡ true
     → Tells (handle_reason old array_tag) (begun old array_tag) b old new
 unfolding begun Ready
 array_begun b old new n e =
     let r : Ready new (begun old array_tag) = rw (next_is phase.ClassTag owner.Array old.elements old.header old.text old new n) refl in
-    goes (begun old array_tag) b old new (record { ready = r; meter = n.meter }) e
+    goes (begun old array_tag) b old new (record { ready = r; meter = n.meter; max = ap (λ t. t.max) n.table }) e
 
 pub class_begun : (b : Bool) (old new : Seen) → IsNext phase.ClassTag owner.ClassObject old.elements old.header old.text old new → b ≡ true
     → Tells (handle_reason old class_tag) (begun old class_tag) b old new
 unfolding begun Ready
 class_begun b old new n e =
     let r : Ready new (begun old class_tag) = rw (next_is phase.ClassTag owner.ClassObject old.elements old.header old.text old new n) refl in
-    goes (begun old class_tag) b old new (record { ready = r; meter = n.meter }) e
+    goes (begun old class_tag) b old new (record { ready = r; meter = n.meter; max = ap (λ t. t.max) n.table }) e
 
 pub enum_begun : (b : Bool) (old new : Seen) → IsNext phase.ClassTag owner.EnumConst old.elements old.header old.text old new → b ≡ true
     → Tells (handle_reason old enum_tag) (begun old enum_tag) b old new
 unfolding begun Ready
 enum_begun b old new n e =
     let r : Ready new (begun old enum_tag) = rw (next_is phase.ClassTag owner.EnumConst old.elements old.header old.text old new n) refl in
-    goes (begun old enum_tag) b old new (record { ready = r; meter = n.meter }) e
+    goes (begun old enum_tag) b old new (record { ready = r; meter = n.meter; max = ap (λ t. t.max) n.table }) e
 
 pub desc_begun : (b : Bool) (old new : Seen) → Tells None (opens_class old role.Value) b old new → Tells (handle_reason old class_desc_tag) (begun old class_desc_tag) b old new
 unfolding begun opens_class
@@ -70,15 +70,15 @@ pub proxy_begun : (b : Bool) (old new : Seen) → Tells (told_if (is_full old) h
 unfolding begun opens_proxy
 proxy_begun b old new h = h
 
-pub string_begun : (b : Bool) (old new : Seen) → Tells (told_if (is_full old) handle_space None) (opens_text old text.Value false) b old new
+pub string_begun : (b : Bool) (old new : Seen) → (Unit {0} → Unit {0} → Tells (told_if (is_full old) handle_space None) (opens_text old text.Value false) b old new)
     → Tells (handle_reason old string_tag) (begun old string_tag) b old new
 unfolding begun opens_text
-string_begun b old new h = h
+string_begun b old new h = h tt tt
 
-pub long_string_begun : (b : Bool) (old new : Seen) → Tells (told_if (is_full old) handle_space None) (opens_text old text.Value true) b old new
+pub long_string_begun : (b : Bool) (old new : Seen) → (Unit {0} → Unit {0} → Tells (told_if (is_full old) handle_space None) (opens_text old text.Value true) b old new)
     → Tells (handle_reason old long_string_tag) (begun old long_string_tag) b old new
 unfolding begun opens_text
-long_string_begun b old new h = h
+long_string_begun b old new h = h tt tt
 
 -- handles
 
@@ -93,31 +93,28 @@ no_entry entry s b old new h e = rw e (by_room (is_full old) h)
 pub no_text : (s : State) (b : Bool) (old new : Seen) → Assigns text_entry None old new → b ≡ false → Tells (told_if (is_full old) handle_space None) s b old new
 no_text s b old new h e = no_entry text_entry s b old new h e
 
-pub no_proxy : (s : State) (b : Bool) (old new : Seen) → Assigns pending_entry None old new → b ≡ false → Tells (told_if (is_full old) handle_space None) s b old new
-no_proxy s b old new h e = no_entry pending_entry s b old new h e
-
 pub after_entry : (entry : TableEntry) (number : ℕ) (s : State) (b : Bool) (old mid new : Seen) → Assigns entry (Some number) old mid → Comes mid new s → b ≡ true
     → Tells (told_if (is_full old) handle_space None) s b old new
 unfolding Assigns
 after_entry entry number s b old mid new h k e =
     tells_next (told_if (is_full old) handle_space None) s b old new
-    (record { ready = k.ready; meter = k.meter ∙ ap (λ r. moved r.meter) h.2 }) e (ap (λ f. told_if f handle_space None) h.1)
+    (record { ready = k.ready; meter = k.meter ∙ ap (λ r. moved r.meter) h.2; max = k.max ∙ ap (λ r. r.table.max) h.2 }) e (ap (λ f. told_if f handle_space None) h.1)
 
 pub new_text : (number : ℕ) (long : Bool) (t : TextFor) (b : Bool) (old mid new : Seen) → Assigns text_entry (Some number) old mid
-    → IsNext (length_phase long) mid.owner mid.elements mid.header t mid new → IsForm t true → b ≡ true
+    → IsNext (length_phase long) mid.owner mid.elements mid.header t mid new → b ≡ true → IsForm t true → IsInside t old.frames
     → Tells (told_if (is_full old) handle_space None) (opens_text old t long) b old new
 unfolding Assigns opens_text Ready
-new_text number long t b old mid new h n form e =
-    after_entry text_entry number (opens_text old t long) b old mid new h (record { ready = by_form long t form n; meter = n.meter }) e
+new_text number long t b old mid new h n e form inside =
+    after_entry text_entry number (opens_text old t long) b old mid new h (record { ready = by_form long t form inside n; meter = n.meter; max = ap (λ t. t.max) n.table }) e
   where
-    by_form : (l : Bool) (u : TextFor) → IsForm u true → IsNext (length_phase l) mid.owner mid.elements mid.header u mid new → Ready new (opens_text old u l)
-    by_form false text.Value form n = rw (next_is phase.Length2 mid.owner mid.elements mid.header text.Value mid new n) (rw h.2 refl)
-    by_form true text.Value form n = rw (next_is phase.Length8 mid.owner mid.elements mid.header text.Value mid new n) (rw h.2 (form, refl))
-    by_form false text.FieldType form n = rw (next_is phase.Length2 mid.owner mid.elements mid.header text.FieldType mid new n) (rw h.2 refl)
-    by_form true text.FieldType form n = rw (next_is phase.Length8 mid.owner mid.elements mid.header text.FieldType mid new n) (rw h.2 (form, refl))
-    by_form l (text.FieldName is_object) form n = absurd form
-    by_form l text.ClassName form n = absurd form
-    by_form l text.InterfaceName form n = absurd form
+    by_form : (l : Bool) (u : TextFor) → IsForm u true → IsInside u old.frames → IsNext (length_phase l) mid.owner mid.elements mid.header u mid new → Ready new (opens_text old u l)
+    by_form false text.Value form inside n = rw (next_is phase.Length2 mid.owner mid.elements mid.header text.Value mid new n) (rw h.2 (inside, refl))
+    by_form true text.Value form inside n = rw (next_is phase.Length8 mid.owner mid.elements mid.header text.Value mid new n) (rw h.2 (form, inside, refl))
+    by_form false text.FieldType form inside n = rw (next_is phase.Length2 mid.owner mid.elements mid.header text.FieldType mid new n) (rw h.2 (inside, refl))
+    by_form true text.FieldType form inside n = rw (next_is phase.Length8 mid.owner mid.elements mid.header text.FieldType mid new n) (rw h.2 (form, inside, refl))
+    by_form l (text.FieldName is_object) form inside n = absurd form
+    by_form l text.ClassName form inside n = absurd form
+    by_form l text.InterfaceName form inside n = absurd form
 
 pub new_class : (r : Role) (b : Bool) (old mid new : Seen) → IsNext phase.Length2 mid.owner mid.elements mid.header text.ClassName mid new → b ≡ true
     → mid.header ≡ in_role old.header r → mid.meter ≡ old.meter → mid.frames ≡ old.frames → mid.layers ≡ old.layers → mid.table ≡ old.table → mid.refs ≡ old.refs
@@ -125,17 +122,8 @@ pub new_class : (r : Role) (b : Bool) (old mid new : Seen) → IsNext phase.Leng
 unfolding opens_class Ready
 new_class r b old mid new n e eh em ef ey et er =
     let ready : Ready new (opens_class old r) =
-    rw (next_is phase.Length2 mid.owner mid.elements mid.header text.ClassName mid new n) (rw eh (rw ef (rw ey (rw et (rw er refl))))) in
-    goes (opens_class old r) b old new (record { ready = ready; meter = n.meter ∙ ap moved em }) e
-
-pub new_proxy : (number : ℕ) (r : Role) (b : Bool) (old mid new : Seen) → Assigns pending_entry (Some number) old mid
-    → IsNext phase.InterfaceCount mid.owner mid.elements (in_proxy mid.header r number) mid.text mid new → b ≡ true
-    → Tells (told_if (is_full old) handle_space None) (opens_proxy old r) b old new
-unfolding Assigns opens_proxy Ready
-new_proxy number r b old mid new h n e =
-    let ready : Ready new (opens_proxy old r) =
-    rw (next_is phase.InterfaceCount mid.owner mid.elements (in_proxy mid.header r number) mid.text mid new n) (rw h.2 (rw h.0 refl)) in
-    after_entry pending_entry number (opens_proxy old r) b old mid new h (record { ready = ready; meter = n.meter }) e
+    rw (next_is phase.Length2 mid.owner mid.elements mid.header text.ClassName mid new n) (rw eh (rw ef (rw ey (rw et (rw er (tt, refl)))))) in
+    goes (opens_class old r) b old new (record { ready = ready; meter = n.meter ∙ ap moved em; max = ap (λ t. t.max) (n.table ∙ et) }) e
 
 -- the tag of a place
 
@@ -162,7 +150,7 @@ counted_tag tag b old mid new h em shallow few =
     rw deep (rw many (by_case (handle_reason old tag) b (subst (λ r. TellCases (handle_reason r tag) (begun r tag) b r new) em h)))
   where
     by_case : (told : Option Reason) (b : Bool) → TellCases told (begun (counted old) tag) b (counted old) new → TellCases told (begun (counted old) tag) b old new
-    by_case None true k = record { ready = k.ready; meter = k.meter }
+    by_case None true k = record { ready = k.ready; meter = k.meter; max = k.max }
     by_case None false k = record { phase = k.phase; stop = k.stop }
     by_case (Some r) true k = k
     by_case (Some r) false k = record { phase = k.phase; stop = k.stop }

@@ -19,7 +19,7 @@ use Rattle.jser_reader.specs.Frames.{head_layer, tail_layers, chain_owner, stack
 use Rattle.jser_reader.specs.declared.frame.Role.{Role}
 use Rattle.jser_reader.specs.declared.machine.supers.Closing.{Closing}
 use Rattle.jser_reader.specs.declared.machine.supers.Closing.TheVariants as closing_is
-use Rattle.jser_reader.specs.Readers.{Seen, moment_of}
+use Rattle.jser_reader.specs.Readers.{Seen, moment_of, top_number}
 use Rattle.jser_reader.specs.Steps.{after_value}
 use Rattle.jser_reader.specs.Handlers.{Tells, is_full, owner_state_at}
 
@@ -28,15 +28,6 @@ abbrev pub rest_layers : List Layer → List Layer
 rest_layers [] = no_layer ∷ []
 rest_layers (l ∷ []) = no_layer ∷ []
 rest_layers (l ∷ m ∷ ls) = m ∷ ls
-
--- the number of the descriptor on top
-abbrev pub top_number : List Frame → ℕ
-top_number [] = 0
-top_number (frame.Descriptor number role ∷ fs) = number
-top_number (frame.Elements left ∷ fs) = 0
-top_number (frame.Fields last section pos prims values ∷ fs) = 0
-top_number (frame.Notes last section ∷ fs) = 0
-top_number (frame.ExternalNotes ∷ fs) = 0
 
 -- the chain that the descriptor on top gets
 abbrev pub new_chain : Seen → Option ℕ → List Layer
@@ -98,6 +89,7 @@ ClosingCases (closing_is.Ended b) parent old new = Tells (closing_reason old) (c
 ClosingCases (closing_is.Superclass n) parent old new =
     (closed_state new (Some n) ≡ closed_state old parent) × (closing_reason new ≡ closing_reason old)
     × (new.meter ≡ old.meter) × IsTrue (is_closed (slice_get new.table.entries n)) × (length new.frames < length old.frames)
+    × (new.table.max ≡ old.table.max)
 
 unfoldable pub ClosesOne : Closing → Option ℕ → Seen → Seen → Type 0
 ClosesOne c parent old new = ClosingCases c parent old new
@@ -107,4 +99,5 @@ pub record ClosingOn (start : Seen) (parent : Option ℕ) (now : Seen) (above : 
   pub state : closed_state now above ≡ closed_state start parent
   pub reason : closing_reason now ≡ closing_reason start
   pub meter : now.meter ≡ start.meter
+  pub max : now.table.max ≡ start.table.max
   pub is_read : ForSome above (λ p. IsTrue (is_closed (slice_get now.table.entries p)))

@@ -45,6 +45,7 @@ moved meter = record { at = meter.at; from = meter.at; limits = meter.limits; st
 pub record Comes (old new : Seen) (s : State) : Type 0 where
   pub ready : Ready new s
   pub meter : new.meter ≡ moved old.meter
+  pub max : new.table.max ≡ old.table.max
 
 abbrev pub TellCases : Option ToldReason → State → Bool → Seen → Seen → Type 0
 TellCases None s true old new = Comes old new s
@@ -124,14 +125,14 @@ place_reason r tag =
     (told_if (nat_le r.meter.limits.refs r.refs) refs_exceeded (handle_reason r tag))
 
 abbrev pub counted : Seen → Seen
-counted r = record { meter = r.meter; phase = r.phase; frames = r.frames; layers = r.layers; table = r.table; refs = suc r.refs; owner = r.owner; elements = r.elements; header = r.header; text = r.text; left = r.left; scan = r.scan }
+counted r = record { meter = r.meter; phase = r.phase; frames = r.frames; layers = r.layers; table = r.table; refs = suc r.refs; owner = r.owner; elements = r.elements; header = r.header; text = r.text; left = r.left; scan = r.scan; name = r.name }
 
 unfoldable pub after_tag : Seen → Tag → State
 after_tag r tag = begun (counted r) tag
 
 -- An entry was added; or there is no handle left, or no memory.
 abbrev pub added : Seen → TableEntry → Seen
-added r entry = record { meter = r.meter; phase = r.phase; frames = r.frames; layers = r.layers; table = with_entry r.table entry; refs = r.refs; owner = r.owner; elements = r.elements; header = r.header; text = r.text; left = r.left; scan = r.scan }
+added r entry = record { meter = r.meter; phase = r.phase; frames = r.frames; layers = r.layers; table = with_entry r.table entry; refs = r.refs; owner = r.owner; elements = r.elements; header = r.header; text = r.text; left = r.left; scan = r.scan; name = r.name }
 
 abbrev pub AssignCases : TableEntry → Option ℕ → Bool → Seen → Seen → Type 0
 AssignCases entry (Some number) full old new = (number ≡ length old.table.entries) × (full ≡ false) × (new ≡ added old entry)
@@ -196,7 +197,7 @@ unfoldable pub object_state : Seen → List Layer → State
 object_state r chain = settle (moment_of r) (parts_goal (depth_of r) (object_parts (is_external chain) chain) ∷ goals_of r)
 
 abbrev pub ObjectCases : Bool → Seen → Seen → State → Type 0
-ObjectCases true old new s = Ready new s × (new.meter ≡ old.meter)
+ObjectCases true old new s = Ready new s × (new.meter ≡ old.meter) × (new.table.max ≡ old.table.max)
 ObjectCases false old new s = StopsWith stop.OutOfMemory old new
 
 unfoldable pub BeginsObject : List Layer → Bool → Seen → Seen → Type 0
@@ -204,7 +205,7 @@ BeginsObject chain b old new = ObjectCases b old new (object_state old chain)
 
 -- a frame was put on the stack, if there was memory
 abbrev pub pushed : Seen → Frame → Seen
-pushed r f = record { meter = r.meter; phase = r.phase; frames = f ∷ r.frames; layers = r.layers; table = r.table; refs = r.refs; owner = r.owner; elements = r.elements; header = r.header; text = r.text; left = r.left; scan = r.scan }
+pushed r f = record { meter = r.meter; phase = r.phase; frames = f ∷ r.frames; layers = r.layers; table = r.table; refs = r.refs; owner = r.owner; elements = r.elements; header = r.header; text = r.text; left = r.left; scan = r.scan; name = r.name }
 
 abbrev pub PushCases : Frame → Bool → Seen → Seen → Type 0
 PushCases f true old new = new ≡ pushed old f

@@ -1,4 +1,6 @@
 pub mod Walks
+pub mod Takes
+pub mod Cuts
 pub mod TextStates
 pub mod Stacks
 pub mod Frames
@@ -12,4 +14,6 @@ pub mod Classes
 pub mod Closing
 pub mod Superclasses
 pub mod Numbers
+pub mod Descriptors
+pub mod FieldLists
 pub mod Gates

@@ -1,5 +1,5 @@
 -- What a reader keeps, and the settled state of the reading machine for which it stands where a field begins.
-use Rattle.std.specs.Prelude.{◌≡◌, ℕ, suc, ◌*◌, ◌<◌, Bool, true, false, List, [], ◌∷◌, length, reverse, Option, option_map}
+use Rattle.std.specs.Prelude.{◌≡◌, ℕ, suc, ◌*◌, ◌<◌, Bool, true, false, List, [], ◌∷◌, length, reverse, Option, None, option_map}
 use Rattle.jser_prim.specs.Texts.{Scan}
 use Rattle.jser_table.specs.declared.layer.Layer.{Layer}
 use Rattle.jser_table.specs.declared.layer.LayerKind.{LayerKind}
@@ -7,7 +7,7 @@ use Rattle.jser_table.specs.declared.layer.LayerKind.TheVariants as kind
 use Rattle.jser_table.specs.Codes.{PrimCode, size_of}
 use Rattle.jser_table.specs.Names.{NameKind, plain_name, array_name}
 use Rattle.jser_table.specs.Tables.{TableView}
-use Rattle.jser_reading.specs.Roles.{is_strict_above}
+use Rattle.jser_reading.specs.Roles.{is_strict_above, own_class}
 use Rattle.jser_reading.specs.Roles.{Role as GoalRole}
 use Rattle.jser_reading.specs.Moments.{Moment, next_number}
 use Rattle.jser_reading.specs.Goals.{Part, raw_part, value_part, Goal, header_goal, top_goal, back_handle_goal, text_place_goal, text_handle_goal, field_name_goal, string_goal, block_length_goal, block_goal, array_length_goal, parts_goal, class_goal, class_handle_goal, superclass_goal, superclass_handle_goal, class_name_goal, suid_goal, flags_goal, field_count_goal, fields_goal, interface_count_goal, interfaces_goal, State, settle}
@@ -41,15 +41,14 @@ pub record Meter : Type 0 where
   pub cut_phase : Phase
   pub kept : List ℕ
 
--- the descriptor that is being read, up to its fields
+-- the head of the descriptor that is being read, up to its fields
 pub record Header : Type 0 where
   pub role : Role
-  pub number : ℕ
   pub kind : LayerKind
-  pub flags : ℕ
   pub seen : Bool
   pub codes : List ℕ
   pub fields : ℕ
+  pub interfaces : ℕ
 
 pub record Seen : Type 0 where
   pub meter : Meter
@@ -65,6 +64,8 @@ pub record Seen : Type 0 where
   pub text : TextFor
   pub left : ℕ
   pub scan : Scan
+  -- the units of the name of a class or an interface that is open
+  pub name : List ℕ
 
 abbrev pub moment_of : Seen → Moment
 moment_of r = record { table = r.table.entries; places = r.refs }
@@ -81,18 +82,30 @@ name_kind_of kind.Proxy = plain_name
 name_kind_of kind.Other = plain_name
 name_kind_of (kind.Array body) = array_name body
 
--- the role of the descriptor that is being read: before its frame is put on the stack, and after it
+-- the role of the descriptor whose name or suid is being read, and what comes after its superclass place
 abbrev pub head_role : Seen → GoalRole
 head_role r = goal_role (chain_owner r.frames) r.header.role
 
-abbrev pub field_role : Seen → GoalRole
-field_role r = goal_role (chain_owner (tail_of r.frames)) r.header.role
-
--- what comes after the superclass place of the descriptor that is being read
 abbrev pub header_goals : Seen → (number : ℕ) → List Goal
 header_goals r number = closed_goals r.table.chains r.layers r.frames r.header.role number
 
--- what comes after the superclass place of the descriptor on top
+-- the role and the number of the descriptor on top, and what comes after its superclass place
+abbrev pub top_role : List Frame → GoalRole
+top_role [] = own_class None
+top_role (frame.Descriptor number role ∷ fs) = goal_role (chain_owner fs) role
+top_role (frame.Elements left ∷ fs) = own_class None
+top_role (frame.Fields last section pos prims values ∷ fs) = own_class None
+top_role (frame.Notes last section ∷ fs) = own_class None
+top_role (frame.ExternalNotes ∷ fs) = own_class None
+
+abbrev pub top_number : List Frame → ℕ
+top_number [] = 0
+top_number (frame.Descriptor number role ∷ fs) = number
+top_number (frame.Elements left ∷ fs) = 0
+top_number (frame.Fields last section pos prims values ∷ fs) = 0
+top_number (frame.Notes last section ∷ fs) = 0
+top_number (frame.ExternalNotes ∷ fs) = 0
+
 abbrev pub opened_goals : List (List Layer) → List Layer → List Frame → List Goal
 opened_goals C L [] = []
 opened_goals C L (frame.Descriptor number role ∷ fs) = closed_goals C (tail_layers L) fs role number
@@ -104,14 +117,29 @@ opened_goals C L (frame.ExternalNotes ∷ fs) = []
 -- the fields of the descriptor on top that are still to come, and what comes after them
 abbrev pub fields_goals : Seen → (count : ℕ) → List Goal
 fields_goals r count =
-    fields_goal (field_role r) (length r.frames) r.header.number (name_kind_of r.header.kind) r.header.flags
+    fields_goal (top_role r.frames) (length r.frames) (top_number r.frames) (name_kind_of r.header.kind) (head_layer r.layers).flags
     r.header.seen (reverse r.header.codes) count
     ∷ opened_goals r.table.chains r.layers r.frames
 
 abbrev pub interfaces_goals : Seen → (count : ℕ) → List Goal
 interfaces_goals r count =
-    interfaces_goal (field_role r) (length r.frames) r.header.number count
+    interfaces_goal (top_role r.frames) (length r.frames) (top_number r.frames) count
     ∷ opened_goals r.table.chains r.layers r.frames
+
+-- the other fields of the descriptor on top
+abbrev pub flags_state : Seen → State
+flags_state r =
+    (moment_of r, flags_goal (top_role r.frames) (length r.frames) (top_number r.frames) (name_kind_of r.header.kind) ∷ opened_goals r.table.chains r.layers r.frames)
+
+abbrev pub field_count_state : Seen → (flags : ℕ) → State
+field_count_state r flags = (
+  moment_of r,
+  field_count_goal (top_role r.frames) (length r.frames) (top_number r.frames) (name_kind_of r.header.kind) flags ∷ opened_goals r.table.chains r.layers r.frames,
+)
+
+abbrev pub interface_count_state : Seen → State
+interface_count_state r =
+    (moment_of r, interface_count_goal (top_role r.frames) (length r.frames) (top_number r.frames) ∷ opened_goals r.table.chains r.layers r.frames)
 
 -- the depth of a text, and what comes after it
 abbrev pub text_depth : Seen → TextFor → ℕ
@@ -135,7 +163,7 @@ text_goal r text.FieldType long = string_goal long (length r.frames)
 text_goal r (text.FieldName is_object) long = field_name_goal (length r.frames)
 text_goal r text.ClassName long = class_name_goal (head_role r) (suc (length r.frames))
 text_goal r text.InterfaceName long =
-    interfaces_goal (field_role r) (length r.frames) r.header.number r.header.fields
+    interfaces_goal (top_role r.frames) (length r.frames) (top_number r.frames) r.header.interfaces
 
 -- names are short
 abbrev pub IsForm : TextFor → (long : Bool) → Type 0
@@ -147,6 +175,14 @@ IsForm text.ClassName true = ⊥
 IsForm text.ClassName false = Unit {0}
 IsForm text.InterfaceName true = ⊥
 IsForm text.InterfaceName false = Unit {0}
+
+-- the texts of a descriptor's fields and interfaces are read while its frame is on top
+abbrev pub IsInside : TextFor → List Frame → Type 0
+IsInside text.Value frames = Unit {0}
+IsInside text.FieldType frames = HasDescriptor frames
+IsInside (text.FieldName is_object) frames = HasDescriptor frames
+IsInside text.ClassName frames = Unit {0}
+IsInside text.InterfaceName frames = HasDescriptor frames
 
 -- the goals at a value, which the frame on top has counted already
 abbrev pub value_goals : List (List Layer) → List Layer → List Frame → List Goal
@@ -221,24 +257,24 @@ ReadyAt phase.Note r s = HasNotes r.frames × (s ≡ (moment_of r, goals_of r))
 ReadyAt phase.Value r s = HasPart r.frames × (s ≡ (moment_of r, value_goals r.table.chains r.layers r.frames))
 ReadyAt phase.ClassTag r s = s ≡ (moment_of r, class_goal (goal_owner r.owner) (depth_of r) ∷ goals_of r)
 ReadyAt phase.SuperTag r s = HasDescriptor r.frames × (s ≡ (moment_of r, superclass_goals r.table.chains r.layers r.frames))
-ReadyAt phase.TextTag r s = s ≡ (moment_of r, text_place_goal (text_depth r r.text) ∷ text_rest r r.text)
+ReadyAt phase.TextTag r s =
+    IsForm r.text true × IsInside r.text r.frames × (s ≡ (moment_of r, text_place_goal (text_depth r r.text) ∷ text_rest r r.text))
 ReadyAt phase.BackHandle r s = s ≡ (moment_of r, back_handle_goal (depth_of r) ∷ goals_of r)
 ReadyAt phase.ClassHandle r s = s ≡ (moment_of r, class_handle_goal (goal_owner r.owner) (depth_of r) ∷ goals_of r)
 ReadyAt phase.SuperHandle r s =
     HasDescriptor r.frames × (s ≡ (moment_of r, superclass_handle_goals r.table.chains r.layers r.frames))
-ReadyAt phase.TextHandle r s = s ≡ (moment_of r, text_handle_goal (text_depth r r.text) ∷ text_rest r r.text)
-ReadyAt phase.Length2 r s = s ≡ (moment_of r, text_goal r r.text false ∷ text_rest r r.text)
-ReadyAt phase.Length8 r s = IsForm r.text true × (s ≡ (moment_of r, text_goal r r.text true ∷ text_rest r r.text))
+ReadyAt phase.TextHandle r s =
+    IsForm r.text true × IsInside r.text r.frames × (s ≡ (moment_of r, text_handle_goal (text_depth r r.text) ∷ text_rest r r.text))
+ReadyAt phase.Length2 r s = IsInside r.text r.frames × (s ≡ (moment_of r, text_goal r r.text false ∷ text_rest r r.text))
+ReadyAt phase.Length8 r s =
+    IsForm r.text true × IsInside r.text r.frames × (s ≡ (moment_of r, text_goal r r.text true ∷ text_rest r r.text))
 ReadyAt phase.Text r s = ⊥
 ReadyAt phase.Suid r s =
     s ≡ (moment_of r, suid_goal (head_role r) (depth_of r) (name_kind_of r.header.kind) ∷ header_goals r (next_number (moment_of r)))
-ReadyAt phase.Flags r s =
-    s ≡ (moment_of r, flags_goal (head_role r) (depth_of r) r.header.number (name_kind_of r.header.kind) ∷ header_goals r r.header.number)
-ReadyAt phase.FieldCount r s =
-    s ≡ (moment_of r, field_count_goal (head_role r) (depth_of r) r.header.number (name_kind_of r.header.kind) r.header.flags ∷ header_goals r r.header.number)
-ReadyAt phase.TypeCode r s = (0 < r.header.fields) × (s ≡ (moment_of r, fields_goals r r.header.fields))
-ReadyAt phase.InterfaceCount r s =
-    s ≡ (moment_of r, interface_count_goal (head_role r) (depth_of r) r.header.number ∷ header_goals r r.header.number)
+ReadyAt phase.Flags r s = HasDescriptor r.frames × (s ≡ flags_state r)
+ReadyAt phase.FieldCount r s = HasDescriptor r.frames × (s ≡ field_count_state r (head_layer r.layers).flags)
+ReadyAt phase.TypeCode r s = HasDescriptor r.frames × (0 < r.header.fields) × (s ≡ (moment_of r, fields_goals r r.header.fields))
+ReadyAt phase.InterfaceCount r s = HasDescriptor r.frames × (s ≡ interface_count_state r)
 ReadyAt phase.ArrayLength r s = LengthReady r s
 ReadyAt phase.BlockLength1 r s = s ≡ (moment_of r, block_length_goal false (length r.frames) ∷ goals_of r)
 ReadyAt phase.BlockLength4 r s = s ≡ (moment_of r, block_length_goal true (length r.frames) ∷ goals_of r)
@@ -257,10 +293,7 @@ length_phase true = phase.Length8
 
 -- the head of a descriptor that is read in this role
 abbrev pub in_role : Header → Role → Header
-in_role h role = record { role = role; number = h.number; kind = h.kind; flags = h.flags; seen = h.seen; codes = h.codes; fields = h.fields }
-
-abbrev pub in_proxy : Header → Role → (number : ℕ) → Header
-in_proxy h role number = record { role = role; number = number; kind = h.kind; flags = h.flags; seen = h.seen; codes = h.codes; fields = h.fields }
+in_role h role = record { role = role; kind = h.kind; seen = h.seen; codes = h.codes; fields = h.fields; interfaces = h.interfaces }
 
 -- the field that is the length of a block
 abbrev pub block_phase : (long : Bool) → Phase

@@ -4,16 +4,16 @@ use Rattle.jser_prim.specs.ModifiedUtf8.{IsUnits, modified_utf8}
 use Rattle.jser_prim.specs.Texts.{HasAccepted}
 use Rattle.jser_table.specs.Names.{name_kind}
 use Rattle.jser_reading.specs.Moments.{next_number}
-use Rattle.jser_reading.specs.Labels.{StreamField, tag_field, reference_tag, string_tag, long_string_tag}
+use Rattle.jser_reading.specs.Labels.{StreamField, tag_field, reference_tag, string_tag, long_string_tag, text_place_at, text_handle_at}
 use Rattle.jser_reading.specs.Goals.{State, settle, text_handle_goal, suid_goal}
 use Rattle.jser_reading.specs.Machine.{type_goals}
 use Rattle.jser_verdict.specs.Reasons.{Reason}
 use Rattle.jser_verdict.specs.Gates.{Gate}
-use Rattle.jser_verdict.specs.Verdicts.{class_name_reason, interface_reason}
+use Rattle.jser_verdict.specs.Verdicts.{class_name_reason, interface_reason, other_tag_reason, text_handle_reason}
 use Rattle.jser_reader.specs.declared.phase.TextFor.{TextFor}
 use Rattle.jser_reader.specs.declared.phase.TextFor.TheVariants as text
 use Rattle.jser_reader.specs.Readers.{Seen, moment_of, depth_of, goals_of, head_role, header_goals, fields_goals, interfaces_goals, text_depth, text_rest}
-use Rattle.jser_reader.specs.Handlers.{opens_text}
+use Rattle.jser_reader.specs.Handlers.{opens_text, plain_gate, label_at}
 
 -- a class name and an interface name are asked of the gate
 abbrev pub text_reason_of : Gate → Seen → TextFor → List ℕ → Option Reason
@@ -32,11 +32,18 @@ text_state_of r text.FieldType units = settle (moment_of r) (fields_goals r r.he
 text_state_of r (text.FieldName is_object) units = settle (moment_of r) (type_goals is_object (length r.frames) (fields_goals r r.header.fields))
 text_state_of r text.ClassName units =
     (moment_of r, suid_goal (head_role r) (depth_of r) (name_kind units) ∷ header_goals r (next_number (moment_of r)))
-text_state_of r text.InterfaceName units = settle (moment_of r) (interfaces_goals r (r.header.fields - 1))
+text_state_of r text.InterfaceName units = settle (moment_of r) (interfaces_goals r (r.header.interfaces - 1))
 
 -- the state after the text that the machine reads, with these units
 unfoldable pub after_text : Seen → List ℕ → State
 after_text r units = text_state_of r r.text units
+
+-- for what a tag in a text place is refused, and a handle
+abbrev pub text_tag_reason : Seen → ℕ → Option Reason
+text_tag_reason r b = other_tag_reason (plain_gate r) (label_at text_place_at (text_depth r r.text) r) b
+
+abbrev pub handle_reason : Seen → ℕ → Option Reason
+handle_reason r n = text_handle_reason (label_at text_handle_at (text_depth r r.text) r) n
 
 -- the state after the tag of a text place
 abbrev pub after_text_tag : Seen → Option StreamField → State

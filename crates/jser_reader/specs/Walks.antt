@@ -4,11 +4,14 @@ use Rattle.std.specs.Prelude.{ℕ, suc, ◌≡◌, ◌+◌, ◌*◌, ◌<◌, Bo
 use Rattle.jser_prim.specs.Bytes.{big_bytes}
 use Rattle.jser_prim.specs.Texts.{HasAccepted}
 use Rattle.jser_table.specs.Codes.{PrimCode, size_of}
-use Rattle.jser_grammar.specs.Parts.{text_bound}
+use Rattle.jser_grammar.specs.Parts.{text_bound, IsBytes}
 use Rattle.jser_reading.specs.Goals.{Part, raw_part, Goal, parts_goal, block_goal, State, settle, settled}
-use Rattle.jser_reading.specs.FieldsFromBytes.{head_size}
-use Rattle.jser_reading.specs.Machine.{begin_state}
-use Rattle.jser_reading.specs.Scanner.{ended, refused, walk}
+use Rattle.jser_reading.specs.Labels.{StreamField, Piece}
+use Rattle.jser_reading.specs.FieldBytes.{joined}
+use Rattle.jser_reading.specs.FieldsFromBytes.{head_size, size_in}
+use Rattle.jser_reading.specs.Accepts.{label_of}
+use Rattle.jser_reading.specs.Machine.{begin_state, advance, Runs, left}
+use Rattle.jser_reading.specs.Scanner.{good, ended, refused, walk}
 use Rattle.jser_verdict.specs.Reasons.{turn}
 use Rattle.jser_verdict.specs.Reasons.{Reason as ToldReason}
 use Rattle.jser_verdict.specs.Gates.{Gate, Answer}
@@ -20,7 +23,7 @@ use Rattle.jser_reader.specs.declared.refusal.Refusal.{Refusal}
 use Rattle.jser_reader.specs.declared.refusal.Stop.{Stop}
 use Rattle.jser_reader.specs.declared.refusal.Stop.TheVariants as stop
 use Rattle.jser_reader.specs.Reasons.{named}
-use Rattle.jser_reader.specs.Readers.{Seen, moment_of, goals_of, text_goal, text_rest, IsForm, ReadyAt}
+use Rattle.jser_reader.specs.Readers.{Seen, moment_of, goals_of, text_goal, text_rest, IsForm, IsInside, ReadyAt}
 
 -- the gate with the limits of the machine, and this answer to names
 abbrev pub gate_with : Seen → (List ℕ → Answer) → Gate
@@ -86,6 +89,7 @@ pub record TextStands (r : Seen) (s : State) (cut : List ℕ) : Type 0 where
   pub before : List ℕ
   pub units : List ℕ
   pub form : IsForm r.text long
+  pub inside : IsInside r.text r.frames
   pub is : s ≡ (moment_of r, text_goal r r.text long ∷ text_rest r r.text)
   pub bound : len < text_bound long
   pub cut_is : cut ≡ big_bytes (head_size long) len ++ before
@@ -142,13 +146,17 @@ pub record Stands (gate : Gate) (r : Seen) (s : State) (cut : List ℕ) : Type 0
   pub stands : StandsAt r.phase r s cut
   pub counts : r.meter.at ≡ r.meter.from + length cut
 
--- the machine took these bytes, and stands where the walk over them ends
+-- The machine took these bytes, no more than the gate allows: whole fields, and some bytes of the one that is open. It
+-- stands where the walk over them ends.
 pub record StandsFor (gate : Gate) (bytes : List ℕ) (r : Seen) : Type 0 where
-  pub state : State
+  pub fields : List Piece
   pub cut : List ℕ
-  pub walked : walk (verdict gate) begin_state [] bytes ≡ ended state cut
-  pub stands : Stands gate r (settled state) cut
+  pub runs : Runs begin_state fields
+  pub are_fields : bytes ≡ joined fields ++ cut
+  pub walked : walk (verdict gate) begin_state [] bytes ≡ ended (left begin_state fields) cut
+  pub stands : Stands gate r (settled (left begin_state fields)) cut
   pub taken : r.meter.at ≡ length bytes
+  pub all_bytes : IsBytes bytes
 
 -- the walk refuses the bytes of the field up to here, and the refusal says where they are and why
 pub record IsRefusal (gate : Gate) (s : State) (cut taken : List ℕ) (from : ℕ) (refusal : Refusal) : Type 0 where
@@ -165,9 +173,11 @@ StopTold gate s cut taken from stop.Spent = ⊥
 
 -- the bytes end the open field, and the machine stands for the state to which it leads
 pub record Ends (gate : Gate) (s : State) (cut taken : List ℕ) (old new : Seen) : Type 0 where
-  pub state : State
-  pub walks : (rest : List ℕ) → walk (verdict gate) s cut (taken ++ rest) ≡ walk (verdict gate) state [] rest
-  pub stands : Stands gate new (settled state) []
+  pub field : StreamField
+  pub is_good : verdict gate (label_of (settled s)) (cut ++ taken) ≡ good field
+  pub whole : size_in (label_of (settled s)).position (cut ++ taken) ≡ length (cut ++ taken)
+  pub walks : (rest : List ℕ) → walk (verdict gate) s cut (taken ++ rest) ≡ walk (verdict gate) (advance (settled s) field) [] rest
+  pub stands : Stands gate new (settled (advance (settled s) field)) []
   pub at : new.meter.at ≡ old.meter.at + length taken
 
 abbrev pub Took : Gate → State → (cut taken : List ℕ) → Bool → Seen → Seen → Type 0

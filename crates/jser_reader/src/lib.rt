@@ -3,6 +3,8 @@
 //! that is being read.
 #![tactic(auto)]
 
+mod cut;
+mod field_list;
 mod frame;
 mod gate;
 mod machine;

@@ -3,24 +3,34 @@
 //! There is a frame for each array, object and descriptor that is open, so the depth is the length of the stack.
 //! A handler of a field answers false where the machine has stopped; `stop` then says why.
 
+use crate::cut::Cut;
+use crate::field_list::FieldList;
 use crate::frame::{Frame, Owner, Role};
 use crate::phase::{Phase, TextFor};
 use crate::refusal::Stop;
 use crate::stack::Stack;
-use arrayvec::ArrayVec;
 use jser_prim::TextScan;
 use jser_table::{Layer, LayerKind, Table};
 use std::alloc::Global;
 use std::marker::Model;
 
 mod classes;
+mod descriptors;
 mod ends;
+mod fields;
 mod numbers;
 mod owners;
 mod parts;
 mod superclasses;
 mod supers;
 mod tags;
+mod take_cut;
+mod take_header;
+mod take_numbers;
+mod take_raw;
+mod take_tags;
+mod taken;
+mod texts;
 mod values;
 
 /// The limits that a gate sets, but for the handles of an epoch, which the table keeps.
@@ -52,24 +62,22 @@ pub(crate) struct Machine {
     owner: Owner,
     /// The size of the elements of the array whose length comes next, where they are raw values.
     elements: Option<u8>,
-    /// What the descriptor is read as whose head is being read, its number, and what its name and flags said.
+    /// What the descriptor is read as whose head is being read, what its name said, its fields, and how many
+    /// interfaces of a proxy are still to come.
     role: Role,
-    number: u32,
     kind: LayerKind,
-    flags: u8,
-    /// Whether one of its fields is no primitive, the type codes so far, and how many fields or interfaces are left.
-    seen: bool,
-    codes: Vec<u8>,
-    fields: u32,
+    fields: FieldList,
+    interfaces: u32,
     /// The layer of the innermost descriptor that is open, and those of the others.
     layer: Layer,
     outer: Vec<Layer>,
     text: TextFor,
     scan: TextScan,
+    /// The units so far of the name of a class or an interface that is being read.
+    name: Vec<u16>,
     stop: Stop,
-    /// The first bytes of a number that was cut, and the field it is.
-    cut_phase: Phase,
-    kept: ArrayVec<u8, 8>,
+    /// The number that was cut, if one was.
+    cut: Cut,
 }
 
 impl Model for Machine {
@@ -80,7 +88,7 @@ impl Model for Machine {
     ghost Value = { Seen };
 
     ghost view = { λ a. record {
-      meter = record { at = a.at; from = a.from; limits = record { bytes = a.limits.bytes; depth = a.limits.depth; refs = a.limits.refs; array = a.limits.array }; stop = a.stop; cut_phase = a.cut_phase; kept = a.kept.items };
+      meter = record { at = a.at; from = a.from; limits = record { bytes = a.limits.bytes; depth = a.limits.depth; refs = a.limits.refs; array = a.limits.array }; stop = a.stop; cut_phase = a.cut.phase; kept = a.cut.kept };
       phase = a.phase;
       frames = a.frames;
       layers = a.layer ∷ reverse a.outer.items;
@@ -88,10 +96,11 @@ impl Model for Machine {
       refs = a.refs;
       owner = a.owner;
       elements = a.elements;
-      header = record { role = a.role; number = a.number; kind = a.kind; flags = a.flags; seen = a.seen; codes = a.codes.items; fields = a.fields };
+      header = record { role = a.role; kind = a.kind; seen = a.fields.has_object; codes = a.fields.codes; fields = a.fields.left; interfaces = a.interfaces };
       text = a.text;
       left = a.left;
       scan = a.scan;
+      name = a.name.items;
     } };
 
     ghost invariant = { λ a. AllFit a.table.entries a.table.chains a.frames };

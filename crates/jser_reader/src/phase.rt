@@ -1,4 +1,6 @@
 //! The field that comes next or is being read.
+ghost use Rattle.std.specs.Prelude.{◌≡◌};
+ghost use Rattle.jser_reader.specs.Walks.{size_of_phase};
 
 /// What a text is, which decides what comes after it.
 #[derive(Clone, Copy, PartialEq, Eq)]
@@ -70,4 +72,23 @@ pub(crate) enum Phase {
     Cut,
     /// Nothing: the reader has stopped.
     Stopped,
+}
+
+impl Phase {
+    /// How many bytes the field has, where it is the header, a tag or a number; none where it is anything else.
+    pub(crate) fn size(self) -> usize
+        ensures { result ≡ size_of_phase self }
+    {
+        match self {
+            Phase::Top | Phase::Note | Phase::Value | Phase::ClassTag => 1,
+            Phase::SuperTag | Phase::TextTag | Phase::Flags | Phase::TypeCode => 1,
+            Phase::BlockLength1 => 1,
+            Phase::Length2 | Phase::FieldCount => 2,
+            Phase::Header | Phase::BackHandle | Phase::ClassHandle | Phase::SuperHandle => 4,
+            Phase::TextHandle | Phase::InterfaceCount | Phase::ArrayLength => 4,
+            Phase::BlockLength4 => 4,
+            Phase::Length8 | Phase::Suid => 8,
+            Phase::Text | Phase::Prims | Phase::Bytes | Phase::Cut | Phase::Stopped => 0,
+        }
+    }
 }

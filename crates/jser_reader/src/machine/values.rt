@@ -4,7 +4,7 @@ ghost use Rattle.jser_table.specs.Tables.{new_entry};
 ghost use Rattle.jser_verdict.specs.Reasons.{handle_space};
 ghost use Rattle.jser_verdict.specs.Verdicts.{told_if};
 ghost use Rattle.jser_reader.specs.Tags.{told_tag};
-ghost use Rattle.jser_reader.specs.Readers.{in_proxy, length_phase, IsForm};
+ghost use Rattle.jser_reader.specs.Readers.{length_phase, IsForm, IsInside};
 ghost use Rattle.jser_reader.specs.Handlers.{Tells, Assigns, IsNext, is_full, handle_reason, begun, place_reason, after_tag, opens_class, opens_proxy, opens_text};
 
 use crate::frame::{Owner, Role};
@@ -58,8 +58,7 @@ impl Machine {
     /// A new string: its handle is assigned at its tag.
     #[tactic(auto, using(crate::proofs::ValueLemmas::no_text, crate::proofs::ValueLemmas::new_text))]
     pub(super) fn new_text(&mut self, text: TextFor, long: bool) -> bool
-        requires string { IsForm text true }
-        ensures { Tells (told_if (is_full self.old) handle_space None) (opens_text self.old text long) result self.old self.new }
+        ensures { IsForm text true → IsInside text self.old.frames → Tells (told_if (is_full self.old) handle_space None) (opens_text self.old text long) result self.old self.new }
     {
         if self.assign(Kind::Text).is_none() {
             return false;
@@ -76,25 +75,15 @@ impl Machine {
         self.next_text(TextFor::ClassName, false)
     }
 
-    /// The number of interfaces of the proxy descriptor comes next that has this number and is read in this role.
-    fn next_proxy(&mut self, role: Role, number: u32) -> bool
-        ensures next { IsNext Phase.InterfaceCount self.old.owner self.old.elements (in_proxy self.old.header role number) self.old.text self.old self.new }
-        ensures result { result ≡ true }
-    {
-        self.role = role;
-        self.number = number;
-        self.done(Phase::InterfaceCount)
-    }
-
     /// A new proxy descriptor, read in this role: its handle is assigned at its tag.
-    #[tactic(auto, using(crate::proofs::ValueLemmas::no_proxy, crate::proofs::ValueLemmas::new_proxy))]
+    #[tactic(auto, using(crate::proofs::DescriptorLemmas::no_descriptor, crate::proofs::DescriptorLemmas::new_proxy))]
     pub(super) fn new_proxy(&mut self, role: Role) -> bool
         ensures { Tells (told_if (is_full self.old) handle_space None) (opens_proxy self.old role) result self.old self.new }
     {
-        match self.assign(Kind::Pending) {
-            None => false,
-            Some(number) => self.next_proxy(role, number),
+        if !self.new_descriptor(role) {
+            return false;
         }
+        self.done(Phase::InterfaceCount)
     }
 
     /// The tag of a value whose place has been counted.

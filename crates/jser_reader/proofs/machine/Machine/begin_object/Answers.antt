@@ -9,4 +9,4 @@ returns-in_default c =
     let chain = chain_in c.args.self.now.table.chains c.args.chain in
     let none : AreSections c.args.self.now.table.chains chain None = search rules in
     let bare : is_external chain ≡ false = search rules in
-    bare_object c.args.self.now.table.chains chain _ _ _ none refl bare c.value_done.ensures.ready c.value_done.ensures.meter
+    bare_object c.args.self.now.table.chains chain _ _ _ none refl bare c.value_done.ensures.ready c.value_done.ensures.meter c.value_done.ensures.kept

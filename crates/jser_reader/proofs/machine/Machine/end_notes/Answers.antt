@@ -8,7 +8,7 @@ pub returns-then-not-next_section-clause-end : goal.returns-then-not-next_sectio
 returns-then-not-next_section-clause-end c =
     let none : c.next_section.result ≡ false = search rules in
     let top : c.args.self.now.frames ≡ frame.Notes c.in-Notes.last c.in-Notes.section ∷ tail_of c.args.self.now.frames = search rules in
-    λ notes. sections_end c.args.self.now _ _ _ _ c.in-Notes.last c.in-Notes.section _ c.next_section.ensures.part none c.value_done.ensures.ready top
+    λ notes. sections_end c.args.self.now _ _ _ _ c.in-Notes.last c.in-Notes.section _ c.next_section.ensures.part none c.value_done.ensures.ready c.value_done.ensures.kept top
     (search rules) (search rules) (search rules) (search rules) (search rules) (search rules) (search rules) (search rules) (search rules) (search rules) (search rules)
 
 pub returns-else-not-next_section-clause-end : goal.returns-else-not-next_section-clause-end

@@ -1,0 +1,144 @@
+-- Numbers that may be cut, and what becomes of their bytes.
+use Rattle.std.proofs.Common.{◌≡◌, ℕ, ◌+◌, ◌<◌, ◌≤◌, Bool, true, false, List, ◌++◌, length, take, refl, sym, ◌∙◌, ap, subst, arith, length-append}
+use Rattle.std.proofs.lemmas.List.{length-take-le}
+use Rattle.jser_prim.specs.Bytes.{big_bytes}
+use Rattle.jser_verdict.specs.Gates.{Gate}
+use Rattle.jser_reader.specs.declared.machine.taken.Taken.{Taken}
+use Rattle.jser_reader.specs.declared.machine.taken.Taken.TheVariants as taken
+use Rattle.jser_reader.specs.declared.phase.Phase.{Phase}
+use Rattle.jser_reader.specs.declared.phase.Phase.TheVariants as phase
+use Rattle.jser_reader.specs.Readers.{Seen}
+use Rattle.jser_reader.specs.Walks.{size_of_phase, open_phase, cut_of, Takes}
+use Rattle.jser_reader.specs.Cuts.{IsFour, CanBeCut, IsCutField}
+use Rattle.jser_reader.specs.Takes.{TakesNumber, CutsOff, TakesFrom, taken_by}
+use Rattle.jser_reader.proofs.PhaseLemmas.{IsFixed, whole_open, cut_open}
+use Rattle.jser_reader.proofs.FixedWalks.{number_kept}
+
+pub cuts_off : (piece : List ℕ) (old new : Seen) → IsCutField old.phase piece
+    → new.phase ≡ phase.Cut → new.meter.cut_phase ≡ old.phase → new.meter.kept ≡ piece
+    → new.meter.at ≡ old.meter.at + length piece → new.meter.from ≡ old.meter.from → new.meter.limits ≡ old.meter.limits
+    → new.frames ≡ old.frames → new.layers ≡ old.layers → new.table ≡ old.table → new.refs ≡ old.refs → new.owner ≡ old.owner
+    → new.elements ≡ old.elements → new.header ≡ old.header → new.text ≡ old.text
+    → CutsOff piece old new
+cuts_off piece old new i ep ec ek ea em el ef ey et er eo es eh ex =
+    let short = i.short in
+    let w = whole_open old.phase old refl (omega arith) in
+    record {
+      phase_is = ep;
+      cut_phase = ec ∙ sym w.0;
+      kept = ek ∙ sym (ap (λ xs. xs ++ piece) w.1);
+      counts = record { at = ea; from = em; limits = el; frames = ef; layers = ey; table = et; refs = er; owner = eo; elements = es; header = eh; text = ex };
+    }
+
+pub cuts_again : (piece : List ℕ) (old new : Seen) → old.phase ≡ phase.Cut
+    → new.phase ≡ old.phase → new.meter.cut_phase ≡ old.meter.cut_phase → new.meter.kept ≡ old.meter.kept ++ piece
+    → new.meter.at ≡ old.meter.at + length piece → new.meter.from ≡ old.meter.from → new.meter.limits ≡ old.meter.limits
+    → new.frames ≡ old.frames → new.layers ≡ old.layers → new.table ≡ old.table → new.refs ≡ old.refs → new.owner ≡ old.owner
+    → new.elements ≡ old.elements → new.header ≡ old.header → new.text ≡ old.text
+    → CutsOff piece old new
+cuts_again piece old new e ep ec ek ea em el ef ey et er eo es eh ex =
+    let w = cut_open old e in
+    record {
+      phase_is = ep ∙ e;
+      cut_phase = ec ∙ sym w.0;
+      kept = ek ∙ sym (ap (λ xs. xs ++ piece) w.1);
+      counts = record { at = ea; from = em; limits = el; frames = ef; layers = ey; table = et; refs = er; owner = eo; elements = es; header = eh; text = ex };
+    }
+
+-- ---- numbers of four bytes
+
+pub no_other_four : (p : Phase) → IsFour p → (p ≡ phase.BackHandle → ⊥) → (p ≡ phase.ClassHandle → ⊥)
+    → (p ≡ phase.SuperHandle → ⊥) → (p ≡ phase.ArrayLength → ⊥) → (p ≡ phase.BlockLength4 → ⊥) → ⊥
+no_other_four phase.BackHandle i b c s a l = b refl
+no_other_four phase.ClassHandle i b c s a l = c refl
+no_other_four phase.SuperHandle i b c s a l = s refl
+no_other_four phase.ArrayLength i b c s a l = a refl
+no_other_four phase.BlockLength4 i b c s a l = l refl
+no_other_four _ i b c s a l = absurd i
+
+-- the phase is a number of so many bytes
+pub record IsNumberOf (size : ℕ) (p : Phase) : Type 0 where
+  pub fixed : IsFixed p
+  pub size_is : size_of_phase p ≡ size
+  pub other : p ≡ phase.Header → ⊥
+
+pub four_is : (p : Phase) → IsFour p → IsNumberOf 4 p
+four_is phase.BackHandle i = record { fixed = tt; size_is = refl; other = λ e. absurd (cc) }
+four_is phase.ClassHandle i = record { fixed = tt; size_is = refl; other = λ e. absurd (cc) }
+four_is phase.SuperHandle i = record { fixed = tt; size_is = refl; other = λ e. absurd (cc) }
+four_is phase.ArrayLength i = record { fixed = tt; size_is = refl; other = λ e. absurd (cc) }
+four_is phase.BlockLength4 i = record { fixed = tt; size_is = refl; other = λ e. absurd (cc) }
+four_is _ i = absurd i
+
+-- a number of which the piece has not all bytes
+number_open : (size : ℕ) (p : Phase) (piece : List ℕ) (old new : Seen) → CutsOff piece old new → IsNumberOf size p → open_phase old ≡ p
+    → 0 < length piece → length (cut_of old ++ piece) < size → TakesFrom taken.Open piece old new
+unfolding TakesFrom
+number_open size p piece old new c f eo some short =
+    let s = f.size_is in
+    let n : length (cut_of old ++ piece) ≡ length (cut_of old) + length piece = length-append (cut_of old) piece in
+    λ gate. number_kept gate p old new piece c.phase_is (c.cut_phase ∙ eo) c.kept eo f.fixed f.other (omega arith) (omega arith) c.counts
+
+-- one of which it has
+number_came : (size n count : ℕ) (found : Bool) (result : Taken) (piece : List ℕ) (old new : Seen) → TakesNumber size n count found old new
+    → result ≡ taken_by count found → 0 < count → count ≤ length piece → big_bytes size n ≡ cut_of old ++ take count piece → TakesFrom result piece old new
+unfolding TakesNumber TakesFrom
+number_came size n count found result piece old new h er some within spelled =
+    subst (λ r. TakesFrom r piece old new) (sym er)
+    (go found (λ gate. h gate (take count piece) (length-take-le count piece within) spelled))
+  where
+    go : (f : Bool) → ((gate : Gate) → Takes gate (take count piece) f old new) → TakesFrom (taken_by count f) piece old new
+    go true k = (some, within, k)
+    go false k = (some, within, k)
+
+-- a number that comes next
+
+pub first_kept : (size : ℕ) (piece : List ℕ) (old new : Seen) → CutsOff piece old new → IsNumberOf size old.phase → 0 < length piece → length piece < size
+    → TakesFrom taken.Open piece old new
+first_kept size piece old new c f some short =
+    let s = f.size_is in
+    let w = whole_open old.phase old refl (omega arith) in
+    number_open size old.phase piece old new c f w.0 some (rw w.1 short)
+
+pub all_taken : (size n : ℕ) (found : Bool) (result : Taken) (piece : List ℕ) (old new : Seen) → TakesNumber size n size found old new
+    → result ≡ taken_by size found → IsNumberOf size old.phase → 0 < size → big_bytes size n ≡ take size piece → size ≤ length piece
+    → TakesFrom result piece old new
+all_taken size n found result piece old new h er f some spelled long =
+    let s = f.size_is in
+    let w = whole_open old.phase old refl (omega arith) in
+    number_came size n size found result piece old new h er some long (spelled ∙ sym (ap (λ xs. xs ++ take size piece) w.1))
+
+-- a number that was cut
+
+pub rest_kept : (size missing : ℕ) (piece : List ℕ) (old new : Seen) → CutsOff piece old new → IsNumberOf size old.meter.cut_phase → old.phase ≡ phase.Cut
+    → length old.meter.kept + missing ≡ size_of_phase old.meter.cut_phase → 0 < length piece → length piece < missing
+    → TakesFrom taken.Open piece old new
+rest_kept size missing piece old new c f e all some short =
+    let s = f.size_is in
+    let w = cut_open old e in
+    let n : length (old.meter.kept ++ piece) ≡ length old.meter.kept + length piece = length-append old.meter.kept piece in
+    number_open size old.meter.cut_phase piece old new c f w.0 some (rw w.1 (omega arith))
+
+pub rest_taken : (size n missing : ℕ) (found : Bool) (result : Taken) (piece last : List ℕ) (old new : Seen) → TakesNumber size n missing found old new
+    → result ≡ taken_by missing found → old.phase ≡ phase.Cut → big_bytes size n ≡ old.meter.kept ++ last → last ≡ take missing piece
+    → 0 < missing → missing ≤ length piece → TakesFrom result piece old new
+rest_taken size n missing found result piece last old new h er e spelled el some long =
+    let w = cut_open old e in
+    number_came size n missing found result piece old new h er some long
+    (spelled ∙ ap (λ xs. old.meter.kept ++ xs) el ∙ sym (ap (λ xs. xs ++ take missing piece) w.1))
+
+-- numbers of four bytes
+
+pub four_kept : (piece : List ℕ) (old new : Seen) → CutsOff piece old new → IsFour old.phase → 0 < length piece → length piece < 4
+    → TakesFrom taken.Open piece old new
+four_kept piece old new c i some short = first_kept 4 piece old new c (four_is old.phase i) some short
+
+pub four_taken : (n : ℕ) (found : Bool) (result : Taken) (piece number : List ℕ) (old new : Seen) → TakesNumber 4 n 4 found old new → result ≡ taken_by 4 found
+    → IsFour old.phase → big_bytes 4 n ≡ number → number ≡ take 4 piece → 4 ≤ length piece → TakesFrom result piece old new
+four_taken n found result piece number old new h er i spelled en long =
+    all_taken 4 n found result piece old new h er (four_is old.phase i) (omega arith) (spelled ∙ en) long
+
+pub cut_four : (p : Phase) → CanBeCut p → (p ≡ phase.Header → ⊥) → IsFour p
+cut_four phase.Header i h = absurd (h refl)
+cut_four phase.Top i h = i
+cut_four _ i h = i

@@ -1,0 +1,114 @@
+-- Tags and numbers that are taken: from the handler's clause to the walk over their bytes.
+use Rattle.std.proofs.Common.{◌≡◌, ℕ, suc, ◌+◌, ◌-◌, ◌^◌, ◌<◌, Bool, List, [], ◌∷◌, length, Option, Some, None, option_map, refl, sym, ◌∙◌, ap, arith}
+use Rattle.jser_table.specs.Codes.{PrimCode, size_of}
+use Rattle.jser_table.specs.Entries.{chain_at}
+use Rattle.jser_reading.specs.Labels.{top_at, annotation_at, value_at, class_place_at, class_handle_at}
+use Rattle.jser_reading.specs.FieldsFromBytes.{tag_from}
+use Rattle.jser_verdict.specs.Verdicts.{content_reason, inner_reason, class_tag_reason, class_handle_reason, array_reason, count_reason}
+use Rattle.jser_reader.specs.declared.phase.Phase.TheVariants as phase
+use Rattle.jser_reader.specs.Fitting.{HasDescriptor}
+use Rattle.jser_reader.specs.Frames.{goal_owner}
+use Rattle.jser_reader.specs.Readers.{Seen, HasNotes}
+use Rattle.jser_reader.specs.Steps.{after_value}
+use Rattle.jser_reader.specs.Handlers.{Tells, TellsSurely, plain_gate, label_at, after_content, after_class_tag, owner_state}
+use Rattle.jser_reader.specs.Numbers.{back_reason, after_length, after_block_length}
+use Rattle.jser_reader.specs.Closing.{closed_state}
+use Rattle.jser_reader.specs.Superclasses.{super_reason, super_handle_reason, after_super_tag}
+use Rattle.jser_reader.specs.Walks.{Counts, open_phase}
+use Rattle.jser_reader.specs.Takes.{farther, TakesByte, TakesNumber}
+use Rattle.jser_reader.proofs.NumberWalks.{number_in_4, back_handle_taken, class_handle_taken, super_handle_taken, array_length_taken, block_length_taken, byte_length_taken}
+use Rattle.jser_reader.proofs.PlaceWalks.{top_taken, note_taken, value_taken, class_tag_taken, super_tag_taken}
+
+-- bytes that were counted and no more
+pub counts_bytes : (bytes : List ℕ) (count : ℕ) (old mid : Seen) → mid ≡ farther old count → length bytes ≡ count → Counts bytes old mid
+counts_bytes bytes count old mid e n = record {
+  at = ap (λ r. r.meter.at) e ∙ ap (λ k. old.meter.at + k) (sym n);
+  from = ap (λ r. r.meter.from) e;
+  limits = ap (λ r. r.meter.limits) e;
+  frames = ap (λ r. r.frames) e;
+  layers = ap (λ r. r.layers) e;
+  table = ap (λ r. r.table) e;
+  refs = ap (λ r. r.refs) e;
+  owner = ap (λ r. r.owner) e;
+  elements = ap (λ r. r.elements) e;
+  header = ap (λ r. r.header) e;
+  text = ap (λ r. r.text) e;
+}
+
+counts_one : (b : ℕ) (old mid : Seen) → mid ≡ farther old 1 → Counts (b ∷ []) old mid
+counts_one b old mid e = counts_bytes (b ∷ []) 1 old mid e refl
+
+-- ---- tags, and the length of a short block
+
+pub takes_top : (b : ℕ) (found : Bool) (old mid new : Seen)
+    → (mid.frames ≡ [] → Tells (content_reason (plain_gate mid) (label_at top_at 1 mid) b) (after_content mid (tag_from b)) found mid new)
+    → mid ≡ farther old 1 → old.phase ≡ phase.Top → TakesByte b found old new
+unfolding TakesByte
+takes_top b found old mid new h m ep = λ gate. top_taken gate b found old mid new h ep (counts_one b old mid m)
+
+pub takes_note : (b : ℕ) (found : Bool) (old mid new : Seen)
+    → (HasNotes mid.frames → Tells (inner_reason (plain_gate mid) (label_at annotation_at (suc (length mid.frames)) mid) b) (after_content mid (tag_from b)) found mid new)
+    → mid ≡ farther old 1 → old.phase ≡ phase.Note → TakesByte b found old new
+unfolding TakesByte
+takes_note b found old mid new h m ep = λ gate. note_taken gate b found old mid new h ep (counts_one b old mid m)
+
+pub takes_value : (b : ℕ) (found : Bool) (old mid new : Seen)
+    → Tells (inner_reason (plain_gate mid) (label_at value_at (suc (length mid.frames)) mid) b) (after_content mid (tag_from b)) found mid new
+    → mid ≡ farther old 1 → old.phase ≡ phase.Value → TakesByte b found old new
+unfolding TakesByte
+takes_value b found old mid new h m ep = λ gate. value_taken gate b found old mid new h ep (counts_one b old mid m)
+
+pub takes_class_tag : (b : ℕ) (found : Bool) (old mid new : Seen)
+    → Tells (class_tag_reason (plain_gate mid) (label_at (class_place_at (goal_owner mid.owner)) (suc (length mid.frames)) mid) (goal_owner mid.owner) b)
+    (after_class_tag mid (tag_from b)) found mid new
+    → mid ≡ farther old 1 → old.phase ≡ phase.ClassTag → TakesByte b found old new
+unfolding TakesByte
+takes_class_tag b found old mid new h m ep = λ gate. class_tag_taken gate b found old mid new h ep (counts_one b old mid m)
+
+pub takes_super_tag : (b : ℕ) (found : Bool) (old mid new : Seen)
+    → (HasDescriptor mid.frames → Tells (super_reason mid b) (after_super_tag mid (tag_from b)) found mid new)
+    → mid ≡ farther old 1 → old.phase ≡ phase.SuperTag → TakesByte b found old new
+unfolding TakesByte
+takes_super_tag b found old mid new h m ep = λ gate. super_tag_taken gate b found old mid new h ep (counts_one b old mid m)
+
+pub takes_block_length : (n : ℕ) (found : Bool) (old mid new : Seen) → TellsSurely None (after_block_length mid n) found mid new
+    → mid ≡ farther old 1 → old.phase ≡ phase.BlockLength1 → TakesByte n found old new
+unfolding TakesByte
+takes_block_length n found old mid new h m ep = λ gate. byte_length_taken gate n found old mid new h ep (counts_one n old mid m)
+
+-- ---- numbers
+
+pub takes_back_handle : (n count : ℕ) (found : Bool) (old mid new : Seen) → TellsSurely (back_reason mid n) (after_value mid) found mid new
+    → mid ≡ farther old count → open_phase old ≡ phase.BackHandle → 0 < count → n < 2 ^ 32 → TakesNumber 4 n count found old new
+unfolding TakesNumber
+takes_back_handle n count found old mid new h m eo some small = λ gate taken size spelled.
+    back_handle_taken gate n found old mid new taken h eo (omega arith) (number_in_4 n _ spelled small) (counts_bytes taken count old mid m size)
+
+pub takes_class_handle : (n count : ℕ) (found : Bool) (old mid new : Seen)
+    → Tells (class_handle_reason (plain_gate mid) (label_at (class_handle_at (goal_owner mid.owner)) (suc (length mid.frames)) mid) (goal_owner mid.owner) n)
+    (owner_state mid (chain_at mid.table.entries (n - 0x7E0000))) found mid new
+    → mid ≡ farther old count → open_phase old ≡ phase.ClassHandle → 0 < count → n < 2 ^ 32 → TakesNumber 4 n count found old new
+unfolding TakesNumber
+takes_class_handle n count found old mid new h m eo some small = λ gate taken size spelled.
+    class_handle_taken gate n found old mid new taken h eo (omega arith) (number_in_4 n _ spelled small) (counts_bytes taken count old mid m size)
+
+pub takes_super_handle : (n count : ℕ) (found : Bool) (old mid new : Seen)
+    → (HasDescriptor mid.frames → Tells (super_handle_reason mid n) (closed_state mid (Some (n - 0x7E0000))) found mid new)
+    → mid ≡ farther old count → open_phase old ≡ phase.SuperHandle → 0 < count → n < 2 ^ 32 → TakesNumber 4 n count found old new
+unfolding TakesNumber
+takes_super_handle n count found old mid new h m eo some small = λ gate taken size spelled.
+    super_handle_taken gate n found old mid new taken h eo (omega arith) (number_in_4 n _ spelled small) (counts_bytes taken count old mid m size)
+
+pub takes_array_length : (n count : ℕ) (found : Bool) (old mid new : Seen)
+    → ((elements : Option PrimCode) → mid.elements ≡ option_map size_of elements → Tells (array_reason (plain_gate mid) n) (after_length mid elements n) found mid new)
+    → mid ≡ farther old count → open_phase old ≡ phase.ArrayLength → 0 < count → n < 2 ^ 32 → TakesNumber 4 n count found old new
+unfolding TakesNumber
+takes_array_length n count found old mid new h m eo some small = λ gate taken size spelled.
+    array_length_taken gate n found old mid new taken h eo (omega arith) (number_in_4 n _ spelled small) (counts_bytes taken count old mid m size)
+
+pub takes_long_block_length : (n count : ℕ) (found : Bool) (old mid new : Seen)
+    → TellsSurely (count_reason (2 ^ 31) n) (after_block_length mid n) found mid new
+    → mid ≡ farther old count → open_phase old ≡ phase.BlockLength4 → 0 < count → n < 2 ^ 32 → TakesNumber 4 n count found old new
+unfolding TakesNumber
+takes_long_block_length n count found old mid new h m eo some small = λ gate taken size spelled.
+    block_length_taken gate n found old mid new taken h eo (omega arith) (number_in_4 n _ spelled small) (counts_bytes taken count old mid m size)

@@ -1,0 +1,79 @@
+-- What the functions that take bytes do: the bytes are counted, and the field that they end is judged.
+use Rattle.std.specs.Prelude.{◌≡◌, ℕ, ◌+◌, ◌<◌, ◌≤◌, Bool, true, false, List, [], ◌∷◌, ◌++◌, length, take, Option, Some, None}
+use Rattle.jser_prim.specs.Bytes.{big_bytes}
+use Rattle.jser_verdict.specs.Gates.{Gate}
+use Rattle.jser_reader.specs.declared.machine.taken.Taken.{Taken}
+use Rattle.jser_reader.specs.declared.machine.taken.Taken.TheVariants as taken
+use Rattle.jser_reader.specs.declared.phase.Phase.TheVariants as phase
+use Rattle.jser_reader.specs.Readers.{Meter, Seen}
+use Rattle.jser_reader.specs.Steps.{after_value}
+use Rattle.jser_reader.specs.Handlers.{Comes}
+use Rattle.jser_reader.specs.Walks.{Takes, Keeps, Counts, open_phase, cut_of}
+
+-- so many bytes more were counted
+abbrev pub counted_on : Meter → ℕ → Meter
+counted_on m k = record { at = m.at + k; from = m.from; limits = m.limits; stop = m.stop; cut_phase = m.cut_phase; kept = m.kept }
+
+abbrev pub farther : Seen → ℕ → Seen
+farther r k = record { meter = counted_on r.meter k; phase = r.phase; frames = r.frames; layers = r.layers; table = r.table; refs = r.refs; owner = r.owner; elements = r.elements; header = r.header; text = r.text; left = r.left; scan = r.scan; name = r.name }
+
+-- this byte ends the open field, or the machine stops at it
+unfoldable pub TakesByte : ℕ → Bool → Seen → Seen → Type 0
+TakesByte byte result old new = (gate : Gate) → Takes gate (byte ∷ []) result old new
+
+-- the last bytes of the number `n` of `size` bytes, so many, end the open field, or the machine stops at them
+unfoldable pub TakesNumber : (size n count : ℕ) → Bool → Seen → Seen → Type 0
+TakesNumber size n count result old new =
+    (gate : Gate) (taken : List ℕ) → length taken ≡ count → big_bytes size n ≡ cut_of old ++ taken → Takes gate taken result old new
+
+-- these bytes of the open field were kept, which is cut after them
+pub record CutsOff (piece : List ℕ) (old new : Seen) : Type 0 where
+  pub phase_is : new.phase ≡ phase.Cut
+  pub cut_phase : new.meter.cut_phase ≡ open_phase old
+  pub kept : new.meter.kept ≡ cut_of old ++ piece
+  pub counts : Counts piece old new
+
+-- the first bytes of the piece, so many, end the open field, or the machine stops at the last of them; or the whole
+-- piece is of the field, which stays open
+abbrev pub TakenCases : Taken → List ℕ → Seen → Seen → Type 0
+TakenCases (taken.Ended count) piece old new =
+    (0 < count) × (count ≤ length piece) × ((gate : Gate) → Takes gate (take count piece) true old new)
+TakenCases (taken.Stopped count) piece old new =
+    (0 < count) × (count ≤ length piece) × ((gate : Gate) → Takes gate (take count piece) false old new)
+TakenCases taken.Open piece old new = (gate : Gate) → Keeps gate piece old new
+
+unfoldable pub TakesFrom : Taken → List ℕ → Seen → Seen → Type 0
+TakesFrom result piece old new = TakenCases result piece old new
+
+-- one byte of the header: it is wrong or the last one, or others are to come
+abbrev pub HeaderCases : Option Bool → ℕ → Seen → Seen → Type 0
+HeaderCases (Some found) byte old new = TakesByte byte found old new
+HeaderCases None byte old new =
+    ((gate : Gate) → Keeps gate (byte ∷ []) old new) × (open_phase new ≡ phase.Header) × (new.meter.at ≡ old.meter.at + 1)
+
+unfoldable pub TakesHeaderByte : Option Bool → ℕ → Seen → Seen → Type 0
+TakesHeaderByte result byte old new = HeaderCases result byte old new
+
+-- so many bytes of the piece were kept, and the header is open still
+pub record HeaderOn (piece : List ℕ) (count : ℕ) (old now : Seen) : Type 0 where
+  pub keeps : (gate : Gate) → Keeps gate (take count piece) old now
+  pub is_open : open_phase now ≡ phase.Header
+  pub at : now.meter.at ≡ old.meter.at + count
+
+-- what came of a handler's answer
+abbrev pub taken_by : ℕ → Bool → Taken
+taken_by count true = taken.Ended count
+taken_by count false = taken.Stopped count
+
+-- Bytes of a raw field: it ends, with as many as were left of it, or all are of it and others are still to come. (While it
+-- is open at least one is left.)
+abbrev pub RawCases : Taken → List ℕ → Seen → Seen → Type 0
+RawCases (taken.Ended count) piece old new =
+    (0 < count) × (count ≤ length piece) × (0 < old.left → count ≡ old.left)
+    × Comes (farther old count) new (after_value (farther old count))
+RawCases (taken.Stopped count) piece old new = ⊥
+RawCases taken.Open piece old new =
+    (new.phase ≡ old.phase) × (length piece < old.left) × (new.left + length piece ≡ old.left) × Counts piece old new
+
+unfoldable pub TakesRaw : Taken → List ℕ → Seen → Seen → Type 0
+TakesRaw result piece old new = RawCases result piece old new

@@ -1,0 +1,26 @@
+//! What came of the bytes of a piece.
+ghost use Rattle.std.specs.Prelude.{◌≡◌};
+ghost use Rattle.jser_reader.specs.Takes.{taken_by};
+
+/// What came of the bytes of a piece that a field was handed.
+#[derive(Clone, Copy)]
+pub(crate) enum Taken {
+    /// So many bytes ended the field, and another comes next.
+    Ended(usize),
+    /// The machine stopped at the last of so many bytes.
+    Stopped(usize),
+    /// All bytes are of the field, which stays open.
+    Open,
+}
+
+impl Taken {
+    /// A handler judged a field after so many bytes, and says whether the machine goes on.
+    pub(super) fn after(count: usize, goes_on: bool) -> Taken
+        ensures { result ≡ taken_by count goes_on }
+    {
+        if goes_on {
+            return Taken::Ended(count);
+        }
+        Taken::Stopped(count)
+    }
+}
