@@ -2,17 +2,19 @@
 use Rattle.std.proofs.Common.{◌≡◌, ℕ, ◌+◌, ◌<◌, ◌≤◌, Bool, true, false, List, ◌++◌, length, take, refl, sym, ◌∙◌, ap, subst, arith, length-append}
 use Rattle.std.proofs.lemmas.List.{length-take-le}
 use Rattle.jser_prim.specs.Bytes.{big_bytes}
+use Rattle.jser_reading.specs.FieldsFromBytes.{head_size}
 use Rattle.jser_verdict.specs.Gates.{Gate}
 use Rattle.jser_reader.specs.declared.machine.taken.Taken.{Taken}
 use Rattle.jser_reader.specs.declared.machine.taken.Taken.TheVariants as taken
 use Rattle.jser_reader.specs.declared.phase.Phase.{Phase}
 use Rattle.jser_reader.specs.declared.phase.Phase.TheVariants as phase
-use Rattle.jser_reader.specs.Readers.{Seen}
-use Rattle.jser_reader.specs.Walks.{size_of_phase, open_phase, cut_of, Takes}
-use Rattle.jser_reader.specs.Cuts.{IsFour, CanBeCut, IsCutField}
+use Rattle.jser_reader.specs.Readers.{Seen, length_phase}
+use Rattle.jser_reader.specs.Walks.{size_of_phase, open_phase, cut_of, Takes, Keeps}
+use Rattle.jser_reader.specs.Cuts.{IsTwo, IsFour, IsEight, CanBeCut, IsCutField}
 use Rattle.jser_reader.specs.Takes.{TakesNumber, CutsOff, TakesFrom, taken_by}
 use Rattle.jser_reader.proofs.PhaseLemmas.{IsFixed, whole_open, cut_open}
 use Rattle.jser_reader.proofs.FixedWalks.{number_kept}
+use Rattle.jser_reader.proofs.TextSteps.{size_of_length, length_kept}
 
 pub cuts_off : (piece : List ℕ) (old new : Seen) → IsCutField old.phase piece
     → new.phase ≡ phase.Cut → new.meter.cut_phase ≡ old.phase → new.meter.kept ≡ piece
@@ -45,39 +47,78 @@ cuts_again piece old new e ep ec ek ea em el ef ey et er eo es eh ex =
       counts = record { at = ea; from = em; limits = el; frames = ef; layers = ey; table = et; refs = er; owner = eo; elements = es; header = eh; text = ex };
     }
 
--- ---- numbers of four bytes
+-- ---- which numbers there are
+
+pub no_other_two : (p : Phase) → IsTwo p → (p ≡ phase.FieldCount → ⊥) → ⊥
+no_other_two phase.FieldCount i f = f refl
+no_other_two _ i f = absurd i
 
 pub no_other_four : (p : Phase) → IsFour p → (p ≡ phase.BackHandle → ⊥) → (p ≡ phase.ClassHandle → ⊥)
-    → (p ≡ phase.SuperHandle → ⊥) → (p ≡ phase.ArrayLength → ⊥) → (p ≡ phase.BlockLength4 → ⊥) → ⊥
-no_other_four phase.BackHandle i b c s a l = b refl
-no_other_four phase.ClassHandle i b c s a l = c refl
-no_other_four phase.SuperHandle i b c s a l = s refl
-no_other_four phase.ArrayLength i b c s a l = a refl
-no_other_four phase.BlockLength4 i b c s a l = l refl
-no_other_four _ i b c s a l = absurd i
+    → (p ≡ phase.SuperHandle → ⊥) → (p ≡ phase.InterfaceCount → ⊥) → (p ≡ phase.ArrayLength → ⊥) → (p ≡ phase.BlockLength4 → ⊥) → ⊥
+no_other_four phase.BackHandle i b c s n a l = b refl
+no_other_four phase.ClassHandle i b c s n a l = c refl
+no_other_four phase.SuperHandle i b c s n a l = s refl
+no_other_four phase.InterfaceCount i b c s n a l = n refl
+no_other_four phase.ArrayLength i b c s n a l = a refl
+no_other_four phase.BlockLength4 i b c s n a l = l refl
+no_other_four _ i b c s n a l = absurd i
 
--- the phase is a number of so many bytes
+pub no_other_eight : (p : Phase) → IsEight p → (p ≡ phase.Suid → ⊥) → ⊥
+no_other_eight phase.Suid i s = s refl
+no_other_eight _ i s = absurd i
+
+pub cut_four : (p : Phase) → CanBeCut p → (p ≡ phase.Header → ⊥) → (p ≡ phase.FieldCount → ⊥) → (p ≡ phase.Suid → ⊥) → IsFour p
+cut_four phase.Header i h f s = absurd (h refl)
+cut_four phase.FieldCount i h f s = absurd (f refl)
+cut_four phase.Suid i h f s = absurd (s refl)
+cut_four phase.Top i h f s = i
+cut_four _ i h f s = i
+
+-- the phase is a number of so many bytes; while it has fewer, it stays open
 pub record IsNumberOf (size : ℕ) (p : Phase) : Type 0 where
-  pub fixed : IsFixed p
   pub size_is : size_of_phase p ≡ size
-  pub other : p ≡ phase.Header → ⊥
+  pub keeps : (gate : Gate) (piece : List ℕ) (old new : Seen) → CutsOff piece old new → open_phase old ≡ p
+      → 0 < length (cut_of old ++ piece) → length (cut_of old ++ piece) < size → Keeps gate piece old new
+
+fixed_number : (size : ℕ) (p : Phase) → IsFixed p → (p ≡ phase.Header → ⊥) → size_of_phase p ≡ size → IsNumberOf size p
+fixed_number size p i other e = record {
+  size_is = e;
+  keeps = λ gate piece old new c eo some short. number_kept gate p old new piece c.phase_is (c.cut_phase ∙ eo) c.kept eo i other some (omega arith) c.counts;
+}
+
+-- the length of a text is one too
+pub length_number : (long : Bool) → IsNumberOf (head_size long) (length_phase long)
+length_number long = record {
+  size_is = size_of_length long;
+  keeps = λ gate piece old new c eo some short. length_kept gate long old new piece c.phase_is (c.cut_phase ∙ eo) c.kept eo some short c.counts;
+}
+
+pub two_is : (p : Phase) → IsTwo p → IsNumberOf 2 p
+two_is phase.FieldCount i = fixed_number 2 phase.FieldCount tt (λ e. absurd (cc)) refl
+two_is _ i = absurd i
 
 pub four_is : (p : Phase) → IsFour p → IsNumberOf 4 p
-four_is phase.BackHandle i = record { fixed = tt; size_is = refl; other = λ e. absurd (cc) }
-four_is phase.ClassHandle i = record { fixed = tt; size_is = refl; other = λ e. absurd (cc) }
-four_is phase.SuperHandle i = record { fixed = tt; size_is = refl; other = λ e. absurd (cc) }
-four_is phase.ArrayLength i = record { fixed = tt; size_is = refl; other = λ e. absurd (cc) }
-four_is phase.BlockLength4 i = record { fixed = tt; size_is = refl; other = λ e. absurd (cc) }
+four_is phase.BackHandle i = fixed_number 4 phase.BackHandle tt (λ e. absurd (cc)) refl
+four_is phase.ClassHandle i = fixed_number 4 phase.ClassHandle tt (λ e. absurd (cc)) refl
+four_is phase.SuperHandle i = fixed_number 4 phase.SuperHandle tt (λ e. absurd (cc)) refl
+four_is phase.InterfaceCount i = fixed_number 4 phase.InterfaceCount tt (λ e. absurd (cc)) refl
+four_is phase.ArrayLength i = fixed_number 4 phase.ArrayLength tt (λ e. absurd (cc)) refl
+four_is phase.BlockLength4 i = fixed_number 4 phase.BlockLength4 tt (λ e. absurd (cc)) refl
 four_is _ i = absurd i
+
+pub eight_is : (p : Phase) → IsEight p → IsNumberOf 8 p
+eight_is phase.Suid i = fixed_number 8 phase.Suid tt (λ e. absurd (cc)) refl
+eight_is _ i = absurd i
+
+-- ---- numbers of so many bytes
 
 -- a number of which the piece has not all bytes
 number_open : (size : ℕ) (p : Phase) (piece : List ℕ) (old new : Seen) → CutsOff piece old new → IsNumberOf size p → open_phase old ≡ p
     → 0 < length piece → length (cut_of old ++ piece) < size → TakesFrom taken.Open piece old new
 unfolding TakesFrom
 number_open size p piece old new c f eo some short =
-    let s = f.size_is in
     let n : length (cut_of old ++ piece) ≡ length (cut_of old) + length piece = length-append (cut_of old) piece in
-    λ gate. number_kept gate p old new piece c.phase_is (c.cut_phase ∙ eo) c.kept eo f.fixed f.other (omega arith) (omega arith) c.counts
+    λ gate. f.keeps gate piece old new c eo (omega arith) short
 
 -- one of which it has
 number_came : (size n count : ℕ) (found : Bool) (result : Taken) (piece : List ℕ) (old new : Seen) → TakesNumber size n count found old new
@@ -127,7 +168,16 @@ rest_taken size n missing found result piece last old new h er e spelled el some
     number_came size n missing found result piece old new h er some long
     (spelled ∙ ap (λ xs. old.meter.kept ++ xs) el ∙ sym (ap (λ xs. xs ++ take missing piece) w.1))
 
--- numbers of four bytes
+-- numbers that come next, of two bytes, of four and of eight
+
+pub two_kept : (piece : List ℕ) (old new : Seen) → CutsOff piece old new → IsTwo old.phase → 0 < length piece → length piece < 2
+    → TakesFrom taken.Open piece old new
+two_kept piece old new c i some short = first_kept 2 piece old new c (two_is old.phase i) some short
+
+pub two_taken : (n : ℕ) (found : Bool) (result : Taken) (piece number : List ℕ) (old new : Seen) → TakesNumber 2 n 2 found old new → result ≡ taken_by 2 found
+    → IsTwo old.phase → big_bytes 2 n ≡ number → number ≡ take 2 piece → 2 ≤ length piece → TakesFrom result piece old new
+two_taken n found result piece number old new h er i spelled en long =
+    all_taken 2 n found result piece old new h er (two_is old.phase i) (omega arith) (spelled ∙ en) long
 
 pub four_kept : (piece : List ℕ) (old new : Seen) → CutsOff piece old new → IsFour old.phase → 0 < length piece → length piece < 4
     → TakesFrom taken.Open piece old new
@@ -138,7 +188,11 @@ pub four_taken : (n : ℕ) (found : Bool) (result : Taken) (piece number : List 
 four_taken n found result piece number old new h er i spelled en long =
     all_taken 4 n found result piece old new h er (four_is old.phase i) (omega arith) (spelled ∙ en) long
 
-pub cut_four : (p : Phase) → CanBeCut p → (p ≡ phase.Header → ⊥) → IsFour p
-cut_four phase.Header i h = absurd (h refl)
-cut_four phase.Top i h = i
-cut_four _ i h = i
+pub eight_kept : (piece : List ℕ) (old new : Seen) → CutsOff piece old new → IsEight old.phase → 0 < length piece → length piece < 8
+    → TakesFrom taken.Open piece old new
+eight_kept piece old new c i some short = first_kept 8 piece old new c (eight_is old.phase i) some short
+
+pub eight_taken : (n : ℕ) (found : Bool) (result : Taken) (piece number : List ℕ) (old new : Seen) → TakesNumber 8 n 8 found old new → result ≡ taken_by 8 found
+    → IsEight old.phase → big_bytes 8 n ≡ number → number ≡ take 8 piece → 8 ≤ length piece → TakesFrom result piece old new
+eight_taken n found result piece number old new h er i spelled en long =
+    all_taken 8 n found result piece old new h er (eight_is old.phase i) (omega arith) (spelled ∙ en) long

@@ -8,7 +8,7 @@ use Rattle.jser_reader.specs.declared.phase.TextFor.{TextFor}
 use Rattle.jser_reader.specs.Reasons.{named}
 use Rattle.jser_reader.specs.Readers.{Seen, Header, Ready}
 use Rattle.jser_reader.specs.Steps.{Kept, after_value}
-use Rattle.jser_reader.specs.Handlers.{StopsWith, refusal, moved, Comes, Tells, IsNext}
+use Rattle.jser_reader.specs.Handlers.{StopsWith, refusal, moved, Comes, Tells, TellsSurely, IsNext}
 
 same_value : (old new : Seen) → new.frames ≡ old.frames → new.layers ≡ old.layers → new.table ≡ old.table → new.refs ≡ old.refs → after_value new ≡ after_value old
 unfolding after_value
@@ -43,3 +43,10 @@ tells_from None s t true old mid new h em ex e = record { ready = subst (Ready n
 tells_from None s t false old mid new h em ex e = record { phase = h.phase; stop = h.stop }
 tells_from (Some r) s t true old mid new h em ex e = h
 tells_from (Some r) s t false old mid new h em ex e = record { phase = h.phase; stop = h.stop ∙ ap (λ m. refusal m (named r)) em }
+
+pub surely_from : (told : Option Reason) (s t : State) (b : Bool) (old mid new : Seen) → TellsSurely told s b mid new → mid.meter ≡ old.meter → mid.table.max ≡ old.table.max → s ≡ t → TellsSurely told t b old new
+unfolding TellsSurely
+surely_from None s t true old mid new h em ex e = record { ready = subst (Ready new) e h.ready; meter = h.meter ∙ ap moved em; max = h.max ∙ ex }
+surely_from None s t false old mid new h em ex e = h
+surely_from (Some r) s t true old mid new h em ex e = h
+surely_from (Some r) s t false old mid new h em ex e = record { phase = h.phase; stop = h.stop ∙ ap (λ m. refusal m (named r)) em }

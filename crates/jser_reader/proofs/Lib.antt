@@ -18,6 +18,9 @@ pub mod EntryLemmas
 pub mod EndLemmas
 pub mod ValueLemmas
 pub mod TextLemmas
+pub mod NameLemmas
+pub mod TextTakeLemmas
+pub mod TextScanLemmas
 pub mod TagLemmas
 pub mod OwnerLemmas
 pub mod ClassLemmas
@@ -29,3 +32,5 @@ pub mod NumberLemmas
 pub mod ArrayLemmas
 pub mod DescriptorLemmas
 pub mod FieldLemmas
+pub mod AnswerLemmas
+pub mod ReaderLemmas

@@ -25,7 +25,7 @@ use Rattle.jser_reader.specs.declared.phase.Phase.{Phase}
 use Rattle.jser_reader.specs.declared.phase.Phase.TheVariants as phase
 use Rattle.jser_reader.specs.Readers.{Seen, Ready, ReadyAt, PrimsReady, BytesReady}
 use Rattle.jser_reader.specs.Handlers.{Tells, TellCases, TellsSurely}
-use Rattle.jser_reader.specs.Walks.{gate_with, PrimsStands, BytesStands, StandsAt, Stands, StandsFor, Took, Takes, Keeps, Counts}
+use Rattle.jser_reader.specs.Walks.{gate_with, PrimsStands, BytesStands, StandsAt, Stands, HasTaken, Took, Takes, Keeps, Counts}
 use Rattle.jser_reader.proofs.WalkLemmas.{walk_on, judged_by, walk_field, verdict_good, verdict_bad}
 
 -- ---- where a field begins
@@ -171,8 +171,8 @@ field_read gate fields bytes field r v e h =
     same_verdict gate l bytes (read_next fields l ((next_law fields l).1 (r, refl))) h (omega arith) in
     let g = (verdict_scans gate).good_is l bytes field (sym same ∙ v) in (g.0, g.1)
 
-pub took_stands : (gate : Gate) (old new : Seen) (bytes taken : List ℕ) → Takes gate taken true old new → IsBytes taken → StandsFor gate bytes old
-    → StandsFor gate (bytes ++ taken) new
+pub took_stands : (gate : Gate) (old new : Seen) (bytes taken : List ℕ) → Takes gate taken true old new → IsBytes taken → HasTaken gate bytes old
+    → HasTaken gate (bytes ++ taken) new
 unfolding Takes
 took_stands gate old new bytes taken h bt st =
     let s = left begin_state st.fields in
@@ -202,8 +202,8 @@ took_stands gate old new bytes taken h bt st =
       all_bytes = all;
     }
 
-pub kept_stands : (gate : Gate) (old new : Seen) (bytes taken : List ℕ) → Keeps gate taken old new → IsBytes taken → StandsFor gate bytes old
-    → StandsFor gate (bytes ++ taken) new
+pub kept_stands : (gate : Gate) (old new : Seen) (bytes taken : List ℕ) → Keeps gate taken old new → IsBytes taken → HasTaken gate bytes old
+    → HasTaken gate (bytes ++ taken) new
 unfolding Keeps
 kept_stands gate old new bytes taken h bp st =
     let s = left begin_state st.fields in

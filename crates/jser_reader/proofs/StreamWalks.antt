@@ -15,11 +15,11 @@ use Rattle.jser_reader.specs.declared.refusal.Stop.{Stop}
 use Rattle.jser_reader.specs.declared.refusal.Stop.TheVariants as stop
 use Rattle.jser_reader.specs.Fitting.{HasDescriptor}
 use Rattle.jser_reader.specs.Readers.{Seen, moment_of, goals_of, text_goal, text_rest, HasNotes, HasPart, value_goals, superclass_goals, superclass_handle_goals}
-use Rattle.jser_reader.specs.Walks.{gate_with, StandsAt, Stands, StandsFor, StopTold, Takes, StopsFor, IsNew}
+use Rattle.jser_reader.specs.Walks.{gate_with, StandsAt, Stands, HasTaken, StopTold, Takes, StopsFor, IsNew}
 use Rattle.jser_reader.proofs.WalkLemmas.{walk_on}
 
 -- a new machine stands for no bytes
-pub new_stands : (gate : Gate) (r : Seen) → IsNew r → gate_with r gate.answer ≡ gate → StandsFor gate [] r
+pub new_stands : (gate : Gate) (r : Seen) → IsNew r → gate_with r gate.answer ≡ gate → HasTaken gate [] r
 new_stands gate r n e =
     let a = n.at in
     let f = n.from in
@@ -39,7 +39,7 @@ new_stands gate r n e =
     }
 
 -- the machine stops, and says why
-pub stop_stands : (gate : Gate) (old new : Seen) (bytes taken : List ℕ) → Takes gate taken false old new → StandsFor gate bytes old
+pub stop_stands : (gate : Gate) (old new : Seen) (bytes taken : List ℕ) → Takes gate taken false old new → HasTaken gate bytes old
     → StopsFor gate (bytes ++ taken) new.meter.stop
 unfolding Takes
 stop_stands gate old new bytes taken h st = go new.meter.stop (h (left begin_state st.fields) st.cut st.stands)

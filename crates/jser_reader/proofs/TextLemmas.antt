@@ -1,22 +1,32 @@
 -- The tag and the handle of a text place, and where they lead.
-use Rattle.std.proofs.Common.{◌≡◌, ℕ, suc, ◌-◌, ◌<◌, ◌≤◌, ◌⊎◌, inl, inr, Bool, true, false, nat_le, List, [], ◌∷◌, length, slice_get, Option, Some, None, refl, sym, ◌∙◌, ap, subst, arith}
+use Rattle.std.proofs.Common.{◌≡◌, ℕ, suc, ◌-◌, ◌<◌, ◌≤◌, ◌⊎◌, inl, inr, Bool, true, false, nat_le, List, [], ◌∷◌, length, slice_get, Option, Some, None, is_some, refl, sym, ◌∙◌, ap, subst, arith}
 use Rattle.std.proofs.lemmas.Bool.Decides.{nat_tests}
+use Rattle.jser_table.specs.Entries.{TableEntry, text_entry, other_entry, pending_entry, closed_entry, is_text}
 use Rattle.jser_reading.specs.Labels.{text_place_at}
 use Rattle.jser_reading.specs.FieldBytes.{tag_byte}
 use Rattle.jser_reading.specs.FieldsFromBytes.{tag_from}
-use Rattle.jser_reading.specs.Goals.{State}
-use Rattle.jser_verdict.specs.Reasons.{Reason, bad_tag, handle_space}
+use Rattle.jser_reading.specs.Goals.{State, settle}
+use Rattle.jser_verdict.specs.Reasons.{Reason, bad_tag, no_such_handle, wrong_kind, handle_space}
 use Rattle.jser_verdict.specs.TagRows.{is_known_tag}
-use Rattle.jser_verdict.specs.Verdicts.{told_if}
+use Rattle.jser_verdict.specs.HandleRows.{is_no_handle, entry_named, is_no_text}
+use Rattle.jser_verdict.specs.Gates.{Gate}
+use Rattle.jser_verdict.specs.Verdicts.{told_if, class_name_reason, interface_reason}
 use Rattle.jser_reader.specs.declared.phase.Phase.TheVariants as phase
+use Rattle.jser_reader.specs.declared.phase.TextFor.{TextFor}
+use Rattle.jser_reader.specs.declared.phase.TextFor.TheVariants as text
 use Rattle.jser_reader.specs.declared.tag.ValueTag.{ValueTag}
 use Rattle.jser_reader.specs.declared.tag.ValueTag.TheVariants as value
 use Rattle.jser_reader.specs.Tags.{told_tag, block_byte, IsTagOf}
 use Rattle.jser_reader.specs.Reasons.{named}
-use Rattle.jser_reader.specs.Readers.{Seen, IsForm, IsInside, Ready}
-use Rattle.jser_reader.specs.Handlers.{StopsWith, refusal, Tells, IsNext, is_full, opens_text}
-use Rattle.jser_reader.specs.TextStates.{text_tag_reason, after_text_tag}
+use Rattle.jser_reader.specs.Fitting.{HasDescriptor}
+use Rattle.jser_reader.specs.Steps.{after_value}
+use Rattle.jser_reader.specs.Readers.{Seen, IsForm, is_checked, IsInside, Ready, moment_of, head_role, fields_goals, interfaces_goals, text_rest}
+use Rattle.jser_reader.specs.Handlers.{StopsWith, refusal, Comes, Tells, TellsSurely, IsNext, is_full, opens_text}
+use Rattle.jser_reader.specs.Descriptors.{GoesOnFields}
+use Rattle.jser_reader.specs.TextStates.{text_tag_reason, handle_reason, after_text_tag, text_reason_of, text_reason, named_state, text_state_of, after_text, EndsText}
 use Rattle.jser_reader.proofs.EndLemmas.{next_is, tells_next, tells_refusal}
+use Rattle.jser_reader.proofs.NumberLemmas.{surely_refused, surely_next}
+use Rattle.jser_reader.proofs.ClassLemmas.{within, beyond}
 
 -- ---- tags that are refused
 
@@ -110,3 +120,154 @@ pub text_value_tag : (t : ValueTag) (b : ℕ) (found : Bool) (old new : Seen) �
     → IsForm old.text true → IsInside old.text old.frames
     → Tells (text_tag_reason old b) (after_text_tag old (tag_from b)) found old new
 text_value_tag t b found old new e h form inside = rw e (h form inside)
+
+-- ---- the end of a text place
+
+pub constant_named : (found : Bool) (old new : Seen) → Comes old new (after_value old) → found ≡ true → (old.text ≡ text.FieldType → ⊥)
+    → IsForm old.text true → IsInside old.text old.frames
+    → TellsSurely None (settle (moment_of old) (text_rest old old.text)) found old new
+unfolding after_value
+constant_named found old new h ef other form inside = go old.text refl form
+  where
+    go : (t : TextFor) → old.text ≡ t → IsForm t true → TellsSurely None (settle (moment_of old) (text_rest old old.text)) found old new
+    go text.Value e form =
+        subst (λ t. TellsSurely None (settle (moment_of old) (text_rest old t)) found old new) (sym e)
+        (surely_next None (settle (moment_of old) (text_rest old text.Value)) found old new h ef refl)
+    go text.FieldType e form = absurd (other e)
+    go (text.FieldName is_object) e form = absurd form
+    go text.ClassName e form = absurd form
+    go text.InterfaceName e form = absurd form
+
+pub type_named : (found : Bool) (old new : Seen)
+    → GoesOnFields found old new
+    → old.text ≡ text.FieldType → IsForm old.text true → IsInside old.text old.frames
+    → TellsSurely None (settle (moment_of old) (text_rest old old.text)) found old new
+unfolding GoesOnFields
+type_named found old new h e form inside =
+    subst (λ t. IsInside t old.frames → TellsSurely None (settle (moment_of old) (text_rest old t)) found old new) (sym e) h inside
+
+-- ---- handles
+
+-- the reason by the entry, where the handle is one
+abbrev entry_reason : Option TableEntry → Option Reason
+entry_reason e = told_if (is_no_text e) wrong_kind None
+
+at_entry : (r : Seen) (n : ℕ) (e : TableEntry) → 0x7E0000 ≤ n → slice_get r.table.entries (n - 0x7E0000) ≡ Some e → handle_reason r n ≡ entry_reason (Some e)
+at_entry r n e low h =
+    let l = within r.table.entries (n - 0x7E0000) e h in
+    let is : is_no_handle r.table.entries n ≡ false = grind (arith, nat_tests) in
+    let named_is : entry_named r.table.entries n ≡ Some e = let t : nat_le 0x7E0000 n ≡ true = grind (arith, nat_tests) in rw t h in
+    rw is (ap entry_reason named_is)
+
+pub low_text : (n : ℕ) (s : State) (found : Bool) (old new : Seen) → StopsWith (refusal old.meter (named no_such_handle)) old new → found ≡ false → n < 0x7E0000
+    → TellsSurely (handle_reason old n) s found old new
+low_text n s found old new h ef l =
+    let is : is_no_handle old.table.entries n ≡ true = grind (arith, nat_tests) in
+    surely_refused no_such_handle (handle_reason old n) s found old new h ef (rw is refl)
+
+pub no_such_text : (n : ℕ) (s : State) (found : Bool) (old new : Seen) → StopsWith (refusal old.meter (named no_such_handle)) old new → found ≡ false
+    → false ≡ is_some (slice_get old.table.entries (n - 0x7E0000)) → (n < 0x7E0000 → ⊥)
+    → TellsSurely (handle_reason old n) s found old new
+no_such_text n s found old new h ef none low = go (slice_get old.table.entries (n - 0x7E0000)) refl none
+  where
+    go : (e : Option TableEntry) → slice_get old.table.entries (n - 0x7E0000) ≡ e → false ≡ is_some e → TellsSurely (handle_reason old n) s found old new
+    go (Some e) k none = absurd (cc)
+    go None k none =
+        let l = beyond old.table.entries (n - 0x7E0000) k in
+        let is : is_no_handle old.table.entries n ≡ true = grind (arith, nat_tests) in
+        surely_refused no_such_handle (handle_reason old n) s found old new h ef (rw is refl)
+
+pub wrong_text : (n : ℕ) (s : State) (found : Bool) (old new : Seen) → StopsWith (refusal old.meter (named wrong_kind)) old new → found ≡ false
+    → true ≡ is_some (slice_get old.table.entries (n - 0x7E0000)) → false ≡ is_text (slice_get old.table.entries (n - 0x7E0000)) → (n < 0x7E0000 → ⊥)
+    → TellsSurely (handle_reason old n) s found old new
+wrong_text n s found old new h ef some other low = go (slice_get old.table.entries (n - 0x7E0000)) refl some other
+  where
+    wrong : (e : TableEntry) → false ≡ is_text (Some e) → entry_reason (Some e) ≡ Some wrong_kind
+    wrong text_entry k = absurd (cc)
+    wrong other_entry k = refl
+    wrong pending_entry k = refl
+    wrong (closed_entry chain) k = refl
+
+    go : (e : Option TableEntry) → slice_get old.table.entries (n - 0x7E0000) ≡ e → true ≡ is_some e → false ≡ is_text e → TellsSurely (handle_reason old n) s found old new
+    go None k some other = absurd (cc)
+    go (Some e) k some other = surely_refused wrong_kind (handle_reason old n) s found old new h ef (at_entry old n e (omega arith) k ∙ wrong e other)
+
+pub right_text : (n : ℕ) (s : State) (found : Bool) (old new : Seen) → (IsForm old.text true → IsInside old.text old.frames → TellsSurely None s found old new)
+    → true ≡ is_text (slice_get old.table.entries (n - 0x7E0000)) → (n < 0x7E0000 → ⊥) → IsForm old.text true → IsInside old.text old.frames
+    → TellsSurely (handle_reason old n) s found old new
+right_text n s found old new h is low form inside = go (slice_get old.table.entries (n - 0x7E0000)) refl is
+  where
+    go : (e : Option TableEntry) → slice_get old.table.entries (n - 0x7E0000) ≡ e → true ≡ is_text e → TellsSurely (handle_reason old n) s found old new
+    go None k is = absurd (cc)
+    go (Some text_entry) k is = subst (λ t. TellsSurely t s found old new) (sym (at_entry old n text_entry (omega arith) k)) (h form inside)
+    go (Some other_entry) k is = absurd (cc)
+    go (Some pending_entry) k is = absurd (cc)
+    go (Some (closed_entry chain)) k is = absurd (cc)
+
+-- ---- the end of a text, by what it is read for
+
+ends_as : (gate : Gate) (t : TextFor) (units : List ℕ) (found : Bool) (old new : Seen) → old.text ≡ t
+    → TellsSurely (text_reason_of gate old t units) (text_state_of old t units) found old new
+    → TellsSurely (text_reason gate old units) (after_text old units) found old new
+unfolding after_text
+ends_as gate t units found old new e h =
+    subst (λ t. TellsSurely (text_reason_of gate old t units) (text_state_of old t units) found old new) (sym e) h
+
+inside_as : (t : TextFor) (units : List ℕ) (r : Seen) → r.text ≡ t → EndsText r units → IsInside t r.frames
+inside_as t units r e h = subst (λ t. IsInside t r.frames) e h.inside
+
+name_is : (t : TextFor) (units : List ℕ) (r : Seen) → r.text ≡ t → is_checked t ≡ true → EndsText r units → r.name ≡ units
+name_is t units r e checked h = h.kept (ap is_checked e ∙ checked)
+
+pub value_ends : (gate : Gate) (found : Bool) (old new : Seen) → Comes old new (after_value old) → found ≡ true → old.text ≡ text.Value
+    → (units : List ℕ) → EndsText old units → TellsSurely (text_reason gate old units) (after_text old units) found old new
+unfolding after_value
+value_ends gate found old new h ef e = λ units ends.
+    ends_as gate text.Value units found old new e (surely_next None (text_state_of old text.Value units) found old new h ef refl)
+
+pub type_ends : (gate : Gate) (found : Bool) (old new : Seen)
+    → GoesOnFields found old new
+    → old.text ≡ text.FieldType
+    → (units : List ℕ) → EndsText old units → TellsSurely (text_reason gate old units) (after_text old units) found old new
+unfolding GoesOnFields
+type_ends gate found old new h e = λ units ends.
+    ends_as gate text.FieldType units found old new e (h (inside_as text.FieldType units old e ends))
+
+pub field_named : (gate : Gate) (found : Bool) (old new : Seen)
+    → GoesOnFields found old new
+    → old.text ≡ text.FieldName false
+    → (units : List ℕ) → EndsText old units → TellsSurely (text_reason gate old units) (after_text old units) found old new
+unfolding GoesOnFields
+field_named gate found old new h e = λ units ends.
+    ends_as gate (text.FieldName false) units found old new e (h (inside_as (text.FieldName false) units old e ends))
+
+pub object_field_named : (gate : Gate) (found : Bool) (old new : Seen)
+    → IsNext phase.TextTag old.owner old.elements old.header text.FieldType old new → found ≡ true
+    → old.text ≡ text.FieldName true
+    → (units : List ℕ) → EndsText old units → TellsSurely (text_reason gate old units) (after_text old units) found old new
+unfolding Ready
+object_field_named gate found old new n ef e = λ units ends.
+    let d = inside_as (text.FieldName true) units old e ends in
+    let ready : Ready new (text_state_of old (text.FieldName true) units) =
+    rw (next_is phase.TextTag old.owner old.elements old.header text.FieldType old new n) (tt, d, refl) in
+    ends_as gate (text.FieldName true) units found old new e
+    (surely_next None (text_state_of old (text.FieldName true) units) found old new
+    (record { ready = ready; meter = n.meter; max = ap (λ t. t.max) n.table }) ef refl)
+
+pub class_name_ends : (gate : Gate) (found : Bool) (old new : Seen)
+    → TellsSurely (class_name_reason gate (head_role old) old.name) (named_state old old.name) found old new
+    → old.text ≡ text.ClassName
+    → (units : List ℕ) → EndsText old units → TellsSurely (text_reason gate old units) (after_text old units) found old new
+class_name_ends gate found old new h e = λ units ends.
+    ends_as gate text.ClassName units found old new e
+    (subst (λ name. TellsSurely (class_name_reason gate (head_role old) name) (named_state old name) found old new)
+    (name_is text.ClassName units old e refl ends) h)
+
+pub interface_name_ends : (gate : Gate) (found : Bool) (old new : Seen)
+    → (HasDescriptor old.frames → TellsSurely (interface_reason gate old.name) (settle (moment_of old) (interfaces_goals old (old.header.interfaces - 1))) found old new)
+    → old.text ≡ text.InterfaceName
+    → (units : List ℕ) → EndsText old units → TellsSurely (text_reason gate old units) (after_text old units) found old new
+interface_name_ends gate found old new h e = λ units ends.
+    ends_as gate text.InterfaceName units found old new e
+    (subst (λ name. TellsSurely (interface_reason gate name) (settle (moment_of old) (interfaces_goals old (old.header.interfaces - 1))) found old new)
+    (name_is text.InterfaceName units old e refl ends) (h (inside_as text.InterfaceName units old e ends)))

@@ -2,7 +2,7 @@
 use Rattle.std.proofs.Common.{◌≡◌, ℕ, zero, suc, ◌+◌, ◌-◌, ◌^◌, ◌<◌, ◌≤◌, Bool, true, false, List, [], ◌∷◌, ◌++◌, length, take, Some, refl, sym, ◌∙◌, ap, ap₂, subst, arith, append_assoc, append-nil, length-append, length-take-le, inl, inr}
 use Rattle.jser_prim.specs.Bytes.{big_bytes}
 use Rattle.jser_prim.specs.ModifiedUtf8.{modified_utf8}
-use Rattle.jser_prim.specs.Texts.{BeginsText, HasAccepted, HasAcceptedAfter, FaultsAfter}
+use Rattle.jser_prim.specs.Texts.{BeginsText, FaultsAfter}
 use Rattle.jser_prim.proofs.ScanLemmas.{accepts_text}
 use Rattle.jser_grammar.specs.Parts.{IsText, text_bound}
 use Rattle.jser_reading.specs.Labels.{text_field, Label}
@@ -18,12 +18,12 @@ use Rattle.jser_verdict.specs.Verdicts.{reason_at, verdict}
 use Rattle.jser_reader.specs.declared.phase.Phase.TheVariants as phase
 use Rattle.jser_reader.specs.declared.phase.TextFor.{TextFor}
 use Rattle.jser_reader.specs.declared.phase.TextFor.TheVariants as text
-use Rattle.jser_reader.specs.Readers.{Seen, moment_of, text_goal, text_rest, IsForm, IsInside, ReadyAt, length_phase}
-use Rattle.jser_reader.specs.Handlers.{Tells}
+use Rattle.jser_reader.specs.Readers.{Seen, moment_of, text_goal, text_rest, IsForm, is_checked, IsInside, ReadyAt, length_phase}
+use Rattle.jser_reader.specs.Handlers.{Tells, TellsSurely}
 use Rattle.jser_reader.specs.TextStates.{text_reason_of, text_reason, text_state_of, after_text, EndsText}
-use Rattle.jser_reader.specs.Walks.{size_of_phase, IsRightSoFar, CutStands, TextStands, StandsAt, Stands, Took, Takes, Keeps, Counts, open_phase, cut_of}
+use Rattle.jser_reader.specs.Walks.{size_of_phase, IsRightSoFar, CutStands, HasRead, HasReadAfter, TextStands, StandsAt, Stands, Took, Takes, Keeps, Counts, open_phase, cut_of}
 use Rattle.jser_reader.proofs.WalkLemmas.{before_last, walk_open}
-use Rattle.jser_reader.proofs.StandLemmas.{LeadsTo, judged}
+use Rattle.jser_reader.proofs.StandLemmas.{LeadsTo, tells_surely, judged}
 use Rattle.jser_reader.proofs.PhaseLemmas.{text_position, IsTextOf, text_is, is_open, ready_counted, counted_is}
 use Rattle.jser_reader.proofs.FixedWalks.{limits_counted}
 use Rattle.jser_reader.proofs.TextWalks.{IsTextAt, name_reason, no_head, spelled, spelled_undecided, spelled_reason, spelled_found, with_length, begun_undecided, begun_more, fault_reason, negative_reason}
@@ -80,16 +80,17 @@ same_reason gate r text.InterfaceName long units = refl
 -- ---- a whole text
 
 whole_taken : (gate : Gate) (found : Bool) (old mid new : Seen) (s : State) (cut taken : List ℕ) (long : Bool) (units : List ℕ)
-    → Tells (text_reason gate mid units) (after_text mid units) found mid new
+    → (IsInside mid.text mid.frames → TellsSurely (text_reason gate mid units) (after_text mid units) found mid new)
     → Stands gate old (settled s) cut → Counts taken old mid → 0 < length taken
     → TextOpen old s long → IsText long units → spelled long units ≡ cut ++ taken
     → Took gate s cut taken found old new
 unfolding after_text
 whole_taken gate found old mid new s cut taken long units h st c some o t e =
     let om = same_text taken old mid s long c o in
+    let told = tells_surely (text_reason gate mid units) (after_text mid units) found mid new (h om.inside) in
     let i = text_of mid s long om in
     let f = spelled_found (label_of (settled s)) long units i.is_text t in
-    judged gate (text_reason gate mid units) (after_text mid units) found old mid new s cut taken h st c some
+    judged gate (text_reason gate mid units) (after_text mid units) found old mid new s cut taken told st c some
     (subst (λ bytes. IsUndecided (verdict gate) (label_of (settled s)) bytes) e (spelled_undecided gate (label_of (settled s)) long units i.is_text t))
     (subst (λ bytes. reason_at gate (label_of (settled s)) (label_of (settled s)).position bytes ≡ text_reason gate mid units) e
     (spelled_reason gate (label_of (settled s)) long units i.is_text t ∙ ap (λ w. name_reason gate w units) i.position ∙ same_reason gate mid mid.text long units))
@@ -102,7 +103,7 @@ whole_taken gate found old mid new s cut taken long units h st c some o t e =
 
 -- ---- the length
 
-size_of_length : (long : Bool) → size_of_phase (length_phase long) ≡ head_size long
+pub size_of_length : (long : Bool) → size_of_phase (length_phase long) ≡ head_size long
 size_of_length false = refl
 size_of_length true = refl
 
@@ -155,7 +156,7 @@ length_kept gate long old new piece ep ec ek eo some short c = λ s cut st.
 
 -- the length of a text with no bytes ends it
 pub empty_text_taken : (gate : Gate) (long : Bool) (found : Bool) (old mid new : Seen) (taken : List ℕ)
-    → Tells (text_reason gate mid []) (after_text mid []) found mid new
+    → (IsInside mid.text mid.frames → TellsSurely (text_reason gate mid []) (after_text mid []) found mid new)
     → open_phase old ≡ length_phase long → 0 < length taken → big_bytes (head_size long) 0 ≡ cut_of old ++ taken
     → Counts taken old mid
     → Takes gate taken found old new
@@ -171,11 +172,11 @@ empty_text_taken gate long found old mid new taken h eo some e c = λ s cut st.
 
 -- the bytes of a text come next
 pub text_opened : (gate : Gate) (long : Bool) (len : ℕ) (old new : Seen) (taken : List ℕ)
-    → new.phase ≡ phase.Text → HasAccepted len [] [] new.scan → 0 < len → len < text_bound long
+    → new.phase ≡ phase.Text → HasRead new len [] [] → 0 < len → len < text_bound long
     → open_phase old ≡ length_phase long → big_bytes (head_size long) len ≡ cut_of old ++ taken
     → Counts taken old new → Keeps gate taken old new
 unfolding Keeps
-text_opened gate long len old new taken ep acc some bound eo e c = λ s cut st.
+text_opened gate long len old new taken ep read some bound eo e c = λ s cut st.
     let o = is_open (length_phase long) old (settled s) cut st.stands eo (length_some long) in
     let to = length_open long old s o.ready in
     let tn = same_text taken old new s long c to in
@@ -196,15 +197,15 @@ text_opened gate long len old new taken ep acc some bound eo e c = λ s cut st.
       is = tn.is;
       bound = bound;
       cut_is = is;
-      accepted = acc;
+      read = read;
       goes_on = some;
     } in
     record {
       walks = walk_open (verdict gate) s taken cut
           (subst (λ bytes. IsUndecided (verdict gate) (label_of (settled s)) bytes) (sym is)
-          (begun_undecided gate (label_of (settled s)) long len [] i.is_text bound acc.begins))
+          (begun_undecided gate (label_of (settled s)) long len [] i.is_text bound read.accepted.begins))
           (subst (λ bytes. verdict gate (label_of (settled s)) bytes ≡ more) (sym is)
-          (begun_more gate (label_of (settled s)) long len [] i.is_text bound acc.begins some));
+          (begun_more gate (label_of (settled s)) long len [] i.is_text bound read.accepted.begins some));
       stands = record {
         limits_are = limits_counted gate taken old new c st.limits_are;
         stands = subst (λ q. StandsAt q new (settled s) (cut ++ taken)) (sym ep) ts;
@@ -245,17 +246,17 @@ with_more long len cut before taken e = ap (λ x. x ++ taken) e ∙ append_assoc
 -- the text goes on with them
 pub text_kept : (gate : Gate) (old new : Seen) (piece : List ℕ)
     → old.phase ≡ phase.Text → new.phase ≡ phase.Text
-    → ((len : ℕ) (before units : List ℕ) → HasAccepted len before units old.scan → HasAcceptedAfter len (before ++ piece) units new.scan)
+    → ((len : ℕ) (before units : List ℕ) → HasRead old len before units → HasReadAfter new len (before ++ piece) units)
     → 0 < new.scan.left → Counts piece old new → Keeps gate piece old new
 unfolding Keeps
 text_kept gate old new piece ep en push left c = λ s cut st.
     let x = text_stands old s cut ep st.stands in
-    let y = push x.len x.before x.units x.accepted in
+    let y = push x.len x.before x.units x.read in
     let to = text_open old s cut x in
     let tn = same_text piece old new s x.long c to in
     let i = text_of old s x.long to in
     let is = with_more x.long x.len cut x.before piece x.cut_is in
-    let counted = y.accepted.counted in
+    let counted = y.read.accepted.counted in
     let short : length (x.before ++ piece) < x.len = omega arith in
     let n2 : length (cut ++ piece) ≡ length cut + length piece = length-append cut piece in
     let a = c.at in
@@ -271,15 +272,15 @@ text_kept gate old new piece ep en push left c = λ s cut st.
       is = tn.is;
       bound = x.bound;
       cut_is = is;
-      accepted = y.accepted;
+      read = y.read;
       goes_on = short;
     } in
     record {
       walks = walk_open (verdict gate) s piece cut
           (subst (λ bytes. IsUndecided (verdict gate) (label_of (settled s)) bytes) (sym is)
-          (begun_undecided gate (label_of (settled s)) x.long x.len (x.before ++ piece) i.is_text x.bound y.accepted.begins))
+          (begun_undecided gate (label_of (settled s)) x.long x.len (x.before ++ piece) i.is_text x.bound y.read.accepted.begins))
           (subst (λ bytes. verdict gate (label_of (settled s)) bytes ≡ more) (sym is)
-          (begun_more gate (label_of (settled s)) x.long x.len (x.before ++ piece) i.is_text x.bound y.accepted.begins short));
+          (begun_more gate (label_of (settled s)) x.long x.len (x.before ++ piece) i.is_text x.bound y.read.accepted.begins short));
       stands = record {
         limits_are = limits_counted gate piece old new c st.limits_are;
         stands = subst (λ q. StandsAt q new (settled s) (cut ++ piece)) (sym en) ts;
@@ -290,30 +291,25 @@ text_kept gate old new piece ep en push left c = λ s cut st.
 
 -- they end the text
 pub text_taken : (gate : Gate) (found : Bool) (old mid new : Seen) (taken : List ℕ)
-    → ((units : List ℕ) → EndsText old taken units → Tells (text_reason gate mid units) (after_text mid units) found mid new)
-    → old.phase ≡ phase.Text → 0 < length taken
-    → ((len : ℕ) (before units : List ℕ) → HasAccepted len before units old.scan → HasAcceptedAfter len (before ++ taken) units mid.scan)
+    → ((units : List ℕ) → EndsText mid units → TellsSurely (text_reason gate mid units) (after_text mid units) found mid new)
+    → old.phase ≡ phase.Text → (0 < old.scan.left → 0 < length taken)
+    → ((len : ℕ) (before units : List ℕ) → HasRead old len before units → HasReadAfter mid len (before ++ taken) units)
     → mid.scan.left ≡ 0 → Counts taken old mid
     → Takes gate taken found old new
 unfolding Takes
 text_taken gate found old mid new taken h ep some push left c = λ s cut st.
     let x = text_stands old s cut ep st.stands in
-    let y = push x.len x.before x.units x.accepted in
-    let counted = y.accepted.counted in
+    let y = push x.len x.before x.units x.read in
+    let counted = y.read.accepted.counted in
+    let first = x.read.accepted.counted in
+    let goes_on = x.goes_on in
     let whole : length (x.before ++ taken) ≡ x.len = omega arith in
     let units : List ℕ = x.units ++ y.more in
-    let text : x.before ++ taken ≡ modified_utf8 units = accepts_text x.len (x.before ++ taken) units mid.scan y.accepted whole in
+    let text : x.before ++ taken ≡ modified_utf8 units = accepts_text x.len (x.before ++ taken) units mid.scan y.read.accepted whole in
     let size : length (modified_utf8 units) ≡ x.len = sym (ap length text) ∙ whole in
     let bound = x.bound in
-    let end : EndsText old taken units = record {
-      before = x.before;
-      first_units = x.units;
-      accepted = subst (λ n. HasAccepted n x.before x.units old.scan) (sym whole) x.accepted;
-      spelled = sym text;
-      are_units = y.accepted.are_units;
-    } in
-    whole_taken gate found old mid new s cut taken x.long units (h units end) st c some (text_open old s cut x)
-    (y.accepted.are_units, omega arith)
+    whole_taken gate found old mid new s cut taken x.long units (λ inside. h units (record { inside = inside; kept = y.read.kept })) st c (some (omega arith)) (text_open old s cut x)
+    (y.read.accepted.are_units, omega arith)
     (ap₂ (λ n bytes. big_bytes (head_size x.long) n ++ bytes) size (sym text) ∙ sym (with_more x.long x.len cut x.before taken x.cut_is))
 
 -- no text of its length goes on with the last of them
@@ -352,17 +348,17 @@ bad_text_last gate next found old mid new s cut front taken b x h st c et size t
 pub bad_text_taken : (gate : Gate) (next : State) (found : Bool) (old mid new : Seen) (piece : List ℕ) (accepted : ℕ)
     → Tells (Some bad_text) next found mid new
     → old.phase ≡ phase.Text → length piece ≤ old.scan.left
-    → ((len : ℕ) (before units : List ℕ) → HasAccepted len before units old.scan → FaultsAfter len before piece accepted)
+    → ((len : ℕ) (before units : List ℕ) → HasRead old len before units → FaultsAfter len before piece accepted)
     → Counts (take (accepted + 1) piece) old mid
     → Takes gate (take (accepted + 1) piece) found old new
 unfolding Takes
 bad_text_taken gate next found old mid new piece accepted h ep within push c = λ s cut st.
     let x = text_stands old s cut ep st.stands in
-    let y = push x.len x.before x.units x.accepted in
+    let y = push x.len x.before x.units x.read in
     let r = take_last accepted piece y.within in
     let one : accepted + 1 ≡ suc accepted = omega arith in
     let split : take (accepted + 1) piece ≡ take accepted piece ++ (r.0 ∷ []) = ap (λ k. take k piece) one ∙ r.1 in
-    let counted = x.accepted.counted in
+    let counted = x.read.accepted.counted in
     let inside = y.within in
     let n : length (take (accepted + 1) piece) ≡ accepted + 1 = length-take-le (accepted + 1) piece (omega arith) in
     let m : length (x.before ++ take (accepted + 1) piece) ≡ length x.before + length (take (accepted + 1) piece) = length-append x.before (take (accepted + 1) piece) in

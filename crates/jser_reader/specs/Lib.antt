@@ -2,6 +2,7 @@ pub mod Walks
 pub mod Takes
 pub mod Cuts
 pub mod TextStates
+pub mod TextTakes
 pub mod Stacks
 pub mod Frames
 pub mod Readers
@@ -16,4 +17,7 @@ pub mod Superclasses
 pub mod Numbers
 pub mod Descriptors
 pub mod FieldLists
+pub mod ReaderStates
+pub mod States
+pub mod Streams
 pub mod Gates

@@ -176,6 +176,14 @@ IsForm text.ClassName false = Unit {0}
 IsForm text.InterfaceName true = ⊥
 IsForm text.InterfaceName false = Unit {0}
 
+-- the units of a class's name and an interface's are kept, to be judged at its end
+abbrev pub is_checked : TextFor → Bool
+is_checked text.Value = false
+is_checked text.FieldType = false
+is_checked (text.FieldName is_object) = false
+is_checked text.ClassName = true
+is_checked text.InterfaceName = true
+
 -- the texts of a descriptor's fields and interfaces are read while its frame is on top
 abbrev pub IsInside : TextFor → List Frame → Type 0
 IsInside text.Value frames = Unit {0}

@@ -4,6 +4,7 @@ use Rattle.jser_prim.specs.Bytes.{big_bytes}
 use Rattle.jser_verdict.specs.Gates.{Gate}
 use Rattle.jser_reader.specs.declared.machine.taken.Taken.{Taken}
 use Rattle.jser_reader.specs.declared.machine.taken.Taken.TheVariants as taken
+use Rattle.jser_reader.specs.declared.phase.Phase.{Phase}
 use Rattle.jser_reader.specs.declared.phase.Phase.TheVariants as phase
 use Rattle.jser_reader.specs.Readers.{Meter, Seen}
 use Rattle.jser_reader.specs.Steps.{after_value}
@@ -20,6 +21,19 @@ farther r k = record { meter = counted_on r.meter k; phase = r.phase; frames = r
 -- this byte ends the open field, or the machine stops at it
 unfoldable pub TakesByte : ℕ → Bool → Seen → Seen → Type 0
 TakesByte byte result old new = (gate : Gate) → Takes gate (byte ∷ []) result old new
+
+-- a field of one byte
+abbrev pub IsOne : Phase → Type 0
+IsOne phase.Top = Unit {0}
+IsOne phase.Note = Unit {0}
+IsOne phase.Value = Unit {0}
+IsOne phase.ClassTag = Unit {0}
+IsOne phase.SuperTag = Unit {0}
+IsOne phase.TextTag = Unit {0}
+IsOne phase.Flags = Unit {0}
+IsOne phase.TypeCode = Unit {0}
+IsOne phase.BlockLength1 = Unit {0}
+IsOne _ = ⊥
 
 -- the last bytes of the number `n` of `size` bytes, so many, end the open field, or the machine stops at them
 unfoldable pub TakesNumber : (size n count : ℕ) → Bool → Seen → Seen → Type 0

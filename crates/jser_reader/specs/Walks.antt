@@ -23,7 +23,7 @@ use Rattle.jser_reader.specs.declared.refusal.Refusal.{Refusal}
 use Rattle.jser_reader.specs.declared.refusal.Stop.{Stop}
 use Rattle.jser_reader.specs.declared.refusal.Stop.TheVariants as stop
 use Rattle.jser_reader.specs.Reasons.{named}
-use Rattle.jser_reader.specs.Readers.{Seen, moment_of, goals_of, text_goal, text_rest, IsForm, IsInside, ReadyAt}
+use Rattle.jser_reader.specs.Readers.{Seen, moment_of, goals_of, text_goal, text_rest, IsForm, is_checked, IsInside, ReadyAt}
 
 -- the gate with the limits of the machine, and this answer to names
 abbrev pub gate_with : Seen → (List ℕ → Answer) → Gate
@@ -82,6 +82,16 @@ pub record CutStands (r : Seen) (s : State) (cut : List ℕ) : Type 0 where
   pub short : length cut < size_of_phase r.meter.cut_phase
   pub right : IsRightSoFar r.meter.cut_phase cut
 
+-- these bytes of a text of `len` bytes were read, which spell these units; those of a checked name are kept
+pub record HasRead (r : Seen) (len : ℕ) (bytes units : List ℕ) : Type 0 where
+  pub accepted : HasAccepted len bytes units r.scan
+  pub kept : is_checked r.text ≡ true → r.name ≡ units
+
+-- the same, of units of which these are the first
+pub record HasReadAfter (r : Seen) (len : ℕ) (bytes units : List ℕ) : Type 0 where
+  pub more : List ℕ
+  pub read : HasRead r len bytes (units ++ more)
+
 -- a text is open whose length has been read, and some of its bytes are still to come
 pub record TextStands (r : Seen) (s : State) (cut : List ℕ) : Type 0 where
   pub long : Bool
@@ -93,7 +103,7 @@ pub record TextStands (r : Seen) (s : State) (cut : List ℕ) : Type 0 where
   pub is : s ≡ (moment_of r, text_goal r r.text long ∷ text_rest r r.text)
   pub bound : len < text_bound long
   pub cut_is : cut ≡ big_bytes (head_size long) len ++ before
-  pub accepted : HasAccepted len before units r.scan
+  pub read : HasRead r len before units
   pub goes_on : length before < len
 
 -- raw values are open, of which so many bytes are left
@@ -148,7 +158,7 @@ pub record Stands (gate : Gate) (r : Seen) (s : State) (cut : List ℕ) : Type 0
 
 -- The machine took these bytes, no more than the gate allows: whole fields, and some bytes of the one that is open. It
 -- stands where the walk over them ends.
-pub record StandsFor (gate : Gate) (bytes : List ℕ) (r : Seen) : Type 0 where
+pub record HasTaken (gate : Gate) (bytes : List ℕ) (r : Seen) : Type 0 where
   pub fields : List Piece
   pub cut : List ℕ
   pub runs : Runs begin_state fields

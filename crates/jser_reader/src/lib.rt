@@ -7,6 +7,7 @@ mod cut;
 mod field_list;
 mod frame;
 mod gate;
+mod item;
 mod machine;
 mod phase;
 mod refusal;
@@ -14,4 +15,5 @@ mod stack;
 mod tag;
 
 pub use gate::{Answer, Gate, OpenGate};
+pub use item::{Item, Step, Totals};
 pub use refusal::{Reason, Refusal, Stop};

@@ -1,6 +1,6 @@
-//! Numbers of four bytes, as they are taken: whole in a piece, or the last bytes of one that was cut. The bytes are
+//! Numbers, as they are taken: whole in a piece, or the last bytes of one that was cut. The bytes are
 //! counted, and the handler of the field judges the number.
-ghost use Rattle.std.specs.Prelude.{◌≡◌, ◌+◌, ◌<◌, ◌^◌};
+ghost use Rattle.std.specs.Prelude.{◌≡◌, ℕ, ◌+◌, ◌<◌, ◌^◌};
 ghost use Rattle.jser_reader.specs.Walks.{open_phase};
 ghost use Rattle.jser_reader.specs.Takes.{TakesNumber};
 
@@ -42,6 +42,42 @@ impl Machine {
     {
         self.at += count;
         self.super_handle(n)
+    }
+
+    /// Takes the last `count` bytes of the suid of a descriptor, which may be any number.
+    #[tactic(auto, using(crate::proofs::TakeLemmas::takes_suid))]
+    pub(super) fn take_suid(&mut self, count: u64) -> bool
+        requires phase { open_phase self.old ≡ Phase.Suid }
+        requires some { 0 < count }
+        requires room { self.old.meter.at + count < 2 ^ 64 }
+        ensures { (n : ℕ) → n < 2 ^ 64 → TakesNumber 8 n count result self.old self.new }
+    {
+        self.at += count;
+        self.suid()
+    }
+
+    /// Takes the last `count` bytes of the number of fields of a descriptor.
+    #[tactic(auto, using(crate::proofs::TakeLemmas::takes_field_count))]
+    pub(super) fn take_field_count(&mut self, n: u16, count: u64) -> bool
+        requires phase { open_phase self.old ≡ Phase.FieldCount }
+        requires some { 0 < count }
+        requires room { self.old.meter.at + count < 2 ^ 64 }
+        ensures { TakesNumber 2 n count result self.old self.new }
+    {
+        self.at += count;
+        self.field_count(n)
+    }
+
+    /// Takes the last `count` bytes of the number of interfaces of a proxy descriptor.
+    #[tactic(auto, using(crate::proofs::TakeLemmas::takes_interface_count))]
+    pub(super) fn take_interface_count(&mut self, n: u32, count: u64) -> bool
+        requires phase { open_phase self.old ≡ Phase.InterfaceCount }
+        requires some { 0 < count }
+        requires room { self.old.meter.at + count < 2 ^ 64 }
+        ensures { TakesNumber 4 n count result self.old self.new }
+    {
+        self.at += count;
+        self.interface_count(n)
     }
 
     /// Takes the last `count` bytes of the length of an array.

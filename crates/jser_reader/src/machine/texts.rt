@@ -1,13 +1,15 @@
-//! Text places: the name of an enum constant and the type of a field, which are new strings or references to strings.
-ghost use Rattle.std.specs.Prelude.{◌≡◌, true};
+//! Text places, of the name of an enum constant and the type of a field, which are new strings or references to
+//! strings; and what comes after a text.
+ghost use Rattle.std.specs.Prelude.{◌≡◌, ℕ, true, List, None};
 ghost use Rattle.jser_reading.specs.FieldBytes.{tag_byte};
 ghost use Rattle.jser_reading.specs.FieldsFromBytes.{tag_from};
 ghost use Rattle.jser_reading.specs.Goals.{settle};
 ghost use Rattle.jser_reader.specs.Tags.{told_tag};
 ghost use Rattle.jser_reader.specs.Readers.{IsForm, IsInside, moment_of, text_rest};
-ghost use Rattle.jser_reader.specs.Handlers.{Tells, TellsSurely};
-ghost use Rattle.jser_reader.specs.TextStates.{text_tag_reason, handle_reason, after_text_tag};
+ghost use Rattle.jser_reader.specs.Handlers.{Tells, TellsSurely, IsNext};
+ghost use Rattle.jser_reader.specs.TextStates.{text_tag_reason, handle_reason, after_text_tag, EndsText, text_reason, after_text};
 
+use crate::gate::Gate;
 use crate::machine::Machine;
 use crate::machine::classes::FIRST_HANDLE;
 use crate::phase::{Phase, TextFor};
@@ -49,6 +51,58 @@ impl Machine {
             Some(Tag::EndBlockData) => self.refuse(Reason::BadTag),
             Some(Tag::Reset) => self.refuse(Reason::BadTag),
             Some(Tag::Exception) => self.refuse(Reason::BadTag),
+        }
+    }
+
+    /// The text of a text place has ended.
+    #[tactic(auto, using(crate::proofs::TextLemmas::constant_named, crate::proofs::TextLemmas::type_named))]
+    fn place_done(&mut self) -> bool
+        ensures { IsForm self.old.text true → IsInside self.old.text self.old.frames
+            → TellsSurely None (settle (moment_of self.old) (text_rest self.old self.old.text)) result self.old self.new }
+    {
+        if self.text == TextFor::FieldType {
+            return self.fields_done();
+        }
+        self.ended()
+    }
+
+    /// The handle of a reference in a text place.
+    #[tactic(auto, using(crate::proofs::TextLemmas::low_text, crate::proofs::TextLemmas::no_such_text, crate::proofs::TextLemmas::right_text, crate::proofs::TextLemmas::wrong_text))]
+    pub(super) fn text_handle(&mut self, n: u32) -> bool
+        ensures { IsForm self.old.text true → IsInside self.old.text self.old.frames
+            → TellsSurely (handle_reason self.old n) (settle (moment_of self.old) (text_rest self.old self.old.text)) result self.old self.new }
+    {
+        if n < FIRST_HANDLE {
+            return self.refuse(Reason::NoSuchHandle);
+        }
+        match self.table.get(n - FIRST_HANDLE) {
+            None => self.refuse(Reason::NoSuchHandle),
+            Some(Entry::Text) => self.place_done(),
+            Some(_) => self.refuse(Reason::WrongKind),
+        }
+    }
+
+    /// A text place comes next, of the type of the field whose name has been read.
+    fn next_type(&mut self) -> bool
+        ensures next { IsNext Phase.TextTag self.old.owner self.old.elements self.old.header TextFor.FieldType self.old self.new }
+        ensures result { result ≡ true }
+    {
+        self.text = TextFor::FieldType;
+        self.done(Phase::TextTag)
+    }
+
+    /// The text has ended whose bytes are being read, and all of them have been counted.
+    #[tactic(auto, using(crate::proofs::TextLemmas::value_ends, crate::proofs::TextLemmas::type_ends, crate::proofs::TextLemmas::object_field_named, crate::proofs::TextLemmas::field_named, crate::proofs::TextLemmas::class_name_ends, crate::proofs::TextLemmas::interface_name_ends))]
+    pub(super) fn text_done<G: Gate>(&mut self, gate: &G) -> bool
+        ensures { (units : List ℕ) → EndsText self.old units → TellsSurely (text_reason (G.told gate.now) self.old units) (after_text self.old units) result self.old self.new }
+    {
+        match self.text {
+            TextFor::Value => self.ended(),
+            TextFor::FieldType => self.fields_done(),
+            TextFor::FieldName(true) => self.next_type(),
+            TextFor::FieldName(false) => self.fields_done(),
+            TextFor::ClassName => self.class_name(gate),
+            TextFor::InterfaceName => self.interface_name(gate),
         }
     }
 }

@@ -1,0 +1,106 @@
+-- A reader: the bytes of a piece, up to the limit, and what is answered.
+use Rattle.std.proofs.Common.{◌≡◌, ℕ, zero, suc, ◌+◌, ◌-◌, ◌<◌, ◌≤◌, ◌^◌, ◌&&◌, Bool, true, false, nat_lt, get_or, List, [], ◌∷◌, ◌++◌, length, take, drop, Result, Ok, Err, refl, sym, ◌∙◌, ap, subst, arith, IsTrue, append_assoc, append-nil, length-append, length-take-le}
+use Rattle.std.specs.List.{list_all}
+use Rattle.std.proofs.lemmas.Bool.Decides.{nat_tests}
+use Rattle.jser_grammar.specs.Parts.{IsBytes}
+use Rattle.jser_reading.specs.Machine.{begin_state, left}
+use Rattle.jser_reading.specs.Goals.{settled}
+use Rattle.jser_verdict.specs.Gates.{Gate, IsGate}
+use Rattle.jser_verdict.proofs.ByteLists.{bytes_both}
+use Rattle.jser_reader.specs.declared.refusal.Refusal.{Refusal}
+use Rattle.jser_reader.specs.declared.refusal.Reason.TheVariants as reason
+use Rattle.jser_reader.specs.declared.refusal.Stop.{Stop}
+use Rattle.jser_reader.specs.declared.refusal.Stop.TheVariants as stop
+use Rattle.jser_reader.specs.Readers.{Seen}
+use Rattle.jser_reader.specs.Handlers.{StopsWith}
+use Rattle.jser_reader.specs.Walks.{HasTaken, Takes, Keeps, StopsFor}
+use Rattle.jser_reader.specs.States.{IsWithin, exceeded}
+use Rattle.jser_reader.specs.Streams.{AreRefused}
+use Rattle.jser_reader.proofs.StandLemmas.{took_stands, kept_stands}
+use Rattle.jser_reader.proofs.StreamWalks.{stop_stands}
+use Rattle.jser_reader.proofs.AnswerLemmas.{refuses, exceeds}
+
+-- ---- pieces
+
+take_less : (n k : ℕ) (xs : List ℕ) → n ≤ k → take n (take k xs) ≡ take n xs
+take_less zero k xs h = refl
+take_less (suc n) zero xs h = absurd (omega arith)
+take_less (suc n) (suc k) [] h = refl
+take_less (suc n) (suc k) (x ∷ xs) h = ap (λ ys. x ∷ ys) (take_less n k xs (omega arith))
+
+front_of_front : (r : Seen) (piece front : List ℕ) (n : ℕ) → IsWithin r piece front → n ≤ length front → take n front ≡ take n piece
+front_of_front r piece front n w h = ap (take n) w.is_front ∙ take_less n (length front) piece h
+
+bytes_front : (n : ℕ) (xs : List ℕ) → IsBytes xs → IsBytes (take n xs)
+bytes_front zero xs h = refl
+bytes_front (suc n) [] h = refl
+bytes_front (suc n) (x ∷ xs) h = go (nat_lt x 0x100) h (λ k. bytes_front n xs k)
+  where
+    go : (b : Bool) → IsTrue (b && list_all (λ b. nat_lt b 0x100) xs) → (IsBytes xs → IsBytes (take n xs)) → IsTrue (b && list_all (λ b. nat_lt b 0x100) (take n xs))
+    go true h k = k h
+    go false h k = absurd (cc)
+
+-- the limit of the gate is that of the machine
+limit_is : (gate : Gate) (bytes : List ℕ) (r : Seen) → HasTaken gate bytes r → r.meter.limits.bytes ≡ gate.bytes
+limit_is gate bytes r h = ap (λ g. g.bytes) h.stands.limits_are
+
+-- ---- a field ends, or goes on
+
+pub field_ends : (gate : Gate) (bytes piece front : List ℕ) (n : ℕ) (old new : Seen) → IsWithin old piece front → n ≤ length front → IsBytes piece
+    → Takes gate (take n front) true old new → HasTaken gate bytes old → length bytes ≤ gate.bytes
+    → HasTaken gate (bytes ++ take n piece) new × (length (bytes ++ take n piece) ≤ gate.bytes)
+field_ends gate bytes piece front n old new w le h t st room =
+    let e = front_of_front old piece front n w le in
+    let m = limit_is gate bytes old st in
+    let f = w.fits in
+    let a = st.taken in
+    let k = length-append bytes (take n piece) in
+    let j = length-take-le n piece (let s = w.short in omega arith) in
+    (took_stands gate old new bytes (take n piece) (subst (λ xs. Takes gate xs true old new) e t) (bytes_front n piece h) st, omega arith)
+
+pub field_goes_on : (gate : Gate) (bytes piece front : List ℕ) (n : ℕ) (old new : Seen) → IsWithin old piece front → n ≤ length front → IsBytes piece
+    → Keeps gate (take n front) old new → HasTaken gate bytes old → length bytes ≤ gate.bytes
+    → HasTaken gate (bytes ++ take n piece) new × (length (bytes ++ take n piece) ≤ gate.bytes)
+field_goes_on gate bytes piece front n old new w le h t st room =
+    let e = front_of_front old piece front n w le in
+    let m = limit_is gate bytes old st in
+    let f = w.fits in
+    let a = st.taken in
+    let k = length-append bytes (take n piece) in
+    let j = length-take-le n piece (let s = w.short in omega arith) in
+    (kept_stands gate old new bytes (take n piece) (subst (λ xs. Keeps gate xs old new) e t) (bytes_front n piece h) st, omega arith)
+
+-- ---- the machine stops
+
+pub field_stops : (gate : Gate) (bytes piece front : List ℕ) (n : ℕ) (refusal : Refusal) (old new : Seen) → IsWithin old piece front → n ≤ length front → IsBytes piece
+    → Takes gate (take n front) false old new → HasTaken gate bytes old → length bytes ≤ gate.bytes → new.meter.stop ≡ stop.Refused refusal
+    → AreRefused gate (bytes ++ take n piece) refusal
+field_stops gate bytes piece front n refusal old new w le h t st room es =
+    let e = front_of_front old piece front n w le in
+    let m = limit_is gate bytes old st in
+    let f = w.fits in
+    let a = st.taken in
+    let k = length-append bytes (take n piece) in
+    let j = length-take-le n piece (let s = w.short in omega arith) in
+    let x : StopsFor gate (bytes ++ take n piece) (stop.Refused refusal) =
+    subst (StopsFor gate (bytes ++ take n piece)) es (stop_stands gate old new bytes (take n piece) (subst (λ xs. Takes gate xs false old new) e t) st) in
+    refuses gate (bytes ++ take n piece) refusal (bytes_both bytes (take n piece) st.all_bytes (bytes_front n piece h)) (omega arith) x
+
+-- a machine that stands for bytes does not stop as if it were spent
+pub never_spent : (gate : Gate) (bytes taken : List ℕ) (old new : Seen) → Takes gate taken false old new → HasTaken gate bytes old → new.meter.stop ≡ stop.Spent → ⊥
+unfolding Takes
+never_spent gate bytes taken old new h st e =
+    subst (λ w. StopsFor gate (bytes ++ taken) w) e (stop_stands gate old new bytes taken h st)
+
+-- ---- the limit
+
+-- where the limit was reached, the next byte is one too many
+pub over : (gate : Gate) (bytes piece : List ℕ) (b : ℕ) (others : List ℕ) (refusal : Refusal) (r : Seen) → HasTaken gate bytes r → length bytes ≡ gate.bytes
+    → IsBytes piece → piece ≡ b ∷ others → stop.Refused refusal ≡ exceeded r.meter
+    → AreRefused gate (bytes ++ (b ∷ [])) refusal
+over gate bytes piece b others refusal r st le h ep er =
+    let same : refusal ≡ record { from_byte = r.meter.from; to_byte = r.meter.at + 1; reason = reason.BytesExceeded } = cc in
+    let s = st.stands.counts in
+    let t = st.taken in
+    exceeds gate bytes st.cut b (left begin_state st.fields) refusal st.all_bytes (subst IsBytes (ap (take 1) ep) (bytes_front 1 piece h)) le st.walked
+    (ap (λ x. x.reason) same) (let k = ap (λ x. x.from_byte) same in omega arith) (let k = ap (λ x. x.to_byte) same in omega arith)

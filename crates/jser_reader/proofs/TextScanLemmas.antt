@@ -1,0 +1,334 @@
+-- The bytes of a text: scanning some of them after others, and the walk over them.
+use Rattle.std.proofs.Common.{◌≡◌, ℕ, ◌+◌, ◌<◌, ◌≤◌, min, ◌⊎◌, inl, inr, ◌↔◌, Bool, true, false, List, [], ◌∷◌, ◌++◌, length, take, Option, Some, None, refl, sym, ◌∙◌, ap, ap₂, subst, arith, append_assoc, append-nil, length-append, length-take-le}
+use Rattle.std.specs.Option.{option_to_list}
+use Rattle.std.proofs.lemmas.List.{take_all, take-take}
+use Rattle.jser_prim.specs.Texts.{BeginsText, Scan, HasAccepted, HasAcceptedAfter, FaultsAfter}
+use Rattle.jser_verdict.specs.Reasons.{bad_text}
+use Rattle.jser_verdict.specs.Gates.{Gate}
+use Rattle.jser_reader.specs.declared.machine.text_bytes.TextStep.TheVariants as step
+use Rattle.jser_reader.specs.declared.phase.Phase.TheVariants as phase
+use Rattle.jser_reader.specs.declared.refusal.Reason.TheVariants as reason
+use Rattle.jser_reader.specs.declared.refusal.Stop.{Stop}
+use Rattle.jser_reader.specs.declared.refusal.Stop.TheVariants as stop
+use Rattle.jser_reader.specs.Readers.{Seen, Meter, moment_of, is_checked}
+use Rattle.jser_reader.specs.Handlers.{StopsWith, refusal, TellsSurely}
+use Rattle.jser_reader.specs.TextStates.{text_reason, after_text, EndsText}
+use Rattle.jser_reader.specs.Walks.{HasRead, HasReadAfter, Counts, StopTold, Takes, Keeps}
+use Rattle.jser_reader.specs.Takes.{counted_on, farther}
+use Rattle.jser_reader.specs.TextTakes.{with_unit, KeepsUnit, Scanned, Faults, RunsOut, Scans, EndsWithin, StopsWithin, TakesText}
+use Rattle.jser_reader.proofs.EndLemmas.{tells_refusal}
+use Rattle.jser_reader.proofs.TakeLemmas.{counts_bytes}
+use Rattle.jser_reader.proofs.TextSteps.{text_kept, text_taken, bad_text_taken}
+
+-- ---- a unit that is kept
+
+pub keeps_none : (unit : Option ℕ) (b : Bool) (old new : Seen) → new ≡ old → b ≡ true → unit ≡ None → KeepsUnit unit b old new
+unfolding KeepsUnit
+keeps_none unit b old new e eb none =
+    rw eb (rw none (e ∙ ap (λ name. record { meter = old.meter; phase = old.phase; frames = old.frames; layers = old.layers; table = old.table; refs = old.refs; owner = old.owner; elements = old.elements; header = old.header; text = old.text; left = old.left; scan = old.scan; name = name }) (sym (append-nil old.name))))
+
+pub keeps_unit : (unit : Option ℕ) (u : ℕ) (b : Bool) (old new : Seen) → new ≡ with_unit old (Some u) → b ≡ true → unit ≡ Some u → KeepsUnit unit b old new
+unfolding KeepsUnit
+keeps_unit unit u b old new e eb some = rw eb (rw some e)
+
+pub no_room : (unit : Option ℕ) (b : Bool) (old new : Seen) → StopsWith stop.OutOfMemory old new → b ≡ false → KeepsUnit unit b old new
+unfolding KeepsUnit
+no_room unit b old new h eb = rw eb h
+
+-- ---- one byte of a checked name
+
+-- so many bytes were counted, and scanned
+abbrev pub scanned_on : Seen → ℕ → Scan → Seen
+scanned_on r k scan = record { meter = counted_on r.meter k; phase = r.phase; frames = r.frames; layers = r.layers; table = r.table; refs = r.refs; owner = r.owner; elements = r.elements; header = r.header; text = r.text; left = r.left; scan = scan; name = r.name }
+
+-- a unit more, if there is one
+abbrev scanned_unit : Seen → Scan → Option ℕ → Seen
+scanned_unit r scan unit = with_unit (scanned_on r 1 scan) unit
+
+unit_scanned : (b : ℕ) (unit : Option ℕ) (old new : Seen) (scan : Scan) → new ≡ scanned_unit old scan unit
+    → ((len : ℕ) (bytes units : List ℕ) → HasAccepted len bytes units old.scan → HasAccepted len (bytes ++ (b ∷ [])) (units ++ option_to_list unit) scan)
+    → scan.left + 1 ≡ old.scan.left → Scanned (b ∷ []) old new
+unit_scanned b unit old new scan e push left = record {
+  phase_is = ap (λ r. r.phase) e;
+  counts = record {
+    at = ap (λ r. r.meter.at) e;
+    from = ap (λ r. r.meter.from) e;
+    limits = ap (λ r. r.meter.limits) e;
+    frames = ap (λ r. r.frames) e;
+    layers = ap (λ r. r.layers) e;
+    table = ap (λ r. r.table) e;
+    refs = ap (λ r. r.refs) e;
+    owner = ap (λ r. r.owner) e;
+    elements = ap (λ r. r.elements) e;
+    header = ap (λ r. r.header) e;
+    text = ap (λ r. r.text) e;
+  };
+  left = ap (λ r. r.scan.left + 1) e ∙ left;
+  reads =
+      λ len before units h. record {
+        more = option_to_list unit;
+        read = record {
+          accepted = subst (λ s. HasAccepted len (before ++ (b ∷ [])) (units ++ option_to_list unit) s) (sym (ap (λ r. r.scan) e)) (push len before units h.accepted);
+          kept = λ checked. ap (λ r. r.name) e ∙ ap (λ name. name ++ option_to_list unit) (h.kept (sym (ap (λ r. is_checked r.text) e) ∙ checked));
+        };
+      };
+}
+
+pub name_goes_on : (b : ℕ) (unit : Option ℕ) (scan : Scan) (found : Bool) (old mid new : Seen) → KeepsUnit unit found mid new → mid ≡ scanned_on old 1 mid.scan
+    → ((len : ℕ) (bytes units : List ℕ) → HasAccepted len bytes units scan → HasAccepted len (bytes ++ (b ∷ [])) (units ++ option_to_list unit) mid.scan)
+    → mid.scan.left + 1 ≡ scan.left → scan ≡ old.scan → is_checked old.text ≡ true → Scans (b ∷ []) found old new
+unfolding KeepsUnit Scans
+name_goes_on b unit scan true old mid new h m push left e checked =
+    unit_scanned b unit old new mid.scan (h ∙ ap (λ r. with_unit r unit) m)
+    (λ len bytes units a. push len bytes units (subst (HasAccepted len bytes units) (sym e) a)) (left ∙ ap (λ k. k.left) e)
+name_goes_on b unit scan false old mid new h m push left e checked = inr (record { checked = checked; stops = record { phase = h.phase; stop = h.stop } })
+
+pub name_fault : (b : ℕ) (scan : Scan) (found : Bool) (old mid new : Seen) → StopsWith (refusal mid.meter reason.BadText) mid new → found ≡ false
+    → mid.meter ≡ counted_on old.meter 1
+    → ((len : ℕ) (bytes units : List ℕ) → HasAccepted len bytes units scan → BeginsText len (bytes ++ (b ∷ [])) → ⊥)
+    → scan ≡ old.scan → Scans (b ∷ []) found old new
+unfolding Scans
+name_fault b scan found old mid new h ef m none e =
+    rw ef (inl (record {
+      accepted = 0;
+      within = omega arith;
+      stops = record { phase = h.phase; stop = h.stop ∙ ap (λ x. refusal x reason.BadText) m };
+      faults =
+          λ len before units r. record {
+            within = omega arith;
+            begins = subst (BeginsText len) (sym (append-nil before)) r.accepted.begins;
+            fault = none len before units (subst (HasAccepted len before units) (sym e) r.accepted);
+          };
+    }))
+
+-- ---- bytes after others
+
+pub none_scanned : (r : Seen) → Scanned [] r r
+none_scanned r = record {
+  phase_is = refl;
+  counts = record { at = omega arith; from = refl; limits = refl; frames = refl; layers = refl; table = refl; refs = refl; owner = refl; elements = refl; header = refl; text = refl };
+  left = omega arith;
+  reads =
+      λ len before units h. record {
+        more = [];
+        read = record {
+          accepted = subst (λ xs. HasAccepted len xs (units ++ []) r.scan) (sym (append-nil before)) (subst (λ ys. HasAccepted len before ys r.scan) (sym (append-nil units)) h.accepted);
+          kept = λ checked. h.kept checked ∙ sym (append-nil units);
+        };
+      };
+}
+
+scanned_after : (xs ys : List ℕ) (old mid new : Seen) → Scanned xs old mid → Scanned ys mid new → Scanned (xs ++ ys) old new
+scanned_after xs ys old mid new p q =
+    let n : length (xs ++ ys) ≡ length xs + length ys = length-append xs ys in
+    let a = p.counts in
+    let b = q.counts in
+    record {
+      phase_is = q.phase_is ∙ p.phase_is;
+      counts = record {
+        at = let x = a.at in let y = b.at in omega arith;
+        from = b.from ∙ a.from;
+        limits = b.limits ∙ a.limits;
+        frames = b.frames ∙ a.frames;
+        layers = b.layers ∙ a.layers;
+        table = b.table ∙ a.table;
+        refs = b.refs ∙ a.refs;
+        owner = b.owner ∙ a.owner;
+        elements = b.elements ∙ a.elements;
+        header = b.header ∙ a.header;
+        text = b.text ∙ a.text;
+      };
+      left = let x = p.left in let y = q.left in omega arith;
+      reads =
+          λ len before units h.
+          let f = p.reads len before units h in
+          let s = q.reads len (before ++ xs) (units ++ f.more) f.read in
+          record {
+            more = f.more ++ s.more;
+            read = subst (λ bytes. HasRead new len bytes (units ++ (f.more ++ s.more))) (append_assoc before xs ys)
+                (subst (λ us. HasRead new len ((before ++ xs) ++ ys) us) (append_assoc units f.more s.more) s.read);
+          };
+    }
+
+pub one_more : (part : List ℕ) (i b : ℕ) (found : Bool) (old mid new : Seen) → Scanned (take i part) old mid → Scans (b ∷ []) found mid new → found ≡ true
+    → take (i + 1) part ≡ take i part ++ (b ∷ []) → Scanned (take (i + 1) part) old new
+unfolding Scans
+one_more part i b true old mid new p q ef e = subst (λ xs. Scanned xs old new) (sym e) (scanned_after (take i part) (b ∷ []) old mid new p q)
+one_more part i b false old mid new p q ef e = absurd (cc)
+
+pub all_scanned : (part : List ℕ) (i : ℕ) (found : Bool) (old new : Seen) → Scanned (take i part) old new → length part ≤ i → found ≡ true → Scans part found old new
+unfolding Scans
+all_scanned part i found old new p all ef = rw ef (subst (λ xs. Scanned xs old new) (take_all i part all) p)
+
+-- a byte with which no text goes on, after others
+
+same_refusal : (m k : Meter) (n : ℕ) → m.from ≡ k.from → m.at ≡ k.at + n → refusal (counted_on m 1) reason.BadText ≡ refusal (counted_on k (n + 1)) reason.BadText
+same_refusal m k n ef ea =
+    let to : m.at + 1 ≡ k.at + (n + 1) = omega arith in
+    ap₂ (λ a b. stop.Refused (record { from_byte = a; to_byte = b; reason = reason.BadText })) ef to
+
+fault_after : (part : List ℕ) (i b : ℕ) (old mid new : Seen) → Scanned (take i part) old mid → Faults (b ∷ []) mid new → i < length part
+    → take (i + 1) part ≡ take i part ++ (b ∷ []) → Faults part old new
+fault_after part i b old mid new p f inside e =
+    let n : length (take i part) ≡ i = length-take-le i part (omega arith) in
+    let within = f.within in
+    let first : f.accepted ≡ 0 = omega arith in
+    let c = p.counts in
+    let at = c.at in
+    let far : mid.meter.at ≡ old.meter.at + i = omega arith in
+    record {
+      accepted = i;
+      within = inside;
+      stops = record {
+        phase = f.stops.phase;
+        stop =
+            f.stops.stop ∙ ap (λ k. refusal (counted_on mid.meter (k + 1)) reason.BadText) first
+            ∙ same_refusal mid.meter old.meter i c.from far;
+      };
+      faults =
+          λ len before units h.
+          let r = p.reads len before units h in
+          let g = subst (λ k. FaultsAfter len (before ++ take i part) (b ∷ []) k) first (f.faults len (before ++ take i part) (units ++ r.more) r.read) in
+          record {
+            within = inside;
+            begins = r.read.accepted.begins;
+            fault = λ t. g.fault (subst (BeginsText len) (ap (λ xs. before ++ xs) e ∙ sym (append_assoc before (take i part) (b ∷ []))) t);
+          };
+    }
+
+pub stops_at : (part : List ℕ) (i b : ℕ) (found stopped : Bool) (old mid new : Seen) → Scanned (take i part) old mid → Scans (b ∷ []) found mid new → found ≡ false
+    → stopped ≡ false → i < length part → take (i + 1) part ≡ take i part ++ (b ∷ []) → Scans part stopped old new
+unfolding Scans
+stops_at part i b true stopped old mid new p q ef es inside e = absurd (cc)
+stops_at part i b false stopped old mid new p (inl f) ef es inside e = rw es (inl (fault_after part i b old mid new p f inside e))
+stops_at part i b false stopped old mid new p (inr r) ef es inside e =
+    rw es (inr (record { checked = sym (ap is_checked p.counts.text) ∙ r.checked; stops = record { phase = r.stops.phase; stop = r.stops.stop } }))
+
+-- ---- a text whose units are not kept
+
+pub plain_scanned : (part : List ℕ) (scan : Scan) (found : Bool) (old new : Seen) → new ≡ scanned_on old (length part) new.scan
+    → ((len : ℕ) (before units : List ℕ) → HasAccepted len before units scan → HasAcceptedAfter len (before ++ part) units new.scan)
+    → new.scan.left + length part ≡ scan.left → scan ≡ old.scan → is_checked old.text ≡ false → found ≡ true → Scans part found old new
+unfolding Scans
+plain_scanned part scan found old new e push left es plain ef =
+    rw ef (record {
+      phase_is = ap (λ r. r.phase) e;
+      counts = record {
+        at = ap (λ r. r.meter.at) e;
+        from = ap (λ r. r.meter.from) e;
+        limits = ap (λ r. r.meter.limits) e;
+        frames = ap (λ r. r.frames) e;
+        layers = ap (λ r. r.layers) e;
+        table = ap (λ r. r.table) e;
+        refs = ap (λ r. r.refs) e;
+        owner = ap (λ r. r.owner) e;
+        elements = ap (λ r. r.elements) e;
+        header = ap (λ r. r.header) e;
+        text = ap (λ r. r.text) e;
+      };
+      left = left ∙ ap (λ k. k.left) es;
+      reads =
+          λ len before units h.
+          let y = push len before units (subst (HasAccepted len before units) (sym es) h.accepted) in
+          record {
+            more = y.more;
+            read = record { accepted = y.accepted; kept = λ checked. let not_so : is_checked new.text ≡ false = ap (λ r. is_checked r.text) e ∙ plain in absurd (cc) };
+          };
+    })
+
+pub plain_fault : (part : List ℕ) (accepted : ℕ) (scan : Scan) (found : Bool) (old mid new : Seen) → StopsWith (refusal mid.meter reason.BadText) mid new → found ≡ false
+    → mid.meter ≡ counted_on old.meter (accepted + 1) → accepted < length part
+    → ((len : ℕ) (before units : List ℕ) → HasAccepted len before units scan → FaultsAfter len before part accepted)
+    → scan ≡ old.scan → Scans part found old new
+unfolding Scans
+plain_fault part accepted scan found old mid new h ef m within push es =
+    rw ef (inl (record {
+      accepted = accepted;
+      within = within;
+      stops = record { phase = h.phase; stop = h.stop ∙ ap (λ x. refusal x reason.BadText) m };
+      faults = λ len before units r. push len before units (subst (HasAccepted len before units) (sym es) r.accepted);
+    }))
+
+-- ---- the bytes of a piece
+
+-- the machine that refuses the text after so many bytes
+fault_taken : (gate : Gate) (piece part : List ℕ) (used : ℕ) (old new : Seen) → (f : Faults part old new) → part ≡ take used piece
+    → old.phase ≡ phase.Text → length part ≤ old.scan.left → used ≤ length piece → StopsWithin gate piece old new
+fault_taken gate piece part used old new f e ep room within =
+    let n : length part ≡ used = ap length e ∙ length-take-le used piece within in
+    let inside = f.within in
+    let same : take (f.accepted + 1) part ≡ take (f.accepted + 1) piece = ap (take (f.accepted + 1)) e ∙ take-take (f.accepted + 1) used piece (omega arith) in
+    let size : length (take (f.accepted + 1) part) ≡ f.accepted + 1 = length-take-le (f.accepted + 1) part (omega arith) in
+    let mid : Seen = farther old (f.accepted + 1) in
+    record {
+      used = f.accepted + 1;
+      within = omega arith;
+      takes = subst (λ xs. Takes gate xs false old new) same
+          (bad_text_taken gate (moment_of old, []) false old mid new part f.accepted
+          (tells_refusal bad_text (Some bad_text) (moment_of old, []) false mid new (record { phase = f.stops.phase; stop = f.stops.stop }) refl refl)
+          ep room f.faults (counts_bytes (take (f.accepted + 1) part) (f.accepted + 1) old mid refl size));
+    }
+
+no_memory_taken : (gate : Gate) (piece : List ℕ) (old new : Seen) → RunsOut old new → StopsWithin gate piece old new
+unfolding Takes
+no_memory_taken gate piece old new r = record {
+  used = 0;
+  within = omega arith;
+  takes = λ s cut st. subst (λ why. StopTold gate s cut [] old.meter.from why) (sym r.stops.stop) tt;
+}
+
+pub stops_within : (gate : Gate) (piece part : List ℕ) (used : ℕ) (found : Bool) (old new : Seen) → Scans part found old new → found ≡ false → part ≡ take used piece
+    → old.phase ≡ phase.Text → length part ≤ old.scan.left → used ≤ length piece → TakesText gate piece step.Stopped old new
+unfolding Scans TakesText
+stops_within gate piece part used true old new h ef e ep room within = absurd (cc)
+stops_within gate piece part used false old new (inl f) ef e ep room within = fault_taken gate piece part used old new f e ep room within
+stops_within gate piece part used false old new (inr r) ef e ep room within = no_memory_taken gate piece old new r
+
+is_scanned : (part : List ℕ) (found : Bool) (old new : Seen) → Scans part found old new → found ≡ true → Scanned part old new
+unfolding Scans
+is_scanned part true old new h ef = h
+is_scanned part false old new h ef = absurd (cc)
+
+pub stays_open : (gate : Gate) (piece part : List ℕ) (used : ℕ) (found : Bool) (old new : Seen) → Scans part found old new → found ≡ true → part ≡ take used piece
+    → old.phase ≡ phase.Text → used ≡ min old.scan.left (length piece) → 0 < new.scan.left → TakesText gate piece step.Open old new
+unfolding TakesText
+stays_open gate piece part used found old new h ef e ep size left =
+    let s = is_scanned part found old new h ef in
+    let within : used ≤ length piece = omega arith in
+    let n : length part ≡ used = ap length e ∙ length-take-le used piece within in
+    let l = s.left in
+    let whole : part ≡ piece = e ∙ take_all used piece (omega arith) in
+    subst (λ xs. Keeps gate xs old new) whole (text_kept gate old new part ep (s.phase_is ∙ ep) s.reads left s.counts)
+
+text_end : (gate : Gate) (piece part : List ℕ) (used : ℕ) (scanned found : Bool) (old mid new : Seen)
+    → ((units : List ℕ) → EndsText mid units → TellsSurely (text_reason gate mid units) (after_text mid units) found mid new)
+    → Scans part scanned old mid → scanned ≡ true → part ≡ take used piece → old.phase ≡ phase.Text → used ≡ min old.scan.left (length piece)
+    → (0 < mid.scan.left → ⊥) → 0 < length piece → Takes gate (take used piece) found old new
+text_end gate piece part used scanned found old mid new t h es e ep size none some =
+    let s = is_scanned part scanned old mid h es in
+    let within : used ≤ length piece = omega arith in
+    let n : length part ≡ used = ap length e ∙ length-take-le used piece within in
+    subst (λ xs. Takes gate xs found old new) e
+    (text_taken gate found old mid new part t ep (λ left. omega arith) s.reads (omega (arith, none)) s.counts)
+
+pub ends_within : (gate : Gate) (piece part : List ℕ) (used : ℕ) (scanned found : Bool) (old mid new : Seen)
+    → ((units : List ℕ) → EndsText mid units → TellsSurely (text_reason gate mid units) (after_text mid units) found mid new)
+    → Scans part scanned old mid → scanned ≡ true → found ≡ true → part ≡ take used piece → old.phase ≡ phase.Text → used ≡ min old.scan.left (length piece)
+    → (0 < mid.scan.left → ⊥) → 0 < length piece → TakesText gate piece (step.Ended used) old new
+unfolding TakesText
+ends_within gate piece part used scanned found old mid new t h es ef e ep size none some = record {
+  within = omega arith;
+  some = λ left. omega arith;
+  takes = subst (λ b. Takes gate (take used piece) b old new) ef (text_end gate piece part used scanned found old mid new t h es e ep size none some);
+}
+
+pub stops_at_end : (gate : Gate) (piece part : List ℕ) (used : ℕ) (scanned found : Bool) (old mid new : Seen)
+    → ((units : List ℕ) → EndsText mid units → TellsSurely (text_reason gate mid units) (after_text mid units) found mid new)
+    → Scans part scanned old mid → scanned ≡ true → found ≡ false → part ≡ take used piece → old.phase ≡ phase.Text → used ≡ min old.scan.left (length piece)
+    → (0 < mid.scan.left → ⊥) → 0 < length piece → TakesText gate piece step.Stopped old new
+unfolding TakesText
+stops_at_end gate piece part used scanned found old mid new t h es ef e ep size none some = record {
+  used = used;
+  within = omega arith;
+  takes = subst (λ b. Takes gate (take used piece) b old new) ef (text_end gate piece part used scanned found old mid new t h es e ep size none some);
+}

@@ -1,0 +1,109 @@
+-- The bytes of a text as they are taken: its length, and then its bytes. The text goes on, it ends, or the machine stops.
+use Rattle.std.specs.Prelude.{◌≡◌, ◌⊎◌, ℕ, ◌+◌, ◌<◌, ◌≤◌, Bool, true, false, List, [], ◌∷◌, ◌++◌, length, take, Option}
+use Rattle.std.specs.Option.{option_to_list}
+use Rattle.jser_prim.specs.Bytes.{big_bytes}
+use Rattle.jser_prim.specs.Texts.{FaultsAfter}
+use Rattle.jser_verdict.specs.Gates.{Gate}
+use Rattle.jser_reader.specs.declared.phase.Phase.TheVariants as phase
+use Rattle.jser_reader.specs.declared.refusal.Reason.TheVariants as reason
+use Rattle.jser_reader.specs.declared.refusal.Stop.TheVariants as stop
+use Rattle.jser_reader.specs.declared.machine.take_texts.Progress.{Progress}
+use Rattle.jser_reader.specs.declared.machine.take_texts.Progress.TheVariants as progress
+use Rattle.jser_reader.specs.declared.machine.text_bytes.TextStep.{TextStep}
+use Rattle.jser_reader.specs.declared.machine.text_bytes.TextStep.TheVariants as step
+use Rattle.jser_reader.specs.Readers.{Seen, is_checked, IsInside}
+use Rattle.jser_reader.specs.Handlers.{StopsWith, refusal, TellsSurely}
+use Rattle.jser_reader.specs.TextStates.{text_reason, after_text}
+use Rattle.jser_reader.specs.Walks.{HasRead, HasReadAfter, Takes, Keeps, Counts, cut_of}
+use Rattle.jser_reader.specs.Takes.{counted_on}
+
+-- ---- the length
+
+-- so many bytes of a text come next, and there are some
+pub record OpensBytes (n : ℕ) (old new : Seen) : Type 0 where
+  pub phase_is : new.phase ≡ phase.Text
+  pub some : 0 < n
+  pub read : HasRead new n [] []
+  pub counts : Counts [] old new
+
+-- a text with no bytes ends at once
+pub record EndsEmpty (gate : Gate) (n : ℕ) (found : Bool) (old new : Seen) : Type 0 where
+  pub none : n ≡ 0
+  pub ends : IsInside old.text old.frames → TellsSurely (text_reason gate old []) (after_text old []) found old new
+
+abbrev pub LengthCases : Gate → ℕ → Progress → Seen → Seen → Type 0
+LengthCases gate n progress.Open old new = OpensBytes n old new
+LengthCases gate n progress.Ended old new = EndsEmpty gate n true old new
+LengthCases gate n progress.Stopped old new = EndsEmpty gate n false old new
+
+unfoldable pub TellsLength : Gate → ℕ → Progress → Seen → Seen → Type 0
+TellsLength gate n p old new = LengthCases gate n p old new
+
+abbrev pub ProgressCases : Gate → List ℕ → Progress → Seen → Seen → Type 0
+ProgressCases gate taken progress.Open old new = Keeps gate taken old new
+ProgressCases gate taken progress.Ended old new = Takes gate taken true old new
+ProgressCases gate taken progress.Stopped old new = Takes gate taken false old new
+
+-- the last bytes of the length `n` of `size` bytes, so many, are taken
+unfoldable pub TakesLength : Gate → (size n count : ℕ) → Progress → Seen → Seen → Type 0
+TakesLength gate size n count p old new =
+    (taken : List ℕ) → length taken ≡ count → big_bytes size n ≡ cut_of old ++ taken → ProgressCases gate taken p old new
+
+-- ---- the bytes
+
+-- these bytes of the open text were scanned and counted
+pub record Scanned (part : List ℕ) (old new : Seen) : Type 0 where
+  pub phase_is : new.phase ≡ old.phase
+  pub counts : Counts part old new
+  pub left : new.scan.left + length part ≡ old.scan.left
+  pub reads : (len : ℕ) (before units : List ℕ) → HasRead old len before units → HasReadAfter new len (before ++ part) units
+
+-- the machine stops at the first of these bytes with which no text of the length goes on
+pub record Faults (part : List ℕ) (old new : Seen) : Type 0 where
+  pub accepted : ℕ
+  pub within : accepted < length part
+  pub stops : StopsWith (refusal (counted_on old.meter (accepted + 1)) reason.BadText) old new
+  pub faults : (len : ℕ) (before units : List ℕ) → HasRead old len before units → FaultsAfter len before part accepted
+
+-- memory runs out, as it may where the units of a checked name are kept
+pub record RunsOut (old new : Seen) : Type 0 where
+  pub checked : is_checked old.text ≡ true
+  pub stops : StopsWith stop.OutOfMemory old new
+
+-- the unit of a checked name was kept that a byte ended, if it ended one
+abbrev pub with_unit : Seen → Option ℕ → Seen
+with_unit r unit = record { meter = r.meter; phase = r.phase; frames = r.frames; layers = r.layers; table = r.table; refs = r.refs; owner = r.owner; elements = r.elements; header = r.header; text = r.text; left = r.left; scan = r.scan; name = r.name ++ option_to_list unit }
+
+abbrev pub UnitCases : Option ℕ → Bool → Seen → Seen → Type 0
+UnitCases unit true old new = new ≡ with_unit old unit
+UnitCases unit false old new = StopsWith stop.OutOfMemory old new
+
+unfoldable pub KeepsUnit : Option ℕ → Bool → Seen → Seen → Type 0
+KeepsUnit unit b old new = UnitCases unit b old new
+
+abbrev pub ScanCases : List ℕ → Bool → Seen → Seen → Type 0
+ScanCases part true old new = Scanned part old new
+ScanCases part false old new = Faults part old new ⊎ RunsOut old new
+
+unfoldable pub Scans : List ℕ → Bool → Seen → Seen → Type 0
+Scans part b old new = ScanCases part b old new
+
+-- the front of the piece, so many bytes, ends the text
+pub record EndsWithin (gate : Gate) (piece : List ℕ) (used : ℕ) (old new : Seen) : Type 0 where
+  pub within : used ≤ length piece
+  pub some : 0 < old.scan.left → 0 < used
+  pub takes : Takes gate (take used piece) true old new
+
+-- the machine stops in the piece
+pub record StopsWithin (gate : Gate) (piece : List ℕ) (old new : Seen) : Type 0 where
+  pub used : ℕ
+  pub within : used ≤ length piece
+  pub takes : Takes gate (take used piece) false old new
+
+abbrev pub StepCases : Gate → List ℕ → TextStep → Seen → Seen → Type 0
+StepCases gate piece step.Open old new = Keeps gate piece old new
+StepCases gate piece (step.Ended used) old new = EndsWithin gate piece used old new
+StepCases gate piece step.Stopped old new = StopsWithin gate piece old new
+
+unfoldable pub TakesText : Gate → List ℕ → TextStep → Seen → Seen → Type 0
+TakesText gate piece step old new = StepCases gate piece step old new

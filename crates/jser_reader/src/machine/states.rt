@@ -1,0 +1,129 @@
+//! The machine before its first field and after its last: made, stopped, at the limit of bytes, spent.
+ghost use Rattle.std.specs.Prelude.{◌≡◌, ◌+◌, ◌-◌, ◌<◌, ◌^◌, true, false, length};
+ghost use Rattle.jser_reader.specs.Handlers.{StopsWith, refusal};
+ghost use Rattle.jser_reader.specs.Walks.{IsNew};
+ghost use Rattle.jser_reader.specs.States.{HasLimits, AnswersStop, IsWithin, exceeded};
+
+use crate::cut::Cut;
+use crate::field_list::FieldList;
+use crate::frame::{Owner, Role};
+use crate::machine::{Limits, Machine};
+use crate::phase::{Phase, TextFor};
+use crate::refusal::{Reason, Refusal, Stop};
+use crate::stack::Stack;
+use jser_prim::TextScan;
+use jser_table::{Codes, Layer, LayerKind, Table};
+use std::alloc::Global;
+
+impl Machine {
+    /// A machine that has taken nothing, with these limits, and so many handles in an epoch. Takes no memory.
+    pub(crate) fn new(alloc: Global, limits: Limits, handles: u32) -> Machine
+        ensures new { IsNew result }
+        ensures limits { HasLimits limits handles result }
+    {
+        Machine {
+            alloc,
+            phase: Phase::Header,
+            at: 0,
+            from: 0,
+            left: 0,
+            refs: 0,
+            limits,
+            frames: Stack::new(alloc),
+            table: Table::new(alloc, handles),
+            owner: Owner::Object,
+            elements: None,
+            role: Role::Value,
+            kind: LayerKind::Other,
+            fields: FieldList::new(alloc),
+            interfaces: 0,
+            layer: Layer {
+                kind: LayerKind::Other,
+                flags: 0,
+                codes: Codes::new(Vec::new(alloc)),
+            },
+            outer: Vec::new(alloc),
+            text: TextFor::Value,
+            scan: TextScan::new(0),
+            name: Vec::new(alloc),
+            stop: Stop::Spent,
+            cut: Cut::new(),
+        }
+    }
+
+    /// Whether it has stopped.
+    pub(crate) fn is_stopped(&self) -> bool
+        ensures stopped { result ≡ true → self.now.phase ≡ Phase.Stopped }
+        ensures goes_on { result ≡ false → self.now.phase ≡ Phase.Stopped → ⊥ }
+    {
+        self.phase == Phase::Stopped
+    }
+
+    /// Why it has stopped. That memory ran out is answered once; then it is spent.
+    pub(crate) fn answer(&mut self) -> Stop
+        ensures { AnswersStop result self.old self.new }
+    {
+        let stop = self.stop;
+        if stop == Stop::OutOfMemory {
+            self.stop = Stop::Spent;
+        }
+        stop
+    }
+
+    /// The front of the piece that is within the limit of bytes.
+    pub(crate) fn within<'p>(&self, piece: &'p [u8]) -> &'p [u8]
+        ensures { IsWithin self.now piece.now result.now }
+    {
+        let room = self.limits.bytes.saturating_sub(self.at);
+        let (front, _) = piece.split_at(room.min(piece.len() as u64) as usize);
+        front
+    }
+
+    /// One byte more than the limit has come.
+    pub(crate) fn exceed(&mut self) -> Stop
+        ensures { self.old.meter.at + 1 < 2 ^ 64 → (result ≡ exceeded self.old.meter) × StopsWith (exceeded self.old.meter) self.old self.new }
+    {
+        self.at = self.at.saturating_add(1);
+        self.refuse(Reason::BytesExceeded);
+        self.stop
+    }
+
+    /// Whether the stream may end: the next field is a tag at the top.
+    pub(crate) fn is_at_top(&self) -> bool
+        ensures top { result ≡ true → self.now.phase ≡ Phase.Top }
+        ensures inside { result ≡ false → self.now.phase ≡ Phase.Top → ⊥ }
+    {
+        self.phase == Phase::Top
+    }
+
+    /// The input has ended within a field, or where another has to come.
+    pub(crate) fn truncate(&mut self) -> Stop
+        ensures result { result ≡ Stop.Refused record { from_byte = self.old.meter.from; to_byte = self.old.meter.at; reason = Reason.Truncated } }
+        ensures stops { StopsWith (refusal self.old.meter Reason.Truncated) self.old self.new }
+    {
+        self.refuse(Reason::Truncated);
+        self.stop
+    }
+
+    /// Nothing more is taken or answered.
+    pub(crate) fn end(&mut self)
+        ensures { StopsWith Stop.Spent self.old self.new }
+    {
+        self.stop = Stop::Spent;
+        self.phase = Phase::Stopped;
+    }
+
+    /// How many bytes were taken.
+    pub(crate) fn taken(&self) -> u64
+        ensures { result ≡ self.now.meter.at }
+    {
+        self.at
+    }
+
+    /// How many frames there are.
+    pub(crate) fn depth(&self) -> usize
+        ensures { result ≡ length self.now.frames }
+    {
+        self.frames.len()
+    }
+}

@@ -1,0 +1,134 @@
+//! The bytes of a text: they are scanned, counted, and forgotten, but for the units of a checked name. A text is
+//! refused at the first byte with which no text of its length goes on.
+ghost use Rattle.std.specs.Prelude.{◌≡◌, ◌∷◌, [], ◌+◌, ◌<◌, ◌≤◌, ◌^◌, length, true, false};
+ghost use Rattle.jser_reader.specs.Readers.{is_checked};
+ghost use Rattle.jser_reader.specs.TextTakes.{KeepsUnit, Scans, TakesText};
+
+use crate::gate::Gate;
+use crate::machine::Machine;
+use crate::phase::{Phase, TextFor};
+use crate::refusal::Reason;
+
+/// What became of a piece of a text.
+#[derive(Clone, Copy)]
+pub(super) enum TextStep {
+    /// All its bytes are of the text, which goes on.
+    Open,
+    /// The text has ended.
+    Ended {
+        /// How many bytes of the piece are its last ones.
+        used: usize,
+    },
+    /// The machine has stopped.
+    Stopped,
+}
+
+/// Whether a text is a name that is judged when it ends.
+fn is_checked(text: TextFor) -> bool
+    ensures { result ≡ is_checked text }
+{
+    matches!(text, TextFor::ClassName | TextFor::InterfaceName)
+}
+
+impl Machine {
+    /// Keeps the unit of a checked name that a byte ended, if it ended one.
+    #[tactic(auto, using(crate::proofs::TextScanLemmas::keeps_none, crate::proofs::TextScanLemmas::keeps_unit, crate::proofs::TextScanLemmas::no_room))]
+    fn keep_unit(&mut self, unit: Option<u16>) -> bool
+        ensures { KeepsUnit unit result self.old self.new }
+    {
+        let Some(unit) = unit else {
+            return true;
+        };
+        if self.name.push(unit).is_err() {
+            return self.no_memory();
+        }
+        true
+    }
+
+    /// Scans the next byte of a checked name, counts it, and keeps the unit that it ends, if it ends one.
+    #[tactic(auto, using(crate::proofs::TextScanLemmas::name_fault, crate::proofs::TextScanLemmas::name_goes_on))]
+    fn scan_byte(&mut self, byte: u8) -> bool
+        requires checked { is_checked self.old.text ≡ true }
+        requires within { 0 < self.old.scan.left }
+        requires room { self.old.meter.at + 1 < 2 ^ 64 }
+        ensures { Scans (byte ∷ []) result self.old self.new }
+    {
+        self.at += 1;
+        match self.scan.push(byte) {
+            Ok(unit) => self.keep_unit(unit),
+            Err(_) => self.refuse(Reason::BadText),
+        }
+    }
+
+    /// Scans these bytes of a checked name.
+    #[tactic(auto, using(crate::proofs::TextScanLemmas::none_scanned, crate::proofs::TextScanLemmas::one_more, crate::proofs::TextScanLemmas::stops_at, crate::proofs::TextScanLemmas::all_scanned))]
+    fn scan_name(&mut self, part: &[u8]) -> bool
+        requires checked { is_checked self.old.text ≡ true }
+        requires within { length part.now ≤ self.old.scan.left }
+        requires room { self.old.meter.at + length part.now < 2 ^ 64 }
+        ensures { Scans part.now result self.old self.new }
+    {
+        'bytes: for byte in part {
+            if !self.scan_byte(*byte) {
+                return false;
+            }
+        }
+        true
+    }
+
+    /// Scans these bytes of a text whose units are not kept.
+    #[tactic(auto, using(crate::proofs::TextScanLemmas::plain_scanned, crate::proofs::TextScanLemmas::plain_fault))]
+    fn scan_plain(&mut self, part: &[u8]) -> bool
+        requires plain { is_checked self.old.text ≡ false }
+        requires within { length part.now ≤ self.old.scan.left }
+        requires room { self.old.meter.at + length part.now < 2 ^ 64 }
+        ensures { Scans part.now result self.old self.new }
+    {
+        match self.scan.push_all(part) {
+            Ok(()) => {
+                self.at += part.len() as u64;
+                true
+            }
+            Err(fault) => {
+                self.at += fault.accepted as u64 + 1;
+                self.refuse(Reason::BadText)
+            }
+        }
+    }
+
+    /// Scans the next bytes of the open text, and counts them.
+    fn scan_part(&mut self, part: &[u8]) -> bool
+        requires within { length part.now ≤ self.old.scan.left }
+        requires room { self.old.meter.at + length part.now < 2 ^ 64 }
+        ensures { Scans part.now result self.old self.new }
+    {
+        if is_checked(self.text) {
+            self.scan_name(part)
+        } else {
+            self.scan_plain(part)
+        }
+    }
+
+    /// Takes bytes of the open text from the front of the piece: all that are of it.
+    #[tactic(auto, using(crate::proofs::TextScanLemmas::stops_within, crate::proofs::TextScanLemmas::stays_open, crate::proofs::TextScanLemmas::ends_within, crate::proofs::TextScanLemmas::stops_at_end))]
+    pub(super) fn take_text<G: Gate>(&mut self, gate: &G, piece: &[u8]) -> TextStep
+        requires phase { self.old.phase ≡ Phase.Text }
+        requires some { 0 < length piece.now }
+        requires room { self.old.meter.at + length piece.now < 2 ^ 64 }
+        ensures { TakesText (G.told gate.now) piece.now result self.old self.new }
+    {
+        let used = self.scan.left().min(piece.len() as u64) as usize;
+        let (part, _) = piece.split_at(used);
+        if !self.scan_part(part) {
+            return TextStep::Stopped;
+        }
+        if self.scan.left() > 0 {
+            return TextStep::Open;
+        }
+        if self.text_done(gate) {
+            TextStep::Ended { used }
+        } else {
+            TextStep::Stopped
+        }
+    }
+}
