@@ -1,5 +1,5 @@
 -- Numbers that may be cut, and what becomes of their bytes.
-use Rattle.std.proofs.Common.{◌≡◌, ℕ, ◌+◌, ◌<◌, ◌≤◌, Bool, true, false, List, ◌++◌, length, take, refl, sym, ◌∙◌, ap, subst, arith, length-append}
+use Rattle.std.proofs.Common.{◌≡◌, ℕ, ◌+◌, ◌<◌, ◌≤◌, Bool, List, ◌++◌, length, take, refl, sym, ◌∙◌, ap, arith, length-append}
 use Rattle.std.proofs.lemmas.List.{length-take-le}
 use Rattle.jser_prim.specs.Bytes.{big_bytes}
 use Rattle.jser_reading.specs.FieldsFromBytes.{head_size}
@@ -9,11 +9,12 @@ use Rattle.jser_reader.specs.declared.machine.taken.Taken.TheVariants as taken
 use Rattle.jser_reader.specs.declared.phase.Phase.{Phase}
 use Rattle.jser_reader.specs.declared.phase.Phase.TheVariants as phase
 use Rattle.jser_reader.specs.Readers.{Seen, length_phase}
-use Rattle.jser_reader.specs.Walks.{size_of_phase, open_phase, cut_of, Takes, Keeps}
+use Rattle.jser_reader.specs.Walks.{size_of_phase, open_phase, cut_of, Keeps}
 use Rattle.jser_reader.specs.Cuts.{IsTwo, IsFour, IsEight, CanBeCut, IsCutField}
-use Rattle.jser_reader.specs.Takes.{TakesNumber, CutsOff, TakesFrom, taken_by}
+use Rattle.jser_reader.specs.Takes.{TakesNumber, CutsOff, TakesNumberFor, TakesFromFor, TakesFrom, taken_by}
 use Rattle.jser_reader.proofs.PhaseLemmas.{IsFixed, whole_open, cut_open}
 use Rattle.jser_reader.proofs.FixedWalks.{number_kept}
+use Rattle.jser_reader.proofs.TakeLemmas.{taken_so_far}
 use Rattle.jser_reader.proofs.TextSteps.{size_of_length, length_kept}
 
 pub cuts_off : (piece : List ℕ) (old new : Seen) → IsCutField old.phase piece
@@ -54,25 +55,29 @@ no_other_two phase.FieldCount i f = f refl
 no_other_two _ i f = absurd i
 
 pub no_other_four : (p : Phase) → IsFour p → (p ≡ phase.BackHandle → ⊥) → (p ≡ phase.ClassHandle → ⊥)
-    → (p ≡ phase.SuperHandle → ⊥) → (p ≡ phase.InterfaceCount → ⊥) → (p ≡ phase.ArrayLength → ⊥) → (p ≡ phase.BlockLength4 → ⊥) → ⊥
-no_other_four phase.BackHandle i b c s n a l = b refl
-no_other_four phase.ClassHandle i b c s n a l = c refl
-no_other_four phase.SuperHandle i b c s n a l = s refl
-no_other_four phase.InterfaceCount i b c s n a l = n refl
-no_other_four phase.ArrayLength i b c s n a l = a refl
-no_other_four phase.BlockLength4 i b c s n a l = l refl
-no_other_four _ i b c s n a l = absurd i
+    → (p ≡ phase.SuperHandle → ⊥) → (p ≡ phase.TextHandle → ⊥) → (p ≡ phase.InterfaceCount → ⊥) → (p ≡ phase.ArrayLength → ⊥) → (p ≡ phase.BlockLength4 → ⊥) → ⊥
+no_other_four phase.BackHandle i b c s t n a l = b refl
+no_other_four phase.ClassHandle i b c s t n a l = c refl
+no_other_four phase.SuperHandle i b c s t n a l = s refl
+no_other_four phase.TextHandle i b c s t n a l = t refl
+no_other_four phase.InterfaceCount i b c s t n a l = n refl
+no_other_four phase.ArrayLength i b c s t n a l = a refl
+no_other_four phase.BlockLength4 i b c s t n a l = l refl
+no_other_four _ i b c s t n a l = absurd i
 
 pub no_other_eight : (p : Phase) → IsEight p → (p ≡ phase.Suid → ⊥) → ⊥
 no_other_eight phase.Suid i s = s refl
 no_other_eight _ i s = absurd i
 
-pub cut_four : (p : Phase) → CanBeCut p → (p ≡ phase.Header → ⊥) → (p ≡ phase.FieldCount → ⊥) → (p ≡ phase.Suid → ⊥) → IsFour p
-cut_four phase.Header i h f s = absurd (h refl)
-cut_four phase.FieldCount i h f s = absurd (f refl)
-cut_four phase.Suid i h f s = absurd (s refl)
-cut_four phase.Top i h f s = i
-cut_four _ i h f s = i
+pub cut_four : (p : Phase) → CanBeCut p → (p ≡ phase.Header → ⊥) → (p ≡ phase.Length2 → ⊥) → (p ≡ phase.Length8 → ⊥) → (p ≡ phase.FieldCount → ⊥)
+    → (p ≡ phase.Suid → ⊥) → IsFour p
+cut_four phase.Header i h k l f s = absurd (h refl)
+cut_four phase.Length2 i h k l f s = absurd (k refl)
+cut_four phase.Length8 i h k l f s = absurd (l refl)
+cut_four phase.FieldCount i h k l f s = absurd (f refl)
+cut_four phase.Suid i h k l f s = absurd (s refl)
+cut_four phase.Top i h k l f s = i
+cut_four _ i h k l f s = i
 
 -- the phase is a number of so many bytes; while it has fewer, it stays open
 pub record IsNumberOf (size : ℕ) (p : Phase) : Type 0 where
@@ -101,6 +106,7 @@ pub four_is : (p : Phase) → IsFour p → IsNumberOf 4 p
 four_is phase.BackHandle i = fixed_number 4 phase.BackHandle tt (λ e. absurd (cc)) refl
 four_is phase.ClassHandle i = fixed_number 4 phase.ClassHandle tt (λ e. absurd (cc)) refl
 four_is phase.SuperHandle i = fixed_number 4 phase.SuperHandle tt (λ e. absurd (cc)) refl
+four_is phase.TextHandle i = fixed_number 4 phase.TextHandle tt (λ e. absurd (cc)) refl
 four_is phase.InterfaceCount i = fixed_number 4 phase.InterfaceCount tt (λ e. absurd (cc)) refl
 four_is phase.ArrayLength i = fixed_number 4 phase.ArrayLength tt (λ e. absurd (cc)) refl
 four_is phase.BlockLength4 i = fixed_number 4 phase.BlockLength4 tt (λ e. absurd (cc)) refl
@@ -113,86 +119,92 @@ eight_is _ i = absurd i
 -- ---- numbers of so many bytes
 
 -- a number of which the piece has not all bytes
-number_open : (size : ℕ) (p : Phase) (piece : List ℕ) (old new : Seen) → CutsOff piece old new → IsNumberOf size p → open_phase old ≡ p
-    → 0 < length piece → length (cut_of old ++ piece) < size → TakesFrom taken.Open piece old new
-unfolding TakesFrom
-number_open size p piece old new c f eo some short =
+number_open : (gate : Gate) (size : ℕ) (p : Phase) (piece : List ℕ) (old new : Seen) → CutsOff piece old new → IsNumberOf size p → open_phase old ≡ p
+    → 0 < length piece → length (cut_of old ++ piece) < size → TakesFromFor gate taken.Open piece old new
+unfolding TakesFromFor
+number_open gate size p piece old new c f eo some short =
     let n : length (cut_of old ++ piece) ≡ length (cut_of old) + length piece = length-append (cut_of old) piece in
-    λ gate. f.keeps gate piece old new c eo (omega arith) short
+    f.keeps gate piece old new c eo (omega arith) short
 
 -- one of which it has
-number_came : (size n count : ℕ) (found : Bool) (result : Taken) (piece : List ℕ) (old new : Seen) → TakesNumber size n count found old new
-    → result ≡ taken_by count found → 0 < count → count ≤ length piece → big_bytes size n ≡ cut_of old ++ take count piece → TakesFrom result piece old new
-unfolding TakesNumber TakesFrom
-number_came size n count found result piece old new h er some within spelled =
-    subst (λ r. TakesFrom r piece old new) (sym er)
-    (go found (λ gate. h gate (take count piece) (length-take-le count piece within) spelled))
-  where
-    go : (f : Bool) → ((gate : Gate) → Takes gate (take count piece) f old new) → TakesFrom (taken_by count f) piece old new
-    go true k = (some, within, k)
-    go false k = (some, within, k)
+number_came : (gate : Gate) (size n count : ℕ) (found : Bool) (result : Taken) (piece : List ℕ) (old new : Seen)
+    → TakesNumberFor gate size n count found old new → result ≡ taken_by count found → 0 < count → count ≤ length piece
+    → big_bytes size n ≡ cut_of old ++ take count piece → TakesFromFor gate result piece old new
+unfolding TakesNumberFor
+number_came gate size n count found result piece old new h er some within spelled =
+    taken_so_far gate count found result piece old new (h (take count piece) (length-take-le count piece within) spelled) er some within
+
+-- as one gate judges it
+pub number_for : (gate : Gate) (size n count : ℕ) (found : Bool) (old new : Seen) → TakesNumber size n count found old new
+    → TakesNumberFor gate size n count found old new
+unfolding TakesNumber
+number_for gate size n count found old new h = h gate
 
 -- a number that comes next
 
-pub first_kept : (size : ℕ) (piece : List ℕ) (old new : Seen) → CutsOff piece old new → IsNumberOf size old.phase → 0 < length piece → length piece < size
-    → TakesFrom taken.Open piece old new
-first_kept size piece old new c f some short =
+pub first_kept : (gate : Gate) (size : ℕ) (piece : List ℕ) (old new : Seen) → CutsOff piece old new → IsNumberOf size old.phase
+    → 0 < length piece → length piece < size → TakesFromFor gate taken.Open piece old new
+first_kept gate size piece old new c f some short =
     let s = f.size_is in
     let w = whole_open old.phase old refl (omega arith) in
-    number_open size old.phase piece old new c f w.0 some (rw w.1 short)
+    number_open gate size old.phase piece old new c f w.0 some (rw w.1 short)
 
-pub all_taken : (size n : ℕ) (found : Bool) (result : Taken) (piece : List ℕ) (old new : Seen) → TakesNumber size n size found old new
-    → result ≡ taken_by size found → IsNumberOf size old.phase → 0 < size → big_bytes size n ≡ take size piece → size ≤ length piece
-    → TakesFrom result piece old new
-all_taken size n found result piece old new h er f some spelled long =
+pub all_taken : (gate : Gate) (size n : ℕ) (found : Bool) (result : Taken) (piece : List ℕ) (old new : Seen)
+    → TakesNumberFor gate size n size found old new → result ≡ taken_by size found → IsNumberOf size old.phase → 0 < size
+    → big_bytes size n ≡ take size piece → size ≤ length piece → TakesFromFor gate result piece old new
+all_taken gate size n found result piece old new h er f some spelled long =
     let s = f.size_is in
     let w = whole_open old.phase old refl (omega arith) in
-    number_came size n size found result piece old new h er some long (spelled ∙ sym (ap (λ xs. xs ++ take size piece) w.1))
+    number_came gate size n size found result piece old new h er some long (spelled ∙ sym (ap (λ xs. xs ++ take size piece) w.1))
 
 -- a number that was cut
 
-pub rest_kept : (size missing : ℕ) (piece : List ℕ) (old new : Seen) → CutsOff piece old new → IsNumberOf size old.meter.cut_phase → old.phase ≡ phase.Cut
-    → length old.meter.kept + missing ≡ size_of_phase old.meter.cut_phase → 0 < length piece → length piece < missing
-    → TakesFrom taken.Open piece old new
-rest_kept size missing piece old new c f e all some short =
+pub rest_kept : (gate : Gate) (size missing : ℕ) (piece : List ℕ) (old new : Seen) → CutsOff piece old new → IsNumberOf size old.meter.cut_phase
+    → old.phase ≡ phase.Cut → length old.meter.kept + missing ≡ size_of_phase old.meter.cut_phase → 0 < length piece → length piece < missing
+    → TakesFromFor gate taken.Open piece old new
+rest_kept gate size missing piece old new c f e all some short =
     let s = f.size_is in
     let w = cut_open old e in
     let n : length (old.meter.kept ++ piece) ≡ length old.meter.kept + length piece = length-append old.meter.kept piece in
-    number_open size old.meter.cut_phase piece old new c f w.0 some (rw w.1 (omega arith))
+    number_open gate size old.meter.cut_phase piece old new c f w.0 some (rw w.1 (omega arith))
 
-pub rest_taken : (size n missing : ℕ) (found : Bool) (result : Taken) (piece last : List ℕ) (old new : Seen) → TakesNumber size n missing found old new
-    → result ≡ taken_by missing found → old.phase ≡ phase.Cut → big_bytes size n ≡ old.meter.kept ++ last → last ≡ take missing piece
-    → 0 < missing → missing ≤ length piece → TakesFrom result piece old new
-rest_taken size n missing found result piece last old new h er e spelled el some long =
+pub rest_taken : (gate : Gate) (size n missing : ℕ) (found : Bool) (result : Taken) (piece last : List ℕ) (old new : Seen)
+    → TakesNumberFor gate size n missing found old new → result ≡ taken_by missing found → old.phase ≡ phase.Cut
+    → big_bytes size n ≡ old.meter.kept ++ last → last ≡ take missing piece → 0 < missing → missing ≤ length piece
+    → TakesFromFor gate result piece old new
+rest_taken gate size n missing found result piece last old new h er e spelled el some long =
     let w = cut_open old e in
-    number_came size n missing found result piece old new h er some long
+    number_came gate size n missing found result piece old new h er some long
     (spelled ∙ ap (λ xs. old.meter.kept ++ xs) el ∙ sym (ap (λ xs. xs ++ take missing piece) w.1))
 
 -- numbers that come next, of two bytes, of four and of eight
 
 pub two_kept : (piece : List ℕ) (old new : Seen) → CutsOff piece old new → IsTwo old.phase → 0 < length piece → length piece < 2
     → TakesFrom taken.Open piece old new
-two_kept piece old new c i some short = first_kept 2 piece old new c (two_is old.phase i) some short
+two_kept piece old new c i some short = λ gate. first_kept gate 2 piece old new c (two_is old.phase i) some short
 
 pub two_taken : (n : ℕ) (found : Bool) (result : Taken) (piece number : List ℕ) (old new : Seen) → TakesNumber 2 n 2 found old new → result ≡ taken_by 2 found
     → IsTwo old.phase → big_bytes 2 n ≡ number → number ≡ take 2 piece → 2 ≤ length piece → TakesFrom result piece old new
+unfolding TakesNumber
 two_taken n found result piece number old new h er i spelled en long =
-    all_taken 2 n found result piece old new h er (two_is old.phase i) (omega arith) (spelled ∙ en) long
+    λ gate. all_taken gate 2 n found result piece old new (h gate) er (two_is old.phase i) (omega arith) (spelled ∙ en) long
 
 pub four_kept : (piece : List ℕ) (old new : Seen) → CutsOff piece old new → IsFour old.phase → 0 < length piece → length piece < 4
     → TakesFrom taken.Open piece old new
-four_kept piece old new c i some short = first_kept 4 piece old new c (four_is old.phase i) some short
+four_kept piece old new c i some short = λ gate. first_kept gate 4 piece old new c (four_is old.phase i) some short
 
 pub four_taken : (n : ℕ) (found : Bool) (result : Taken) (piece number : List ℕ) (old new : Seen) → TakesNumber 4 n 4 found old new → result ≡ taken_by 4 found
     → IsFour old.phase → big_bytes 4 n ≡ number → number ≡ take 4 piece → 4 ≤ length piece → TakesFrom result piece old new
+unfolding TakesNumber
 four_taken n found result piece number old new h er i spelled en long =
-    all_taken 4 n found result piece old new h er (four_is old.phase i) (omega arith) (spelled ∙ en) long
+    λ gate. all_taken gate 4 n found result piece old new (h gate) er (four_is old.phase i) (omega arith) (spelled ∙ en) long
 
 pub eight_kept : (piece : List ℕ) (old new : Seen) → CutsOff piece old new → IsEight old.phase → 0 < length piece → length piece < 8
     → TakesFrom taken.Open piece old new
-eight_kept piece old new c i some short = first_kept 8 piece old new c (eight_is old.phase i) some short
+eight_kept piece old new c i some short = λ gate. first_kept gate 8 piece old new c (eight_is old.phase i) some short
 
 pub eight_taken : (n : ℕ) (found : Bool) (result : Taken) (piece number : List ℕ) (old new : Seen) → TakesNumber 8 n 8 found old new → result ≡ taken_by 8 found
     → IsEight old.phase → big_bytes 8 n ≡ number → number ≡ take 8 piece → 8 ≤ length piece → TakesFrom result piece old new
+unfolding TakesNumber
 eight_taken n found result piece number old new h er i spelled en long =
-    all_taken 8 n found result piece old new h er (eight_is old.phase i) (omega arith) (spelled ∙ en) long
+    λ gate. all_taken gate 8 n found result piece old new (h gate) er (eight_is old.phase i) (omega arith) (spelled ∙ en) long

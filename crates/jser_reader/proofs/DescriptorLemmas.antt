@@ -1,5 +1,5 @@
 -- The head of a descriptor: its handle and its frame, its suid and its flags.
-use Rattle.std.proofs.Common.{◌≡◌, ℕ, zero, suc, ◌+◌, ◌<◌, ◌≤◌, Bool, true, false, List, [], ◌∷◌, ◌++◌, length, reverse, slice_get, Option, Some, None, IsTrue, refl, sym, ◌∙◌, ap, subst, arith, length-append}
+use Rattle.std.proofs.Common.{◌≡◌, ℕ, ◌+◌, Bool, true, false, List, [], ◌∷◌, ◌++◌, length, reverse, slice_get, Some, None, IsTrue, refl, sym, ◌∙◌, ap, subst, arith, length-append}
 use Rattle.std.proofs.lemmas.List.{reverse-append}
 use Rattle.jser_table.specs.declared.layer.Layer.{Layer}
 use Rattle.jser_table.specs.Entries.{TableEntry, pending_entry, is_pending}
@@ -12,12 +12,11 @@ use Rattle.jser_reader.specs.declared.frame.Frame.TheVariants as frame
 use Rattle.jser_reader.specs.declared.frame.Role.{Role}
 use Rattle.jser_reader.specs.declared.phase.Phase.TheVariants as phase
 use Rattle.jser_reader.specs.declared.refusal.Stop.TheVariants as stop
-use Rattle.jser_reader.specs.Fitting.{FramesFit, AllFit}
-use Rattle.jser_reader.specs.Reasons.{named}
+use Rattle.jser_reader.specs.Fitting.{AllFit}
 use Rattle.jser_reader.specs.Readers.{Seen, Ready}
-use Rattle.jser_reader.specs.Handlers.{StopsWith, refusal, moved, Tells, TellCases, IsNext, Assigns, AssignCases, is_full, added, opens_proxy}
+use Rattle.jser_reader.specs.Handlers.{StopsWith, moved, Tells, TellCases, IsNext, Assigns, AssignCases, is_full, added, opens_proxy}
 use Rattle.jser_reader.specs.Descriptors.{CanOpen, opened, Opens, OpensNew, NewCases, after_suid}
-use Rattle.jser_reader.proofs.EndLemmas.{next_is, tells_next, tells_refusal}
+use Rattle.jser_reader.proofs.EndLemmas.{next_is, tells_next}
 use Rattle.jser_reader.proofs.EntryLemmas.{fits_more}
 
 -- the frame is put on the stack

@@ -1,22 +1,19 @@
 -- The flags, the fields and the interfaces of a descriptor, and what comes after the last one.
-use Rattle.std.proofs.Common.{◌≡◌, ℕ, zero, suc, ◌+◌, ◌-◌, ◌^◌, ◌<◌, ◌≤◌, Bool, true, false, ◌&&◌, ◌||◌, nat_le, List, [], ◌∷◌, ◌++◌, length, reverse, Option, Some, None, option_map, is_some, refl, sym, ◌∙◌, ap, subst, arith, append_assoc, append-nil}
+use Rattle.std.proofs.Common.{◌≡◌, ℕ, zero, suc, ◌-◌, ◌^◌, ◌<◌, ◌≤◌, Bool, true, false, ◌&&◌, ◌||◌, nat_le, List, [], ◌∷◌, ◌++◌, length, reverse, Option, Some, None, option_map, refl, sym, ◌∙◌, ap, subst, arith, append_assoc, append-nil}
 use Rattle.std.proofs.lemmas.Bool.Decides.{nat_tests}
 use Rattle.std.proofs.lemmas.List.{reverse-append, reverse-reverse}
 use Rattle.jser_table.specs.declared.layer.Layer.{Layer}
 use Rattle.jser_table.specs.declared.layer.LayerKind.{LayerKind}
 use Rattle.jser_table.specs.Chains.{is_serializable, is_externalizable}
-use Rattle.jser_table.specs.Codes.{prim_code_of, is_object_code, size_of}
+use Rattle.jser_table.specs.Codes.{is_object_code}
 use Rattle.jser_table.specs.Names.{layer_kind}
 use Rattle.jser_grammar.specs.TableAfter.{proxy_layer}
-use Rattle.jser_reading.specs.Roles.{owner_of, is_strict_above}
-use Rattle.jser_reading.specs.Roles.{Role as GoalRole}
 use Rattle.jser_reading.specs.Goals.{State, Goal, field_count_goal, in_order, read_layer, settle, ending}
-use Rattle.jser_verdict.specs.Reasons.{Reason, bad_flags, negative_length, bad_type_code, field_order}
-use Rattle.jser_verdict.specs.Rows.{are_bad_flags, is_no_code}
+use Rattle.jser_verdict.specs.Reasons.{Reason, bad_flags, negative_length}
+use Rattle.jser_verdict.specs.Rows.{are_bad_flags}
 use Rattle.jser_verdict.specs.Verdicts.{told_if, flags_reason, count_reason, code_reason}
 use Rattle.jser_reader.specs.declared.frame.Frame.{Frame}
 use Rattle.jser_reader.specs.declared.frame.Frame.TheVariants as frame
-use Rattle.jser_reader.specs.declared.frame.Role.{Role}
 use Rattle.jser_reader.specs.declared.frame.Role.TheVariants as role
 use Rattle.jser_reader.specs.declared.phase.Phase.TheVariants as phase
 use Rattle.jser_reader.specs.declared.phase.TextFor.TheVariants as text
@@ -24,9 +21,9 @@ use Rattle.jser_reader.specs.declared.refusal.Stop.TheVariants as stop
 use Rattle.jser_reader.specs.declared.refusal.Reason.{Reason as NamedReason}
 use Rattle.jser_reader.specs.Fitting.{HasDescriptor}
 use Rattle.jser_reader.specs.Reasons.{named}
-use Rattle.jser_reader.specs.Frames.{head_layer, tail_layers, chain_owner, closed_goals}
-use Rattle.jser_reader.specs.Readers.{Seen, Header, HasNotes, Ready, moment_of, goals_of, top_role, top_number, name_kind_of, opened_goals, fields_goals, interfaces_goals, field_count_state}
-use Rattle.jser_reader.specs.Handlers.{StopsWith, refusal, moved, Comes, Tells, TellCases, TellsSurely, SureCases, IsNext}
+use Rattle.jser_reader.specs.Frames.{head_layer, tail_layers, closed_goals}
+use Rattle.jser_reader.specs.Readers.{Seen, HasNotes, Ready, moment_of, goals_of, top_role, top_number, name_kind_of, opened_goals, fields_goals, interfaces_goals, field_count_state}
+use Rattle.jser_reader.specs.Handlers.{StopsWith, refusal, moved, Comes, Tells, TellsSurely, IsNext}
 use Rattle.jser_reader.specs.Descriptors.{SetsLayer, GoesOnFields, GoesOnInterfaces, role_reason, after_field_count, after_code, after_interfaces}
 use Rattle.jser_reader.proofs.EndLemmas.{next_is, tells_next, tells_refusal, tells_from}
 use Rattle.jser_reader.proofs.StandLemmas.{tells_surely}

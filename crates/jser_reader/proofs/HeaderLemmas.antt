@@ -4,7 +4,6 @@ use Rattle.std.proofs.lemmas.Bool.Decides.{nat_tests}
 use Rattle.std.proofs.lemmas.List.{take_more, take_all}
 use Rattle.jser_reading.specs.Goals.{top_goal}
 use Rattle.jser_verdict.specs.Reasons.{bad_header}
-use Rattle.jser_verdict.specs.Gates.{Gate}
 use Rattle.jser_verdict.specs.BytesSoFar.{differs}
 use Rattle.jser_reader.specs.declared.phase.Phase.TheVariants as phase
 use Rattle.jser_reader.specs.declared.machine.taken.Taken.{Taken}
@@ -13,12 +12,12 @@ use Rattle.jser_reader.specs.Reasons.{named}
 use Rattle.jser_reader.specs.Readers.{Seen, Ready, moment_of}
 use Rattle.jser_reader.specs.Handlers.{StopsWith, refusal, IsNext}
 use Rattle.jser_reader.specs.Walks.{header_bytes, open_phase, cut_of, Takes, Keeps}
-use Rattle.jser_reader.specs.Takes.{farther, TakesByte, TakesHeaderByte, HeaderOn, CutsOff, TakesFrom, taken_by}
+use Rattle.jser_reader.specs.Takes.{farther, TakesByte, TakesHeaderByte, HeaderOn, CutsOff, TakesFromFor, TakesFrom, taken_by}
 use Rattle.jser_reader.proofs.EndLemmas.{next_is, tells_next, tells_refusal}
 use Rattle.jser_reader.proofs.PhaseLemmas.{cut_open}
 use Rattle.jser_reader.proofs.FixedWalks.{header_reason, header_taken, header_kept}
 use Rattle.jser_reader.proofs.JoinLemmas.{kept_none, kept_on, taken_on}
-use Rattle.jser_reader.proofs.TakeLemmas.{counts_bytes}
+use Rattle.jser_reader.proofs.TakeLemmas.{counts_bytes, taken_so_far}
 
 -- a byte more, after bytes that are right
 differs_next : (wanted kept : List ℕ) (b : ℕ) → length kept < length wanted → differs wanted kept ≡ false
@@ -108,17 +107,13 @@ header_goes piece b i old mid new h on within is =
 
 pub header_ends : (piece : List ℕ) (b i : ℕ) (found : Bool) (result : Taken) (old mid new : Seen) → TakesHeaderByte (Some found) b mid new
     → HeaderOn piece i old mid → i < length piece → b ≡ get_or piece i 0 → result ≡ taken_by (i + 1) found → TakesFrom result piece old new
-unfolding TakesHeaderByte TakesByte TakesFrom
+unfolding TakesHeaderByte TakesByte
 header_ends piece b i found result old mid new h on within is er =
     let front : take (i + 1) piece ≡ take i piece ++ (b ∷ []) = take_more piece i 0 within ∙ ap (λ x. take i piece ++ (x ∷ [])) (sym is) in
-    subst (λ r. TakesFrom r piece old new) (sym er)
-    (go found (λ gate. subst (λ xs. Takes gate xs found old new) (sym front)
-    (taken_on gate (take i piece) (b ∷ []) found old mid new (on.keeps gate) (h gate))))
-  where
-    go : (f : Bool) → ((gate : Gate) → Takes gate (take (i + 1) piece) f old new) → TakesFrom (taken_by (i + 1) f) piece old new
-    go true k = (omega arith, omega arith, k)
-    go false k = (omega arith, omega arith, k)
+    λ gate. taken_so_far gate (i + 1) found result piece old new
+    (subst (λ xs. Takes gate xs found old new) (sym front) (taken_on gate (take i piece) (b ∷ []) found old mid new (on.keeps gate) (h gate)))
+    er (omega arith) (omega arith)
 
 pub header_open : (piece : List ℕ) (old new : Seen) → HeaderOn piece (length piece) old new → TakesFrom taken.Open piece old new
-unfolding TakesFrom
+unfolding TakesFromFor
 header_open piece old new on = λ gate. subst (λ xs. Keeps gate xs old new) (take_all (length piece) piece (omega arith)) (on.keeps gate)

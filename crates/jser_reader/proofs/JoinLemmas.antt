@@ -91,4 +91,4 @@ taken_on gate front back found old mid new h k = λ s cut st.
           at = omega arith;
         }
     go false s cut st x y =
-        told_on gate s cut front back old.meter.from mid.meter.from new.meter.stop (on s cut x) (from s cut st x) y
+        (y.0, told_on gate s cut front back old.meter.from mid.meter.from new.meter.stop (on s cut x) (from s cut st x) y.1)

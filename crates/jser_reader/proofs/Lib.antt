@@ -34,3 +34,5 @@ pub mod DescriptorLemmas
 pub mod FieldLemmas
 pub mod AnswerLemmas
 pub mod ReaderLemmas
+pub mod NextLemmas
+pub mod LengthLemmas

@@ -1,15 +1,13 @@
 -- Numbers: what the verdict tells of the bytes of a number, and the state to which it leads.
-use Rattle.std.proofs.Common.{◌≡◌, ℕ, zero, suc, ◌+◌, ◌-◌, ◌*◌, ◌^◌, ◌<◌, Bool, true, false, if◌then◌else◌, List, [], ◌∷◌, ◌++◌, length, Option, Some, None, refl, sym, ◌∙◌, ap, subst, arith, reverse, ◌||◌, option_map}
+use Rattle.std.proofs.Common.{◌≡◌, ℕ, zero, suc, ◌+◌, ◌-◌, ◌*◌, ◌^◌, ◌<◌, Bool, true, false, if◌then◌else◌, List, [], ◌∷◌, ◌++◌, length, Option, Some, None, refl, sym, ◌∙◌, ap, subst, arith, option_map}
 use Rattle.jser_prim.specs.Bytes.{big_bytes}
 use Rattle.jser_table.specs.Codes.{PrimCode, size_of}
-use Rattle.jser_table.specs.Entries.{pending_entry, chain_at}
-use Rattle.jser_grammar.specs.Codes.{is_object_code}
-use Rattle.jser_reading.specs.Moments.{assign, next_number}
+use Rattle.jser_table.specs.Entries.{chain_at}
 use Rattle.jser_reading.specs.Labels.{StreamField, handle_field, suid_field, flags_field, field_count_field, interface_count_field, array_length_field, code_field, block_length_field, class_handle_at, text_handle_at}
 use Rattle.jser_reading.specs.FieldsFromBytes.{number_of, size_in, field_in}
-use Rattle.jser_reading.specs.Goals.{class_handle_goal, flags_goal, field_count_goal, field_name_goal, fields_goal, interfaces_goal, State, settle, settled}
+use Rattle.jser_reading.specs.Goals.{class_handle_goal, State, settle, settled}
 use Rattle.jser_reading.specs.Accepts.{label_of}
-use Rattle.jser_reading.specs.Machine.{advance, type_goals}
+use Rattle.jser_reading.specs.Machine.{advance}
 use Rattle.jser_reading.proofs.Decoding.{number_2, number_4, number_8, length-big_bytes}
 use Rattle.jser_verdict.specs.Reasons.{Reason, handle_space}
 use Rattle.jser_verdict.specs.Gates.{Gate}

@@ -1,23 +1,27 @@
 -- A reader: the bytes of a piece, up to the limit, and what is answered.
-use Rattle.std.proofs.Common.{◌≡◌, ℕ, zero, suc, ◌+◌, ◌-◌, ◌<◌, ◌≤◌, ◌^◌, ◌&&◌, Bool, true, false, nat_lt, get_or, List, [], ◌∷◌, ◌++◌, length, take, drop, Result, Ok, Err, refl, sym, ◌∙◌, ap, subst, arith, IsTrue, append_assoc, append-nil, length-append, length-take-le}
+use Rattle.std.proofs.Common.{◌≡◌, ℕ, zero, suc, ◌+◌, ◌-◌, ◌<◌, ◌≤◌, ◌^◌, ◌&&◌, Bool, true, false, nat_lt, get_or, List, [], ◌∷◌, ◌++◌, length, take, drop, Result, Ok, Err, refl, sym, ◌∙◌, ap, subst, arith, IsTrue, append_assoc, append-nil, length-append, length-take-le, lt-ltb}
 use Rattle.std.specs.List.{list_all}
 use Rattle.std.proofs.lemmas.Bool.Decides.{nat_tests}
 use Rattle.jser_grammar.specs.Parts.{IsBytes}
 use Rattle.jser_reading.specs.Machine.{begin_state, left}
 use Rattle.jser_reading.specs.Goals.{settled}
 use Rattle.jser_verdict.specs.Gates.{Gate, IsGate}
-use Rattle.jser_verdict.proofs.ByteLists.{bytes_both}
+use Rattle.jser_verdict.proofs.ByteLists.{bytes_both, bytes_right}
+use Rattle.jser_reader.specs.declared.phase.Phase.TheVariants as phase
 use Rattle.jser_reader.specs.declared.refusal.Refusal.{Refusal}
 use Rattle.jser_reader.specs.declared.refusal.Reason.TheVariants as reason
 use Rattle.jser_reader.specs.declared.refusal.Stop.{Stop}
 use Rattle.jser_reader.specs.declared.refusal.Stop.TheVariants as stop
 use Rattle.jser_reader.specs.Readers.{Seen}
 use Rattle.jser_reader.specs.Handlers.{StopsWith}
-use Rattle.jser_reader.specs.Walks.{HasTaken, Takes, Keeps, StopsFor}
-use Rattle.jser_reader.specs.States.{IsWithin, exceeded}
+use Rattle.jser_reader.specs.declared.machine.Limits.{Limits as MachineLimits}
+use Rattle.jser_reader.specs.Walks.{IsNew, gate_with, HasTaken, Takes, Keeps, StopsFor}
+use Rattle.jser_reader.specs.States.{HasLimits, IsWithin, exceeded}
+use Rattle.jser_reader.specs.ReaderStates.{StandsFor}
 use Rattle.jser_reader.specs.Streams.{AreRefused}
 use Rattle.jser_reader.proofs.StandLemmas.{took_stands, kept_stands}
-use Rattle.jser_reader.proofs.StreamWalks.{stop_stands}
+use Rattle.jser_reader.proofs.StreamWalks.{new_stands, stop_stands}
+use Rattle.jser_reader.proofs.TextSteps.{take_last}
 use Rattle.jser_reader.proofs.AnswerLemmas.{refuses, exceeds}
 
 -- ---- pieces
@@ -27,6 +31,10 @@ take_less zero k xs h = refl
 take_less (suc n) zero xs h = absurd (omega arith)
 take_less (suc n) (suc k) [] h = refl
 take_less (suc n) (suc k) (x ∷ xs) h = ap (λ ys. x ∷ ys) (take_less n k xs (omega arith))
+
+pub take_whole : (xs : List ℕ) → take (length xs) xs ≡ xs
+take_whole [] = refl
+take_whole (x ∷ xs) = ap (λ ys. x ∷ ys) (take_whole xs)
 
 front_of_front : (r : Seen) (piece front : List ℕ) (n : ℕ) → IsWithin r piece front → n ≤ length front → take n front ≡ take n piece
 front_of_front r piece front n w h = ap (take n) w.is_front ∙ take_less n (length front) piece h
@@ -40,9 +48,19 @@ bytes_front (suc n) (x ∷ xs) h = go (nat_lt x 0x100) h (λ k. bytes_front n xs
     go true h k = k h
     go false h k = absurd (cc)
 
+-- the items of a slice of bytes are bytes
+pub all_bytes : (xs : List ℕ) → ((k : ℕ) → get_or xs k 0 < 0x100) → IsBytes xs
+all_bytes [] h = refl
+all_bytes (x ∷ xs) h =
+    subst (λ b. IsTrue (b && list_all (λ b. nat_lt b 0x100) xs)) (sym (lt-ltb x 0x100 (h 0))) (all_bytes xs (λ k. h (suc k)))
+
 -- the limit of the gate is that of the machine
-limit_is : (gate : Gate) (bytes : List ℕ) (r : Seen) → HasTaken gate bytes r → r.meter.limits.bytes ≡ gate.bytes
+pub limit_is : (gate : Gate) (bytes : List ℕ) (r : Seen) → HasTaken gate bytes r → r.meter.limits.bytes ≡ gate.bytes
 limit_is gate bytes r h = ap (λ g. g.bytes) h.stands.limits_are
+
+-- what is within the limit can be counted
+pub within_room : (r : Seen) (piece front : List ℕ) → IsWithin r piece front → 0 < length front → r.meter.at + length front < 2 ^ 64
+within_room r piece front w some = w.room some
 
 -- ---- a field ends, or goes on
 
@@ -94,13 +112,33 @@ never_spent gate bytes taken old new h st e =
 
 -- ---- the limit
 
--- where the limit was reached, the next byte is one too many
-pub over : (gate : Gate) (bytes piece : List ℕ) (b : ℕ) (others : List ℕ) (refusal : Refusal) (r : Seen) → HasTaken gate bytes r → length bytes ≡ gate.bytes
-    → IsBytes piece → piece ≡ b ∷ others → stop.Refused refusal ≡ exceeded r.meter
-    → AreRefused gate (bytes ++ (b ∷ [])) refusal
-over gate bytes piece b others refusal r st le h ep er =
+-- where so much of the piece reaches the limit, the next byte of it is one too many
+pub over : (gate : Gate) (bytes piece : List ℕ) (k : ℕ) (r : Seen) → HasTaken gate (bytes ++ take k piece) r → k < length piece
+    → length (bytes ++ take k piece) ≡ gate.bytes → IsBytes piece → (refusal : Refusal) → stop.Refused refusal ≡ exceeded r.meter
+    → AreRefused gate (bytes ++ take (suc k) piece) refusal
+over gate bytes piece k r st more le h refusal er =
+    let x = take_last k piece more in
     let same : refusal ≡ record { from_byte = r.meter.from; to_byte = r.meter.at + 1; reason = reason.BytesExceeded } = cc in
     let s = st.stands.counts in
     let t = st.taken in
-    exceeds gate bytes st.cut b (left begin_state st.fields) refusal st.all_bytes (subst IsBytes (ap (take 1) ep) (bytes_front 1 piece h)) le st.walked
-    (ap (λ x. x.reason) same) (let k = ap (λ x. x.from_byte) same in omega arith) (let k = ap (λ x. x.to_byte) same in omega arith)
+    let last : IsBytes (x.0 ∷ []) = bytes_right (take k piece) (x.0 ∷ []) (subst IsBytes x.1 (bytes_front (suc k) piece h)) in
+    let all : bytes ++ take (suc k) piece ≡ (bytes ++ take k piece) ++ (x.0 ∷ []) = ap (λ xs. bytes ++ xs) x.1 ∙ sym (append_assoc bytes (take k piece) (x.0 ∷ [])) in
+    subst (λ xs. AreRefused gate xs refusal) (sym all)
+    (exceeds gate (bytes ++ take k piece) st.cut x.0 (left begin_state st.fields) refusal st.all_bytes last le st.walked
+    (ap (λ x. x.reason) same) (let k = ap (λ x. x.from_byte) same in omega arith) (let k = ap (λ x. x.to_byte) same in omega arith))
+
+-- it has stopped then
+pub has_stopped : (gate : Gate) (bytes taken : List ℕ) (old new : Seen) → Takes gate taken false old new → HasTaken gate bytes old → new.phase ≡ phase.Stopped
+unfolding Takes
+has_stopped gate bytes taken old new h st = (h (left begin_state st.fields) st.cut st.stands).0
+
+-- ---- a new reader
+
+pub reader_begins : (gate : Gate) (limits : MachineLimits) (handles : ℕ) (r : Seen) → IsNew r → HasLimits limits handles r
+    → limits.bytes ≡ gate.bytes → limits.depth ≡ gate.depth → limits.refs ≡ gate.refs → limits.array ≡ gate.array → handles ≡ gate.handles
+    → StandsFor gate [] r
+unfolding StandsFor
+reader_begins gate limits handles r n l eb ed er ea eh =
+    let same : gate_with r gate.answer ≡ gate =
+    rw (l.bytes) (rw (l.depth) (rw (l.refs) (rw (l.array) (rw (l.handles_are) (rw eb (rw ed (rw er (rw ea (rw eh refl))))))))) in
+    (new_stands gate r n same, omega arith)

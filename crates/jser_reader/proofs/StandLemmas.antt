@@ -129,23 +129,25 @@ took_field gate None next true old mid new s cut taken h st c w e leads =
       at = ap (λ m. m.at) h.meter ∙ c.at;
     }
 took_field gate (Some k) next true old mid new s cut taken h st c w e leads = absurd h
-took_field gate None next false old mid new s cut taken h st c w e leads = rw h.stop tt
+took_field gate None next false old mid new s cut taken h st c w e leads = (h.phase, rw h.stop tt)
 took_field gate (Some k) next false old mid new s cut taken h st c w e leads =
-    let v : verdict gate (label_of (settled s)) (cut ++ taken) ≡ bad (turn k) = verdict_bad gate (label_of (settled s)) (cut ++ taken) k e in
-    rw h.stop (record {
-      reason = k;
-      is_named = refl;
-      walks =
-          λ rest. w rest
-          ∙ ap (λ y. by_verdict y (walk (verdict gate) s (cut ++ taken) rest) (λ f. walk (verdict gate) (advance (settled s) f) [] rest)
-          (λ r. refused (cut ++ taken) rest r)) v;
-      begins = c.from;
-      ends =
-          let n : length (cut ++ taken) ≡ length cut + length taken = length-append cut taken in
-          let a = c.at in
-          let k = st.counts in
-          omega arith;
-    })
+    let v : verdict gate (label_of (settled s)) (cut ++ taken) ≡ bad (turn k) = verdict_bad gate (label_of (settled s)) (cut ++ taken) k e in (
+      h.phase,
+      rw h.stop (record {
+        reason = k;
+        is_named = refl;
+        walks =
+            λ rest. w rest
+            ∙ ap (λ y. by_verdict y (walk (verdict gate) s (cut ++ taken) rest) (λ f. walk (verdict gate) (advance (settled s) f) [] rest)
+            (λ r. refused (cut ++ taken) rest r)) v;
+        begins = c.from;
+        ends =
+            let n : length (cut ++ taken) ≡ length cut + length taken = length-append cut taken in
+            let a = c.at in
+            let k = st.counts in
+            omega arith;
+      }),
+    )
 
 -- the bytes of a field of which no front decides, as its handler judged them
 pub judged : (gate : Gate) (told : Option ToldReason) (next : State) (found : Bool) (old mid new : Seen) (s : State) (cut taken : List ℕ)

@@ -42,7 +42,7 @@ new_stands gate r n e =
 pub stop_stands : (gate : Gate) (old new : Seen) (bytes taken : List ℕ) → Takes gate taken false old new → HasTaken gate bytes old
     → StopsFor gate (bytes ++ taken) new.meter.stop
 unfolding Takes
-stop_stands gate old new bytes taken h st = go new.meter.stop (h (left begin_state st.fields) st.cut st.stands)
+stop_stands gate old new bytes taken h st = go new.meter.stop (h (left begin_state st.fields) st.cut st.stands).1
   where
     go : (why : Stop) → StopTold gate (left begin_state st.fields) st.cut taken old.meter.from why → StopsFor gate (bytes ++ taken) why
     go (stop.Refused refusal) x =

@@ -1,18 +1,18 @@
 -- Tags and numbers that are taken: from the handler's clause to the walk over their bytes.
-use Rattle.std.proofs.Common.{◌≡◌, ℕ, suc, ◌+◌, ◌-◌, ◌^◌, ◌<◌, Bool, true, false, List, [], ◌∷◌, length, get_or, take, Option, Some, None, option_map, refl, sym, ◌∙◌, ap, subst, arith}
+use Rattle.std.proofs.Common.{◌≡◌, ℕ, suc, ◌+◌, ◌-◌, ◌^◌, ◌<◌, ◌≤◌, Bool, true, false, List, [], ◌∷◌, length, get_or, take, Option, Some, None, option_map, refl, sym, ◌∙◌, ap, subst, arith}
 use Rattle.jser_table.specs.Codes.{PrimCode, size_of}
 use Rattle.jser_table.specs.Entries.{chain_at}
-use Rattle.jser_reading.specs.Labels.{top_at, annotation_at, value_at, text_place_at, class_place_at, class_handle_at}
+use Rattle.jser_reading.specs.Labels.{top_at, annotation_at, value_at, class_place_at, class_handle_at}
 use Rattle.jser_reading.specs.FieldsFromBytes.{tag_from}
 use Rattle.jser_verdict.specs.Reasons.{handle_space}
 use Rattle.jser_verdict.specs.Gates.{Gate}
-use Rattle.jser_verdict.specs.Verdicts.{told_if, content_reason, inner_reason, class_tag_reason, other_tag_reason, class_handle_reason, array_reason, count_reason, flags_reason, code_reason}
+use Rattle.jser_verdict.specs.Verdicts.{told_if, content_reason, inner_reason, class_tag_reason, class_handle_reason, array_reason, count_reason, flags_reason, code_reason}
 use Rattle.jser_reader.specs.declared.machine.taken.Taken.{Taken}
 use Rattle.jser_reader.specs.declared.phase.Phase.{Phase}
 use Rattle.jser_reader.specs.declared.phase.Phase.TheVariants as phase
 use Rattle.jser_reader.specs.Fitting.{HasDescriptor}
 use Rattle.jser_reader.specs.Frames.{goal_owner}
-use Rattle.jser_reader.specs.Readers.{Seen, HasNotes, IsForm, IsInside, text_depth, top_role, field_count_state}
+use Rattle.jser_reader.specs.Readers.{Seen, HasNotes, IsForm, IsInside, top_role, field_count_state}
 use Rattle.jser_reader.specs.Steps.{after_value}
 use Rattle.jser_reader.specs.Handlers.{Tells, TellsSurely, is_full, plain_gate, label_at, after_content, after_class_tag, owner_state}
 use Rattle.jser_reader.specs.Numbers.{back_reason, after_length, after_block_length}
@@ -21,7 +21,7 @@ use Rattle.jser_reader.specs.Descriptors.{after_suid, after_field_count, after_c
 use Rattle.jser_reader.specs.TextStates.{text_tag_reason, after_text_tag}
 use Rattle.jser_reader.specs.Superclasses.{super_reason, super_handle_reason, after_super_tag}
 use Rattle.jser_reader.specs.Walks.{Counts, Takes, open_phase}
-use Rattle.jser_reader.specs.Takes.{farther, TakesByte, IsOne, TakesNumber, TakesFrom, taken_by}
+use Rattle.jser_reader.specs.Takes.{farther, TakesByte, IsOne, TakesNumberFor, TakesNumber, TakesFromFor, TakesFrom, taken_by}
 use Rattle.jser_reader.proofs.NumberWalks.{number_in_2, number_in_4, number_in_8, back_handle_taken, class_handle_taken, super_handle_taken, array_length_taken, block_length_taken, byte_length_taken, suid_taken, flags_taken, field_count_taken, type_code_taken, interface_count_taken}
 use Rattle.jser_reader.proofs.PlaceWalks.{top_taken, note_taken, value_taken, class_tag_taken, super_tag_taken, text_tag_taken}
 
@@ -119,26 +119,30 @@ no_other_one phase.TypeCode i t n v c s x f k b = k refl
 no_other_one phase.BlockLength1 i t n v c s x f k b = b refl
 no_other_one _ i t n v c s x f k b = absurd i
 
+-- bytes of a piece end the open field, or the machine stops at them
+pub taken_so_far : (gate : Gate) (count : ℕ) (found : Bool) (result : Taken) (piece : List ℕ) (old new : Seen)
+    → Takes gate (take count piece) found old new → result ≡ taken_by count found → 0 < count → count ≤ length piece
+    → TakesFromFor gate result piece old new
+unfolding TakesFromFor
+taken_so_far gate count true result piece old new h er some within = rw er (some, within, h)
+taken_so_far gate count false result piece old new h er some within = rw er (some, within, h)
+
 -- the first byte of a piece
 pub one_taken : (b : ℕ) (found : Bool) (result : Taken) (piece : List ℕ) (old new : Seen) → TakesByte b found old new → result ≡ taken_by 1 found
     → b ≡ get_or piece 0 0 → 0 < length piece → TakesFrom result piece old new
-unfolding TakesByte TakesFrom
+unfolding TakesByte
 one_taken b found result piece old new h er is some =
-    subst (λ r. TakesFrom r piece old new) (sym er) (go found (λ gate. subst (λ xs. Takes gate xs found old new) (first piece some is) (h gate)))
+    λ gate. taken_so_far gate 1 found result piece old new (subst (λ xs. Takes gate xs found old new) (first piece some is) (h gate)) er (omega arith) (omega arith)
   where
     first : (xs : List ℕ) → 0 < length xs → b ≡ get_or xs 0 0 → b ∷ [] ≡ take 1 xs
     first [] some e = absurd (omega arith)
     first (x ∷ xs) some e = ap (λ y. y ∷ []) e
 
-    go : (f : Bool) → ((gate : Gate) → Takes gate (take 1 piece) f old new) → TakesFrom (taken_by 1 f) piece old new
-    go true k = (omega arith, omega arith, k)
-    go false k = (omega arith, omega arith, k)
-
 -- ---- numbers
 
 pub takes_back_handle : (n count : ℕ) (found : Bool) (old mid new : Seen) → TellsSurely (back_reason mid n) (after_value mid) found mid new
     → mid ≡ farther old count → open_phase old ≡ phase.BackHandle → 0 < count → n < 2 ^ 32 → TakesNumber 4 n count found old new
-unfolding TakesNumber
+unfolding TakesNumber TakesNumberFor
 takes_back_handle n count found old mid new h m eo some small = λ gate taken size spelled.
     back_handle_taken gate n found old mid new taken h eo (omega arith) (number_in_4 n _ spelled small) (counts_bytes taken count old mid m size)
 
@@ -146,47 +150,47 @@ pub takes_class_handle : (n count : ℕ) (found : Bool) (old mid new : Seen)
     → Tells (class_handle_reason (plain_gate mid) (label_at (class_handle_at (goal_owner mid.owner)) (suc (length mid.frames)) mid) (goal_owner mid.owner) n)
     (owner_state mid (chain_at mid.table.entries (n - 0x7E0000))) found mid new
     → mid ≡ farther old count → open_phase old ≡ phase.ClassHandle → 0 < count → n < 2 ^ 32 → TakesNumber 4 n count found old new
-unfolding TakesNumber
+unfolding TakesNumber TakesNumberFor
 takes_class_handle n count found old mid new h m eo some small = λ gate taken size spelled.
     class_handle_taken gate n found old mid new taken h eo (omega arith) (number_in_4 n _ spelled small) (counts_bytes taken count old mid m size)
 
 pub takes_super_handle : (n count : ℕ) (found : Bool) (old mid new : Seen)
     → (HasDescriptor mid.frames → Tells (super_handle_reason mid n) (closed_state mid (Some (n - 0x7E0000))) found mid new)
     → mid ≡ farther old count → open_phase old ≡ phase.SuperHandle → 0 < count → n < 2 ^ 32 → TakesNumber 4 n count found old new
-unfolding TakesNumber
+unfolding TakesNumber TakesNumberFor
 takes_super_handle n count found old mid new h m eo some small = λ gate taken size spelled.
     super_handle_taken gate n found old mid new taken h eo (omega arith) (number_in_4 n _ spelled small) (counts_bytes taken count old mid m size)
 
 pub takes_array_length : (n count : ℕ) (found : Bool) (old mid new : Seen)
     → ((elements : Option PrimCode) → mid.elements ≡ option_map size_of elements → Tells (array_reason (plain_gate mid) n) (after_length mid elements n) found mid new)
     → mid ≡ farther old count → open_phase old ≡ phase.ArrayLength → 0 < count → n < 2 ^ 32 → TakesNumber 4 n count found old new
-unfolding TakesNumber
+unfolding TakesNumber TakesNumberFor
 takes_array_length n count found old mid new h m eo some small = λ gate taken size spelled.
     array_length_taken gate n found old mid new taken h eo (omega arith) (number_in_4 n _ spelled small) (counts_bytes taken count old mid m size)
 
 pub takes_long_block_length : (n count : ℕ) (found : Bool) (old mid new : Seen)
     → TellsSurely (count_reason (2 ^ 31) n) (after_block_length mid n) found mid new
     → mid ≡ farther old count → open_phase old ≡ phase.BlockLength4 → 0 < count → n < 2 ^ 32 → TakesNumber 4 n count found old new
-unfolding TakesNumber
+unfolding TakesNumber TakesNumberFor
 takes_long_block_length n count found old mid new h m eo some small = λ gate taken size spelled.
     block_length_taken gate n found old mid new taken h eo (omega arith) (number_in_4 n _ spelled small) (counts_bytes taken count old mid m size)
 
 pub takes_interface_count : (n count : ℕ) (found : Bool) (old mid new : Seen)
     → (HasDescriptor mid.frames → Tells (count_reason (2 ^ 31) n) (after_interfaces mid n) found mid new)
     → mid ≡ farther old count → open_phase old ≡ phase.InterfaceCount → 0 < count → n < 2 ^ 32 → TakesNumber 4 n count found old new
-unfolding TakesNumber
+unfolding TakesNumber TakesNumberFor
 takes_interface_count n count found old mid new h m eo some small = λ gate taken size spelled.
     interface_count_taken gate n found old mid new taken h eo (omega arith) (number_in_4 n _ spelled small) (counts_bytes taken count old mid m size)
 
 pub takes_suid : (count : ℕ) (found : Bool) (old mid new : Seen) → Tells (told_if (is_full mid) handle_space None) (after_suid mid) found mid new
     → mid ≡ farther old count → open_phase old ≡ phase.Suid → 0 < count → (n : ℕ) → n < 2 ^ 64 → TakesNumber 8 n count found old new
-unfolding TakesNumber
+unfolding TakesNumber TakesNumberFor
 takes_suid count found old mid new h m eo some n small = λ gate taken size spelled.
     suid_taken gate n found old mid new taken h eo (omega arith) (number_in_8 n _ spelled small) (counts_bytes taken count old mid m size)
 
 pub takes_field_count : (n count : ℕ) (found : Bool) (old mid new : Seen)
     → (HasDescriptor mid.frames → Tells (count_reason (2 ^ 15) n) (after_field_count mid n) found mid new)
     → mid ≡ farther old count → open_phase old ≡ phase.FieldCount → 0 < count → n < 2 ^ 16 → TakesNumber 2 n count found old new
-unfolding TakesNumber
+unfolding TakesNumber TakesNumberFor
 takes_field_count n count found old mid new h m eo some small = λ gate taken size spelled.
     field_count_taken gate n found old mid new taken h eo (omega arith) (number_in_2 n _ spelled small) (counts_bytes taken count old mid m size)

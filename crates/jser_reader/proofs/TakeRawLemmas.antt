@@ -9,7 +9,7 @@ use Rattle.jser_reader.specs.Readers.{Seen}
 use Rattle.jser_reader.specs.Steps.{after_value}
 use Rattle.jser_reader.specs.Handlers.{Comes}
 use Rattle.jser_reader.specs.Walks.{PrimsStands, BytesStands, StandsAt, Takes}
-use Rattle.jser_reader.specs.Takes.{farther, TakesFrom, TakesRaw}
+use Rattle.jser_reader.specs.Takes.{farther, TakesFromFor, TakesFrom, TakesRaw}
 use Rattle.jser_reader.proofs.EndLemmas.{tells_next}
 use Rattle.jser_reader.proofs.TakeLemmas.{counts_bytes}
 use Rattle.jser_reader.proofs.RawWalks.{prims_taken, prims_kept, block_taken, block_kept}
@@ -39,11 +39,11 @@ raw_stays count piece old new is more ep el ea em ei ef ey et er eo es eh ex =
 -- ---- the walk
 
 pub takes_prims : (result : Taken) (piece : List ℕ) (old new : Seen) → TakesRaw result piece old new → old.phase ≡ phase.Prims → TakesFrom result piece old new
-unfolding TakesRaw TakesFrom Takes
-takes_prims (taken.Ended count) piece old new h ep = (
+unfolding TakesRaw TakesFromFor Takes
+takes_prims (taken.Ended count) piece old new h ep = λ gate. (
   h.0,
   h.1,
-  λ gate s cut st.
+  λ s cut st.
       let x : PrimsStands old (settled s) cut = subst (λ p. StandsAt p old (settled s) cut) ep st.stands in
       let n = length-take-le count piece h.1 in
       prims_taken gate true old (farther old count) new (take count piece)
@@ -51,14 +51,15 @@ takes_prims (taken.Ended count) piece old new h ep = (
       (counts_bytes (take count piece) count old (farther old count) refl n) s cut st,
 )
 takes_prims (taken.Stopped count) piece old new h ep = absurd h
+takes_prims (taken.Part n) piece old new h ep = absurd h
 takes_prims taken.Open piece old new h ep = λ gate. prims_kept gate old new piece ep (h.0 ∙ ep) h.1 h.2 h.3
 
 pub takes_block : (result : Taken) (piece : List ℕ) (old new : Seen) → TakesRaw result piece old new → old.phase ≡ phase.Bytes → TakesFrom result piece old new
-unfolding TakesRaw TakesFrom Takes
-takes_block (taken.Ended count) piece old new h ep = (
+unfolding TakesRaw TakesFromFor Takes
+takes_block (taken.Ended count) piece old new h ep = λ gate. (
   h.0,
   h.1,
-  λ gate s cut st.
+  λ s cut st.
       let x : BytesStands old (settled s) cut = subst (λ p. StandsAt p old (settled s) cut) ep st.stands in
       let n = length-take-le count piece h.1 in
       block_taken gate true old (farther old count) new (take count piece)
@@ -66,4 +67,5 @@ takes_block (taken.Ended count) piece old new h ep = (
       (counts_bytes (take count piece) count old (farther old count) refl n) s cut st,
 )
 takes_block (taken.Stopped count) piece old new h ep = absurd h
+takes_block (taken.Part n) piece old new h ep = absurd h
 takes_block taken.Open piece old new h ep = λ gate. block_kept gate old new piece ep (h.0 ∙ ep) h.1 h.2 h.3

@@ -1,11 +1,12 @@
 -- The bytes of a text: scanning some of them after others, and the walk over them.
-use Rattle.std.proofs.Common.{◌≡◌, ℕ, ◌+◌, ◌<◌, ◌≤◌, min, ◌⊎◌, inl, inr, ◌↔◌, Bool, true, false, List, [], ◌∷◌, ◌++◌, length, take, Option, Some, None, refl, sym, ◌∙◌, ap, ap₂, subst, arith, append_assoc, append-nil, length-append, length-take-le}
+use Rattle.std.proofs.Common.{◌≡◌, ℕ, ◌+◌, ◌<◌, ◌≤◌, min, max, ◌⊎◌, inl, inr, ◌↔◌, Bool, true, false, List, [], ◌∷◌, ◌++◌, length, take, Option, Some, None, refl, sym, ◌∙◌, ap, ap₂, subst, arith, append_assoc, append-nil, length-append, length-take-le}
 use Rattle.std.specs.Option.{option_to_list}
 use Rattle.std.proofs.lemmas.List.{take_all, take-take}
 use Rattle.jser_prim.specs.Texts.{BeginsText, Scan, HasAccepted, HasAcceptedAfter, FaultsAfter}
+use Rattle.jser_reading.specs.Goals.{settled}
 use Rattle.jser_verdict.specs.Reasons.{bad_text}
 use Rattle.jser_verdict.specs.Gates.{Gate}
-use Rattle.jser_reader.specs.declared.machine.text_bytes.TextStep.TheVariants as step
+use Rattle.jser_reader.specs.declared.machine.taken.Taken.TheVariants as taken
 use Rattle.jser_reader.specs.declared.phase.Phase.TheVariants as phase
 use Rattle.jser_reader.specs.declared.refusal.Reason.TheVariants as reason
 use Rattle.jser_reader.specs.declared.refusal.Stop.{Stop}
@@ -13,9 +14,9 @@ use Rattle.jser_reader.specs.declared.refusal.Stop.TheVariants as stop
 use Rattle.jser_reader.specs.Readers.{Seen, Meter, moment_of, is_checked}
 use Rattle.jser_reader.specs.Handlers.{StopsWith, refusal, TellsSurely}
 use Rattle.jser_reader.specs.TextStates.{text_reason, after_text, EndsText}
-use Rattle.jser_reader.specs.Walks.{HasRead, HasReadAfter, Counts, StopTold, Takes, Keeps}
-use Rattle.jser_reader.specs.Takes.{counted_on, farther}
-use Rattle.jser_reader.specs.TextTakes.{with_unit, KeepsUnit, Scanned, Faults, RunsOut, Scans, EndsWithin, StopsWithin, TakesText}
+use Rattle.jser_reader.specs.Walks.{HasRead, HasReadAfter, TextStands, StandsAt, Counts, StopTold, Took, Takes, Keeps}
+use Rattle.jser_reader.specs.Takes.{counted_on, farther, taken_by, TakenCases, TakesFromFor}
+use Rattle.jser_reader.specs.TextTakes.{with_unit, KeepsUnit, Scanned, Faults, RunsOut, ScansByte, Scans}
 use Rattle.jser_reader.proofs.EndLemmas.{tells_refusal}
 use Rattle.jser_reader.proofs.TakeLemmas.{counts_bytes}
 use Rattle.jser_reader.proofs.TextSteps.{text_kept, text_taken, bad_text_taken}
@@ -76,21 +77,23 @@ unit_scanned b unit old new scan e push left = record {
 
 pub name_goes_on : (b : ℕ) (unit : Option ℕ) (scan : Scan) (found : Bool) (old mid new : Seen) → KeepsUnit unit found mid new → mid ≡ scanned_on old 1 mid.scan
     → ((len : ℕ) (bytes units : List ℕ) → HasAccepted len bytes units scan → HasAccepted len (bytes ++ (b ∷ [])) (units ++ option_to_list unit) mid.scan)
-    → mid.scan.left + 1 ≡ scan.left → scan ≡ old.scan → is_checked old.text ≡ true → Scans (b ∷ []) found old new
-unfolding KeepsUnit Scans
+    → mid.scan.left + 1 ≡ scan.left → scan ≡ old.scan → is_checked old.text ≡ true → ScansByte b found old new
+unfolding KeepsUnit ScansByte
 name_goes_on b unit scan true old mid new h m push left e checked =
     unit_scanned b unit old new mid.scan (h ∙ ap (λ r. with_unit r unit) m)
     (λ len bytes units a. push len bytes units (subst (HasAccepted len bytes units) (sym e) a)) (left ∙ ap (λ k. k.left) e)
-name_goes_on b unit scan false old mid new h m push left e checked = inr (record { checked = checked; stops = record { phase = h.phase; stop = h.stop } })
+name_goes_on b unit scan false old mid new h m push left e checked =
+    inr (record { some = omega arith; within = omega arith; checked = checked; stops = record { phase = h.phase; stop = h.stop } })
 
 pub name_fault : (b : ℕ) (scan : Scan) (found : Bool) (old mid new : Seen) → StopsWith (refusal mid.meter reason.BadText) mid new → found ≡ false
     → mid.meter ≡ counted_on old.meter 1
     → ((len : ℕ) (bytes units : List ℕ) → HasAccepted len bytes units scan → BeginsText len (bytes ++ (b ∷ [])) → ⊥)
-    → scan ≡ old.scan → Scans (b ∷ []) found old new
-unfolding Scans
+    → scan ≡ old.scan → ScansByte b found old new
+unfolding ScansByte
 name_fault b scan found old mid new h ef m none e =
     rw ef (inl (record {
       accepted = 0;
+      is_last = refl;
       within = omega arith;
       stops = record { phase = h.phase; stop = h.stop ∙ ap (λ x. refusal x reason.BadText) m };
       faults =
@@ -150,15 +153,15 @@ scanned_after xs ys old mid new p q =
           };
     }
 
-pub one_more : (part : List ℕ) (i b : ℕ) (found : Bool) (old mid new : Seen) → Scanned (take i part) old mid → Scans (b ∷ []) found mid new → found ≡ true
+pub one_more : (part : List ℕ) (i b : ℕ) (found : Bool) (old mid new : Seen) → Scanned (take i part) old mid → ScansByte b found mid new → found ≡ true
     → take (i + 1) part ≡ take i part ++ (b ∷ []) → Scanned (take (i + 1) part) old new
-unfolding Scans
+unfolding ScansByte
 one_more part i b true old mid new p q ef e = subst (λ xs. Scanned xs old new) (sym e) (scanned_after (take i part) (b ∷ []) old mid new p q)
 one_more part i b false old mid new p q ef e = absurd (cc)
 
-pub all_scanned : (part : List ℕ) (i : ℕ) (found : Bool) (old new : Seen) → Scanned (take i part) old new → length part ≤ i → found ≡ true → Scans part found old new
+pub all_scanned : (part : List ℕ) (i : ℕ) (result : Option ℕ) (old new : Seen) → Scanned (take i part) old new → length part ≤ i → result ≡ None → Scans part result old new
 unfolding Scans
-all_scanned part i found old new p all ef = rw ef (subst (λ xs. Scanned xs old new) (take_all i part all) p)
+all_scanned part i result old new p all er = rw er (subst (λ xs. Scanned xs old new) (take_all i part all) p)
 
 -- a byte with which no text goes on, after others
 
@@ -167,24 +170,20 @@ same_refusal m k n ef ea =
     let to : m.at + 1 ≡ k.at + (n + 1) = omega arith in
     ap₂ (λ a b. stop.Refused (record { from_byte = a; to_byte = b; reason = reason.BadText })) ef to
 
-fault_after : (part : List ℕ) (i b : ℕ) (old mid new : Seen) → Scanned (take i part) old mid → Faults (b ∷ []) mid new → i < length part
-    → take (i + 1) part ≡ take i part ++ (b ∷ []) → Faults part old new
+fault_after : (part : List ℕ) (i b : ℕ) (old mid new : Seen) → Scanned (take i part) old mid → Faults (b ∷ []) 1 mid new → i < length part
+    → take (i + 1) part ≡ take i part ++ (b ∷ []) → Faults part (i + 1) old new
 fault_after part i b old mid new p f inside e =
     let n : length (take i part) ≡ i = length-take-le i part (omega arith) in
-    let within = f.within in
+    let last = f.is_last in
     let first : f.accepted ≡ 0 = omega arith in
     let c = p.counts in
     let at = c.at in
     let far : mid.meter.at ≡ old.meter.at + i = omega arith in
     record {
       accepted = i;
+      is_last = refl;
       within = inside;
-      stops = record {
-        phase = f.stops.phase;
-        stop =
-            f.stops.stop ∙ ap (λ k. refusal (counted_on mid.meter (k + 1)) reason.BadText) first
-            ∙ same_refusal mid.meter old.meter i c.from far;
-      };
+      stops = record { phase = f.stops.phase; stop = f.stops.stop ∙ same_refusal mid.meter old.meter i c.from far };
       faults =
           λ len before units h.
           let r = p.reads len before units h in
@@ -196,22 +195,27 @@ fault_after part i b old mid new p f inside e =
           };
     }
 
-pub stops_at : (part : List ℕ) (i b : ℕ) (found stopped : Bool) (old mid new : Seen) → Scanned (take i part) old mid → Scans (b ∷ []) found mid new → found ≡ false
-    → stopped ≡ false → i < length part → take (i + 1) part ≡ take i part ++ (b ∷ []) → Scans part stopped old new
-unfolding Scans
-stops_at part i b true stopped old mid new p q ef es inside e = absurd (cc)
-stops_at part i b false stopped old mid new p (inl f) ef es inside e = rw es (inl (fault_after part i b old mid new p f inside e))
-stops_at part i b false stopped old mid new p (inr r) ef es inside e =
-    rw es (inr (record { checked = sym (ap is_checked p.counts.text) ∙ r.checked; stops = record { phase = r.stops.phase; stop = r.stops.stop } }))
+pub stops_at : (part : List ℕ) (i b : ℕ) (found : Bool) (result : Option ℕ) (old mid new : Seen) → Scanned (take i part) old mid → ScansByte b found mid new → found ≡ false
+    → result ≡ Some (i + 1) → i < length part → take (i + 1) part ≡ take i part ++ (b ∷ []) → Scans part result old new
+unfolding ScansByte Scans
+stops_at part i b true result old mid new p q ef er inside e = absurd (cc)
+stops_at part i b false result old mid new p (inl f) ef er inside e = rw er (inl (fault_after part i b old mid new p f inside e))
+stops_at part i b false result old mid new p (inr r) ef er inside e =
+    rw er (inr (record {
+      some = omega arith;
+      within = omega arith;
+      checked = sym (ap is_checked p.counts.text) ∙ r.checked;
+      stops = record { phase = r.stops.phase; stop = r.stops.stop };
+    }))
 
 -- ---- a text whose units are not kept
 
-pub plain_scanned : (part : List ℕ) (scan : Scan) (found : Bool) (old new : Seen) → new ≡ scanned_on old (length part) new.scan
+pub plain_scanned : (part : List ℕ) (scan : Scan) (result : Option ℕ) (old new : Seen) → new ≡ scanned_on old (length part) new.scan
     → ((len : ℕ) (before units : List ℕ) → HasAccepted len before units scan → HasAcceptedAfter len (before ++ part) units new.scan)
-    → new.scan.left + length part ≡ scan.left → scan ≡ old.scan → is_checked old.text ≡ false → found ≡ true → Scans part found old new
+    → new.scan.left + length part ≡ scan.left → scan ≡ old.scan → is_checked old.text ≡ false → result ≡ None → Scans part result old new
 unfolding Scans
-plain_scanned part scan found old new e push left es plain ef =
-    rw ef (record {
+plain_scanned part scan result old new e push left es plain er =
+    rw er (record {
       phase_is = ap (λ r. r.phase) e;
       counts = record {
         at = ap (λ r. r.meter.at) e;
@@ -236,14 +240,15 @@ plain_scanned part scan found old new e push left es plain ef =
           };
     })
 
-pub plain_fault : (part : List ℕ) (accepted : ℕ) (scan : Scan) (found : Bool) (old mid new : Seen) → StopsWith (refusal mid.meter reason.BadText) mid new → found ≡ false
-    → mid.meter ≡ counted_on old.meter (accepted + 1) → accepted < length part
+pub plain_fault : (part : List ℕ) (accepted : ℕ) (scan : Scan) (result : Option ℕ) (old mid new : Seen) → StopsWith (refusal mid.meter reason.BadText) mid new
+    → result ≡ Some (accepted + 1) → mid.meter ≡ counted_on old.meter (accepted + 1) → accepted < length part
     → ((len : ℕ) (before units : List ℕ) → HasAccepted len before units scan → FaultsAfter len before part accepted)
-    → scan ≡ old.scan → Scans part found old new
+    → scan ≡ old.scan → Scans part result old new
 unfolding Scans
-plain_fault part accepted scan found old mid new h ef m within push es =
-    rw ef (inl (record {
+plain_fault part accepted scan result old mid new h er m within push es =
+    rw er (inl (record {
       accepted = accepted;
+      is_last = refl;
       within = within;
       stops = record { phase = h.phase; stop = h.stop ∙ ap (λ x. refusal x reason.BadText) m };
       faults = λ len before units r. push len before units (subst (HasAccepted len before units) (sym es) r.accepted);
@@ -251,84 +256,93 @@ plain_fault part accepted scan found old mid new h ef m within push es =
 
 -- ---- the bytes of a piece
 
--- the machine that refuses the text after so many bytes
-fault_taken : (gate : Gate) (piece part : List ℕ) (used : ℕ) (old new : Seen) → (f : Faults part old new) → part ≡ take used piece
-    → old.phase ≡ phase.Text → length part ≤ old.scan.left → used ≤ length piece → StopsWithin gate piece old new
-fault_taken gate piece part used old new f e ep room within =
+-- the machine refuses the text after so many bytes
+fault_taken : (gate : Gate) (piece part : List ℕ) (used count : ℕ) (old new : Seen) → Faults part count old new → part ≡ take used piece
+    → old.phase ≡ phase.Text → length part ≤ old.scan.left → used ≤ length piece → TakenCases gate (taken.Stopped count) piece old new
+fault_taken gate piece part used count old new f e ep room within =
     let n : length part ≡ used = ap length e ∙ length-take-le used piece within in
     let inside = f.within in
-    let same : take (f.accepted + 1) part ≡ take (f.accepted + 1) piece = ap (take (f.accepted + 1)) e ∙ take-take (f.accepted + 1) used piece (omega arith) in
-    let size : length (take (f.accepted + 1) part) ≡ f.accepted + 1 = length-take-le (f.accepted + 1) part (omega arith) in
-    let mid : Seen = farther old (f.accepted + 1) in
-    record {
-      used = f.accepted + 1;
-      within = omega arith;
-      takes = subst (λ xs. Takes gate xs false old new) same
+    let last = f.is_last in
+    let same : take (f.accepted + 1) part ≡ take count piece =
+    ap (take (f.accepted + 1)) e ∙ take-take (f.accepted + 1) used piece (omega arith) ∙ ap (λ k. take k piece) (sym last) in
+    let size : length (take (f.accepted + 1) part) ≡ count = length-take-le (f.accepted + 1) part (omega arith) ∙ sym last in
+    let mid : Seen = farther old count in (
+      omega arith,
+      omega arith,
+      subst (λ xs. Takes gate xs false old new) same
           (bad_text_taken gate (moment_of old, []) false old mid new part f.accepted
           (tells_refusal bad_text (Some bad_text) (moment_of old, []) false mid new (record { phase = f.stops.phase; stop = f.stops.stop }) refl refl)
-          ep room f.faults (counts_bytes (take (f.accepted + 1) part) (f.accepted + 1) old mid refl size));
-    }
+          ep room f.faults (counts_bytes (take (f.accepted + 1) part) count old mid refl size)),
+    )
 
-no_memory_taken : (gate : Gate) (piece : List ℕ) (old new : Seen) → RunsOut old new → StopsWithin gate piece old new
+no_memory_taken : (gate : Gate) (piece part : List ℕ) (used count : ℕ) (old new : Seen) → RunsOut part count old new → part ≡ take used piece → used ≤ length piece
+    → TakenCases gate (taken.Stopped count) piece old new
 unfolding Takes
-no_memory_taken gate piece old new r = record {
-  used = 0;
-  within = omega arith;
-  takes = λ s cut st. subst (λ why. StopTold gate s cut [] old.meter.from why) (sym r.stops.stop) tt;
-}
+no_memory_taken gate piece part used count old new r e within =
+    let n : length part ≡ used = ap length e ∙ length-take-le used piece within in
+    let inside = r.within in (
+      r.some,
+      omega arith,
+      λ s cut st. (r.stops.phase, subst (λ why. StopTold gate s cut (take count piece) old.meter.from why) (sym r.stops.stop) tt),
+    )
 
-pub stops_within : (gate : Gate) (piece part : List ℕ) (used : ℕ) (found : Bool) (old new : Seen) → Scans part found old new → found ≡ false → part ≡ take used piece
-    → old.phase ≡ phase.Text → length part ≤ old.scan.left → used ≤ length piece → TakesText gate piece step.Stopped old new
-unfolding Scans TakesText
-stops_within gate piece part used true old new h ef e ep room within = absurd (cc)
-stops_within gate piece part used false old new (inl f) ef e ep room within = fault_taken gate piece part used old new f e ep room within
-stops_within gate piece part used false old new (inr r) ef e ep room within = no_memory_taken gate piece old new r
+pub text_stops : (gate : Gate) (piece part : List ℕ) (used count : ℕ) (result : Option ℕ) (old new : Seen) → Scans part result old new → result ≡ Some count
+    → part ≡ take used piece → old.phase ≡ phase.Text → used ≡ min old.scan.left (length piece) → TakesFromFor gate (taken.Stopped count) piece old new
+unfolding Scans TakesFromFor
+text_stops gate piece part used count None old new h er e ep size = absurd (cc)
+text_stops gate piece part used count (Some k) old new h er e ep size =
+    let same : k ≡ count = cc in
+    let within : used ≤ length piece = omega arith in
+    let n : length part ≡ used = ap length e ∙ length-take-le used piece within in
+    subst (λ c. TakenCases gate (taken.Stopped c) piece old new) same (elim h [
+      | inl f ↦ fault_taken gate piece part used k old new f e ep (omega arith) within
+      | inr r ↦ no_memory_taken gate piece part used k old new r e within
+    ])
 
-is_scanned : (part : List ℕ) (found : Bool) (old new : Seen) → Scans part found old new → found ≡ true → Scanned part old new
+is_scanned : (part : List ℕ) (result : Option ℕ) (old new : Seen) → Scans part result old new → result ≡ None → Scanned part old new
 unfolding Scans
-is_scanned part true old new h ef = h
-is_scanned part false old new h ef = absurd (cc)
+is_scanned part None old new h er = h
+is_scanned part (Some count) old new h er = absurd (cc)
 
-pub stays_open : (gate : Gate) (piece part : List ℕ) (used : ℕ) (found : Bool) (old new : Seen) → Scans part found old new → found ≡ true → part ≡ take used piece
-    → old.phase ≡ phase.Text → used ≡ min old.scan.left (length piece) → 0 < new.scan.left → TakesText gate piece step.Open old new
-unfolding TakesText
-stays_open gate piece part used found old new h ef e ep size left =
-    let s = is_scanned part found old new h ef in
+pub text_stays_open : (gate : Gate) (piece part : List ℕ) (used : ℕ) (result : Option ℕ) (old new : Seen) → Scans part result old new → result ≡ None
+    → part ≡ take used piece → old.phase ≡ phase.Text → used ≡ min old.scan.left (length piece) → 0 < new.scan.left → TakesFromFor gate taken.Open piece old new
+unfolding TakesFromFor
+text_stays_open gate piece part used result old new h er e ep size left =
+    let s = is_scanned part result old new h er in
     let within : used ≤ length piece = omega arith in
     let n : length part ≡ used = ap length e ∙ length-take-le used piece within in
     let l = s.left in
     let whole : part ≡ piece = e ∙ take_all used piece (omega arith) in
     subst (λ xs. Keeps gate xs old new) whole (text_kept gate old new part ep (s.phase_is ∙ ep) s.reads left s.counts)
 
-text_end : (gate : Gate) (piece part : List ℕ) (used : ℕ) (scanned found : Bool) (old mid new : Seen)
+-- while a text is open at least one byte of it is left
+one_left : (gate : Gate) (piece : List ℕ) (used : ℕ) (found : Bool) (old new : Seen) → Takes gate (take used piece) found old new → old.phase ≡ phase.Text
+    → (0 < old.scan.left → 0 < used) → Takes gate (take (max used 1) piece) found old new
+unfolding Takes
+one_left gate piece used found old new h ep some = λ s cut st.
+    let x : TextStands old (settled s) cut = subst (λ p. StandsAt p old (settled s) cut) ep st.stands in
+    let counted = x.read.accepted.counted in
+    let goes_on = x.goes_on in
+    let one = some (omega arith) in
+    let same : used ≡ max used 1 = omega arith in
+    subst (λ k. Took gate s cut (take k piece) found old new) same (h s cut st)
+
+taken_cases : (gate : Gate) (piece : List ℕ) (count : ℕ) (found : Bool) (old new : Seen) → 0 < count → count ≤ length piece
+    → Takes gate (take count piece) found old new → TakenCases gate (taken_by count found) piece old new
+taken_cases gate piece count true old new some within h = (some, within, h)
+taken_cases gate piece count false old new some within h = (some, within, h)
+
+pub text_ends : (gate : Gate) (piece part : List ℕ) (used : ℕ) (result : Option ℕ) (found : Bool) (old mid new : Seen)
     → ((units : List ℕ) → EndsText mid units → TellsSurely (text_reason gate mid units) (after_text mid units) found mid new)
-    → Scans part scanned old mid → scanned ≡ true → part ≡ take used piece → old.phase ≡ phase.Text → used ≡ min old.scan.left (length piece)
-    → (0 < mid.scan.left → ⊥) → 0 < length piece → Takes gate (take used piece) found old new
-text_end gate piece part used scanned found old mid new t h es e ep size none some =
-    let s = is_scanned part scanned old mid h es in
+    → Scans part result old mid → result ≡ None → part ≡ take used piece → old.phase ≡ phase.Text → used ≡ min old.scan.left (length piece)
+    → (0 < mid.scan.left → ⊥) → 0 < length piece → TakesFromFor gate (taken_by (max used 1) found) piece old new
+unfolding TakesFromFor
+text_ends gate piece part used result found old mid new t h er e ep size none some =
+    let s = is_scanned part result old mid h er in
     let within : used ≤ length piece = omega arith in
     let n : length part ≡ used = ap length e ∙ length-take-le used piece within in
+    let ends : Takes gate (take used piece) found old new =
     subst (λ xs. Takes gate xs found old new) e
-    (text_taken gate found old mid new part t ep (λ left. omega arith) s.reads (omega (arith, none)) s.counts)
-
-pub ends_within : (gate : Gate) (piece part : List ℕ) (used : ℕ) (scanned found : Bool) (old mid new : Seen)
-    → ((units : List ℕ) → EndsText mid units → TellsSurely (text_reason gate mid units) (after_text mid units) found mid new)
-    → Scans part scanned old mid → scanned ≡ true → found ≡ true → part ≡ take used piece → old.phase ≡ phase.Text → used ≡ min old.scan.left (length piece)
-    → (0 < mid.scan.left → ⊥) → 0 < length piece → TakesText gate piece (step.Ended used) old new
-unfolding TakesText
-ends_within gate piece part used scanned found old mid new t h es ef e ep size none some = record {
-  within = omega arith;
-  some = λ left. omega arith;
-  takes = subst (λ b. Takes gate (take used piece) b old new) ef (text_end gate piece part used scanned found old mid new t h es e ep size none some);
-}
-
-pub stops_at_end : (gate : Gate) (piece part : List ℕ) (used : ℕ) (scanned found : Bool) (old mid new : Seen)
-    → ((units : List ℕ) → EndsText mid units → TellsSurely (text_reason gate mid units) (after_text mid units) found mid new)
-    → Scans part scanned old mid → scanned ≡ true → found ≡ false → part ≡ take used piece → old.phase ≡ phase.Text → used ≡ min old.scan.left (length piece)
-    → (0 < mid.scan.left → ⊥) → 0 < length piece → TakesText gate piece step.Stopped old new
-unfolding TakesText
-stops_at_end gate piece part used scanned found old mid new t h es ef e ep size none some = record {
-  used = used;
-  within = omega arith;
-  takes = subst (λ b. Takes gate (take used piece) b old new) ef (text_end gate piece part used scanned found old mid new t h es e ep size none some);
-}
+    (text_taken gate found old mid new part t ep (λ left. omega arith) s.reads (omega (arith, none)) s.counts) in
+    taken_cases gate piece (max used 1) found old new (omega arith) (omega arith)
+    (one_left gate piece used found old new ends ep (λ left. omega arith))

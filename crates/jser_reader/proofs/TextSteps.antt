@@ -314,7 +314,7 @@ text_taken gate found old mid new taken h ep some push left c = λ s cut st.
 
 -- no text of its length goes on with the last of them
 
-take_last : (n : ℕ) (xs : List ℕ) → n < length xs → (b : ℕ) × (take (suc n) xs ≡ take n xs ++ (b ∷ []))
+pub take_last : (n : ℕ) (xs : List ℕ) → n < length xs → (b : ℕ) × (take (suc n) xs ≡ take n xs ++ (b ∷ []))
 take_last n [] h = absurd (omega arith)
 take_last zero (x ∷ xs) h = (x, refl)
 take_last (suc n) (x ∷ xs) h = let r = take_last n xs (omega arith) in (r.0, ap (λ z. x ∷ z) r.1)

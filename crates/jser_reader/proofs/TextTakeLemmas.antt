@@ -1,10 +1,10 @@
 -- The bytes of a text, and of what stands in front of it, as they are taken: from what the functions tell to the walk
 -- over the bytes.
-use Rattle.std.proofs.Common.{◌≡◌, ℕ, ◌+◌, ◌^◌, ◌<◌, ◌≤◌, Bool, true, false, List, [], ◌∷◌, ◌++◌, length, Some, None, refl, sym, ◌∙◌, ap, subst, arith}
+use Rattle.std.proofs.Common.{◌≡◌, ℕ, ◌+◌, ◌^◌, ◌<◌, ◌≤◌, Bool, true, false, List, [], ◌∷◌, ◌++◌, length, Some, None, refl, sym, ◌∙◌, ap, subst, arith, length-append}
 use Rattle.jser_prim.specs.Bytes.{big_bytes}
 use Rattle.jser_prim.specs.Texts.{Scan, HasAccepted}
 use Rattle.jser_grammar.specs.Parts.{text_bound}
-use Rattle.jser_reading.specs.FieldsFromBytes.{tag_from, head_size}
+use Rattle.jser_reading.specs.FieldsFromBytes.{head_size}
 use Rattle.jser_reading.specs.Goals.{settle}
 use Rattle.jser_verdict.specs.Reasons.{negative_length}
 use Rattle.jser_verdict.specs.Gates.{Gate}
@@ -15,16 +15,15 @@ use Rattle.jser_reader.specs.declared.phase.TextFor.{TextFor}
 use Rattle.jser_reader.specs.declared.phase.TextFor.TheVariants as text
 use Rattle.jser_reader.specs.Reasons.{named}
 use Rattle.jser_reader.specs.Readers.{Seen, moment_of, text_rest, IsForm, is_checked, IsInside, length_phase}
-use Rattle.jser_reader.specs.Handlers.{StopsWith, refusal, Tells, TellsSurely}
-use Rattle.jser_reader.specs.TextStates.{text_tag_reason, handle_reason, after_text_tag, text_reason_of, text_reason, text_state_of, after_text, EndsText}
+use Rattle.jser_reader.specs.Handlers.{StopsWith, refusal, TellsSurely}
+use Rattle.jser_reader.specs.TextStates.{handle_reason, text_reason_of, text_reason, text_state_of, after_text, EndsText}
 use Rattle.jser_reader.specs.Walks.{HasRead, Counts, Takes, Keeps, open_phase, cut_of}
-use Rattle.jser_reader.specs.Takes.{farther, TakesByte, TakesNumber}
+use Rattle.jser_reader.specs.Takes.{farther, TakesNumberFor, TakesNumber, CutsOff}
 use Rattle.jser_reader.specs.TextTakes.{OpensBytes, EndsEmpty, LengthCases, TellsLength, ProgressCases, TakesLength}
 use Rattle.jser_reader.proofs.EndLemmas.{tells_refusal, surely_from}
 use Rattle.jser_reader.proofs.NumberWalks.{number_in_4, text_handle_taken}
-use Rattle.jser_reader.proofs.PlaceWalks.{text_tag_taken}
 use Rattle.jser_reader.proofs.TakeLemmas.{counts_bytes}
-use Rattle.jser_reader.proofs.TextSteps.{empty_text_taken, text_opened, negative_taken}
+use Rattle.jser_reader.proofs.TextSteps.{length_kept, empty_text_taken, text_opened, negative_taken}
 
 -- ---- the handle of a reference to a text
 
@@ -32,7 +31,7 @@ pub takes_text_handle : (n count : ℕ) (found : Bool) (old mid new : Seen)
     → (IsForm mid.text true → IsInside mid.text mid.frames
     → TellsSurely (handle_reason mid n) (settle (moment_of mid) (text_rest mid mid.text)) found mid new)
     → mid ≡ farther old count → open_phase old ≡ phase.TextHandle → 0 < count → n < 2 ^ 32 → TakesNumber 4 n count found old new
-unfolding TakesNumber
+unfolding TakesNumber TakesNumberFor
 takes_text_handle n count found old mid new h m eo some small = λ gate taken size spelled.
     text_handle_taken gate n found old mid new taken h eo (omega arith) (number_in_4 n _ spelled small) (counts_bytes taken count old mid m size)
 
@@ -198,3 +197,10 @@ takes_negative_length gate n count found old mid new h m eo some lo hi = λ take
     negative_taken gate n (moment_of mid, []) false old mid new taken
     (tells_refusal negative_length (Some negative_length) (moment_of mid, []) false mid new h refl refl)
     (omega arith) hi eo (omega arith) spelled (counts_bytes taken count old mid m size)
+
+-- the length is cut, or cut again
+pub length_cut_off : (gate : Gate) (long : Bool) (piece : List ℕ) (old new : Seen) → CutsOff piece old new → open_phase old ≡ length_phase long
+    → 0 < length piece → length (cut_of old ++ piece) < head_size long → Keeps gate piece old new
+length_cut_off gate long piece old new c eo some short =
+    let n : length (cut_of old ++ piece) ≡ length (cut_of old) + length piece = length-append (cut_of old) piece in
+    length_kept gate long old new piece c.phase_is (c.cut_phase ∙ eo) c.kept eo (omega arith) short c.counts

@@ -18,6 +18,7 @@ abbrev pub IsFour : Phase → Type 0
 IsFour phase.BackHandle = Unit {0}
 IsFour phase.ClassHandle = Unit {0}
 IsFour phase.SuperHandle = Unit {0}
+IsFour phase.TextHandle = Unit {0}
 IsFour phase.InterfaceCount = Unit {0}
 IsFour phase.ArrayLength = Unit {0}
 IsFour phase.BlockLength4 = Unit {0}
@@ -31,6 +32,8 @@ IsEight _ = ⊥
 abbrev pub CanBeCut : Phase → Type 0
 CanBeCut phase.Header = Unit {0}
 CanBeCut phase.FieldCount = Unit {0}
+CanBeCut phase.Length2 = Unit {0}
+CanBeCut phase.Length8 = Unit {0}
 CanBeCut phase.Suid = Unit {0}
 CanBeCut p = IsFour p
 

@@ -1,5 +1,5 @@
 -- The head of a descriptor: its suid, which assigns its handle, its flags, its fields; the interfaces of a proxy.
-use Rattle.std.specs.Prelude.{◌≡◌, ℕ, suc, ◌-◌, ◌<◌, ◌∷◌, [], false, length, reverse, slice_get, IsTrue, ◌||◌, Bool, true, List, Option, None}
+use Rattle.std.specs.Prelude.{◌≡◌, ℕ, ◌-◌, ◌<◌, ◌∷◌, [], false, length, reverse, slice_get, IsTrue, ◌||◌, Bool, true, List, Option, None}
 use Rattle.jser_table.specs.declared.layer.Layer.{Layer}
 use Rattle.jser_table.specs.Entries.{TableEntry, pending_entry, is_pending}
 use Rattle.jser_table.specs.Sections.{no_layer}

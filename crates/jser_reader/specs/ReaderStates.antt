@@ -14,39 +14,54 @@ use Rattle.jser_reader.specs.Readers.{Seen}
 use Rattle.jser_reader.specs.Streams.{AreRefused, AreTruncated}
 use Rattle.jser_reader.specs.Walks.{HasTaken}
 
--- what the contracts of a reader see of it: its gate, and its machine
-pub record Reading : Type 0 where
-  pub gate : Gate
+-- What the contracts of a reader see of it: its gate, and its machine.
+pub record Reading (G : Type 0) : Type 0 where
+  pub gate : G
   pub machine : Seen
 
--- It stands for these bytes: it took them, no more than its gate allows, and refused nothing. A reader keeps no history:
--- the bytes are any that lead to what it holds.
-unfoldable pub StandsFor : List ℕ → Reading → Type 0
-StandsFor bytes r = HasTaken r.gate bytes r.machine × (length bytes ≤ r.gate.bytes)
+-- Under this gate it stands for these bytes: it took them, no more than the gate allows, and refused nothing. A reader
+-- keeps no history: the bytes are any that lead to what it holds.
+unfoldable pub StandsFor : Gate → List ℕ → Seen → Type 0
+StandsFor gate bytes r = HasTaken gate bytes r × (length bytes ≤ gate.bytes)
 
 -- it answers the same refusal from now on
-unfoldable pub HasRefused : Refusal → Reading → Type 0
-HasRefused refusal r = (r.machine.phase ≡ phase.Stopped) × (r.machine.meter.stop ≡ stop.Refused refusal)
+unfoldable pub HasRefused : Refusal → Seen → Type 0
+HasRefused refusal r = (r.phase ≡ phase.Stopped) × (r.meter.stop ≡ stop.Refused refusal)
 
 -- it answers Spent from now on
-unfoldable pub IsSpent : Reading → Type 0
-IsSpent r = (r.machine.phase ≡ phase.Stopped) × (r.machine.meter.stop ≡ stop.Spent)
+unfoldable pub IsSpent : Seen → Type 0
+IsSpent r = (r.phase ≡ phase.Stopped) × (r.meter.stop ≡ stop.Spent)
+
+-- an item of so many bytes
+abbrev pub IsItem : (used : ℕ) → Step → Type 0
+IsItem used (step.Item item count) = count ≡ used
+IsItem used step.More = ⊥
 
 -- Where it stood for `bytes` and was given a piece, it answers an item and stands for some bytes of the piece more; or it
 -- took the whole piece; or it refuses the bytes up to the deciding one, which lies in the piece; or memory ran out.
-abbrev pub NextCases : (bytes piece : List ℕ) → Result Step Stop → Reading → Type 0
-NextCases bytes piece (Ok (step.Item item used)) r = (0 < used) × (used ≤ length piece) × StandsFor (bytes ++ take used piece) r
-NextCases bytes piece (Ok step.More) r = StandsFor (bytes ++ piece) r
-NextCases bytes piece (Err (stop.Refused refusal)) r =
-    (used : ℕ) × (0 < used) × (used ≤ length piece) × AreRefused r.gate (bytes ++ take used piece) refusal × HasRefused refusal r
-NextCases bytes piece (Err stop.OutOfMemory) r = IsSpent r
-NextCases bytes piece (Err stop.Spent) r = ⊥
+abbrev pub NextCases : Gate → (bytes piece : List ℕ) → Result Step Stop → Seen → Type 0
+NextCases gate bytes piece (Ok (step.Item item used)) r = (0 < used) × (used ≤ length piece) × StandsFor gate (bytes ++ take used piece) r
+NextCases gate bytes piece (Ok step.More) r = StandsFor gate (bytes ++ piece) r
+NextCases gate bytes piece (Err (stop.Refused refusal)) r =
+    (used : ℕ) × (used ≤ length piece) × AreRefused gate (bytes ++ take used piece) refusal × HasRefused refusal r
+NextCases gate bytes piece (Err stop.OutOfMemory) r = IsSpent r
+NextCases gate bytes piece (Err stop.Spent) r = ⊥
 
-unfoldable pub NextTells : (piece : List ℕ) → Result Step Stop → Reading → Reading → Type 0
-NextTells piece result old new = (bytes : List ℕ) → StandsFor bytes old → NextCases bytes piece result new
+unfoldable pub NextTells : Gate → (piece : List ℕ) → Result Step Stop → (old new : Seen) → Type 0
+NextTells gate piece result old new = (bytes : List ℕ) → StandsFor gate bytes old → NextCases gate bytes piece result new
 
 -- A reader that has refused bytes, or is spent, answers that again, and nothing changes.
-unfoldable pub StaysStopped : {A : Type 0} → Result A Stop → Reading → Reading → Type 0
+unfoldable pub StaysStopped : {A : Type 0} → Result A Stop → (old new : Seen) → Type 0
 StaysStopped result old new =
     ((refusal : Refusal) → HasRefused refusal old → (result ≡ Err (stop.Refused refusal)) × HasRefused refusal new)
     × (IsSpent old → (result ≡ Err stop.Spent) × IsSpent new)
+
+-- Where it stood for bytes that are a stream which its gate lets pass, they are; or they end too early.
+abbrev pub FinishCases : Gate → (bytes : List ℕ) → Result Totals Stop → Seen → Type 0
+FinishCases gate bytes (Ok totals) r = ((list : ContentTrees) × Passes gate bytes list) × IsSpent r
+FinishCases gate bytes (Err (stop.Refused refusal)) r = AreTruncated gate bytes refusal × HasRefused refusal r
+FinishCases gate bytes (Err stop.OutOfMemory) r = ⊥
+FinishCases gate bytes (Err stop.Spent) r = ⊥
+
+unfoldable pub FinishTells : Gate → Result Totals Stop → (old new : Seen) → Type 0
+FinishTells gate result old new = (bytes : List ℕ) → StandsFor gate bytes old → FinishCases gate bytes result new

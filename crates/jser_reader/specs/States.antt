@@ -34,4 +34,5 @@ pub record IsWithin (r : Seen) (piece front : List ℕ) : Type 0 where
   pub is_front : front ≡ take (length front) piece
   pub short : length front ≤ length piece
   pub fits : length front ≤ r.meter.limits.bytes - r.meter.at
+  pub room : 0 < length front → r.meter.at + length front < 2 ^ 64
   pub full : length front < length piece → length front ≡ r.meter.limits.bytes - r.meter.at

@@ -35,10 +35,14 @@ IsOne phase.TypeCode = Unit {0}
 IsOne phase.BlockLength1 = Unit {0}
 IsOne _ = ⊥
 
--- the last bytes of the number `n` of `size` bytes, so many, end the open field, or the machine stops at them
+-- The last bytes of the number `n` of `size` bytes, so many, end the open field, or the machine stops at them: as one
+-- gate judges it, and as any does.
+unfoldable pub TakesNumberFor : Gate → (size n count : ℕ) → Bool → Seen → Seen → Type 0
+TakesNumberFor gate size n count result old new =
+    (taken : List ℕ) → length taken ≡ count → big_bytes size n ≡ cut_of old ++ taken → Takes gate taken result old new
+
 unfoldable pub TakesNumber : (size n count : ℕ) → Bool → Seen → Seen → Type 0
-TakesNumber size n count result old new =
-    (gate : Gate) (taken : List ℕ) → length taken ≡ count → big_bytes size n ≡ cut_of old ++ taken → Takes gate taken result old new
+TakesNumber size n count result old new = (gate : Gate) → TakesNumberFor gate size n count result old new
 
 -- these bytes of the open field were kept, which is cut after them
 pub record CutsOff (piece : List ℕ) (old new : Seen) : Type 0 where
@@ -47,17 +51,19 @@ pub record CutsOff (piece : List ℕ) (old new : Seen) : Type 0 where
   pub kept : new.meter.kept ≡ cut_of old ++ piece
   pub counts : Counts piece old new
 
--- the first bytes of the piece, so many, end the open field, or the machine stops at the last of them; or the whole
--- piece is of the field, which stays open
-abbrev pub TakenCases : Taken → List ℕ → Seen → Seen → Type 0
-TakenCases (taken.Ended count) piece old new =
-    (0 < count) × (count ≤ length piece) × ((gate : Gate) → Takes gate (take count piece) true old new)
-TakenCases (taken.Stopped count) piece old new =
-    (0 < count) × (count ≤ length piece) × ((gate : Gate) → Takes gate (take count piece) false old new)
-TakenCases taken.Open piece old new = (gate : Gate) → Keeps gate piece old new
+-- The first bytes of the piece, so many, end the open field, or the machine stops at the last of them; or the whole
+-- piece is of the field, which stays open: as one gate judges it, and as any does.
+abbrev pub TakenCases : Gate → Taken → List ℕ → Seen → Seen → Type 0
+TakenCases gate (taken.Ended count) piece old new = (0 < count) × (count ≤ length piece) × Takes gate (take count piece) true old new
+TakenCases gate (taken.Stopped count) piece old new = (0 < count) × (count ≤ length piece) × Takes gate (take count piece) false old new
+TakenCases gate (taken.Part count) piece old new = (0 < count) × (count ≤ length piece) × Keeps gate (take count piece) old new
+TakenCases gate taken.Open piece old new = Keeps gate piece old new
 
-unfoldable pub TakesFrom : Taken → List ℕ → Seen → Seen → Type 0
-TakesFrom result piece old new = TakenCases result piece old new
+unfoldable pub TakesFromFor : Gate → Taken → List ℕ → Seen → Seen → Type 0
+TakesFromFor gate result piece old new = TakenCases gate result piece old new
+
+abbrev pub TakesFrom : Taken → List ℕ → Seen → Seen → Type 0
+TakesFrom result piece old new = (gate : Gate) → TakesFromFor gate result piece old new
 
 -- one byte of the header: it is wrong or the last one, or others are to come
 abbrev pub HeaderCases : Option Bool → ℕ → Seen → Seen → Type 0
@@ -79,6 +85,13 @@ abbrev pub taken_by : ℕ → Bool → Taken
 taken_by count true = taken.Ended count
 taken_by count false = taken.Stopped count
 
+-- the bytes of the field are lent
+abbrev pub lent_by : Taken → (count : ℕ) → Taken
+lent_by (taken.Ended n) count = taken.Ended n
+lent_by (taken.Stopped n) count = taken.Stopped n
+lent_by (taken.Part n) count = taken.Part n
+lent_by taken.Open count = taken.Part count
+
 -- Bytes of a raw field: it ends, with as many as were left of it, or all are of it and others are still to come. (While it
 -- is open at least one is left.)
 abbrev pub RawCases : Taken → List ℕ → Seen → Seen → Type 0
@@ -86,6 +99,7 @@ RawCases (taken.Ended count) piece old new =
     (0 < count) × (count ≤ length piece) × (0 < old.left → count ≡ old.left)
     × Comes (farther old count) new (after_value (farther old count))
 RawCases (taken.Stopped count) piece old new = ⊥
+RawCases (taken.Part count) piece old new = ⊥
 RawCases taken.Open piece old new =
     (new.phase ≡ old.phase) × (length piece < old.left) × (new.left + length piece ≡ old.left) × Counts piece old new
 

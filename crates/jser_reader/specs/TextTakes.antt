@@ -1,5 +1,5 @@
 -- The bytes of a text as they are taken: its length, and then its bytes. The text goes on, it ends, or the machine stops.
-use Rattle.std.specs.Prelude.{◌≡◌, ◌⊎◌, ℕ, ◌+◌, ◌<◌, ◌≤◌, Bool, true, false, List, [], ◌∷◌, ◌++◌, length, take, Option}
+use Rattle.std.specs.Prelude.{◌≡◌, ◌⊎◌, ℕ, ◌+◌, ◌<◌, ◌≤◌, Bool, true, false, List, [], ◌∷◌, ◌++◌, length, take, Option, Some, None}
 use Rattle.std.specs.Option.{option_to_list}
 use Rattle.jser_prim.specs.Bytes.{big_bytes}
 use Rattle.jser_prim.specs.Texts.{FaultsAfter}
@@ -9,8 +9,8 @@ use Rattle.jser_reader.specs.declared.refusal.Reason.TheVariants as reason
 use Rattle.jser_reader.specs.declared.refusal.Stop.TheVariants as stop
 use Rattle.jser_reader.specs.declared.machine.take_texts.Progress.{Progress}
 use Rattle.jser_reader.specs.declared.machine.take_texts.Progress.TheVariants as progress
-use Rattle.jser_reader.specs.declared.machine.text_bytes.TextStep.{TextStep}
-use Rattle.jser_reader.specs.declared.machine.text_bytes.TextStep.TheVariants as step
+use Rattle.jser_reader.specs.declared.machine.taken.Taken.{Taken}
+use Rattle.jser_reader.specs.declared.machine.taken.Taken.TheVariants as taken
 use Rattle.jser_reader.specs.Readers.{Seen, is_checked, IsInside}
 use Rattle.jser_reader.specs.Handlers.{StopsWith, refusal, TellsSurely}
 use Rattle.jser_reader.specs.TextStates.{text_reason, after_text}
@@ -58,15 +58,18 @@ pub record Scanned (part : List ℕ) (old new : Seen) : Type 0 where
   pub left : new.scan.left + length part ≡ old.scan.left
   pub reads : (len : ℕ) (before units : List ℕ) → HasRead old len before units → HasReadAfter new len (before ++ part) units
 
--- the machine stops at the first of these bytes with which no text of the length goes on
-pub record Faults (part : List ℕ) (old new : Seen) : Type 0 where
+-- the machine stops at the last of the first bytes, so many: with it no text of the length goes on
+pub record Faults (part : List ℕ) (count : ℕ) (old new : Seen) : Type 0 where
   pub accepted : ℕ
+  pub is_last : count ≡ accepted + 1
   pub within : accepted < length part
-  pub stops : StopsWith (refusal (counted_on old.meter (accepted + 1)) reason.BadText) old new
+  pub stops : StopsWith (refusal (counted_on old.meter count) reason.BadText) old new
   pub faults : (len : ℕ) (before units : List ℕ) → HasRead old len before units → FaultsAfter len before part accepted
 
--- memory runs out, as it may where the units of a checked name are kept
-pub record RunsOut (old new : Seen) : Type 0 where
+-- memory runs out there, as it may where the units of a checked name are kept
+pub record RunsOut (part : List ℕ) (count : ℕ) (old new : Seen) : Type 0 where
+  pub some : 0 < count
+  pub within : count ≤ length part
   pub checked : is_checked old.text ≡ true
   pub stops : StopsWith stop.OutOfMemory old new
 
@@ -81,29 +84,23 @@ UnitCases unit false old new = StopsWith stop.OutOfMemory old new
 unfoldable pub KeepsUnit : Option ℕ → Bool → Seen → Seen → Type 0
 KeepsUnit unit b old new = UnitCases unit b old new
 
-abbrev pub ScanCases : List ℕ → Bool → Seen → Seen → Type 0
-ScanCases part true old new = Scanned part old new
-ScanCases part false old new = Faults part old new ⊎ RunsOut old new
+abbrev pub ByteCases : ℕ → Bool → Seen → Seen → Type 0
+ByteCases byte true old new = Scanned (byte ∷ []) old new
+ByteCases byte false old new = Faults (byte ∷ []) 1 old new ⊎ RunsOut (byte ∷ []) 1 old new
 
-unfoldable pub Scans : List ℕ → Bool → Seen → Seen → Type 0
-Scans part b old new = ScanCases part b old new
+unfoldable pub ScansByte : ℕ → Bool → Seen → Seen → Type 0
+ScansByte byte b old new = ByteCases byte b old new
 
--- the front of the piece, so many bytes, ends the text
-pub record EndsWithin (gate : Gate) (piece : List ℕ) (used : ℕ) (old new : Seen) : Type 0 where
-  pub within : used ≤ length piece
-  pub some : 0 < old.scan.left → 0 < used
-  pub takes : Takes gate (take used piece) true old new
+abbrev pub ScanCases : List ℕ → Option ℕ → Seen → Seen → Type 0
+ScanCases part None old new = Scanned part old new
+ScanCases part (Some count) old new = Faults part count old new ⊎ RunsOut part count old new
 
--- the machine stops in the piece
-pub record StopsWithin (gate : Gate) (piece : List ℕ) (old new : Seen) : Type 0 where
-  pub used : ℕ
-  pub within : used ≤ length piece
-  pub takes : Takes gate (take used piece) false old new
+-- the bytes are scanned; or the machine stops at the last of so many
+unfoldable pub Scans : List ℕ → Option ℕ → Seen → Seen → Type 0
+Scans part result old new = ScanCases part result old new
 
-abbrev pub StepCases : Gate → List ℕ → TextStep → Seen → Seen → Type 0
-StepCases gate piece step.Open old new = Keeps gate piece old new
-StepCases gate piece (step.Ended used) old new = EndsWithin gate piece used old new
-StepCases gate piece step.Stopped old new = StopsWithin gate piece old new
-
-unfoldable pub TakesText : Gate → List ℕ → TextStep → Seen → Seen → Type 0
-TakesText gate piece step old new = StepCases gate piece step old new
+-- what came of the length of a text, after so many bytes
+abbrev pub by_progress : ℕ → Progress → Taken
+by_progress count progress.Open = taken.Part count
+by_progress count progress.Ended = taken.Ended count
+by_progress count progress.Stopped = taken.Stopped count

@@ -192,7 +192,7 @@ pub record Ends (gate : Gate) (s : State) (cut taken : List ℕ) (old new : Seen
 
 abbrev pub Took : Gate → State → (cut taken : List ℕ) → Bool → Seen → Seen → Type 0
 Took gate s cut taken true old new = Ends gate s cut taken old new
-Took gate s cut taken false old new = StopTold gate s cut taken old.meter.from new.meter.stop
+Took gate s cut taken false old new = (new.phase ≡ phase.Stopped) × StopTold gate s cut taken old.meter.from new.meter.stop
 
 -- these bytes end the open field, or the machine stops at the last of them
 unfoldable pub Takes : Gate → List ℕ → Bool → Seen → Seen → Type 0

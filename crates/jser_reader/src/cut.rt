@@ -79,9 +79,17 @@ impl Cut {
         requires { length (self.now.kept ++ last.now) ≤ 8 }
         ensures { result.items ≡ self.now.kept ++ last.now }
     {
+        let mut bytes = self.kept();
+        let _ = bytes.try_extend_from_slice(last);
+        bytes
+    }
+
+    /// The bytes that were kept.
+    pub(crate) fn kept(&self) -> ArrayVec<u8, 8>
+        ensures { result.items ≡ self.now.kept }
+    {
         let mut bytes: ArrayVec<u8, 8> = ArrayVec::new();
         let _ = bytes.try_extend_from_slice(self.kept.as_slice());
-        let _ = bytes.try_extend_from_slice(last);
         bytes
     }
 

@@ -10,10 +10,12 @@ mod gate;
 mod item;
 mod machine;
 mod phase;
+mod reader;
 mod refusal;
 mod stack;
 mod tag;
 
 pub use gate::{Answer, Gate, OpenGate};
 pub use item::{Item, Step, Totals};
+pub use reader::Reader;
 pub use refusal::{Reason, Refusal, Stop};

@@ -3,8 +3,9 @@
 ghost use Rattle.std.specs.Prelude.{◌≡◌, ◌+◌, ◌++◌, ◌<◌, ◌^◌, length};
 ghost use Rattle.jser_reader.specs.Walks.{open_phase, size_of_phase};
 ghost use Rattle.jser_reader.specs.Cuts.{IsTwo, IsFour, IsEight, IsCutField};
-ghost use Rattle.jser_reader.specs.Takes.{TakesNumber, CutsOff, TakesFrom};
+ghost use Rattle.jser_reader.specs.Takes.{TakesNumber, CutsOff, TakesFromFor, TakesFrom};
 
+use crate::gate::Gate;
 use crate::machine::Machine;
 use crate::machine::taken::Taken;
 use crate::phase::Phase;
@@ -101,6 +102,7 @@ impl Machine {
             Phase::BackHandle => self.take_back_handle(n, count),
             Phase::ClassHandle => self.take_class_handle(n, count),
             Phase::SuperHandle => self.take_super_handle(n, count),
+            Phase::TextHandle => self.take_text_handle(n, count),
             Phase::InterfaceCount => self.take_interface_count(n, count),
             Phase::ArrayLength => self.take_array_length(n, count),
             Phase::BlockLength4 => self.take_long_block_length(n, count),
@@ -201,14 +203,16 @@ impl Machine {
 
     /// Takes the missing bytes of the field that was cut, or as many of them as there are.
     #[tactic(auto, using(crate::proofs::CutLemmas::cut_four))]
-    pub(super) fn take_cut(&mut self, piece: &[u8]) -> Taken
+    pub(super) fn take_cut<G: Gate>(&mut self, gate: &G, piece: &[u8]) -> Taken
         requires phase { self.old.phase ≡ Phase.Cut }
         requires some { 0 < length piece.now }
         requires room { self.old.meter.at + length piece.now < 2 ^ 64 }
-        ensures { TakesFrom result piece.now self.old self.new }
+        ensures { TakesFromFor (G.told gate.now) result piece.now self.old self.new }
     {
         match self.cut.phase() {
             Phase::Header => self.take_header(piece),
+            Phase::Length2 => self.rest_of_short_length(gate, piece),
+            Phase::Length8 => self.rest_of_long_length(gate, piece),
             Phase::FieldCount => self.rest_of_two(piece),
             Phase::Suid => self.rest_of_eight(piece),
             _ => self.rest_of_four(piece),

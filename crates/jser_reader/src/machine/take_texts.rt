@@ -1,5 +1,5 @@
-//! The fields in front of a text's bytes, as they are taken: the tag of a text place, the handle of a reference to a
-//! text, and the length of a text, whole in a piece or the last bytes of one that was cut.
+//! The numbers in front of a text's bytes, as they are taken, whole in a piece or the last bytes of one that was cut:
+//! the length of a text, and the handle of a reference to one.
 ghost use Rattle.std.specs.Prelude.{◌≡◌, ◌+◌, ◌<◌, ◌^◌, true, false};
 ghost use Rattle.jser_reader.specs.Walks.{open_phase};
 ghost use Rattle.jser_reader.specs.Takes.{TakesNumber};

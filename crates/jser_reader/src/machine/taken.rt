@@ -1,6 +1,6 @@
 //! What came of the bytes of a piece.
 ghost use Rattle.std.specs.Prelude.{◌≡◌};
-ghost use Rattle.jser_reader.specs.Takes.{taken_by};
+ghost use Rattle.jser_reader.specs.Takes.{taken_by, lent_by};
 
 /// What came of the bytes of a piece that a field was handed.
 #[derive(Clone, Copy)]
@@ -9,7 +9,10 @@ pub(crate) enum Taken {
     Ended(usize),
     /// The machine stopped at the last of so many bytes.
     Stopped(usize),
-    /// All bytes are of the field, which stays open.
+    /// So many bytes are of the field, which stays open, and can be lent: the length of a text, or some of its bytes, or
+    /// some of raw values.
+    Part(usize),
+    /// All bytes are of the field, which stays open, and were kept.
     Open,
 }
 
@@ -22,5 +25,15 @@ impl Taken {
             return Taken::Ended(count);
         }
         Taken::Stopped(count)
+    }
+
+    /// The same of a field whose bytes are lent, after a piece of so many bytes.
+    pub(super) fn lent(self, count: usize) -> Taken
+        ensures { result ≡ lent_by self count }
+    {
+        match self {
+            Taken::Open => Taken::Part(count),
+            taken => taken,
+        }
     }
 }

@@ -1,27 +1,15 @@
 //! The bytes of a text: they are scanned, counted, and forgotten, but for the units of a checked name. A text is
 //! refused at the first byte with which no text of its length goes on.
-ghost use Rattle.std.specs.Prelude.{◌≡◌, ◌∷◌, [], ◌+◌, ◌<◌, ◌≤◌, ◌^◌, length, true, false};
+ghost use Rattle.std.specs.Prelude.{◌≡◌, ◌+◌, ◌<◌, ◌≤◌, ◌^◌, length, true, false};
 ghost use Rattle.jser_reader.specs.Readers.{is_checked};
-ghost use Rattle.jser_reader.specs.TextTakes.{KeepsUnit, Scans, TakesText};
+ghost use Rattle.jser_reader.specs.Takes.{TakesFromFor};
+ghost use Rattle.jser_reader.specs.TextTakes.{KeepsUnit, ScansByte, Scans};
 
 use crate::gate::Gate;
 use crate::machine::Machine;
+use crate::machine::taken::Taken;
 use crate::phase::{Phase, TextFor};
 use crate::refusal::Reason;
-
-/// What became of a piece of a text.
-#[derive(Clone, Copy)]
-pub(super) enum TextStep {
-    /// All its bytes are of the text, which goes on.
-    Open,
-    /// The text has ended.
-    Ended {
-        /// How many bytes of the piece are its last ones.
-        used: usize,
-    },
-    /// The machine has stopped.
-    Stopped,
-}
 
 /// Whether a text is a name that is judged when it ends.
 fn is_checked(text: TextFor) -> bool
@@ -51,7 +39,7 @@ impl Machine {
         requires checked { is_checked self.old.text ≡ true }
         requires within { 0 < self.old.scan.left }
         requires room { self.old.meter.at + 1 < 2 ^ 64 }
-        ensures { Scans (byte ∷ []) result self.old self.new }
+        ensures { ScansByte byte result self.old self.new }
     {
         self.at += 1;
         match self.scan.push(byte) {
@@ -60,25 +48,25 @@ impl Machine {
         }
     }
 
-    /// Scans these bytes of a checked name.
+    /// Scans these bytes of a checked name: all of them, or up to the one at which the machine stops.
     #[tactic(auto, using(crate::proofs::TextScanLemmas::none_scanned, crate::proofs::TextScanLemmas::one_more, crate::proofs::TextScanLemmas::stops_at, crate::proofs::TextScanLemmas::all_scanned))]
-    fn scan_name(&mut self, part: &[u8]) -> bool
+    fn scan_name(&mut self, part: &[u8]) -> Option<usize>
         requires checked { is_checked self.old.text ≡ true }
         requires within { length part.now ≤ self.old.scan.left }
         requires room { self.old.meter.at + length part.now < 2 ^ 64 }
         ensures { Scans part.now result self.old self.new }
     {
-        'bytes: for byte in part {
+        'bytes: for (index, byte) in part.iter().enumerate() {
             if !self.scan_byte(*byte) {
-                return false;
+                return Some(index + 1);
             }
         }
-        true
+        None
     }
 
-    /// Scans these bytes of a text whose units are not kept.
+    /// Scans these bytes of a text whose units are not kept: all of them, or up to the one at which the machine stops.
     #[tactic(auto, using(crate::proofs::TextScanLemmas::plain_scanned, crate::proofs::TextScanLemmas::plain_fault))]
-    fn scan_plain(&mut self, part: &[u8]) -> bool
+    fn scan_plain(&mut self, part: &[u8]) -> Option<usize>
         requires plain { is_checked self.old.text ≡ false }
         requires within { length part.now ≤ self.old.scan.left }
         requires room { self.old.meter.at + length part.now < 2 ^ 64 }
@@ -87,17 +75,19 @@ impl Machine {
         match self.scan.push_all(part) {
             Ok(()) => {
                 self.at += part.len() as u64;
-                true
+                None
             }
             Err(fault) => {
-                self.at += fault.accepted as u64 + 1;
-                self.refuse(Reason::BadText)
+                let count = fault.accepted + 1;
+                self.at += count as u64;
+                self.refuse(Reason::BadText);
+                Some(count)
             }
         }
     }
 
-    /// Scans the next bytes of the open text, and counts them.
-    fn scan_part(&mut self, part: &[u8]) -> bool
+    /// Scans the next bytes of the open text, and counts them: all of them, or up to the one at which the machine stops.
+    fn scan_part(&mut self, part: &[u8]) -> Option<usize>
         requires within { length part.now ≤ self.old.scan.left }
         requires room { self.old.meter.at + length part.now < 2 ^ 64 }
         ensures { Scans part.now result self.old self.new }
@@ -109,26 +99,23 @@ impl Machine {
         }
     }
 
-    /// Takes bytes of the open text from the front of the piece: all that are of it.
-    #[tactic(auto, using(crate::proofs::TextScanLemmas::stops_within, crate::proofs::TextScanLemmas::stays_open, crate::proofs::TextScanLemmas::ends_within, crate::proofs::TextScanLemmas::stops_at_end))]
-    pub(super) fn take_text<G: Gate>(&mut self, gate: &G, piece: &[u8]) -> TextStep
+    /// Takes bytes of the open text: as many as are left of it, or all of the piece.
+    #[tactic(auto, using(crate::proofs::TextScanLemmas::text_stops, crate::proofs::TextScanLemmas::text_stays_open, crate::proofs::TextScanLemmas::text_ends))]
+    pub(super) fn take_text<G: Gate>(&mut self, gate: &G, piece: &[u8]) -> Taken
         requires phase { self.old.phase ≡ Phase.Text }
         requires some { 0 < length piece.now }
         requires room { self.old.meter.at + length piece.now < 2 ^ 64 }
-        ensures { TakesText (G.told gate.now) piece.now result self.old self.new }
+        ensures { TakesFromFor (G.told gate.now) result piece.now self.old self.new }
     {
         let used = self.scan.left().min(piece.len() as u64) as usize;
         let (part, _) = piece.split_at(used);
-        if !self.scan_part(part) {
-            return TextStep::Stopped;
+        if let Some(count) = self.scan_part(part) {
+            return Taken::Stopped(count);
         }
         if self.scan.left() > 0 {
-            return TextStep::Open;
+            return Taken::Open;
         }
-        if self.text_done(gate) {
-            TextStep::Ended { used }
-        } else {
-            TextStep::Stopped
-        }
+        let goes_on = self.text_done(gate);
+        Taken::after(used.max(1), goes_on)
     }
 }

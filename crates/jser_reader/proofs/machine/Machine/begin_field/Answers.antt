@@ -1,4 +1,4 @@
-use Rattle.std.proofs.Common.{rules, ◌≡◌}
+use Rattle.std.proofs.Common.{rules}
 use Rattle.jser_reader.proofs.FieldLemmas.{begins_field}
 use Rattle.jser_reader.proofs.machine.Machine.begin_field.Goals as goal
 

@@ -1,4 +1,4 @@
-use Rattle.std.proofs.Common.{rules, ◌≡◌, Some, option_map}
+use Rattle.std.proofs.Common.{rules}
 use Rattle.jser_reader.proofs.FieldLemmas.{flags_fault, flags_go}
 use Rattle.jser_reader.proofs.machine.Machine.flags.Goals as goal
 

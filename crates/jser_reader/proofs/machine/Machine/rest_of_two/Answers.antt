@@ -1,13 +1,13 @@
 use Rattle.std.proofs.Common.{rules}
-use Rattle.jser_reader.proofs.CutLemmas.{two_is, rest_kept, rest_taken}
+use Rattle.jser_reader.proofs.CutLemmas.{two_is, rest_kept, rest_taken, number_for}
 use Rattle.jser_reader.proofs.machine.Machine.rest_of_two.Goals as goal
 
 pub returns-then-piece-missing : goal.returns-then-piece-missing
 returns-then-piece-missing c =
-    rest_kept 2 c.missing-missing.result c.args.piece.now c.args.self.now _ c.keep_more.ensures (two_is _ c.requires.two) c.requires.phase
+    λ gate. rest_kept gate 2 c.missing-missing.result c.args.piece.now c.args.self.now _ c.keep_more.ensures (two_is _ c.requires.two) c.requires.phase
     (search rules) c.requires.some c.if-piece-missing.true
 
 pub returns : goal.returns
 returns c =
-    rest_taken 2 c.two-n.result c.missing-missing.result _ _ c.args.piece.now c.split_at.result.0.now c.args.self.now _ c.end_two-goes_on.ensures c.after.ensures
+    λ gate. rest_taken gate 2 c.two-n.result c.missing-missing.result _ _ c.args.piece.now c.split_at.result.0.now c.args.self.now _ (number_for gate 2 _ _ _ _ _ c.end_two-goes_on.ensures) c.after.ensures
     c.requires.phase (search rules) (search rules) c.missing-missing.ensures.some c.if-piece-missing.false

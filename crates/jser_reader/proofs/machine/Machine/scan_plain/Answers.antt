@@ -9,5 +9,5 @@ returns-in-Ok c =
 
 pub returns-in-Err : goal.returns-in-Err
 returns-in-Err c =
-    plain_fault c.args.part.now c.in-Err.fault.accepted c.self.inside.scan _ c.args.self.now _ _ c.refuse.ensures.stops c.refuse.ensures.result
+    plain_fault c.args.part.now c.in-Err.fault.accepted c.self.inside.scan _ c.args.self.now _ _ c.refuse.ensures.stops refl
     (search rules) c.in-Err.ensures.within c.in-Err.ensures.fault (search rules)

@@ -1,0 +1,82 @@
+-- The length of a text, whole in a piece or cut.
+use Rattle.std.proofs.Common.{◌≡◌, ℕ, ◌+◌, ◌<◌, ◌≤◌, Bool, true, false, List, ◌++◌, length, take, sym, ◌∙◌, ap, subst, arith, length-append}
+use Rattle.std.proofs.lemmas.List.{length-take-le}
+use Rattle.jser_prim.specs.Bytes.{big_bytes}
+use Rattle.jser_reading.specs.FieldsFromBytes.{head_size}
+use Rattle.jser_verdict.specs.Gates.{Gate}
+use Rattle.jser_reader.specs.declared.machine.take_texts.Progress.{Progress}
+use Rattle.jser_reader.specs.declared.machine.take_texts.Progress.TheVariants as progress
+use Rattle.jser_reader.specs.declared.machine.taken.Taken.{Taken}
+use Rattle.jser_reader.specs.declared.machine.taken.Taken.TheVariants as taken
+use Rattle.jser_reader.specs.declared.phase.Phase.TheVariants as phase
+use Rattle.jser_reader.specs.Readers.{Seen, length_phase}
+use Rattle.jser_reader.specs.Walks.{size_of_phase, open_phase, cut_of, Keeps}
+use Rattle.jser_reader.specs.Takes.{CutsOff, TakesFromFor, lent_by}
+use Rattle.jser_reader.specs.TextTakes.{TakesLength, ProgressCases, by_progress}
+use Rattle.jser_reader.proofs.PhaseLemmas.{whole_open, cut_open}
+use Rattle.jser_reader.proofs.CutLemmas.{first_kept, rest_kept, length_number}
+use Rattle.jser_reader.proofs.ReaderLemmas.{take_whole}
+
+-- it came, whole or after what was kept of it
+length_came : (gate : Gate) (size n count : ℕ) (p : Progress) (result : Taken) (piece : List ℕ) (old new : Seen) → TakesLength gate size n count p old new
+    → result ≡ by_progress count p → 0 < count → count ≤ length piece → big_bytes size n ≡ cut_of old ++ take count piece
+    → TakesFromFor gate result piece old new
+unfolding TakesLength TakesFromFor
+length_came gate size n count p result piece old new h er some within spelled =
+    subst (λ r. TakesFromFor gate r piece old new) (sym er) (go p (h (take count piece) (length-take-le count piece within) spelled))
+  where
+    go : (p : Progress) → ProgressCases gate (take count piece) p old new → TakesFromFor gate (by_progress count p) piece old new
+    go progress.Open k = (some, within, k)
+    go progress.Ended k = (some, within, k)
+    go progress.Stopped k = (some, within, k)
+
+-- a length that comes next
+
+pub short_kept : (gate : Gate) (piece : List ℕ) (old new : Seen) → CutsOff piece old new → old.phase ≡ phase.Length2 → 0 < length piece → length piece < 2
+    → TakesFromFor gate taken.Open piece old new
+short_kept gate piece old new c e some short = first_kept gate 2 piece old new c (rw e (length_number false)) some short
+
+pub short_taken : (gate : Gate) (n : ℕ) (p : Progress) (result : Taken) (piece number : List ℕ) (old new : Seen) → TakesLength gate 2 n 2 p old new
+    → result ≡ by_progress 2 p → old.phase ≡ phase.Length2 → big_bytes 2 n ≡ number → number ≡ take 2 piece → 2 ≤ length piece
+    → TakesFromFor gate result piece old new
+short_taken gate n p result piece number old new h er e spelled en long =
+    let w = whole_open phase.Length2 old e (omega arith) in
+    length_came gate 2 n 2 p result piece old new h er (omega arith) long (spelled ∙ en ∙ sym (ap (λ xs. xs ++ take 2 piece) w.1))
+
+pub long_kept : (gate : Gate) (piece : List ℕ) (old new : Seen) → CutsOff piece old new → old.phase ≡ phase.Length8 → 0 < length piece → length piece < 8
+    → TakesFromFor gate taken.Open piece old new
+long_kept gate piece old new c e some short = first_kept gate 8 piece old new c (rw e (length_number true)) some short
+
+pub long_taken : (gate : Gate) (n : ℕ) (p : Progress) (result : Taken) (piece number : List ℕ) (old new : Seen) → TakesLength gate 8 n 8 p old new
+    → result ≡ by_progress 8 p → old.phase ≡ phase.Length8 → big_bytes 8 n ≡ number → number ≡ take 8 piece → 8 ≤ length piece
+    → TakesFromFor gate result piece old new
+long_taken gate n p result piece number old new h er e spelled en long =
+    let w = whole_open phase.Length8 old e (omega arith) in
+    length_came gate 8 n 8 p result piece old new h er (omega arith) long (spelled ∙ en ∙ sym (ap (λ xs. xs ++ take 8 piece) w.1))
+
+-- a length that was cut
+
+pub rest_of_length_kept : (gate : Gate) (long : Bool) (missing : ℕ) (piece : List ℕ) (old new : Seen) → CutsOff piece old new
+    → old.meter.cut_phase ≡ length_phase long → old.phase ≡ phase.Cut → length old.meter.kept + missing ≡ size_of_phase old.meter.cut_phase
+    → 0 < length piece → length piece < missing → TakesFromFor gate taken.Open piece old new
+rest_of_length_kept gate long missing piece old new c el e all some short =
+    rest_kept gate (head_size long) missing piece old new c (rw el (length_number long)) e all some short
+
+pub rest_of_length_taken : (gate : Gate) (size n missing : ℕ) (p : Progress) (result : Taken) (piece last : List ℕ) (old new : Seen)
+    → TakesLength gate size n missing p old new → result ≡ by_progress missing p → old.phase ≡ phase.Cut
+    → big_bytes size n ≡ old.meter.kept ++ last → last ≡ take missing piece → 0 < missing → missing ≤ length piece
+    → TakesFromFor gate result piece old new
+rest_of_length_taken gate size n missing p result piece last old new h er e spelled el some long =
+    let w = cut_open old e in
+    length_came gate size n missing p result piece old new h er some long
+    (spelled ∙ ap (λ xs. old.meter.kept ++ xs) el ∙ sym (ap (λ xs. xs ++ take missing piece) w.1))
+
+-- ---- bytes that are lent
+
+pub lends : (gate : Gate) (result : Taken) (piece : List ℕ) (old new : Seen) → TakesFromFor gate result piece old new → 0 < length piece
+    → TakesFromFor gate (lent_by result (length piece)) piece old new
+unfolding TakesFromFor
+lends gate (taken.Ended n) piece old new h some = h
+lends gate (taken.Stopped n) piece old new h some = h
+lends gate (taken.Part n) piece old new h some = h
+lends gate taken.Open piece old new h some = (some, omega arith, subst (λ xs. Keeps gate xs old new) (sym (take_whole piece)) h)

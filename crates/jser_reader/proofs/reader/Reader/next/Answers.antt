@@ -1,0 +1,31 @@
+use Rattle.std.proofs.Common.{rules, arith, subst, Err}
+use Rattle.jser_reader.specs.ReaderStates.{NextTells}
+use Rattle.jser_reader.specs.States.{AnswersStop}
+use Rattle.jser_reader.proofs.ReaderLemmas.{all_bytes}
+use Rattle.jser_reader.proofs.NextLemmas.{stopped_tells, stays_stopped, next_none, not_stopped, next_full}
+use Rattle.jser_reader.proofs.reader.Reader.next.Goals as goal
+
+pub returns-then-is_stopped-clause-tells : goal.returns-then-is_stopped-clause-tells
+returns-then-is_stopped-clause-tells g c = stopped_tells _ c.answer.result _ _ _ (search rules)
+
+pub returns-then-is_stopped-clause-stays : goal.returns-then-is_stopped-clause-stays
+returns-then-is_stopped-clause-stays g c =
+    stays_stopped _ c.answer.result _ _ (search rules) (subst (λ r. AnswersStop c.answer.result r.machine c.answer.new.self) c.self.view_is c.answer.ensures)
+
+pub returns-then-is_empty-clause-tells : goal.returns-then-is_empty-clause-tells
+returns-then-is_empty-clause-tells g c = next_none c.args.piece.now _ _ _ (search rules) (search rules)
+
+pub returns-then-is_empty-clause-stays : goal.returns-then-is_empty-clause-stays
+returns-then-is_empty-clause-stays g c = not_stopped _ _ _ (search rules)
+
+pub returns-then-is_empty-2-clause-tells : goal.returns-then-is_empty-2-clause-tells
+returns-then-is_empty-2-clause-tells g c =
+    subst (λ r. NextTells (g.G.Gate.told r.gate) c.args.piece.now (Err c.exceed.result) r.machine c.exceed.new.self) c.self.view_is
+    (next_full c.exceed.result c.args.piece.now c.within-front.result.now _ _ _ c.within-front.ensures (all_bytes c.args.piece.now (λ k. omega (arith, c.type_inv.piece k)))
+    (search rules) (search rules) c.exceed.ensures (search rules))
+
+pub returns-then-is_empty-2-clause-stays : goal.returns-then-is_empty-2-clause-stays
+returns-then-is_empty-2-clause-stays g c = not_stopped _ _ _ (search rules)
+
+pub returns-clause-stays : goal.returns-clause-stays
+returns-clause-stays g c = not_stopped _ _ _ (search rules)

@@ -1,0 +1,145 @@
+//! The reader: a stream in pieces of any sizes, field by field.
+ghost use Rattle.std.specs.Prelude.{◌≡◌, ◌<◌, ◌≤◌, [], length};
+ghost use Rattle.jser_reader.specs.ReaderStates.{IsItem, StandsFor, NextTells, StaysStopped, FinishTells};
+ghost use Rattle.jser_reader.specs.States.{IsWithin};
+
+use crate::gate::Gate;
+use crate::item::{Step, Totals};
+use crate::machine::items::{Kept, item_of};
+use crate::machine::taken::Taken;
+use crate::machine::{Limits, Machine};
+use crate::phase::Phase;
+use crate::refusal::Stop;
+use std::alloc::Global;
+use std::marker::Model;
+
+/// The item that so many bytes of a piece give, of a field of which others were kept.
+fn lend<'p>(field: Phase, kept: Kept, front: &'p [u8], used: usize) -> Step<'p>
+    requires { used ≤ length front.now }
+    ensures { IsItem used result }
+{
+    let (part, _) = front.split_at(used);
+    Step::Item {
+        item: item_of(field, kept, part),
+        used,
+    }
+}
+
+/// Takes a Java object serialization stream in pieces of any sizes, and lends its fields one by one.
+///
+/// It keeps no tree and no text but the one class name that is being read. What it allocates is the table of handles
+/// and the stack of what is open.
+#[derive(Drop)]
+pub struct Reader<G: Gate> {
+    gate: G,
+    machine: Machine,
+}
+
+impl<G: Gate> Model for Reader<G> {
+    ghost use Rattle.jser_reader.specs.ReaderStates.{Reading};
+
+    ghost Value = { Reading G };
+
+    ghost view = { λ a. record { gate = a.gate; machine = a.machine } };
+}
+
+impl<G: Gate> Reader<G> {
+    /// A reader that has taken nothing, under this gate. Takes no memory.
+    pub fn new(alloc: Global, gate: G) -> Reader<G>
+        ensures gate { result.gate ≡ gate }
+        ensures stands { StandsFor (G.told gate) [] result.machine }
+    {
+        let limits = Limits {
+            bytes: gate.max_bytes(),
+            depth: gate.max_depth(),
+            refs: gate.max_refs(),
+            array: gate.max_array(),
+        };
+        let machine = Machine::new(alloc, limits, gate.max_handles());
+        Reader { gate, machine }
+    }
+
+    /// Takes some of the front of the piece, which is not empty and within the limit.
+    #[tactic(auto, using(crate::proofs::NextLemmas::is_taken, crate::proofs::NextLemmas::is_part))]
+    fn step<'p>(&mut self, piece: &'p [u8], front: &'p [u8]) -> Result<Step<'p>, Stop>
+        requires within { IsWithin self.old.machine piece.now front.now }
+        requires some { 0 < length front.now }
+        requires goes_on { self.old.machine.phase ≡ Phase.Stopped → ⊥ }
+        ensures tells { NextTells (G.told self.old.gate) piece.now result self.old.machine self.new.machine }
+        ensures gate { self.new.gate ≡ self.old.gate }
+    {
+        let field = self.machine.field();
+        let kept = self.machine.kept();
+        match self.machine.take(&self.gate, front) {
+            Taken::Ended(used) => Ok(lend(field, kept, front, used)),
+            Taken::Part(used) => Ok(lend(field, kept, front, used)),
+            Taken::Stopped(_) => Err(self.machine.answer()),
+            Taken::Open => {
+                if front.len() < piece.len() {
+                    return Err(self.machine.exceed());
+                }
+                Ok(Step::More)
+            }
+        }
+    }
+
+    /// The next item, from the front of the piece, or more bytes are wanted.
+    ///
+    /// # Errors
+    ///
+    /// `Refused` where the bytes up to one of the piece are refused: it was taken, and none after it. `OutOfMemory`
+    /// where memory ran out. `Spent` after `OutOfMemory`, and after `finish` answered Ok. After `Refused` each call
+    /// answers the same refusal.
+    #[inline(always)]
+    pub fn next<'p>(&mut self, piece: &'p [u8]) -> Result<Step<'p>, Stop>
+        ensures tells { NextTells (G.told self.old.gate) piece.now result self.old.machine self.new.machine }
+        ensures stays { StaysStopped result self.old.machine self.new.machine }
+        ensures gate { self.new.gate ≡ self.old.gate }
+    {
+        if self.machine.is_stopped() {
+            return Err(self.machine.answer());
+        }
+        if piece.is_empty() {
+            return Ok(Step::More);
+        }
+        let front = self.machine.within(piece);
+        if front.is_empty() {
+            return Err(self.machine.exceed());
+        }
+        self.step(piece, front)
+    }
+
+    /// The end of the input.
+    ///
+    /// # Errors
+    ///
+    /// `Refused` as `Truncated` where the stream has not ended; else as `next`, but never `OutOfMemory`.
+    pub fn finish(&mut self) -> Result<Totals, Stop>
+        ensures tells { FinishTells (G.told self.old.gate) result self.old.machine self.new.machine }
+        ensures stays { StaysStopped result self.old.machine self.new.machine }
+        ensures gate { self.new.gate ≡ self.old.gate }
+    {
+        if self.machine.is_stopped() {
+            return Err(self.machine.answer());
+        }
+        if !self.machine.is_at_top() {
+            return Err(self.machine.truncate());
+        }
+        let totals = Totals {
+            bytes: self.machine.taken(),
+            contents: 0,
+            refs: 0,
+            depth: 0,
+            handles: 0,
+        };
+        self.machine.end();
+        Ok(totals)
+    }
+
+    /// How many frames are open: arrays, objects and descriptors.
+    pub fn open_frames(&self) -> u64
+        ensures { result ≡ length self.now.machine.frames }
+    {
+        self.machine.depth() as u64
+    }
+}
