@@ -36,3 +36,8 @@ pub mod AnswerLemmas
 pub mod ReaderLemmas
 pub mod NextLemmas
 pub mod LengthLemmas
+pub mod SkipLemmas
+pub mod GoalCounts
+pub mod MarkLemmas
+pub mod CountLemmas
+pub mod TotalLemmas

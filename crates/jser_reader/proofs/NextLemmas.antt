@@ -16,16 +16,21 @@ use Rattle.jser_reader.specs.declared.refusal.Stop.{Stop}
 use Rattle.jser_reader.specs.declared.refusal.Stop.TheVariants as stop
 use Rattle.jser_reader.specs.Readers.{Seen}
 use Rattle.jser_reader.specs.Handlers.{StopsWith, refusal}
-use Rattle.jser_reader.specs.Walks.{HasTaken, Takes, Keeps, StandsAt}
+use Rattle.jser_reader.specs.declared.machine.Limits.{Limits as MachineLimits}
+use Rattle.jser_reader.specs.Walks.{IsNew, gate_with, HasTaken, Takes, Keeps, StandsAt}
+use Rattle.jser_reader.specs.declared.tally.Tally.{Tally}
+use Rattle.jser_reader.specs.Tallies.{no_tally, mark_of, tally_after, HasCounted, totals_of, AreTotals}
 use Rattle.jser_reader.specs.Takes.{TakenCases, TakesFromFor}
 use Rattle.jser_reader.specs.declared.machine.taken.Taken.{Taken}
 use Rattle.jser_reader.specs.declared.machine.taken.Taken.TheVariants as taken
-use Rattle.jser_reader.specs.States.{IsWithin, AnswersStop, stop_after, exceeded}
-use Rattle.jser_reader.specs.ReaderStates.{IsItem, StandsFor, HasRefused, IsSpent, NextCases, NextTells, StaysStopped, FinishCases, FinishTells}
+use Rattle.jser_reader.specs.States.{HasLimits, IsWithin, AnswersStop, stop_after, exceeded}
+use Rattle.jser_reader.specs.ReaderStates.{IsItem, HasProgress, StandsFor, HasRefused, IsSpent, NextCases, NextTells, StaysStopped, FinishCases, FinishTells}
 use Rattle.jser_reader.specs.Streams.{AreRefused, AreTruncated}
 use Rattle.jser_reader.proofs.JoinLemmas.{kept_none}
 use Rattle.jser_reader.proofs.StreamWalks.{MayEnd, ends_at_top, ends_only_at_top}
-use Rattle.jser_reader.proofs.AnswerLemmas.{passes, truncates}
+use Rattle.jser_reader.proofs.AnswerLemmas.{truncates}
+use Rattle.jser_reader.proofs.CountLemmas.{new_counts, counts_within}
+use Rattle.jser_reader.proofs.TotalLemmas.{field_counts, goes_on_counts, finish_totals}
 use Rattle.jser_reader.proofs.ReaderLemmas.{field_ends, field_goes_on, field_stops, never_spent, has_stopped, over, limit_is, take_whole}
 
 -- ---- items, and more bytes
@@ -38,91 +43,107 @@ pub is_part : (gate : Gate) (used : ℕ) (took : Taken) (front : List ℕ) (old 
 unfolding TakesFromFor
 is_part gate used took front old new h e = (subst (λ x. TakenCases gate x front old new) e h).1
 
-pub next_item : (result : Step) (used : ℕ) (piece front : List ℕ) (gate : Gate) (old new : Seen) → IsWithin old piece front → IsBytes piece → 0 < used
-    → used ≤ length front → Takes gate (take used front) true old new → IsItem used result → NextTells gate piece (Ok result) old new
-unfolding NextTells StandsFor
-next_item step.More used piece front gate old new w h some le t i = absurd i
-next_item (step.Item item count) used piece front gate old new w h some le t i = λ bytes st.
-    let x = field_ends gate bytes piece front used old new w le h t st.0 st.1 in
-    let s = w.short in
-    (omega arith, omega arith, subst (λ n. HasTaken gate (bytes ++ take n piece) new × (length (bytes ++ take n piece) ≤ gate.bytes)) (sym i) x)
+-- the tally, where a field has ended
+abbrev pub CountsField : (old new : Seen) (before after : Tally) → Type 0
+CountsField old new before after =
+    before.contents + 1 < 2 ^ 64 → before.earlier + (mark_of old).entries < 2 ^ 64 → after ≡ tally_after (mark_of old) (mark_of new) before
 
-pub next_part : (result : Step) (used : ℕ) (piece front : List ℕ) (gate : Gate) (old new : Seen) → IsWithin old piece front → IsBytes piece → 0 < used
-    → used ≤ length front → Keeps gate (take used front) old new → IsItem used result → NextTells gate piece (Ok result) old new
+pub next_item : (result : Step) (used : ℕ) (piece front : List ℕ) (gate : Gate) (old new : Seen) (before after : Tally) → IsWithin old piece front → IsBytes piece → 0 < used
+    → used ≤ length front → Takes gate (take used front) true old new → CountsField old new before after → IsGate gate → IsItem used result
+    → NextTells gate piece (Ok result) old before new after
 unfolding NextTells StandsFor
-next_part step.More used piece front gate old new w h some le t i = absurd i
-next_part (step.Item item count) used piece front gate old new w h some le t i = λ bytes st.
-    let x = field_goes_on gate bytes piece front used old new w le h t st.0 st.1 in
+next_item step.More used piece front gate old new before after w h some le t k g i = absurd i
+next_item (step.Item item count) used piece front gate old new before after w h some le t k g i = λ bytes st.
+    let x = field_counts gate bytes piece front used old new before w le h t st.0 st.1 in
     let s = w.short in
-    (omega arith, omega arith, subst (λ n. HasTaken gate (bytes ++ take n piece) new × (length (bytes ++ take n piece) ≤ gate.bytes)) (sym i) x)
+    let n = counts_within gate bytes old before st.0 in
+    let c = n.0 in
+    let e = n.1 in
+    let l = st.1 in
+    let cap = g.0 in
+    let same : after ≡ tally_after (mark_of old) (mark_of new) before = k (omega arith) (omega arith) in (
+      omega arith,
+      omega arith,
+      subst (λ n. HasCounted gate (bytes ++ take n piece) new after × (length (bytes ++ take n piece) ≤ gate.bytes)) (sym i)
+          (subst (λ a. HasCounted gate (bytes ++ take used piece) new a × (length (bytes ++ take used piece) ≤ gate.bytes)) (sym same) x),
+    )
 
-pub next_more : (piece front : List ℕ) (gate : Gate) (old new : Seen) → IsWithin old piece front → IsBytes piece → (length front < length piece → ⊥)
-    → Keeps gate front old new → NextTells gate piece (Ok step.More) old new
+pub next_part : (result : Step) (used : ℕ) (piece front : List ℕ) (gate : Gate) (old new : Seen) (tally : Tally) → IsWithin old piece front → IsBytes piece → 0 < used
+    → used ≤ length front → Keeps gate (take used front) old new → IsItem used result → NextTells gate piece (Ok result) old tally new tally
 unfolding NextTells StandsFor
-next_more piece front gate old new w h long k = λ bytes st.
+next_part step.More used piece front gate old new tally w h some le t i = absurd i
+next_part (step.Item item count) used piece front gate old new tally w h some le t i = λ bytes st.
+    let x = goes_on_counts gate bytes piece front used old new tally w le h t st.0 st.1 in
+    let s = w.short in
+    (omega arith, omega arith, subst (λ n. HasCounted gate (bytes ++ take n piece) new tally × (length (bytes ++ take n piece) ≤ gate.bytes)) (sym i) x)
+
+pub next_more : (piece front : List ℕ) (gate : Gate) (old new : Seen) (tally : Tally) → IsWithin old piece front → IsBytes piece → (length front < length piece → ⊥)
+    → Keeps gate front old new → NextTells gate piece (Ok step.More) old tally new tally
+unfolding NextTells StandsFor
+next_more piece front gate old new tally w h long k = λ bytes st.
     let s = w.short in
     let n : length front ≡ length piece = omega arith in
     let t : take (length front) front ≡ front = take_whole front in
-    let x = field_goes_on gate bytes piece front (length front) old new w (omega arith) h (subst (λ xs. Keeps gate xs old new) (sym t) k) st.0 st.1 in
+    let x = goes_on_counts gate bytes piece front (length front) old new tally w (omega arith) h (subst (λ xs. Keeps gate xs old new) (sym t) k) st.0 st.1 in
     let e : take (length front) piece ≡ piece = ap (λ k. take k piece) n ∙ take_whole piece in
-    subst (λ xs. HasTaken gate (bytes ++ xs) new × (length (bytes ++ xs) ≤ gate.bytes)) e x
+    subst (λ xs. HasCounted gate (bytes ++ xs) new tally × (length (bytes ++ xs) ≤ gate.bytes)) e x
 
-pub next_none : (piece : List ℕ) (gate : Gate) (old new : Seen) → length piece ≡ 0 → new ≡ old → NextTells gate piece (Ok step.More) old new
+pub next_none : (piece : List ℕ) (gate : Gate) (r : Seen) (tally : Tally) → length piece ≡ 0 → NextTells gate piece (Ok step.More) r tally r tally
 unfolding NextTells
-next_none (b ∷ piece) gate old new e h = absurd (omega arith)
-next_none [] gate old new e h = λ bytes st. subst (λ r. StandsFor gate (bytes ++ []) r) (sym h) (subst (λ xs. StandsFor gate xs old) (sym (append-nil bytes)) st)
+next_none (b ∷ piece) gate r tally e = absurd (omega arith)
+next_none [] gate r tally e = λ bytes st. subst (λ xs. StandsFor gate xs r tally) (sym (append-nil bytes)) st
 
 -- ---- stops
 
 spent_after : (r : Seen) (why : Stop) → r.phase ≡ phase.Stopped → r.meter.stop ≡ stop_after why → why ≡ stop.OutOfMemory → (r.phase ≡ phase.Stopped) × (r.meter.stop ≡ stop.Spent)
 spent_after r why ep es e = (ep, es ∙ ap stop_after e)
 
-pub next_stops : (why : Stop) (used : ℕ) (piece front : List ℕ) (gate : Gate) (old mid new : Seen) → IsWithin old piece front → IsBytes piece → used ≤ length front
-    → Takes gate (take used front) false old mid → AnswersStop why mid new → NextTells gate piece (Err why) old new
+pub next_stops : (why : Stop) (used : ℕ) (piece front : List ℕ) (gate : Gate) (old mid new : Seen) (before after : Tally) → IsWithin old piece front → IsBytes piece → used ≤ length front
+    → Takes gate (take used front) false old mid → AnswersStop why mid new → NextTells gate piece (Err why) old before new after
 unfolding NextTells StandsFor HasRefused IsSpent
-next_stops why used piece front gate old mid new w h le t a = λ bytes st. go bytes st why refl
+next_stops why used piece front gate old mid new before after w h le t a = λ bytes st. go bytes st.0.taken st.1 why refl
   where
-    go : (bytes : List ℕ) → HasTaken gate bytes old × (length bytes ≤ gate.bytes) → (y : Stop) → why ≡ y → NextCases gate bytes piece (Err y) new
-    go bytes st (stop.Refused refusal) e =
+    go : (bytes : List ℕ) → HasTaken gate bytes old → length bytes ≤ gate.bytes → (y : Stop) → why ≡ y → NextCases gate bytes piece (Err y) new after
+    go bytes st room (stop.Refused refusal) e =
         let es : mid.meter.stop ≡ stop.Refused refusal = sym a.is ∙ e in
-        let ep = has_stopped gate bytes (take used front) old mid t st.0 in
-        let x = field_stops gate bytes piece front used refusal old mid w le h t st.0 st.1 es in
+        let ep = has_stopped gate bytes (take used front) old mid t st in
+        let x = field_stops gate bytes piece front used refusal old mid w le h t st room es in
         let s = w.short in
         (used, omega arith, x, (a.phase ∙ ep, a.stop_is ∙ ap stop_after es))
-    go bytes st stop.OutOfMemory e =
+    go bytes st room stop.OutOfMemory e =
         let es : mid.meter.stop ≡ stop.OutOfMemory = sym a.is ∙ e in
-        let ep = has_stopped gate bytes (take used front) old mid t st.0 in
+        let ep = has_stopped gate bytes (take used front) old mid t st in
         spent_after new mid.meter.stop (a.phase ∙ ep) a.stop_is es
-    go bytes st stop.Spent e = never_spent gate bytes (take used front) old mid t st.0 (sym a.is ∙ e)
+    go bytes st room stop.Spent e = never_spent gate bytes (take used front) old mid t st (sym a.is ∙ e)
 
 -- the limit was reached, and the piece has a byte more
-pub next_over : (why : Stop) (piece front : List ℕ) (gate : Gate) (old mid new : Seen) → IsWithin old piece front → IsBytes piece → length front < length piece
+pub next_over : (why : Stop) (piece front : List ℕ) (gate : Gate) (old mid new : Seen) (before after : Tally) → IsWithin old piece front → IsBytes piece → length front < length piece
     → Keeps gate front old mid
     → (mid.meter.at + 1 < 2 ^ 64 → (why ≡ exceeded mid.meter) × StopsWith (exceeded mid.meter) mid new)
-    → IsGate gate → NextTells gate piece (Err why) old new
+    → IsGate gate → NextTells gate piece (Err why) old before new after
 unfolding NextTells StandsFor HasRefused
-next_over why piece front gate old mid new w h more k x g = λ bytes st.
+next_over why piece front gate old mid new before after w h more k x g = λ bytes st.
     let t : take (length front) front ≡ front = take_whole front in
-    let y = field_goes_on gate bytes piece front (length front) old mid w (omega arith) h (subst (λ xs. Keeps gate xs old mid) (sym t) k) st.0 st.1 in
+    let y = field_goes_on gate bytes piece front (length front) old mid w (omega arith) h (subst (λ xs. Keeps gate xs old mid) (sym t) k) st.0.taken st.1 in
     let full = w.full more in
     let at = y.0.taken in
     let cap = g.0 in
     let le = y.1 in
-    let m = limit_is gate bytes old st.0 in
-    let a = st.0.taken in
+    let m = limit_is gate bytes old st.0.taken in
+    let a = st.0.taken.taken in
     let n = length-append bytes (take (length front) piece) in
     let j = length-take-le (length front) piece w.short in
     let z = x (omega arith) in
     let told : Refusal = record { from_byte = mid.meter.from; to_byte = mid.meter.at + 1; reason = reason.BytesExceeded } in
     let refused = over gate bytes piece (length front) mid y.0 more (omega arith) h told refl in
-    subst (λ s. NextCases gate bytes piece (Err s) new) (sym z.0)
+    subst (λ s. NextCases gate bytes piece (Err s) new after) (sym z.0)
     (suc (length front), omega arith, refused, (z.1.phase, z.1.stop))
 
-pub next_full : (why : Stop) (piece front : List ℕ) (gate : Gate) (old new : Seen) → IsWithin old piece front → IsBytes piece → length front ≡ 0 → 0 < length piece
+pub next_full : (why : Stop) (piece front : List ℕ) (gate : Gate) (old new : Seen) (before after : Tally) → IsWithin old piece front → IsBytes piece → length front ≡ 0 → 0 < length piece
     → (old.meter.at + 1 < 2 ^ 64 → (why ≡ exceeded old.meter) × StopsWith (exceeded old.meter) old new)
-    → IsGate gate → NextTells gate piece (Err why) old new
-next_full why piece front gate old new w h none some x g =
-    next_over why piece front gate old old new w h (omega arith) (no_bytes_kept front none) x g
+    → IsGate gate → NextTells gate piece (Err why) old before new after
+next_full why piece front gate old new before after w h none some x g =
+    next_over why piece front gate old old new before after w h (omega arith) (no_bytes_kept front none) x g
   where
     no_bytes_kept : (xs : List ℕ) → length xs ≡ 0 → Keeps gate xs old old
     no_bytes_kept [] e = kept_none gate old
@@ -130,44 +151,67 @@ next_full why piece front gate old new w h none some x g =
 
 -- ---- the same of what came of a piece
 
-pub step_item : (result : Step) (used : ℕ) (took : Taken) (piece front : List ℕ) (gate : Gate) (old new : Seen) → TakesFromFor gate took front old new
-    → took ≡ taken.Ended used → IsWithin old piece front → IsBytes piece → IsItem used result → NextTells gate piece (Ok result) old new
+pub step_item : (result : Step) (used : ℕ) (took : Taken) (piece front : List ℕ) (gate : Gate) (old new : Seen) (before after : Tally) → TakesFromFor gate took front old new
+    → took ≡ taken.Ended used → CountsField old new before after → IsGate gate → IsWithin old piece front → IsBytes piece → IsItem used result
+    → NextTells gate piece (Ok result) old before new after
 unfolding TakesFromFor
-step_item result used took piece front gate old new k e w h i =
-    let t = subst (λ x. TakenCases gate x front old new) e k in next_item result used piece front gate old new w h t.0 t.1 t.2 i
+step_item result used took piece front gate old new before after k e c g w h i =
+    let t = subst (λ x. TakenCases gate x front old new) e k in next_item result used piece front gate old new before after w h t.0 t.1 t.2 c g i
 
-pub step_part : (result : Step) (used : ℕ) (took : Taken) (piece front : List ℕ) (gate : Gate) (old new : Seen) → TakesFromFor gate took front old new
-    → took ≡ taken.Part used → IsWithin old piece front → IsBytes piece → IsItem used result → NextTells gate piece (Ok result) old new
+pub step_part : (result : Step) (used : ℕ) (took : Taken) (piece front : List ℕ) (gate : Gate) (old new : Seen) (tally : Tally) → TakesFromFor gate took front old new
+    → took ≡ taken.Part used → IsWithin old piece front → IsBytes piece → IsItem used result → NextTells gate piece (Ok result) old tally new tally
 unfolding TakesFromFor
-step_part result used took piece front gate old new k e w h i =
-    let t = subst (λ x. TakenCases gate x front old new) e k in next_part result used piece front gate old new w h t.0 t.1 t.2 i
+step_part result used took piece front gate old new tally k e w h i =
+    let t = subst (λ x. TakenCases gate x front old new) e k in next_part result used piece front gate old new tally w h t.0 t.1 t.2 i
 
-pub step_more : (took : Taken) (piece front : List ℕ) (gate : Gate) (old new : Seen) → TakesFromFor gate took front old new → took ≡ taken.Open → IsWithin old piece front → IsBytes piece
-    → (length front < length piece → ⊥) → NextTells gate piece (Ok step.More) old new
+pub step_more : (took : Taken) (piece front : List ℕ) (gate : Gate) (old new : Seen) (tally : Tally) → TakesFromFor gate took front old new → took ≡ taken.Open → IsWithin old piece front → IsBytes piece
+    → (length front < length piece → ⊥) → NextTells gate piece (Ok step.More) old tally new tally
 unfolding TakesFromFor
-step_more took piece front gate old new k e w h long = next_more piece front gate old new w h long (subst (λ x. TakenCases gate x front old new) e k)
+step_more took piece front gate old new tally k e w h long = next_more piece front gate old new tally w h long (subst (λ x. TakenCases gate x front old new) e k)
 
-pub step_stops : (why : Stop) (used : ℕ) (took : Taken) (piece front : List ℕ) (gate : Gate) (old mid new : Seen) → TakesFromFor gate took front old mid
-    → took ≡ taken.Stopped used → AnswersStop why mid new → IsWithin old piece front → IsBytes piece → NextTells gate piece (Err why) old new
+pub step_stops : (why : Stop) (used : ℕ) (took : Taken) (piece front : List ℕ) (gate : Gate) (old mid new : Seen) (before after : Tally) → TakesFromFor gate took front old mid
+    → took ≡ taken.Stopped used → AnswersStop why mid new → IsWithin old piece front → IsBytes piece → NextTells gate piece (Err why) old before new after
 unfolding TakesFromFor
-step_stops why used took piece front gate old mid new k e a w h =
-    let t = subst (λ x. TakenCases gate x front old mid) e k in next_stops why used piece front gate old mid new w h t.1 t.2 a
+step_stops why used took piece front gate old mid new before after k e a w h =
+    let t = subst (λ x. TakenCases gate x front old mid) e k in next_stops why used piece front gate old mid new before after w h t.1 t.2 a
 
-pub step_over : (why : Stop) (took : Taken) (piece front : List ℕ) (gate : Gate) (old mid new : Seen) → TakesFromFor gate took front old mid
+pub step_over : (why : Stop) (took : Taken) (piece front : List ℕ) (gate : Gate) (old mid new : Seen) (before after : Tally) → TakesFromFor gate took front old mid
     → took ≡ taken.Open → (mid.meter.at + 1 < 2 ^ 64 → (why ≡ exceeded mid.meter) × StopsWith (exceeded mid.meter) mid new)
-    → IsWithin old piece front → IsBytes piece → length front < length piece → IsGate gate → NextTells gate piece (Err why) old new
+    → IsWithin old piece front → IsBytes piece → length front < length piece → IsGate gate → NextTells gate piece (Err why) old before new after
 unfolding TakesFromFor
-step_over why took piece front gate old mid new k e x w h more g = next_over why piece front gate old mid new w h more (subst (λ x. TakenCases gate x front old mid) e k) x g
+step_over why took piece front gate old mid new before after k e x w h more g = next_over why piece front gate old mid new before after w h more (subst (λ x. TakenCases gate x front old mid) e k) x g
+
+pub item_progress : (result : Step) (used : ℕ) (took : Taken) (piece front : List ℕ) (gate : Gate) (old new : Seen) → TakesFromFor gate took front old new
+    → took ≡ taken.Ended used → IsWithin old piece front → IsItem used result → HasProgress piece result
+unfolding TakesFromFor
+item_progress step.More used took piece front gate old new k e w i = absurd i
+item_progress (step.Item item count) used took piece front gate old new k e w i =
+    let t = subst (λ x. TakenCases gate x front old new) e k in
+    let some = t.0 in
+    let le = t.1 in
+    let s = w.short in
+    (omega arith, omega arith)
+
+pub part_progress : (result : Step) (used : ℕ) (took : Taken) (piece front : List ℕ) (gate : Gate) (old new : Seen) → TakesFromFor gate took front old new
+    → took ≡ taken.Part used → IsWithin old piece front → IsItem used result → HasProgress piece result
+unfolding TakesFromFor
+part_progress step.More used took piece front gate old new k e w i = absurd i
+part_progress (step.Item item count) used took piece front gate old new k e w i =
+    let t = subst (λ x. TakenCases gate x front old new) e k in
+    let some = t.0 in
+    let le = t.1 in
+    let s = w.short in
+    (omega arith, omega arith)
 
 -- ---- a reader that has stopped
 
-no_bytes : (gate : Gate) (bytes : List ℕ) (r : Seen) → r.phase ≡ phase.Stopped → StandsFor gate bytes r → ⊥
+pub no_bytes : (gate : Gate) (bytes : List ℕ) (r : Seen) (tally : Tally) → r.phase ≡ phase.Stopped → StandsFor gate bytes r tally → ⊥
 unfolding StandsFor
-no_bytes gate bytes r e st = subst (λ p. StandsAt p r (settled (left begin_state st.0.fields)) st.0.cut) e st.0.stands.stands
+no_bytes gate bytes r tally e st = subst (λ p. StandsAt p r (settled (left begin_state st.0.taken.fields)) st.0.taken.cut) e st.0.taken.stands.stands
 
-pub stopped_tells : (piece : List ℕ) (why : Stop) (gate : Gate) (old new : Seen) → old.phase ≡ phase.Stopped → NextTells gate piece (Err why) old new
+pub stopped_tells : (piece : List ℕ) (why : Stop) (gate : Gate) (old new : Seen) (before after : Tally) → old.phase ≡ phase.Stopped → NextTells gate piece (Err why) old before new after
 unfolding NextTells
-stopped_tells piece why gate old new e = λ bytes st. absurd (no_bytes gate bytes old e st)
+stopped_tells piece why gate old new before after e = λ bytes st. absurd (no_bytes gate bytes old before e st)
 
 pub stays_stopped : (A : Type 0) (why : Stop) (old new : Seen) → old.phase ≡ phase.Stopped → AnswersStop why old new
     → StaysStopped {A = A} (Err why) old new
@@ -183,27 +227,42 @@ not_stopped result old new n = (λ refusal h. absurd (n h.0), λ h. absurd (n h.
 
 -- ---- the end
 
-pub finish_accepts : (totals : Totals) (gate : Gate) (old new : Seen) → old.phase ≡ phase.Top → StopsWith stop.Spent old new → FinishTells gate (Ok totals) old new
+pub finish_accepts : (totals : Totals) (gate : Gate) (old new : Seen) (tally : Tally) → old.phase ≡ phase.Top → StopsWith stop.Spent old new
+    → (tally.earlier + length old.table.entries < 2 ^ 64 → totals ≡ totals_of old tally) → IsGate gate
+    → FinishTells gate (Ok totals) old tally new
 unfolding FinishTells StandsFor IsSpent
-finish_accepts totals gate old new e h = λ bytes st.
-    let d = ends_at_top gate old (settled (left begin_state st.0.fields)) st.0.cut st.0.stands e in
-    let w = st.0.walked ∙ ap (λ c. ended (left begin_state st.0.fields) c) d.1 in
-    let x = passes gate bytes (left begin_state st.0.fields) st.0.all_bytes st.1 w d.0 in
-    ((x.0, x.1), (h.phase, h.stop))
+finish_accepts totals gate old new tally e h is g = λ bytes st.
+    let x = finish_totals gate bytes old tally st.0 st.1 e in
+    let n = counts_within gate bytes old tally st.0 in
+    let l = st.1 in
+    let cap = g.0 in
+    let a = n.1 in
+    ((x.0, x.1, subst (λ t. AreTotals bytes x.0 t) (sym (is (omega arith))) x.2), (h.phase, h.stop))
 
-pub finish_truncates : (why : Stop) (gate : Gate) (old new : Seen) → (old.phase ≡ phase.Top → ⊥)
+pub finish_truncates : (why : Stop) (gate : Gate) (old new : Seen) (tally : Tally) → (old.phase ≡ phase.Top → ⊥)
     → why ≡ stop.Refused (record { from_byte = old.meter.from; to_byte = old.meter.at; reason = reason.Truncated })
-    → StopsWith (refusal old.meter reason.Truncated) old new → FinishTells gate (Err why) old new
+    → StopsWith (refusal old.meter reason.Truncated) old new → FinishTells gate (Err why) old tally new
 unfolding FinishTells StandsFor HasRefused
-finish_truncates why gate old new inside e h = λ bytes st.
-    let s = left begin_state st.0.fields in
-    let d = ends_only_at_top gate old (settled s) st.0.cut st.0.stands inside in
+finish_truncates why gate old new tally inside e h = λ bytes st.
+    let s = left begin_state st.0.taken.fields in
+    let d = ends_only_at_top gate old (settled s) st.0.taken.cut st.0.taken.stands inside in
     let told : Refusal = record { from_byte = old.meter.from; to_byte = old.meter.at; reason = reason.Truncated } in
-    let c = st.0.stands.counts in
-    let t = st.0.taken in
-    let x = truncates gate bytes st.0.cut s told st.0.all_bytes st.1 st.0.walked d refl (omega arith) (omega arith) in
+    let c = st.0.taken.stands.counts in
+    let t = st.0.taken.taken in
+    let x = truncates gate bytes st.0.taken.cut s told st.0.taken.all_bytes st.1 st.0.taken.walked d refl (omega arith) (omega arith) in
     subst (λ y. FinishCases gate bytes (Err y) new) (sym e) (x, (h.phase, h.stop))
 
-pub stopped_finishes : (why : Stop) (gate : Gate) (old new : Seen) → old.phase ≡ phase.Stopped → FinishTells gate (Err why) old new
+pub stopped_finishes : (why : Stop) (gate : Gate) (old new : Seen) (tally : Tally) → old.phase ≡ phase.Stopped → FinishTells gate (Err why) old tally new
 unfolding FinishTells
-stopped_finishes why gate old new e = λ bytes st. absurd (no_bytes gate bytes old e st)
+stopped_finishes why gate old new tally e = λ bytes st. absurd (no_bytes gate bytes old tally e st)
+
+-- ---- a new reader
+
+pub reader_begins : (gate : Gate) (limits : MachineLimits) (handles : ℕ) (r : Seen) → IsNew r → HasLimits limits handles r
+    → limits.bytes ≡ gate.bytes → limits.depth ≡ gate.depth → limits.refs ≡ gate.refs → limits.array ≡ gate.array → handles ≡ gate.handles
+    → StandsFor gate [] r no_tally
+unfolding StandsFor
+reader_begins gate limits handles r n l eb ed er ea eh =
+    let same : gate_with r gate.answer ≡ gate =
+    rw (l.bytes) (rw (l.depth) (rw (l.refs) (rw (l.array) (rw (l.handles_are) (rw eb (rw ed (rw er (rw ea (rw eh refl))))))))) in
+    (new_counts gate r n same, omega arith)

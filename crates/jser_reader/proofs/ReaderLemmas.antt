@@ -14,13 +14,11 @@ use Rattle.jser_reader.specs.declared.refusal.Stop.{Stop}
 use Rattle.jser_reader.specs.declared.refusal.Stop.TheVariants as stop
 use Rattle.jser_reader.specs.Readers.{Seen}
 use Rattle.jser_reader.specs.Handlers.{StopsWith}
-use Rattle.jser_reader.specs.declared.machine.Limits.{Limits as MachineLimits}
-use Rattle.jser_reader.specs.Walks.{IsNew, gate_with, HasTaken, Takes, Keeps, StopsFor}
-use Rattle.jser_reader.specs.States.{HasLimits, IsWithin, exceeded}
-use Rattle.jser_reader.specs.ReaderStates.{StandsFor}
+use Rattle.jser_reader.specs.Walks.{HasTaken, Takes, Keeps, StopsFor}
+use Rattle.jser_reader.specs.States.{IsWithin, exceeded}
 use Rattle.jser_reader.specs.Streams.{AreRefused}
 use Rattle.jser_reader.proofs.StandLemmas.{took_stands, kept_stands}
-use Rattle.jser_reader.proofs.StreamWalks.{new_stands, stop_stands}
+use Rattle.jser_reader.proofs.StreamWalks.{stop_stands}
 use Rattle.jser_reader.proofs.TextSteps.{take_last}
 use Rattle.jser_reader.proofs.AnswerLemmas.{refuses, exceeds}
 
@@ -36,10 +34,10 @@ pub take_whole : (xs : List ℕ) → take (length xs) xs ≡ xs
 take_whole [] = refl
 take_whole (x ∷ xs) = ap (λ ys. x ∷ ys) (take_whole xs)
 
-front_of_front : (r : Seen) (piece front : List ℕ) (n : ℕ) → IsWithin r piece front → n ≤ length front → take n front ≡ take n piece
+pub front_of_front : (r : Seen) (piece front : List ℕ) (n : ℕ) → IsWithin r piece front → n ≤ length front → take n front ≡ take n piece
 front_of_front r piece front n w h = ap (take n) w.is_front ∙ take_less n (length front) piece h
 
-bytes_front : (n : ℕ) (xs : List ℕ) → IsBytes xs → IsBytes (take n xs)
+pub bytes_front : (n : ℕ) (xs : List ℕ) → IsBytes xs → IsBytes (take n xs)
 bytes_front zero xs h = refl
 bytes_front (suc n) [] h = refl
 bytes_front (suc n) (x ∷ xs) h = go (nat_lt x 0x100) h (λ k. bytes_front n xs k)
@@ -131,14 +129,3 @@ over gate bytes piece k r st more le h refusal er =
 pub has_stopped : (gate : Gate) (bytes taken : List ℕ) (old new : Seen) → Takes gate taken false old new → HasTaken gate bytes old → new.phase ≡ phase.Stopped
 unfolding Takes
 has_stopped gate bytes taken old new h st = (h (left begin_state st.fields) st.cut st.stands).0
-
--- ---- a new reader
-
-pub reader_begins : (gate : Gate) (limits : MachineLimits) (handles : ℕ) (r : Seen) → IsNew r → HasLimits limits handles r
-    → limits.bytes ≡ gate.bytes → limits.depth ≡ gate.depth → limits.refs ≡ gate.refs → limits.array ≡ gate.array → handles ≡ gate.handles
-    → StandsFor gate [] r
-unfolding StandsFor
-reader_begins gate limits handles r n l eb ed er ea eh =
-    let same : gate_with r gate.answer ≡ gate =
-    rw (l.bytes) (rw (l.depth) (rw (l.refs) (rw (l.array) (rw (l.handles_are) (rw eb (rw ed (rw er (rw ea (rw eh refl))))))))) in
-    (new_stands gate r n same, omega arith)

@@ -163,7 +163,7 @@ judged gate told next found old mid new s cut taken h st c some u e leads =
 -- ---- the bytes that the machine stands for
 
 -- what ends the open field is a field that may come there
-field_read : (gate : Gate) (fields : List Piece) (bytes : List ℕ) (field : StreamField)
+pub field_read : (gate : Gate) (fields : List Piece) (bytes : List ℕ) (field : StreamField)
     → let l = label_of (settled (left begin_state fields)) in
     Runs begin_state fields → verdict gate l bytes ≡ good field → size_in l.position bytes ≡ length bytes → IsBytes bytes
     → (bytes ≡ bytes_of field) × Accepts l field
@@ -173,7 +173,7 @@ field_read gate fields bytes field r v e h =
     same_verdict gate l bytes (read_next fields l ((next_law fields l).1 (r, refl))) h (omega arith) in
     let g = (verdict_scans gate).good_is l bytes field (sym same ∙ v) in (g.0, g.1)
 
-pub took_stands : (gate : Gate) (old new : Seen) (bytes taken : List ℕ) → Takes gate taken true old new → IsBytes taken → HasTaken gate bytes old
+unfoldable pub took_stands : (gate : Gate) (old new : Seen) (bytes taken : List ℕ) → Takes gate taken true old new → IsBytes taken → HasTaken gate bytes old
     → HasTaken gate (bytes ++ taken) new
 unfolding Takes
 took_stands gate old new bytes taken h bt st =
@@ -204,7 +204,7 @@ took_stands gate old new bytes taken h bt st =
       all_bytes = all;
     }
 
-pub kept_stands : (gate : Gate) (old new : Seen) (bytes taken : List ℕ) → Keeps gate taken old new → IsBytes taken → HasTaken gate bytes old
+unfoldable pub kept_stands : (gate : Gate) (old new : Seen) (bytes taken : List ℕ) → Keeps gate taken old new → IsBytes taken → HasTaken gate bytes old
     → HasTaken gate (bytes ++ taken) new
 unfolding Keeps
 kept_stands gate old new bytes taken h bp st =

@@ -19,7 +19,7 @@ use Rattle.jser_reader.specs.Walks.{gate_with, StandsAt, Stands, HasTaken, StopT
 use Rattle.jser_reader.proofs.WalkLemmas.{walk_on}
 
 -- a new machine stands for no bytes
-pub new_stands : (gate : Gate) (r : Seen) → IsNew r → gate_with r gate.answer ≡ gate → HasTaken gate [] r
+unfoldable pub new_stands : (gate : Gate) (r : Seen) → IsNew r → gate_with r gate.answer ≡ gate → HasTaken gate [] r
 new_stands gate r n e =
     let a = n.at in
     let f = n.from in

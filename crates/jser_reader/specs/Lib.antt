@@ -1,4 +1,5 @@
 pub mod Walks
+pub mod Tallies
 pub mod Takes
 pub mod Cuts
 pub mod TextStates

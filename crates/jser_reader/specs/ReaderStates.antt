@@ -12,17 +12,19 @@ use Rattle.jser_reader.specs.declared.refusal.Stop.{Stop}
 use Rattle.jser_reader.specs.declared.refusal.Stop.TheVariants as stop
 use Rattle.jser_reader.specs.Readers.{Seen}
 use Rattle.jser_reader.specs.Streams.{AreRefused, AreTruncated}
-use Rattle.jser_reader.specs.Walks.{HasTaken}
+use Rattle.jser_reader.specs.declared.tally.Tally.{Tally}
+use Rattle.jser_reader.specs.Tallies.{HasCounted, AreTotals}
 
--- What the contracts of a reader see of it: its gate, and its machine.
+-- What the contracts of a reader see of it: its gate, its machine, and the counts of what it read.
 pub record Reading (G : Type 0) : Type 0 where
   pub gate : G
   pub machine : Seen
+  pub tally : Tally
 
 -- Under this gate it stands for these bytes: it took them, no more than the gate allows, and refused nothing. A reader
 -- keeps no history: the bytes are any that lead to what it holds.
-unfoldable pub StandsFor : Gate → List ℕ → Seen → Type 0
-StandsFor gate bytes r = HasTaken gate bytes r × (length bytes ≤ gate.bytes)
+unfoldable pub StandsFor : Gate → List ℕ → Seen → Tally → Type 0
+StandsFor gate bytes r tally = HasCounted gate bytes r tally × (length bytes ≤ gate.bytes)
 
 -- it answers the same refusal from now on
 unfoldable pub HasRefused : Refusal → Seen → Type 0
@@ -39,16 +41,41 @@ IsItem used step.More = ⊥
 
 -- Where it stood for `bytes` and was given a piece, it answers an item and stands for some bytes of the piece more; or it
 -- took the whole piece; or it refuses the bytes up to the deciding one, which lies in the piece; or memory ran out.
-abbrev pub NextCases : Gate → (bytes piece : List ℕ) → Result Step Stop → Seen → Type 0
-NextCases gate bytes piece (Ok (step.Item item used)) r = (0 < used) × (used ≤ length piece) × StandsFor gate (bytes ++ take used piece) r
-NextCases gate bytes piece (Ok step.More) r = StandsFor gate (bytes ++ piece) r
-NextCases gate bytes piece (Err (stop.Refused refusal)) r =
+abbrev pub NextCases : Gate → (bytes piece : List ℕ) → Result Step Stop → Seen → Tally → Type 0
+NextCases gate bytes piece (Ok (step.Item item used)) r tally = (0 < used) × (used ≤ length piece) × StandsFor gate (bytes ++ take used piece) r tally
+NextCases gate bytes piece (Ok step.More) r tally = StandsFor gate (bytes ++ piece) r tally
+NextCases gate bytes piece (Err (stop.Refused refusal)) r tally =
     (used : ℕ) × (used ≤ length piece) × AreRefused gate (bytes ++ take used piece) refusal × HasRefused refusal r
-NextCases gate bytes piece (Err stop.OutOfMemory) r = IsSpent r
-NextCases gate bytes piece (Err stop.Spent) r = ⊥
+NextCases gate bytes piece (Err stop.OutOfMemory) r tally = IsSpent r
+NextCases gate bytes piece (Err stop.Spent) r tally = ⊥
 
-unfoldable pub NextTells : Gate → (piece : List ℕ) → Result Step Stop → (old new : Seen) → Type 0
-NextTells gate piece result old new = (bytes : List ℕ) → StandsFor gate bytes old → NextCases gate bytes piece result new
+unfoldable pub NextTells : Gate → (piece : List ℕ) → Result Step Stop → Seen → Tally → Seen → Tally → Type 0
+NextTells gate piece result old before new after =
+    (bytes : List ℕ) → StandsFor gate bytes old before → NextCases gate bytes piece result new after
+
+-- an item takes some of the piece
+abbrev pub HasProgress : (piece : List ℕ) → Step → Type 0
+HasProgress piece (step.Item item used) = (0 < used) × (used ≤ length piece)
+HasProgress piece step.More = Unit {0}
+
+-- The same of a whole piece, with no item lent.
+abbrev pub SkipCases : Gate → (bytes piece : List ℕ) → Result (Unit {0}) Stop → Seen → Tally → Type 0
+SkipCases gate bytes piece (Ok _) r tally = StandsFor gate (bytes ++ piece) r tally
+SkipCases gate bytes piece (Err (stop.Refused refusal)) r tally =
+    (used : ℕ) × (used ≤ length piece) × AreRefused gate (bytes ++ take used piece) refusal × HasRefused refusal r
+SkipCases gate bytes piece (Err stop.OutOfMemory) r tally = IsSpent r
+SkipCases gate bytes piece (Err stop.Spent) r tally = ⊥
+
+unfoldable pub SkipTells : Gate → (piece : List ℕ) → Result (Unit {0}) Stop → Seen → Tally → Seen → Tally → Type 0
+SkipTells gate piece result old before new after =
+    (bytes : List ℕ) → StandsFor gate bytes old before → SkipCases gate bytes piece result new after
+
+-- within a piece, of which the rest is still to be taken
+pub record SkipsOn (gate : Gate) (piece rest : List ℕ) (start : Seen) (before : Tally) (now : Seen) (tally : Tally) : Type 0 where
+  pub taken : List ℕ
+  pub split : piece ≡ taken ++ rest
+  pub stands : (bytes : List ℕ) → StandsFor gate bytes start before → StandsFor gate (bytes ++ taken) now tally
+  pub goes_on : start.phase ≡ phase.Stopped → ⊥
 
 -- A reader that has refused bytes, or is spent, answers that again, and nothing changes.
 unfoldable pub StaysStopped : {A : Type 0} → Result A Stop → (old new : Seen) → Type 0
@@ -56,12 +83,13 @@ StaysStopped result old new =
     ((refusal : Refusal) → HasRefused refusal old → (result ≡ Err (stop.Refused refusal)) × HasRefused refusal new)
     × (IsSpent old → (result ≡ Err stop.Spent) × IsSpent new)
 
--- Where it stood for bytes that are a stream which its gate lets pass, they are; or they end too early.
+-- Where it stood for bytes that are a stream which its gate lets pass, it says so, with the counts of the list; or they end
+-- too early.
 abbrev pub FinishCases : Gate → (bytes : List ℕ) → Result Totals Stop → Seen → Type 0
-FinishCases gate bytes (Ok totals) r = ((list : ContentTrees) × Passes gate bytes list) × IsSpent r
+FinishCases gate bytes (Ok totals) r = ((list : ContentTrees) × Passes gate bytes list × AreTotals bytes list totals) × IsSpent r
 FinishCases gate bytes (Err (stop.Refused refusal)) r = AreTruncated gate bytes refusal × HasRefused refusal r
 FinishCases gate bytes (Err stop.OutOfMemory) r = ⊥
 FinishCases gate bytes (Err stop.Spent) r = ⊥
 
-unfoldable pub FinishTells : Gate → Result Totals Stop → (old new : Seen) → Type 0
-FinishTells gate result old new = (bytes : List ℕ) → StandsFor gate bytes old → FinishCases gate bytes result new
+unfoldable pub FinishTells : Gate → Result Totals Stop → Seen → Tally → Seen → Type 0
+FinishTells gate result old tally new = (bytes : List ℕ) → StandsFor gate bytes old tally → FinishCases gate bytes result new

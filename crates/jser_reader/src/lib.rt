@@ -14,8 +14,12 @@ mod reader;
 mod refusal;
 mod stack;
 mod tag;
+mod tally;
 
 pub use gate::{Answer, Gate, OpenGate};
 pub use item::{Item, Step, Totals};
 pub use reader::Reader;
 pub use refusal::{Reason, Refusal, Stop};
+
+#[cfg(test)]
+mod tests;

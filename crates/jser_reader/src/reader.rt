@@ -1,6 +1,6 @@
 //! The reader: a stream in pieces of any sizes, field by field.
-ghost use Rattle.std.specs.Prelude.{◌≡◌, ◌<◌, ◌≤◌, [], length};
-ghost use Rattle.jser_reader.specs.ReaderStates.{IsItem, StandsFor, NextTells, StaysStopped, FinishTells};
+ghost use Rattle.std.specs.Prelude.{◌≡◌, ◌<◌, ◌≤◌, [], length, IfOk};
+ghost use Rattle.jser_reader.specs.ReaderStates.{IsItem, HasProgress, StandsFor, NextTells, SkipTells, StaysStopped, FinishTells};
 ghost use Rattle.jser_reader.specs.States.{IsWithin};
 
 use crate::gate::Gate;
@@ -10,6 +10,7 @@ use crate::machine::taken::Taken;
 use crate::machine::{Limits, Machine};
 use crate::phase::Phase;
 use crate::refusal::Stop;
+use crate::tally::Tally;
 use std::alloc::Global;
 use std::marker::Model;
 
@@ -33,6 +34,7 @@ fn lend<'p>(field: Phase, kept: Kept, front: &'p [u8], used: usize) -> Step<'p>
 pub struct Reader<G: Gate> {
     gate: G,
     machine: Machine,
+    tally: Tally,
 }
 
 impl<G: Gate> Model for Reader<G> {
@@ -40,14 +42,14 @@ impl<G: Gate> Model for Reader<G> {
 
     ghost Value = { Reading G };
 
-    ghost view = { λ a. record { gate = a.gate; machine = a.machine } };
+    ghost view = { λ a. record { gate = a.gate; machine = a.machine; tally = a.tally } };
 }
 
 impl<G: Gate> Reader<G> {
     /// A reader that has taken nothing, under this gate. Takes no memory.
     pub fn new(alloc: Global, gate: G) -> Reader<G>
         ensures gate { result.gate ≡ gate }
-        ensures stands { StandsFor (G.told gate) [] result.machine }
+        ensures stands { StandsFor (G.told gate) [] result.machine result.tally }
     {
         let limits = Limits {
             bytes: gate.max_bytes(),
@@ -56,7 +58,11 @@ impl<G: Gate> Reader<G> {
             array: gate.max_array(),
         };
         let machine = Machine::new(alloc, limits, gate.max_handles());
-        Reader { gate, machine }
+        Reader {
+            gate,
+            machine,
+            tally: Tally::new(),
+        }
     }
 
     /// Takes some of the front of the piece, which is not empty and within the limit.
@@ -65,13 +71,18 @@ impl<G: Gate> Reader<G> {
         requires within { IsWithin self.old.machine piece.now front.now }
         requires some { 0 < length front.now }
         requires goes_on { self.old.machine.phase ≡ Phase.Stopped → ⊥ }
-        ensures tells { NextTells (G.told self.old.gate) piece.now result self.old.machine self.new.machine }
+        ensures tells { NextTells (G.told self.old.gate) piece.now result self.old.machine self.old.tally self.new.machine self.new.tally }
+        ensures progress { IfOk result (λ step. HasProgress piece.now step) }
         ensures gate { self.new.gate ≡ self.old.gate }
     {
         let field = self.machine.field();
         let kept = self.machine.kept();
+        let before = self.machine.mark();
         match self.machine.take(&self.gate, front) {
-            Taken::Ended(used) => Ok(lend(field, kept, front, used)),
+            Taken::Ended(used) => {
+                self.tally.count(before, self.machine.mark());
+                Ok(lend(field, kept, front, used))
+            }
             Taken::Part(used) => Ok(lend(field, kept, front, used)),
             Taken::Stopped(_) => Err(self.machine.answer()),
             Taken::Open => {
@@ -92,8 +103,9 @@ impl<G: Gate> Reader<G> {
     /// answers the same refusal.
     #[inline(always)]
     pub fn next<'p>(&mut self, piece: &'p [u8]) -> Result<Step<'p>, Stop>
-        ensures tells { NextTells (G.told self.old.gate) piece.now result self.old.machine self.new.machine }
+        ensures tells { NextTells (G.told self.old.gate) piece.now result self.old.machine self.old.tally self.new.machine self.new.tally }
         ensures stays { StaysStopped result self.old.machine self.new.machine }
+        ensures progress { IfOk result (λ step. HasProgress piece.now step) }
         ensures gate { self.new.gate ≡ self.old.gate }
     {
         if self.machine.is_stopped() {
@@ -109,13 +121,40 @@ impl<G: Gate> Reader<G> {
         self.step(piece, front)
     }
 
+    /// Takes the whole piece: as `next` called on it, and on what is left of it, until it answers `More`.
+    ///
+    /// # Errors
+    ///
+    /// As `next`.
+    pub fn skip(&mut self, piece: &[u8]) -> Result<(), Stop>
+        ensures tells { SkipTells (G.told self.old.gate) piece.now result self.old.machine self.old.tally self.new.machine self.new.tally }
+        ensures stays { StaysStopped result self.old.machine self.new.machine }
+        ensures gate { self.new.gate ≡ self.old.gate }
+    {
+        if self.machine.is_stopped() {
+            return Err(self.machine.answer());
+        }
+        let mut rest = piece;
+        'items: while !rest.is_empty() {
+            match self.next(rest) {
+                Err(stop) => return Err(stop),
+                Ok(Step::More) => return Ok(()),
+                Ok(Step::Item { used, .. }) => {
+                    let (_, others) = rest.split_at(used);
+                    rest = others;
+                }
+            }
+        }
+        Ok(())
+    }
+
     /// The end of the input.
     ///
     /// # Errors
     ///
     /// `Refused` as `Truncated` where the stream has not ended; else as `next`, but never `OutOfMemory`.
     pub fn finish(&mut self) -> Result<Totals, Stop>
-        ensures tells { FinishTells (G.told self.old.gate) result self.old.machine self.new.machine }
+        ensures tells { FinishTells (G.told self.old.gate) result self.old.machine self.old.tally self.new.machine }
         ensures stays { StaysStopped result self.old.machine self.new.machine }
         ensures gate { self.new.gate ≡ self.old.gate }
     {
@@ -125,13 +164,7 @@ impl<G: Gate> Reader<G> {
         if !self.machine.is_at_top() {
             return Err(self.machine.truncate());
         }
-        let totals = Totals {
-            bytes: self.machine.taken(),
-            contents: 0,
-            refs: 0,
-            depth: 0,
-            handles: 0,
-        };
+        let totals = self.machine.totals(self.tally);
         self.machine.end();
         Ok(totals)
     }

@@ -1,5 +1,5 @@
 //! The stack of frames. Its top lies in a field of its own, since nearly all work is done there.
-ghost use Rattle.std.specs.Prelude.{◌≡◌, ◌∷◌, ◌<◌, [], length, OnOk, OnErr};
+ghost use Rattle.std.specs.Prelude.{◌≡◌, ◌∷◌, ◌-◌, ◌^◌, ◌<◌, [], length, OnOk, OnErr};
 ghost use Rattle.jser_reader.specs.Stacks.{IsTop, tail_of};
 
 use crate::frame::Frame;
@@ -41,7 +41,8 @@ impl Stack {
 
     /// How many frames there are.
     pub(crate) fn len(&self) -> usize
-        ensures { result ≡ length self.now }
+        ensures count { result ≡ length self.now }
+        ensures few { result < 2 ^ 64 - 1 }
     {
         match self.top {
             None => 0,

@@ -2,15 +2,19 @@
 ghost use Rattle.std.specs.Prelude.{◌≡◌, ◌+◌, ◌-◌, ◌<◌, ◌^◌, true, false, length};
 ghost use Rattle.jser_reader.specs.Handlers.{StopsWith, refusal};
 ghost use Rattle.jser_reader.specs.Walks.{IsNew};
+ghost use Rattle.jser_reader.specs.Tallies.{totals_of};
+ghost use Rattle.jser_reader.specs.Tallies.{mark_of};
 ghost use Rattle.jser_reader.specs.States.{HasLimits, AnswersStop, IsWithin, exceeded};
 
 use crate::cut::Cut;
 use crate::field_list::FieldList;
 use crate::frame::{Owner, Role};
+use crate::item::Totals;
 use crate::machine::{Limits, Machine};
 use crate::phase::{Phase, TextFor};
 use crate::refusal::{Reason, Refusal, Stop};
 use crate::stack::Stack;
+use crate::tally::{Mark, Tally};
 use jser_prim::TextScan;
 use jser_table::{Codes, Layer, LayerKind, Table};
 use std::alloc::Global;
@@ -88,6 +92,18 @@ impl Machine {
         self.stop
     }
 
+    /// What a tally asks of it.
+    pub(crate) fn mark(&self) -> Mark
+        ensures { result ≡ mark_of self.now }
+    {
+        Mark {
+            at_top: self.phase == Phase::Top,
+            depth: self.frames.len() as u64 + 1,
+            refs: self.refs,
+            entries: u64::from(self.table.count()),
+        }
+    }
+
     /// Whether the stream may end: the next field is a tag at the top.
     pub(crate) fn is_at_top(&self) -> bool
         ensures top { result ≡ true → self.now.phase ≡ Phase.Top }
@@ -113,11 +129,17 @@ impl Machine {
         self.phase = Phase::Stopped;
     }
 
-    /// How many bytes were taken.
-    pub(crate) fn taken(&self) -> u64
-        ensures { result ≡ self.now.meter.at }
+    /// The counts of what was read, with those that the tally keeps.
+    pub(crate) fn totals(&self, tally: Tally) -> Totals
+        ensures { tally.earlier + length self.now.table.entries < 2 ^ 64 → result ≡ totals_of self.now tally }
     {
-        self.at
+        Totals {
+            bytes: self.at,
+            contents: tally.contents,
+            refs: self.refs,
+            depth: tally.depth,
+            handles: tally.earlier.saturating_add(u64::from(self.table.count())),
+        }
     }
 
     /// How many frames there are.

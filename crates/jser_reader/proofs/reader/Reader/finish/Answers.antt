@@ -1,13 +1,14 @@
-use Rattle.std.proofs.Common.{rules, subst}
+use Rattle.std.proofs.Common.{rules, subst, ◌≡◌, ◌+◌, ◌<◌, ◌^◌, length}
 use Rattle.jser_reader.specs.declared.refusal.Reason.TheVariants as reason
 use Rattle.jser_reader.specs.declared.refusal.Stop.TheVariants as stop
 use Rattle.jser_reader.specs.Handlers.{StopsWith, refusal}
 use Rattle.jser_reader.specs.States.{AnswersStop}
+use Rattle.jser_reader.specs.Tallies.{totals_of}
 use Rattle.jser_reader.proofs.NextLemmas.{stopped_finishes, stays_stopped, finish_truncates, finish_accepts, not_stopped}
 use Rattle.jser_reader.proofs.reader.Reader.finish.Goals as goal
 
 pub returns-then-is_stopped-clause-tells : goal.returns-then-is_stopped-clause-tells
-returns-then-is_stopped-clause-tells g c = stopped_finishes c.answer.result _ _ _ (search rules)
+returns-then-is_stopped-clause-tells g c = stopped_finishes c.answer.result _ _ _ _ (search rules)
 
 pub returns-then-is_stopped-clause-stays : goal.returns-then-is_stopped-clause-stays
 returns-then-is_stopped-clause-stays g c =
@@ -15,7 +16,7 @@ returns-then-is_stopped-clause-stays g c =
 
 pub returns-then-not-is_at_top-clause-tells : goal.returns-then-not-is_at_top-clause-tells
 returns-then-not-is_at_top-clause-tells g c =
-    finish_truncates c.truncate.result _ _ _ (search rules) (search rules)
+    finish_truncates c.truncate.result _ _ _ _ (search rules) (search rules)
     (subst (λ r. StopsWith (refusal r.machine.meter reason.Truncated) r.machine c.truncate.new.self) c.self.view_is c.truncate.ensures.stops)
 
 pub returns-then-not-is_at_top-clause-stays : goal.returns-then-not-is_at_top-clause-stays
@@ -23,7 +24,8 @@ returns-then-not-is_at_top-clause-stays g c = not_stopped _ _ _ (search rules)
 
 pub returns-clause-tells : goal.returns-clause-tells
 returns-clause-tells g c =
-    finish_accepts _ _ _ _ (search rules) (subst (λ r. StopsWith stop.Spent r.machine c.end.new.self) c.self.view_is c.end.ensures)
+    finish_accepts _ _ _ _ _ (search rules) (subst (λ r. StopsWith stop.Spent r.machine c.end.new.self) c.self.view_is c.end.ensures)
+    (subst (λ r. r.tally.earlier + length r.machine.table.entries < 2 ^ 64 → c.totals-totals.result ≡ totals_of r.machine r.tally) c.self.view_is c.totals-totals.ensures) (search rules)
 
 pub returns-clause-stays : goal.returns-clause-stays
 returns-clause-stays g c = not_stopped _ _ _ (search rules)

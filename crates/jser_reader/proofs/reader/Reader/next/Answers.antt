@@ -6,22 +6,22 @@ use Rattle.jser_reader.proofs.NextLemmas.{stopped_tells, stays_stopped, next_non
 use Rattle.jser_reader.proofs.reader.Reader.next.Goals as goal
 
 pub returns-then-is_stopped-clause-tells : goal.returns-then-is_stopped-clause-tells
-returns-then-is_stopped-clause-tells g c = stopped_tells _ c.answer.result _ _ _ (search rules)
+returns-then-is_stopped-clause-tells g c = stopped_tells _ c.answer.result _ _ _ _ _ (search rules)
 
 pub returns-then-is_stopped-clause-stays : goal.returns-then-is_stopped-clause-stays
 returns-then-is_stopped-clause-stays g c =
     stays_stopped _ c.answer.result _ _ (search rules) (subst (λ r. AnswersStop c.answer.result r.machine c.answer.new.self) c.self.view_is c.answer.ensures)
 
 pub returns-then-is_empty-clause-tells : goal.returns-then-is_empty-clause-tells
-returns-then-is_empty-clause-tells g c = next_none c.args.piece.now _ _ _ (search rules) (search rules)
+returns-then-is_empty-clause-tells g c = next_none c.args.piece.now _ _ _ (search rules)
 
 pub returns-then-is_empty-clause-stays : goal.returns-then-is_empty-clause-stays
 returns-then-is_empty-clause-stays g c = not_stopped _ _ _ (search rules)
 
 pub returns-then-is_empty-2-clause-tells : goal.returns-then-is_empty-2-clause-tells
 returns-then-is_empty-2-clause-tells g c =
-    subst (λ r. NextTells (g.G.Gate.told r.gate) c.args.piece.now (Err c.exceed.result) r.machine c.exceed.new.self) c.self.view_is
-    (next_full c.exceed.result c.args.piece.now c.within-front.result.now _ _ _ c.within-front.ensures (all_bytes c.args.piece.now (λ k. omega (arith, c.type_inv.piece k)))
+    subst (λ r. NextTells (g.G.Gate.told r.gate) c.args.piece.now (Err c.exceed.result) r.machine r.tally c.exceed.new.self c.self.inside.tally) c.self.view_is
+    (next_full c.exceed.result c.args.piece.now c.within-front.result.now _ _ _ _ _ c.within-front.ensures (all_bytes c.args.piece.now (λ k. omega (arith, c.type_inv.piece k)))
     (search rules) (search rules) c.exceed.ensures (search rules))
 
 pub returns-then-is_empty-2-clause-stays : goal.returns-then-is_empty-2-clause-stays

@@ -3,7 +3,7 @@ use Rattle.jser_reader.specs.declared.item.Step.TheVariants as step
 use Rattle.jser_reader.specs.ReaderStates.{NextTells}
 use Rattle.jser_reader.specs.States.{IsWithin}
 use Rattle.jser_reader.proofs.ReaderLemmas.{all_bytes, within_room}
-use Rattle.jser_reader.proofs.NextLemmas.{step_item, step_part, step_more, step_stops, step_over}
+use Rattle.jser_reader.proofs.NextLemmas.{step_item, step_part, step_more, step_stops, step_over, item_progress, part_progress}
 use Rattle.jser_reader.proofs.reader.Reader.step.Goals as goal
 
 pub take-requires-clause-room : goal.take-requires-clause-room
@@ -12,30 +12,38 @@ take-requires-clause-room g c =
 
 pub returns-in-Ended-clause-tells : goal.returns-in-Ended-clause-tells
 returns-in-Ended-clause-tells g c =
-    subst (λ r. NextTells (g.G.Gate.told r.gate) c.args.piece.now (Ok c.lend.result) r.machine c.take.new.self) c.self.view_is
-    (step_item _ c.in-Ended.used _ c.args.piece.now c.args.front.now _ _ _ c.take.ensures c.in-Ended.is (subst (λ r. IsWithin r.machine c.args.piece.now c.args.front.now) (sym c.self.view_is) c.requires.within)
+    subst (λ r. NextTells (g.G.Gate.told r.gate) c.args.piece.now (Ok c.lend.result) r.machine r.tally c.take.new.self c.count.new.self) c.self.view_is
+    (step_item _ c.in-Ended.used _ c.args.piece.now c.args.front.now _ _ _ _ _ c.take.ensures c.in-Ended.is (λ a b. search rules) (search rules) (subst (λ r. IsWithin r.machine c.args.piece.now c.args.front.now) (sym c.self.view_is) c.requires.within)
     (all_bytes c.args.piece.now (λ k. omega (arith, c.type_inv.piece k))) c.lend.ensures)
+
+pub returns-in-Ended-clause-progress : goal.returns-in-Ended-clause-progress
+returns-in-Ended-clause-progress g c =
+    item_progress _ c.in-Ended.used _ c.args.piece.now c.args.front.now _ _ _ c.take.ensures c.in-Ended.is (subst (λ r. IsWithin r.machine c.args.piece.now c.args.front.now) (sym c.self.view_is) c.requires.within) c.lend.ensures
 
 pub returns-in-Part-clause-tells : goal.returns-in-Part-clause-tells
 returns-in-Part-clause-tells g c =
-    subst (λ r. NextTells (g.G.Gate.told r.gate) c.args.piece.now (Ok c.lend-in-Part.result) r.machine c.take.new.self) c.self.view_is
-    (step_part _ c.in-Part.used _ c.args.piece.now c.args.front.now _ _ _ c.take.ensures c.in-Part.is (subst (λ r. IsWithin r.machine c.args.piece.now c.args.front.now) (sym c.self.view_is) c.requires.within)
+    subst (λ r. NextTells (g.G.Gate.told r.gate) c.args.piece.now (Ok c.lend-in-Part.result) r.machine r.tally c.take.new.self c.self.inside.tally) c.self.view_is
+    (step_part _ c.in-Part.used _ c.args.piece.now c.args.front.now _ _ _ _ c.take.ensures c.in-Part.is (subst (λ r. IsWithin r.machine c.args.piece.now c.args.front.now) (sym c.self.view_is) c.requires.within)
     (all_bytes c.args.piece.now (λ k. omega (arith, c.type_inv.piece k))) c.lend-in-Part.ensures)
+
+pub returns-in-Part-clause-progress : goal.returns-in-Part-clause-progress
+returns-in-Part-clause-progress g c =
+    part_progress _ c.in-Part.used _ c.args.piece.now c.args.front.now _ _ _ c.take.ensures c.in-Part.is (subst (λ r. IsWithin r.machine c.args.piece.now c.args.front.now) (sym c.self.view_is) c.requires.within) c.lend-in-Part.ensures
 
 pub returns-in-Stopped-clause-tells : goal.returns-in-Stopped-clause-tells
 returns-in-Stopped-clause-tells g c =
-    subst (λ r. NextTells (g.G.Gate.told r.gate) c.args.piece.now (Err c.answer.result) r.machine c.answer.new.self) c.self.view_is
-    (step_stops c.answer.result _ _ c.args.piece.now c.args.front.now _ _ _ _ c.take.ensures c.in-Stopped.is c.answer.ensures (subst (λ r. IsWithin r.machine c.args.piece.now c.args.front.now) (sym c.self.view_is) c.requires.within)
+    subst (λ r. NextTells (g.G.Gate.told r.gate) c.args.piece.now (Err c.answer.result) r.machine r.tally c.answer.new.self c.self.inside.tally) c.self.view_is
+    (step_stops c.answer.result _ _ c.args.piece.now c.args.front.now _ _ _ _ _ _ c.take.ensures c.in-Stopped.is c.answer.ensures (subst (λ r. IsWithin r.machine c.args.piece.now c.args.front.now) (sym c.self.view_is) c.requires.within)
     (all_bytes c.args.piece.now (λ k. omega (arith, c.type_inv.piece k))))
 
 pub returns-then-front-piece-clause-tells : goal.returns-then-front-piece-clause-tells
 returns-then-front-piece-clause-tells g c =
-    subst (λ r. NextTells (g.G.Gate.told r.gate) c.args.piece.now (Err c.exceed.result) r.machine c.exceed.new.self) c.self.view_is
-    (step_over c.exceed.result _ c.args.piece.now c.args.front.now _ _ _ _ c.take.ensures c.in-Open.is c.exceed.ensures (subst (λ r. IsWithin r.machine c.args.piece.now c.args.front.now) (sym c.self.view_is) c.requires.within)
+    subst (λ r. NextTells (g.G.Gate.told r.gate) c.args.piece.now (Err c.exceed.result) r.machine r.tally c.exceed.new.self c.self.inside.tally) c.self.view_is
+    (step_over c.exceed.result _ c.args.piece.now c.args.front.now _ _ _ _ _ _ c.take.ensures c.in-Open.is c.exceed.ensures (subst (λ r. IsWithin r.machine c.args.piece.now c.args.front.now) (sym c.self.view_is) c.requires.within)
     (all_bytes c.args.piece.now (λ k. omega (arith, c.type_inv.piece k))) c.if-front-piece.true (search rules))
 
 pub returns-else-front-piece-clause-tells : goal.returns-else-front-piece-clause-tells
 returns-else-front-piece-clause-tells g c =
-    subst (λ r. NextTells (g.G.Gate.told r.gate) c.args.piece.now (Ok step.More) r.machine c.take.new.self) c.self.view_is
-    (step_more _ c.args.piece.now c.args.front.now _ _ _ c.take.ensures c.in-Open.is (subst (λ r. IsWithin r.machine c.args.piece.now c.args.front.now) (sym c.self.view_is) c.requires.within)
+    subst (λ r. NextTells (g.G.Gate.told r.gate) c.args.piece.now (Ok step.More) r.machine r.tally c.take.new.self c.self.inside.tally) c.self.view_is
+    (step_more _ c.args.piece.now c.args.front.now _ _ _ _ c.take.ensures c.in-Open.is (subst (λ r. IsWithin r.machine c.args.piece.now c.args.front.now) (sym c.self.view_is) c.requires.within)
     (all_bytes c.args.piece.now (λ k. omega (arith, c.type_inv.piece k))) (λ more. let m = c.if-front-piece.false in omega arith))

@@ -1,0 +1,88 @@
+-- The counts of a stream, as they are kept while it is read: what is known of the machine before and after a field is
+-- enough to go on from one field to the next.
+use Rattle.std.specs.Prelude.{ℕ, ◌≡◌, suc, ◌+◌, max, ◌==◌, ◌&&◌, nat_lt, Bool, true, false, List, [], ◌∷◌, length}
+use Rattle.jser_grammar.specs.Trees.{ContentTrees}
+use Rattle.jser_grammar.specs.TableAfter.{Entries}
+use Rattle.jser_grammar.specs.Counts.{content_count, refs_of, depth_of, handle_count}
+use Rattle.jser_reading.specs.Labels.{StreamField, reset_tag_field, Piece, piece}
+use Rattle.jser_reading.specs.Totals.{begins_content, one_more_if, count_of, number_if, deepest}
+use Rattle.jser_verdict.specs.Gates.{Gate}
+use Rattle.jser_reader.specs.declared.item.Totals.{Totals}
+use Rattle.jser_reader.specs.declared.phase.Phase.{Phase}
+use Rattle.jser_reader.specs.declared.phase.Phase.TheVariants as phase
+use Rattle.jser_reader.specs.declared.tally.Tally.{Tally}
+use Rattle.jser_reader.specs.declared.tally.Mark.{Mark}
+use Rattle.jser_reader.specs.Readers.{Seen}
+use Rattle.jser_reader.specs.Walks.{HasTaken}
+
+-- ---- what is counted along the fields
+
+-- a reset ends an epoch, which had the handles of the table before it
+abbrev pub ended_by : StreamField → Entries → ℕ
+ended_by reset_tag_field table = length table
+ended_by _ table = 0
+
+-- the handles of the epochs that have ended
+abbrev pub earlier_handles : List Piece → ℕ
+earlier_handles [] = 0
+earlier_handles (piece label field ∷ pieces) = ended_by field label.moment.table + earlier_handles pieces
+
+-- ---- what is kept
+
+-- The contents that have begun, the handles of the epochs that have ended, and the greatest depth of a place. (The
+-- places, and the handles of the epoch that has not ended, are in the machine.)
+abbrev pub no_tally : Tally
+no_tally = record { contents = 0; earlier = 0; depth = 0 }
+
+-- it tells these fields
+pub record Tallied (fields : List Piece) (tally : Tally) : Type 0 where
+  pub contents : tally.contents ≡ count_of begins_content fields
+  pub earlier : tally.earlier ≡ earlier_handles fields
+  pub depth : tally.depth ≡ deepest fields
+
+-- ---- how it goes on
+
+-- What a tally asks of a machine before and after a field: whether the field stands at the top, the depth of a place
+-- that begins there, how many places there were, and how many entries the table has.
+abbrev pub is_top : Phase → Bool
+is_top phase.Top = true
+is_top _ = false
+
+abbrev pub mark_of : Seen → Mark
+mark_of r = record { at_top = is_top r.phase; depth = suc (length r.frames); refs = r.refs; entries = length r.table.entries }
+
+-- A field has ended. At the top a content has begun; if the table is empty after it, an epoch may have ended, and if not,
+-- the table was empty before it too. Where there is one place more, it has the depth of the field.
+abbrev pub tally_after : (old new : Mark) → Tally → Tally
+tally_after old new tally = record {
+  contents = one_more_if old.at_top tally.contents;
+  earlier = tally.earlier + number_if (old.at_top && new.entries == 0) old.entries;
+  depth = max tally.depth (number_if (nat_lt old.refs new.refs) old.depth);
+}
+
+-- ---- a machine with its tally
+
+-- the machine stands for these bytes, and the tally tells the fields that it took
+pub record HasCounted (gate : Gate) (bytes : List ℕ) (r : Seen) (tally : Tally) : Type 0 where
+  pub taken : HasTaken gate bytes r
+  pub tallied : Tallied taken.fields tally
+
+-- ---- the end
+
+-- what a reader answers that has read a stream to its end
+abbrev pub totals_of : Seen → Tally → Totals
+totals_of r tally = record {
+  bytes = r.meter.at;
+  contents = tally.contents;
+  refs = r.refs;
+  depth = tally.depth;
+  handles = tally.earlier + length r.table.entries;
+}
+
+-- these are the counts of a stream of this list
+pub record AreTotals (bytes : List ℕ) (list : ContentTrees) (totals : Totals) : Type 0 where
+  pub all_bytes : totals.bytes ≡ length bytes
+  pub contents : totals.contents ≡ content_count list
+  pub refs : totals.refs ≡ refs_of list
+  pub depth : totals.depth ≡ depth_of list
+  pub handles : totals.handles ≡ handle_count list

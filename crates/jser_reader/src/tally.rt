@@ -1,0 +1,48 @@
+//! The counts of a stream that its fields tell, kept while it is read.
+ghost use Rattle.std.specs.Prelude.{◌≡◌, ◌+◌, ◌<◌, ◌^◌};
+ghost use Rattle.jser_reader.specs.Tallies.{tally_after, no_tally};
+
+/// What a tally asks of the machine before and after a field.
+#[derive(Clone, Copy)]
+pub(crate) struct Mark {
+    pub(crate) at_top: bool,
+    pub(crate) depth: u64,
+    pub(crate) refs: u64,
+    pub(crate) entries: u64,
+}
+
+/// The contents that have begun, the handles of the epochs that have ended, and the greatest depth of a place.
+#[derive(Clone, Copy)]
+pub(crate) struct Tally {
+    pub(crate) contents: u64,
+    pub(crate) earlier: u64,
+    pub(crate) depth: u64,
+}
+
+impl Tally {
+    /// Nothing has been read.
+    pub(crate) fn new() -> Tally
+        ensures { result ≡ no_tally }
+    {
+        Tally {
+            contents: 0,
+            earlier: 0,
+            depth: 0,
+        }
+    }
+
+    /// A field has ended: what was known before it, and what is known after it.
+    pub(crate) fn count(&mut self, old: Mark, new: Mark)
+        ensures { self.old.contents + 1 < 2 ^ 64 → self.old.earlier + old.entries < 2 ^ 64 → self.new ≡ tally_after old new self.old }
+    {
+        if old.at_top {
+            self.contents = self.contents.saturating_add(1);
+            if new.entries == 0 {
+                self.earlier = self.earlier.saturating_add(old.entries);
+            }
+        }
+        if old.refs < new.refs {
+            self.depth = self.depth.max(old.depth);
+        }
+    }
+}

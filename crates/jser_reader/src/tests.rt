@@ -1,0 +1,71 @@
+//! Streams from the format, whole and in pieces, and what the reader answers to them.
+
+use crate::{OpenGate, Reader, Reason, Refusal, Stop, Totals};
+use std::alloc::{AllocError, AllocGlobal, Global};
+use std::process::Abort;
+use std::test::Fail;
+
+mod rows;
+
+/// The counts of a stream.
+fn totals(bytes: u64, contents: u64, refs: u64, depth: u64, handles: u64) -> Totals {
+    Totals {
+        bytes,
+        contents,
+        refs,
+        depth,
+        handles,
+    }
+}
+
+/// These bytes, and so many zeros after them.
+fn with_zeros(alloc: Global, front: &[u8], zeros: usize) -> Result<Vec<u8>, AllocError> {
+    let mut bytes = front.to_vec(alloc)?;
+    for _ in 0..zeros {
+        bytes.push(0)?;
+    }
+    Ok(bytes)
+}
+
+/// What a reader answers to the bytes in pieces of this size.
+fn answer_of(alloc: Global, bytes: &[u8], size: usize) -> Result<Totals, Stop> {
+    let mut reader = Reader::new(alloc, OpenGate);
+    for piece in bytes.chunks(size.max(1)) {
+        reader.skip(piece)?;
+    }
+    reader.finish()
+}
+
+/// The bytes are a stream with these counts, in pieces of one byte, of three, and whole.
+fn assert_accepted(
+    rt: &(impl Abort + AllocGlobal),
+    bytes: &[u8],
+    totals: Totals,
+) -> Result<(), Fail> {
+    for size in [1, 3, bytes.len()] {
+        assert_eq!(rt; answer_of(rt.alloc(), bytes, size), Ok(totals));
+    }
+    Ok(())
+}
+
+/// The bytes are refused for this reason, in pieces of one byte, of three, and whole.
+fn assert_refused(
+    rt: &(impl Abort + AllocGlobal),
+    bytes: &[u8],
+    reason: Reason,
+    from_byte: u64,
+    to_byte: u64,
+) -> Result<(), Fail> {
+    let refusal = Refusal {
+        from_byte,
+        to_byte,
+        reason,
+    };
+    for size in [1, 3, bytes.len()] {
+        assert_eq!(rt;
+            answer_of(rt.alloc(), bytes, size),
+            Err(Stop::Refused(refusal))
+        );
+    }
+    Ok(())
+}
