@@ -5,6 +5,8 @@ use std::alloc::{AllocError, AllocGlobal, Global};
 use std::process::Abort;
 use std::test::Fail;
 
+mod nests;
+mod pieces;
 mod rows;
 
 /// The counts of a stream.

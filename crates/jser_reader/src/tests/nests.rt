@@ -1,0 +1,66 @@
+//! Arrays inside arrays, and how many frames are open.
+
+use crate::tests::{answer_of, totals};
+use crate::{OpenGate, Reader, Reason, Refusal, Stop};
+use std::alloc::{AllocError, Global};
+use std::test::Fail;
+
+/// So many arrays of the class `[LA;`, one inside the other.
+fn nest(alloc: Global, arrays: usize) -> Result<Vec<u8>, AllocError> {
+    let front =
+        b"\xAC\xED\x00\x05\x75\x72\x00\x04\x5B\x4C\x41\x3B\x00\x00\x00\x00\x00\x00\x00\x01\x02\x00\x00\x78\x70\x00\x00\x00\x01";
+    let mut bytes = front.to_vec(alloc)?;
+    for _ in 1..arrays {
+        bytes.extend_from_slice(b"\x75\x71\x00\x7E\x00\x00\x00\x00\x00\x01")?;
+    }
+    bytes.push(0x70)?;
+    Ok(bytes)
+}
+
+#[test]
+fn nest_999(rt: HostRuntime) -> Result<(), Fail> {
+    let bytes = nest(rt.alloc(), 999)?;
+    assert_eq!(rt;
+        answer_of(rt.alloc(), &bytes, bytes.len()),
+        Ok(totals(10010, 1, 1001, 1000, 1000))
+    );
+    Ok(())
+}
+
+#[test]
+fn nest_65534(rt: HostRuntime) -> Result<(), Fail> {
+    let bytes = nest(rt.alloc(), 65_534)?;
+    assert_eq!(rt;
+        answer_of(rt.alloc(), &bytes, 4096),
+        Ok(totals(655_360, 1, 65_536, 65_535, 65_535))
+    );
+    Ok(())
+}
+
+#[test]
+fn nest_65535(rt: HostRuntime) -> Result<(), Fail> {
+    let bytes = nest(rt.alloc(), 65_535)?;
+    let refusal = Refusal {
+        from_byte: 655_369,
+        to_byte: 655_370,
+        reason: Reason::DepthExceeded,
+    };
+    assert_eq!(rt;
+        answer_of(rt.alloc(), &bytes, 4096),
+        Err(Stop::Refused(refusal))
+    );
+    Ok(())
+}
+
+/// Before the innermost value there is a frame for each array; after it there is none.
+#[test]
+fn nest_999_frames(rt: HostRuntime) -> Result<(), Fail> {
+    let bytes = nest(rt.alloc(), 999)?;
+    let mut reader = Reader::new(rt.alloc(), OpenGate);
+    let (front, last) = bytes.as_slice().split_at(bytes.len().saturating_sub(1));
+    assert_eq!(rt; reader.skip(front), Ok(()));
+    assert_eq!(rt; reader.open_frames(), 999);
+    assert_eq!(rt; reader.skip(last), Ok(()));
+    assert_eq!(rt; reader.open_frames(), 0);
+    Ok(())
+}

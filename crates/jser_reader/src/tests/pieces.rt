@@ -1,0 +1,90 @@
+//! Items, states and cut streams, piece by piece.
+
+use crate::tests::{answer_of, totals};
+use crate::{Item, OpenGate, Reader, Reason, Refusal, Step, Stop};
+use std::alloc::Global;
+use std::process::Abort;
+use std::test::Fail;
+
+const LINKED_PAIR: &[u8] =
+    b"\xAC\xED\x00\x05\x73\x72\x00\x04\x4C\x69\x73\x74\x69\xC8\x8A\x15\x40\x16\xAE\x68\x02\x00\x02\x49\x00\x05\x76\x61\x6C\x75\x65\x4C\x00\x04\x6E\x65\x78\x74\x74\x00\x06\x4C\x4C\x69\x73\x74\x3B\x78\x70\x00\x00\x00\x11\x73\x71\x00\x7E\x00\x00\x00\x00\x00\x13\x70\x71\x00\x7E\x00\x03";
+
+fn refused(reason: Reason, from_byte: u64, to_byte: u64) -> Stop {
+    Stop::Refused(Refusal {
+        from_byte,
+        to_byte,
+        reason,
+    })
+}
+
+/// The reader answers this item to the piece, and takes so many bytes of it.
+fn assert_item(
+    rt: &impl Abort,
+    reader: &mut Reader<OpenGate>,
+    piece: &[u8],
+    item: Item,
+    used: usize,
+) {
+    assert_eq!(rt; reader.next(piece), Ok(Step::Item { item, used }));
+}
+
+#[test]
+fn pieces_of_three(rt: HostRuntime) {
+    let mut reader = Reader::new(rt.alloc(), OpenGate);
+    assert_eq!(rt; reader.next(b"\xAC\xED\x00"), Ok(Step::More));
+    assert_item(&rt, &mut reader, b"\x05\x74\x00", Item::Header, 1);
+    assert_item(&rt, &mut reader, b"\x74\x00", Item::Tag(0x74), 1);
+    assert_eq!(rt; reader.next(b"\x00"), Ok(Step::More));
+    assert_item(&rt, &mut reader, b"\x03ab", Item::TextLength(3), 1);
+    assert_item(&rt, &mut reader, b"ab", Item::TextPart(b"ab"), 2);
+    assert_item(&rt, &mut reader, b"c\x70\x71", Item::TextPart(b"c"), 1);
+    assert_item(&rt, &mut reader, b"\x70\x71", Item::Tag(0x70), 1);
+    assert_item(&rt, &mut reader, b"\x71", Item::Tag(0x71), 1);
+    assert_eq!(rt; reader.next(b"\x00\x7E\x00"), Ok(Step::More));
+    assert_item(&rt, &mut reader, b"\x00", Item::Handle(0x7E_0000), 1);
+    assert_eq!(rt; reader.finish(), Ok(totals(16, 3, 3, 1, 1)));
+    assert_eq!(rt; reader.finish(), Err(Stop::Spent));
+    assert_eq!(rt; reader.next(b""), Err(Stop::Spent));
+    assert_eq!(rt; reader.next(b"\x70"), Err(Stop::Spent));
+}
+
+#[test]
+fn refused_for_good(rt: HostRuntime) {
+    let mut reader = Reader::new(rt.alloc(), OpenGate);
+    let wrong = refused(Reason::BadHeader, 0, 1);
+    assert_eq!(rt; reader.next(b"\x00"), Err(wrong));
+    assert_eq!(rt; reader.next(b"\xAC"), Err(wrong));
+    assert_eq!(rt; reader.skip(b""), Err(wrong));
+    assert_eq!(rt; reader.finish(), Err(wrong));
+}
+
+#[test]
+fn finish_at_once(rt: HostRuntime) {
+    let mut reader = Reader::new(rt.alloc(), OpenGate);
+    assert_eq!(rt; reader.next(b""), Ok(Step::More));
+    assert_eq!(rt; reader.finish(), Err(refused(Reason::Truncated, 0, 0)));
+}
+
+/// The stream cut after so many bytes: Truncated, but where only the header is left or the first object.
+fn assert_cut(rt: &impl Abort, alloc: Global, cut: usize) {
+    let (front, _) = LINKED_PAIR.split_at(cut.min(LINKED_PAIR.len()));
+    match (cut, answer_of(alloc, front, 1)) {
+        (4, answer) => assert_eq!(rt; answer, Ok(totals(4, 0, 0, 0, 0))),
+        (64, answer) => assert_eq!(rt; answer, Ok(totals(64, 1, 4, 3, 4))),
+        (_, Err(Stop::Refused(refusal))) => {
+            assert_eq!(rt; refusal.reason, Reason::Truncated);
+            assert_eq!(rt; refusal.to_byte, cut as u64);
+            assert!(rt; cut > 3 || refusal.from_byte == 0);
+            assert!(rt; cut != 10 || refusal.from_byte == 6);
+            assert!(rt; cut < 65 || refusal.from_byte == 65);
+        }
+        (_, answer) => assert!(rt; answer.is_err(), "accepted after {cut} bytes"),
+    }
+}
+
+#[test]
+fn linked_pair_cuts(rt: HostRuntime) {
+    for cut in 0..69 {
+        assert_cut(&rt, rt.alloc(), cut);
+    }
+}
