@@ -34,7 +34,7 @@ pub(crate) enum Fault {
     OutOfMemory,
 }
 
-/// Adds a handle. A table that is full is answered as want of memory: a list whose spelling has at most
+/// Adds a handle. A table that is full is answered as out of memory: a list whose spelling has at most
 /// 2^31 - 1 bytes has fewer handles than a table takes.
 fn assign(table: &mut Table, kind: Kind) -> Result<u32, Fault>
     ensures judged { Judges result true (add table.old.entries (new_entry kind)) table.new.entries }

@@ -74,7 +74,7 @@ fn take_apart(value: Value, arrays: u32) {
     }
 }
 
-/// That the answer is right, or want of memory, and that it has the same list.
+/// That the answer is right, or out of memory, and that it has the same list.
 fn assert_answer(
     rt: &impl Abort,
     alloc: Global,
@@ -203,7 +203,7 @@ fn a_million_arrays_are_too_deep(rt: HostRuntime) -> Result<(), Fail> {
 }
 
 /// To be run with each allocation refused in turn: where the list could be built, the answer is right or
-/// want of memory, and it has the list.
+/// out of memory, and it has the list.
 #[test]
 fn a_refused_growth_hands_the_list_back(rt: HostRuntime) {
     let alloc = rt.alloc();
