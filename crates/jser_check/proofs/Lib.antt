@@ -1,7 +1,6 @@
-pub mod Contents
-pub mod Texts
-pub mod Steps
-pub mod Header
-pub mod Streams
+pub mod SpelledBytes
+pub mod AdmittedLemmas
+pub mod FeedLemmas
+pub mod AnswerLemmas
 pub mod SourceLemmas
 pub mod ReaderLemmas

@@ -1,58 +1,204 @@
--- What the check of the bytes that were read of a source says of all its bytes.
-use Rattle.std.specs.Prelude.{IfSome, Result, Ok, Err}
+-- From what the reads of a source tell to what a check answers of it.
+use Rattle.std.specs.Prelude.{IfSome}
+use Rattle.std.specs.Io.KnownBytes.{Consumes, IsAtEnd}
 use Rattle.std.specs.declared.option.Option.{Option}
-use Rattle.std.proofs.Common.{◌≡◌, inl, inr, ℕ, ◌+◌, ◌≤◌, List, ◌++◌, length, take, drop, Some, None, sym, ap, subst, ◌∙◌, arith, take_all}
-use Rattle.std.proofs.lemmas.List.{take-append-drop, length-take}
-use Rattle.std.proofs.lemmas.Bool.{cases_lt}
-use Rattle.jser_check.specs.declared.answer.Refusal.{Refusal}
-use Rattle.jser_check.specs.declared.answer.Report.{Report}
-use Rattle.jser_check.specs.declared.answer.Stop.{Stop}
-use Rattle.jser_check.specs.declared.answer.Stop.TheVariants as stop
+use Rattle.std.proofs.Common.{◌≡◌, ◌≢◌, ℕ, ◌+◌, ◌≤◌, List, [], ◌++◌, length, take, drop, Result, Ok, Err, Some, None, inl, inr, refl, sym, ap, subst, ◌∙◌, arith, append_assoc, append-nil, length-append, take-append-drop}
+use Rattle.jser_grammar.specs.Parts.{IsBytes}
+use Rattle.jser_verdict.specs.Reasons.{truncated}
+use Rattle.jser_verdict.specs.Reasons.{Reason as ToldReason}
+use Rattle.jser_verdict.specs.Gates.{Gate}
+use Rattle.jser_verdict.specs.FirstFault.{IsFault}
+use Rattle.jser_verdict.proofs.WalkFaults.{refuses_promptly}
+use Rattle.jser_reading.specs.Machine.{begin_state, left}
+use Rattle.jser_reader.specs.declared.Refusal.{Refusal}
+use Rattle.jser_reader.specs.declared.Stop.{Stop}
+use Rattle.jser_reader.specs.declared.Stop.TheVariants as stop
+use Rattle.jser_reader.specs.declared.Totals.{Totals}
+use Rattle.jser_reader.specs.declared.tally.Tally.{Tally}
+use Rattle.jser_reader.specs.Readers.{Seen}
+use Rattle.jser_reader.specs.ReaderStates.{Reading, StandsFor, FinishTells}
+use Rattle.jser_reader.specs.Streams.{AreRefused}
+use Rattle.jser_filter.specs.Filters.{FilterView}
 use Rattle.jser_check.specs.declared.answer.CheckFault.{CheckFault}
 use Rattle.jser_check.specs.declared.answer.CheckFault.TheVariants as fault
-use Rattle.jser_check.specs.Answers.{byte_cap, IsAdmittedStream, Refuses, Reports, IfStopped, IfRefused, IsAfterFailure}
-use Rattle.jser_check.specs.Sources.{IsFrontOf}
-use Rattle.jser_check.proofs.Streams.{refuses_front}
+use Rattle.jser_check.specs.declared.gate.Options.{Options}
+use Rattle.jser_check.specs.Admitted.{most_bytes, FilterWith, gate_of_filter}
+use Rattle.jser_check.specs.Feeding.{RefusesIn, StopCases}
+use Rattle.jser_check.specs.Answers.{report_of, Reports, CarriesFirst, Refuses, IfRefused, IsRightOf, Tells}
+use Rattle.jser_check.specs.Sources.{read_bytes, TakesAtMost, Taken, Stopped, TakenAll, ReadsTell}
+use Rattle.jser_check.specs.SourceAnswers.{IfFaultRefused, Undecided, TakesFew, SourceTells}
+use Rattle.jser_check.proofs.AnswerLemmas.{front_refused, finish_tells, tells_report, right_refuses, right_first}
+use Rattle.jser_check.proofs.SourceLemmas.{taken_stands}
 
--- an admitted front of that many bytes is all of them
-all_read : (bytes all : List ℕ) → all ≡ take (byte_cap + 1) bytes → length all ≤ byte_cap → all ≡ bytes
-all_read bytes all e short =
-    let size = ap length e ∙ length-take (byte_cap + 1) bytes in
-    e ∙ take_all (byte_cap + 1) bytes (omega arith)
+-- ---- the reader stopped
 
-pub read_accepted : (told : Option (List ℕ)) (all : List ℕ) → IfSome told (λ bytes. all ≡ take (byte_cap + 1) bytes) → IsAdmittedStream all
-    → IfSome told (λ bytes. IsAdmittedStream bytes)
-read_accepted None all e a = tt
-read_accepted (Some bytes) all e a = subst IsAdmittedStream (all_read bytes all e a.1.within) a
+-- a stop in bytes after others, none of which came before
+refused_front : (gate : Gate) (had has : Option (List ℕ)) (before last : List ℕ) (refusal : Refusal) → Consumes had has (before ++ last)
+    → RefusesIn gate before last refusal → IfSome had (λ bytes. IsRightOf gate bytes refusal)
+refused_front gate None has before last refusal off r = tt
+refused_front gate (Some all) None before last refusal off r = absurd off
+refused_front gate (Some all) (Some rest) before last refusal off r =
+    let tail = drop r.used last in
+    let split : all ≡ (before ++ take r.used last) ++ (tail ++ rest) =
+    off ∙ ap (λ xs. (before ++ xs) ++ rest) (sym (take-append-drop r.used last))
+    ∙ ap (λ xs. xs ++ rest) (sym (append_assoc before (take r.used last) tail)) ∙ append_assoc (before ++ take r.used last) tail rest in
+    inl (front_refused gate (before ++ take r.used last) (tail ++ rest) all refusal split r.refused)
 
-pub read_reported : (told : Option (List ℕ)) (all : List ℕ) (report : Report) → IfSome told (λ bytes. all ≡ take (byte_cap + 1) bytes) → IsAdmittedStream all
-    → Reports all report → IfSome told (λ bytes. Reports bytes report)
-read_reported None all report e a r = tt
-read_reported (Some bytes) all report e a r = subst (λ b. Reports b report) (all_read bytes all e a.1.within) r
+-- what the reader refuses, where it had taken nothing
+stop_of : {G : Type 0} (told : G → Gate) (gate : G) (old : Reading G) (had has : Option (List ℕ)) (most total : ℕ) (refusal : Refusal) → old.gate ≡ gate
+    → StandsFor (told gate) [] old.machine old.tally → (s : Stopped told old had has most total (stop.Refused refusal)) → RefusesIn (told gate) s.before s.last refusal
+stop_of told gate old had has most total refusal same st s =
+    subst (λ g. RefusesIn (told g) s.before s.last refusal) same (s.stops [] (subst (λ g. StandsFor (told g) [] old.machine old.tally) (sym same) st))
 
--- a refusal of all that was read
-pub read_refused : (told : Option (List ℕ)) (all : List ℕ) (stopped : Stop) → IfSome told (λ bytes. all ≡ take (byte_cap + 1) bytes)
-    → IfStopped {X = Report} (Err stopped) (Refuses all) → IfSome told (λ bytes. IfRefused {X = Report} (Err (fault.Stop stopped)) (Refuses bytes))
-read_refused None all stopped e r = tt
-read_refused (Some bytes) all stop.OutOfMemory e r = tt
-read_refused (Some bytes) all stop.Spent e r = tt
-read_refused (Some bytes) all (stop.Refused refusal) e r = refused_all bytes all refusal e r
-  where
-    refused_all : (bytes all : List ℕ) (refusal : Refusal) → all ≡ take (byte_cap + 1) bytes → Refuses all refusal → Refuses bytes refusal
-    refused_all bytes all refusal e r =
-        elim (cases_lt (byte_cap + 1) (length bytes)) [
-          | inl long ↦ refuses_front bytes all (drop (byte_cap + 1) bytes) refusal (ap (λ t. t ++ drop (byte_cap + 1) bytes) e ∙ take-append-drop (byte_cap + 1) bytes)
-              (λ cut. absurd (let whole = (r.all cut).1 in omega (arith, ap length e ∙ length-take (byte_cap + 1) bytes))) r
-          | inr short ↦ subst (λ b. Refuses b refusal) (e ∙ take_all (byte_cap + 1) bytes short) r
-        ]
+stopped_tells : {G : Type 0} (told : G → Gate) (gate : G) (old : Reading G) (had has : Option (List ℕ)) (most total : ℕ) (why : Stop) → old.gate ≡ gate
+    → StandsFor (told gate) [] old.machine old.tally → Stopped told old had has most total why → SourceTells (told gate) had has (Err (fault.Stop why))
+stopped_tells told gate old had has most total (stop.Refused refusal) same st s =
+    refused_front (told gate) had has s.before s.last refusal s.off (stop_of told gate old had has most total refusal same st s)
+stopped_tells told gate old had has most total stop.OutOfMemory same st s = tt
+stopped_tells told gate old had has most total stop.Spent same st s = s.stops [] (subst (λ g. StandsFor (told g) [] old.machine old.tally) (sym same) st)
 
--- a refusal of what was read before a read failed
-pub failed_refused : (told : Option (List ℕ)) (all : List ℕ) (checked : Result Report Stop) (answer : CheckFault) → IfSome told (λ bytes. IsFrontOf bytes all)
-    → IfStopped checked (Refuses all) → IsAfterFailure checked answer → IfSome told (λ bytes. IfRefused {X = Report} (Err answer) (Refuses bytes))
-failed_refused None all checked answer f r a = tt
-failed_refused (Some bytes) all (Ok report) answer f r a = subst (λ t. IfRefused {X = Report} (Err t) (Refuses bytes)) (sym a) tt
-failed_refused (Some bytes) all (Err stop.OutOfMemory) answer f r a = absurd r
-failed_refused (Some bytes) all (Err stop.Spent) answer f r a = absurd r
-failed_refused (Some bytes) all (Err (stop.Refused refusal)) answer f r (inl a) = subst (λ t. IfRefused {X = Report} (Err t) (Refuses bytes)) (sym a.1) tt
-failed_refused (Some bytes) all (Err (stop.Refused refusal)) answer f r (inr a) =
-    subst (λ t. IfRefused {X = Report} (Err t) (Refuses bytes)) (sym a.1) (refuses_front bytes all f.rest refusal f.joined a.0 r)
+stopped_few : {G : Type 0} (told : G → Gate) (old : Reading G) (had has : Option (List ℕ)) (most total : ℕ) (why : Stop) → Stopped told old had has most total why
+    → TakesAtMost total had has
+stopped_few told old had has most total why s =
+    let a = s.all in
+    record { bytes = s.before ++ s.last; few = let n = length-append s.before s.last in omega arith; off = s.off }
+
+stopped_prompt : {G : Type 0} (told : G → Gate) (gate : G) (old : Reading G) (had has : Option (List ℕ)) (total : ℕ) (why : Stop) → old.gate ≡ gate
+    → StandsFor (told gate) [] old.machine old.tally → Stopped told old had has read_bytes total why → TakesFew had has {X = Totals} (Err (fault.Stop why))
+stopped_prompt told gate old had has total (stop.Refused refusal) same st s = λ e.
+    let r = stop_of told gate old had has read_bytes total refusal same st s in
+    let a = s.few in
+    let all = r.refused.all in
+    let n = length-append s.before s.last in
+    let m = length-append s.before (take r.used s.last) in
+    record { bytes = s.before ++ s.last; few = omega arith; off = s.off }
+stopped_prompt told gate old had has total stop.OutOfMemory same st s = tt
+stopped_prompt told gate old had has total stop.Spent same st s = tt
+
+-- ---- a read failed
+
+stands_undecided : (gate : Gate) (bytes : List ℕ) (r : Seen) (tally : Tally) → StandsFor gate bytes r tally → (at end : ℕ) (reason : ToldReason) → IsFault gate bytes at end reason
+    → reason ≡ truncated
+unfolding StandsFor
+stands_undecided gate bytes r tally s =
+    let k = s.0.taken in refuses_promptly gate bytes k.cut (left begin_state k.fields) k.all_bytes s.1 k.walked
+
+failed_tells : {G : Type 0} (told : G → Gate) (gate : G) (old new : Reading G) (had has : Option (List ℕ)) → old.gate ≡ gate
+    → StandsFor (told gate) [] old.machine old.tally → TakenAll told old new had has → Undecided (told gate) had has
+failed_tells told gate old new had has same st t =
+    let stands = taken_stands told old new had has t.count (subst (λ g. StandsFor (told g) [] old.machine old.tally) (sym same) st) t.taken in
+    record {
+      bytes = t.taken.bytes;
+      off = t.taken.off;
+      none = stands_undecided (told gate) t.taken.bytes new.machine new.tally (subst (λ g. StandsFor (told g) t.taken.bytes new.machine new.tally) (t.taken.fed.same ∙ same) stands);
+    }
+
+pub taken_few : {G : Type 0} (told : G → Gate) (old new : Reading G) (had has : Option (List ℕ)) → TakenAll told old new had has
+    → TakesAtMost (most_bytes + 1) had has
+taken_few told old new had has t =
+    let a = t.short in
+    let b = t.taken.size in
+    record { bytes = t.taken.bytes; few = omega arith; off = t.taken.off }
+
+-- ---- a fault of the reads
+
+pub fault_tells : {G : Type 0} (told : G → Gate) (gate : G) (old new : Reading G) (had has : Option (List ℕ)) (why : CheckFault) → old.gate ≡ gate
+    → StandsFor (told gate) [] old.machine old.tally → ReadsTell told old new had has {X = Unit {0}} (Err why) → SourceTells (told gate) had has (Err why)
+fault_tells told gate old new had has (fault.Stop why) same st s = stopped_tells told gate old had has read_bytes (most_bytes + 1) why same st s
+fault_tells told gate old new had has fault.ReadFault same st t = failed_tells told gate old new had has same st t
+
+pub fault_few : {G : Type 0} (told : G → Gate) (old new : Reading G) (had has : Option (List ℕ)) (why : CheckFault)
+    → ReadsTell told old new had has {X = Unit {0}} (Err why) → TakesAtMost (most_bytes + 1) had has
+fault_few told old new had has (fault.Stop why) s = stopped_few told old had has read_bytes (most_bytes + 1) why s
+fault_few told old new had has fault.ReadFault t = taken_few told old new had has t
+
+pub fault_prompt : {G : Type 0} (told : G → Gate) (gate : G) (old new : Reading G) (had has : Option (List ℕ)) (why : CheckFault) → old.gate ≡ gate
+    → StandsFor (told gate) [] old.machine old.tally → ReadsTell told old new had has {X = Unit {0}} (Err why) → TakesFew had has {X = Totals} (Err why)
+fault_prompt told gate old new had has (fault.Stop why) same st s = stopped_prompt told gate old had has (most_bytes + 1) why same st s
+fault_prompt told gate old new had has fault.ReadFault same st t = tt
+
+-- ---- the end of the source
+
+whole_read : (had has : Option (List ℕ)) (bytes : List ℕ) → Consumes had has bytes → IsAtEnd has → IfSome had (λ all. bytes ≡ all)
+whole_read None has bytes off e = tt
+whole_read (Some all) None bytes off e = absurd off
+whole_read (Some all) (Some rest) bytes off e = sym (off ∙ ap (λ xs. bytes ++ xs) e ∙ append-nil bytes)
+
+abbrev as_fault : Result Totals Stop → Result Totals CheckFault
+as_fault (Ok totals) = Ok totals
+as_fault (Err why) = Err (fault.Stop why)
+
+source_tells : (gate : Gate) (had has : Option (List ℕ)) (bytes : List ℕ) (result : Result Totals Stop) → IfSome had (λ all. bytes ≡ all) → Tells gate bytes result
+    → SourceTells gate had has (as_fault result)
+source_tells gate None has bytes (Ok totals) e t = tt
+source_tells gate None has bytes (Err (stop.Refused refusal)) e t = tt
+source_tells gate None has bytes (Err stop.OutOfMemory) e t = tt
+source_tells gate None has bytes (Err stop.Spent) e t = t
+source_tells gate (Some all) has bytes (Ok totals) e t = subst (λ xs. Tells gate xs (Ok totals)) e t
+source_tells gate (Some all) has bytes (Err (stop.Refused refusal)) e t = subst (λ xs. IsRightOf gate xs refusal) e t
+source_tells gate (Some all) has bytes (Err stop.OutOfMemory) e t = tt
+source_tells gate (Some all) has bytes (Err stop.Spent) e t = t
+
+all_tell : {G : Type 0} (told : G → Gate) (gate : G) (old mid new : Reading G) (had has : Option (List ℕ)) (result : Result Totals Stop) → old.gate ≡ gate
+    → StandsFor (told gate) [] old.machine old.tally → TakenAll told old mid had has → FinishTells (told mid.gate) result mid.machine mid.tally new.machine
+    → (bytes : List ℕ) × Consumes had has bytes × Tells (told gate) bytes result
+all_tell told gate old mid new had has result same st t f =
+    (t.taken.bytes, t.taken.off, finish_tells told gate old mid new t.taken.bytes result same st t.taken.fed f)
+
+pub end_tells : {G : Type 0} (told : G → Gate) (gate : G) (old mid new : Reading G) (had has : Option (List ℕ)) (result : Result Totals Stop) → old.gate ≡ gate
+    → StandsFor (told gate) [] old.machine old.tally → TakenAll told old mid had has → IsAtEnd has → FinishTells (told mid.gate) result mid.machine mid.tally new.machine
+    → SourceTells (told gate) had has (as_fault result)
+end_tells told gate old mid new had has result same st t e f =
+    let x = all_tell told gate old mid new had has result same st t f in
+    source_tells (told gate) had has x.0 result (whole_read had has x.0 x.1 e) x.2
+
+-- what is refused at the end is refused for its end
+end_prompt : (gate : Gate) (bytes : List ℕ) (old : Seen) (tally : Tally) (new : Seen) (had has : Option (List ℕ)) (why : Stop) → StandsFor gate bytes old tally
+    → FinishTells gate (Err why) old tally new → TakesFew had has {X = Totals} (Err (fault.Stop why))
+unfolding FinishTells
+end_prompt gate bytes old tally new had has (stop.Refused refusal) st f = λ e. absurd (e (f bytes st).0.is_named)
+end_prompt gate bytes old tally new had has stop.OutOfMemory st f = tt
+end_prompt gate bytes old tally new had has stop.Spent st f = tt
+
+pub end_takes_few : {G : Type 0} (told : G → Gate) (gate : G) (old mid new : Reading G) (had has : Option (List ℕ)) (why : Stop) → old.gate ≡ gate
+    → StandsFor (told gate) [] old.machine old.tally → TakenAll told old mid had has → FinishTells (told mid.gate) (Err why) mid.machine mid.tally new.machine
+    → TakesFew had has {X = Totals} (Err (fault.Stop why))
+end_takes_few told gate old mid new had has why same st t f =
+    end_prompt (told mid.gate) t.taken.bytes mid.machine mid.tally new.machine had has why
+    (taken_stands told old mid had has t.count (subst (λ g. StandsFor (told g) [] old.machine old.tally) (sym same) st) t.taken) f
+
+-- ---- under the gate of a filter
+
+pub source_of_filter : (gate : FilterWith) (filter : FilterView) (options : Options) (had has : Option (List ℕ)) (result : Result Totals CheckFault)
+    → gate.filter ≡ filter → gate.options ≡ options → SourceTells (gate_of_filter gate.filter gate.options) had has result
+    → SourceTells (gate_of_filter filter options) had has result
+source_of_filter gate filter options had has result ef eo t =
+    subst (λ o. SourceTells (gate_of_filter filter o) had has result) eo (subst (λ f. SourceTells (gate_of_filter f gate.options) had has result) ef t)
+
+pub source_reported : (filter : FilterView) (options : Options) (had has : Option (List ℕ)) (totals : Totals)
+    → SourceTells (gate_of_filter filter options) had has (Ok totals) → IfSome had (λ bytes. Reports filter options bytes (report_of totals))
+source_reported filter options None has totals t = tt
+source_reported filter options (Some bytes) has totals t = tells_report filter options bytes totals t
+
+pub source_refused : (filter : FilterView) (options : Options) (had has : Option (List ℕ)) (why : CheckFault)
+    → SourceTells (gate_of_filter filter options) had has (Err why) → IfSome had (λ bytes. IfFaultRefused (Refuses filter options bytes) why)
+source_refused filter options None has why t = tt
+source_refused filter options (Some bytes) has (fault.Stop (stop.Refused refusal)) t = right_refuses filter options bytes refusal t
+source_refused filter options (Some bytes) has (fault.Stop stop.OutOfMemory) t = tt
+source_refused filter options (Some bytes) has (fault.Stop stop.Spent) t = t
+source_refused filter options (Some bytes) has fault.ReadFault t = tt
+
+pub source_first : (gate : Gate) (had has : Option (List ℕ)) (why : CheckFault) → SourceTells gate had has (Err why)
+    → IfSome had (λ bytes. IsBytes bytes → IfFaultRefused (CarriesFirst gate bytes) why)
+source_first gate None has why t = tt
+source_first gate (Some bytes) has (fault.Stop (stop.Refused refusal)) t = λ h. right_first gate bytes refusal h t
+source_first gate (Some bytes) has (fault.Stop stop.OutOfMemory) t = λ h. tt
+source_first gate (Some bytes) has (fault.Stop stop.Spent) t = λ h. t
+source_first gate (Some bytes) has fault.ReadFault t = λ h. tt
+
+pub source_undecided : (gate : Gate) (had has : Option (List ℕ)) (why : CheckFault) → SourceTells gate had has (Err why) → why ≡ fault.ReadFault
+    → Undecided gate had has
+source_undecided gate had has why t e = subst (λ w. SourceTells gate had has (Err w)) e t
+
+pub source_unspent : (gate : Gate) (had has : Option (List ℕ)) (why : CheckFault) → SourceTells gate had has (Err why) → why ≢ fault.Stop stop.Spent
+source_unspent gate had has why t = λ e. subst (λ w. SourceTells gate had has (Err w)) e t

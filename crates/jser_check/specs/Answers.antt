@@ -1,75 +1,80 @@
 -- What the answers of a check mean.
 use Rattle.std.specs.Prelude.{◌≡◌, ◌≢◌, ◌⊎◌, ℕ, ◌≤◌, List, ◌++◌, length, take, Result, Ok, Err}
+use Rattle.jser_grammar.specs.Parts.{IsBytes}
+use Rattle.jser_grammar.specs.Trees.{ContentTrees}
+use Rattle.jser_grammar.specs.Counts.{content_count, refs_of, depth_of, handle_count}
+use Rattle.jser_verdict.specs.Reasons.{Reason as ToldReason}
+use Rattle.jser_verdict.specs.Gates.{Gate}
+use Rattle.jser_verdict.specs.Passing.{Passes}
+use Rattle.jser_verdict.specs.FirstFault.{IsFirstFault}
+use Rattle.jser_reader.specs.declared.Reason.TheVariants as reason
+use Rattle.jser_reader.specs.declared.Refusal.{Refusal}
+use Rattle.jser_reader.specs.declared.Stop.{Stop}
+use Rattle.jser_reader.specs.declared.Stop.TheVariants as stop
+use Rattle.jser_reader.specs.declared.Totals.{Totals}
+use Rattle.jser_reader.specs.Reasons.{named}
+use Rattle.jser_reader.specs.Tallies.{AreTotals}
+use Rattle.jser_reader.specs.Streams.{AreRefused, AreTruncated}
+use Rattle.jser_filter.specs.Filters.{FilterView}
 use Rattle.jser_check.specs.declared.answer.Report.{Report}
-use Rattle.jser_check.specs.declared.answer.Refusal.{Refusal}
-use Rattle.jser_check.specs.declared.answer.Reason.TheVariants as reason
-use Rattle.jser_check.specs.declared.answer.Stop.{Stop}
-use Rattle.jser_check.specs.declared.answer.Stop.TheVariants as stop
-use Rattle.jser_check.specs.declared.answer.CheckFault.{CheckFault}
-use Rattle.jser_check.specs.declared.answer.CheckFault.TheVariants as fault
-use Rattle.jser_check.specs.Stream.{Content, IsStreamOf, refs_of, depth_of, handle_count}
+use Rattle.jser_check.specs.declared.gate.Options.{Options}
+use Rattle.jser_check.specs.Admitted.{IsAdmitted, AreAdmitted, gate_of_filter}
 
--- the most bytes that a stream may have
-abbrev pub byte_cap : ℕ
-byte_cap = 2147483647
+-- what a reader counted, as a report
+abbrev pub report_of : Totals → Report
+report_of totals =
+    record { bytes = totals.bytes; contents = totals.contents; refs = totals.refs; depth = totals.depth; handles = totals.handles }
 
--- The bytes are a stream of these contents, and within the limits. The grammar so far has no class names,
--- no arrays and a depth of at most 1, and fewer handles than bytes, so that the byte cap limits all.
-pub record IsAdmitted (bytes : List ℕ) (contents : List Content) : Type 0 where
-  pub stream : IsStreamOf bytes contents
-  pub within : length bytes ≤ byte_cap
+-- the report has the counts of a stream of this list
+pub record AreCounts (bytes : List ℕ) (list : ContentTrees) (report : Report) : Type 0 where
+  pub all_bytes : report.bytes ≡ length bytes
+  pub contents : report.contents ≡ content_count list
+  pub refs : report.refs ≡ refs_of list
+  pub depth : report.depth ≡ depth_of list
+  pub handles : report.handles ≡ handle_count list
 
--- some contents are spelled by these bytes, and admitted
-abbrev pub IsAdmittedStream : List ℕ → Type 0
-IsAdmittedStream bytes = (contents : List Content) × IsAdmitted bytes contents
+-- some list is spelled by the bytes and admitted, and the report has its counts
+abbrev pub Reports : FilterView → Options → List ℕ → Report → Type 0
+Reports filter options bytes report = (list : ContentTrees) × IsAdmitted filter options bytes list × AreCounts bytes list report
 
--- the counts of a stream
-abbrev pub report_of : List ℕ → List Content → Report
-report_of bytes contents =
-    record { bytes = length bytes; contents = length contents; refs = refs_of contents; depth = depth_of contents; handles = handle_count contents }
+-- the refusal names the first fault of the bytes
+pub record CarriesFirst (gate : Gate) (bytes : List ℕ) (refusal : Refusal) : Type 0 where
+  pub reason : ToldReason
+  pub is_named : refusal.reason ≡ named reason
+  pub is_first : IsFirstFault gate bytes refusal.from_byte refusal.to_byte reason
 
--- the report has the counts of what the bytes spell
-abbrev pub Reports : List ℕ → Report → Type 0
-Reports bytes report = (contents : List Content) → IsAdmitted bytes contents → report ≡ report_of bytes contents
-
--- The refusal is right of the bytes: they are not an admitted stream, and its first `to_byte` bytes decide
--- it, so that no admitted stream begins with them. Truncated speaks of all the bytes.
-pub record Refuses (bytes : List ℕ) (refusal : Refusal) : Type 0 where
-  pub none : (contents : List Content) → IsAdmitted bytes contents → ⊥
-  pub begins : refusal.reason ≢ reason.Truncated → (more : List ℕ) (contents : List Content)
-      → IsAdmitted (take refusal.to_byte bytes ++ more) contents → ⊥
+-- The refusal is right of the bytes: the filter admits no stream that they spell, and none that begins with the first
+-- `to_byte` of them, which decide, whatever comes after them. Truncated speaks of all the bytes.
+pub record Refuses (filter : FilterView) (options : Options) (bytes : List ℕ) (refusal : Refusal) : Type 0 where
+  pub none : AreAdmitted filter options bytes → ⊥
+  pub begins : refusal.reason ≢ reason.Truncated → (after : List ℕ) → AreAdmitted filter options (take refusal.to_byte bytes ++ after) → ⊥
+  pub front : refusal.reason ≢ reason.Truncated → AreRefused (gate_of_filter filter options) (take refusal.to_byte bytes) refusal
+  pub cut : refusal.reason ≡ reason.Truncated → AreTruncated (gate_of_filter filter options) bytes refusal
   pub ordered : refusal.from_byte ≤ refusal.to_byte
   pub within : refusal.to_byte ≤ length bytes
-  pub all : refusal.reason ≡ reason.Truncated → (refusal.to_byte ≡ length bytes) × (length bytes ≤ byte_cap)
 
--- what holds of the refusal of a check, where that is its answer; it has no other reason to stop
-abbrev pub IfStopped : {X : Type 0} → Result X Stop → (Refusal → Type 0) → Type 0
-IfStopped (Ok x) P = Unit {0}
-IfStopped (Err (stop.Refused refusal)) P = P refusal
-IfStopped (Err stop.OutOfMemory) P = ⊥
-IfStopped (Err stop.Spent) P = ⊥
+-- what holds of the refusal, where that is why a check stopped; it is never spent
+abbrev pub IfRefused : (Refusal → Type 0) → Stop → Type 0
+IfRefused P (stop.Refused refusal) = P refusal
+IfRefused P stop.OutOfMemory = Unit {0}
+IfRefused P stop.Spent = ⊥
 
--- what holds of the refusal of the check of a source, where that is its answer
-abbrev pub IfRefused : {X : Type 0} → Result X CheckFault → (Refusal → Type 0) → Type 0
-IfRefused (Ok x) P = Unit {0}
-IfRefused (Err (fault.Stop (stop.Refused refusal))) P = P refusal
-IfRefused (Err (fault.Stop stop.OutOfMemory)) P = Unit {0}
-IfRefused (Err (fault.Stop stop.Spent)) P = Unit {0}
-IfRefused (Err fault.ReadFault) P = Unit {0}
+-- Under any gate: some bytes of the front are refused, or all of them end too early.
 
--- an answer that says nothing of all the bytes of a source: neither a yes nor Truncated
-abbrev pub SpeaksOfNoEnd : {X : Type 0} → Result X CheckFault → Type 0
-SpeaksOfNoEnd (Ok x) = ⊥
-SpeaksOfNoEnd (Err (fault.Stop (stop.Refused refusal))) = refusal.reason ≢ reason.Truncated
-SpeaksOfNoEnd (Err (fault.Stop stop.OutOfMemory)) = Unit {0}
-SpeaksOfNoEnd (Err (fault.Stop stop.Spent)) = Unit {0}
-SpeaksOfNoEnd (Err fault.ReadFault) = Unit {0}
+pub record FrontRefused (gate : Gate) (bytes : List ℕ) (refusal : Refusal) : Type 0 where
+  pub within : refusal.to_byte ≤ length bytes
+  pub refused : AreRefused gate (take refusal.to_byte bytes) refusal
 
--- The answer of the check of a source after a failed read, by that of the bytes before it: a refusal that
--- they decide, and else that a read failed.
-abbrev pub IsAfterFailure : {X : Type 0} → Result X Stop → CheckFault → Type 0
-IsAfterFailure (Ok x) answer = answer ≡ fault.ReadFault
-IsAfterFailure (Err (stop.Refused refusal)) answer =
-    ((refusal.reason ≡ reason.Truncated) × (answer ≡ fault.ReadFault)) ⊎ ((refusal.reason ≢ reason.Truncated) × (answer ≡ fault.Stop (stop.Refused refusal)))
-IsAfterFailure (Err stop.OutOfMemory) answer = answer ≡ fault.ReadFault
-IsAfterFailure (Err stop.Spent) answer = answer ≡ fault.ReadFault
+abbrev pub IsRightOf : Gate → List ℕ → Refusal → Type 0
+IsRightOf gate bytes refusal = FrontRefused gate bytes refusal ⊎ AreTruncated gate bytes refusal
+
+-- some list makes the bytes a stream which passes, and these are its counts
+abbrev pub PassesWith : Gate → List ℕ → Totals → Type 0
+PassesWith gate bytes totals = (list : ContentTrees) × Passes gate bytes list × AreTotals bytes list totals
+
+-- what a check answers of bytes under a gate: that some list makes them a stream which passes, or a refusal
+abbrev pub Tells : Gate → List ℕ → Result Totals Stop → Type 0
+Tells gate bytes (Ok totals) = PassesWith gate bytes totals
+Tells gate bytes (Err (stop.Refused refusal)) = IsRightOf gate bytes refusal
+Tells gate bytes (Err stop.OutOfMemory) = Unit {0}
+Tells gate bytes (Err stop.Spent) = ⊥

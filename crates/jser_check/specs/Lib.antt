@@ -1,5 +1,6 @@
-pub mod Stream
+pub mod Admitted
+pub mod Caps
+pub mod Feeding
 pub mod Answers
-pub mod Reading
 pub mod Sources
-pub mod Reasons
+pub mod SourceAnswers

@@ -1,14 +1,15 @@
-//! Whether bytes are a Java serialization stream: the checks of a slice and of a source.
+//! Whether bytes are a Java serialization stream that a filter admits: the checks of a slice and of a source.
 #![tactic(auto)]
 
 mod answer;
 mod bytes;
-mod content;
+mod gate;
 mod reader;
-
-pub use answer::{CheckFault, Reason, Refusal, Report, Stop};
-pub use bytes::check_bytes;
-pub use reader::check_reader;
-
 #[cfg(test)]
 mod tests;
+
+pub use answer::{CheckFault, Report};
+pub use bytes::check_bytes;
+pub use gate::{FilterGate, Options};
+pub use jser_reader::{Reason, Refusal, Stop};
+pub use reader::check_reader;

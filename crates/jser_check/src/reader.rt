@@ -1,125 +1,135 @@
-//! The check of a source: its bytes are read to their end, or until there are more than a stream may
-//! have, and then checked whole.
-ghost use Rattle.std.specs.Prelude.{◌≡◌, ◌≢◌, ◌+◌, ◌<◌, ◌≤◌, List, length, take, true, false, IfOk, OnOk, IfSome, vec_len, []};
-ghost use Rattle.std.specs.Io.KnownBytes.{IsAtEnd, Keeps};
-ghost use Rattle.jser_check.specs.Answers.{byte_cap, IsAdmittedStream, Reports, Refuses, IfRefused, SpeaksOfNoEnd, IsAfterFailure};
-ghost use Rattle.jser_check.specs.Sources.{ReadsOnto, IsFrontOf, TakesAtMost};
+//! The check of a source: what each read gives goes to one reader at once.
+ghost use Rattle.std.specs.Prelude.{◌≡◌, ◌≢◌, ◌+◌, ◌<◌, ◌≤◌, [], length, vec_len, IfOk, IfErr, IfSome};
+ghost use Rattle.std.specs.Io.KnownBytes.{IsAtEnd};
+ghost use Rattle.jser_grammar.specs.Parts.{IsBytes};
+ghost use Rattle.jser_reader.specs.ReaderStates.{StandsFor};
+ghost use Rattle.jser_check.specs.Admitted.{most_bytes, gate_of_filter};
+ghost use Rattle.jser_check.specs.Answers.{Reports, Refuses, CarriesFirst};
+ghost use Rattle.jser_check.specs.Sources.{TakesAtMost, ReadTells, ReadsTell, FailsWith};
+ghost use Rattle.jser_check.specs.SourceAnswers.{IfFaultRefused, Undecided, TakesFew, SourceTells};
 
-use crate::answer::{CheckFault, Reason, Report, Stop};
-use crate::bytes::{BYTE_CAP, check_bytes};
+use crate::answer::{CheckFault, Report};
+use crate::gate::{FilterGate, Options};
+use jser_filter::Filter;
 use jser_prim::Source;
+use jser_reader::{Gate, Reader, Stop, Totals};
 use std::alloc::{AllocError, Global};
 
+/// The most bytes that a stream may have.
+const BYTE_CAP: u64 = 0x100_0000_0000;
+
 /// How many bytes a read asks for at most.
-const BUFFER_LEN: usize = 65536;
+const BUFFER_LEN: usize = 65_535;
 
-/// Why a source was not read to its end.
-#[derive(Clone, Copy, PartialEq, Eq, Debug)]
-enum ReadError {
-    Failed,
-    OutOfMemory,
-}
-
-/// Checks whether the bytes of a source are one stream of the part of the grammar that is read so far, and
-/// returns its counts.
+/// Checks whether the bytes of a source are one stream that the filter admits, and returns its counts.
 ///
-/// It reads to the end, or until there are 2^31 bytes, which is more than a stream may have, and holds them
-/// in memory. Each read asks for at least one byte. After a failed read, a refusal that the bytes before it
-/// decide is answered, unless it is `Truncated`.
+/// Each read asks for at least one byte, and what it gives is checked at once. It reads to the end, or until the bytes
+/// are refused. What it allocates is room for the bytes of a read, once, and what the reader does.
 ///
 /// # Errors
 ///
-/// `CheckFault::Stop` with the refusal, or with `OutOfMemory`; `CheckFault::ReadFault` where a read failed.
-pub fn check_reader<R: Source>(alloc: Global, source: &mut R) -> Result<Report, CheckFault>
-    ensures accepted { IfSome (R.to_come source.old) (λ bytes. IfOk result (λ _. IsAdmittedStream bytes)) }
-    ensures reported { IfSome (R.to_come source.old) (λ bytes. IfOk result (Reports bytes)) }
-    ensures refused { IfSome (R.to_come source.old) (λ bytes. IfRefused result (Refuses bytes)) }
-    ensures read_fault { result ≡ Err CheckFault.ReadFault → R.has_failed source.new ≡ true }
-    ensures after_failure { R.has_failed source.old ≡ false → R.has_failed source.new ≡ true → SpeaksOfNoEnd result }
+/// `CheckFault::Stop` with the refusal, which is the first fault, or with `OutOfMemory`, never with `Spent`;
+/// `CheckFault::ReadFault` where a read failed, and the bytes before it decide no refusal.
+pub fn check_reader<R: Source>(
+    alloc: Global,
+    source: &mut R,
+    filter: &Filter,
+    options: Options,
+) -> Result<Report, CheckFault>
+    ensures accepted { IfOk result (λ report. IfSome (R.to_come source.old) (λ bytes. Reports filter.now options bytes report)) }
+    ensures refused { IfErr result (λ fault. IfSome (R.to_come source.old) (λ bytes. IfFaultRefused (Refuses filter.now options bytes) fault)) }
+    ensures first { IfErr result (λ fault. IfSome (R.to_come source.old) (λ bytes. IsBytes bytes
+        → IfFaultRefused (CarriesFirst (gate_of_filter filter.now options) bytes) fault)) }
+    ensures undecided { result ≡ Err CheckFault.ReadFault → Undecided (gate_of_filter filter.now options) (R.to_come source.old) (R.to_come source.new) }
+    ensures fails { FailsWith result (R.has_failed source.old) (R.has_failed source.new) }
     ensures never_spent { result ≢ Err (CheckFault.Stop Stop.Spent) }
-    ensures taken { TakesAtMost (byte_cap + 1) (R.to_come source.old) (R.to_come source.new) }
+    ensures within { TakesAtMost (most_bytes + 1) (R.to_come source.old) (R.to_come source.new) }
+    ensures prompt { TakesFew (R.to_come source.old) (R.to_come source.new) result }
 {
-    let mut all = Vec::new(alloc);
-    match read_whole(alloc, source, &mut all) {
-        Ok(()) => match check_bytes(alloc, &all) {
-            Ok(report) => Ok(report),
+    match check_under(alloc, source, FilterGate::new(filter, options)) {
+        Ok(totals) => Ok(Report::of(totals)),
+        Err(fault) => Err(fault),
+    }
+}
+
+/// Checks the bytes of a source under any gate.
+fn check_under<R: Source, G: Gate + Drop>(
+    alloc: Global,
+    source: &mut R,
+    gate: G,
+) -> Result<Totals, CheckFault>
+    ensures tells { SourceTells (G.told gate) (R.to_come source.old) (R.to_come source.new) result }
+    ensures fails { FailsWith result (R.has_failed source.old) (R.has_failed source.new) }
+    ensures within { TakesAtMost (most_bytes + 1) (R.to_come source.old) (R.to_come source.new) }
+    ensures prompt { TakesFew (R.to_come source.old) (R.to_come source.new) result }
+{
+    let mut reader = Reader::new(alloc, gate);
+    match read_whole(alloc, source, &mut reader) {
+        Ok(()) => match reader.finish() {
+            Ok(totals) => Ok(totals),
             Err(stop) => Err(CheckFault::Stop(stop)),
         },
-        Err(ReadError::OutOfMemory) => Err(CheckFault::Stop(Stop::OutOfMemory)),
-        Err(ReadError::Failed) => Err(fault_after_failure(check_bytes(alloc, &all))),
+        Err(fault) => Err(fault),
     }
 }
 
-/// The answer after a failed read, where the bytes before it were checked.
-fn fault_after_failure(checked: Result<Report, Stop>) -> CheckFault
-    ensures { IsAfterFailure checked result }
+/// Reads a source to its end, into the reader.
+///
+/// # Errors
+///
+/// `CheckFault::Stop` where the reader stopped, or where there was no memory for the bytes of a read;
+/// `CheckFault::ReadFault` where a read failed.
+#[tactic(auto, using(crate::proofs::SourceLemmas::taken_none, crate::proofs::SourceLemmas::taken_more, crate::proofs::SourceLemmas::stopped_after))]
+fn read_whole<R: Source, G: Gate>(
+    alloc: Global,
+    source: &mut R,
+    reader: &mut Reader<G>,
+) -> Result<(), CheckFault>
+    requires { StandsFor (G.told reader.old.gate) [] reader.old.machine reader.old.tally }
+    ensures tells { ReadsTell (λ gate. G.told gate) reader.old reader.new (R.to_come source.old) (R.to_come source.new) result }
+    ensures fails { FailsWith result (R.has_failed source.old) (R.has_failed source.new) }
 {
-    match checked {
-        Err(Stop::Refused(refusal)) => match refusal.reason {
-            Reason::Truncated => CheckFault::ReadFault,
-            _ => CheckFault::Stop(Stop::Refused(refusal)),
-        },
-        _ => CheckFault::ReadFault,
-    }
-}
-
-/// Reads a source to its end, or until more bytes are there than a stream may have.
-#[tactic(auto, using(crate::proofs::SourceLemmas::reads_nothing, crate::proofs::SourceLemmas::reads_on, crate::proofs::SourceLemmas::read_to_end, crate::proofs::SourceLemmas::read_full, crate::proofs::SourceLemmas::read_front, crate::proofs::SourceLemmas::takes_more, crate::proofs::SourceLemmas::takes_all))]
-fn read_whole<R: Source>(alloc: Global, source: &mut R, all: &mut Vec<u8>) -> Result<(), ReadError>
-    requires { all.old.items ≡ [] }
-    ensures read { OnOk result (IfSome (R.to_come source.old) (λ bytes. all.new.items ≡ take (byte_cap + 1) bytes)) }
-    ensures front { result ≡ Err ReadError.Failed → IfSome (R.to_come source.old) (λ bytes. IsFrontOf bytes all.new.items) }
-    ensures failed { result ≡ Err ReadError.Failed → R.has_failed source.new ≡ true }
-    ensures ok { OnOk result (R.has_failed source.new ≡ R.has_failed source.old) }
-    ensures taken { TakesAtMost (byte_cap + 1) (R.to_come source.old) (R.to_come source.new) }
-{
-    let Ok(mut buffer) = new_buffer(alloc) else {
-        return Err(ReadError::OutOfMemory);
+    let Ok(mut buffer) = new_buffer(alloc, BUFFER_LEN) else {
+        return Err(CheckFault::Stop(Stop::OutOfMemory));
     };
-    'reads: while all.len() <= BYTE_CAP {
-        let room = (BYTE_CAP + 1 - all.len()).min(buffer.len());
-        match read_some(source, &mut buffer[..room], all) {
-            Err(error) => return Err(error),
-            Ok(false) => return Ok(()),
-            Ok(true) => {}
+    let mut taken: u64 = 0;
+    'reads: loop {
+        let room = (BYTE_CAP + 1 - taken).min(buffer.len() as u64) as usize;
+        match read_some(source, reader, &mut buffer[..room]) {
+            Ok(0) => return Ok(()),
+            Ok(count) => taken += count as u64,
+            Err(fault) => return Err(fault),
         }
     }
-    Ok(())
 }
 
 /// Room for the bytes of a read.
-fn new_buffer(alloc: Global) -> Result<Vec<u8>, AllocError>
-    ensures { IfOk result (λ buffer. 0 < vec_len buffer) }
+fn new_buffer(alloc: Global, len: usize) -> Result<Vec<u8>, AllocError>
+    ensures { IfOk result (λ buffer. vec_len buffer ≡ len) }
 {
-    vec![in alloc; 0u8; BUFFER_LEN]
+    vec![in alloc; 0u8; len]
 }
 
-/// One read, whose bytes are added to `all`. `false` is the end.
-#[tactic(auto, using(crate::proofs::SourceLemmas::takes_none))]
-fn read_some<R: Source>(
+/// One read, whose bytes go to the reader; returns how many. None are the end.
+#[tactic(auto, using(crate::proofs::FeedLemmas::fed_skip, crate::proofs::SourceLemmas::read_took, crate::proofs::SourceLemmas::read_stopped, crate::proofs::SourceLemmas::read_failed))]
+fn read_some<R: Source, G: Gate>(
     source: &mut R,
+    reader: &mut Reader<G>,
     buffer: &mut [u8],
-    all: &mut Vec<u8>,
-) -> Result<bool, ReadError>
+) -> Result<usize, CheckFault>
     requires { 0 < length buffer.old }
-    ensures read { OnOk result (ReadsOnto (R.to_come source.old) (R.to_come source.new) all.old.items all.new.items) }
-    ensures end { result ≡ Ok false → IsAtEnd (R.to_come source.new) × (all.new.items ≡ all.old.items) }
-    ensures grows { result ≡ Ok true → vec_len all.old < vec_len all.new }
-    ensures within { vec_len all.new ≤ vec_len all.old + length buffer.old }
-    ensures kept { result ≡ Err ReadError.Failed → Keeps (R.to_come source.old) (R.to_come source.new) × (all.new.items ≡ all.old.items) }
-    ensures failed { result ≡ Err ReadError.Failed → R.has_failed source.new ≡ true }
-    ensures ok { OnOk result (R.has_failed source.new ≡ R.has_failed source.old) }
-    ensures taken { TakesAtMost (length buffer.old) (R.to_come source.old) (R.to_come source.new) }
+    ensures tells { ReadTells (λ gate. G.told gate) reader.old reader.new (R.to_come source.old) (R.to_come source.new) (length buffer.old) result }
+    ensures few { IfOk result (λ count. count ≤ length buffer.old) }
+    ensures end { result ≡ Ok 0 → IsAtEnd (R.to_come source.new) }
+    ensures fails { FailsWith result (R.has_failed source.old) (R.has_failed source.new) }
 {
     let count = match source.take(buffer) {
         Ok(count) => count,
-        Err(_) => return Err(ReadError::Failed),
+        Err(_) => return Err(CheckFault::ReadFault),
     };
-    if count == 0 {
-        return Ok(false);
+    let (bytes, _) = buffer.split_at(count);
+    match reader.skip(bytes) {
+        Ok(()) => Ok(count),
+        Err(stop) => Err(CheckFault::Stop(stop)),
     }
-    if all.extend_from_slice(&buffer[..count]).is_err() {
-        return Err(ReadError::OutOfMemory);
-    }
-    Ok(true)
 }

@@ -40,6 +40,7 @@ impl Filter {
     /// Reads a filter's text. Its table of modules is empty.
     ///
     /// # Errors
+    ///
     /// The first faulty piece, with the first of its causes. `OutOfMemory` is told at the piece for which memory
     /// ran out, and at piece 0 for what is made of the whole text; no earlier piece is faulty then.
     pub fn parse(alloc: Global, text: &str) -> Result<Filter, FilterFault>

@@ -2,7 +2,7 @@
 ghost use Rattle.std.specs.Prelude.{◌≡◌, ◌+◌, ◌*◌, ◌<◌, ◌≤◌, ◌^◌, IfSome, IfNone};
 ghost use Rattle.jser_filter.specs.Limits.{limit_named, limit_value, number_up_to, digit_value, with_limit};
 
-use crate::units::is_text;
+use jser_table::is_text;
 
 /// What a limit limits.
 #[derive(Clone, Copy, PartialEq, Eq, Debug)]
@@ -14,7 +14,7 @@ pub(crate) enum Limit {
 }
 
 /// The limits of a filter's text: for each, the last value that the text sets.
-#[derive(Clone, Copy, PartialEq, Eq, Debug, Default)]
+#[derive(Clone, Copy, PartialEq, Eq, Hash, Debug, Default)]
 pub struct Limits {
     /// The greatest depth of a place: `maxdepth`.
     pub depth: Option<u64>,

@@ -6,7 +6,7 @@ ghost use Rattle.jser_filter.specs.Tables.{module_of, module_at, entry_of, view_
 
 use crate::cut::{cut, next_part};
 use crate::fault::{ModulesCause, ModulesFault};
-use crate::places::{Places, put};
+use crate::places::Places;
 use crate::units::Units;
 use jser_prim::units_of;
 use std::alloc::{AllocError, Global};
@@ -58,6 +58,7 @@ impl Modules {
     /// Reads a table of modules from lines `package=module`.
     ///
     /// # Errors
+    ///
     /// The first faulty line, with the first of its causes. `OutOfMemory` is told at the line for which memory
     /// ran out, and at line 0 for what is made of the whole text; no earlier line is faulty then.
     pub fn parse(alloc: Global, text: &str) -> Result<Modules, ModulesFault>
@@ -124,7 +125,7 @@ impl Modules {
         self.entries.reserve(1)?;
         let place = self.entries.len();
         self.packages.add(alloc, package, place)?;
-        put(&mut self.entries, entry);
+        self.entries.push_reserved(entry);
         Ok(())
     }
 }

@@ -6,7 +6,8 @@ use crate::cut::cut;
 use crate::fault::FilterCause;
 use crate::limit::{Limit, limit_value};
 use crate::pattern::NamePattern;
-use crate::units::{Units, is_text};
+use crate::units::Units;
+use jser_table::is_text;
 use std::alloc::Global;
 
 /// A pattern of names.

@@ -11,7 +11,6 @@ use crate::fault::{FilterCause, FilterFault};
 use crate::index::Index;
 use crate::limit::Limits;
 use crate::piece::Piece;
-use crate::places::put;
 use std::alloc::{AllocError, Global};
 use std::marker::Model;
 
@@ -104,7 +103,7 @@ impl Pieces {
         self.pieces.reserve(1)?;
         let place = self.pieces.len();
         add_place(alloc, &mut self.index, &piece, place)?;
-        put(&mut self.pieces, piece);
+        self.pieces.push_reserved(piece);
         Ok(())
     }
 }

@@ -1,5 +1,5 @@
 //! Where names stand in a list: the first place of each.
-ghost use Rattle.std.specs.Prelude.{◌≡◌, ◌<◌, [], ◌∷◌, ◌++◌, vec_len, vec_capacity, List, ℕ, Some, None, OnOk, OnErr};
+ghost use Rattle.std.specs.Prelude.{◌≡◌, List, ℕ, None, OnOk, OnErr};
 ghost use Rattle.jser_filter.specs.Places.{place_of, PutsFirst, KeepsPlaces};
 
 use std::alloc::{AllocError, Global};
@@ -50,16 +50,5 @@ impl Places {
                 Ok(())
             }
         }
-    }
-}
-
-/// Adds an item where there is room for it.
-pub(crate) fn put<T: Drop>(items: &mut Vec<T>, item: T)
-    requires { vec_len items.old < vec_capacity items.old }
-    ensures { items.new.items ≡ items.old.items ++ item ∷ [] }
-{
-    match items.push(item) {
-        Ok(()) => (),
-        Err(_) => unreachable!(),
     }
 }

@@ -6,7 +6,6 @@ ghost use Rattle.std.specs.Prelude.{◌≡◌, ◌+◌, ◌<◌, ◌∷◌, [], 
 ghost use Rattle.jser_filter.specs.Trie.{Keeps, LeadsOn, IsTrie, Reaches, AddsWord, edge_of, first_of, least, mark_of, node_of, step, walk_along};
 ghost use Rattle.jser_filter.specs.Words.{letter, letters};
 
-use crate::places::put;
 use std::alloc::{AllocError, Global};
 use std::collections::HashMap;
 
@@ -144,7 +143,7 @@ impl Trie {
             mark,
             first: Some(Edge { letter, to }),
         };
-        put(&mut self.nodes, BLANK);
+        self.nodes.push_reserved(BLANK);
         Ok(to)
     }
 
@@ -159,7 +158,7 @@ impl Trie {
         self.nodes.reserve(1)?;
         let to = self.nodes.len();
         self.others.insert((node, letter), to)?;
-        put(&mut self.nodes, BLANK);
+        self.nodes.push_reserved(BLANK);
         Ok(to)
     }
 

@@ -1,6 +1,5 @@
 //! Texts as lists of 16-bit units.
 ghost use Rattle.std.specs.Prelude.{◌≡◌, IfOk};
-ghost use Rattle.std.specs.Str.{bytes_eq};
 
 use std::alloc::{AllocError, Global};
 use std::marker::Model;
@@ -32,17 +31,5 @@ impl Units {
         ensures { result.now ≡ self.now }
     {
         self.units.as_slice()
-    }
-}
-
-/// Whether the units are those of this ASCII text.
-pub(crate) fn is_text(units: &[u16], text: &[u8]) -> bool
-    ensures { result ≡ bytes_eq units.now text.now }
-{
-    match (units, text) {
-        ([], []) => true,
-        ([unit, units @ ..], [byte, text @ ..]) => *unit == u16::from(*byte)
-            && is_text(units, text),
-        _ => false,
     }
 }

@@ -1,7 +1,7 @@
 //! What a filter says of a name.
 
 /// What a filter says of a name, with the index of the piece that decides.
-#[derive(Clone, Copy, PartialEq, Eq, Debug)]
+#[derive(Clone, Copy, PartialEq, Eq, Hash, Debug)]
 pub enum Verdict {
     /// The first pattern that matches allows the name.
     Allowed(usize),

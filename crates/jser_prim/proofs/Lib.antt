@@ -1,5 +1,7 @@
+pub mod GiveLemmas
 pub mod LaneLemmas
 pub mod NumberLemmas
+pub mod OutgoingLemmas
 pub mod PlaceLemmas
 pub mod PushLemmas
 pub mod RunLemmas

@@ -7,6 +7,7 @@
 mod device;
 mod lanes;
 mod number;
+mod outbox;
 mod place;
 mod runs;
 mod scan;
@@ -14,10 +15,11 @@ mod sink;
 mod source;
 mod spelling;
 
-pub use device::Failed;
+pub use device::{Failed, FailedAfter};
 pub use number::{read_u16, read_u32, read_u64};
+pub use outbox::Outbox;
 pub use scan::{TextFault, TextFaultAfter, TextScan};
-pub use sink::{Sink, ToWrite};
+pub use sink::{Sink, ToWrite, give_all};
 pub use source::{FromRead, Source};
 pub use spelling::{spell_unit, text_bytes, units_of};
 

@@ -1,9 +1,9 @@
 //! Where bytes go, and any `Write` as such a sink.
-ghost use Rattle.std.specs.Prelude.{◌≡◌, ◌≤◌, ◌<◌, ℕ, List, Bool, IfOk, OnOk, OnErr, length, true, false, None};
+ghost use Rattle.std.specs.Prelude.{◌≡◌, ◌≤◌, ◌<◌, ℕ, List, Bool, IfOk, IfErr, OnOk, OnErr, length, take, true, false, None};
 ghost use Rattle.std.specs.declared.option.Option.{Option};
-ghost use Rattle.std.specs.Io.KnownBytes.{WriteAppends};
+ghost use Rattle.std.specs.Io.KnownBytes.{Appends, WriteAppends};
 
-use crate::device::Failed;
+use crate::device::{Failed, FailedAfter};
 use std::io::Write;
 use std::marker::Model;
 
@@ -30,6 +30,29 @@ pub trait Sink {
     /// Whether a `give` has failed.
     fn failed(&self) -> bool
         ensures { result ≡ has_failed self.now };
+}
+
+/// Hands all the bytes to a sink, in as many calls as that takes. It allocates nothing.
+///
+/// # Errors
+///
+/// `FailedAfter` where the sink failed, with how many of the first bytes it had taken before.
+#[tactic(auto, using(crate::proofs::GiveLemmas::appends_none, crate::proofs::GiveLemmas::gave_more, crate::proofs::GiveLemmas::gave_all))]
+pub fn give_all<W: Sink>(sink: &mut W, bytes: &[u8]) -> Result<(), FailedAfter>
+    ensures ok { OnOk result (Appends (W.gone_out sink.old) (W.gone_out sink.new) bytes.now) }
+    ensures some { IfErr result (λ fault. (fault.given ≤ length bytes.now) × Appends (W.gone_out sink.old) (W.gone_out sink.new) (take fault.given bytes.now)) }
+    ensures kept { OnOk result (W.has_failed sink.new ≡ W.has_failed sink.old) }
+    ensures err { OnErr result (W.has_failed sink.new ≡ true) }
+{
+    let mut given = 0usize;
+    'gives: while given < bytes.len() {
+        let (_, rest) = bytes.split_at(given);
+        match sink.give(rest) {
+            Ok(count) => given += count,
+            Err(_) => return Err(FailedAfter { given }),
+        }
+    }
+    Ok(())
 }
 
 /// A sink into a writer. Every `Err` of the writer is a failure, and so is a write that takes none of at

@@ -1,17 +1,17 @@
 -- From the walk over the bytes to streams and first faults, by the laws of the verdict.
-use Rattle.std.proofs.Common.{◌≡◌, ℕ, suc, ◌+◌, ◌-◌, ◌≤◌, ◌<◌, ◌⊎◌, inl, inr, Bool, true, false, nat_le, List, [], ◌∷◌, ◌++◌, length, take, refl, sym, ◌∙◌, ap, subst, arith, IsTrue, append_assoc, append-nil, length-append}
+use Rattle.std.proofs.Common.{◌≡◌, ℕ, suc, ◌+◌, ◌≤◌, inl, inr, Bool, true, false, nat_le, List, [], ◌∷◌, ◌++◌, length, take, refl, sym, ◌∙◌, ap, subst, arith, IsTrue, append_assoc, append-nil, length-append}
 use Rattle.std.proofs.lemmas.Bool.Decides.{nat_tests}
 use Rattle.jser_grammar.specs.Trees.{ContentTrees}
 use Rattle.jser_grammar.specs.Parts.{IsBytes}
-use Rattle.jser_reading.specs.Goals.{State, settled, top_goal}
-use Rattle.jser_reading.specs.Machine.{begin_state, IsDone, left}
+use Rattle.jser_reading.specs.Goals.{State, settled}
+use Rattle.jser_reading.specs.Machine.{begin_state, IsDone}
 use Rattle.jser_reading.specs.Scanner.{walk, ended, refused}
 use Rattle.jser_verdict.specs.Reasons.{Reason, bytes_exceeded, truncated, turn, reason_with}
 use Rattle.jser_verdict.specs.Gates.{Gate}
 use Rattle.jser_verdict.specs.Rows.{row}
 use Rattle.jser_verdict.specs.Passing.{Passes}
 use Rattle.jser_verdict.specs.FirstFault.{IsFault, IsFirstFault, RowHolds}
-use Rattle.jser_verdict.specs.Answers.{Told, accepted, refused_at, answer, is_top, is_none, told_whole, told_over}
+use Rattle.jser_verdict.specs.Answers.{accepted, refused_at, answer}
 use Rattle.jser_verdict.specs.Verdicts.{verdict}
 use Rattle.jser_verdict.proofs.Turns.{reason_of_turn}
 use Rattle.jser_verdict.proofs.WalkFaults.{refuses_the_first, cut_is_the_first, over_is_the_first}
@@ -20,10 +20,8 @@ use Rattle.jser_verdict.proofs.ForGood.{refused_for_good}
 use Rattle.jser_verdict.proofs.ByteLists.{bytes_both}
 use Rattle.jser_reader.specs.declared.refusal.Refusal.{Refusal}
 use Rattle.jser_reader.specs.Reasons.{named}
-use Rattle.jser_reader.specs.Readers.{Seen}
-use Rattle.jser_reader.specs.Walks.{HasTaken, IsRefusedBy}
+use Rattle.jser_reader.specs.Walks.{IsRefusedBy}
 use Rattle.jser_reader.specs.Streams.{AreRefused, AreTruncated}
-use Rattle.jser_reader.proofs.StreamWalks.{MayEnd}
 
 -- ---- what passes has no fault
 

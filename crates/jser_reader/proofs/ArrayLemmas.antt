@@ -35,7 +35,7 @@ raw_elements size n (Some c) b old mid new k e el some es ef ey et er em =
     let ready : Ready new (after_length old (Some c) n) =
     subst (Ready new) (sym (raw_state old c n some))
     (rw (next_is phase.Prims mid.owner mid.elements mid.header mid.text mid new k) (rw ef (rw ey (rw et (rw er
-    (record { depth = suc (length old.frames); type_code = c; more = n - 1; parts = []; goals = goals_of old; is = refl; size = size_is; after = refl })))))) in
+    (record { depth = suc (length old.frames); type_code = c; more = n - 1; parts = []; goals = goals_of old; is = refl; size = size_is; depth_is = record { most = omega arith; least = omega arith }; after = refl })))))) in
     tells_next None (after_length old (Some c) n) b old new (record { ready = ready; meter = k.meter ∙ ap moved em; max = ap (λ t. t.max) (k.table ∙ et) }) e refl
 
 -- elements that are values

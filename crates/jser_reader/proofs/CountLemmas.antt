@@ -113,7 +113,7 @@ tallied_on gate old new s t cut fields field tally so sn a h c =
 -- ---- a machine with its tally
 
 -- a new machine has counted nothing
-pub new_counts : (gate : Gate) (r : Seen) → IsNew r → gate_with r gate.answer ≡ gate → HasCounted gate [] r no_tally
+unfoldable pub new_counts : (gate : Gate) (r : Seen) → IsNew r → gate_with r gate.answer ≡ gate → HasCounted gate [] r no_tally
 unfolding new_stands
 new_counts gate r n e = record {
   taken = new_stands gate r n e;
@@ -121,7 +121,7 @@ new_counts gate r n e = record {
 }
 
 -- the open field has ended
-pub took_counts : (gate : Gate) (old new : Seen) (bytes taken : List ℕ) (tally : Tally) → Takes gate taken true old new → IsBytes taken
+unfoldable pub took_counts : (gate : Gate) (old new : Seen) (bytes taken : List ℕ) (tally : Tally) → Takes gate taken true old new → IsBytes taken
     → HasCounted gate bytes old tally → HasCounted gate (bytes ++ taken) new (tally_after (mark_of old) (mark_of new) tally)
 unfolding Takes took_stands
 took_counts gate old new bytes taken tally h bt c =
@@ -141,7 +141,7 @@ took_counts gate old new bytes taken tally h bt c =
     }
 
 -- the same field is still open
-pub kept_counts : (gate : Gate) (old new : Seen) (bytes taken : List ℕ) (tally : Tally) → Keeps gate taken old new → IsBytes taken
+unfoldable pub kept_counts : (gate : Gate) (old new : Seen) (bytes taken : List ℕ) (tally : Tally) → Keeps gate taken old new → IsBytes taken
     → HasCounted gate bytes old tally → HasCounted gate (bytes ++ taken) new tally
 unfolding Keeps kept_stands
 kept_counts gate old new bytes taken tally h bt c = record {
@@ -210,7 +210,7 @@ reads_whole : (fields : List Piece) → Runs begin_state fields → IsDone (sett
 reads_whole fields r d = subst (Reads begin_state) (append-nil fields) (Reads-append fields [] begin_state r d)
 
 -- at the end of a stream the fields are those of its list
-fields_are : (gate : Gate) (bytes : List ℕ) (r : Seen) (list : ContentTrees) (h : HasTaken gate bytes r) → r.phase ≡ phase.Top → IsStreamOf bytes list
+pub fields_are : (gate : Gate) (bytes : List ℕ) (r : Seen) (list : ContentTrees) (h : HasTaken gate bytes r) → r.phase ≡ phase.Top → IsStreamOf bytes list
     → h.fields ≡ fields_of list
 fields_are gate bytes r list h top is =
     let d = ends_at_top gate r (settled (left begin_state h.fields)) h.cut h.stands top in

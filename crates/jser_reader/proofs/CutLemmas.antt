@@ -3,6 +3,7 @@ use Rattle.std.proofs.Common.{◌≡◌, ℕ, ◌+◌, ◌<◌, ◌≤◌, Bool,
 use Rattle.std.proofs.lemmas.List.{length-take-le}
 use Rattle.jser_prim.specs.Bytes.{big_bytes}
 use Rattle.jser_reading.specs.FieldsFromBytes.{head_size}
+use Rattle.jser_reading.proofs.Decoding.{length-big_bytes}
 use Rattle.jser_verdict.specs.Gates.{Gate}
 use Rattle.jser_reader.specs.declared.machine.taken.Taken.{Taken}
 use Rattle.jser_reader.specs.declared.machine.taken.Taken.TheVariants as taken
@@ -11,7 +12,7 @@ use Rattle.jser_reader.specs.declared.phase.Phase.TheVariants as phase
 use Rattle.jser_reader.specs.Readers.{Seen, length_phase}
 use Rattle.jser_reader.specs.Walks.{size_of_phase, open_phase, cut_of, Keeps}
 use Rattle.jser_reader.specs.Cuts.{IsTwo, IsFour, IsEight, CanBeCut, IsCutField}
-use Rattle.jser_reader.specs.Takes.{TakesNumber, CutsOff, TakesNumberFor, TakesFromFor, TakesFrom, taken_by}
+use Rattle.jser_reader.specs.Takes.{TakesNumber, CutsOff, IsWholeLength, TakesNumberFor, TakesFromFor, TakesFrom, taken_by}
 use Rattle.jser_reader.proofs.PhaseLemmas.{IsFixed, whole_open, cut_open}
 use Rattle.jser_reader.proofs.FixedWalks.{number_kept}
 use Rattle.jser_reader.proofs.TakeLemmas.{taken_so_far}
@@ -124,15 +125,25 @@ number_open : (gate : Gate) (size : ℕ) (p : Phase) (piece : List ℕ) (old new
 unfolding TakesFromFor
 number_open gate size p piece old new c f eo some short =
     let n : length (cut_of old ++ piece) ≡ length (cut_of old) + length piece = length-append (cut_of old) piece in
-    f.keeps gate piece old new c eo (omega arith) short
+    let z : size_of_phase (open_phase old) ≡ size = ap size_of_phase eo ∙ f.size_is in (
+      f.keeps gate piece old new c eo (omega arith) short,
+      record { same = (cut_open new c.phase_is).0 ∙ c.cut_phase; some = omega arith },
+    )
+
+whole_length : (p : Phase) (bytes : List ℕ) → length bytes ≡ size_of_phase p → IsWholeLength p bytes
+whole_length phase.Length2 bytes e = e
+whole_length phase.Length8 bytes e = e
+whole_length phase.Top bytes e = tt
+whole_length _ bytes e = tt
 
 -- one of which it has
 number_came : (gate : Gate) (size n count : ℕ) (found : Bool) (result : Taken) (piece : List ℕ) (old new : Seen)
     → TakesNumberFor gate size n count found old new → result ≡ taken_by count found → 0 < count → count ≤ length piece
-    → big_bytes size n ≡ cut_of old ++ take count piece → TakesFromFor gate result piece old new
+    → big_bytes size n ≡ cut_of old ++ take count piece → size_of_phase (open_phase old) ≡ size → TakesFromFor gate result piece old new
 unfolding TakesNumberFor
-number_came gate size n count found result piece old new h er some within spelled =
+number_came gate size n count found result piece old new h er some within spelled es =
     taken_so_far gate count found result piece old new (h (take count piece) (length-take-le count piece within) spelled) er some within
+    (whole_length (open_phase old) (cut_of old ++ take count piece) (ap length (sym spelled) ∙ length-big_bytes size n ∙ sym es))
 
 -- as one gate judges it
 pub number_for : (gate : Gate) (size n count : ℕ) (found : Bool) (old new : Seen) → TakesNumber size n count found old new
@@ -156,6 +167,7 @@ all_taken gate size n found result piece old new h er f some spelled long =
     let s = f.size_is in
     let w = whole_open old.phase old refl (omega arith) in
     number_came gate size n size found result piece old new h er some long (spelled ∙ sym (ap (λ xs. xs ++ take size piece) w.1))
+    (ap size_of_phase w.0 ∙ s)
 
 -- a number that was cut
 
@@ -169,13 +181,13 @@ rest_kept gate size missing piece old new c f e all some short =
     number_open gate size old.meter.cut_phase piece old new c f w.0 some (rw w.1 (omega arith))
 
 pub rest_taken : (gate : Gate) (size n missing : ℕ) (found : Bool) (result : Taken) (piece last : List ℕ) (old new : Seen)
-    → TakesNumberFor gate size n missing found old new → result ≡ taken_by missing found → old.phase ≡ phase.Cut
+    → TakesNumberFor gate size n missing found old new → result ≡ taken_by missing found → IsNumberOf size old.meter.cut_phase → old.phase ≡ phase.Cut
     → big_bytes size n ≡ old.meter.kept ++ last → last ≡ take missing piece → 0 < missing → missing ≤ length piece
     → TakesFromFor gate result piece old new
-rest_taken gate size n missing found result piece last old new h er e spelled el some long =
+rest_taken gate size n missing found result piece last old new h er f e spelled el some long =
     let w = cut_open old e in
     number_came gate size n missing found result piece old new h er some long
-    (spelled ∙ ap (λ xs. old.meter.kept ++ xs) el ∙ sym (ap (λ xs. xs ++ take missing piece) w.1))
+    (spelled ∙ ap (λ xs. old.meter.kept ++ xs) el ∙ sym (ap (λ xs. xs ++ take missing piece) w.1)) (ap size_of_phase w.0 ∙ f.size_is)
 
 -- numbers that come next, of two bytes, of four and of eight
 

@@ -13,11 +13,12 @@ use Rattle.jser_verdict.specs.Verdicts.{told_if, reason_at, verdict}
 use Rattle.jser_reader.specs.declared.phase.Phase.{Phase}
 use Rattle.jser_reader.specs.declared.phase.Phase.TheVariants as phase
 use Rattle.jser_reader.specs.Readers.{Seen, moment_of, ReadyAt}
+use Rattle.jser_reader.specs.Memory.{IsForgotten}
 use Rattle.jser_reader.specs.Handlers.{Tells, plain_gate, label_at}
 use Rattle.jser_reader.specs.Walks.{gate_with, size_of_phase, header_bytes, IsRightSoFar, CutStands, StandsAt, Stands, Took, Takes, Keeps, Counts, open_phase, cut_of}
 use Rattle.jser_reader.proofs.WalkLemmas.{before_last, walk_open}
 use Rattle.jser_reader.proofs.StandLemmas.{LeadsTo, same_limits, judged}
-use Rattle.jser_reader.proofs.PhaseLemmas.{IsFixed, phase_position, phase_depth, label_is, short_fixed, is_open, ready_counted, differs_less, fixed_undecided}
+use Rattle.jser_reader.proofs.PhaseLemmas.{IsFixed, phase_position, phase_depth, label_is, not_forgotten, short_fixed, is_open, ready_counted, differs_less, fixed_undecided}
 
 pub fixed_some : (p : Phase) → IsFixed p → 0 < size_of_phase p
 fixed_some phase.Length2 i = absurd i
@@ -55,7 +56,8 @@ fixed_took gate p told next found old mid new taken s cut st h j eo i some size 
     subst (λ bytes. IsUndecided (verdict gate) (label_of (settled s)) bytes
     → reason_at gate (label_of (settled s)) (label_of (settled s)).position bytes ≡ told
     → (told ≡ None → LeadsTo (settled s) bytes next) → Took gate s cut taken found old new) (sym is)
-    (λ u e leads. judged gate told next found old mid new s cut taken (h ready) st c some u e leads)
+    (λ u e leads. judged gate told next found old mid new s cut taken (h ready) st c some u e leads
+    (λ _ _ k. not_forgotten p old i (subst IsForgotten (ap (λ l. l.position) (label_is p old (settled s) i o.ready)) k)))
     (fixed_undecided gate p old (settled s) (cut_of old ++ taken) i o.ready size (right (subst (IsRightSoFar p) o.cut_is o.right)))
     k.reason (λ e. k.leads e)
 

@@ -12,7 +12,7 @@ use Rattle.jser_reader.specs.Reasons.{named}
 use Rattle.jser_reader.specs.Readers.{Seen, Ready, moment_of}
 use Rattle.jser_reader.specs.Handlers.{StopsWith, refusal, IsNext}
 use Rattle.jser_reader.specs.Walks.{header_bytes, open_phase, cut_of, Takes, Keeps}
-use Rattle.jser_reader.specs.Takes.{farther, TakesByte, TakesHeaderByte, HeaderOn, CutsOff, TakesFromFor, TakesFrom, taken_by}
+use Rattle.jser_reader.specs.Takes.{farther, IsWholeLength, TakesByte, TakesHeaderByte, HeaderOn, CutsOff, TakesFromFor, TakesFrom, taken_by}
 use Rattle.jser_reader.proofs.EndLemmas.{next_is, tells_next, tells_refusal}
 use Rattle.jser_reader.proofs.PhaseLemmas.{cut_open}
 use Rattle.jser_reader.proofs.FixedWalks.{header_reason, header_taken, header_kept}
@@ -106,14 +106,18 @@ header_goes piece b i old mid new h on within is =
     }
 
 pub header_ends : (piece : List ℕ) (b i : ℕ) (found : Bool) (result : Taken) (old mid new : Seen) → TakesHeaderByte (Some found) b mid new
-    → HeaderOn piece i old mid → i < length piece → b ≡ get_or piece i 0 → result ≡ taken_by (i + 1) found → TakesFrom result piece old new
+    → HeaderOn piece i old mid → i < length piece → b ≡ get_or piece i 0 → result ≡ taken_by (i + 1) found → open_phase old ≡ phase.Header
+    → TakesFrom result piece old new
 unfolding TakesHeaderByte TakesByte
-header_ends piece b i found result old mid new h on within is er =
+header_ends piece b i found result old mid new h on within is er eo =
     let front : take (i + 1) piece ≡ take i piece ++ (b ∷ []) = take_more piece i 0 within ∙ ap (λ x. take i piece ++ (x ∷ [])) (sym is) in
     λ gate. taken_so_far gate (i + 1) found result piece old new
     (subst (λ xs. Takes gate xs found old new) (sym front) (taken_on gate (take i piece) (b ∷ []) found old mid new (on.keeps gate) (h gate)))
-    er (omega arith) (omega arith)
+    er (omega arith) (omega arith) (subst (λ p. IsWholeLength p (cut_of old ++ take (i + 1) piece)) (sym eo) tt)
 
-pub header_open : (piece : List ℕ) (old new : Seen) → HeaderOn piece (length piece) old new → TakesFrom taken.Open piece old new
+pub header_open : (piece : List ℕ) (old new : Seen) → HeaderOn piece (length piece) old new → open_phase old ≡ phase.Header → TakesFrom taken.Open piece old new
 unfolding TakesFromFor
-header_open piece old new on = λ gate. subst (λ xs. Keeps gate xs old new) (take_all (length piece) piece (omega arith)) (on.keeps gate)
+header_open piece old new on eo = λ gate. (
+  subst (λ xs. Keeps gate xs old new) (take_all (length piece) piece (omega arith)) (on.keeps gate),
+  record { same = on.is_open ∙ sym eo; some = rw eo (omega arith) },
+)

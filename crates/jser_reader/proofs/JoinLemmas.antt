@@ -10,6 +10,7 @@ use Rattle.jser_verdict.specs.Verdicts.{verdict}
 use Rattle.jser_reader.specs.declared.refusal.Stop.{Stop}
 use Rattle.jser_reader.specs.declared.refusal.Stop.TheVariants as stop
 use Rattle.jser_reader.specs.Readers.{Seen}
+use Rattle.jser_reader.specs.Memory.{MayRunOut}
 use Rattle.jser_reader.specs.Walks.{Stands, StopTold, Took, Takes, StaysOpen, Keeps}
 use Rattle.jser_reader.proofs.WalkLemmas.{walk_on}
 
@@ -52,7 +53,8 @@ told_on gate s cut front back old_from mid_from (stop.Refused refusal) w e x =
       begins = x.begins ∙ sym e;
       ends = x.ends ∙ ap (λ k. k + length ((cut ++ front) ++ back)) (sym e) ∙ ap (λ c. old_from + length c) same;
     }
-told_on gate s cut front back old_from mid_from stop.OutOfMemory w e x = tt
+told_on gate s cut front back old_from mid_from stop.OutOfMemory w e x =
+    subst (MayRunOut (label_of (settled s)).position) (append_assoc cut front back) x
 told_on gate s cut front back old_from mid_from stop.Spent w e x = absurd x
 
 pub taken_on : (gate : Gate) (front back : List ℕ) (found : Bool) (old mid new : Seen) → Keeps gate front old mid → Takes gate back found mid new

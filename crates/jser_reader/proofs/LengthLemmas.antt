@@ -1,8 +1,9 @@
 -- The length of a text, whole in a piece or cut.
-use Rattle.std.proofs.Common.{◌≡◌, ℕ, ◌+◌, ◌<◌, ◌≤◌, Bool, true, false, List, ◌++◌, length, take, sym, ◌∙◌, ap, subst, arith, length-append}
+use Rattle.std.proofs.Common.{◌≡◌, ℕ, ◌+◌, ◌<◌, ◌≤◌, Bool, true, false, List, ◌++◌, length, take, sym, ◌∙◌, ap, subst, arith}
 use Rattle.std.proofs.lemmas.List.{length-take-le}
 use Rattle.jser_prim.specs.Bytes.{big_bytes}
 use Rattle.jser_reading.specs.FieldsFromBytes.{head_size}
+use Rattle.jser_reading.proofs.Decoding.{length-big_bytes}
 use Rattle.jser_verdict.specs.Gates.{Gate}
 use Rattle.jser_reader.specs.declared.machine.take_texts.Progress.{Progress}
 use Rattle.jser_reader.specs.declared.machine.take_texts.Progress.TheVariants as progress
@@ -10,24 +11,37 @@ use Rattle.jser_reader.specs.declared.machine.taken.Taken.{Taken}
 use Rattle.jser_reader.specs.declared.machine.taken.Taken.TheVariants as taken
 use Rattle.jser_reader.specs.declared.phase.Phase.TheVariants as phase
 use Rattle.jser_reader.specs.Readers.{Seen, length_phase}
-use Rattle.jser_reader.specs.Walks.{size_of_phase, open_phase, cut_of, Keeps}
-use Rattle.jser_reader.specs.Takes.{CutsOff, TakesFromFor, lent_by}
+use Rattle.jser_reader.specs.Walks.{size_of_phase, open_phase, cut_of}
+use Rattle.jser_reader.specs.Takes.{CutsOff, IsWholeLength, IsPart, TakesFromFor}
 use Rattle.jser_reader.specs.TextTakes.{TakesLength, ProgressCases, by_progress}
 use Rattle.jser_reader.proofs.PhaseLemmas.{whole_open, cut_open}
 use Rattle.jser_reader.proofs.CutLemmas.{first_kept, rest_kept, length_number}
-use Rattle.jser_reader.proofs.ReaderLemmas.{take_whole}
+
+part_of_length : (long : Bool) (kept piece : List ℕ) (count : ℕ) → length (kept ++ take count piece) ≡ head_size long
+    → IsPart (length_phase long) kept piece count
+part_of_length false kept piece count e = e
+part_of_length true kept piece count e = e
+
+whole_length : (long : Bool) (bytes : List ℕ) → length bytes ≡ head_size long → IsWholeLength (length_phase long) bytes
+whole_length false bytes e = e
+whole_length true bytes e = e
 
 -- it came, whole or after what was kept of it
-length_came : (gate : Gate) (size n count : ℕ) (p : Progress) (result : Taken) (piece : List ℕ) (old new : Seen) → TakesLength gate size n count p old new
-    → result ≡ by_progress count p → 0 < count → count ≤ length piece → big_bytes size n ≡ cut_of old ++ take count piece
-    → TakesFromFor gate result piece old new
+length_came : (gate : Gate) (long : Bool) (n count : ℕ) (p : Progress) (result : Taken) (piece : List ℕ) (old new : Seen)
+    → TakesLength gate (head_size long) n count p old new → result ≡ by_progress count p → 0 < count → count ≤ length piece
+    → big_bytes (head_size long) n ≡ cut_of old ++ take count piece → open_phase old ≡ length_phase long → TakesFromFor gate result piece old new
 unfolding TakesLength TakesFromFor
-length_came gate size n count p result piece old new h er some within spelled =
+length_came gate long n count p result piece old new h er some within spelled eo =
     subst (λ r. TakesFromFor gate r piece old new) (sym er) (go p (h (take count piece) (length-take-le count piece within) spelled))
   where
+    size : length (cut_of old ++ take count piece) ≡ head_size long
+    size = ap length (sym spelled) ∙ length-big_bytes (head_size long) n
+
     go : (p : Progress) → ProgressCases gate (take count piece) p old new → TakesFromFor gate (by_progress count p) piece old new
-    go progress.Open k = (some, within, k)
-    go progress.Ended k = (some, within, k)
+    go progress.Open k =
+        (some, within, k, subst (λ q. IsPart q (cut_of old) piece count) (sym eo) (part_of_length long (cut_of old) piece count size))
+    go progress.Ended k =
+        (some, within, k, subst (λ q. IsWholeLength q (cut_of old ++ take count piece)) (sym eo) (whole_length long (cut_of old ++ take count piece) size))
     go progress.Stopped k = (some, within, k)
 
 -- a length that comes next
@@ -41,7 +55,7 @@ pub short_taken : (gate : Gate) (n : ℕ) (p : Progress) (result : Taken) (piece
     → TakesFromFor gate result piece old new
 short_taken gate n p result piece number old new h er e spelled en long =
     let w = whole_open phase.Length2 old e (omega arith) in
-    length_came gate 2 n 2 p result piece old new h er (omega arith) long (spelled ∙ en ∙ sym (ap (λ xs. xs ++ take 2 piece) w.1))
+    length_came gate false n 2 p result piece old new h er (omega arith) long (spelled ∙ en ∙ sym (ap (λ xs. xs ++ take 2 piece) w.1)) w.0
 
 pub long_kept : (gate : Gate) (piece : List ℕ) (old new : Seen) → CutsOff piece old new → old.phase ≡ phase.Length8 → 0 < length piece → length piece < 8
     → TakesFromFor gate taken.Open piece old new
@@ -52,7 +66,7 @@ pub long_taken : (gate : Gate) (n : ℕ) (p : Progress) (result : Taken) (piece 
     → TakesFromFor gate result piece old new
 long_taken gate n p result piece number old new h er e spelled en long =
     let w = whole_open phase.Length8 old e (omega arith) in
-    length_came gate 8 n 8 p result piece old new h er (omega arith) long (spelled ∙ en ∙ sym (ap (λ xs. xs ++ take 8 piece) w.1))
+    length_came gate true n 8 p result piece old new h er (omega arith) long (spelled ∙ en ∙ sym (ap (λ xs. xs ++ take 8 piece) w.1)) w.0
 
 -- a length that was cut
 
@@ -62,21 +76,11 @@ pub rest_of_length_kept : (gate : Gate) (long : Bool) (missing : ℕ) (piece : L
 rest_of_length_kept gate long missing piece old new c el e all some short =
     rest_kept gate (head_size long) missing piece old new c (rw el (length_number long)) e all some short
 
-pub rest_of_length_taken : (gate : Gate) (size n missing : ℕ) (p : Progress) (result : Taken) (piece last : List ℕ) (old new : Seen)
-    → TakesLength gate size n missing p old new → result ≡ by_progress missing p → old.phase ≡ phase.Cut
-    → big_bytes size n ≡ old.meter.kept ++ last → last ≡ take missing piece → 0 < missing → missing ≤ length piece
+pub rest_of_length_taken : (gate : Gate) (text : Bool) (n missing : ℕ) (p : Progress) (result : Taken) (piece last : List ℕ) (old new : Seen)
+    → TakesLength gate (head_size text) n missing p old new → result ≡ by_progress missing p → old.meter.cut_phase ≡ length_phase text → old.phase ≡ phase.Cut
+    → big_bytes (head_size text) n ≡ old.meter.kept ++ last → last ≡ take missing piece → 0 < missing → missing ≤ length piece
     → TakesFromFor gate result piece old new
-rest_of_length_taken gate size n missing p result piece last old new h er e spelled el some long =
+rest_of_length_taken gate text n missing p result piece last old new h er ec e spelled el some long =
     let w = cut_open old e in
-    length_came gate size n missing p result piece old new h er some long
-    (spelled ∙ ap (λ xs. old.meter.kept ++ xs) el ∙ sym (ap (λ xs. xs ++ take missing piece) w.1))
-
--- ---- bytes that are lent
-
-pub lends : (gate : Gate) (result : Taken) (piece : List ℕ) (old new : Seen) → TakesFromFor gate result piece old new → 0 < length piece
-    → TakesFromFor gate (lent_by result (length piece)) piece old new
-unfolding TakesFromFor
-lends gate (taken.Ended n) piece old new h some = h
-lends gate (taken.Stopped n) piece old new h some = h
-lends gate (taken.Part n) piece old new h some = h
-lends gate taken.Open piece old new h some = (some, omega arith, subst (λ xs. Keeps gate xs old new) (sym (take_whole piece)) h)
+    length_came gate text n missing p result piece old new h er some long
+    (spelled ∙ ap (λ xs. old.meter.kept ++ xs) el ∙ sym (ap (λ xs. xs ++ take missing piece) w.1)) (w.0 ∙ ec)

@@ -35,9 +35,17 @@ pub mod FieldLemmas
 pub mod AnswerLemmas
 pub mod ReaderLemmas
 pub mod NextLemmas
+pub mod PlaceDepths
+pub mod MemoryLemmas
 pub mod LengthLemmas
 pub mod SkipLemmas
 pub mod GoalCounts
 pub mod MarkLemmas
+pub mod DepthLemmas
 pub mod CountLemmas
 pub mod TotalLemmas
+pub mod ItemLemmas
+pub mod ItemStands
+pub mod ItemCalls
+pub mod ItemLaws
+pub mod SkipMemory

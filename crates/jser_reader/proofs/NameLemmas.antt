@@ -1,21 +1,19 @@
 -- The names of classes and interfaces: for what they are refused, and what comes after them.
-use Rattle.std.proofs.Common.{◌≡◌, ◌≢◌, ℕ, ◌-◌, Bool, true, false, not, List, [], ◌∷◌, Option, Some, None, option_map, Ok, Err, refl, sym, ◌∙◌, ap, subst}
+use Rattle.std.proofs.Common.{◌≡◌, ◌≢◌, ℕ, ◌-◌, Bool, true, false, not, List, [], Option, Some, None, option_map, Ok, Err, refl, sym, ◌∙◌, ap, subst}
 use Rattle.jser_table.specs.declared.layer.LayerKind.{LayerKind}
 use Rattle.jser_table.specs.declared.layer.LayerKind.TheVariants as kind
 use Rattle.jser_table.specs.Chains.{is_array_kind}
 use Rattle.jser_table.specs.Names.{NameKind, plain_name, array_name, malformed_name, name_kind, told_kind}
 use Rattle.jser_grammar.specs.Parts.{is_malformed}
-use Rattle.jser_reading.specs.Roles.{Role as GoalRole}
 use Rattle.jser_reading.specs.Goals.{State, settle}
-use Rattle.jser_verdict.specs.Gates.{Gate, pass, rejected, unmatched}
+use Rattle.jser_verdict.specs.Gates.{Gate}
 use Rattle.jser_verdict.specs.Gates.{Answer as ToldAnswer}
-use Rattle.jser_verdict.specs.Reasons.{Reason, bad_array_name, wrong_class, class_rejected, class_unmatched}
+use Rattle.jser_verdict.specs.Reasons.{Reason, bad_array_name, wrong_class}
 use Rattle.jser_verdict.specs.ClassRows.{is_wrong_name, is_array_kind_name}
 use Rattle.jser_verdict.specs.Verdicts.{told_if, checked_reason, class_name_reason, interface_reason}
 use Rattle.jser_reader.specs.declared.frame.Owner.TheVariants as owner
 use Rattle.jser_reader.specs.declared.frame.Role.{Role}
 use Rattle.jser_reader.specs.declared.frame.Role.TheVariants as role
-use Rattle.jser_reader.specs.declared.gate.Answer.{Answer}
 use Rattle.jser_reader.specs.declared.gate.Answer.TheVariants as answer
 use Rattle.jser_reader.specs.declared.phase.Phase.TheVariants as phase
 use Rattle.jser_reader.specs.declared.refusal.Reason.{Reason as CodeReason}

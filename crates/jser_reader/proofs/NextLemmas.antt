@@ -1,11 +1,9 @@
 -- What a reader answers to a piece, and at the end.
-use Rattle.std.proofs.Common.{◌≡◌, ℕ, zero, suc, ◌+◌, ◌-◌, ◌<◌, ◌≤◌, ◌^◌, Bool, true, false, List, [], ◌∷◌, ◌++◌, length, take, Result, Ok, Err, refl, sym, ◌∙◌, ap, subst, arith, append-nil, length-append, length-take-le}
+use Rattle.std.proofs.Common.{◌≡◌, ℕ, suc, ◌+◌, ◌<◌, ◌≤◌, ◌^◌, true, false, List, [], ◌∷◌, ◌++◌, length, take, Result, Ok, Err, refl, sym, ◌∙◌, ap, subst, arith, append-nil, length-append, length-take-le}
 use Rattle.jser_grammar.specs.Parts.{IsBytes}
-use Rattle.jser_reading.specs.Machine.{IsDone, left, begin_state}
+use Rattle.jser_reading.specs.Machine.{left, begin_state}
 use Rattle.jser_reading.specs.Goals.{settled}
-use Rattle.jser_reading.specs.Scanner.{ended}
 use Rattle.jser_verdict.specs.Gates.{Gate, IsGate}
-use Rattle.jser_verdict.specs.Passing.{Passes}
 use Rattle.jser_reader.specs.declared.item.Step.{Step}
 use Rattle.jser_reader.specs.declared.item.Totals.{Totals}
 use Rattle.jser_reader.specs.declared.item.Step.TheVariants as step
@@ -25,13 +23,12 @@ use Rattle.jser_reader.specs.declared.machine.taken.Taken.{Taken}
 use Rattle.jser_reader.specs.declared.machine.taken.Taken.TheVariants as taken
 use Rattle.jser_reader.specs.States.{HasLimits, IsWithin, AnswersStop, stop_after, exceeded}
 use Rattle.jser_reader.specs.ReaderStates.{IsItem, HasProgress, StandsFor, HasRefused, IsSpent, NextCases, NextTells, StaysStopped, FinishCases, FinishTells}
-use Rattle.jser_reader.specs.Streams.{AreRefused, AreTruncated}
 use Rattle.jser_reader.proofs.JoinLemmas.{kept_none}
-use Rattle.jser_reader.proofs.StreamWalks.{MayEnd, ends_at_top, ends_only_at_top}
+use Rattle.jser_reader.proofs.StreamWalks.{ends_only_at_top}
 use Rattle.jser_reader.proofs.AnswerLemmas.{truncates}
 use Rattle.jser_reader.proofs.CountLemmas.{new_counts, counts_within}
 use Rattle.jser_reader.proofs.TotalLemmas.{field_counts, goes_on_counts, finish_totals}
-use Rattle.jser_reader.proofs.ReaderLemmas.{field_ends, field_goes_on, field_stops, never_spent, has_stopped, over, limit_is, take_whole}
+use Rattle.jser_reader.proofs.ReaderLemmas.{field_goes_on, field_stops, never_spent, has_stopped, over, limit_is, take_whole}
 
 -- ---- items, and more bytes
 
@@ -98,10 +95,10 @@ next_none [] gate r tally e = λ bytes st. subst (λ xs. StandsFor gate xs r tal
 spent_after : (r : Seen) (why : Stop) → r.phase ≡ phase.Stopped → r.meter.stop ≡ stop_after why → why ≡ stop.OutOfMemory → (r.phase ≡ phase.Stopped) × (r.meter.stop ≡ stop.Spent)
 spent_after r why ep es e = (ep, es ∙ ap stop_after e)
 
-pub next_stops : (why : Stop) (used : ℕ) (piece front : List ℕ) (gate : Gate) (old mid new : Seen) (before after : Tally) → IsWithin old piece front → IsBytes piece → used ≤ length front
+pub next_stops : (why : Stop) (used : ℕ) (piece front : List ℕ) (gate : Gate) (old mid new : Seen) (before after : Tally) → IsWithin old piece front → IsBytes piece → 0 < used → used ≤ length front
     → Takes gate (take used front) false old mid → AnswersStop why mid new → NextTells gate piece (Err why) old before new after
 unfolding NextTells StandsFor HasRefused IsSpent
-next_stops why used piece front gate old mid new before after w h le t a = λ bytes st. go bytes st.0.taken st.1 why refl
+next_stops why used piece front gate old mid new before after w h some le t a = λ bytes st. go bytes st.0.taken st.1 why refl
   where
     go : (bytes : List ℕ) → HasTaken gate bytes old → length bytes ≤ gate.bytes → (y : Stop) → why ≡ y → NextCases gate bytes piece (Err y) new after
     go bytes st room (stop.Refused refusal) e =
@@ -109,7 +106,7 @@ next_stops why used piece front gate old mid new before after w h le t a = λ by
         let ep = has_stopped gate bytes (take used front) old mid t st in
         let x = field_stops gate bytes piece front used refusal old mid w le h t st room es in
         let s = w.short in
-        (used, omega arith, x, (a.phase ∙ ep, a.stop_is ∙ ap stop_after es))
+        (used, omega arith, x, (a.phase ∙ ep, a.stop_is ∙ ap stop_after es), some)
     go bytes st room stop.OutOfMemory e =
         let es : mid.meter.stop ≡ stop.OutOfMemory = sym a.is ∙ e in
         let ep = has_stopped gate bytes (take used front) old mid t st in
@@ -137,7 +134,7 @@ next_over why piece front gate old mid new before after w h more k x g = λ byte
     let told : Refusal = record { from_byte = mid.meter.from; to_byte = mid.meter.at + 1; reason = reason.BytesExceeded } in
     let refused = over gate bytes piece (length front) mid y.0 more (omega arith) h told refl in
     subst (λ s. NextCases gate bytes piece (Err s) new after) (sym z.0)
-    (suc (length front), omega arith, refused, (z.1.phase, z.1.stop))
+    (suc (length front), omega arith, refused, (z.1.phase, z.1.stop), omega arith)
 
 pub next_full : (why : Stop) (piece front : List ℕ) (gate : Gate) (old new : Seen) (before after : Tally) → IsWithin old piece front → IsBytes piece → length front ≡ 0 → 0 < length piece
     → (old.meter.at + 1 < 2 ^ 64 → (why ≡ exceeded old.meter) × StopsWith (exceeded old.meter) old new)
@@ -167,19 +164,19 @@ step_part result used took piece front gate old new tally k e w h i =
 pub step_more : (took : Taken) (piece front : List ℕ) (gate : Gate) (old new : Seen) (tally : Tally) → TakesFromFor gate took front old new → took ≡ taken.Open → IsWithin old piece front → IsBytes piece
     → (length front < length piece → ⊥) → NextTells gate piece (Ok step.More) old tally new tally
 unfolding TakesFromFor
-step_more took piece front gate old new tally k e w h long = next_more piece front gate old new tally w h long (subst (λ x. TakenCases gate x front old new) e k)
+step_more took piece front gate old new tally k e w h long = next_more piece front gate old new tally w h long (subst (λ x. TakenCases gate x front old new) e k).0
 
 pub step_stops : (why : Stop) (used : ℕ) (took : Taken) (piece front : List ℕ) (gate : Gate) (old mid new : Seen) (before after : Tally) → TakesFromFor gate took front old mid
     → took ≡ taken.Stopped used → AnswersStop why mid new → IsWithin old piece front → IsBytes piece → NextTells gate piece (Err why) old before new after
 unfolding TakesFromFor
 step_stops why used took piece front gate old mid new before after k e a w h =
-    let t = subst (λ x. TakenCases gate x front old mid) e k in next_stops why used piece front gate old mid new before after w h t.1 t.2 a
+    let t = subst (λ x. TakenCases gate x front old mid) e k in next_stops why used piece front gate old mid new before after w h t.0 t.1 t.2 a
 
 pub step_over : (why : Stop) (took : Taken) (piece front : List ℕ) (gate : Gate) (old mid new : Seen) (before after : Tally) → TakesFromFor gate took front old mid
     → took ≡ taken.Open → (mid.meter.at + 1 < 2 ^ 64 → (why ≡ exceeded mid.meter) × StopsWith (exceeded mid.meter) mid new)
     → IsWithin old piece front → IsBytes piece → length front < length piece → IsGate gate → NextTells gate piece (Err why) old before new after
 unfolding TakesFromFor
-step_over why took piece front gate old mid new before after k e x w h more g = next_over why piece front gate old mid new before after w h more (subst (λ x. TakenCases gate x front old mid) e k) x g
+step_over why took piece front gate old mid new before after k e x w h more g = next_over why piece front gate old mid new before after w h more (subst (λ x. TakenCases gate x front old mid) e k).0 x g
 
 pub item_progress : (result : Step) (used : ℕ) (took : Taken) (piece front : List ℕ) (gate : Gate) (old new : Seen) → TakesFromFor gate took front old new
     → took ≡ taken.Ended used → IsWithin old piece front → IsItem used result → HasProgress piece result
@@ -258,11 +255,14 @@ stopped_finishes why gate old new tally e = λ bytes st. absurd (no_bytes gate b
 
 -- ---- a new reader
 
+pub limits_are : (gate : Gate) (limits : MachineLimits) (handles : ℕ) (r : Seen) → HasLimits limits handles r
+    → limits.bytes ≡ gate.bytes → limits.depth ≡ gate.depth → limits.refs ≡ gate.refs → limits.array ≡ gate.array → handles ≡ gate.handles
+    → gate_with r gate.answer ≡ gate
+limits_are gate limits handles r l eb ed er ea eh =
+    rw (l.bytes) (rw (l.depth) (rw (l.refs) (rw (l.array) (rw (l.handles_are) (rw eb (rw ed (rw er (rw ea (rw eh refl)))))))))
+
 pub reader_begins : (gate : Gate) (limits : MachineLimits) (handles : ℕ) (r : Seen) → IsNew r → HasLimits limits handles r
     → limits.bytes ≡ gate.bytes → limits.depth ≡ gate.depth → limits.refs ≡ gate.refs → limits.array ≡ gate.array → handles ≡ gate.handles
     → StandsFor gate [] r no_tally
 unfolding StandsFor
-reader_begins gate limits handles r n l eb ed er ea eh =
-    let same : gate_with r gate.answer ≡ gate =
-    rw (l.bytes) (rw (l.depth) (rw (l.refs) (rw (l.array) (rw (l.handles_are) (rw eb (rw ed (rw er (rw ea (rw eh refl))))))))) in
-    (new_counts gate r n same, omega arith)
+reader_begins gate limits handles r n l eb ed er ea eh = (new_counts gate r n (limits_are gate limits handles r l eb ed er ea eh), omega arith)

@@ -59,7 +59,7 @@ some_bytes n b old mid new k e el some ef ey et er em =
     let size : new.left ≡ suc (n - 1) = el ∙ (let h : n ≡ suc (n - 1) = omega arith in h) in
     let ready : Ready new (after_block_length old n) =
     subst (Ready new) (sym (block_state old n positive))
-    (rw at (rw ef (rw ey (rw et (rw er (record { depth = length old.frames; more = n - 1; is = refl; size = size })))))) in
+    (rw at (rw ef (rw ey (rw et (rw er (record { more = n - 1; is = refl; size = size })))))) in
     surely_next None (after_block_length old n) b old new (record { ready = ready; meter = k.meter ∙ ap moved em; max = ap (λ t. t.max) (k.table ∙ et) }) e refl
 
 pub long_negative : (n : ℕ) (s : State) (b : Bool) (old new : Seen) → StopsWith (refusal old.meter (named negative_length)) old new → b ≡ false → 0x80000000 ≤ n → TellsSurely (count_reason (2 ^ 31) n) s b old new

@@ -73,6 +73,7 @@ goes_prims old new last section pos prims values size code ep ef ey et er el =
         goals = frame_goals C old.layers fs;
         is = first;
         size = x.2;
+        depth_is = record { most = omega arith; least = omega arith };
         after = refl;
       }),
       record { table = et; layers = ey; refs = er },

@@ -24,6 +24,7 @@ use Rattle.jser_reader.specs.declared.phase.TextFor.TheVariants as text
 use Rattle.jser_reader.specs.Frames.{goal_owner, chain_owner}
 use Rattle.jser_reader.specs.Readers.{Seen, Meter, moment_of, goals_of, head_role, top_role, fields_goals, text_depth, text_rest, text_goal, IsForm, HasNotes, HasPart, value_goals, superclass_goals, superclass_handle_goals, ReadyAt}
 use Rattle.jser_reader.specs.Fitting.{HasDescriptor}
+use Rattle.jser_reader.specs.Memory.{IsForgotten}
 use Rattle.jser_reader.specs.Handlers.{label_at}
 use Rattle.jser_reader.specs.Superclasses.{strict_in}
 use Rattle.jser_reader.specs.Walks.{size_of_phase, header_bytes, IsRightSoFar, StandsAt, open_in, cut_in, open_phase, cut_of, Counts}
@@ -176,6 +177,17 @@ quiet_phase g l phase.Prims r bytes i k right = absurd i
 quiet_phase g l phase.Bytes r bytes i k right = absurd i
 quiet_phase g l phase.Cut r bytes i k right = absurd i
 quiet_phase g l phase.Stopped r bytes i k right = absurd i
+
+-- something is kept of it, or put into the table or on the stack
+pub not_forgotten : (p : Phase) (r : Seen) → IsFixed p → IsForgotten (phase_position p r) → ⊥
+not_forgotten phase.Length2 r i k = absurd i
+not_forgotten phase.Length8 r i k = absurd i
+not_forgotten phase.Text r i k = absurd i
+not_forgotten phase.Prims r i k = absurd i
+not_forgotten phase.Bytes r i k = absurd i
+not_forgotten phase.Cut r i k = absurd i
+not_forgotten phase.Stopped r i k = absurd i
+not_forgotten _ r i k = k
 
 pub size_of_fixed : (p : Phase) (r : Seen) (bytes : List ℕ) → IsFixed p → size_in (phase_position p r) bytes ≡ size_of_phase p
 size_of_fixed phase.Length2 r bytes i = absurd i

@@ -1,5 +1,5 @@
 -- Raw values, the bytes of a block, and the walk over them: any bytes, so many.
-use Rattle.std.proofs.Common.{◌≡◌, ℕ, suc, ◌+◌, ◌*◌, ◌<◌, ◌≤◌, Bool, List, ◌∷◌, ◌++◌, length, Some, None, refl, sym, ◌∙◌, ap, ap₂, subst, arith, length-append}
+use Rattle.std.proofs.Common.{◌≡◌, ℕ, suc, ◌+◌, ◌*◌, ◌<◌, ◌≤◌, true, List, ◌∷◌, ◌++◌, length, Some, None, refl, sym, ◌∙◌, ap, ap₂, subst, arith, length-append}
 use Rattle.jser_table.specs.Codes.{PrimCode, size_of}
 use Rattle.jser_reading.specs.Labels.{StreamField, prims_field, bytes_field, Label}
 use Rattle.jser_reading.specs.FieldsFromBytes.{size_in, field_in, prims_in}
@@ -10,6 +10,7 @@ use Rattle.jser_reading.specs.Scanner.{more, IsUndecided}
 use Rattle.jser_verdict.specs.Gates.{Gate}
 use Rattle.jser_verdict.specs.Verdicts.{reason_at, verdict}
 use Rattle.jser_reader.specs.declared.phase.Phase.TheVariants as phase
+use Rattle.jser_reader.specs.Stacks.{FitsDepth}
 use Rattle.jser_reader.specs.Readers.{Seen, moment_of, goals_of}
 use Rattle.jser_reader.specs.Steps.{after_value}
 use Rattle.jser_reader.specs.Handlers.{Tells}
@@ -60,15 +61,19 @@ same_moment bytes old mid c = rw c.table (rw c.refs refl)
 same_goals : (bytes : List ℕ) (old mid : Seen) → Counts bytes old mid → goals_of old ≡ goals_of mid
 same_goals bytes old mid c = rw c.frames (rw c.layers (rw c.table refl))
 
+same_block : (s : State) (bytes : List ℕ) (old mid : Seen) → Counts bytes old mid → (n : ℕ)
+    → s ≡ (moment_of old, block_goal (length old.frames) (suc n) ∷ goals_of old) → s ≡ (moment_of mid, block_goal (length mid.frames) (suc n) ∷ goals_of mid)
+same_block s bytes old mid c n e = rw c.frames (rw c.layers (rw c.table (rw c.refs e)))
+
 -- the last raw bytes end the field
-raw_taken : (gate : Gate) (found : Bool) (old mid new : Seen) (s : State) (cut taken : List ℕ) (size : ℕ) (field : List ℕ → StreamField)
+raw_taken : (gate : Gate) (old mid new : Seen) (s : State) (cut taken : List ℕ) (size : ℕ) (field : List ℕ → StreamField)
     → IsRaw (label_of (settled s)) size field
-    → Tells None (after_value mid) found mid new → Stands gate old (settled s) cut → Counts taken old mid
+    → Tells None (after_value mid) true mid new → Stands gate old (settled s) cut → Counts taken old mid
     → 0 < length taken → length (cut ++ taken) ≡ size
     → settled (advance (settled s) (field (cut ++ taken))) ≡ after_value mid
-    → Took gate s cut taken found old new
-raw_taken gate found old mid new s cut taken size field i h st c some n goes =
-    judged gate None (after_value mid) found old mid new s cut taken h st c some
+    → Took gate s cut taken true old new
+raw_taken gate old mid new s cut taken size field i h st c some n goes =
+    judged gate None (after_value mid) true old mid new s cut taken h st c some
     (raw_undecided gate (label_of (settled s)) size field (cut ++ taken) i (omega arith)) (i.quiet gate (cut ++ taken))
     (λ _. record {
       field = field (cut ++ taken);
@@ -76,29 +81,30 @@ raw_taken gate found old mid new s cut taken size field i h st c some n goes =
       found = i.found (cut ++ taken);
       goes = goes;
     })
+    (λ stops. absurd (cc))
 
-pub prims_taken : (gate : Gate) (found : Bool) (old mid new : Seen) (taken : List ℕ) → Tells None (after_value mid) found mid new
+pub prims_taken : (gate : Gate) (old mid new : Seen) (taken : List ℕ) → Tells None (after_value mid) true mid new
     → old.phase ≡ phase.Prims → 0 < length taken → length taken ≡ old.left → Counts taken old mid
-    → Takes gate taken found old new
+    → Takes gate taken true old new
 unfolding Takes
-prims_taken gate found old mid new taken h ep some n c = λ s cut st.
+prims_taken gate old mid new taken h ep some n c = λ s cut st.
     let x : PrimsStands old (settled s) cut = subst (λ p. StandsAt p old (settled s) cut) ep st.stands in
     let z = x.size in
     let l : length (cut ++ taken) ≡ length cut + length taken = length-append cut taken in
-    raw_taken gate found old mid new s cut taken (suc x.more * size_of x.type_code) (λ bytes. prims_field (prims_in x.type_code (suc x.more) bytes))
+    raw_taken gate old mid new s cut taken (suc x.more * size_of x.type_code) (λ bytes. prims_field (prims_in x.type_code (suc x.more) bytes))
     (prims_raw (settled s) old x.depth x.type_code x.more x.parts x.goals x.is) h st c some (l ∙ ap (λ k. length cut + k) n ∙ z)
     (ap (λ t. settled (advance t (prims_field (prims_in x.type_code (suc x.more) (cut ++ taken))))) x.is ∙ x.after ∙ same_after taken old mid c)
 
-pub block_taken : (gate : Gate) (found : Bool) (old mid new : Seen) (taken : List ℕ) → Tells None (after_value mid) found mid new
+pub block_taken : (gate : Gate) (old mid new : Seen) (taken : List ℕ) → Tells None (after_value mid) true mid new
     → old.phase ≡ phase.Bytes → 0 < length taken → length taken ≡ old.left → Counts taken old mid
-    → Takes gate taken found old new
+    → Takes gate taken true old new
 unfolding Takes
-block_taken gate found old mid new taken h ep some n c = λ s cut st.
+block_taken gate old mid new taken h ep some n c = λ s cut st.
     let x : BytesStands old (settled s) cut = subst (λ p. StandsAt p old (settled s) cut) ep st.stands in
     let z = x.size in
     let l : length (cut ++ taken) ≡ length cut + length taken = length-append cut taken in
-    raw_taken gate found old mid new s cut taken (suc x.more) (λ bytes. bytes_field bytes)
-    (block_raw (settled s) old x.depth x.more (goals_of old) x.is) h st c some (l ∙ ap (λ k. length cut + k) n ∙ z)
+    raw_taken gate old mid new s cut taken (suc x.more) (λ bytes. bytes_field bytes)
+    (block_raw (settled s) old (length old.frames) x.more (goals_of old) x.is) h st c some (l ∙ ap (λ k. length cut + k) n ∙ z)
     (ap (λ t. settled (advance t (bytes_field (cut ++ taken)))) x.is ∙ same_after taken old mid c)
 
 -- others leave it open
@@ -134,6 +140,7 @@ prims_kept gate old new piece ep en k left c = λ s cut st.
       goals = x.goals;
       is = x.is ∙ ap (λ m. (m, parts_goal x.depth (raw_part x.type_code (suc x.more) ∷ x.parts) ∷ x.goals)) (same_moment piece old new c);
       size = q ∙ z;
+      depth_is = subst (λ fs. FitsDepth (length fs) x.depth) (sym c.frames) x.depth_is;
       goes_on = some;
       after =
           ap (λ m. settle m (parts_goal x.depth x.parts ∷ x.goals)) (sym (same_moment piece old new c)) ∙ x.after
@@ -155,12 +162,11 @@ block_kept gate old new piece ep en k left c = λ s cut st.
     let z = x.size in
     let l : length (cut ++ piece) ≡ length cut + length piece = length-append cut piece in
     let h : BytesStands new (settled s) (cut ++ piece) = record {
-      depth = x.depth;
       more = x.more;
-      is = x.is ∙ ap₂ (λ m gs. (m, block_goal x.depth (suc x.more) ∷ gs)) (same_moment piece old new c) (same_goals piece old new c);
+      is = same_block (settled s) piece old new c x.more x.is;
       size = omega arith;
       goes_on = omega arith;
     } in
     raw_kept gate old new s cut piece (suc x.more) (λ bytes. bytes_field bytes)
-    (block_raw (settled s) old x.depth x.more (goals_of old) x.is) st c (omega arith)
+    (block_raw (settled s) old (length old.frames) x.more (goals_of old) x.is) st c (omega arith)
     (subst (λ p. StandsAt p new (settled s) (cut ++ piece)) (sym en) h)

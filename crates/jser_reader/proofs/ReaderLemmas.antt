@@ -1,19 +1,15 @@
 -- A reader: the bytes of a piece, up to the limit, and what is answered.
-use Rattle.std.proofs.Common.{◌≡◌, ℕ, zero, suc, ◌+◌, ◌-◌, ◌<◌, ◌≤◌, ◌^◌, ◌&&◌, Bool, true, false, nat_lt, get_or, List, [], ◌∷◌, ◌++◌, length, take, drop, Result, Ok, Err, refl, sym, ◌∙◌, ap, subst, arith, IsTrue, append_assoc, append-nil, length-append, length-take-le, lt-ltb}
+use Rattle.std.proofs.Common.{◌≡◌, ℕ, zero, suc, ◌+◌, ◌<◌, ◌≤◌, ◌^◌, ◌&&◌, Bool, true, false, nat_lt, get_or, List, [], ◌∷◌, ◌++◌, length, take, refl, sym, ◌∙◌, ap, subst, arith, IsTrue, append_assoc, length-append, length-take-le, lt-ltb}
 use Rattle.std.specs.List.{list_all}
-use Rattle.std.proofs.lemmas.Bool.Decides.{nat_tests}
 use Rattle.jser_grammar.specs.Parts.{IsBytes}
 use Rattle.jser_reading.specs.Machine.{begin_state, left}
-use Rattle.jser_reading.specs.Goals.{settled}
-use Rattle.jser_verdict.specs.Gates.{Gate, IsGate}
+use Rattle.jser_verdict.specs.Gates.{Gate}
 use Rattle.jser_verdict.proofs.ByteLists.{bytes_both, bytes_right}
 use Rattle.jser_reader.specs.declared.phase.Phase.TheVariants as phase
 use Rattle.jser_reader.specs.declared.refusal.Refusal.{Refusal}
 use Rattle.jser_reader.specs.declared.refusal.Reason.TheVariants as reason
-use Rattle.jser_reader.specs.declared.refusal.Stop.{Stop}
 use Rattle.jser_reader.specs.declared.refusal.Stop.TheVariants as stop
 use Rattle.jser_reader.specs.Readers.{Seen}
-use Rattle.jser_reader.specs.Handlers.{StopsWith}
 use Rattle.jser_reader.specs.Walks.{HasTaken, Takes, Keeps, StopsFor}
 use Rattle.jser_reader.specs.States.{IsWithin, exceeded}
 use Rattle.jser_reader.specs.Streams.{AreRefused}

@@ -1,5 +1,5 @@
 -- A whole piece, item after item.
-use Rattle.std.proofs.Common.{◌≡◌, ℕ, suc, ◌+◌, ◌-◌, ◌<◌, ◌≤◌, List, [], ◌∷◌, ◌++◌, length, take, Result, Ok, Err, refl, sym, ◌∙◌, ap, subst, arith, append_assoc, append-nil, length-append}
+use Rattle.std.proofs.Common.{◌≡◌, ℕ, suc, ◌+◌, ◌<◌, List, [], ◌∷◌, ◌++◌, length, take, Result, Ok, Err, refl, sym, ◌∙◌, ap, subst, arith, append_assoc, append-nil, length-append}
 use Rattle.jser_verdict.specs.Gates.{Gate}
 use Rattle.jser_reader.specs.declared.item.Item.{Item}
 use Rattle.jser_reader.specs.declared.item.Step.{Step}
@@ -11,7 +11,6 @@ use Rattle.jser_reader.specs.declared.tally.Tally.{Tally}
 use Rattle.jser_reader.specs.Readers.{Seen}
 use Rattle.jser_reader.specs.Streams.{AreRefused}
 use Rattle.jser_reader.specs.ReaderStates.{StandsFor, NextCases, NextTells, SkipCases, SkipTells, SkipsOn}
-use Rattle.jser_reader.proofs.ReaderLemmas.{take_whole}
 
 pub skip_begins : (gate : Gate) (piece : List ℕ) (start : Seen) (before : Tally) → (start.phase ≡ phase.Stopped → ⊥) → SkipsOn gate piece piece start before start before
 skip_begins gate piece start before n = record {
@@ -73,9 +72,11 @@ skip_stops gate piece rest result why start before now tally new after h t e = �
     go (stop.Refused refusal) bytes x =
         let n : length piece ≡ length h.taken + length rest = ap length h.split ∙ length-append h.taken rest in
         let le = x.1 in
+        let more = x.4 in
+        let some : 0 < length h.taken + x.0 = omega arith in
         let same : (bytes ++ h.taken) ++ take x.0 rest ≡ bytes ++ take (length h.taken + x.0) piece =
         append_assoc bytes h.taken (take x.0 rest) ∙ ap (λ xs. bytes ++ xs) (take_more h.taken rest x.0 ∙ ap (take (length h.taken + x.0)) (sym h.split)) in
-        (length h.taken + x.0, omega arith, subst (λ xs. AreRefused gate xs refusal) same x.2, x.3)
+        (length h.taken + x.0, omega arith, subst (λ xs. AreRefused gate xs refusal) same x.2, x.3, some)
     go stop.OutOfMemory bytes x = x
     go stop.Spent bytes x = x
 

@@ -1,5 +1,5 @@
 -- From the contract of a handler to the walk over bytes: what the machine stands for before and after a field.
-use Rattle.std.proofs.Common.{◌≡◌, ℕ, suc, ◌+◌, ◌*◌, ◌<◌, ◌≤◌, Bool, true, false, List, [], ◌∷◌, ◌++◌, length, Option, Some, None, refl, sym, ◌∙◌, ap, ap₂, subst, arith, append_assoc, append-nil, length-append}
+use Rattle.std.proofs.Common.{◌≡◌, ℕ, suc, ◌+◌, ◌*◌, ◌<◌, Bool, true, false, List, [], ◌∷◌, ◌++◌, length, Option, Some, None, refl, sym, ◌∙◌, ap, ap₂, subst, arith, append_assoc, append-nil, length-append, inr}
 use Rattle.jser_table.specs.Codes.{PrimCode, byte_code, char_code, double_code, float_code, int_code, long_code, short_code, boolean_code, size_of}
 use Rattle.jser_grammar.specs.Parts.{IsBytes}
 use Rattle.jser_reading.specs.Labels.{StreamField, Piece, piece}
@@ -24,6 +24,7 @@ use Rattle.jser_verdict.proofs.ReadFields.{read_next}
 use Rattle.jser_reader.specs.declared.phase.Phase.{Phase}
 use Rattle.jser_reader.specs.declared.phase.Phase.TheVariants as phase
 use Rattle.jser_reader.specs.Readers.{Seen, Ready, ReadyAt, PrimsReady, BytesReady}
+use Rattle.jser_reader.specs.Memory.{IsForgotten}
 use Rattle.jser_reader.specs.Handlers.{Tells, TellCases, TellsSurely}
 use Rattle.jser_reader.specs.Walks.{gate_with, PrimsStands, BytesStands, StandsAt, Stands, HasTaken, Took, Takes, Keeps, Counts}
 use Rattle.jser_reader.proofs.WalkLemmas.{walk_on, judged_by, walk_field, verdict_good, verdict_bad}
@@ -50,6 +51,7 @@ prims_begin r s h = record {
   is = h.is;
   size = let e = h.size in omega arith;
   goes_on = let e = h.size in let k = some_size h.type_code in some h.more (size_of h.type_code) r.left k e;
+  depth_is = h.depth_is;
   after = h.after;
 }
   where
@@ -58,7 +60,6 @@ prims_begin r s h = record {
 
 bytes_begin : (r : Seen) (s : State) → BytesReady r s → BytesStands r s []
 bytes_begin r s h = record {
-  depth = h.depth;
   more = h.more;
   is = h.is;
   size = let e = h.size in omega arith;
@@ -103,13 +104,21 @@ tells_surely None s false old new h = absurd h
 tells_surely (Some k) s true old new h = absurd h
 tells_surely (Some k) s false old new h = h
 
+-- where it refuses nothing, it goes on
+pub surely_goes_on : (told : Option ToldReason) (s : State) (found : Bool) (old new : Seen) → TellsSurely told s found old new → found ≡ false → told ≡ None → ⊥
+unfolding TellsSurely
+surely_goes_on None s true old new h stops none = absurd (cc)
+surely_goes_on None s false old new h stops none = h
+surely_goes_on (Some k) s found old new h stops none = absurd (cc)
+
 took_field : (gate : Gate) (told : Option ToldReason) (next : State) (found : Bool) (old mid new : Seen) (s : State) (cut taken : List ℕ)
     → TellCases told next found mid new → Stands gate old (settled s) cut → Counts taken old mid
     → ((rest : List ℕ) → walk (verdict gate) s cut (taken ++ rest) ≡ judged_by (verdict gate) s (cut ++ taken) rest)
     → reason_at gate (label_of (settled s)) (label_of (settled s)).position (cut ++ taken) ≡ told
     → (told ≡ None → LeadsTo (settled s) (cut ++ taken) next)
+    → (found ≡ false → told ≡ None → IsForgotten (label_of (settled s)).position → ⊥)
     → Took gate s cut taken found old new
-took_field gate None next true old mid new s cut taken h st c w e leads =
+took_field gate None next true old mid new s cut taken h st c w e leads keeps =
     let x = leads refl in
     let v : verdict gate (label_of (settled s)) (cut ++ taken) ≡ good x.field =
     verdict_good gate (label_of (settled s)) (cut ++ taken) x.field e (let w = x.enough in omega arith) x.found in
@@ -128,9 +137,9 @@ took_field gate None next true old mid new s cut taken h st c w e leads =
           (ap (λ m. m.at) h.meter ∙ sym (ap (λ m. m.from) h.meter)));
       at = ap (λ m. m.at) h.meter ∙ c.at;
     }
-took_field gate (Some k) next true old mid new s cut taken h st c w e leads = absurd h
-took_field gate None next false old mid new s cut taken h st c w e leads = (h.phase, rw h.stop tt)
-took_field gate (Some k) next false old mid new s cut taken h st c w e leads =
+took_field gate (Some k) next true old mid new s cut taken h st c w e leads keeps = absurd h
+took_field gate None next false old mid new s cut taken h st c w e leads keeps = (h.phase, rw h.stop (inr (keeps refl refl, (leads refl).enough)))
+took_field gate (Some k) next false old mid new s cut taken h st c w e leads keeps =
     let v : verdict gate (label_of (settled s)) (cut ++ taken) ≡ bad (turn k) = verdict_bad gate (label_of (settled s)) (cut ++ taken) k e in (
       h.phase,
       rw h.stop (record {
@@ -155,10 +164,11 @@ pub judged : (gate : Gate) (told : Option ToldReason) (next : State) (found : Bo
     → IsUndecided (verdict gate) (label_of (settled s)) (cut ++ taken)
     → reason_at gate (label_of (settled s)) (label_of (settled s)).position (cut ++ taken) ≡ told
     → (told ≡ None → LeadsTo (settled s) (cut ++ taken) next)
+    → (found ≡ false → told ≡ None → IsForgotten (label_of (settled s)).position → ⊥)
     → Took gate s cut taken found old new
 unfolding Tells
-judged gate told next found old mid new s cut taken h st c some u e leads =
-    took_field gate told next found old mid new s cut taken h st c (λ rest. walk_field (verdict gate) s taken cut rest some u) e leads
+judged gate told next found old mid new s cut taken h st c some u e leads keeps =
+    took_field gate told next found old mid new s cut taken h st c (λ rest. walk_field (verdict gate) s taken cut rest some u) e leads keeps
 
 -- ---- the bytes that the machine stands for
 

@@ -1,5 +1,5 @@
 -- Tags and numbers that are taken: from the handler's clause to the walk over their bytes.
-use Rattle.std.proofs.Common.{◌≡◌, ℕ, suc, ◌+◌, ◌-◌, ◌^◌, ◌<◌, ◌≤◌, Bool, true, false, List, [], ◌∷◌, length, get_or, take, Option, Some, None, option_map, refl, sym, ◌∙◌, ap, subst, arith}
+use Rattle.std.proofs.Common.{◌≡◌, ℕ, suc, ◌+◌, ◌-◌, ◌^◌, ◌<◌, ◌≤◌, Bool, true, false, List, [], ◌∷◌, ◌++◌, length, get_or, take, Option, Some, None, option_map, refl, sym, ◌∙◌, ap, subst, arith}
 use Rattle.jser_table.specs.Codes.{PrimCode, size_of}
 use Rattle.jser_table.specs.Entries.{chain_at}
 use Rattle.jser_reading.specs.Labels.{top_at, annotation_at, value_at, class_place_at, class_handle_at}
@@ -20,8 +20,8 @@ use Rattle.jser_reader.specs.Closing.{closed_state}
 use Rattle.jser_reader.specs.Descriptors.{after_suid, after_field_count, after_code, after_interfaces}
 use Rattle.jser_reader.specs.TextStates.{text_tag_reason, after_text_tag}
 use Rattle.jser_reader.specs.Superclasses.{super_reason, super_handle_reason, after_super_tag}
-use Rattle.jser_reader.specs.Walks.{Counts, Takes, open_phase}
-use Rattle.jser_reader.specs.Takes.{farther, TakesByte, IsOne, TakesNumberFor, TakesNumber, TakesFromFor, TakesFrom, taken_by}
+use Rattle.jser_reader.specs.Walks.{Counts, Takes, open_in, open_phase, cut_of}
+use Rattle.jser_reader.specs.Takes.{farther, TakesByte, IsOne, IsWholeLength, TakesNumberFor, TakesNumber, TakesFromFor, TakesFrom, taken_by}
 use Rattle.jser_reader.proofs.NumberWalks.{number_in_2, number_in_4, number_in_8, back_handle_taken, class_handle_taken, super_handle_taken, array_length_taken, block_length_taken, byte_length_taken, suid_taken, flags_taken, field_count_taken, type_code_taken, interface_count_taken}
 use Rattle.jser_reader.proofs.PlaceWalks.{top_taken, note_taken, value_taken, class_tag_taken, super_tag_taken, text_tag_taken}
 
@@ -122,17 +122,31 @@ no_other_one _ i t n v c s x f k b = absurd i
 -- bytes of a piece end the open field, or the machine stops at them
 pub taken_so_far : (gate : Gate) (count : ℕ) (found : Bool) (result : Taken) (piece : List ℕ) (old new : Seen)
     → Takes gate (take count piece) found old new → result ≡ taken_by count found → 0 < count → count ≤ length piece
-    → TakesFromFor gate result piece old new
+    → IsWholeLength (open_phase old) (cut_of old ++ take count piece) → TakesFromFor gate result piece old new
 unfolding TakesFromFor
-taken_so_far gate count true result piece old new h er some within = rw er (some, within, h)
-taken_so_far gate count false result piece old new h er some within = rw er (some, within, h)
+taken_so_far gate count true result piece old new h er some within whole = rw er (some, within, h, whole)
+taken_so_far gate count false result piece old new h er some within whole = rw er (some, within, h)
+
+-- a field of one byte is no length
+one_is_whole : (p : Phase) (cut_phase : Phase) (bytes : List ℕ) → IsOne p → IsWholeLength (open_in p cut_phase) bytes
+one_is_whole phase.Top cut_phase bytes i = tt
+one_is_whole phase.Note cut_phase bytes i = tt
+one_is_whole phase.Value cut_phase bytes i = tt
+one_is_whole phase.ClassTag cut_phase bytes i = tt
+one_is_whole phase.SuperTag cut_phase bytes i = tt
+one_is_whole phase.TextTag cut_phase bytes i = tt
+one_is_whole phase.Flags cut_phase bytes i = tt
+one_is_whole phase.TypeCode cut_phase bytes i = tt
+one_is_whole phase.BlockLength1 cut_phase bytes i = tt
+one_is_whole _ cut_phase bytes i = absurd i
 
 -- the first byte of a piece
 pub one_taken : (b : ℕ) (found : Bool) (result : Taken) (piece : List ℕ) (old new : Seen) → TakesByte b found old new → result ≡ taken_by 1 found
-    → b ≡ get_or piece 0 0 → 0 < length piece → TakesFrom result piece old new
+    → b ≡ get_or piece 0 0 → 0 < length piece → IsOne old.phase → TakesFrom result piece old new
 unfolding TakesByte
-one_taken b found result piece old new h er is some =
+one_taken b found result piece old new h er is some one =
     λ gate. taken_so_far gate 1 found result piece old new (subst (λ xs. Takes gate xs found old new) (first piece some is) (h gate)) er (omega arith) (omega arith)
+    (one_is_whole old.phase old.meter.cut_phase (cut_of old ++ take 1 piece) one)
   where
     first : (xs : List ℕ) → 0 < length xs → b ≡ get_or xs 0 0 → b ∷ [] ≡ take 1 xs
     first [] some e = absurd (omega arith)

@@ -1,5 +1,5 @@
 -- The tag and the handle of a text place, and where they lead.
-use Rattle.std.proofs.Common.{◌≡◌, ℕ, suc, ◌-◌, ◌<◌, ◌≤◌, ◌⊎◌, inl, inr, Bool, true, false, nat_le, List, [], ◌∷◌, length, slice_get, Option, Some, None, is_some, refl, sym, ◌∙◌, ap, subst, arith}
+use Rattle.std.proofs.Common.{◌≡◌, ℕ, ◌-◌, ◌<◌, ◌≤◌, ◌⊎◌, inl, inr, Bool, true, false, nat_le, List, slice_get, Option, Some, None, is_some, refl, sym, ◌∙◌, ap, subst, arith}
 use Rattle.std.proofs.lemmas.Bool.Decides.{nat_tests}
 use Rattle.jser_table.specs.Entries.{TableEntry, text_entry, other_entry, pending_entry, closed_entry, is_text}
 use Rattle.jser_reading.specs.Labels.{text_place_at}
@@ -20,7 +20,7 @@ use Rattle.jser_reader.specs.Tags.{told_tag, block_byte, IsTagOf}
 use Rattle.jser_reader.specs.Reasons.{named}
 use Rattle.jser_reader.specs.Fitting.{HasDescriptor}
 use Rattle.jser_reader.specs.Steps.{after_value}
-use Rattle.jser_reader.specs.Readers.{Seen, IsForm, is_checked, IsInside, Ready, moment_of, head_role, fields_goals, interfaces_goals, text_rest}
+use Rattle.jser_reader.specs.Readers.{Seen, IsForm, is_checked, IsInside, Ready, moment_of, head_role, interfaces_goals, text_rest}
 use Rattle.jser_reader.specs.Handlers.{StopsWith, refusal, Comes, Tells, TellsSurely, IsNext, is_full, opens_text}
 use Rattle.jser_reader.specs.Descriptors.{GoesOnFields}
 use Rattle.jser_reader.specs.TextStates.{text_tag_reason, handle_reason, after_text_tag, text_reason_of, text_reason, named_state, text_state_of, after_text, EndsText}

@@ -1,23 +1,27 @@
 -- The bytes of a text: scanning some of them after others, and the walk over them.
-use Rattle.std.proofs.Common.{◌≡◌, ℕ, ◌+◌, ◌<◌, ◌≤◌, min, max, ◌⊎◌, inl, inr, ◌↔◌, Bool, true, false, List, [], ◌∷◌, ◌++◌, length, take, Option, Some, None, refl, sym, ◌∙◌, ap, ap₂, subst, arith, append_assoc, append-nil, length-append, length-take-le}
+use Rattle.std.proofs.Common.{◌≡◌, ℕ, ◌+◌, ◌<◌, ◌≤◌, min, max, inl, inr, Bool, true, false, List, [], ◌∷◌, ◌++◌, length, take, Option, Some, None, refl, sym, ◌∙◌, ap, ap₂, subst, arith, append_assoc, append-nil, length-append, length-take-le}
 use Rattle.std.specs.Option.{option_to_list}
 use Rattle.std.proofs.lemmas.List.{take_all, take-take}
 use Rattle.jser_prim.specs.Texts.{BeginsText, Scan, HasAccepted, HasAcceptedAfter, FaultsAfter}
-use Rattle.jser_reading.specs.Goals.{settled}
+use Rattle.jser_reading.specs.Goals.{State, settled}
+use Rattle.jser_reading.specs.Accepts.{label_of}
 use Rattle.jser_verdict.specs.Reasons.{bad_text}
 use Rattle.jser_verdict.specs.Gates.{Gate}
 use Rattle.jser_reader.specs.declared.machine.taken.Taken.TheVariants as taken
 use Rattle.jser_reader.specs.declared.phase.Phase.TheVariants as phase
 use Rattle.jser_reader.specs.declared.refusal.Reason.TheVariants as reason
-use Rattle.jser_reader.specs.declared.refusal.Stop.{Stop}
 use Rattle.jser_reader.specs.declared.refusal.Stop.TheVariants as stop
 use Rattle.jser_reader.specs.Readers.{Seen, Meter, moment_of, is_checked}
+use Rattle.jser_reader.specs.declared.phase.TextFor.{TextFor}
+use Rattle.jser_reader.specs.declared.phase.TextFor.TheVariants as text
+use Rattle.jser_reader.specs.Memory.{IsCheckedName}
 use Rattle.jser_reader.specs.Handlers.{StopsWith, refusal, TellsSurely}
 use Rattle.jser_reader.specs.TextStates.{text_reason, after_text, EndsText}
-use Rattle.jser_reader.specs.Walks.{HasRead, HasReadAfter, TextStands, StandsAt, Counts, StopTold, Took, Takes, Keeps}
-use Rattle.jser_reader.specs.Takes.{counted_on, farther, taken_by, TakenCases, TakesFromFor}
+use Rattle.jser_reader.specs.Walks.{HasRead, TextStands, StandsAt, StopTold, Took, Takes, Keeps, open_in, cut_of}
+use Rattle.jser_reader.specs.Takes.{counted_on, farther, taken_by, IsWholeLength, IsPart, TakenCases, TakesFromFor}
 use Rattle.jser_reader.specs.TextTakes.{with_unit, KeepsUnit, Scanned, Faults, RunsOut, ScansByte, Scans}
 use Rattle.jser_reader.proofs.EndLemmas.{tells_refusal}
+use Rattle.jser_reader.proofs.PhaseLemmas.{text_position, text_is}
 use Rattle.jser_reader.proofs.TakeLemmas.{counts_bytes}
 use Rattle.jser_reader.proofs.TextSteps.{text_kept, text_taken, bad_text_taken}
 
@@ -275,15 +279,29 @@ fault_taken gate piece part used count old new f e ep room within =
           ep room f.faults (counts_bytes (take (f.accepted + 1) part) count old mid refl size)),
     )
 
+checked_at : (t : TextFor) (r : Seen) (long : Bool) → is_checked t ≡ true → IsCheckedName (text_position r t long)
+checked_at text.ClassName r long checked = tt
+checked_at text.InterfaceName r long checked = tt
+checked_at text.Value r long checked = absurd (cc)
+checked_at text.FieldType r long checked = absurd (cc)
+checked_at (text.FieldName is_object) r long checked = absurd (cc)
+
+-- the open text is a checked name
+open_name : (r : Seen) (s : State) (cut : List ℕ) → TextStands r (settled s) cut → is_checked r.text ≡ true → IsCheckedName (label_of (settled s)).position
+open_name r s cut x checked =
+    subst IsCheckedName (sym (text_is r x.long s x.form x.is).position) (checked_at r.text r x.long checked)
+
 no_memory_taken : (gate : Gate) (piece part : List ℕ) (used count : ℕ) (old new : Seen) → RunsOut part count old new → part ≡ take used piece → used ≤ length piece
-    → TakenCases gate (taken.Stopped count) piece old new
+    → old.phase ≡ phase.Text → TakenCases gate (taken.Stopped count) piece old new
 unfolding Takes
-no_memory_taken gate piece part used count old new r e within =
+no_memory_taken gate piece part used count old new r e within ep =
     let n : length part ≡ used = ap length e ∙ length-take-le used piece within in
     let inside = r.within in (
       r.some,
       omega arith,
-      λ s cut st. (r.stops.phase, subst (λ why. StopTold gate s cut (take count piece) old.meter.from why) (sym r.stops.stop) tt),
+      λ s cut st.
+          let x : TextStands old (settled s) cut = subst (λ p. StandsAt p old (settled s) cut) ep st.stands in
+          (r.stops.phase, subst (λ why. StopTold gate s cut (take count piece) old.meter.from why) (sym r.stops.stop) (inl (open_name old s cut x r.checked))),
     )
 
 pub text_stops : (gate : Gate) (piece part : List ℕ) (used count : ℕ) (result : Option ℕ) (old new : Seen) → Scans part result old new → result ≡ Some count
@@ -296,7 +314,7 @@ text_stops gate piece part used count (Some k) old new h er e ep size =
     let n : length part ≡ used = ap length e ∙ length-take-le used piece within in
     subst (λ c. TakenCases gate (taken.Stopped c) piece old new) same (elim h [
       | inl f ↦ fault_taken gate piece part used k old new f e ep (omega arith) within
-      | inr r ↦ no_memory_taken gate piece part used k old new r e within
+      | inr r ↦ no_memory_taken gate piece part used k old new r e within ep
     ])
 
 is_scanned : (part : List ℕ) (result : Option ℕ) (old new : Seen) → Scans part result old new → result ≡ None → Scanned part old new
@@ -305,15 +323,20 @@ is_scanned part None old new h er = h
 is_scanned part (Some count) old new h er = absurd (cc)
 
 pub text_stays_open : (gate : Gate) (piece part : List ℕ) (used : ℕ) (result : Option ℕ) (old new : Seen) → Scans part result old new → result ≡ None
-    → part ≡ take used piece → old.phase ≡ phase.Text → used ≡ min old.scan.left (length piece) → 0 < new.scan.left → TakesFromFor gate taken.Open piece old new
+    → part ≡ take used piece → old.phase ≡ phase.Text → used ≡ min old.scan.left (length piece) → 0 < new.scan.left → 0 < length piece
+    → TakesFromFor gate (taken.Part (length piece)) piece old new
 unfolding TakesFromFor
-text_stays_open gate piece part used result old new h er e ep size left =
+text_stays_open gate piece part used result old new h er e ep size left some =
     let s = is_scanned part result old new h er in
     let within : used ≤ length piece = omega arith in
     let n : length part ≡ used = ap length e ∙ length-take-le used piece within in
     let l = s.left in
-    let whole : part ≡ piece = e ∙ take_all used piece (omega arith) in
-    subst (λ xs. Keeps gate xs old new) whole (text_kept gate old new part ep (s.phase_is ∙ ep) s.reads left s.counts)
+    let all : part ≡ take (length piece) piece = e ∙ take_all used piece (omega arith) ∙ sym (take_all (length piece) piece (omega arith)) in (
+      some,
+      omega arith,
+      subst (λ xs. Keeps gate xs old new) all (text_kept gate old new part ep (s.phase_is ∙ ep) s.reads left s.counts),
+      subst (λ p. IsPart (open_in p old.meter.cut_phase) (cut_of old) piece (length piece)) (sym ep) refl,
+    )
 
 -- while a text is open at least one byte of it is left
 one_left : (gate : Gate) (piece : List ℕ) (used : ℕ) (found : Bool) (old new : Seen) → Takes gate (take used piece) found old new → old.phase ≡ phase.Text
@@ -328,9 +351,10 @@ one_left gate piece used found old new h ep some = λ s cut st.
     subst (λ k. Took gate s cut (take k piece) found old new) same (h s cut st)
 
 taken_cases : (gate : Gate) (piece : List ℕ) (count : ℕ) (found : Bool) (old new : Seen) → 0 < count → count ≤ length piece
-    → Takes gate (take count piece) found old new → TakenCases gate (taken_by count found) piece old new
-taken_cases gate piece count true old new some within h = (some, within, h)
-taken_cases gate piece count false old new some within h = (some, within, h)
+    → Takes gate (take count piece) found old new → old.phase ≡ phase.Text → TakenCases gate (taken_by count found) piece old new
+taken_cases gate piece count true old new some within h ep =
+    (some, within, h, subst (λ p. IsWholeLength (open_in p old.meter.cut_phase) (cut_of old ++ take count piece)) (sym ep) tt)
+taken_cases gate piece count false old new some within h ep = (some, within, h)
 
 pub text_ends : (gate : Gate) (piece part : List ℕ) (used : ℕ) (result : Option ℕ) (found : Bool) (old mid new : Seen)
     → ((units : List ℕ) → EndsText mid units → TellsSurely (text_reason gate mid units) (after_text mid units) found mid new)
@@ -345,4 +369,4 @@ text_ends gate piece part used result found old mid new t h er e ep size none so
     subst (λ xs. Takes gate xs found old new) e
     (text_taken gate found old mid new part t ep (λ left. omega arith) s.reads (omega (arith, none)) s.counts) in
     taken_cases gate piece (max used 1) found old new (omega arith) (omega arith)
-    (one_left gate piece used found old new ends ep (λ left. omega arith))
+    (one_left gate piece used found old new ends ep (λ left. omega arith)) ep

@@ -18,12 +18,12 @@ use Rattle.jser_verdict.specs.Verdicts.{reason_at, verdict}
 use Rattle.jser_reader.specs.declared.phase.Phase.TheVariants as phase
 use Rattle.jser_reader.specs.declared.phase.TextFor.{TextFor}
 use Rattle.jser_reader.specs.declared.phase.TextFor.TheVariants as text
-use Rattle.jser_reader.specs.Readers.{Seen, moment_of, text_goal, text_rest, IsForm, is_checked, IsInside, ReadyAt, length_phase}
+use Rattle.jser_reader.specs.Readers.{Seen, moment_of, text_goal, text_rest, IsForm, IsInside, ReadyAt, length_phase}
 use Rattle.jser_reader.specs.Handlers.{Tells, TellsSurely}
 use Rattle.jser_reader.specs.TextStates.{text_reason_of, text_reason, text_state_of, after_text, EndsText}
 use Rattle.jser_reader.specs.Walks.{size_of_phase, IsRightSoFar, CutStands, HasRead, HasReadAfter, TextStands, StandsAt, Stands, Took, Takes, Keeps, Counts, open_phase, cut_of}
 use Rattle.jser_reader.proofs.WalkLemmas.{before_last, walk_open}
-use Rattle.jser_reader.proofs.StandLemmas.{LeadsTo, tells_surely, judged}
+use Rattle.jser_reader.proofs.StandLemmas.{LeadsTo, tells_surely, surely_goes_on, judged}
 use Rattle.jser_reader.proofs.PhaseLemmas.{text_position, IsTextOf, text_is, is_open, ready_counted, counted_is}
 use Rattle.jser_reader.proofs.FixedWalks.{limits_counted}
 use Rattle.jser_reader.proofs.TextWalks.{IsTextAt, name_reason, no_head, spelled, spelled_undecided, spelled_reason, spelled_found, with_length, begun_undecided, begun_more, fault_reason, negative_reason}
@@ -43,11 +43,11 @@ short_form (text.FieldName is_object) = tt
 short_form text.ClassName = tt
 short_form text.InterfaceName = tt
 
-length_open : (long : Bool) (r : Seen) (s : State) → ReadyAt (length_phase long) r (settled s) → TextOpen r s long
+pub length_open : (long : Bool) (r : Seen) (s : State) → ReadyAt (length_phase long) r (settled s) → TextOpen r s long
 length_open false r s h = record { form = short_form r.text; inside = h.0; is = h.1 }
 length_open true r s h = record { form = h.0; inside = h.1; is = h.2 }
 
-text_of : (r : Seen) (s : State) (long : Bool) → TextOpen r s long → IsTextOf r long (settled s)
+pub text_of : (r : Seen) (s : State) (long : Bool) → TextOpen r s long → IsTextOf r long (settled s)
 text_of r s long o = text_is r long s o.form o.is
 
 -- it is the same text after bytes were counted
@@ -100,6 +100,7 @@ whole_taken gate found old mid new s cut taken long units h st c some o t e =
       found = f.1;
       goes = ap (λ t. settled (advance t (text_field long units))) om.is ∙ text_goes mid.text mid long units i.some;
     }))
+    (λ stops none _. surely_goes_on (text_reason gate mid units) (after_text mid units) found mid new (h om.inside) stops none)
 
 -- ---- the length
 
@@ -230,7 +231,7 @@ negative_taken gate n next found old mid new taken h lo hi eo some e c = λ s cu
     (head_undecided gate (label_of (settled s)) true (cut ++ taken) i.is_text (omega arith))
     (subst (λ bytes. reason_at gate (label_of (settled s)) (label_of (settled s)).position bytes ≡ Some negative_length) is
     (negative_reason gate (label_of (settled s)) n i.is_text lo hi))
-    (λ x. absurd (cc))
+    (λ x. absurd (cc)) (λ _ none. absurd (cc))
 
 -- ---- the bytes
 
@@ -343,7 +344,7 @@ bad_text_last gate next found old mid new s cut front taken b x h st c et size t
     (last_undecided gate (label_of (settled s)) x.long x.len (x.before ++ front) b i.is_text x.bound t (omega arith)))
     (subst (λ bytes. reason_at gate (label_of (settled s)) (label_of (settled s)).position bytes ≡ Some bad_text) (sym is)
     (fault_reason gate (label_of (settled s)) x.long x.len (x.before ++ taken) i.is_text x.bound size none))
-    (λ e. absurd (cc))
+    (λ e. absurd (cc)) (λ _ refused. absurd (cc))
 
 pub bad_text_taken : (gate : Gate) (next : State) (found : Bool) (old mid new : Seen) (piece : List ℕ) (accepted : ℕ)
     → Tells (Some bad_text) next found mid new

@@ -1,3 +1,4 @@
+pub mod Memory
 pub mod Walks
 pub mod Tallies
 pub mod Takes
@@ -10,6 +11,7 @@ pub mod Readers
 pub mod Fitting
 pub mod Tags
 pub mod Reasons
+pub mod ReasonNames
 pub mod Steps
 pub mod Handlers
 pub mod Classes
@@ -19,6 +21,11 @@ pub mod Numbers
 pub mod Descriptors
 pub mod FieldLists
 pub mod ReaderStates
+pub mod Bounds
 pub mod States
 pub mod Streams
+pub mod Items
+pub mod ItemsMade
+pub mod ItemsTold
+pub mod FieldLaws
 pub mod Gates

@@ -1,5 +1,5 @@
 -- What a reader stands for, and what its calls answer.
-use Rattle.std.specs.Prelude.{◌≡◌, ℕ, ◌+◌, ◌<◌, ◌≤◌, List, [], ◌++◌, length, take, Result, Ok, Err}
+use Rattle.std.specs.Prelude.{◌≡◌, ℕ, ◌<◌, ◌≤◌, List, ◌++◌, length, take, Result, Ok, Err}
 use Rattle.jser_grammar.specs.Trees.{ContentTrees}
 use Rattle.jser_verdict.specs.Gates.{Gate}
 use Rattle.jser_verdict.specs.Passing.{Passes}
@@ -45,7 +45,7 @@ abbrev pub NextCases : Gate → (bytes piece : List ℕ) → Result Step Stop �
 NextCases gate bytes piece (Ok (step.Item item used)) r tally = (0 < used) × (used ≤ length piece) × StandsFor gate (bytes ++ take used piece) r tally
 NextCases gate bytes piece (Ok step.More) r tally = StandsFor gate (bytes ++ piece) r tally
 NextCases gate bytes piece (Err (stop.Refused refusal)) r tally =
-    (used : ℕ) × (used ≤ length piece) × AreRefused gate (bytes ++ take used piece) refusal × HasRefused refusal r
+    (used : ℕ) × (used ≤ length piece) × AreRefused gate (bytes ++ take used piece) refusal × HasRefused refusal r × (0 < used)
 NextCases gate bytes piece (Err stop.OutOfMemory) r tally = IsSpent r
 NextCases gate bytes piece (Err stop.Spent) r tally = ⊥
 
@@ -62,7 +62,7 @@ HasProgress piece step.More = Unit {0}
 abbrev pub SkipCases : Gate → (bytes piece : List ℕ) → Result (Unit {0}) Stop → Seen → Tally → Type 0
 SkipCases gate bytes piece (Ok _) r tally = StandsFor gate (bytes ++ piece) r tally
 SkipCases gate bytes piece (Err (stop.Refused refusal)) r tally =
-    (used : ℕ) × (used ≤ length piece) × AreRefused gate (bytes ++ take used piece) refusal × HasRefused refusal r
+    (used : ℕ) × (used ≤ length piece) × AreRefused gate (bytes ++ take used piece) refusal × HasRefused refusal r × (0 < used)
 SkipCases gate bytes piece (Err stop.OutOfMemory) r tally = IsSpent r
 SkipCases gate bytes piece (Err stop.Spent) r tally = ⊥
 

@@ -21,7 +21,7 @@ use Rattle.jser_reader.specs.declared.phase.Phase.TheVariants as phase
 use Rattle.jser_reader.specs.declared.phase.TextFor.{TextFor}
 use Rattle.jser_reader.specs.declared.phase.TextFor.TheVariants as text
 use Rattle.jser_reader.specs.declared.refusal.Stop.{Stop}
-use Rattle.jser_reader.specs.Stacks.{tail_of}
+use Rattle.jser_reader.specs.Stacks.{FitsDepth}
 use Rattle.jser_reader.specs.Fitting.{HasDescriptor}
 use Rattle.jser_reader.specs.Frames.{goal_owner, owner_in, chain_owner, goal_role, head_layer, tail_layers, parts_of, frame_goals, closed_goals}
 
@@ -243,12 +243,12 @@ pub record PrimsReady (r : Seen) (s : State) : Type 0 where
   pub goals : List Goal
   pub is : s ≡ (moment_of r, parts_goal depth (raw_part type_code (suc more) ∷ parts) ∷ goals)
   pub size : r.left ≡ suc more * size_of type_code
+  pub depth_is : FitsDepth (length r.frames) depth
   pub after : settle (moment_of r) (parts_goal depth parts ∷ goals) ≡ settle (moment_of r) (goals_of r)
 
 pub record BytesReady (r : Seen) (s : State) : Type 0 where
-  pub depth : ℕ
   pub more : ℕ
-  pub is : s ≡ (moment_of r, block_goal depth (suc more) ∷ goals_of r)
+  pub is : s ≡ (moment_of r, block_goal (length r.frames) (suc more) ∷ goals_of r)
   pub size : r.left ≡ suc more
 
 -- the length of an array comes next, whose elements have the size that is kept

@@ -1,6 +1,6 @@
 -- What a reader says of the bytes that it took: that they are a stream, that they are refused and why, or that they end
 -- too early.
-use Rattle.std.specs.Prelude.{ℕ, suc, ◌≡◌, ◌+◌, ◌≤◌, List, [], ◌++◌, length}
+use Rattle.std.specs.Prelude.{ℕ, ◌≡◌, List, ◌++◌, length}
 use Rattle.jser_grammar.specs.Trees.{ContentTrees}
 use Rattle.jser_grammar.specs.Parts.{IsBytes}
 use Rattle.jser_verdict.specs.Reasons.{truncated}

@@ -9,7 +9,7 @@ use Rattle.jser_reader.specs.declared.phase.Phase.TheVariants as phase
 use Rattle.jser_reader.specs.Readers.{Meter, Seen}
 use Rattle.jser_reader.specs.Steps.{after_value}
 use Rattle.jser_reader.specs.Handlers.{Comes}
-use Rattle.jser_reader.specs.Walks.{Takes, Keeps, Counts, open_phase, cut_of}
+use Rattle.jser_reader.specs.Walks.{size_of_phase, Takes, Keeps, Counts, open_phase, cut_of}
 
 -- so many bytes more were counted
 abbrev pub counted_on : Meter → ℕ → Meter
@@ -51,13 +51,36 @@ pub record CutsOff (piece : List ℕ) (old new : Seen) : Type 0 where
   pub kept : new.meter.kept ≡ cut_of old ++ piece
   pub counts : Counts piece old new
 
--- The first bytes of the piece, so many, end the open field, or the machine stops at the last of them; or the whole
--- piece is of the field, which stays open: as one gate judges it, and as any does.
+-- where the length of a text is open, these are its bytes, and no more
+abbrev pub IsWholeLength : Phase → (bytes : List ℕ) → Type 0
+IsWholeLength phase.Length2 bytes = length bytes ≡ 2
+IsWholeLength phase.Length8 bytes = length bytes ≡ 8
+IsWholeLength _ bytes = Unit {0}
+
+-- what is taken of a field that stays open, and lent: the length of a text, or all of the piece
+abbrev pub IsPart : Phase → (kept piece : List ℕ) → (count : ℕ) → Type 0
+IsPart phase.Length2 kept piece count = length (kept ++ take count piece) ≡ 2
+IsPart phase.Length8 kept piece count = length (kept ++ take count piece) ≡ 8
+IsPart phase.Text kept piece count = count ≡ length piece
+IsPart phase.Prims kept piece count = count ≡ length piece
+IsPart phase.Bytes kept piece count = count ≡ length piece
+IsPart _ kept piece count = ⊥
+
+-- the same number is open still, or the header
+pub record StillOpen (old new : Seen) : Type 0 where
+  pub same : open_phase new ≡ open_phase old
+  pub some : 0 < size_of_phase (open_phase old)
+
+-- The first bytes of the piece, so many, end the open field, or the machine stops at the last of them; or they are
+-- lent of the field, which stays open; or the whole piece is of the header or a number, which stays open: as one gate
+-- judges it, and as any does.
 abbrev pub TakenCases : Gate → Taken → List ℕ → Seen → Seen → Type 0
 TakenCases gate (taken.Ended count) piece old new = (0 < count) × (count ≤ length piece) × Takes gate (take count piece) true old new
+    × IsWholeLength (open_phase old) (cut_of old ++ take count piece)
 TakenCases gate (taken.Stopped count) piece old new = (0 < count) × (count ≤ length piece) × Takes gate (take count piece) false old new
 TakenCases gate (taken.Part count) piece old new = (0 < count) × (count ≤ length piece) × Keeps gate (take count piece) old new
-TakenCases gate taken.Open piece old new = Keeps gate piece old new
+    × IsPart (open_phase old) (cut_of old) piece count
+TakenCases gate taken.Open piece old new = Keeps gate piece old new × StillOpen old new
 
 unfoldable pub TakesFromFor : Gate → Taken → List ℕ → Seen → Seen → Type 0
 TakesFromFor gate result piece old new = TakenCases gate result piece old new
@@ -85,13 +108,6 @@ abbrev pub taken_by : ℕ → Bool → Taken
 taken_by count true = taken.Ended count
 taken_by count false = taken.Stopped count
 
--- the bytes of the field are lent
-abbrev pub lent_by : Taken → (count : ℕ) → Taken
-lent_by (taken.Ended n) count = taken.Ended n
-lent_by (taken.Stopped n) count = taken.Stopped n
-lent_by (taken.Part n) count = taken.Part n
-lent_by taken.Open count = taken.Part count
-
 -- Bytes of a raw field: it ends, with as many as were left of it, or all are of it and others are still to come. (While it
 -- is open at least one is left.)
 abbrev pub RawCases : Taken → List ℕ → Seen → Seen → Type 0
@@ -99,9 +115,9 @@ RawCases (taken.Ended count) piece old new =
     (0 < count) × (count ≤ length piece) × (0 < old.left → count ≡ old.left)
     × Comes (farther old count) new (after_value (farther old count))
 RawCases (taken.Stopped count) piece old new = ⊥
-RawCases (taken.Part count) piece old new = ⊥
-RawCases taken.Open piece old new =
-    (new.phase ≡ old.phase) × (length piece < old.left) × (new.left + length piece ≡ old.left) × Counts piece old new
+RawCases taken.Open piece old new = ⊥
+RawCases (taken.Part count) piece old new =
+    (count ≡ length piece) × (new.phase ≡ old.phase) × (length piece < old.left) × (new.left + length piece ≡ old.left) × Counts piece old new
 
 unfoldable pub TakesRaw : Taken → List ℕ → Seen → Seen → Type 0
 TakesRaw result piece old new = RawCases result piece old new

@@ -22,6 +22,8 @@ use Rattle.jser_reader.specs.declared.phase.Phase.TheVariants as phase
 use Rattle.jser_reader.specs.declared.refusal.Refusal.{Refusal}
 use Rattle.jser_reader.specs.declared.refusal.Stop.{Stop}
 use Rattle.jser_reader.specs.declared.refusal.Stop.TheVariants as stop
+use Rattle.jser_reader.specs.Stacks.{FitsDepth}
+use Rattle.jser_reader.specs.Memory.{MayRunOut}
 use Rattle.jser_reader.specs.Reasons.{named}
 use Rattle.jser_reader.specs.Readers.{Seen, moment_of, goals_of, text_goal, text_rest, IsForm, is_checked, IsInside, ReadyAt}
 
@@ -115,14 +117,14 @@ pub record PrimsStands (r : Seen) (s : State) (cut : List ℕ) : Type 0 where
   pub goals : List Goal
   pub is : s ≡ (moment_of r, parts_goal depth (raw_part type_code (suc more) ∷ parts) ∷ goals)
   pub size : length cut + r.left ≡ suc more * size_of type_code
+  pub depth_is : FitsDepth (length r.frames) depth
   pub goes_on : 0 < r.left
   pub after : settle (moment_of r) (parts_goal depth parts ∷ goals) ≡ settle (moment_of r) (goals_of r)
 
 -- the bytes of a block are open, of which so many are left
 pub record BytesStands (r : Seen) (s : State) (cut : List ℕ) : Type 0 where
-  pub depth : ℕ
   pub more : ℕ
-  pub is : s ≡ (moment_of r, block_goal depth (suc more) ∷ goals_of r)
+  pub is : s ≡ (moment_of r, block_goal (length r.frames) (suc more) ∷ goals_of r)
   pub size : length cut + r.left ≡ suc more
   pub goes_on : 0 < r.left
 
@@ -178,7 +180,7 @@ pub record IsRefusal (gate : Gate) (s : State) (cut taken : List ℕ) (from : �
 
 abbrev pub StopTold : Gate → State → (cut taken : List ℕ) → (from : ℕ) → Stop → Type 0
 StopTold gate s cut taken from (stop.Refused refusal) = IsRefusal gate s cut taken from refusal
-StopTold gate s cut taken from stop.OutOfMemory = Unit {0}
+StopTold gate s cut taken from stop.OutOfMemory = MayRunOut (label_of (settled s)).position (cut ++ taken)
 StopTold gate s cut taken from stop.Spent = ⊥
 
 -- the bytes end the open field, and the machine stands for the state to which it leads

@@ -8,6 +8,7 @@ mod field_list;
 mod frame;
 mod gate;
 mod item;
+pub mod laws;
 mod machine;
 mod phase;
 mod reader;

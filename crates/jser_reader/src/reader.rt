@@ -1,6 +1,9 @@
 //! The reader: a stream in pieces of any sizes, field by field.
-ghost use Rattle.std.specs.Prelude.{◌≡◌, ◌<◌, ◌≤◌, [], length, IfOk};
+ghost use Rattle.std.specs.Prelude.{◌≡◌, ◌<◌, ◌≤◌, [], length, take, IfOk};
 ghost use Rattle.jser_reader.specs.ReaderStates.{IsItem, HasProgress, StandsFor, NextTells, SkipTells, StaysStopped, FinishTells};
+ghost use Rattle.jser_reader.specs.Bounds.{FramesAreBounded, MemoryFree, SkipMemoryFree};
+ghost use Rattle.jser_reader.specs.ItemsMade.{MakesStep};
+ghost use Rattle.jser_reader.specs.ItemsTold.{StandsIn, TellsItems, TellsFields};
 ghost use Rattle.jser_reader.specs.States.{IsWithin};
 
 use crate::gate::Gate;
@@ -15,9 +18,12 @@ use std::alloc::Global;
 use std::marker::Model;
 
 /// The item that so many bytes of a piece give, of a field of which others were kept.
+#[tactic(auto, using(crate::proofs::ItemLemmas::makes_step))]
+#[inline(always)]
 fn lend<'p>(field: Phase, kept: Kept, front: &'p [u8], used: usize) -> Step<'p>
     requires { used ≤ length front.now }
-    ensures { IsItem used result }
+    ensures used { IsItem used result }
+    ensures lent { MakesStep field kept.items (take used front.now) result }
 {
     let (part, _) = front.split_at(used);
     Step::Item {
@@ -50,6 +56,7 @@ impl<G: Gate> Reader<G> {
     pub fn new(alloc: Global, gate: G) -> Reader<G>
         ensures gate { result.gate ≡ gate }
         ensures stands { StandsFor (G.told gate) [] result.machine result.tally }
+        ensures begins { StandsIn (G.told gate) [] [] result.machine result.tally }
     {
         let limits = Limits {
             bytes: gate.max_bytes(),
@@ -67,11 +74,14 @@ impl<G: Gate> Reader<G> {
 
     /// Takes some of the front of the piece, which is not empty and within the limit.
     #[tactic(auto, using(crate::proofs::NextLemmas::is_taken, crate::proofs::NextLemmas::is_part))]
+    #[inline(always)]
     fn step<'p>(&mut self, piece: &'p [u8], front: &'p [u8]) -> Result<Step<'p>, Stop>
         requires within { IsWithin self.old.machine piece.now front.now }
         requires some { 0 < length front.now }
         requires goes_on { self.old.machine.phase ≡ Phase.Stopped → ⊥ }
         ensures tells { NextTells (G.told self.old.gate) piece.now result self.old.machine self.old.tally self.new.machine self.new.tally }
+        ensures items { TellsItems (G.told self.old.gate) piece.now result self.old.machine self.old.tally self.new.machine self.new.tally }
+        ensures memory { MemoryFree (G.told self.old.gate) piece.now result self.old.machine self.old.tally }
         ensures progress { IfOk result (λ step. HasProgress piece.now step) }
         ensures gate { self.new.gate ≡ self.old.gate }
     {
@@ -104,6 +114,8 @@ impl<G: Gate> Reader<G> {
     #[inline(always)]
     pub fn next<'p>(&mut self, piece: &'p [u8]) -> Result<Step<'p>, Stop>
         ensures tells { NextTells (G.told self.old.gate) piece.now result self.old.machine self.old.tally self.new.machine self.new.tally }
+        ensures items { TellsItems (G.told self.old.gate) piece.now result self.old.machine self.old.tally self.new.machine self.new.tally }
+        ensures memory { MemoryFree (G.told self.old.gate) piece.now result self.old.machine self.old.tally }
         ensures stays { StaysStopped result self.old.machine self.new.machine }
         ensures progress { IfOk result (λ step. HasProgress piece.now step) }
         ensures gate { self.new.gate ≡ self.old.gate }
@@ -128,6 +140,7 @@ impl<G: Gate> Reader<G> {
     /// As `next`.
     pub fn skip(&mut self, piece: &[u8]) -> Result<(), Stop>
         ensures tells { SkipTells (G.told self.old.gate) piece.now result self.old.machine self.old.tally self.new.machine self.new.tally }
+        ensures memory { SkipMemoryFree (G.told self.old.gate) piece.now result self.old.machine self.old.tally }
         ensures stays { StaysStopped result self.old.machine self.new.machine }
         ensures gate { self.new.gate ≡ self.old.gate }
     {
@@ -155,6 +168,7 @@ impl<G: Gate> Reader<G> {
     /// `Refused` as `Truncated` where the stream has not ended; else as `next`, but never `OutOfMemory`.
     pub fn finish(&mut self) -> Result<Totals, Stop>
         ensures tells { FinishTells (G.told self.old.gate) result self.old.machine self.old.tally self.new.machine }
+        ensures fields { TellsFields (G.told self.old.gate) result self.old.machine self.old.tally }
         ensures stays { StaysStopped result self.old.machine self.new.machine }
         ensures gate { self.new.gate ≡ self.old.gate }
     {
@@ -171,7 +185,8 @@ impl<G: Gate> Reader<G> {
 
     /// How many frames are open: arrays, objects and descriptors.
     pub fn open_frames(&self) -> u64
-        ensures { result ≡ length self.now.machine.frames }
+        ensures is { result ≡ length self.now.machine.frames }
+        ensures bounds { FramesAreBounded (G.told self.now.gate) result self.now.machine self.now.tally }
     {
         self.machine.depth() as u64
     }

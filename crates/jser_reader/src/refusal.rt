@@ -1,5 +1,7 @@
 //! Why bytes are refused: the reasons, and the bytes that decide.
 
+use std::fmt;
+
 /// A reason for which bytes are not a stream, or not one that the gate passes.
 #[derive(Clone, Copy, PartialEq, Eq, Hash, Debug)]
 pub enum Reason {
@@ -53,6 +55,55 @@ pub enum Reason {
     Truncated,
     /// More handles in an epoch than the limit.
     HandleSpace,
+}
+
+impl Reason {
+    ghost use Rattle.std.specs.Prelude.{◌≡◌};
+    ghost use Rattle.jser_reader.specs.ReasonNames.{reason_name};
+
+    /// The name of the reason, as it is written here. It allocates nothing.
+    pub fn name(self) -> &'static str
+        ensures { result.now ≡ reason_name self }
+    {
+        match self {
+            Reason::BytesExceeded => "BytesExceeded",
+            Reason::BadHeader => "BadHeader",
+            Reason::BadTag => "BadTag",
+            Reason::ExceptionTag => "ExceptionTag",
+            Reason::ResetInside => "ResetInside",
+            Reason::BadText => "BadText",
+            Reason::NegativeLength => "NegativeLength",
+            Reason::BadTypeCode => "BadTypeCode",
+            Reason::FieldOrder => "FieldOrder",
+            Reason::BadFlags => "BadFlags",
+            Reason::NullClass => "NullClass",
+            Reason::NoSuchHandle => "NoSuchHandle",
+            Reason::WrongKind => "WrongKind",
+            Reason::OpenDescriptor => "OpenDescriptor",
+            Reason::BadArrayName => "BadArrayName",
+            Reason::WrongClass => "WrongClass",
+            Reason::ExternalRaw => "ExternalRaw",
+            Reason::NotSerializable => "NotSerializable",
+            Reason::ClassRejected => "ClassRejected",
+            Reason::ClassUnmatched => "ClassUnmatched",
+            Reason::DepthExceeded => "DepthExceeded",
+            Reason::RefsExceeded => "RefsExceeded",
+            Reason::ArrayExceeded => "ArrayExceeded",
+            Reason::Truncated => "Truncated",
+            Reason::HandleSpace => "HandleSpace",
+        }
+    }
+}
+
+impl fmt::Display for Reason {
+    ghost use Rattle.std.specs.Prelude.{Some};
+    ghost use Rattle.jser_reader.specs.ReasonNames.{reason_name};
+
+    ghost output = { λ reason. Some (reason_name reason) };
+
+    fn fmt<W: fmt::Write>(&self, f: &mut fmt::Formatter<W>) -> fmt::Result {
+        f.write_str(self.name())
+    }
 }
 
 /// The bytes that are refused.

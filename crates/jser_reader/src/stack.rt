@@ -40,6 +40,7 @@ impl Stack {
     }
 
     /// How many frames there are.
+    #[inline(always)]
     pub(crate) fn len(&self) -> usize
         ensures count { result ≡ length self.now }
         ensures few { result < 2 ^ 64 - 1 }
@@ -51,6 +52,7 @@ impl Stack {
     }
 
     /// The innermost frame, if there is one.
+    #[inline(always)]
     pub(crate) fn top(&self) -> Option<Frame>
         ensures { IsTop self.now result }
     {
@@ -70,6 +72,7 @@ impl Stack {
     }
 
     /// Takes the frame off that is on top, if there is one.
+    #[inline(always)]
     pub(crate) fn pop(&mut self)
         ensures { self.new ≡ tail_of self.old }
     {
@@ -85,6 +88,7 @@ impl Stack {
     }
 
     /// Puts this frame in the place of the one on top.
+    #[inline(always)]
     pub(crate) fn set_top(&mut self, frame: Frame)
         requires { 0 < length self.old }
         ensures { self.new ≡ frame ∷ tail_of self.old }

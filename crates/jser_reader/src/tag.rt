@@ -29,6 +29,7 @@ pub(crate) enum Tag {
 }
 
 /// The tag that a byte is, if it is one: the bytes 0x70 to 0x7E are.
+#[inline(always)]
 pub(crate) fn tag_of(byte: u8) -> Option<Tag>
     ensures { IsTagOf byte result }
 {

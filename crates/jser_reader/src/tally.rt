@@ -32,6 +32,7 @@ impl Tally {
     }
 
     /// A field has ended: what was known before it, and what is known after it.
+    #[inline(always)]
     pub(crate) fn count(&mut self, old: Mark, new: Mark)
         ensures { self.old.contents + 1 < 2 ^ 64 → self.old.earlier + old.entries < 2 ^ 64 → self.new ≡ tally_after old new self.old }
     {

@@ -1,10 +1,11 @@
 //! Streams from the format, whole and in pieces, and what the reader answers to them.
 
-use crate::{OpenGate, Reader, Reason, Refusal, Stop, Totals};
+use crate::{Gate, OpenGate, Reader, Reason, Refusal, Stop, Totals};
 use std::alloc::{AllocError, AllocGlobal, Global};
 use std::process::Abort;
 use std::test::Fail;
 
+mod gates;
 mod nests;
 mod pieces;
 mod rows;
@@ -31,7 +32,17 @@ fn with_zeros(alloc: Global, front: &[u8], zeros: usize) -> Result<Vec<u8>, Allo
 
 /// What a reader answers to the bytes in pieces of this size.
 fn answer_of(alloc: Global, bytes: &[u8], size: usize) -> Result<Totals, Stop> {
-    let mut reader = Reader::new(alloc, OpenGate);
+    answer_under(alloc, OpenGate, bytes, size)
+}
+
+/// What a reader answers to the bytes in pieces of this size, under this gate.
+fn answer_under<G: Gate + Drop>(
+    alloc: Global,
+    gate: G,
+    bytes: &[u8],
+    size: usize,
+) -> Result<Totals, Stop> {
+    let mut reader = Reader::new(alloc, gate);
     for piece in bytes.chunks(size.max(1)) {
         reader.skip(piece)?;
     }

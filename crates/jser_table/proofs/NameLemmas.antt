@@ -6,6 +6,7 @@ use Rattle.jser_table.specs.declared.layer.LayerKind.TheVariants as kind
 use Rattle.jser_table.specs.declared.name.Element.{Element}
 use Rattle.jser_table.specs.declared.name.Element.TheVariants.{Name, Primitive, Malformed}
 use Rattle.jser_table.specs.Names.{view_element, is_primitive_code, ends_in, all_but_last, NameKind, plain_name, array_name, malformed_name, primitive_array, array_of_arrays, array_kind, ElementOf, element, primitive_element, malformed_element, primitive_array_element, class_element, array_element, is_primitive_name, plain_element, name_kind, element_of, told_kind}
+use Rattle.jser_table.specs.Laws.{MalformedAlike}
 
 ends_in-push : (last : ℕ) (units : List ℕ) (x : ℕ) → ends_in last (units ++ x ∷ []) ≡ (x == last)
 ends_in-push last [] x = refl
@@ -162,3 +163,13 @@ malformed_element_of_kind name is = is_malformed_of (element_of name) (sym (malf
 
 pub malformed_kind_of_element : (name : List ℕ) → element_of name ≡ malformed_element → name_kind name ≡ malformed_name
 malformed_kind_of_element name is = is_malformed_name (name_kind name) (malformed_alike name ∙ ap is_malformed_element is)
+
+-- no layer is made
+none_of_kind : (kind : NameKind) → told_kind kind ≡ None → kind ≡ malformed_name
+none_of_kind plain_name none = absurd (cc)
+none_of_kind (array_name body) none = absurd (cc)
+none_of_kind malformed_name none = refl
+
+pub malformed_both : MalformedAlike
+malformed_both name =
+    (λ none. malformed_element_of_kind name (none_of_kind (name_kind name) none), λ is. ap told_kind (malformed_kind_of_element name is))

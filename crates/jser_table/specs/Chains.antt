@@ -63,7 +63,8 @@ abbrev pub all_serial : List Layer → Bool
 all_serial [] = true
 all_serial (layer ∷ layers) = is_serial layer && all_serial layers
 
--- A class writes something for its objects: fields, or an annotation. (A proxy has no fields and no flags.)
+-- A class writes something for its objects: fields, or an annotation. (That a proxy has no fields and no flags is a matter of
+-- the grammar; here a layer is as it was given.)
 abbrev pub is_filled : Layer → Bool
 is_filled layer = not (is_empty layer.codes) || has_write_method layer.flags
 

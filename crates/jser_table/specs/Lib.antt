@@ -5,6 +5,8 @@ pub mod Entries
 pub mod Fits
 pub mod Sections
 pub mod Descriptors
+pub mod Jumps
 pub mod Stored
 pub mod Slots
 pub mod Tables
+pub mod Laws

@@ -8,6 +8,7 @@ ghost use Rattle.jser_table.specs.Chains.{all_serial, next_filled, is_filled, is
 ghost use Rattle.jser_table.specs.Codes.{size_of, primitive_codes};
 ghost use Rattle.jser_table.specs.Sections.{HasSection, sections_of, layer_of, HoldsFor, IsOn, IsNext, AreSections};
 ghost use Rattle.jser_table.specs.Fits.{fit_of};
+ghost use Rattle.jser_table.specs.Jumps.{JumpsFar, TakesJump};
 ghost use Rattle.jser_table.specs.Descriptors.{AreTold, IsHighest, GoesUp, LinksTo, IsUnder, IsTold, IsLast, IsLastUnder, RunsOn, Files, AreShelved, IsFiled, chains_of, chain_of_parent, count_of, front_of};
 
 use crate::codes::leading_size;
@@ -298,6 +299,7 @@ fn jump_from(descriptors: &[Descriptor], parent: u32) -> u32
     requires parent_in { parent < length descriptors.now }
     ensures inside { result < length descriptors.now }
     ensures front { IsFront (chain_in (chains_of descriptors.now) result) (chain_in (chains_of descriptors.now) parent) }
+    ensures far { JumpsFar descriptors.now parent result }
 {
     let above = &descriptors[parent as usize];
     let Some(near) = above.links else {
@@ -494,6 +496,7 @@ fn step_up(
     requires place_in { place < length descriptors.now }
     ensures up { IfSome result (λ higher. GoesUp counted bound (chains_of descriptors.now) place higher) }
     ensures top { IfNone result (count_of counted (front_of (chain_in (chains_of descriptors.now) place)) ≤ bound) }
+    ensures far { IfSome result (TakesJump descriptors.now counted bound place) }
 {
     let links = descriptors[place].links?;
     let (jump, parent) = (links.jump as usize, links.parent as usize);

@@ -4,7 +4,7 @@ use std::marker::Model;
 
 /// The number of a chain: in which order of closing its class came, counted from 0 in each epoch. Contracts
 /// see it as a number.
-#[derive(Clone, Copy, PartialEq, Eq, Debug)]
+#[derive(Clone, Copy, PartialEq, Eq, Hash, Debug)]
 pub struct ChainNumber {
     pub(crate) number: u32,
 }
@@ -20,7 +20,7 @@ impl Model for ChainNumber {
 }
 
 /// What a number names, as a class.
-#[derive(Clone, Copy, PartialEq, Eq, Debug)]
+#[derive(Clone, Copy, PartialEq, Eq, Hash, Debug)]
 pub enum Class {
     /// Nothing: no entry has this number.
     NotThere,

@@ -5,7 +5,7 @@ ghost use Rattle.jser_table.specs.Tables.{new_kept, closed_kept};
 use std::marker::Model;
 
 /// What a new handle is given to.
-#[derive(Clone, Copy, PartialEq, Eq, Debug)]
+#[derive(Clone, Copy, PartialEq, Eq, Hash, Debug)]
 pub enum Kind {
     /// A string.
     Text,
@@ -15,8 +15,8 @@ pub enum Kind {
     Pending,
 }
 
-/// What a handle names.
-#[derive(Clone, Copy, PartialEq, Eq, Debug)]
+/// What a handle names. Entries are not compared: that two are closed does not say that they are one class.
+#[derive(Clone, Copy)]
 pub enum Entry {
     /// A string.
     Text,
@@ -29,7 +29,7 @@ pub enum Entry {
 }
 
 /// Says nothing more: a table tells the chain of a closed entry by the entry's number.
-#[derive(Clone, Copy, PartialEq, Eq, Debug)]
+#[derive(Clone, Copy)]
 pub struct Closed {
     pub(crate) nothing: (),
 }

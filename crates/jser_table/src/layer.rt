@@ -19,7 +19,7 @@ const SC_BLOCK_DATA: u8 = 0x08;
 const SC_ENUM: u8 = 0x10;
 
 /// What the elements of an array are.
-#[derive(Clone, Copy, PartialEq, Eq, Debug)]
+#[derive(Clone, Copy, PartialEq, Eq, Hash, Debug)]
 pub enum BodyKind {
     /// Raw values of the primitive with this type code.
     Prim(u8),
@@ -28,7 +28,7 @@ pub enum BodyKind {
 }
 
 /// What a layer's class is.
-#[derive(Clone, Copy, PartialEq, Eq, Debug)]
+#[derive(Clone, Copy, PartialEq, Eq, Hash, Debug)]
 pub enum LayerKind {
     /// A dynamic proxy class.
     Proxy,
@@ -39,7 +39,7 @@ pub enum LayerKind {
 }
 
 /// What a class place names a class for.
-#[derive(Clone, Copy, PartialEq, Eq, Debug)]
+#[derive(Clone, Copy, PartialEq, Eq, Hash, Debug)]
 pub enum Purpose {
     /// The class of an object.
     Object,
@@ -50,7 +50,7 @@ pub enum Purpose {
 }
 
 /// Whether a class fits a purpose, or the first thing that is wrong with it.
-#[derive(Clone, Copy, PartialEq, Eq, Debug)]
+#[derive(Clone, Copy, PartialEq, Eq, Hash, Debug)]
 pub enum Fit {
     /// It fits.
     Fits,
@@ -67,9 +67,9 @@ pub enum Fit {
 pub struct Layer {
     /// What the class is.
     pub kind: LayerKind,
-    /// The flags of its descriptor; 0 for a proxy.
+    /// The flags of its descriptor. A stream says none of a proxy, and a reader gives 0.
     pub flags: u8,
-    /// The type codes of its fields, in order; none for a proxy.
+    /// The type codes of its fields, in order. A stream says none of a proxy, and a reader gives none.
     pub codes: Codes,
 }
 

@@ -9,7 +9,7 @@ ghost use Rattle.jser_table.specs.Names.{is_primitive_code, is_primitive_name, n
 use crate::layer::{BodyKind, LayerKind};
 
 /// What a filter judges a name by.
-#[derive(Clone, Copy, PartialEq, Eq, Debug)]
+#[derive(Clone, Copy, PartialEq, Eq, Hash, Debug)]
 pub enum Element<'a> {
     /// These units: the name itself, or the class of an array's elements.
     Name(&'a [u16]),
@@ -88,8 +88,8 @@ fn is_primitive_name(name: &[u16]) -> bool
         || is_text(name, b"void")
 }
 
-/// Whether the name has the units of this ASCII text.
-fn is_text(name: &[u16], text: &[u8]) -> bool
+/// Whether the name has the units of this ASCII text. Takes no memory.
+pub fn is_text(name: &[u16], text: &[u8]) -> bool
     ensures { result ≡ bytes_eq name.now text.now }
 {
     match (name, text) {

@@ -7,7 +7,7 @@
 use std::marker::Model;
 
 /// The number of a section, counted from 0 in each epoch. Contracts see it as a number.
-#[derive(Clone, Copy, PartialEq, Eq, Debug)]
+#[derive(Clone, Copy, PartialEq, Eq, Hash, Debug)]
 pub struct SectionNumber {
     pub(crate) number: u32,
 }
@@ -23,7 +23,7 @@ impl Model for SectionNumber {
 }
 
 /// What a section holds.
-#[derive(Clone, Copy, PartialEq, Eq, Debug)]
+#[derive(Clone, Copy, PartialEq, Eq, Hash, Debug)]
 pub struct Section {
     /// How many bytes its raw values have together.
     pub raw_bytes: u32,
@@ -36,7 +36,7 @@ pub struct Section {
 }
 
 /// The sections of an object's data, by the first and the last of them.
-#[derive(Clone, Copy, PartialEq, Eq, Debug)]
+#[derive(Clone, Copy, PartialEq, Eq, Hash, Debug)]
 pub struct Sections {
     /// The one that comes first: that of the highest superclass that has one.
     pub first: SectionNumber,

@@ -22,7 +22,7 @@ use std::fmt;
 use std::marker::Model;
 
 /// Why a handle was not assigned. The table is as it was.
-#[derive(Clone, Copy, PartialEq, Eq, Debug)]
+#[derive(Clone, Copy, PartialEq, Eq, Hash, Debug)]
 pub enum TableFault {
     /// The table has as many entries as it may have.
     Full,
@@ -82,6 +82,11 @@ impl Table {
     }
 
     /// Adds an entry and gives its number, counted from 0.
+    ///
+    /// # Errors
+    ///
+    /// `TableFault::Full` where the table has as many entries as it may have, and `TableFault::OutOfMemory`
+    /// where memory ran out. The table is then as it was.
     pub fn assign(&mut self, kind: Kind) -> Result<u32, TableFault>
         ensures number { IfOk result (λ number. number ≡ length self.old.entries) }
         ensures added { IfOk result (λ _. self.new.entries ≡ self.old.entries ++ new_entry kind ∷ []) }

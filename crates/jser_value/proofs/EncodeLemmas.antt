@@ -14,10 +14,10 @@ use Rattle.jser_value.specs.declared.tree.Value.{Value}
 use Rattle.jser_value.specs.declared.tree.Content.{Content}
 use Rattle.jser_value.specs.declared.tree.Section.{Section}
 use Rattle.jser_value.specs.declared.tree.Field.{Field}
-use Rattle.jser_value.specs.declared.tree.Prim.{Prim}
+use Rattle.jser_value.specs.declared.tree.Raw.{Raw}
 use Rattle.jser_value.specs.Encoding.{field_spelling, section_spelling, plain_head, proxy_head}
-use Rattle.jser_value.specs.Outgoing.{Outgoing, SinkState, Puts}
-use Rattle.jser_value.proofs.OutgoingLemmas.{puts_both, puts_tagged}
+use Rattle.jser_prim.specs.Outgoing.{Outgoing, SinkState, Puts}
+use Rattle.jser_prim.proofs.OutgoingLemmas.{puts_both, puts_tagged}
 
 -- a number's lowest bytes are those of its rest
 
@@ -111,7 +111,7 @@ fields_flat (f ∷ fs) =
     ap (λ t. field_spelling (view_field f) ++ t) (fields_flat fs)
     ∙ ap (λ t. (view_field f).code ∷ t) (append_assoc (utf (view_field f).name) (type_spelling (view_field f).text) (fields_spelling (map view_field fs)))
 
-pub prims_flat : (prims : List Prim) → flat_map (λ p. prim_spelling (view_prim p)) prims ≡ prims_spelling (map view_prim prims)
+pub prims_flat : (prims : List Raw) → flat_map (λ p. prim_spelling (view_prim p)) prims ≡ prims_spelling (map view_prim prims)
 prims_flat [] = refl
 prims_flat (p ∷ ps) = ap (λ t. prim_spelling (view_prim p) ++ t) (prims_flat ps)
 
@@ -210,7 +210,7 @@ puts_proxy a b c d e f g h names notes parent first second third =
 
 -- Arrays and sections
 
-pub puts_raw_body : (a b c : Outgoing) (d e f : SinkState) (prims : List Prim) (len : ℕ) → len ≡ length prims → Puts a b d e (big_bytes 4 len) → Puts b c e f (prims_spelling (map view_prim prims))
+pub puts_raw_body : (a b c : Outgoing) (d e f : SinkState) (prims : List Raw) (len : ℕ) → len ≡ length prims → Puts a b d e (big_bytes 4 len) → Puts b c e f (prims_spelling (map view_prim prims))
     → Puts a c d f (body_spelling (raw_body (map view_prim prims)))
 puts_raw_body a b c d e f prims len is first second =
     puts_both a b c d e f (big_bytes 4 (length (map view_prim prims))) (prims_spelling (map view_prim prims))

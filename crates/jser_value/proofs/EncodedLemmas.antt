@@ -6,11 +6,8 @@ use Rattle.std.specs.Io.KnownBytes.{Appends}
 use Rattle.jser_grammar.specs.Trees.{ContentTrees}
 use Rattle.jser_grammar.specs.Spelling.{spelling, contents_spelling}
 use Rattle.jser_value.specs.Limits.{IsContents}
-use Rattle.jser_value.specs.Outgoing.{Outgoing, SinkState, Puts}
-use Rattle.jser_value.proofs.OutgoingLemmas.{puts_both}
-
-abbrev nothing : Outgoing
-nothing = record { waiting = []; written = 0; failed = false }
+use Rattle.jser_prim.specs.Outgoing.{Outgoing, SinkState, Puts}
+use Rattle.jser_prim.proofs.OutgoingLemmas.{nothing, puts_both, went_out, went_partly}
 
 -- the header, the contents and no more
 pub puts_stream : (a b c d : Outgoing) (e f g h : SinkState) (contents : ContentTrees) → Puts a b e f (0xAC ∷ 0xED ∷ 0x00 ∷ 0x05 ∷ [])
@@ -19,31 +16,15 @@ puts_stream a b c d e f g h contents first second third =
     subst (λ t. Puts a d e h (0xAC ∷ 0xED ∷ 0x00 ∷ 0x05 ∷ t)) (append-nil (contents_spelling contents))
     (puts_both a b d e f h (0xAC ∷ 0xED ∷ 0x00 ∷ 0x05 ∷ []) (contents_spelling contents ++ []) first (puts_both b c d f g h (contents_spelling contents) [] second third))
 
--- all of it went out
-pub record WroteAll (old new : Option (List ℕ)) (bytes : List ℕ) (written : ℕ) : Type 0 where
-  pub out : Appends old new bytes
-  pub counted : written ≡ length bytes
-
 pub wrote_all : (now : Outgoing) (before after : SinkState) (contents : ContentTrees) (start : Outgoing) → start ≡ nothing → IsContents contents
     → Puts start now before after (spelling contents) → now.failed ≡ false → (now.failed ≡ false → now.waiting ≡ [])
-    → Appends before.gone_out after.gone_out (spelling contents) × (now.written ≡ length (spelling contents))
+    → Appends before.gone_out after.gone_out (spelling contents) × (now.written ≡ length (spelling contents)) × (after.failed ≡ before.failed)
 wrote_all now before after contents start is obeys puts on empty =
-    let hands = puts.going (ap (λ o. o.failed) is) in
-    let whole : spelling contents ≡ hands.out =
-    ap (λ o. o.waiting ++ spelling contents) (sym is) ∙ hands.split ∙ ap (λ t. hands.out ++ t) (hands.waits on ∙ empty on) ∙ append-nil hands.out in (
-      subst (Appends before.gone_out after.gone_out) (sym whole) hands.went,
-      omega (arith, hands.counted, ap (λ o. o.written) is, ap length whole, obeys.size),
-    )
+    let went = went_out start now before after (spelling contents) is puts on empty in
+    (went.0, omega (arith, went.2, obeys.size), went.1)
 
 pub wrote_some : (now : Outgoing) (before after : SinkState) (contents : ContentTrees) (start : Outgoing) → start ≡ nothing → IsContents contents
     → Puts start now before after (spelling contents) → now.failed ≡ true
     → (now.written ≤ length (spelling contents)) × Appends before.gone_out after.gone_out (take now.written (spelling contents)) × (after.failed ≡ true)
 wrote_some now before after contents start is obeys puts off =
-    let hands = puts.going (ap (λ o. o.failed) is) in
-    let whole : spelling contents ≡ hands.out ++ hands.left = ap (λ o. o.waiting ++ spelling contents) (sym is) ∙ hands.split in
-    let lengths = ap length whole ∙ length-append hands.out hands.left in
-    let counted : now.written ≡ length hands.out = omega (arith, hands.counted, ap (λ o. o.written) is, lengths, obeys.size) in (
-      omega (arith, counted, lengths),
-      subst (Appends before.gone_out after.gone_out) (sym (ap (λ n. take n (spelling contents)) counted ∙ ap (take (length hands.out)) whole ∙ take-append_seam hands.out hands.left)) hands.went,
-      hands.fault off,
-    )
+    went_partly start now before after (spelling contents) is puts off (omega (arith, obeys.size))

@@ -7,7 +7,7 @@ use Rattle.jser_value.specs.declared.tree.Value.{Value}
 use Rattle.std.specs.declared.result.Result.{Result}
 use Rattle.jser_value.specs.declared.obeys.Fault.{Fault}
 use Rattle.jser_value.specs.declared.obeys.Fault.TheVariants as fault
-use Rattle.jser_value.specs.declared.tree.Prim.{Prim}
+use Rattle.jser_value.specs.declared.tree.Raw.{Raw}
 use Rattle.jser_value.specs.declared.tree.Section.{Section}
 use Rattle.jser_table.specs.Entries.{chain_at}
 use Rattle.jser_grammar.proofs.Bools.{and_right}
@@ -39,7 +39,7 @@ pub own_layer_none : (chain : List Layer) → length chain ≡ 0 → own_layer c
 own_layer_none [] e = refl
 own_layer_none (l ∷ chain) e = absurd (omega arith)
 
-pub length_prims : (prims : List Prim) → length (map view_prim prims) ≡ length prims
+pub length_prims : (prims : List Raw) → length (map view_prim prims) ≡ length prims
 length_prims [] = refl
 length_prims (prim ∷ prims) = ap (λ n. suc n) (length_prims prims)
 

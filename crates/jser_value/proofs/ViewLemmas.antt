@@ -9,7 +9,7 @@ use Rattle.jser_value.specs.declared.tree.Content.{Content}
 use Rattle.jser_value.specs.declared.tree.Content.TheVariants as content_form
 use Rattle.jser_value.specs.declared.tree.Desc.TheVariants as desc
 use Rattle.jser_value.specs.declared.tree.Field.{Field}
-use Rattle.jser_value.specs.declared.tree.Prim.{Prim}
+use Rattle.jser_value.specs.declared.tree.Raw.{Raw}
 use Rattle.jser_value.specs.declared.tree.Section.{Section, out-Section}
 use Rattle.jser_value.specs.declared.tree.TextPlace.{TextPlace}
 use Rattle.jser_value.specs.declared.tree.Value.{Value}
@@ -29,7 +29,7 @@ view_enum_constant c t = search (rules, the_lemmas)
 pub view_object : (c : ClassPlace) (ss : Vec Section Global) → view_value (value.Object c ss) ≡ object (view_class_place c) (view_sections ss.items)
 view_object c ss = search (rules, the_lemmas)
 
-pub view_raw_body : (ps : Vec Prim Global) → view_body (body.Prims ps) ≡ raw_body (map view_prim ps.items)
+pub view_raw_body : (ps : Vec Raw Global) → view_body (body.Prims ps) ≡ raw_body (map view_prim ps.items)
 view_raw_body ps = search (rules, the_lemmas)
 
 pub view_value_body : (vs : Vec Value Global) → view_body (body.Values vs) ≡ value_body (view_values vs.items)

@@ -1,6 +1,5 @@
 pub mod View
 pub mod Limits
-pub mod Outgoing
 pub mod Encoding
 pub mod Encoded
 pub mod Rooms

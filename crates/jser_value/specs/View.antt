@@ -7,8 +7,8 @@ use Rattle.jser_value.specs.declared.tree.Text.{Text}
 use Rattle.jser_value.specs.declared.tree.TextPlace.{TextPlace}
 use Rattle.jser_value.specs.declared.tree.TextPlace.TheVariants as text_place
 use Rattle.jser_value.specs.declared.tree.Field.{Field}
-use Rattle.jser_value.specs.declared.tree.Prim.{Prim}
-use Rattle.jser_value.specs.declared.tree.Prim.TheVariants as prim
+use Rattle.jser_value.specs.declared.tree.Raw.{Raw}
+use Rattle.jser_value.specs.declared.tree.Raw.TheVariants as prim
 use Rattle.jser_value.specs.declared.tree.Body.{Body, Body-F, fold-Body}
 use Rattle.jser_value.specs.declared.tree.Body.TheOpen.{ClassPlace-F, Content-F, Desc-F, Value-F, Section-F}
 use Rattle.jser_value.specs.declared.tree.Body.TheFolds.{fold-ClassPlace, fold-Content, fold-Desc, fold-Value, fold-Section}
@@ -30,7 +30,7 @@ view_text_place (text_place.Back n) = back_text n
 abbrev pub view_field : Field → FieldTree
 view_field f = record { code = f.code; name = f.name.items; text = option_map view_text_place f.text }
 
-abbrev pub view_prim : Prim → PrimTree
+abbrev pub view_prim : Raw → PrimTree
 view_prim (prim.B n) = record { code = byte_code; bits = n }
 view_prim (prim.C n) = record { code = char_code; bits = n }
 view_prim (prim.D n) = record { code = double_code; bits = n }

@@ -19,7 +19,7 @@ const MAX_DEPTH: u32 = 1000;
 const MAX_SIZE: u64 = 0x7FFF_FFFF - 4;
 
 /// Why a list of contents is refused: the first of these that holds.
-#[derive(Clone, Copy, PartialEq, Eq, Debug, Error)]
+#[derive(Clone, Copy, PartialEq, Eq, Hash, Debug, Error)]
 pub enum ValueCause {
     /// Its depth is over 1,000.
     #[error("the contents are nested too deep")]
@@ -36,7 +36,7 @@ pub enum ValueCause {
 }
 
 /// A list of contents that is refused, and why.
-#[derive(PartialEq, Debug, Drop, Error)]
+#[derive(PartialEq, Eq, Debug, Drop, Error)]
 #[error("{cause}")]
 pub struct ValueFault {
     /// The list, as it was given.
@@ -70,8 +70,11 @@ impl Model for Contents {
 }
 
 impl Contents {
-    /// Takes a list that obeys the format, or hands it back with the first cause against it. Memory is
-    /// taken for the table of handles alone, and given back.
+    /// Takes a list that obeys the format. Memory is taken for the table of handles alone, and given back.
+    ///
+    /// # Errors
+    ///
+    /// `ValueFault` with the first cause against the list, which it hands back.
     pub fn new(alloc: Global, list: Vec<Content>) -> Result<Contents, ValueFault>
         ensures accepted { IfOk result (λ contents. contents ≡ list.items) }
         ensures obeys { OnOk result (IsContents (view_contents list.items)) }

@@ -10,24 +10,22 @@ ghost use Rattle.jser_prim.specs.Bytes.{big_bytes};
 ghost use Rattle.jser_prim.specs.ModifiedUtf8.{modified_utf8, unit_spelling};
 ghost use Rattle.jser_value.specs.Encoding.{field_spelling, section_spelling, plain_head, proxy_head};
 ghost use Rattle.jser_value.specs.Encoded.{WroteFirst};
-ghost use Rattle.jser_value.specs.Outgoing.{PutsTo};
+ghost use Rattle.jser_prim.specs.Outgoing.{PutsTo};
 ghost use Rattle.jser_value.specs.View.{view_text, view_text_place, view_field, view_prim, view_body, view_class_place, view_content, view_desc, view_value, view_section, view_values, view_sections, view_contents};
 ghost use Rattle.jser_grammar.specs.Spelling.{value_spelling, desc_spelling, class_spelling, body_spelling, values_spelling, sections_spelling, notes_spelling, annotation_spelling, content_spelling, contents_spelling, string_spelling, text_place_spelling, type_spelling, fields_spelling, interfaces_spelling, prim_spelling, prims_spelling, utf, long_utf, reference, block_head, spelling};
 
 use crate::contents::Contents;
-use crate::outbox::Outbox;
-use crate::tree::{Body, ClassPlace, Content, Desc, Field, Prim, Section, Text, TextPlace, Value};
-use byteorder::{BigEndian, ByteOrder};
-use jser_prim::{Sink, spell_unit};
+use crate::tree::{Body, ClassPlace, Content, Desc, Field, Raw, Section, Text, TextPlace, Value};
+use jser_prim::{Outbox, Sink, spell_unit};
 use thiserror::Error;
 
 /// STREAM_MAGIC and STREAM_VERSION.
 const HEADER: [u8; 4] = [0xAC, 0xED, 0x00, 0x05];
 
 /// Why a list of contents was not written whole.
-#[derive(Clone, Copy, PartialEq, Eq, Debug, Error)]
+#[derive(Clone, Copy, PartialEq, Eq, Hash, Debug, Error)]
 pub enum EncodeFault {
-    /// The sink failed behind so many bytes of the spelling.
+    /// The sink failed after so many bytes of the spelling.
     #[error("the writer failed after {written} bytes")]
     Write {
         /// How many bytes went out: the first ones of the spelling.
@@ -35,7 +33,7 @@ pub enum EncodeFault {
     },
 }
 
-/// Writes the stream of these contents to a sink, and gives its length in bytes.
+/// Writes the stream of these contents to a sink, and returns its length in bytes.
 ///
 /// It takes no memory. The sink is handed pieces of up to 512 bytes, and longer blocks as they are.
 ///
@@ -47,6 +45,7 @@ pub fn encode<W: Sink>(contents: &Contents, sink: &mut W) -> Result<u64, EncodeF
     ensures length { IfOk result (λ count. count ≡ length (spelling (view_contents contents.now))) }
     ensures out { OnOk result (Appends (W.gone_out sink.old) (W.gone_out sink.new) (spelling (view_contents contents.now))) }
     ensures written { IfErr result (WroteFirst (W.gone_out sink.old) (W.gone_out sink.new) (spelling (view_contents contents.now))) }
+    ensures kept { OnOk result (W.has_failed sink.new ≡ W.has_failed sink.old) }
     ensures failed { OnErr result (W.has_failed sink.new ≡ true) }
 {
     let list = contents.list();
@@ -71,7 +70,7 @@ fn put_stream<W: Sink>(outbox: &mut Outbox, sink: &mut W, contents: &[Content])
 }
 
 /// Contents, one after another.
-#[tactic(auto, using(crate::proofs::OutgoingLemmas::puts_none))]
+#[tactic(auto, using(jser_prim::proofs::OutgoingLemmas::puts_none))]
 fn put_list<W: Sink>(outbox: &mut Outbox, sink: &mut W, contents: &[Content])
     ensures { PutsTo W.gone_out W.has_failed outbox.old outbox.new sink.old sink.new (contents_spelling (view_contents contents.now)) }
 {
@@ -83,55 +82,19 @@ fn put_list<W: Sink>(outbox: &mut Outbox, sink: &mut W, contents: &[Content])
 /// The first handle of an epoch.
 const BASE_WIRE_HANDLE: u32 = 0x7E0000;
 
-impl Outbox {
-    /// Puts a byte.
-    fn put_u8<W: Sink>(&mut self, sink: &mut W, byte: u8)
-        ensures { PutsTo W.gone_out W.has_failed self.old self.new sink.old sink.new (byte ∷ []) }
-    {
-        self.put(sink, &[byte]);
-    }
-
-    /// Puts a number in two bytes.
-    fn put_u16<W: Sink>(&mut self, sink: &mut W, number: u16)
-        ensures { PutsTo W.gone_out W.has_failed self.old self.new sink.old sink.new (big_bytes 2 number) }
-    {
-        let mut bytes = [0; 2];
-        BigEndian::write_u16(&mut bytes, number);
-        self.put(sink, &bytes);
-    }
-
-    /// Puts a number in four bytes.
-    fn put_u32<W: Sink>(&mut self, sink: &mut W, number: u32)
-        ensures { PutsTo W.gone_out W.has_failed self.old self.new sink.old sink.new (big_bytes 4 number) }
-    {
-        let mut bytes = [0; 4];
-        BigEndian::write_u32(&mut bytes, number);
-        self.put(sink, &bytes);
-    }
-
-    /// Puts a number in eight bytes.
-    fn put_u64<W: Sink>(&mut self, sink: &mut W, number: u64)
-        ensures { PutsTo W.gone_out W.has_failed self.old self.new sink.old sink.new (big_bytes 8 number) }
-    {
-        let mut bytes = [0; 8];
-        BigEndian::write_u64(&mut bytes, number);
-        self.put(sink, &bytes);
-    }
-}
-
 /// A raw value, in as many bytes as its type has.
-fn put_prim<W: Sink>(outbox: &mut Outbox, sink: &mut W, prim: Prim)
+fn put_prim<W: Sink>(outbox: &mut Outbox, sink: &mut W, prim: Raw)
     ensures { PutsTo W.gone_out W.has_failed outbox.old outbox.new sink.old sink.new (prim_spelling (view_prim prim)) }
 {
     match prim {
-        Prim::B(bits) => outbox.put_u8(sink, bits),
-        Prim::C(bits) => outbox.put_u16(sink, bits),
-        Prim::D(bits) => outbox.put_u64(sink, bits),
-        Prim::F(bits) => outbox.put_u32(sink, bits),
-        Prim::I(bits) => outbox.put_u32(sink, bits),
-        Prim::J(bits) => outbox.put_u64(sink, bits),
-        Prim::S(bits) => outbox.put_u16(sink, bits),
-        Prim::Z(bits) => outbox.put_u8(sink, bits),
+        Raw::B(bits) => outbox.put_u8(sink, bits),
+        Raw::C(bits) => outbox.put_u16(sink, bits),
+        Raw::D(bits) => outbox.put_u64(sink, bits),
+        Raw::F(bits) => outbox.put_u32(sink, bits),
+        Raw::I(bits) => outbox.put_u32(sink, bits),
+        Raw::J(bits) => outbox.put_u64(sink, bits),
+        Raw::S(bits) => outbox.put_u16(sink, bits),
+        Raw::Z(bits) => outbox.put_u8(sink, bits),
     }
 }
 
@@ -166,7 +129,7 @@ fn text_len(units: &[u16]) -> u64
 }
 
 /// The modified UTF-8 of a text.
-#[tactic(auto, using(crate::proofs::OutgoingLemmas::puts_none, crate::proofs::EncodeLemmas::puts_unit))]
+#[tactic(auto, using(jser_prim::proofs::OutgoingLemmas::puts_none, crate::proofs::EncodeLemmas::puts_unit))]
 fn put_units<W: Sink>(outbox: &mut Outbox, sink: &mut W, units: &[u16])
     ensures { PutsTo W.gone_out W.has_failed outbox.old outbox.new sink.old sink.new (modified_utf8 units.now) }
 {
@@ -216,7 +179,7 @@ fn put_text_place<W: Sink>(outbox: &mut Outbox, sink: &mut W, place: &TextPlace)
 }
 
 /// The type of a field, where there is one.
-#[tactic(auto, using(crate::proofs::OutgoingLemmas::puts_none))]
+#[tactic(auto, using(jser_prim::proofs::OutgoingLemmas::puts_none))]
 fn put_type<W: Sink>(outbox: &mut Outbox, sink: &mut W, place: &Option<TextPlace>)
     ensures { PutsTo W.gone_out W.has_failed outbox.old outbox.new sink.old sink.new (type_spelling (option_map view_text_place place.now)) }
 {
@@ -237,7 +200,7 @@ fn put_field<W: Sink>(outbox: &mut Outbox, sink: &mut W, field: &Field)
 }
 
 /// The fields of a descriptor, one after another.
-#[tactic(auto, using(crate::proofs::OutgoingLemmas::puts_none))]
+#[tactic(auto, using(jser_prim::proofs::OutgoingLemmas::puts_none))]
 fn put_fields<W: Sink>(outbox: &mut Outbox, sink: &mut W, fields: &[Field])
     ensures { PutsTo W.gone_out W.has_failed outbox.old outbox.new sink.old sink.new (fields_spelling (map view_field fields.now)) }
 {
@@ -247,7 +210,7 @@ fn put_fields<W: Sink>(outbox: &mut Outbox, sink: &mut W, fields: &[Field])
 }
 
 /// The names of interfaces, one after another.
-#[tactic(auto, using(crate::proofs::OutgoingLemmas::puts_none))]
+#[tactic(auto, using(jser_prim::proofs::OutgoingLemmas::puts_none))]
 fn put_interfaces<W: Sink>(outbox: &mut Outbox, sink: &mut W, names: &[Vec<u16>])
     ensures { PutsTo W.gone_out W.has_failed outbox.old outbox.new sink.old sink.new (interfaces_spelling (map (λ name. name.items) names.now)) }
 {
@@ -257,8 +220,8 @@ fn put_interfaces<W: Sink>(outbox: &mut Outbox, sink: &mut W, names: &[Vec<u16>]
 }
 
 /// Raw values, one after another.
-#[tactic(auto, using(crate::proofs::OutgoingLemmas::puts_none))]
-fn put_prims<W: Sink>(outbox: &mut Outbox, sink: &mut W, prims: &[Prim])
+#[tactic(auto, using(jser_prim::proofs::OutgoingLemmas::puts_none))]
+fn put_prims<W: Sink>(outbox: &mut Outbox, sink: &mut W, prims: &[Raw])
     ensures { PutsTo W.gone_out W.has_failed outbox.old outbox.new sink.old sink.new (prims_spelling (map view_prim prims.now)) }
 {
     for prim in prims {
@@ -268,7 +231,7 @@ fn put_prims<W: Sink>(outbox: &mut Outbox, sink: &mut W, prims: &[Prim])
 
 /// A value.
 #[cycle(encode)]
-#[tactic(auto, using(crate::proofs::OutgoingLemmas::puts_tagged, crate::proofs::EncodeLemmas::puts_classed))]
+#[tactic(auto, using(jser_prim::proofs::OutgoingLemmas::puts_tagged, crate::proofs::EncodeLemmas::puts_classed))]
 fn put_value<W: Sink>(outbox: &mut Outbox, sink: &mut W, value: &Value)
     ensures { PutsTo W.gone_out W.has_failed outbox.old outbox.new sink.old sink.new (value_spelling (view_value value.now)) }
 {
@@ -362,7 +325,7 @@ fn put_body<W: Sink>(outbox: &mut Outbox, sink: &mut W, body: &Body)
 
 /// Values, one after another.
 #[cycle(encode)]
-#[tactic(auto, using(crate::proofs::OutgoingLemmas::puts_none))]
+#[tactic(auto, using(jser_prim::proofs::OutgoingLemmas::puts_none))]
 fn put_values<W: Sink>(outbox: &mut Outbox, sink: &mut W, values: &Vec<Value>)
     ensures { PutsTo W.gone_out W.has_failed outbox.old outbox.new sink.old sink.new (values_spelling (view_values values.now.items)) }
 {
@@ -373,7 +336,7 @@ fn put_values<W: Sink>(outbox: &mut Outbox, sink: &mut W, values: &Vec<Value>)
 
 /// The sections of an object, one after another.
 #[cycle(encode)]
-#[tactic(auto, using(crate::proofs::OutgoingLemmas::puts_none))]
+#[tactic(auto, using(jser_prim::proofs::OutgoingLemmas::puts_none))]
 fn put_sections<W: Sink>(outbox: &mut Outbox, sink: &mut W, sections: &Vec<Section>)
     ensures { PutsTo W.gone_out W.has_failed outbox.old outbox.new sink.old sink.new (sections_spelling (view_sections sections.now.items)) }
 {
@@ -407,7 +370,7 @@ fn put_annotation<W: Sink>(outbox: &mut Outbox, sink: &mut W, contents: &Vec<Con
 
 /// Contents, one after another.
 #[cycle(encode)]
-#[tactic(auto, using(crate::proofs::OutgoingLemmas::puts_none))]
+#[tactic(auto, using(jser_prim::proofs::OutgoingLemmas::puts_none))]
 fn put_contents<W: Sink>(outbox: &mut Outbox, sink: &mut W, contents: &Vec<Content>)
     ensures { PutsTo W.gone_out W.has_failed outbox.old outbox.new sink.old sink.new (contents_spelling (view_contents contents.now.items)) }
 {
@@ -418,7 +381,7 @@ fn put_contents<W: Sink>(outbox: &mut Outbox, sink: &mut W, contents: &Vec<Conte
 
 /// A content.
 #[cycle(encode)]
-#[tactic(auto, using(crate::proofs::OutgoingLemmas::puts_both))]
+#[tactic(auto, using(jser_prim::proofs::OutgoingLemmas::puts_both))]
 fn put_content<W: Sink>(outbox: &mut Outbox, sink: &mut W, content: &Content)
     ensures { PutsTo W.gone_out W.has_failed outbox.old outbox.new sink.old sink.new (content_spelling (view_content content.now)) }
 {

@@ -8,14 +8,15 @@ mod depth;
 mod encoder;
 pub mod laws;
 mod obeys;
-mod outbox;
 mod parts;
 mod size;
 mod tree;
 
 pub use contents::{Contents, ValueCause, ValueFault};
 pub use encoder::{EncodeFault, encode};
-pub use tree::{Body, ClassPlace, Content, Desc, Field, Prim, Section, Text, TextPlace, Value};
+pub use tree::{
+    Body, ClassPlace, Content, Desc, Field, Raw as Prim, Section, Text, TextPlace, Value,
+};
 
 #[cfg(test)]
 mod tests;

@@ -18,7 +18,7 @@ use crate::parts::{
     are_class_names, are_prims, are_prims_of, codes_of, count_values, element_code_of, has_handle,
     is_block, is_class_name, is_flags, is_object, is_primitive, is_text,
 };
-use crate::tree::{Body, ClassPlace, Content, Desc, Field, Prim, Section, TextPlace, Value};
+use crate::tree::{Body, ClassPlace, Content, Desc, Field, Raw, Section, TextPlace, Value};
 use jser_table::{Codes, Entry, Fit, Kind, Layer, LayerKind, Purpose, Table, layer_kind_of};
 use std::alloc::Global;
 
@@ -199,7 +199,7 @@ fn is_count(count: usize) -> bool
 }
 
 /// Whether the raw values are the elements of an array of this type code.
-fn are_elements(code: Option<u8>, prims: &[Prim]) -> bool
+fn are_elements(code: Option<u8>, prims: &[Raw]) -> bool
     ensures { result ≡ obeys_raw_body code (map view_prim prims.now) }
 {
     match code {

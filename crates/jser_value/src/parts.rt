@@ -9,7 +9,7 @@ ghost use Rattle.jser_grammar.specs.TableAfter.{codes_of};
 ghost use Rattle.jser_value.specs.View.{view_prim, view_field};
 
 use crate::size::after_units;
-use crate::tree::{Field, Prim};
+use crate::tree::{Field, Raw};
 use jser_table::{BodyKind, LayerKind, layer_kind_of};
 use std::alloc::{AllocError, Global};
 
@@ -79,24 +79,24 @@ pub(crate) fn is_object(code: u8) -> bool
 }
 
 /// Whether the raw value is of the type with this code.
-fn is_prim(code: u8, prim: Prim) -> bool
+fn is_prim(code: u8, prim: Raw) -> bool
     ensures { result ≡ is_prim_of code (view_prim prim) }
 {
     let own_code = match prim {
-        Prim::B(_) => b'B',
-        Prim::C(_) => b'C',
-        Prim::D(_) => b'D',
-        Prim::F(_) => b'F',
-        Prim::I(_) => b'I',
-        Prim::J(_) => b'J',
-        Prim::S(_) => b'S',
-        Prim::Z(_) => b'Z',
+        Raw::B(_) => b'B',
+        Raw::C(_) => b'C',
+        Raw::D(_) => b'D',
+        Raw::F(_) => b'F',
+        Raw::I(_) => b'I',
+        Raw::J(_) => b'J',
+        Raw::S(_) => b'S',
+        Raw::Z(_) => b'Z',
     };
     code == own_code
 }
 
 /// Whether each of the raw values is of the type with this code.
-pub(crate) fn are_prims_of(code: u8, prims: &[Prim]) -> bool
+pub(crate) fn are_prims_of(code: u8, prims: &[Raw]) -> bool
     ensures { result ≡ list_all (is_prim_of code) (map view_prim prims.now) }
 {
     for prim in prims {
@@ -108,7 +108,7 @@ pub(crate) fn are_prims_of(code: u8, prims: &[Prim]) -> bool
 }
 
 /// Whether these are the raw values of a class with these type codes: one for each primitive, in order.
-pub(crate) fn are_prims(codes: &[u8], prims: &[Prim]) -> bool
+pub(crate) fn are_prims(codes: &[u8], prims: &[Raw]) -> bool
     ensures { result ≡ obeys_prims codes.now (map view_prim prims.now) }
 {
     let mut rest = prims;

@@ -9,7 +9,7 @@ ghost use Rattle.jser_value.specs.Rooms.{Leaves};
 ghost use Rattle.jser_value.specs.View.{view_text, view_text_place, view_field, view_prim, view_value, view_desc, view_class_place, view_body, view_values, view_sections, view_contents, view_content};
 ghost use Rattle.jser_grammar.specs.Spelling.{value_spelling, desc_spelling, class_spelling, body_spelling, values_spelling, sections_spelling, annotation_spelling, content_spelling, contents_spelling, string_spelling, text_place_spelling, type_spelling, fields_spelling, interfaces_spelling, prims_spelling, utf};
 
-use crate::tree::{Body, ClassPlace, Content, Desc, Field, Prim, Section, Text, TextPlace, Value};
+use crate::tree::{Body, ClassPlace, Content, Desc, Field, Raw, Section, Text, TextPlace, Value};
 
 const TAG: u64 = 1;
 
@@ -102,18 +102,18 @@ fn after_interfaces(room: u64, interfaces: &[Vec<u16>]) -> Option<u64>
     Some(left)
 }
 
-fn prim_size(prim: Prim) -> u64
+fn prim_size(prim: Raw) -> u64
     ensures { result ≡ length (prims_spelling (view_prim prim ∷ [])) }
 {
     match prim {
-        Prim::B(_) | Prim::Z(_) => 1,
-        Prim::C(_) | Prim::S(_) => 2,
-        Prim::F(_) | Prim::I(_) => 4,
-        Prim::D(_) | Prim::J(_) => 8,
+        Raw::B(_) | Raw::Z(_) => 1,
+        Raw::C(_) | Raw::S(_) => 2,
+        Raw::F(_) | Raw::I(_) => 4,
+        Raw::D(_) | Raw::J(_) => 8,
     }
 }
 
-fn after_prims(room: u64, prims: &[Prim]) -> Option<u64>
+fn after_prims(room: u64, prims: &[Raw]) -> Option<u64>
     ensures { Leaves room (length (prims_spelling (map view_prim prims.now))) result }
 {
     let mut left = room;

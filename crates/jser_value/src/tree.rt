@@ -131,7 +131,7 @@ pub struct Field {
 #[cycle(tree)]
 pub struct Section {
     /// The values of its primitive fields.
-    pub prims: Vec<Prim>,
+    pub prims: Vec<Raw>,
     /// The values of its object fields.
     pub values: Vec<Value>,
     /// The annotation of its `writeObject` or `writeExternal`, where it has one.
@@ -143,14 +143,14 @@ pub struct Section {
 #[cycle(tree)]
 pub enum Body {
     /// Raw values of a primitive type.
-    Prims(Vec<Prim>),
+    Prims(Vec<Raw>),
     /// Values.
     Values(Vec<Value>),
 }
 
 /// A primitive value as raw bits, by its type code.
-#[derive(Clone, Copy, PartialEq, Eq, Debug)]
-pub enum Prim {
+#[derive(Clone, Copy, PartialEq, Eq, Hash, Debug)]
+pub enum Raw {
     /// A byte.
     B(u8),
     /// A char.

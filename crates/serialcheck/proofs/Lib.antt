@@ -1,3 +1,3 @@
 pub mod WordLemmas
-pub mod Giving
 pub mod Lines
+pub mod WholeLemmas

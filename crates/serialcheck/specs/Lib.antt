@@ -1,2 +1,4 @@
 pub mod App
 pub mod Lines
+pub mod Settings
+pub mod Whole

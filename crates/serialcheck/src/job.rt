@@ -2,28 +2,25 @@
 ghost use Rattle.std.specs.Prelude.{◌≡◌, ◌⊎◌, ◌<◌, ◌++◌, IfOk, OnOk, IfSome, IsOkAnd, true, string_bytes};
 ghost use Rattle.std.specs.Fmt.{decimal};
 ghost use Rattle.std.specs.Io.KnownBytes.{Appends, Keeps};
-ghost use Rattle.serialcheck.specs.Lines.{yes_line, no_line, SaysYes, SaysNo};
+ghost use Rattle.serialcheck.specs.Lines.{yes_line, no_line, SaysYes, SaysNo, SaysAccepted, SaysRefused};
 
-use crate::give::give_all;
-use jser_check::{CheckFault, Refusal, Report, Stop, check_reader};
-use jser_prim::{Sink, Source};
+use crate::status::{ACCEPTED, REFUSED, tell_failure};
+use jser_check::{CheckFault, Options, Refusal, Report, Stop, check_reader};
+use jser_filter::Filter;
+use jser_prim::{Sink, Source, give_all};
 use std::alloc::{AllocError, Global};
 use std::fmt::Write;
-
-/// The bytes are a stream.
-pub(crate) const ACCEPTED: u8 = 0;
-/// The bytes are refused.
-pub(crate) const REFUSED: u8 = 1;
-/// The command line asks for nothing that can be done.
-pub(crate) const MISUSED: u8 = 2;
-/// A device failed, or memory ran out.
-pub(crate) const FAILED: u8 = 3;
 
 /// What is to be done.
 #[derive(Debug, Drop)]
 pub enum Job {
-    /// Check whether the input is a stream.
-    Check,
+    /// Check whether the input is a stream that the filter admits.
+    Check {
+        /// The filter, with its table of modules.
+        filter: Filter,
+        /// Whether a name that no pattern matches is refused.
+        strict: bool,
+    },
 }
 
 /// Does the job: reads `input`, prints the answer to `output`, and returns the status. Faults of the devices
@@ -37,13 +34,16 @@ pub fn run<R: Source, W: Sink, E: Sink>(
     output: &mut W,
     faults: &mut E,
 ) -> u8
-    ensures accepted { result ≡ 0 → IfSome (R.to_come input.old) (λ bytes. SaysYes bytes (W.gone_out output.old) (W.gone_out output.new)) }
-    ensures refused { result ≡ 1 → IfSome (R.to_come input.old) (λ bytes. SaysNo bytes (W.gone_out output.old) (W.gone_out output.new)) }
+    ensures accepted { result ≡ 0 → IfSome (R.to_come input.old) (λ bytes. SaysAccepted job.now bytes (W.gone_out output.old) (W.gone_out output.new)) }
+    ensures refused { result ≡ 1 → IfSome (R.to_come input.old) (λ bytes. SaysRefused job.now bytes (W.gone_out output.old) (W.gone_out output.new)) }
     ensures failed { result ≡ 3 → (W.has_failed output.new ≡ true) ⊎ Keeps (W.gone_out output.old) (W.gone_out output.new) }
     ensures status { (result ≡ 0) ⊎ ((result ≡ 1) ⊎ (result ≡ 3)) }
 {
     match job {
-        Job::Check => check(alloc, input, output, faults),
+        Job::Check { filter, strict } => {
+            let options = Options { strict: *strict };
+            check(alloc, filter, options, input, output, faults)
+        }
     }
 }
 
@@ -51,16 +51,18 @@ pub fn run<R: Source, W: Sink, E: Sink>(
 #[tactic(auto, using(crate::proofs::Lines::says_yes, crate::proofs::Lines::says_no, crate::proofs::Lines::kept))]
 fn check<R: Source, W: Sink, E: Sink>(
     alloc: Global,
+    filter: &Filter,
+    options: Options,
     input: &mut R,
     output: &mut W,
     faults: &mut E,
 ) -> u8
-    ensures accepted { result ≡ 0 → IfSome (R.to_come input.old) (λ bytes. SaysYes bytes (W.gone_out output.old) (W.gone_out output.new)) }
-    ensures refused { result ≡ 1 → IfSome (R.to_come input.old) (λ bytes. SaysNo bytes (W.gone_out output.old) (W.gone_out output.new)) }
+    ensures accepted { result ≡ 0 → IfSome (R.to_come input.old) (λ bytes. SaysYes filter.now options bytes (W.gone_out output.old) (W.gone_out output.new)) }
+    ensures refused { result ≡ 1 → IfSome (R.to_come input.old) (λ bytes. SaysNo filter.now options bytes (W.gone_out output.old) (W.gone_out output.new)) }
     ensures failed { result ≡ 3 → (W.has_failed output.new ≡ true) ⊎ Keeps (W.gone_out output.old) (W.gone_out output.new) }
     ensures status { (result ≡ 0) ⊎ ((result ≡ 1) ⊎ (result ≡ 3)) }
 {
-    match check_reader(alloc, input) {
+    match check_reader(alloc, input, filter, options) {
         Ok(report) => print_line(output, faults, text_of_report(alloc, report), ACCEPTED),
         Err(CheckFault::Stop(Stop::Refused(refusal))) => {
             print_line(output, faults, text_of_refusal(alloc, refusal), REFUSED)
@@ -125,12 +127,4 @@ fn print_line<W: Sink, E: Sink>(
         Ok(()) => status,
         Err(_) => tell_failure(faults, "write failed\n"),
     }
-}
-
-/// Tells a fault, as far as that can be done, and returns the status of a failure.
-pub(crate) fn tell_failure<E: Sink>(faults: &mut E, line: &str) -> u8
-    ensures { result ≡ 3 }
-{
-    let _ = give_all(faults, line.as_bytes());
-    FAILED
 }

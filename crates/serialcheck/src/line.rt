@@ -1,7 +1,7 @@
 //! What the words of a command line ask for.
-ghost use Rattle.std.specs.Prelude.{◌≡◌, IfOk, IfErr, map, option_map, unwrap_or, [], codes, string_bytes};
+ghost use Rattle.std.specs.Prelude.{◌≡◌, IfOk, IfErr, map, option_map, codes, string_bytes};
 ghost use Rattle.clap.specs.Words.{subcommand_rows_of, subcommand_of, first_of, rows_of, found_of};
-ghost use Rattle.serialcheck.specs.App.{the_app, asked_in, asked_by, line_asks, IsMistake};
+ghost use Rattle.serialcheck.specs.App.{the_app, asked_in, asked_by, line_asks, text_in, is_true, IsMistake};
 
 use crate::command::command;
 use clap::error::ErrorKind;
@@ -13,6 +13,12 @@ use std::alloc::{AllocError, Global};
 pub enum Line {
     /// Check a stream.
     Check {
+        /// The filter's text, empty where none is given.
+        filter: String,
+        /// Whether a name that no pattern matches is refused.
+        strict: bool,
+        /// The file of modules, if one is named.
+        modules: Option<String>,
         /// The file that holds the stream, or `-` for standard input.
         file: String,
     },
@@ -70,18 +76,45 @@ fn asked(alloc: Global, name: &str, matches: &ArgMatches<'_>) -> Result<Option<L
 {
     let file = text_of(alloc, matches, "file")?;
     if name == "check" {
-        return Ok(Some(Line::Check { file }));
+        return Ok(Some(Line::Check {
+            filter: text_of(alloc, matches, "filter")?,
+            strict: is_strict(matches),
+            modules: value_of(alloc, matches, "modules")?,
+            file,
+        }));
     }
     Ok(None)
+}
+
+/// The first value of an argument, if it has one.
+#[tactic(auto, using(crate::proofs::WordLemmas::first_text))]
+fn value_of(alloc: Global, matches: &ArgMatches<'_>, id: &str) -> Result<Option<String>, AllocError>
+    ensures { IfOk result (λ text. option_map string_bytes text ≡ first_of id.now (rows_of (found_of matches.now))) }
+{
+    match matches.get_str(id) {
+        Some(text) => Ok(Some(String::from_str(alloc, text)?)),
+        None => Ok(None),
+    }
 }
 
 /// The first value of an argument, or the empty text.
 #[tactic(auto, using(crate::proofs::WordLemmas::first_text))]
 fn text_of(alloc: Global, matches: &ArgMatches<'_>, id: &str) -> Result<String, AllocError>
-    ensures { IfOk result (λ text. string_bytes text ≡ unwrap_or (first_of id.now (rows_of (found_of matches.now))) []) }
+    ensures { IfOk result (λ text. string_bytes text ≡ text_in (rows_of (found_of matches.now)) id.now) }
 {
     match matches.get_str(id) {
         Some(text) => String::from_str(alloc, text),
         None => Ok(String::new(alloc)),
+    }
+}
+
+/// Whether the flag `--strict` is there.
+#[tactic(auto, using(crate::proofs::WordLemmas::first_text))]
+fn is_strict(matches: &ArgMatches<'_>) -> bool
+    ensures { result ≡ is_true (first_of (codes "strict") (rows_of (found_of matches.now))) }
+{
+    match matches.get_str("strict") {
+        Some(text) => text == "true",
+        None => false,
     }
 }

@@ -1,21 +1,28 @@
 //! serialcheck: checks Java serialization streams, and runs none of their classes.
 //!
-//! `main` reads the command line and opens the input; `job::run` does the work on what was opened.
+//! `main` reads the command line, the filter and the table of modules, and then opens the input; `job::run` does the
+//! work on what was opened.
 #![tactic(auto)]
 
-ghost use Rattle.std.specs.Prelude.{◌≡◌, ◌⊎◌, ◌≤◌, IfOk, length, vec_len};
+ghost use Rattle.std.specs.Prelude.{◌≡◌, ◌⊎◌, ◌≤◌, IfOk, IfErr, length, vec_len};
+ghost use Rattle.jser_prim.specs.ModifiedUtf8.{utf16_units};
+ghost use Rattle.jser_filter.specs.Pieces.{pieces_of};
 
 mod command;
-mod give;
 mod job;
 mod line;
+mod settings;
+mod status;
 #[cfg(test)]
 mod tests;
+mod whole;
 
-use give::give_all;
-use job::{Job, MISUSED, run, tell_failure};
+use job::{Job, run};
+use jser_filter::{Filter, Modules};
 use jser_prim::{FromRead, Sink, Source, ToWrite};
 use line::{Line, LineFault, line_of};
+use settings::{filter_of, modules_of};
+use status::{tell_failure, tell_misuse};
 use std::alloc::{AllocError, Global};
 use std::env;
 use std::fs::File;
@@ -52,7 +59,22 @@ fn status_of<W: Sink, E: Sink>(rt: &HostRuntime, output: &mut W, faults: &mut E)
         return tell_failure(faults, "out of memory\n");
     };
     match line_of(alloc, &words) {
-        Ok(Some(Line::Check { file })) => on_file(rt, &Job::Check, file.as_str(), output, faults),
+        Ok(
+            Some(
+                Line::Check {
+                    filter,
+                    strict,
+                    modules,
+                    file,
+                },
+            ),
+        ) => match filter_with(rt, filter.as_str(), modules, faults) {
+            Ok(filter) => {
+                let job = Job::Check { filter, strict };
+                on_file(rt, &job, file.as_str(), output, faults)
+            }
+            Err(status) => status,
+        },
         Ok(None) => tell_misuse(faults, "no command\n"),
         Err(LineFault::OutOfMemory) => tell_failure(faults, "out of memory\n"),
         Err(LineFault::Clap(error)) => match error.to_string(alloc) {
@@ -73,6 +95,39 @@ fn borrowed<'a>(alloc: Global, owned: &'a [String]) -> Result<Vec<&'a str>, Allo
     Ok(words)
 }
 
+/// The filter of a text, with the table of modules of a file, if one is named.
+fn filter_with<E: Sink>(
+    rt: &HostRuntime,
+    text: &str,
+    modules: Option<String>,
+    faults: &mut E,
+) -> Result<Filter, u8>
+    ensures pieces { IfOk result (λ filter. filter.pieces ≡ pieces_of (utf16_units text.now)) }
+    ensures status { IfErr result (λ status. (status ≡ 2) ⊎ (status ≡ 3)) }
+{
+    let filter = match filter_of(rt.alloc(), text, faults) {
+        Ok(filter) => filter,
+        Err(status) => return Err(status),
+    };
+    let Some(file) = modules else {
+        return Ok(filter);
+    };
+    match modules_in(rt, file.as_str(), faults) {
+        Ok(table) => Ok(filter.with_modules(table)),
+        Err(status) => Err(status),
+    }
+}
+
+/// The table of modules that a file holds.
+fn modules_in<E: Sink>(rt: &HostRuntime, file: &str, faults: &mut E) -> Result<Modules, u8>
+    ensures { IfErr result (λ status. (status ≡ 2) ⊎ (status ≡ 3)) }
+{
+    match File::open(rt, file) {
+        Ok(opened) => modules_of(rt.alloc(), &mut FromRead::new(opened), faults),
+        Err(_) => Err(tell_unopened(rt.alloc(), file, faults)),
+    }
+}
+
 /// Does the job on a file, or on standard input where it is named `-`.
 fn on_file<W: Sink, E: Sink>(
     rt: &HostRuntime,
@@ -89,17 +144,16 @@ fn on_file<W: Sink, E: Sink>(
     }
     match File::open(rt, file) {
         Ok(opened) => run(alloc, job, &mut FromRead::new(opened), output, faults),
-        Err(_) => match format!(in alloc; "cannot open {file}\n") {
-            Ok(text) => tell_failure(faults, text.as_str()),
-            Err(_) => tell_failure(faults, "out of memory\n"),
-        },
+        Err(_) => tell_unopened(alloc, file, faults),
     }
 }
 
-/// Tells what is wrong with the command line, as far as that can be done, and returns the status for it.
-fn tell_misuse<E: Sink>(faults: &mut E, text: &str) -> u8
-    ensures { result ≡ 2 }
+/// Tells that a file cannot be opened, and returns the status of a failure.
+fn tell_unopened<E: Sink>(alloc: Global, file: &str, faults: &mut E) -> u8
+    ensures { result ≡ 3 }
 {
-    let _ = give_all(faults, text.as_bytes());
-    MISUSED
+    match format!(in alloc; "cannot open {file}\n") {
+        Ok(text) => tell_failure(faults, text.as_str()),
+        Err(_) => tell_failure(faults, "out of memory\n"),
+    }
 }

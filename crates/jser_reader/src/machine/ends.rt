@@ -9,6 +9,7 @@ use crate::refusal::{Reason, Refusal, Stop};
 
 impl Machine {
     /// The open field is refused; its bytes so far decide.
+    #[inline(never)]
     pub(super) fn refuse(&mut self, reason: Reason) -> bool
         ensures stops { StopsWith (refusal self.old.meter reason) self.old self.new }
         ensures result { result ≡ false }
@@ -23,6 +24,7 @@ impl Machine {
     }
 
     /// Memory ran out.
+    #[inline(never)]
     pub(super) fn no_memory(&mut self) -> bool
         ensures stops { StopsWith Stop.OutOfMemory self.old self.new }
         ensures result { result ≡ false }
@@ -33,6 +35,7 @@ impl Machine {
     }
 
     /// The field has ended, and this one comes next.
+    #[inline(always)]
     pub(super) fn done(&mut self, phase: Phase) -> bool
         ensures next { IsNext phase self.old.owner self.old.elements self.old.header self.old.text self.old self.new }
         ensures result { result ≡ true }
@@ -44,6 +47,7 @@ impl Machine {
 
     /// The field has ended, and a value with it.
     #[tactic(auto, using(crate::proofs::EndLemmas::ends))]
+    #[inline(always)]
     pub(super) fn ended(&mut self) -> bool
         ensures comes { Comes self.old self.new (after_value self.old) }
         ensures result { result ≡ true }

@@ -15,6 +15,7 @@ use crate::refusal::Reason;
 impl Machine {
     /// The handle of a reference in a value place.
     #[tactic(auto, using(crate::proofs::NumberLemmas::low_handle, crate::proofs::NumberLemmas::high_handle, crate::proofs::NumberLemmas::right_handle))]
+    #[inline(always)]
     pub(super) fn back_handle(&mut self, n: u32) -> bool
         ensures { TellsSurely (back_reason self.old n) (after_value self.old) result self.old self.new }
     {
@@ -26,6 +27,7 @@ impl Machine {
 
     /// The length of a block: so many bytes come, if there are any.
     #[tactic(auto, using(crate::proofs::NumberLemmas::no_bytes, crate::proofs::NumberLemmas::some_bytes))]
+    #[inline(always)]
     pub(super) fn block_length(&mut self, n: u32) -> bool
         ensures { TellsSurely None (after_block_length self.old n) result self.old self.new }
     {

@@ -56,6 +56,7 @@ impl Machine {
     }
 
     /// Whether it has stopped.
+    #[inline(always)]
     pub(crate) fn is_stopped(&self) -> bool
         ensures stopped { result ≡ true → self.now.phase ≡ Phase.Stopped }
         ensures goes_on { result ≡ false → self.now.phase ≡ Phase.Stopped → ⊥ }
@@ -64,6 +65,7 @@ impl Machine {
     }
 
     /// Why it has stopped. That memory ran out is answered once; then it is spent.
+    #[inline(never)]
     pub(crate) fn answer(&mut self) -> Stop
         ensures { AnswersStop result self.old self.new }
     {
@@ -75,6 +77,7 @@ impl Machine {
     }
 
     /// The front of the piece that is within the limit of bytes.
+    #[inline(always)]
     pub(crate) fn within<'p>(&self, piece: &'p [u8]) -> &'p [u8]
         ensures { IsWithin self.now piece.now result.now }
     {
@@ -84,6 +87,7 @@ impl Machine {
     }
 
     /// One byte more than the limit has come.
+    #[inline(never)]
     pub(crate) fn exceed(&mut self) -> Stop
         ensures { self.old.meter.at + 1 < 2 ^ 64 → (result ≡ exceeded self.old.meter) × StopsWith (exceeded self.old.meter) self.old self.new }
     {
@@ -93,6 +97,7 @@ impl Machine {
     }
 
     /// What a tally asks of it.
+    #[inline(always)]
     pub(crate) fn mark(&self) -> Mark
         ensures { result ≡ mark_of self.now }
     {

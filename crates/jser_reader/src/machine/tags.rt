@@ -15,6 +15,7 @@ use crate::tag::{Tag, tag_of};
 
 impl Machine {
     /// The length of a block comes next, in one byte, or in four in the long form.
+    #[inline(always)]
     fn next_block(&mut self, long: bool) -> bool
         ensures next { IsNext (block_phase long) self.old.owner self.old.elements self.old.header self.old.text self.old self.new }
         ensures result { result ≡ true }
@@ -27,6 +28,7 @@ impl Machine {
 
     /// A tag at the top of the stream.
     #[tactic(auto, using(crate::proofs::TagLemmas::no_top_tag, crate::proofs::TagLemmas::top_value, crate::proofs::TagLemmas::top_block, crate::proofs::TagLemmas::top_reset, crate::proofs::TagLemmas::top_end, crate::proofs::TagLemmas::top_exception))]
+    #[inline(always)]
     pub(super) fn top(&mut self, byte: u8) -> bool
         ensures { self.old.frames ≡ [] → Tells (content_reason (plain_gate self.old) (label_at top_at 1 self.old) byte) (after_content self.old (tag_from byte)) result self.old self.new }
     {
@@ -42,6 +44,7 @@ impl Machine {
 
     /// A tag in an annotation.
     #[tactic(auto, using(crate::proofs::TagLemmas::no_note_tag, crate::proofs::TagLemmas::note_value, crate::proofs::TagLemmas::note_block, crate::proofs::TagLemmas::note_end, crate::proofs::TagLemmas::note_reset, crate::proofs::TagLemmas::note_exception))]
+    #[inline(always)]
     pub(super) fn note(&mut self, byte: u8) -> bool
         ensures { HasNotes self.old.frames → Tells (inner_reason (plain_gate self.old) (label_at annotation_at (suc (length self.old.frames)) self.old) byte) (after_content self.old (tag_from byte)) result self.old self.new }
     {
@@ -57,6 +60,7 @@ impl Machine {
 
     /// A tag in a value place: a field of an object, an element of an array.
     #[tactic(auto, using(crate::proofs::TagLemmas::no_value_tag, crate::proofs::TagLemmas::value_value, crate::proofs::TagLemmas::value_block, crate::proofs::TagLemmas::value_end, crate::proofs::TagLemmas::value_reset, crate::proofs::TagLemmas::value_exception))]
+    #[inline(always)]
     pub(super) fn value(&mut self, byte: u8) -> bool
         ensures { Tells (inner_reason (plain_gate self.old) (label_at value_at (suc (length self.old.frames)) self.old) byte) (after_content self.old (tag_from byte)) result self.old self.new }
     {

@@ -9,7 +9,9 @@ use crate::phase::Phase;
 
 impl Machine {
     /// Takes bytes of the field that is open: as many as are missing of it, or all of the piece.
-    #[tactic(auto, using(crate::proofs::LengthLemmas::lends))]
+    ///
+    /// Each phase has an arm of its own, so that the functions inlined there need not ask again which it is.
+    #[inline(always)]
     pub(crate) fn take<G: Gate>(&mut self, gate: &G, piece: &[u8]) -> Taken
         requires goes_on { self.old.phase ≡ Phase.Stopped → ⊥ }
         requires some { 0 < length piece.now }
@@ -18,23 +20,29 @@ impl Machine {
     {
         match self.phase {
             Phase::Header => self.take_header(piece),
-            Phase::Top | Phase::Note | Phase::Value | Phase::ClassTag => self.take_one(piece),
-            Phase::SuperTag | Phase::TextTag | Phase::Flags | Phase::TypeCode => self.take_one(
-                piece,
-            ),
+            Phase::Top => self.take_one(piece),
+            Phase::Note => self.take_one(piece),
+            Phase::Value => self.take_one(piece),
+            Phase::ClassTag => self.take_one(piece),
+            Phase::SuperTag => self.take_one(piece),
+            Phase::TextTag => self.take_one(piece),
+            Phase::Flags => self.take_one(piece),
+            Phase::TypeCode => self.take_one(piece),
             Phase::BlockLength1 => self.take_one(piece),
             Phase::FieldCount => self.take_two(piece),
-            Phase::BackHandle | Phase::ClassHandle | Phase::SuperHandle => self.take_four(piece),
+            Phase::BackHandle => self.take_four(piece),
+            Phase::ClassHandle => self.take_four(piece),
+            Phase::SuperHandle => self.take_four(piece),
             Phase::TextHandle => self.take_four(piece),
-            Phase::InterfaceCount | Phase::ArrayLength | Phase::BlockLength4 => self.take_four(
-                piece,
-            ),
+            Phase::InterfaceCount => self.take_four(piece),
+            Phase::ArrayLength => self.take_four(piece),
+            Phase::BlockLength4 => self.take_four(piece),
             Phase::Suid => self.take_eight(piece),
             Phase::Length2 => self.take_short_length(gate, piece),
             Phase::Length8 => self.take_long_length(gate, piece),
-            Phase::Text => self.take_text(gate, piece).lent(piece.len()),
-            Phase::Prims => self.take_prims(piece).lent(piece.len()),
-            Phase::Bytes => self.take_block(piece).lent(piece.len()),
+            Phase::Text => self.take_text(gate, piece),
+            Phase::Prims => self.take_prims(piece),
+            Phase::Bytes => self.take_block(piece),
             Phase::Cut => self.take_cut(gate, piece),
             Phase::Stopped => unreachable!(),
         }

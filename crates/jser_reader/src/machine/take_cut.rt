@@ -14,6 +14,7 @@ use jser_prim::{read_u16, read_u32, read_u64};
 impl Machine {
     /// Keeps these bytes of the field that comes next: they are not all of it.
     #[tactic(auto, using(crate::proofs::CutLemmas::cuts_off))]
+    #[inline(never)]
     pub(super) fn keep(&mut self, piece: &[u8])
         requires field { IsCutField self.old.phase piece.now }
         requires room { self.old.meter.at + length piece.now < 2 ^ 64 }
@@ -26,6 +27,7 @@ impl Machine {
 
     /// Keeps these bytes too of the field that was cut: they are not all that were missing.
     #[tactic(auto, using(crate::proofs::CutLemmas::cuts_again))]
+    #[inline(never)]
     pub(super) fn keep_more(&mut self, piece: &[u8])
         requires phase { self.old.phase ≡ Phase.Cut }
         requires short { length (self.old.meter.kept ++ piece.now) < size_of_phase self.old.meter.cut_phase }
@@ -38,6 +40,7 @@ impl Machine {
 
     /// Takes the last `count` bytes of a number of two bytes, the field that is open.
     #[tactic(auto, using(crate::proofs::CutLemmas::no_other_two))]
+    #[inline(always)]
     fn end_two(&mut self, phase: Phase, n: u16, count: u64) -> bool
         requires two { IsTwo phase }
         requires open { open_phase self.old ≡ phase }
@@ -53,6 +56,7 @@ impl Machine {
 
     /// Takes a number of two bytes, the field that comes next, or as many of its bytes as there are.
     #[tactic(auto, using(crate::proofs::CutLemmas::two_kept, crate::proofs::CutLemmas::two_taken))]
+    #[inline(always)]
     pub(super) fn take_two(&mut self, piece: &[u8]) -> Taken
         requires two { IsTwo self.old.phase }
         requires some { 0 < length piece.now }
@@ -91,6 +95,7 @@ impl Machine {
 
     /// Takes the last `count` bytes of a number of four bytes, the field that is open.
     #[tactic(auto, using(crate::proofs::CutLemmas::no_other_four))]
+    #[inline(always)]
     fn end_four(&mut self, phase: Phase, n: u32, count: u64) -> bool
         requires four { IsFour phase }
         requires open { open_phase self.old ≡ phase }
@@ -112,6 +117,7 @@ impl Machine {
 
     /// Takes a number of four bytes, the field that comes next, or as many of its bytes as there are.
     #[tactic(auto, using(crate::proofs::CutLemmas::four_kept, crate::proofs::CutLemmas::four_taken))]
+    #[inline(always)]
     pub(super) fn take_four(&mut self, piece: &[u8]) -> Taken
         requires four { IsFour self.old.phase }
         requires some { 0 < length piece.now }
@@ -165,6 +171,7 @@ impl Machine {
 
     /// Takes a number of eight bytes, the field that comes next, or as many of its bytes as there are.
     #[tactic(auto, using(crate::proofs::CutLemmas::eight_kept, crate::proofs::CutLemmas::eight_taken))]
+    #[inline(always)]
     pub(super) fn take_eight(&mut self, piece: &[u8]) -> Taken
         requires eight { IsEight self.old.phase }
         requires some { 0 < length piece.now }
@@ -203,6 +210,7 @@ impl Machine {
 
     /// Takes the missing bytes of the field that was cut, or as many of them as there are.
     #[tactic(auto, using(crate::proofs::CutLemmas::cut_four))]
+    #[inline(never)]
     pub(super) fn take_cut<G: Gate>(&mut self, gate: &G, piece: &[u8]) -> Taken
         requires phase { self.old.phase ≡ Phase.Cut }
         requires some { 0 < length piece.now }

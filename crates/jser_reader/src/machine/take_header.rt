@@ -61,6 +61,7 @@ impl Machine {
 
     /// Takes bytes of the header, as many as there are.
     #[tactic(auto, using(crate::proofs::HeaderLemmas::header_starts, crate::proofs::HeaderLemmas::header_goes, crate::proofs::HeaderLemmas::header_ends, crate::proofs::HeaderLemmas::header_open))]
+    #[inline(never)]
     pub(super) fn take_header(&mut self, piece: &[u8]) -> Taken
         requires open { open_phase self.old ≡ Phase.Header }
         requires room { self.old.meter.at + length piece.now < 2 ^ 64 }

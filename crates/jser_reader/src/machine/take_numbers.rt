@@ -10,6 +10,7 @@ use crate::phase::Phase;
 impl Machine {
     /// Takes the last `count` bytes of the handle of a reference in a value place.
     #[tactic(auto, using(crate::proofs::TakeLemmas::takes_back_handle))]
+    #[inline(always)]
     pub(super) fn take_back_handle(&mut self, n: u32, count: u64) -> bool
         requires phase { open_phase self.old ≡ Phase.BackHandle }
         requires some { 0 < count }
@@ -22,6 +23,7 @@ impl Machine {
 
     /// Takes the last `count` bytes of the handle of a reference in a class place.
     #[tactic(auto, using(crate::proofs::TakeLemmas::takes_class_handle))]
+    #[inline(always)]
     pub(super) fn take_class_handle(&mut self, n: u32, count: u64) -> bool
         requires phase { open_phase self.old ≡ Phase.ClassHandle }
         requires some { 0 < count }
@@ -46,6 +48,7 @@ impl Machine {
 
     /// Takes the last `count` bytes of the suid of a descriptor, which may be any number.
     #[tactic(auto, using(crate::proofs::TakeLemmas::takes_suid))]
+    #[inline(always)]
     pub(super) fn take_suid(&mut self, count: u64) -> bool
         requires phase { open_phase self.old ≡ Phase.Suid }
         requires some { 0 < count }
@@ -58,6 +61,7 @@ impl Machine {
 
     /// Takes the last `count` bytes of the number of fields of a descriptor.
     #[tactic(auto, using(crate::proofs::TakeLemmas::takes_field_count))]
+    #[inline(always)]
     pub(super) fn take_field_count(&mut self, n: u16, count: u64) -> bool
         requires phase { open_phase self.old ≡ Phase.FieldCount }
         requires some { 0 < count }
@@ -82,6 +86,7 @@ impl Machine {
 
     /// Takes the last `count` bytes of the length of an array.
     #[tactic(auto, using(crate::proofs::TakeLemmas::takes_array_length))]
+    #[inline(always)]
     pub(super) fn take_array_length(&mut self, n: u32, count: u64) -> bool
         requires phase { open_phase self.old ≡ Phase.ArrayLength }
         requires some { 0 < count }

@@ -18,7 +18,7 @@ impl Machine {
         self.at += count;
         if count < self.left {
             self.left -= count;
-            return Taken::Open;
+            return Taken::Part(piece.len());
         }
         self.ended();
         Taken::Ended(count as usize)

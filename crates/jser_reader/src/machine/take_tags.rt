@@ -9,6 +9,7 @@ use crate::phase::Phase;
 impl Machine {
     /// Takes a tag at the top of the stream.
     #[tactic(auto, using(crate::proofs::TakeLemmas::takes_top))]
+    #[inline(always)]
     pub(super) fn take_top(&mut self, byte: u8) -> bool
         requires phase { self.old.phase ≡ Phase.Top }
         requires room { self.old.meter.at + 1 < 2 ^ 64 }
@@ -20,6 +21,7 @@ impl Machine {
 
     /// Takes a tag in an annotation.
     #[tactic(auto, using(crate::proofs::TakeLemmas::takes_note))]
+    #[inline(always)]
     pub(super) fn take_note(&mut self, byte: u8) -> bool
         requires phase { self.old.phase ≡ Phase.Note }
         requires room { self.old.meter.at + 1 < 2 ^ 64 }
@@ -31,6 +33,7 @@ impl Machine {
 
     /// Takes a tag in a value place.
     #[tactic(auto, using(crate::proofs::TakeLemmas::takes_value))]
+    #[inline(always)]
     pub(super) fn take_value(&mut self, byte: u8) -> bool
         requires phase { self.old.phase ≡ Phase.Value }
         requires room { self.old.meter.at + 1 < 2 ^ 64 }
@@ -42,6 +45,7 @@ impl Machine {
 
     /// Takes a tag in a class place.
     #[tactic(auto, using(crate::proofs::TakeLemmas::takes_class_tag))]
+    #[inline(always)]
     pub(super) fn take_class_tag(&mut self, byte: u8) -> bool
         requires phase { self.old.phase ≡ Phase.ClassTag }
         requires room { self.old.meter.at + 1 < 2 ^ 64 }
@@ -64,6 +68,7 @@ impl Machine {
 
     /// Takes the length of a short block.
     #[tactic(auto, using(crate::proofs::TakeLemmas::takes_block_length))]
+    #[inline(always)]
     pub(super) fn take_block_length(&mut self, byte: u8) -> bool
         requires phase { self.old.phase ≡ Phase.BlockLength1 }
         requires room { self.old.meter.at + 1 < 2 ^ 64 }
@@ -75,6 +80,7 @@ impl Machine {
 
     /// Takes a tag in a text place.
     #[tactic(auto, using(crate::proofs::TakeLemmas::takes_text_tag))]
+    #[inline(always)]
     pub(super) fn take_text_tag(&mut self, byte: u8) -> bool
         requires phase { self.old.phase ≡ Phase.TextTag }
         requires room { self.old.meter.at + 1 < 2 ^ 64 }
@@ -86,6 +92,7 @@ impl Machine {
 
     /// Takes the flags of a descriptor.
     #[tactic(auto, using(crate::proofs::TakeLemmas::takes_flags))]
+    #[inline(always)]
     pub(super) fn take_flags(&mut self, byte: u8) -> bool
         requires phase { self.old.phase ≡ Phase.Flags }
         requires room { self.old.meter.at + 1 < 2 ^ 64 }
@@ -97,6 +104,7 @@ impl Machine {
 
     /// Takes the type code of a field.
     #[tactic(auto, using(crate::proofs::TakeLemmas::takes_type_code))]
+    #[inline(always)]
     pub(super) fn take_type_code(&mut self, byte: u8) -> bool
         requires phase { self.old.phase ≡ Phase.TypeCode }
         requires room { self.old.meter.at + 1 < 2 ^ 64 }
@@ -108,6 +116,7 @@ impl Machine {
 
     /// Takes the one byte of the field that comes next.
     #[tactic(auto, using(crate::proofs::TakeLemmas::no_other_one))]
+    #[inline(always)]
     fn end_one(&mut self, byte: u8) -> bool
         requires one { IsOne self.old.phase }
         requires room { self.old.meter.at + 1 < 2 ^ 64 }
@@ -129,6 +138,7 @@ impl Machine {
 
     /// Takes a field of one byte, which comes next, from a piece.
     #[tactic(auto, using(crate::proofs::TakeLemmas::one_taken))]
+    #[inline(always)]
     pub(super) fn take_one(&mut self, piece: &[u8]) -> Taken
         requires one { IsOne self.old.phase }
         requires some { 0 < length piece.now }

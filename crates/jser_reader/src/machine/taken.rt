@@ -1,6 +1,6 @@
 //! What came of the bytes of a piece.
 ghost use Rattle.std.specs.Prelude.{◌≡◌};
-ghost use Rattle.jser_reader.specs.Takes.{taken_by, lent_by};
+ghost use Rattle.jser_reader.specs.Takes.{taken_by};
 
 /// What came of the bytes of a piece that a field was handed.
 #[derive(Clone, Copy)]
@@ -18,6 +18,7 @@ pub(crate) enum Taken {
 
 impl Taken {
     /// A handler judged a field after so many bytes, and says whether the machine goes on.
+    #[inline(always)]
     pub(super) fn after(count: usize, goes_on: bool) -> Taken
         ensures { result ≡ taken_by count goes_on }
     {
@@ -25,15 +26,5 @@ impl Taken {
             return Taken::Ended(count);
         }
         Taken::Stopped(count)
-    }
-
-    /// The same of a field whose bytes are lent, after a piece of so many bytes.
-    pub(super) fn lent(self, count: usize) -> Taken
-        ensures { result ≡ lent_by self count }
-    {
-        match self {
-            Taken::Open => Taken::Part(count),
-            taken => taken,
-        }
     }
 }

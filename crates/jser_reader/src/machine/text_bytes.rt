@@ -113,7 +113,7 @@ impl Machine {
             return Taken::Stopped(count);
         }
         if self.scan.left() > 0 {
-            return Taken::Open;
+            return Taken::Part(piece.len());
         }
         let goes_on = self.text_done(gate);
         Taken::after(used.max(1), goes_on)

@@ -35,6 +35,7 @@ impl Machine {
     }
 
     /// A class place comes next.
+    #[inline(always)]
     fn next_class(&mut self, owner: Owner) -> bool
         ensures next { IsNext Phase.ClassTag owner self.old.elements self.old.header self.old.text self.old self.new }
         ensures result { result ≡ true }
@@ -44,6 +45,7 @@ impl Machine {
     }
 
     /// The length of a text comes next, in two bytes, or in eight in the long form.
+    #[inline(always)]
     pub(super) fn next_text(&mut self, text: TextFor, long: bool) -> bool
         ensures next { IsNext (length_phase long) self.old.owner self.old.elements self.old.header text self.old self.new }
         ensures result { result ≡ true }
@@ -88,6 +90,7 @@ impl Machine {
 
     /// The tag of a value whose place has been counted.
     #[tactic(auto, using(crate::proofs::ValueLemmas::null_begun, crate::proofs::ValueLemmas::back_begun, crate::proofs::ValueLemmas::object_begun, crate::proofs::ValueLemmas::array_begun, crate::proofs::ValueLemmas::class_begun, crate::proofs::ValueLemmas::enum_begun, crate::proofs::ValueLemmas::desc_begun, crate::proofs::ValueLemmas::proxy_begun, crate::proofs::ValueLemmas::string_begun, crate::proofs::ValueLemmas::long_string_begun))]
+    #[inline(always)]
     fn begin(&mut self, tag: ValueTag) -> bool
         ensures { Tells (handle_reason self.old (told_tag tag)) (begun self.old (told_tag tag)) result self.old self.new }
     {
@@ -107,6 +110,7 @@ impl Machine {
 
     /// The tag of a value, of which nothing has been counted.
     #[tactic(auto, using(crate::proofs::ValueLemmas::too_deep, crate::proofs::ValueLemmas::too_many, crate::proofs::ValueLemmas::counted_tag))]
+    #[inline(always)]
     pub(super) fn place(&mut self, tag: ValueTag) -> bool
         ensures { Tells (place_reason self.old (told_tag tag)) (after_tag self.old (told_tag tag)) result self.old self.new }
     {

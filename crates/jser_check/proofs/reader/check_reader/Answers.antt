@@ -1,20 +1,23 @@
-use Rattle.jser_check.proofs.ReaderLemmas.{read_accepted, read_reported, read_refused, failed_refused}
+use Rattle.std.proofs.Common.{Ok, Err, sym, subst}
+use Rattle.std.specs.Prelude.{IfSome}
+use Rattle.jser_check.specs.Answers.{Reports}
+use Rattle.jser_check.specs.Admitted.{gate_of_filter}
+use Rattle.jser_check.proofs.ReaderLemmas.{source_of_filter, source_reported, source_refused, source_first}
 use Rattle.jser_check.proofs.reader.check_reader.Goals as goal
 
-pub returns-in-Ok-check_bytes-clause-accepted : goal.returns-in-Ok-check_bytes-clause-accepted
-returns-in-Ok-check_bytes-clause-accepted g c =
-    read_accepted _ c.read_whole.new.all.items c.in-Ok.ensures.read (rw (← c.deref.ensures.value) c.in-Ok-check_bytes.ensures.accepted)
+pub returns-in-Ok-clause-accepted : goal.returns-in-Ok-clause-accepted
+returns-in-Ok-clause-accepted g c =
+    subst (λ report. IfSome (g.R.Source.to_come c.args.source.now) (λ bytes. Reports c.args.filter.now c.args.options bytes report)) (sym c.of.ensures)
+    (source_reported c.args.filter.now c.args.options (g.R.Source.to_come c.args.source.now) (g.R.Source.to_come c.check_under.new.source) c.in-Ok.totals
+    (source_of_filter c.new.result c.args.filter.now c.args.options (g.R.Source.to_come c.args.source.now)
+    (g.R.Source.to_come c.check_under.new.source) (Ok c.in-Ok.totals) c.new.ensures.filter c.new.ensures.options c.in-Ok.ensures.tells))
 
-pub returns-in-Ok-check_bytes-clause-reported : goal.returns-in-Ok-check_bytes-clause-reported
-returns-in-Ok-check_bytes-clause-reported g c =
-    read_reported _ c.read_whole.new.all.items c.in-Ok-check_bytes.report c.in-Ok.ensures.read
-    (rw (← c.deref.ensures.value) c.in-Ok-check_bytes.ensures.accepted) (rw (← c.deref.ensures.value) c.in-Ok-check_bytes.ensures.reported)
+pub returns-in-Err-clause-refused : goal.returns-in-Err-clause-refused
+returns-in-Err-clause-refused g c =
+    source_refused c.args.filter.now c.args.options _ (g.R.Source.to_come c.check_under.new.source) c.in-Err.fault
+    (source_of_filter c.new.result c.args.filter.now c.args.options _ _ (Err c.in-Err.fault) c.new.ensures.filter c.new.ensures.options c.in-Err.ensures.tells)
 
-pub returns-in-Ok-clause-refused : goal.returns-in-Ok-clause-refused
-returns-in-Ok-clause-refused g c =
-    read_refused _ c.read_whole.new.all.items c.in-Err.stop c.in-Ok.ensures.read (rw (← c.deref.ensures.value) c.in-Err.ensures.refused)
-
-pub returns-clause-refused : goal.returns-clause-refused
-returns-clause-refused g c =
-    failed_refused _ c.read_whole.new.all.items c.check_bytes-in-Err-Failed.result c.fault_after_failure.result (c.read_whole.ensures.front cc)
-    (rw (← c.deref-in-Err-Failed.ensures.value) c.check_bytes-in-Err-Failed.ensures.refused) c.fault_after_failure.ensures
+pub returns-in-Err-clause-first : goal.returns-in-Err-clause-first
+returns-in-Err-clause-first g c =
+    source_first (gate_of_filter c.args.filter.now c.args.options) _ (g.R.Source.to_come c.check_under.new.source) c.in-Err.fault
+    (source_of_filter c.new.result c.args.filter.now c.args.options _ _ (Err c.in-Err.fault) c.new.ensures.filter c.new.ensures.options c.in-Err.ensures.tells)

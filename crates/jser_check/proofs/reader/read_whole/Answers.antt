@@ -1,18 +1,21 @@
-use Rattle.std.proofs.Common.{length, ap, arith}
-use Rattle.std.proofs.lemmas.List.{length-take}
-use Rattle.jser_check.proofs.SourceLemmas.{takes_more, read_to_end, read_full}
+use Rattle.std.proofs.Common.{◌+◌, ◌∙◌, rules}
+use Rattle.jser_check.proofs.SourceLemmas.{taken_more, taken_short, stopped_at_start, reads_stop}
 use Rattle.jser_check.proofs.reader.read_whole.Goals as goal
 
-pub returns-in-Err-clause-taken : goal.returns-in-Err-clause-taken
-returns-in-Err-clause-taken g c =
-    takes_more _ _ _ c.reads.all.items _ 2147483648 c.reads.invariant.read c.read_some.ensures.taken
-    (simp length-take (omega (arith, c.reads.all.ok.0)))
+pub returns-in_default-clause-tells : goal.returns-in_default-clause-tells
+returns-in_default-clause-tells g c = stopped_at_start g.G.Gate.told c.args.reader.now _ _ _
 
-pub returns-in-Ok-false-clause-read : goal.returns-in-Ok-false-clause-read
-returns-in-Ok-false-clause-read g c =
-    let ended = c.in-Ok-false.ensures.end (cc) in
-    read_to_end _ _ _ c.reads.all.items c.read_some.new.all.items 2147483648 c.reads.invariant.read c.in-Ok-false.ensures.read ended.0
-    (omega (arith, ap length ended.1, c.reads.all.ok.0))
+pub reads-preserved : goal.reads-preserved
+reads-preserved g c =
+    let all = taken_more g.G.Gate.told c.args.reader.now c.reads.reader c.read_some.new.reader _ _ _ c.reads.taken c.in-Ok-read_some.count c.reads.invariant.taken c.in-Ok-read_some.ensures.tells in
+    record {
+      taken = all;
+      short = taken_short g.G.Gate.told c.args.reader.now c.read_some.new.reader _ _ (c.reads.taken + c.in-Ok-read_some.count) g.met.G.Gate.within c.requires all;
+      room = c.reads.invariant.room;
+      failed = c.in-Ok-read_some.ensures.fails ∙ c.reads.invariant.failed;
+    }
 
-pub returns-clause-read : goal.returns-clause-read
-returns-clause-read g c = read_full _ _ c.reads.all.items 2147483648 c.reads.invariant.read (omega (arith, c.reads.all.ok.0))
+pub returns-in-Err-clause-tells : goal.returns-in-Err-clause-tells
+returns-in-Err-clause-tells g c =
+    reads_stop g.G.Gate.told c.args.reader.now c.reads.reader c.read_some.new.reader _ _ _ c.reads.taken _ c.in-Err.fault c.reads.invariant.short
+    c.reads.invariant.taken c.in-Err.ensures.tells (search rules) (search rules)

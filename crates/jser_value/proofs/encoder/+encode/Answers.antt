@@ -2,7 +2,7 @@ use Rattle.std.proofs.Common.{arith, ap, get_or, map, length, ◌∙◌}
 use Rattle.jser_value.specs.Encoding.{section_spelling}
 use Rattle.jser_grammar.specs.Spelling.{value_spelling, content_spelling, class_spelling, body_spelling, sections_spelling, text_place_spelling}
 use Rattle.jser_value.specs.View.{view_value, view_values, view_content, view_contents, view_section, view_sections, view_class_place, view_body, view_text_place, view_field, view_prim}
-use Rattle.jser_value.proofs.OutgoingLemmas.{puts_tagged}
+use Rattle.jser_prim.proofs.OutgoingLemmas.{puts_tagged}
 use Rattle.jser_value.proofs.EncodeLemmas.{puts_next, puts_all, values_flat, sections_flat, contents_flat, puts_classed, puts_plain, puts_proxy, puts_raw_body, puts_value_body, puts_section, puts_bare_section, puts_block}
 use Rattle.jser_value.proofs.ViewLemmas.{view_class_object, view_array, view_enum_constant, view_object, view_raw_body, view_value_body, view_block, view_plain, view_proxy, view_section_of, no_notes_of}
 use Rattle.jser_value.specs.declared.tree.Section.{out-Section}

@@ -1,7 +1,7 @@
 use Rattle.std.proofs.Common.{take}
 use Rattle.std.specs.List.{flat_map}
 use Rattle.jser_value.specs.Encoding.{section_spelling}
-use Rattle.jser_value.specs.Outgoing.{Puts, sink_state}
+use Rattle.jser_prim.specs.Outgoing.{Puts, sink_state}
 use Rattle.jser_grammar.specs.Spelling.{value_spelling, content_spelling}
 use Rattle.jser_value.specs.View.{view_value, view_content, view_section}
 use Rattle.jser_value.proofs.encoder.+encode.Given as goal

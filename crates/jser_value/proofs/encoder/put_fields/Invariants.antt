@@ -2,7 +2,7 @@ use Rattle.std.proofs.Common.{take}
 use Rattle.std.specs.List.{flat_map}
 use Rattle.jser_value.specs.Encoding.{field_spelling}
 use Rattle.jser_value.specs.View.{view_field}
-use Rattle.jser_value.specs.Outgoing.{Puts, sink_state}
+use Rattle.jser_prim.specs.Outgoing.{Puts, sink_state}
 use Rattle.jser_value.proofs.encoder.put_fields.Given as goal
 
 abbrev pub invariant-loop-field : goal.invariant-loop-field

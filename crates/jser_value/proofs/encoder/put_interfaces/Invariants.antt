@@ -1,7 +1,7 @@
 use Rattle.std.proofs.Common.{take}
 use Rattle.std.specs.List.{flat_map}
 use Rattle.jser_grammar.specs.Spelling.{utf}
-use Rattle.jser_value.specs.Outgoing.{Puts, sink_state}
+use Rattle.jser_prim.specs.Outgoing.{Puts, sink_state}
 use Rattle.jser_value.proofs.encoder.put_interfaces.Given as goal
 
 abbrev pub invariant-loop-name : goal.invariant-loop-name

@@ -2,7 +2,7 @@ use Rattle.std.proofs.Common.{take}
 use Rattle.std.specs.List.{flat_map}
 use Rattle.jser_grammar.specs.Spelling.{content_spelling}
 use Rattle.jser_value.specs.View.{view_content}
-use Rattle.jser_value.specs.Outgoing.{Puts, sink_state}
+use Rattle.jser_prim.specs.Outgoing.{Puts, sink_state}
 use Rattle.jser_value.proofs.encoder.put_list.Given as goal
 
 abbrev pub invariant-loop-content : goal.invariant-loop-content

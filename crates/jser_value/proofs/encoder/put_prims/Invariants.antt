@@ -2,7 +2,7 @@ use Rattle.std.proofs.Common.{take}
 use Rattle.std.specs.List.{flat_map}
 use Rattle.jser_grammar.specs.Spelling.{prim_spelling}
 use Rattle.jser_value.specs.View.{view_prim}
-use Rattle.jser_value.specs.Outgoing.{Puts, sink_state}
+use Rattle.jser_prim.specs.Outgoing.{Puts, sink_state}
 use Rattle.jser_value.proofs.encoder.put_prims.Given as goal
 
 abbrev pub invariant-loop-prim : goal.invariant-loop-prim

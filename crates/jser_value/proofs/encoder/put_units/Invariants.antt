@@ -1,6 +1,6 @@
 use Rattle.std.proofs.Common.{take}
 use Rattle.jser_prim.specs.ModifiedUtf8.{modified_utf8}
-use Rattle.jser_value.specs.Outgoing.{Puts, sink_state}
+use Rattle.jser_prim.specs.Outgoing.{Puts, sink_state}
 use Rattle.jser_value.proofs.encoder.put_units.Given as goal
 
 abbrev pub invariant-loop-unit : goal.invariant-loop-unit

@@ -5,5 +5,5 @@ use Rattle.jser_filter.proofs.pieces.Pieces.push.Goals as goal
 pub invariant_of-self-2 : goal.invariant_of-self-2
 invariant_of-self-2 c =
     let own = c.self.inside in
-    index_pushed own.pieces.items c.reserve.new.self.items c.put.new.items.items c.args.piece own.index c.add_place.new.index c.len-place.result
-    c.self.invariant c.in_ok-reserve.ensures.items c.in_ok-add_place.ensures.ok (search rules) c.put.ensures
+    index_pushed own.pieces.items c.reserve.new.self.items c.push_reserved.new.self.items c.args.piece own.index c.add_place.new.index c.len-place.result
+    c.self.invariant c.in_ok-reserve.ensures.items c.in_ok-add_place.ensures.ok (search rules) c.push_reserved.ensures.items

@@ -10,4 +10,4 @@ returns-then-piece-missing c =
 pub returns : goal.returns
 returns c =
     λ gate. rest_taken gate 4 c.four-n.result c.missing-missing.result _ _ c.args.piece.now c.split_at.result.0.now c.args.self.now _ (number_for gate 4 _ _ _ _ _ c.end_four-goes_on.ensures) c.after.ensures
-    c.requires.phase (search rules) (search rules) c.missing-missing.ensures.some c.if-piece-missing.false
+    (four_is _ c.requires.four) c.requires.phase (search rules) (search rules) c.missing-missing.ensures.some c.if-piece-missing.false

@@ -1,4 +1,4 @@
-use Rattle.std.proofs.Common.{rules, true, false}
+use Rattle.std.proofs.Common.{rules, true}
 use Rattle.jser_reader.proofs.LengthLemmas.{rest_of_length_kept, rest_of_length_taken}
 use Rattle.jser_reader.proofs.machine.Machine.rest_of_long_length.Goals as goal
 
@@ -9,5 +9,5 @@ returns-then-piece-missing g c =
 
 pub returns : goal.returns
 returns g c =
-    rest_of_length_taken _ 8 c.eight-n.result c.missing-missing.result c.take_length8-progress.result _ c.args.piece.now c.split_at.result.0.now c.args.self.now _ c.take_length8-progress.ensures c.after_length.ensures
-    c.requires.phase (search rules) (search rules) c.missing-missing.ensures.some c.if-piece-missing.false
+    rest_of_length_taken _ true c.eight-n.result c.missing-missing.result c.take_length8-progress.result _ c.args.piece.now c.split_at.result.0.now c.args.self.now _ c.take_length8-progress.ensures c.after_length.ensures
+    c.requires.length c.requires.phase (search rules) (search rules) c.missing-missing.ensures.some c.if-piece-missing.false

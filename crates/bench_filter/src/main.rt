@@ -1,0 +1,152 @@
+//! How long a filter takes to judge a name that no pattern matches: `rt run -- 100` judges each name so many thousand
+//! times by 1, 10, 100, 1,000 and 10,000 patterns of each form, and prints nanoseconds. With no argument it judges each a few times and
+//! prints nothing, so that the gate runs it.
+#![tactic(auto)]
+
+ghost use Rattle.std.specs.Prelude.{◌≢◌};
+ghost use Rattle.jser_table.specs.Names.{element_of, malformed_element};
+
+use anyhow::{Result, bail, ensure};
+use jser_filter::{Filter, Modules, Verdict};
+use jser_prim::units_of;
+use jser_table::{Element, element_of};
+use std::alloc::{AllocError, Global};
+use std::env;
+use std::rt::Clock;
+use std::time::Instant;
+
+/// A form of pattern: what stands before the number of a pattern, and what after it.
+#[derive(Clone, Copy)]
+struct Form {
+    name: &'static str,
+    front: &'static str,
+    back: &'static str,
+}
+
+const FORMS: [Form; 8] = [
+    Form {
+        name: "P.X",
+        front: "org.sample.shop.K",
+        back: "",
+    },
+    Form {
+        name: "P.*",
+        front: "org.sample.shop.k",
+        back: ".*",
+    },
+    Form {
+        name: "P.**",
+        front: "org.sample.shop.k",
+        back: ".**",
+    },
+    Form {
+        name: "X*",
+        front: "org.sample.shop.K",
+        back: "*",
+    },
+    Form {
+        name: "m/P.X",
+        front: "shop/org.sample.shop.K",
+        back: "",
+    },
+    Form {
+        name: "m/P.*",
+        front: "shop/org.sample.shop.k",
+        back: ".*",
+    },
+    Form {
+        name: "m/X*",
+        front: "shop/org.sample.shop.K",
+        back: "*",
+    },
+    Form {
+        name: "M/X*",
+        front: "m",
+        back: "/org.sample.shop.K*",
+    },
+];
+
+/// How many patterns a filter has.
+const COUNTS: [u32; 5] = [1, 10, 100, 1000, 10_000];
+
+/// Names of 1, 20 and 60 units; the longer ones begin as the patterns do.
+const NAMES: [&str; 3] = [
+    "a",
+    "org.sample.shop.Zebr",
+    "org.sample.shop.ZebraCrossingsInTheCityCentreAndBeyond",
+];
+
+/// The packages of the names have this module.
+const MODULES: &str = "org.sample.shop=shop";
+
+fn main(rt: HostRuntime) -> Result<()> {
+    let asked = env::args(&rt)?.nth(1);
+    let calls = match &asked {
+        Some(text) => u32::from(text.parse::<u16>()?) * 1000,
+        None => 1,
+    };
+    for form in FORMS {
+        for count in COUNTS {
+            if asked.is_none() && count > 10 {
+                break;
+            }
+            let filter = filter_with(rt.alloc(), form, count)?;
+            let [short, middle, long] = NAMES;
+            let short = cost(&rt, rt.alloc(), &filter, short, calls)?;
+            let middle = cost(&rt, rt.alloc(), &filter, middle, calls)?;
+            let long = cost(&rt, rt.alloc(), &filter, long, calls)?;
+            if asked.is_some() {
+                let name = form.name;
+                println!(rt; "{count} of {name}: {short}, {middle}, {long} ns")?;
+            }
+        }
+    }
+    Ok(())
+}
+
+/// A filter of so many patterns of this form, none of which matches a name of `NAMES`.
+fn filter_with(alloc: Global, form: Form, count: u32) -> Result<Filter> {
+    let text = text_of(alloc, form, count)?;
+    let Ok(modules) = Modules::parse(alloc, MODULES) else {
+        bail!("the table of modules was refused");
+    };
+    match Filter::parse(alloc, text.as_str()) {
+        Ok(filter) => Ok(filter.with_modules(modules)),
+        Err(fault) => bail!("the filter was refused: {fault}"),
+    }
+}
+
+/// The text of so many patterns of this form.
+fn text_of(alloc: Global, form: Form, count: u32) -> Result<String, AllocError> {
+    let mut text = String::new(alloc);
+    for number in 0..count {
+        let Form { front, back, .. } = form;
+        let pattern = format!(in alloc; "{front}{number}{back};")?;
+        text.push_str(pattern.as_str())?;
+    }
+    Ok(text)
+}
+
+/// How many nanoseconds it takes to judge the name.
+fn cost(rt: &impl Clock, alloc: Global, filter: &Filter, name: &str, calls: u32) -> Result<u64> {
+    let units = units_of(alloc, name)?;
+    match element_of(&units) {
+        Element::Malformed => bail!("the name is malformed"),
+        _ => time_judging(rt, filter, &units, calls),
+    }
+}
+
+/// The same of a name in units: that of so many calls, divided by their number.
+fn time_judging(rt: &impl Clock, filter: &Filter, name: &[u16], calls: u32) -> Result<u64>
+    requires { element_of name.now ≢ malformed_element }
+{
+    let start = Instant::now(rt)?;
+    for _ in 0..calls {
+        ensure!(
+            filter.judge(name) == Verdict::Undecided,
+            "a pattern matched that should not"
+        );
+    }
+    let nanos = u64::try_from(start.elapsed(rt)?.as_nanos())?;
+    Ok(nanos / u64::from(calls).max(1))
+}

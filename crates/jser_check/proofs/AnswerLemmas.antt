@@ -1,0 +1,183 @@
+-- From what a reader tells under a gate to what a check answers of a filter.
+use Rattle.std.proofs.Common.{◌≡◌, ◌≢◌, ℕ, ◌+◌, ◌≤◌, List, [], ◌∷◌, ◌++◌, length, take, drop, Result, Ok, Err, inl, inr, refl, sym, ◌∙◌, ap, subst, arith, append-nil, length-append, length-take-le, take-append-drop}
+use Rattle.jser_grammar.specs.Parts.{IsBytes}
+use Rattle.jser_grammar.specs.Trees.{ContentTrees}
+use Rattle.jser_verdict.specs.Reasons.{Reason as ToldReason}
+use Rattle.jser_verdict.specs.Reasons.{bytes_exceeded, bad_header, bad_tag, exception_tag, reset_inside, bad_text, negative_length, bad_type_code, field_order, bad_flags, null_class, no_such_handle, wrong_kind, open_descriptor, bad_array_name, wrong_class, external_raw, not_serializable, class_rejected, class_unmatched, depth_exceeded, refs_exceeded, array_exceeded, truncated, handle_space}
+use Rattle.jser_verdict.specs.Gates.{Gate}
+use Rattle.jser_verdict.specs.Passing.{Passes}
+use Rattle.jser_verdict.specs.FirstFault.{IsFault, IsFirstFault}
+use Rattle.jser_verdict.proofs.ByteLists.{bytes_right}
+use Rattle.jser_reader.specs.declared.Reason.TheVariants as reason
+use Rattle.jser_reader.specs.declared.Refusal.{Refusal}
+use Rattle.jser_reader.specs.declared.Stop.{Stop}
+use Rattle.jser_reader.specs.declared.Stop.TheVariants as stop
+use Rattle.jser_reader.specs.declared.Totals.{Totals}
+use Rattle.jser_reader.specs.Reasons.{named}
+use Rattle.jser_reader.specs.Streams.{AreRefused, AreTruncated}
+use Rattle.jser_reader.specs.declared.tally.Tally.{Tally}
+use Rattle.jser_reader.specs.Readers.{Seen}
+use Rattle.jser_reader.specs.ReaderStates.{Reading, StandsFor, FinishTells}
+use Rattle.jser_filter.specs.Filters.{FilterView}
+use Rattle.jser_check.specs.declared.gate.Options.{Options}
+use Rattle.jser_check.specs.Admitted.{AreAdmitted, FilterWith, gate_of_filter}
+use Rattle.jser_check.specs.Feeding.{Fed, StopsIn}
+use Rattle.jser_check.specs.Answers.{report_of, Reports, CarriesFirst, Refuses, IfRefused, FrontRefused, IsRightOf, Tells}
+use Rattle.jser_check.proofs.SpelledBytes.{stream_bytes}
+use Rattle.jser_check.proofs.AdmittedLemmas.{admits_exactly}
+
+-- ---- Truncated
+
+only_truncated : (r : ToldReason) → named r ≡ reason.Truncated → r ≡ truncated
+only_truncated bytes_exceeded e = absurd (cc)
+only_truncated bad_header e = absurd (cc)
+only_truncated bad_tag e = absurd (cc)
+only_truncated exception_tag e = absurd (cc)
+only_truncated reset_inside e = absurd (cc)
+only_truncated bad_text e = absurd (cc)
+only_truncated negative_length e = absurd (cc)
+only_truncated bad_type_code e = absurd (cc)
+only_truncated field_order e = absurd (cc)
+only_truncated bad_flags e = absurd (cc)
+only_truncated null_class e = absurd (cc)
+only_truncated no_such_handle e = absurd (cc)
+only_truncated wrong_kind e = absurd (cc)
+only_truncated open_descriptor e = absurd (cc)
+only_truncated bad_array_name e = absurd (cc)
+only_truncated wrong_class e = absurd (cc)
+only_truncated external_raw e = absurd (cc)
+only_truncated not_serializable e = absurd (cc)
+only_truncated class_rejected e = absurd (cc)
+only_truncated class_unmatched e = absurd (cc)
+only_truncated depth_exceeded e = absurd (cc)
+only_truncated refs_exceeded e = absurd (cc)
+only_truncated array_exceeded e = absurd (cc)
+only_truncated truncated e = refl
+only_truncated handle_space e = absurd (cc)
+
+pub refused_whole : (gate : Gate) (bytes : List ℕ) (refusal : Refusal) → AreRefused gate bytes refusal → refusal.reason ≢ reason.Truncated
+refused_whole gate bytes refusal r = λ e. r.not_truncated (only_truncated r.reason (sym r.is_named ∙ e))
+
+-- ---- under any gate
+
+take_front : (xs ys : List ℕ) → take (length xs) (xs ++ ys) ≡ xs
+take_front [] ys = refl
+take_front (x ∷ xs) ys = ap (λ zs. x ∷ zs) (take_front xs ys)
+
+pub front_refused : (gate : Gate) (front rest bytes : List ℕ) (refusal : Refusal) → bytes ≡ front ++ rest → AreRefused gate front refusal
+    → FrontRefused gate bytes refusal
+front_refused gate front rest bytes refusal split r =
+    let n : length bytes ≡ length front + length rest = ap length split ∙ length-append front rest in
+    let all = r.all in
+    let e : take refusal.to_byte bytes ≡ front = ap (λ k. take k bytes) all ∙ ap (take (length front)) split ∙ take_front front rest in
+    record { within = omega arith; refused = subst (λ xs. AreRefused gate xs refusal) (sym e) r }
+
+pub stop_tells : {G : Type 0} (told : G → Gate) (gate : G) (old new : Reading G) (bytes : List ℕ) (why : Stop) → old.gate ≡ gate
+    → StandsFor (told gate) [] old.machine old.tally → StopsIn told old new bytes why → Tells (told gate) bytes (Err why)
+unfolding StopsIn
+stop_tells told gate old new bytes (stop.Refused refusal) same st s =
+    let x = s [] (subst (λ g. StandsFor (told g) [] old.machine old.tally) (sym same) st) in
+    inl (front_refused (told gate) (take x.used bytes) (drop x.used bytes) bytes refusal (sym (take-append-drop x.used bytes))
+    (subst (λ g. AreRefused (told g) (take x.used bytes) refusal) same x.refused))
+stop_tells told gate old new bytes stop.OutOfMemory same st s = tt
+stop_tells told gate old new bytes stop.Spent same st s = s [] (subst (λ g. StandsFor (told g) [] old.machine old.tally) (sym same) st)
+
+finish_cases : (gate : Gate) (bytes : List ℕ) (result : Result Totals Stop) (old : Seen) (tally : Tally) (new : Seen) → StandsFor gate bytes old tally
+    → FinishTells gate result old tally new → Tells gate bytes result
+unfolding FinishTells
+finish_cases gate bytes (Ok totals) old tally new st t = (t bytes st).0
+finish_cases gate bytes (Err (stop.Refused refusal)) old tally new st t = inr (t bytes st).0
+finish_cases gate bytes (Err stop.OutOfMemory) old tally new st t = tt
+finish_cases gate bytes (Err stop.Spent) old tally new st t = t bytes st
+
+pub finish_tells : {G : Type 0} (told : G → Gate) (gate : G) (old mid new : Reading G) (bytes : List ℕ) (result : Result Totals Stop) → old.gate ≡ gate
+    → StandsFor (told gate) [] old.machine old.tally → Fed told old mid bytes [] → FinishTells (told mid.gate) result mid.machine mid.tally new.machine
+    → Tells (told gate) bytes result
+finish_tells told gate old mid new bytes result same st f t =
+    let whole : bytes ≡ f.front = f.split ∙ append-nil f.front in
+    let stands : StandsFor (told old.gate) f.front mid.machine mid.tally = f.stands [] (subst (λ g. StandsFor (told g) [] old.machine old.tally) (sym same) st) in
+    finish_cases (told gate) bytes result mid.machine mid.tally new.machine
+    (subst (λ xs. StandsFor (told gate) xs mid.machine mid.tally) (sym whole) (subst (λ g. StandsFor (told g) f.front mid.machine mid.tally) same stands))
+    (subst (λ g. FinishTells (told g) result mid.machine mid.tally new.machine) (f.same ∙ same) t)
+
+-- ---- under the gate of a filter
+
+pub told_of_filter : (gate : FilterWith) (filter : FilterView) (options : Options) (bytes : List ℕ) (result : Result Totals Stop) → gate.filter ≡ filter
+    → gate.options ≡ options → Tells (gate_of_filter gate.filter gate.options) bytes result → Tells (gate_of_filter filter options) bytes result
+told_of_filter gate filter options bytes result ef eo t =
+    subst (λ o. Tells (gate_of_filter filter o) bytes result) eo (subst (λ f. Tells (gate_of_filter f gate.options) bytes result) ef t)
+
+pub tells_report : (filter : FilterView) (options : Options) (bytes : List ℕ) (totals : Totals) → Tells (gate_of_filter filter options) bytes (Ok totals)
+    → Reports filter options bytes (report_of totals)
+tells_report filter options bytes totals (list, passes, are) = (
+  list,
+  (admits_exactly filter options bytes list).1 passes,
+  record { all_bytes = are.all_bytes; contents = are.contents; refs = are.refs; depth = are.depth; handles = are.handles },
+)
+
+fault_ordered : (gate : Gate) (bytes : List ℕ) (at end : ℕ) (r : ToldReason) → IsFirstFault gate bytes at end r → at ≤ end
+fault_ordered gate bytes at end r f = let e = f.0.4 in omega arith
+
+front_refuses : (filter : FilterView) (options : Options) (bytes : List ℕ) (refusal : Refusal) → FrontRefused (gate_of_filter filter options) bytes refusal
+    → Refuses filter options bytes refusal
+front_refuses filter options bytes refusal f =
+    let gate = gate_of_filter filter options in
+    let front = take refusal.to_byte bytes in
+    let begins : (after : List ℕ) → AreAdmitted filter options (front ++ after) → ⊥ =
+    λ after a.
+    f.refused.none_passes after a.0 (bytes_right front after (stream_bytes (front ++ after) a.0 a.1.stream))
+    ((admits_exactly filter options (front ++ after) a.0).0 a.1) in
+    record {
+      none =
+          λ a.
+          begins (drop refusal.to_byte bytes) (subst (λ xs. AreAdmitted filter options xs) (sym (take-append-drop refusal.to_byte bytes)) a);
+      begins = λ e after a. begins after a;
+      front = λ e. f.refused;
+      cut = λ e. absurd (refused_whole gate front refusal f.refused e);
+      ordered = fault_ordered gate (front ++ []) refusal.from_byte refusal.to_byte f.refused.reason (f.refused.is_first [] refl);
+      within = f.within;
+    }
+
+cut_refuses : (filter : FilterView) (options : Options) (bytes : List ℕ) (refusal : Refusal) → AreTruncated (gate_of_filter filter options) bytes refusal
+    → Refuses filter options bytes refusal
+cut_refuses filter options bytes refusal t =
+    let all = t.all in
+    record {
+      none = λ a. t.none_passes a.0 ((admits_exactly filter options bytes a.0).0 a.1);
+      begins = λ e after a. absurd (e t.is_named);
+      front = λ e. absurd (e t.is_named);
+      cut = λ e. t;
+      ordered = fault_ordered (gate_of_filter filter options) bytes refusal.from_byte refusal.to_byte truncated t.is_first;
+      within = omega arith;
+    }
+
+pub right_refuses : (filter : FilterView) (options : Options) (bytes : List ℕ) (refusal : Refusal) → IsRightOf (gate_of_filter filter options) bytes refusal
+    → Refuses filter options bytes refusal
+right_refuses filter options bytes refusal (inl f) = front_refuses filter options bytes refusal f
+right_refuses filter options bytes refusal (inr t) = cut_refuses filter options bytes refusal t
+
+pub right_first : (gate : Gate) (bytes : List ℕ) (refusal : Refusal) → IsBytes bytes → IsRightOf gate bytes refusal → CarriesFirst gate bytes refusal
+right_first gate bytes refusal h (inl f) =
+    let e = take-append-drop refusal.to_byte bytes in
+    let after : IsBytes (drop refusal.to_byte bytes) =
+    bytes_right (take refusal.to_byte bytes) (drop refusal.to_byte bytes) (subst IsBytes (sym e) h) in
+    record {
+      reason = f.refused.reason;
+      is_named = f.refused.is_named;
+      is_first =
+          subst (λ xs. IsFirstFault gate xs refusal.from_byte refusal.to_byte f.refused.reason) e
+          (f.refused.is_first (drop refusal.to_byte bytes) after);
+    }
+right_first gate bytes refusal h (inr t) = record { reason = truncated; is_named = t.is_named; is_first = t.is_first }
+
+pub tells_refused : (filter : FilterView) (options : Options) (bytes : List ℕ) (why : Stop) → Tells (gate_of_filter filter options) bytes (Err why)
+    → IfRefused (Refuses filter options bytes) why
+tells_refused filter options bytes (stop.Refused refusal) t = right_refuses filter options bytes refusal t
+tells_refused filter options bytes stop.OutOfMemory t = tt
+tells_refused filter options bytes stop.Spent t = t
+
+pub tells_first : (gate : Gate) (bytes : List ℕ) (why : Stop) → IsBytes bytes → Tells gate bytes (Err why)
+    → IfRefused (CarriesFirst gate bytes) why
+tells_first gate bytes (stop.Refused refusal) h t = right_first gate bytes refusal h t
+tells_first gate bytes stop.OutOfMemory h t = tt
+tells_first gate bytes stop.Spent h t = t

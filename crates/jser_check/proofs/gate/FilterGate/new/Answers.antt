@@ -1,0 +1,5 @@
+use Rattle.jser_check.proofs.AdmittedLemmas.{admits_exactly}
+use Rattle.jser_check.proofs.gate.FilterGate.new.Goals as goal
+
+pub returns-clause-exact : goal.returns-clause-exact
+returns-clause-exact c = λ bytes list. admits_exactly c.args.filter.now c.args.options bytes list

@@ -1,0 +1,108 @@
+//! The gate of a filter: what a filter and its options let pass besides being a stream.
+ghost use Rattle.std.specs.Prelude.{◌≡◌, ◌≤◌, ◌↔◌, ℕ, List};
+ghost use Rattle.jser_grammar.specs.Trees.{ContentTrees};
+ghost use Rattle.jser_reader.specs.Gates.{told_answer};
+ghost use Rattle.jser_verdict.specs.Passing.{Passes};
+ghost use Rattle.jser_check.specs.Admitted.{lesser, answer_at, gate_of_filter, IsAdmitted};
+
+use jser_filter::{Filter, Verdict};
+use jser_reader::{Answer, Gate};
+use std::marker::Model;
+
+/// How a filter is applied.
+#[derive(Clone, Copy, PartialEq, Eq, Hash, Debug)]
+pub struct Options {
+    /// Whether a name that no pattern matches is refused, as `ClassUnmatched`.
+    pub strict: bool,
+}
+
+/// The gate of a filter: it lets pass what the filter admits. None of its calls takes memory.
+///
+/// Each limit is the lesser of the filter's and the greatest one. A name that the filter allows passes, and so does
+/// one that names no class; one that no pattern matches passes unless the options are strict.
+#[derive(Debug, Drop)]
+pub struct FilterGate<'f> {
+    filter: &'f Filter,
+    options: Options,
+}
+
+impl<'f> Model for FilterGate<'f> {
+    ghost use Rattle.jser_check.specs.Admitted.{FilterWith};
+
+    ghost Value = { FilterWith };
+
+    ghost view = { λ a. record { filter = a.filter.now; options = a.options } };
+}
+
+impl<'f> FilterGate<'f> {
+    /// The gate of this filter.
+    pub fn new(filter: &'f Filter, options: Options) -> FilterGate<'f>
+        ensures filter { result.filter ≡ filter.now }
+        ensures options { result.options ≡ options }
+        ensures exact { (bytes : List ℕ) (list : ContentTrees) → IsAdmitted filter.now options bytes list
+            ↔ Passes (gate_of_filter filter.now options) bytes list }
+    {
+        FilterGate { filter, options }
+    }
+}
+
+impl<'f> Gate for FilterGate<'f> {
+    ghost told = { λ gate. gate_of_filter gate.filter gate.options };
+
+    #[tactic(auto, using(crate::proofs::AdmittedLemmas::judges))]
+    fn name(&self, name: &[u16]) -> Answer {
+        answer_at(self.options, self.filter.judge(name))
+    }
+
+    fn max_bytes(&self) -> u64 {
+        lesser(self.filter.limits().bytes, 0x100_0000_0000)
+    }
+
+    fn max_depth(&self) -> u32 {
+        lesser(self.filter.limits().depth, 65_535) as u32
+    }
+
+    fn max_refs(&self) -> u64 {
+        lesser(self.filter.limits().refs, 0x7FFF_FFFF_FFFF_FFFF)
+    }
+
+    fn max_array(&self) -> u32 {
+        lesser(self.filter.limits().array, 0x7FFF_FFFF) as u32
+    }
+
+    fn max_handles(&self) -> u32 {
+        2_139_226_112
+    }
+
+    ghost use Rattle.jser_check.specs.Caps.{keeps_caps};
+
+    ghost within = { λ gate. keeps_caps gate.filter gate.options };
+}
+
+/// What a gate answers to a name of which the filter says this.
+fn answer_at(options: Options, verdict: Verdict) -> Answer
+    ensures { told_answer result ≡ answer_at options verdict }
+{
+    match verdict {
+        Verdict::Allowed(_) | Verdict::NoClass => Answer::Pass,
+        Verdict::Rejected(_) => Answer::Rejected,
+        Verdict::Undecided => {
+            if options.strict {
+                Answer::Unmatched
+            } else {
+                Answer::Pass
+            }
+        }
+    }
+}
+
+/// The lesser of a limit, if there is one, and the greatest.
+fn lesser(limit: Option<u64>, most: u64) -> u64
+    ensures is { result ≡ lesser limit most }
+    ensures within { result ≤ most }
+{
+    match limit {
+        None => most,
+        Some(limit) => limit.min(most),
+    }
+}

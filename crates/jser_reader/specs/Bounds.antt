@@ -1,0 +1,44 @@
+-- What a reader's calls say of its stack and of memory, by the label of the field that is open or comes next, which whole
+-- streams alone tell.
+use Rattle.std.specs.Prelude.{ℕ, ◌≡◌, ◌≢◌, ◌+◌, ◌≤◌, List, ◌++◌, Result, Err}
+use Rattle.jser_reading.specs.Labels.{Label, Piece}
+use Rattle.jser_reading.specs.ComesNext.{ComesNext}
+use Rattle.jser_verdict.specs.Gates.{Gate}
+use Rattle.jser_reader.specs.declared.item.Step.{Step}
+use Rattle.jser_reader.specs.declared.refusal.Stop.{Stop}
+use Rattle.jser_reader.specs.declared.refusal.Stop.TheVariants as stop
+use Rattle.jser_reader.specs.declared.tally.Tally.{Tally}
+use Rattle.jser_reader.specs.Stacks.{FitsDepth}
+use Rattle.jser_reader.specs.Memory.{IsCheckedName, IsForgotten, EndsInside}
+use Rattle.jser_reader.specs.Readers.{Seen}
+use Rattle.jser_reader.specs.ItemsTold.{StandsIn}
+
+-- So many frames are open: as many as the field that is open or comes next is deep, or one fewer; and its depth is at most
+-- one more than the gate's limit.
+unfoldable pub FramesAreBounded : Gate → (frames : ℕ) → Seen → Tally → Type 0
+FramesAreBounded gate frames r tally =
+    (front : List Piece) (cut : List ℕ) → StandsIn gate front cut r tally
+    → (label : Label) × ComesNext front label × FitsDepth frames label.depth × (label.depth ≤ gate.depth + 1)
+
+-- A call that is given a piece, in a field with this label of which these bytes were taken before, does not run out of
+-- memory: where nothing of the field is kept; and where the piece ends inside the field, which is no checked name.
+pub record MemoryFreeAt (label : Label) (cut piece : List ℕ) (result : Result Step Stop) : Type 0 where
+  pub forgotten : IsForgotten label.position → result ≢ Err stop.OutOfMemory
+  pub inside : (IsCheckedName label.position → ⊥) → EndsInside label.position (cut ++ piece) → result ≢ Err stop.OutOfMemory
+
+unfoldable pub MemoryFree : Gate → (piece : List ℕ) → Result Step Stop → Seen → Tally → Type 0
+MemoryFree gate piece result r tally =
+    (front : List Piece) (cut : List ℕ) (label : Label) → StandsIn gate front cut r tally → ComesNext front label → MemoryFreeAt label cut piece result
+
+-- The same of a call that takes a whole piece: where it ends inside the field in which it begins, which is no checked name.
+unfoldable pub SkipMemoryFree : Gate → (piece : List ℕ) → Result (Unit {0}) Stop → Seen → Tally → Type 0
+SkipMemoryFree gate piece result r tally =
+    (front : List Piece) (cut : List ℕ) (label : Label) → StandsIn gate front cut r tally → ComesNext front label
+    → (IsCheckedName label.position → ⊥) → EndsInside label.position (cut ++ piece) → result ≢ Err stop.OutOfMemory
+
+-- within such a piece, of which the rest is still to be taken, the same field is open
+pub record StaysInside (gate : Gate) (piece rest : List ℕ) (start : Seen) (before : Tally) (now : Seen) (tally : Tally) : Type 0 where
+  pub taken : List ℕ
+  pub split : piece ≡ taken ++ rest
+  pub stands : (front : List Piece) (cut : List ℕ) (label : Label) → StandsIn gate front cut start before → ComesNext front label
+      → EndsInside label.position (cut ++ piece) → StandsIn gate front (cut ++ taken) now tally

@@ -1,0 +1,9 @@
+pub mod Rows
+pub mod KnownLemmas
+pub mod CueLemmas
+pub mod TreeToText
+pub mod TreeToEnd
+pub mod TreeToIndex
+pub mod TreeToOwners
+pub mod Fronts
+pub mod CountLemmas

@@ -1,0 +1,47 @@
+-- What the teller says along the fields of a list that obeys the format, where it is after them, and what is kept by its
+-- side; and the text of list as it is counted.
+use Rattle.std.specs.Prelude.{ℕ, ◌≡◌, ◌+◌, List, [], ◌∷◌, length}
+use Rattle.jser_grammar.specs.Trees.{ContentTrees}
+use Rattle.jser_grammar.specs.CheckedNames.{checked_names}
+use Rattle.jser_grammar.specs.WellFormed.{WellFormed}
+use Rattle.jser_reading.specs.Fields.{fields_of}
+use Rattle.jser_shown.specs.Known.{last_epoch, last_known}
+use Rattle.jser_shown.specs.Shown.{shown}
+use Rattle.jser_shown.specs.Listed.{listed}
+use Rattle.jser_shown.specs.Counting.{tally_all, tally_lines}
+use Rattle.jser_shown.specs.Nodes.{place_after, nodes_of}
+use Rattle.jser_shown.specs.Owners.{owners_of}
+use Rattle.jser_shown.specs.Cues.{top_cue, teller}
+use Rattle.jser_shown.specs.Telling.{tell, begin_telling, teller_after}
+use Rattle.jser_shown.specs.Indexing.{indexed, begin_index, nodes_in}
+use Rattle.jser_shown.specs.Collecting.{collection, collected, begin_collection}
+
+-- It says the list's text of show.
+abbrev pub Told : Type 0
+Told = (list : ContentTrees) → WellFormed list → tell (begin_telling (owners_of list)) (fields_of list) ≡ shown list
+
+-- It is at the top, in the last epoch, knows what the list leaves, and has used exactly the owners that it was given.
+abbrev pub EndsThere : Type 0
+EndsThere = (list : ContentTrees) → WellFormed list →
+    teller_after (begin_telling (owners_of list)) (fields_of list)
+    ≡ teller (last_epoch 0 list) (last_known [] list) [] (top_cue ∷ [])
+
+-- The index that is kept along the fields has the nodes of the list. (Nothing is known beforehand: the teller is given
+-- no owners.)
+abbrev pub Indexed : Type 0
+Indexed = (list : ContentTrees) → WellFormed list →
+    nodes_in (indexed (begin_telling []) begin_index (fields_of list)) ≡ nodes_of list
+
+-- The owners that are collected along the fields are those of the list, which a second teller is given.
+abbrev pub Collected : Type 0
+Collected = (list : ContentTrees) → WellFormed list →
+    collected (begin_telling []) begin_collection (fields_of list) ≡ collection [] (owners_of list)
+
+-- A place is a number of bytes.
+abbrev pub PlacesAreCounted : Type 0
+PlacesAreCounted = (p : ℕ) (bytes : List ℕ) → place_after p bytes ≡ p + length bytes
+
+-- The text of list is that of the tallies of its checked names, one name counted after another.
+abbrev pub Counted : Type 0
+Counted = (verdict : List ℕ → List ℕ) (list : ContentTrees) →
+    listed verdict list ≡ tally_lines verdict (tally_all [] (checked_names list))

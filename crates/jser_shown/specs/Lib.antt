@@ -1,0 +1,14 @@
+pub mod Known
+pub mod Words
+pub mod Shown
+pub mod Listed
+pub mod Counting
+pub mod Nodes
+pub mod Owners
+pub mod Cues
+pub mod Telling
+pub mod Indexing
+pub mod Collecting
+pub mod Fronts
+pub mod Laws
+pub mod FrontLaws

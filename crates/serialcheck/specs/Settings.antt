@@ -1,0 +1,57 @@
+-- What the filter's text and the file of modules of a command line say, and what is told where one is at fault.
+-- `failed` is whether the writer of faults has failed; `old` and `new` are what it had written before and after.
+use Rattle.std.specs.Prelude.{◌≡◌, ◌≢◌, ◌≤◌, ◌^◌, ◌⊎◌, ℕ, Bool, true, List, ◌++◌, length, codes, Option}
+use Rattle.std.specs.Str.{IsUtf8}
+use Rattle.std.specs.Io.KnownBytes.{Appends}
+use Rattle.jser_prim.specs.ModifiedUtf8.{utf16_units}
+use Rattle.jser_filter.specs.declared.FilterCause.TheVariants as cause
+use Rattle.jser_filter.specs.declared.FilterFault.{FilterFault}
+use Rattle.jser_filter.specs.declared.ModulesCause.TheVariants as line
+use Rattle.jser_filter.specs.declared.ModulesFault.{ModulesFault}
+use Rattle.jser_filter.specs.Faults.{fault_text, modules_fault_text}
+use Rattle.jser_filter.specs.Filters.{IsFirstFault}
+use Rattle.jser_filter.specs.Pieces.{Piece}
+use Rattle.jser_filter.specs.Tables.{Line, ModuleTable, lines_of, table_of, AreSoundLines, IsFirstLineFault}
+
+-- the most bytes of a file of modules
+abbrev pub most_modules_bytes : ℕ
+most_modules_bytes = 2 ^ 24
+
+-- the line went out, or the writer has failed
+abbrev pub Tells : (failed : Bool) → (old new : Option (List ℕ)) → (text : List ℕ) → Type 0
+Tells failed old new text = (failed ≡ true) ⊎ Appends old new text
+
+-- a fault that is told by its line, and not that memory ran out
+pub record TellsFilterFault (failed : Bool) (old new : Option (List ℕ)) (fault : FilterFault) : Type 0 where
+  pub decided : fault.cause ≢ cause.OutOfMemory
+  pub told : Tells failed old new (fault_text fault ++ codes "\n")
+
+pub record TellsModulesFault (failed : Bool) (old new : Option (List ℕ)) (fault : ModulesFault) : Type 0 where
+  pub decided : fault.cause ≢ line.OutOfMemory
+  pub told : Tells failed old new (modules_fault_text fault ++ codes "\n")
+
+-- the first fault of a filter's text is told
+pub record FilterIsFaulty (pieces : List Piece) (failed : Bool) (old new : Option (List ℕ)) : Type 0 where
+  pub fault : FilterFault
+  pub first : IsFirstFault pieces fault
+  pub tells : TellsFilterFault failed old new fault
+
+-- a file of modules with these bytes has this table
+pub record IsTable (bytes : List ℕ) (table : ModuleTable) : Type 0 where
+  pub size : length bytes ≤ most_modules_bytes
+  pub text : IsUtf8 bytes
+  pub sound : AreSoundLines (lines_of (utf16_units bytes))
+  pub lines : table ≡ table_of (lines_of (utf16_units bytes))
+
+-- it is no text, or has a faulty line
+pub record IsNoText (bytes : List ℕ) (failed : Bool) (old new : Option (List ℕ)) : Type 0 where
+  pub none : IsUtf8 bytes → ⊥
+  pub told : Tells failed old new (codes "modules file is not text\n")
+
+pub record LineIsFaulty (bytes : List ℕ) (failed : Bool) (old new : Option (List ℕ)) : Type 0 where
+  pub fault : ModulesFault
+  pub first : IsFirstLineFault (lines_of (utf16_units bytes)) fault
+  pub tells : TellsModulesFault failed old new fault
+
+abbrev pub ModulesAreFaulty : List ℕ → (failed : Bool) → (old new : Option (List ℕ)) → Type 0
+ModulesAreFaulty bytes failed old new = IsNoText bytes failed old new ⊎ LineIsFaulty bytes failed old new

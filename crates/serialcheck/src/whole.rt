@@ -1,0 +1,83 @@
+//! All the bytes of a source, if they are not too many.
+ghost use Rattle.std.specs.Prelude.{◌≡◌, ◌<◌, ◌≤◌, ◌+◌, IfOk, OnOk, IfSome, length, vec_len, true, false};
+ghost use Rattle.std.specs.Io.KnownBytes.{IsAtEnd};
+ghost use Rattle.serialcheck.specs.Settings.{most_modules_bytes};
+ghost use Rattle.serialcheck.specs.Whole.{ReadsOnto};
+
+use jser_prim::Source;
+use std::alloc::{AllocError, Global};
+
+/// Why there are no bytes.
+#[derive(Clone, Copy, PartialEq, Eq, Debug)]
+pub(crate) enum WholeFault {
+    /// A read failed.
+    Failed,
+    /// There are more bytes than a file of modules may have.
+    TooLong,
+    /// Memory ran out.
+    OutOfMemory,
+}
+
+/// The most bytes of a file of modules, 2^24.
+const MOST: usize = 16_777_216;
+
+/// How many bytes a read asks for at most.
+const BUFFER_LEN: usize = 65_536;
+
+/// All the bytes of a source.
+///
+/// # Errors
+///
+/// `WholeFault`, with the reason.
+#[tactic(auto, using(crate::proofs::WholeLemmas::reads_on, crate::proofs::WholeLemmas::reads_nothing, crate::proofs::WholeLemmas::consumed_all))]
+pub(crate) fn read_whole<R: Source>(alloc: Global, source: &mut R) -> Result<Vec<u8>, WholeFault>
+    ensures bytes { IfOk result (λ whole. IfSome (R.to_come source.old) (λ bytes. bytes ≡ whole.items)) }
+    ensures within { IfOk result (λ whole. vec_len whole ≤ most_modules_bytes) }
+{
+    let Ok(mut buffer) = new_buffer(alloc) else {
+        return Err(WholeFault::OutOfMemory);
+    };
+    let mut all = Vec::new(alloc);
+    'reads: while all.len() <= MOST {
+        let room = (MOST + 1 - all.len()).min(buffer.len());
+        match read_some(source, &mut buffer[..room], &mut all) {
+            Err(fault) => return Err(fault),
+            Ok(false) => return Ok(all),
+            Ok(true) => {}
+        }
+    }
+    Err(WholeFault::TooLong)
+}
+
+/// Room for the bytes of a read.
+fn new_buffer(alloc: Global) -> Result<Vec<u8>, AllocError>
+    ensures { IfOk result (λ buffer. 0 < vec_len buffer) }
+{
+    vec![in alloc; 0u8; BUFFER_LEN]
+}
+
+/// One read: adds the bytes that it gives. `false` is the end.
+#[tactic(auto, using(crate::proofs::WholeLemmas::reads_nothing))]
+fn read_some<R: Source>(
+    source: &mut R,
+    buffer: &mut [u8],
+    all: &mut Vec<u8>,
+) -> Result<bool, WholeFault>
+    requires { 0 < length buffer.old }
+    ensures read { OnOk result (ReadsOnto (R.to_come source.old) (R.to_come source.new) all.old.items all.new.items) }
+    ensures end { result ≡ Ok false → IsAtEnd (R.to_come source.new) × (all.new.items ≡ all.old.items) }
+    ensures grows { result ≡ Ok true → vec_len all.old < vec_len all.new }
+    ensures within { vec_len all.new ≤ vec_len all.old + length buffer.old }
+{
+    let count = match source.take(buffer) {
+        Ok(count) => count,
+        Err(_) => return Err(WholeFault::Failed),
+    };
+    if count == 0 {
+        return Ok(false);
+    }
+    if all.extend_from_slice(&buffer[..count]).is_err() {
+        return Err(WholeFault::OutOfMemory);
+    }
+    Ok(true)
+}

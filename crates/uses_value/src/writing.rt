@@ -1,0 +1,65 @@
+//! A writer, who measures a stream before he writes it, and tells what went out where writing failed.
+ghost use Rattle.std.specs.Prelude.{◌≡◌, List, ℕ, Option, None, false, length, IfOk, OnOk, IfErr};
+ghost use Rattle.std.specs.Io.KnownBytes.{Appends};
+ghost use Rattle.jser_grammar.specs.Spelling.{spelling};
+ghost use Rattle.jser_value.specs.View.{view_contents};
+ghost use Rattle.uses_value.specs.Writing.{WroteSome};
+
+use jser_prim::{Failed, Sink};
+use jser_value::{Content, Contents, EncodeFault, ValueFault, encode};
+use std::alloc::Global;
+
+/// A sink that keeps nothing and never fails.
+#[derive(Drop)]
+struct Nowhere;
+
+impl Sink for Nowhere {
+    ghost has_failed = { λ _. false };
+
+    fn give(&mut self, bytes: &[u8]) -> Result<usize, Failed> {
+        Ok(bytes.len())
+    }
+
+    fn failed(&self) -> bool {
+        false
+    }
+}
+
+/// How many bytes the stream of these contents has.
+pub fn measured(contents: &Contents) -> u64
+    ensures { result ≡ length (spelling (view_contents contents.now)) }
+{
+    match encode(contents, &mut Nowhere) {
+        Ok(count) => count,
+        Err(_) => unreachable!(),
+    }
+}
+
+/// Why a list was not written.
+#[derive(Debug, Drop)]
+pub enum WriteFault {
+    /// It is no stream, or memory ran out. Nothing was written.
+    Refused(ValueFault),
+    /// The sink failed.
+    Sink(EncodeFault),
+}
+
+/// Writes the stream of these contents, and gives its length.
+///
+/// # Errors
+///
+/// `WriteFault::Refused` where they are refused, and `WriteFault::Sink` where the sink failed.
+pub fn write<W: Sink>(alloc: Global, list: Vec<Content>, sink: &mut W) -> Result<u64, WriteFault>
+    ensures length { IfOk result (λ count. count ≡ length (spelling (view_contents list.items))) }
+    ensures out { OnOk result (Appends (W.gone_out sink.old) (W.gone_out sink.new) (spelling (view_contents list.items))) }
+    ensures fault { IfErr result (WroteSome (W.gone_out sink.old) (W.gone_out sink.new) (spelling (view_contents list.items))) }
+{
+    let contents = match Contents::new(alloc, list) {
+        Ok(contents) => contents,
+        Err(fault) => return Err(WriteFault::Refused(fault)),
+    };
+    match encode(&contents, sink) {
+        Ok(count) => Ok(count),
+        Err(fault) => Err(WriteFault::Sink(fault)),
+    }
+}
