@@ -2,6 +2,10 @@
 
 use crate::writer::Writer;
 use anyhow::Result;
+use jser_grammar::wire::{
+    TC_ARRAY, TC_BLOCKDATA, TC_ENDBLOCKDATA, TC_ENUM, TC_NULL, TC_OBJECT, TC_PROXYCLASSDESC,
+    TC_RESET,
+};
 use std::alloc::Global;
 
 /// What a stream is made of.
@@ -85,9 +89,9 @@ fn strings(writer: &mut Writer, size: u32) -> Result<()> {
 
 fn ints(writer: &mut Writer, size: u32) -> Result<()> {
     let count = size / 4;
-    writer.put(&[0x75])?;
+    writer.put(&[TC_ARRAY])?;
     writer.class("[I", 2, &[])?;
-    writer.put(&[0x70])?;
+    writer.put(&[TC_NULL])?;
     writer.number(count)?;
     for number in 0..count {
         writer.number(number.wrapping_mul(0x9E37_79B1))?;
@@ -104,10 +108,10 @@ fn objects(writer: &mut Writer, size: u32) -> Result<()> {
     writer.string("Ljava/lang/String;")?;
     writer.field(b'L', "last")?;
     writer.string("LNode;")?;
-    writer.put(&[0x78, 0x70])?;
+    writer.put(&[TC_ENDBLOCKDATA, TC_NULL])?;
     writer.string("one")?;
     for number in 0..size / 28 {
-        writer.put(&[0x73])?;
+        writer.put(&[TC_OBJECT])?;
         writer.back(0)?;
         writer.number(number)?;
         writer.number(0)?;
@@ -120,7 +124,7 @@ fn objects(writer: &mut Writer, size: u32) -> Result<()> {
 
 fn blocks(writer: &mut Writer, size: u32) -> Result<()> {
     for _ in 0..size / 202 {
-        writer.put(&[0x77, 200])?;
+        writer.put(&[TC_BLOCKDATA, 200])?;
         writer.put(&[9; 200])?;
     }
     Ok(())
@@ -137,17 +141,17 @@ fn references(writer: &mut Writer, size: u32) -> Result<()> {
 /// Each tower has 60,000 arrays of one element, the last of which is NULL.
 fn nests(writer: &mut Writer, size: u32) -> Result<()> {
     writer.class("[LA;", 2, &[])?;
-    writer.put(&[0x70])?;
+    writer.put(&[TC_NULL])?;
     for number in 0..size / 10 {
-        writer.put(&[0x75])?;
+        writer.put(&[TC_ARRAY])?;
         writer.back(0)?;
         writer.number(1)?;
         if number % 60_000 == 59_999 {
-            writer.put(&[0x70])?;
+            writer.put(&[TC_NULL])?;
         }
     }
     if (size / 10) % 60_000 != 0 {
-        writer.put(&[0x70])?;
+        writer.put(&[TC_NULL])?;
     }
     Ok(())
 }
@@ -158,10 +162,10 @@ fn chains(writer: &mut Writer, size: u32, is_full: bool) -> Result<()> {
         let has_byte = is_full || layer == 0 || layer == 999;
         writer.class("C", 2, if has_byte { b"B" } else { b"" })?;
     }
-    writer.put(&[0x70])?;
+    writer.put(&[TC_NULL])?;
     let data = if is_full { 1000 } else { 2 };
     for _ in 0..size / (6 + data) {
-        writer.put(&[0x73])?;
+        writer.put(&[TC_OBJECT])?;
         writer.back(0)?;
         for _ in 0..data {
             writer.put(&[7])?;
@@ -172,12 +176,12 @@ fn chains(writer: &mut Writer, size: u32, is_full: bool) -> Result<()> {
 
 /// The handles: 0 the class, 1 the first constant, 2 its name.
 fn enums(writer: &mut Writer, size: u32) -> Result<()> {
-    writer.put(&[0x7E])?;
+    writer.put(&[TC_ENUM])?;
     writer.class("E", 0x12, &[])?;
-    writer.put(&[0x70])?;
+    writer.put(&[TC_NULL])?;
     writer.string("ONE")?;
     for _ in 0..size / 11 {
-        writer.put(&[0x7E])?;
+        writer.put(&[TC_ENUM])?;
         writer.back(0)?;
         writer.back(2)?;
     }
@@ -194,16 +198,16 @@ fn descriptors(writer: &mut Writer, size: u32) -> Result<()> {
         writer.back(0)?;
         writer.field(b'L', "owner")?;
         writer.back(0)?;
-        writer.put(&[0x78, 0x70])?;
+        writer.put(&[TC_ENDBLOCKDATA, TC_NULL])?;
     }
     Ok(())
 }
 
 fn resets(writer: &mut Writer, size: u32) -> Result<()> {
     for _ in 0..size / 39 {
-        writer.put(&[0x79, 0x73])?;
+        writer.put(&[TC_RESET, TC_OBJECT])?;
         writer.class("A", 2, b"IJ")?;
-        writer.put(&[0x70])?;
+        writer.put(&[TC_NULL])?;
         writer.put(&[0; 12])?;
     }
     Ok(())
@@ -211,19 +215,19 @@ fn resets(writer: &mut Writer, size: u32) -> Result<()> {
 
 fn empty_blocks(writer: &mut Writer, size: u32) -> Result<()> {
     for _ in 0..size / 2 {
-        writer.put(&[0x77, 0])?;
+        writer.put(&[TC_BLOCKDATA, 0])?;
     }
     Ok(())
 }
 
 fn proxies(writer: &mut Writer, size: u32) -> Result<()> {
     for _ in 0..size / 607 {
-        writer.put(&[0x7D])?;
+        writer.put(&[TC_PROXYCLASSDESC])?;
         writer.number(200)?;
         for _ in 0..200u32 {
             writer.text("i")?;
         }
-        writer.put(&[0x78, 0x70])?;
+        writer.put(&[TC_ENDBLOCKDATA, TC_NULL])?;
     }
     Ok(())
 }

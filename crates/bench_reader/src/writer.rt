@@ -1,5 +1,8 @@
 //! A stream in the making.
 
+use jser_grammar::wire::{
+    BASE_WIRE_HANDLE, TC_CLASSDESC, TC_ENDBLOCKDATA, TC_REFERENCE, TC_STRING,
+};
 use std::alloc::{AllocError, Global};
 
 /// The bytes of a stream so far.
@@ -44,19 +47,19 @@ impl Writer {
 
     /// A string.
     pub fn string(&mut self, text: &str) -> Result<(), AllocError> {
-        self.put(&[0x74])?;
+        self.put(&[TC_STRING])?;
         self.text(text)
     }
 
     /// A reference to the handle of this number, counted from 0.
     pub fn back(&mut self, number: u32) -> Result<(), AllocError> {
-        self.put(&[0x71])?;
-        self.number(number.wrapping_add(0x7E_0000))
+        self.put(&[TC_REFERENCE])?;
+        self.number(number.wrapping_add(BASE_WIRE_HANDLE))
     }
 
     /// A plain descriptor as far as its fields.
     pub fn class_front(&mut self, name: &str, flags: u8, fields: u16) -> Result<(), AllocError> {
-        self.put(&[0x72])?;
+        self.put(&[TC_CLASSDESC])?;
         self.text(name)?;
         self.put(&[0x5A; 8])?;
         self.put(&[flags])?;
@@ -75,6 +78,6 @@ impl Writer {
         for code in codes {
             self.field(*code, "f")?;
         }
-        self.put(&[0x78])
+        self.put(&[TC_ENDBLOCKDATA])
     }
 }

@@ -1,6 +1,7 @@
 -- Items are the fields: what a reader's calls say of the fields that it took and the item that it lends.
 use Rattle.std.proofs.Common.{◌≡◌, ◌⊎◌, inl, inr, ℕ, zero, suc, ◌<◌, ◌≤◌, true, List, [], ◌∷◌, ◌++◌, length, take, Ok, Err, refl, sym, ◌∙◌, ap, ap₂, subst, arith, append_assoc, append-nil, length-append, length-take-le}
 use Rattle.jser_grammar.specs.Parts.{IsBytes}
+use Rattle.jser_reading.specs.FieldsFromBytes.{number_of}
 use Rattle.jser_reading.specs.Labels.{Label, Piece, piece}
 use Rattle.jser_reading.specs.FieldBytes.{joined}
 use Rattle.jser_reading.specs.Goals.{settled}
@@ -37,7 +38,7 @@ use Rattle.jser_reader.proofs.ReaderLemmas.{take_whole, front_of_front, bytes_fr
 use Rattle.jser_reader.proofs.NextLemmas.{CountsField, limits_are}
 use Rattle.jser_reader.proofs.StreamWalks.{new_stands, ends_at_top}
 use Rattle.jser_reader.proofs.TotalLemmas.{finish_totals}
-use Rattle.jser_reader.proofs.ItemStands.{stands_items, first_size_is, whole_size, part_size, is_lent, goes_on}
+use Rattle.jser_reader.proofs.ItemStands.{stands_items, first_size_is, text_goes, whole_size, part_size, is_lent, goes_on}
 
 -- ---- the fields that were taken
 
@@ -202,6 +203,7 @@ tells_part (step.Item lent count) p kept used took given front gate old new tall
     let s = left begin_state fields in
     let so = machine_stands gate fields cut old tally st in
     let mi = made p kept old given front used count lent ep ek et m in
+    let sn = field_open gate given front used old new tally fields cut st w t.1 hb t.2 in
     subst (λ j. Lends gate fields cut given lent j new tally) (sym i) (record {
       label = label_of (settled s);
       comes = comes_next gate fields cut old tally st;
@@ -215,8 +217,16 @@ tells_part (step.Item lent count) p kept used took given front gate old new tall
           ))
           mi;
       after = inr (record {
-        stands = field_open gate given front used old new tally fields cut st w t.1 hb t.2;
-        full = goes_on (open_phase old) (cut_of old) front used lent _ t.3 (λ all. is_full gate given front used old tally fields cut st w all)
+        stands = sn;
+        full = goes_on (open_phase old) _ cut (cut_of old) front used lent _ (stands_items old.phase old s cut so.stands) t.3
+            (λ some long text size.
+            let o = is_open (open_phase old) old (settled s) cut so.stands refl some in
+            let now = ap (λ c. c ++ take used front) o.cut_is in
+            let here = ap (λ xs. cut ++ xs) et in
+            subst (λ c. 0 < number_of c) (sym here ∙ now)
+                (text_goes new.phase new s (cut ++ take used given) long (machine_stands gate fields (cut ++ take used given) new tally sn).stands text
+                (ap length (sym here ∙ now) ∙ size)))
+            (λ all. is_full gate given front used old tally fields cut st w all)
             (subst (λ xs. MakesItem (open_phase old) (cut_of old) xs lent) (sym et) mi);
       });
     })

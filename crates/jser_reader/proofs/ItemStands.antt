@@ -1,11 +1,12 @@
 -- Items are the fields: from the machine before and after some bytes of a field to the item that is lent of them.
-use Rattle.std.proofs.Common.{◌≡◌, ℕ, ◌<◌, ◌≤◌, Bool, true, false, List, ◌++◌, length, take, refl, sym, ◌∙◌, ap, subst, arith, length-append}
+use Rattle.std.proofs.Common.{◌≡◌, ℕ, ◌<◌, ◌≤◌, Bool, true, false, List, [], ◌∷◌, ◌++◌, length, take, refl, sym, ◌∙◌, ap, subst, arith, length-append, append-nil}
 use Rattle.jser_prim.specs.Bytes.{big_bytes}
 use Rattle.jser_reading.specs.Labels.{Position, string_at, class_name_at, field_name_at, interface_name_at}
 use Rattle.jser_reading.specs.FieldsFromBytes.{number_of, head_size, size_in}
 use Rattle.jser_reading.specs.Goals.{State, settled}
 use Rattle.jser_reading.specs.Accepts.{label_of}
-use Rattle.jser_reading.proofs.Decoding.{length-big_bytes}
+use Rattle.jser_grammar.specs.Parts.{text_bound}
+use Rattle.jser_reading.proofs.Decoding.{length-big_bytes, number_2, number_8}
 use Rattle.jser_reader.specs.declared.item.Item.{Item}
 use Rattle.jser_reader.specs.declared.item.Item.TheVariants as item
 use Rattle.jser_reader.specs.declared.phase.Phase.{Phase}
@@ -84,6 +85,57 @@ first_size_is phase.Cut cut i o some = absurd o
 first_size_is phase.Stopped cut i o some = absurd o
 first_size_is _ cut i o some = ap first_size o
 
+-- ---- a text that is open after its length has bytes to come
+
+abbrev IsTexts : Items → Type 0
+IsTexts (text_items long) = Unit {0}
+IsTexts _ = ⊥
+
+abbrev long_of : Items → Bool
+long_of (text_items long) = long
+long_of _ = false
+
+-- a number or a length that is cut is shorter than the length of a text
+cut_short : (p : Phase) (cut : List ℕ) (i : Items) (long : Bool) → OpenItems p cut i → i ≡ text_items long → length cut < size_of_phase p
+    → length cut ≡ head_size long → ⊥
+cut_short phase.Header cut i long o e short n = subst IsTexts (sym e ∙ o) tt
+cut_short phase.Length2 cut i long o e short n =
+    let m = ap (λ l. head_size l) (ap long_of (sym e ∙ o)) in omega arith
+cut_short phase.Length8 cut i long o e short n =
+    let m = ap (λ l. head_size l) (ap long_of (sym e ∙ o)) in omega arith
+cut_short phase.Text cut i long o e short n = omega arith
+cut_short phase.Prims cut i long o e short n = omega arith
+cut_short phase.Bytes cut i long o e short n = omega arith
+cut_short phase.Cut cut i long o e short n = o
+cut_short phase.Stopped cut i long o e short n = o
+cut_short _ cut i long o e short n = subst IsTexts (sym e ∙ o) tt
+
+-- nothing was taken yet
+none_taken : (cut : List ℕ) (long : Bool) → cut ≡ [] → length cut ≡ head_size long → ⊥
+none_taken cut false e n = let m = ap length e in omega arith
+none_taken cut true e n = let m = ap length e in omega arith
+
+number_alone : (long : Bool) (len : ℕ) (before : List ℕ) → len < text_bound long → length before < len
+    → length (big_bytes (head_size long) len ++ before) ≡ head_size long → 0 < number_of (big_bytes (head_size long) len ++ before)
+number_alone false len [] bound more n = subst (λ m. 0 < m) (sym (ap number_of (append-nil (big_bytes 2 len)) ∙ number_2 len (omega arith))) more
+number_alone true len [] bound more n = subst (λ m. 0 < m) (sym (ap number_of (append-nil (big_bytes 8 len)) ∙ number_8 len (omega arith))) more
+number_alone long len (b ∷ before) bound more n =
+    let a = length-append (big_bytes (head_size long) len) (b ∷ before) in
+    let c = length-big_bytes (head_size long) len in
+    absurd (omega arith)
+
+pub text_goes : (p : Phase) (r : Seen) (s : State) (cut : List ℕ) (long : Bool) → StandsAt p r (settled s) cut
+    → items_at (label_of (settled s)).position ≡ text_items long → length cut ≡ head_size long → 0 < number_of cut
+text_goes phase.Text r s cut long h e n =
+    let same : h.long ≡ long = ap long_of (sym (text_items_at h.long _ (text_is r h.long s h.form h.is).is_text) ∙ e) in
+    subst (λ c. 0 < number_of c) (sym h.cut_is)
+    (number_alone h.long h.len h.before h.bound h.goes_on (sym (ap length h.cut_is) ∙ n ∙ sym (ap head_size same)))
+text_goes phase.Prims r s cut long h e n = absurd (subst IsTexts (sym e ∙ ap (λ t. items_at (label_of t).position) h.is) tt)
+text_goes phase.Bytes r s cut long h e n = absurd (subst IsTexts (sym e ∙ ap (λ t. items_at (label_of t).position) h.is) tt)
+text_goes phase.Cut r s cut long h e n = absurd (cut_short r.meter.cut_phase cut _ long (ready_items r.meter.cut_phase r s cut h.ready) e h.short n)
+text_goes phase.Stopped r s cut long h e n = absurd h
+text_goes p r s cut long h e n = absurd (none_taken cut long h.1 n)
+
 -- ---- how many bytes there are of it
 
 -- all, at its end
@@ -150,12 +202,16 @@ raw_goes_on : (taken : List ℕ) (lent : Item) (full : Type 0) → IsRawPart tak
 raw_goes_on taken (item.RawPart part) full h f = f
 raw_goes_on taken _ full h f = absurd h
 
-pub goes_on : (p : Phase) (kept given : List ℕ) (count : ℕ) (lent : Item) (full : Type 0) → IsPart p kept given count
+pub goes_on : (p : Phase) (i : Items) (cut kept given : List ℕ) (count : ℕ) (lent : Item) (full : Type 0) → OpenItems p cut i → IsPart p kept given count
+    → (0 < size_of_phase p → (long : Bool) → i ≡ text_items long → length (kept ++ take count given) ≡ head_size long
+    → 0 < number_of (kept ++ take count given))
     → (count ≡ length given → full) → MakesItem p kept (take count given) lent → MayGoOn lent full
 unfolding MakesItem
-goes_on phase.Length2 kept given count lent full i f h = subst (λ a. MayGoOn a full) (sym (h i)) tt
-goes_on phase.Length8 kept given count lent full i f h = subst (λ a. MayGoOn a full) (sym (h i)) tt
-goes_on phase.Text kept given count lent full i f h = text_goes_on (take count given) lent full h (f i)
-goes_on phase.Prims kept given count lent full i f h = raw_goes_on (take count given) lent full h (f i)
-goes_on phase.Bytes kept given count lent full i f h = raw_goes_on (take count given) lent full h (f i)
-goes_on _ kept given count lent full i f h = absurd i
+goes_on phase.Length2 i cut kept given count lent full o part more f h =
+    subst (λ a. MayGoOn a full) (sym (h part)) (more (omega arith) false o part)
+goes_on phase.Length8 i cut kept given count lent full o part more f h =
+    subst (λ a. MayGoOn a full) (sym (h part)) (more (omega arith) true o part)
+goes_on phase.Text i cut kept given count lent full o part more f h = text_goes_on (take count given) lent full h (f part)
+goes_on phase.Prims i cut kept given count lent full o part more f h = raw_goes_on (take count given) lent full h (f part)
+goes_on phase.Bytes i cut kept given count lent full o part more f h = raw_goes_on (take count given) lent full h (f part)
+goes_on _ i cut kept given count lent full o part more f h = absurd part

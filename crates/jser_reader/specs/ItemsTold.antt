@@ -37,9 +37,9 @@ pub record FieldEnds (gate : Gate) (front : List Piece) (label : Label) (bytes :
 abbrev pub IsFull : Gate → (front : List Piece) (bytes given : List ℕ) (used : ℕ) → Type 0
 IsFull gate front bytes given used = (used ≡ length given) ⊎ (length (joined front ++ bytes) ≡ gate.bytes)
 
--- a field goes on after the length of a text, and after a full part
+-- a field goes on after the length of a text that is not empty, and after a full part
 abbrev pub MayGoOn : Item → (is_full : Type 0) → Type 0
-MayGoOn (item.TextLength n) is_full = Unit {0}
+MayGoOn (item.TextLength n) is_full = 0 < n
 MayGoOn (item.TextPart part) is_full = is_full
 MayGoOn (item.RawPart part) is_full = is_full
 MayGoOn _ is_full = ⊥

@@ -5,8 +5,9 @@ use Rattle.jser_shown.specs.Cues.{Teller}
 use Rattle.jser_shown.specs.Telling.{settled, settle_says, says, goes}
 use Rattle.jser_shown.specs.Indexing.{Index, settle_index, index_in}
 use Rattle.jser_shown.specs.Collecting.{Collection, settle_collection, collect}
-use Rattle.jser_shown.specs.Fronts.{teller_at, said, index_after, collection_after}
-use Rattle.jser_shown.specs.FrontLaws.{TellsFronts, IndexesFronts, CollectsFronts, OneMore}
+use Rattle.jser_shown.specs.Naming.{name_in}
+use Rattle.jser_shown.specs.Fronts.{teller_at, said, index_after, collection_after, names_after}
+use Rattle.jser_shown.specs.FrontLaws.{TellsFronts, IndexesFronts, CollectsFronts, NamesFronts, OneMore}
 
 pub tells_fronts_law : TellsFronts
 tells_fronts_law s [] rest = refl
@@ -22,6 +23,11 @@ pub collects_fronts_law : CollectsFronts
 collects_fronts_law s x [] rest = refl
 collects_fronts_law s x (piece label field ∷ front) rest =
     collects_fronts_law (goes (settled s) field) (collect (settled s).known field (settle_collection s.known s.cues x)) front rest
+
+pub names_fronts_law : NamesFronts
+names_fronts_law s names [] rest = refl
+names_fronts_law s names (piece label field ∷ front) rest =
+    names_fronts_law (goes (settled s) field) (name_in (settled s).cues field names) front rest
 
 teller_step : (s : Teller) (front : List Piece) (label : Label) (field : StreamField)
     → teller_at s (front ++ (piece label field ∷ [])) ≡ goes (settled (teller_at s front)) field
@@ -49,10 +55,18 @@ collection_step s [] label field x = refl
 collection_step s (piece l f ∷ front) label field x =
     collection_step (goes (settled s) f) front label field (collect (settled s).known f (settle_collection s.known s.cues x))
 
+names_step : (s : Teller) (front : List Piece) (label : Label) (field : StreamField) (names : List (List ℕ))
+    → names_after s names (front ++ (piece label field ∷ []))
+    ≡ name_in (settled (teller_at s front)).cues field (names_after s names front)
+names_step s [] label field names = refl
+names_step s (piece l f ∷ front) label field names =
+    names_step (goes (settled s) f) front label field (name_in (settled s).cues f names)
+
 pub one_more_law : OneMore
 one_more_law s front label field = (
   teller_step s front label field,
   λ k. said_step s front label field k,
   λ x. index_step s front label field x,
   λ x. collection_step s front label field x,
+  λ names. names_step s front label field names,
 )

@@ -1,9 +1,11 @@
 pub mod Rows
 pub mod KnownLemmas
 pub mod CueLemmas
+pub mod RawLemmas
 pub mod TreeToText
 pub mod TreeToEnd
 pub mod TreeToIndex
 pub mod TreeToOwners
+pub mod TreeToNames
 pub mod Fronts
 pub mod CountLemmas

@@ -8,14 +8,15 @@ use Rattle.jser_grammar.specs.Counts.{array_length}
 use Rattle.jser_grammar.proofs.Bools.{both_ways, untrue}
 use Rattle.jser_reading.proofs.TreeToMachine.{not_object}
 use Rattle.jser_reading.proofs.Vocabulary.{TextPlaceTree, new_text, back_text, FieldTree, PrimTree, ValueTree, null, back, string, descriptor, class_object, array, enum_constant, object, DescTree, plain, proxy, ClassPlaceTree, no_class, back_class, new_class, BodyTree, raw_body, value_body, ValueTrees, no_values, value_and, section, SectionTrees, no_sections, section_and, NotesTree, no_notes, annotation, block, reset, content, ContentTrees, no_contents, content_and, value_count}
-use Rattle.jser_reading.proofs.Vocabulary.{has_write_method, text_entry, other_entry, pending_entry, PrimCode, prim_code_of, is_object_code, with_code, primitive_codes, chain_of_class, WellFormedType, WellFormedFields, ArePrims, elements_of, is_external, WellFormedValue, WellFormedDesc, WellFormedClass, WellFormedSuperclass, WellFormedBody, WellFormedValues, WellFormedExternal, WellFormedSections, WellFormedNotesIf, WellFormedNotes, WellFormedContents, Owner, object_owner, array_owner, enum_owner, class_owner, ChainOwner, Role, own_class, superclass, owner_of, is_strict_above, Moment, beginning, tick, assign, emptied, past_type, past_fields, past_value, past_class, past_values, past_notes, past_contents, tag_field, text_field, array_length_field, block_length_field, class_place_at, superclass_place_at, text_place_at, string_at, array_length_at, block_length_at, Piece, piece, at, tag_of_string, tag_of_desc, tag_of, cut_text_place, cut_type, cut_fields, cut_interfaces, cut_bytes, cut_raw, cut_prims, cut_value, cut_desc, cut_class, cut_superclass, cut_body, cut_values, cut_external, cut_sections, cut_notes, cut_annotation, cut_top}
+use Rattle.jser_reading.proofs.Vocabulary.{has_write_method, text_entry, other_entry, pending_entry, PrimCode, prim_code_of, is_object_code, with_code, primitive_codes, chain_of_class, WellFormedType, WellFormedFields, ArePrims, ArePrimsOf, elements_of, is_external, WellFormedValue, WellFormedDesc, WellFormedClass, WellFormedSuperclass, WellFormedBody, WellFormedValues, WellFormedExternal, WellFormedSections, WellFormedNotesIf, WellFormedNotes, WellFormedContents, Owner, object_owner, array_owner, enum_owner, class_owner, ChainOwner, Role, own_class, superclass, owner_of, is_strict_above, Moment, beginning, tick, assign, emptied, past_type, past_fields, past_value, past_class, past_values, past_notes, past_contents, tag_field, text_field, array_length_field, block_length_field, class_place_at, superclass_place_at, text_place_at, string_at, array_length_at, block_length_at, Piece, piece, at, tag_of_string, tag_of_desc, tag_of, cut_text_place, cut_type, cut_fields, cut_interfaces, cut_bytes, cut_raw, cut_prims, cut_value, cut_desc, cut_class, cut_superclass, cut_body, cut_values, cut_external, cut_sections, cut_notes, cut_annotation, cut_top}
 use Rattle.jser_shown.specs.Known.{NamedField, NamedLayer, class_layer, proxy_layer, known_text, known_other, known_pending, known_class, Known, classes_at, with_entry, named_fields, known_text_place, known_type, known_fields, known_value, known_desc, known_class_place, known_body, known_values, known_sections, known_notes, known_contents, classes_of, prim_names, object_names, own_class_of, is_external_chain}
 use Rattle.jser_shown.specs.Words.{end_line, begin_line, mark, quoted, block_bytes, block_word}
 use Rattle.jser_shown.specs.Shown.{reference_text, string_text, text_place_text, type_text, fields_text, interfaces_text, field_named, element_at, name_text, raw_text, prims_text, raw_elements_text, data_text, external_text, value_text, desc_text, class_text, super_text, body_text, elements_text, values_text, external_notes_text, sections_text, notes_text, annotation_text, top_text}
 use Rattle.jser_shown.specs.Owners.{OwnerNode, owners_in_value, owners_in_desc, owners_in_class, owners_in_body, owners_in_values, owners_in_sections, owners_in_notes, owners_in_annotation, owners_at_top}
 use Rattle.jser_shown.specs.Cues.{SectionPart, data_part, external_part, note_part, Cue, top_cue, text_place_cue, block_length_cue, note_cue, name_cue, length_cue, elements_cue, parts_cue, class_cue, made_cue, super_cue, close_cue, fields_cue, type_cue, interfaces_cue, teller, raw_parts, value_parts, note_if, section_parts, object_parts, fields_done, rest_of_desc}
-use Rattle.jser_shown.specs.Telling.{tag_says, begin, tell}
+use Rattle.jser_shown.specs.Telling.{first_owner, tag_says, begin, tell}
 use Rattle.jser_shown.specs.Laws.{Told}
+use Rattle.jser_shown.proofs.RawLemmas.{line_of_one, lines_of_elements}
 use Rattle.jser_shown.proofs.CueLemmas.{owner_cues, desc_begin, object_names_count}
 use Rattle.jser_shown.proofs.KnownLemmas.{codes_in, layers_of, entries, classes_at-known_desc, external-known, then_entry, then_fields, then_value, then_class, then_values, then_notes, then_contents, then_chain}
 
@@ -147,9 +148,10 @@ tells_block [] long d m e T os gs rest = refl
 tells_block (b ∷ bytes) long d m e T os gs rest = refl
 
 tells_raw : (ps : List PrimTree) (c : PrimCode) (d : ℕ) (m : Moment) (e L : ℕ) (T : Known) (os : List OwnerNode) (gs : List Cue) (rest : List Piece)
+    → ArePrimsOf c ps
     → tell (teller e T os (elements_cue L 0 (length ps) ∷ gs)) (cut_raw d m (Some c) ps rest) ≡ raw_elements_text L 0 ps (tell (teller e T os gs) rest)
-tells_raw [] c d m e L T os gs rest = elements_done rest e L 0 T os gs
-tells_raw (p ∷ ps) c d m e L T os gs rest = refl
+tells_raw [] c d m e L T os gs rest h = elements_done rest e L 0 T os gs
+tells_raw (p ∷ ps) c d m e L T os gs rest h = lines_of_elements c p ps L 0 (tell (teller e T os gs) rest) h
 
 -- one field more: a raw value where it is primitive
 tells_prim : (o : Option PrimCode) (name : List ℕ) (fs : List NamedField) (parts : List SectionPart) (d : ℕ) (m : Moment) (e L : ℕ) (T : Known) (os : List OwnerNode)
@@ -162,7 +164,10 @@ tells_prim : (o : Option PrimCode) (name : List ℕ) (fs : List NamedField) (par
     ≡ prims_text (suc L) (if is_some o then name ∷ prim_names fs else prim_names fs) ps (tell (teller e T os (parts_cue L parts ∷ gs)) rest)
 tells_prim None name fs parts d m e L T os gs rest others ps h = others ps h
 tells_prim (Some c) name fs parts d m e L T os gs rest others [] h = absurd h
-tells_prim (Some c) name fs parts d m e L T os gs rest others (p ∷ ps) h = ap (λ x. raw_text (suc L) (field_named name) p x) (others ps h.1)
+tells_prim (Some c) name fs parts d m e L T os gs rest others (p ∷ ps) h =
+    let pieces = cut_prims d m (primitive_codes (codes_in fs)) ps rest in
+    line_of_one (suc L) (field_named name) p (tell (teller e T os (parts_cue L (raw_parts (prim_names fs) parts) ∷ gs)) pieces)
+    ∙ ap (λ x. raw_text (suc L) (field_named name) p x) (others ps h.1)
 
 tells_prims : (fs : List NamedField) (ps : List PrimTree) (parts : List SectionPart) (d : ℕ) (m : Moment) (e L : ℕ) (T : Known) (os : List OwnerNode)
     (gs : List Cue) (rest : List Piece) → ArePrims (primitive_codes (codes_in fs)) ps
@@ -180,7 +185,7 @@ desc_says e T (plain name suid flags fields notes parent) k = codes "desc " ++ m
 desc_says e T (proxy interfaces notes parent) k = codes "proxy " ++ mark e (length T) (end_line k)
 
 enter_value : (x : DescTree) (e L : ℕ) (T : Known) (os : List OwnerNode) (gs : List Cue) (pieces : List Piece)
-    → tag_says e T os (tag_of_desc x) (tell (begin e L T os (tag_of_desc x) gs) pieces) ≡ desc_says e T x (tell (desc_begin e L T os x gs) pieces)
+    → tag_says e (length T) (first_owner os) (tag_of_desc x) (tell (begin e L T os (tag_of_desc x) gs) pieces) ≡ desc_says e T x (tell (desc_begin e L T os x gs) pieces)
 enter_value (plain name suid flags fields notes parent) e L T os gs pieces = refl
 enter_value (proxy interfaces notes parent) e L T os gs pieces = refl
 
@@ -210,14 +215,14 @@ by_class false true E S chain e L T os gs a b A B q h f g = absurd (true≢false
 mutual
   pub tells_value : (v : ValueTree) (d : ℕ) (m : Moment) (e L : ℕ) (T : Known) (os : List OwnerNode) (gs : List Cue) (rest : List Piece)
       → m.table ≡ entries T → WellFormedValue m.table v
-      → tag_says e T (owners_in_value T v os) (tag_of v) (tell (begin e L T (owners_in_value T v os) (tag_of v) gs) (cut_value d m v rest))
+      → tag_says e (length T) (first_owner (owners_in_value T v os)) (tag_of v) (tell (begin e L T (owners_in_value T v os) (tag_of v) gs) (cut_value d m v rest))
       ≡ value_text e L T v (tell (teller e (known_value T v) os gs) rest)
   tells_value null d m e L T os gs rest q h = refl
   tells_value (back n) d m e L T os gs rest q h = refl
   tells_value (string t) d m e L T os gs rest q h = go t.long t.units
     where
       go : (long : Bool) (units : List ℕ)
-          → tag_says e T os (tag_of_string long) (tell (begin e L T os (tag_of_string long) gs) (at (string_at long) d (assign (tick m) text_entry) (text_field long units) ∷ rest))
+          → tag_says e (length T) (first_owner os) (tag_of_string long) (tell (begin e L T os (tag_of_string long) gs) (at (string_at long) d (assign (tick m) text_entry) (text_field long units) ∷ rest))
           ≡ string_text e (length T) (record { long = long; units = units }) (tell (teller e (with_entry T known_text) os gs) rest)
       go true units = refl
       go false units = refl
@@ -332,7 +337,7 @@ mutual
       → tell (teller e T (owners_in_body T b os) (length_cue L ∷ gs)) (at array_length_at d m (array_length_field (array_length b)) ∷ cut_body d m elements b rest)
       ≡ body_text e L T b (tell (teller e (known_body T b) os gs) rest)
   tells_body (raw_body ps) None d m e L T os gs rest q h = absurd h
-  tells_body (raw_body ps) (Some c) d m e L T os gs rest q h = tells_raw ps c d m e L T os gs rest
+  tells_body (raw_body ps) (Some c) d m e L T os gs rest q h = tells_raw ps c d m e L T os gs rest h.1
   tells_body (value_body vs) None d m e L T os gs rest q h = tells_elements vs 0 d m e L T os gs rest q h.1
   tells_body (value_body vs) (Some c) d m e L T os gs rest q h = absurd h
 

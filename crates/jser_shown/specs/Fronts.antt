@@ -6,6 +6,7 @@ use Rattle.jser_shown.specs.Cues.{Teller}
 use Rattle.jser_shown.specs.Telling.{settled, settle_says, says, goes}
 use Rattle.jser_shown.specs.Indexing.{Index, settle_index, index_in}
 use Rattle.jser_shown.specs.Collecting.{Collection, settle_collection, collect}
+use Rattle.jser_shown.specs.Naming.{name_in}
 
 abbrev pub teller_at : Teller → List Piece → Teller
 teller_at s [] = s
@@ -26,3 +27,8 @@ abbrev pub collection_after : Teller → Collection → List Piece → Collectio
 collection_after s x [] = x
 collection_after s x (piece label field ∷ front) =
     collection_after (goes (settled s) field) (collect (settled s).known field (settle_collection s.known s.cues x)) front
+
+abbrev pub names_after : Teller → List (List ℕ) → List Piece → List (List ℕ)
+names_after s names [] = names
+names_after s names (piece label field ∷ front) =
+    names_after (goes (settled s) field) (name_in (settled s).cues field names) front

@@ -1,13 +1,13 @@
 -- The index: the nodes of a stream, kept along its fields. A teller goes along with it, and says by its cues which
 -- field is read and when the class place of an object, array, enum constant or class object has ended: there the
 -- node of that one is made, since its handle is assigned there. The other nodes are made at their own fields.
-use Rattle.std.specs.Prelude.{ℕ, zero, suc, true, false, List, [], ◌∷◌, ◌++◌, slice_set}
+use Rattle.std.specs.Prelude.{ℕ, zero, suc, Bool, true, false, List, [], ◌∷◌, ◌++◌, slice_set}
 use Rattle.jser_reading.specs.Roles.{Owner, object_owner, array_owner, enum_owner, class_owner}
 use Rattle.jser_reading.specs.Labels.{Tag, null_tag, reference_tag, class_desc_tag, object_tag, string_tag, array_tag, class_tag, long_string_tag, proxy_desc_tag, enum_tag, StreamField, tag_field, reset_tag_field, suid_field, text_field, Piece, piece}
 use Rattle.jser_reading.specs.FieldBytes.{bytes_of}
 use Rattle.jser_shown.specs.Known.{known_other, known_class, Known, classes_at, with_entry, is_external_chain}
 use Rattle.jser_shown.specs.Nodes.{NodeKind, plain_desc_node, proxy_desc_node, class_object_node, array_node, enum_const_node, object_node, Nodes, with_node, with_text, place_after}
-use Rattle.jser_shown.specs.Cues.{SectionPart, data_part, external_part, raw_part, value_part, note_part, Cue, string_cue, elements_cue, parts_cue, made_cue, close_cue, type_cue, Teller, object_parts}
+use Rattle.jser_shown.specs.Cues.{SectionPart, data_part, external_part, raw_part, value_part, note_part, Cue, top_cue, string_cue, elements_cue, parts_cue, made_cue, close_cue, type_cue, Teller, object_parts}
 use Rattle.jser_shown.specs.Telling.{settled, goes}
 
 -- The place of the next field; the places of the tags whose nodes are not made yet, the last one first; the nodes of
@@ -89,17 +89,28 @@ begin_node class_tag p B N D = index (suc p) (p ∷ B) N D
 begin_node long_string_tag p B N D = index (suc p) (p ∷ B) N D
 begin_node enum_tag p B N D = index (suc p) (p ∷ B) N D
 
--- one field, at this cue
+-- the text of a string is that of the last node begun
+abbrev pub is_string_cue : Cue → Bool
+is_string_cue string_cue = true
+is_string_cue cue = false
+
+abbrev pub index_text : (string : Bool) → StreamField → List ℕ → Index → Index
+index_text true field units x = moved (bytes_of field) (make_text units x.place x.begun x.nodes x.ended)
+index_text false field units x = moved (bytes_of field) x
+
+-- one field; `string` tells that a text is that of a string
+abbrev pub index_field : (string : Bool) → StreamField → Index → Index
+index_field string (tag_field tag) x = begin_node tag x.place x.begun x.nodes x.ended
+index_field string reset_tag_field x = index (suc x.place) x.begun [] (x.ended ++ (x.nodes ∷ []))
+index_field string (suid_field n) x = moved (bytes_of (suid_field n)) (made plain_desc_node x)
+index_field string (text_field long units) x = index_text string (text_field long units) units x
+index_field string field x = moved (bytes_of field) x
+
 abbrev pub index_at : Cue → StreamField → Index → Index
-index_at cue (tag_field tag) x = begin_node tag x.place x.begun x.nodes x.ended
-index_at cue reset_tag_field x = index (suc x.place) x.begun [] (x.ended ++ (x.nodes ∷ []))
-index_at cue (suid_field n) x = moved (bytes_of (suid_field n)) (made plain_desc_node x)
-index_at string_cue (text_field long units) x =
-    moved (bytes_of (text_field long units)) (make_text units x.place x.begun x.nodes x.ended)
-index_at cue field x = moved (bytes_of field) x
+index_at cue field x = index_field (is_string_cue cue) field x
 
 abbrev pub index_in : List Cue → StreamField → Index → Index
-index_in [] field x = x
+index_in [] field x = index_at top_cue field x
 index_in (cue ∷ cues) field x = index_at cue field x
 
 -- the index after these fields

@@ -14,6 +14,7 @@ use Rattle.jser_shown.specs.Owners.{owners_of}
 use Rattle.jser_shown.specs.Cues.{top_cue, teller}
 use Rattle.jser_shown.specs.Telling.{tell, begin_telling, teller_after}
 use Rattle.jser_shown.specs.Indexing.{indexed, begin_index, nodes_in}
+use Rattle.jser_shown.specs.Naming.{named}
 use Rattle.jser_shown.specs.Collecting.{collection, collected, begin_collection}
 
 -- It says the list's text of show.
@@ -36,6 +37,10 @@ Indexed = (list : ContentTrees) → WellFormed list →
 abbrev pub Collected : Type 0
 Collected = (list : ContentTrees) → WellFormed list →
     collected (begin_telling []) begin_collection (fields_of list) ≡ collection [] (owners_of list)
+
+-- The names that are taken along the fields are the checked names of the list.
+abbrev pub Named : Type 0
+Named = (list : ContentTrees) → WellFormed list → named (begin_telling []) [] (fields_of list) ≡ checked_names list
 
 -- A place is a number of bytes.
 abbrev pub PlacesAreCounted : Type 0

@@ -1,17 +1,18 @@
 -- The teller: it goes along the fields of a stream and says the text of show. The numbers of objects and the lengths of
 -- arrays stand in the text before their classes, so it is given them beforehand (`Owners`). It never asks whether a
 -- field is right: on other fields than those of a stream it says something else.
-use Rattle.std.specs.Prelude.{ℕ, zero, suc, true, false, List, [], ◌∷◌, ◌++◌, length, slice_set, codes}
+use Rattle.std.specs.Prelude.{ℕ, zero, suc, ◌/◌, Bool, true, false, List, [], ◌∷◌, ◌++◌, length, take, drop, slice_set, codes}
 use Rattle.std.specs.Fmt.{decimal}
 use Rattle.hex.specs.Hex.{encode_lower}
 use Rattle.jser_prim.specs.Bytes.{big_bytes}
 use Rattle.jser_grammar.specs.Codes.{is_object_code}
-use Rattle.jser_reading.specs.Roles.{object_owner, array_owner, enum_owner, class_owner}
+use Rattle.jser_grammar.specs.Spelling.{prims_spelling}
+use Rattle.jser_reading.specs.Roles.{Owner, object_owner, array_owner, enum_owner, class_owner}
 use Rattle.jser_reading.specs.Labels.{Tag, null_tag, reference_tag, class_desc_tag, object_tag, string_tag, array_tag, class_tag, long_string_tag, proxy_desc_tag, enum_tag, StreamField, header_field, tag_field, block_tag_field, end_tag_field, reset_tag_field, handle_field, suid_field, flags_field, field_count_field, interface_count_field, array_length_field, code_field, text_field, block_length_field, prims_field, bytes_field, Piece, piece}
-use Rattle.jser_shown.specs.Known.{NamedField, class_layer, proxy_layer, known_text, known_other, known_pending, known_class, Known, classes_at, with_entry, is_external_chain}
+use Rattle.jser_shown.specs.Known.{NamedField, NamedLayer, class_layer, proxy_layer, known_text, known_other, known_pending, known_class, Known, classes_at, with_entry, is_external_chain}
 use Rattle.jser_shown.specs.Words.{end_line, begin_line, mark, quoted, block_word}
-use Rattle.jser_shown.specs.Shown.{element_at, name_text, raw_text, raw_elements_text, data_text, external_text}
-use Rattle.jser_shown.specs.Owners.{OwnerNode}
+use Rattle.jser_shown.specs.Shown.{ValueName, element_at, name_text, data_text, external_text}
+use Rattle.jser_shown.specs.Owners.{OwnerNode, owner_node}
 use Rattle.jser_shown.specs.Cues.{SectionPart, data_part, external_part, raw_part, value_part, note_part, Cue, header_cue, top_cue, handle_cue, string_cue, text_place_cue, block_length_cue, block_cue, note_cue, name_cue, length_cue, elements_cue, parts_cue, class_cue, class_handle_cue, made_cue, super_cue, super_handle_cue, close_cue, class_name_cue, suid_cue, flags_cue, field_count_cue, fields_cue, field_name_cue, type_cue, interface_count_cue, interfaces_cue, Teller, teller, object_parts, fields_done, rest_of_desc}
 
 -- the cues that no field belongs to and are next: what they do, and what they say
@@ -92,30 +93,28 @@ settle_says T (cue ∷ cues) k = k
 
 -- a tag of a value: what it says, and what it leads to; `L` is the level of its line
 
-abbrev pub number_of_first : List OwnerNode → ℕ
-number_of_first [] = 0
-number_of_first (o ∷ os) = o.number
-
-abbrev pub elements_of_first : List OwnerNode → ℕ
-elements_of_first [] = 0
-elements_of_first (o ∷ os) = o.elements
+-- the owner whose tag is the next, or a blank one
+abbrev pub first_owner : List OwnerNode → OwnerNode
+first_owner [] = owner_node 0 0
+first_owner (o ∷ os) = o
 
 abbrev pub without_first : List OwnerNode → List OwnerNode
 without_first [] = []
 without_first (o ∷ os) = os
 
-abbrev pub tag_says : ℕ → Known → List OwnerNode → Tag → List ℕ → List ℕ
-tag_says e T os null_tag k = codes "null" ++ end_line k
-tag_says e T os reference_tag k = codes "ref " ++ k
-tag_says e T os class_desc_tag k = codes "desc " ++ mark e (length T) (0x20 ∷ k)
-tag_says e T os proxy_desc_tag k = codes "proxy " ++ mark e (length T) (end_line k)
-tag_says e T os object_tag k = codes "object " ++ mark e (number_of_first os) (end_line k)
-tag_says e T os string_tag k = codes "text " ++ mark e (length T) (0x20 ∷ k)
-tag_says e T os long_string_tag k = codes "longtext " ++ mark e (length T) (0x20 ∷ k)
-tag_says e T os array_tag k =
-    codes "array " ++ mark e (number_of_first os) (codes " length " ++ (decimal (elements_of_first os) ++ end_line k))
-tag_says e T os class_tag k = codes "classobject " ++ mark e (number_of_first os) (end_line k)
-tag_says e T os enum_tag k = codes "enum " ++ mark e (number_of_first os) (end_line k)
+-- `n` is how many handles are known, `o` the owner whose tag is the next
+abbrev pub tag_says : ℕ → ℕ → OwnerNode → Tag → List ℕ → List ℕ
+tag_says e n o null_tag k = codes "null" ++ end_line k
+tag_says e n o reference_tag k = codes "ref " ++ k
+tag_says e n o class_desc_tag k = codes "desc " ++ mark e n (0x20 ∷ k)
+tag_says e n o proxy_desc_tag k = codes "proxy " ++ mark e n (end_line k)
+tag_says e n o object_tag k = codes "object " ++ mark e o.number (end_line k)
+tag_says e n o string_tag k = codes "text " ++ mark e n (0x20 ∷ k)
+tag_says e n o long_string_tag k = codes "longtext " ++ mark e n (0x20 ∷ k)
+tag_says e n o array_tag k =
+    codes "array " ++ mark e o.number (codes " length " ++ (decimal o.elements ++ end_line k))
+tag_says e n o class_tag k = codes "classobject " ++ mark e o.number (end_line k)
+tag_says e n o enum_tag k = codes "enum " ++ mark e o.number (end_line k)
 
 abbrev pub begin : ℕ → ℕ → Known → List OwnerNode → Tag → List Cue → Teller
 begin e L T os null_tag cues = teller e T os cues
@@ -130,108 +129,343 @@ begin e L T os array_tag cues = teller e T (without_first os) (class_cue array_o
 begin e L T os class_tag cues = teller e T (without_first os) (class_cue class_owner (suc L) ∷ cues)
 begin e L T os enum_tag cues = teller e T (without_first os) (class_cue enum_owner (suc L) ∷ cues)
 
--- a field at the first cue of a settled teller
+-- What a teller sees of a field. Raw values and the bytes of a block are seen by their bytes alone, texts and lengths
+-- of blocks in both forms alike.
+pub data SeenField : Type 0 where
+  seen_header seen_end_tag seen_reset_tag : SeenField
+  seen_tag : Tag → SeenField
+  seen_block_tag : (long : Bool) → SeenField
+  seen_handle seen_suid seen_flags seen_field_count seen_interface_count seen_array_length seen_code : ℕ → SeenField
+  seen_block_length : ℕ → SeenField
+  seen_text : (units : List ℕ) → SeenField
+  seen_bytes : (bytes : List ℕ) → SeenField
 
-abbrev pub says_at : ℕ → Known → List OwnerNode → Cue → StreamField → List ℕ → List ℕ
-says_at e T os header_cue header_field k = codes "stream version 5" ++ end_line k
-says_at e T os top_cue (tag_field tag) k = tag_says e T os tag k
-says_at e T os top_cue (block_tag_field long) k = block_word long k
-says_at e T os top_cue reset_tag_field k = codes "reset" ++ end_line k
-says_at e T os (note_cue L) (tag_field tag) k = begin_line L (codes "note " ++ tag_says e T os tag k)
-says_at e T os (note_cue L) (block_tag_field long) k = begin_line L (codes "note " ++ block_word long k)
-says_at e T os handle_cue (handle_field n) k = mark e n (end_line k)
-says_at e T os string_cue (text_field long units) k = quoted units (end_line k)
-says_at e T os text_place_cue (tag_field tag) k = tag_says e T os tag k
-says_at e T os (name_cue L) (tag_field tag) k = begin_line L (codes "name " ++ tag_says e T os tag k)
-says_at e T os block_length_cue (block_length_field long zero) k = decimal zero ++ (0x3A ∷ end_line k)
-says_at e T os block_length_cue (block_length_field long (suc n)) k = decimal (suc n) ++ (0x3A ∷ 0x20 ∷ k)
-says_at e T os block_cue (bytes_field bytes) k = encode_lower bytes ++ end_line k
-says_at e T os (elements_cue L i n) (prims_field ps) k = raw_elements_text L i ps k
-says_at e T os (elements_cue L i n) (tag_field tag) k = begin_line L (name_text (element_at i) (tag_says e T os tag k))
-says_at e T os (parts_cue L (raw_part name ∷ parts)) (prims_field (p ∷ ps)) k = raw_text (suc L) name p k
-says_at e T os (parts_cue L (value_part name ∷ parts)) (tag_field tag) k =
-    begin_line (suc L) (name_text name (tag_says e T os tag k))
-says_at e T os (class_cue owner L) (tag_field tag) k = begin_line L (codes "class " ++ tag_says e T os tag k)
-says_at e T os (class_handle_cue owner L) (handle_field n) k = mark e n (end_line k)
-says_at e T os (super_cue L number layer) (tag_field tag) k = begin_line L (codes "super " ++ tag_says e T os tag k)
-says_at e T os (super_handle_cue L number layer) (handle_field n) k = mark e n (end_line k)
-says_at e T os (class_name_cue L) (text_field long units) k = quoted units k
-says_at e T os (suid_cue L name) (suid_field n) k = codes " suid " ++ (encode_lower (big_bytes 8 n) ++ k)
-says_at e T os (flags_cue L number name) (flags_field n) k = codes " flags " ++ (encode_lower (n ∷ []) ++ end_line k)
-says_at e T os (fields_cue L number name flags done n) (code_field c) k =
-    begin_line L (codes "field " ++ (c ∷ 0x20 ∷ k))
-says_at e T os (field_name_cue L number name flags done c n) (text_field long units) k = quoted units k
-says_at e T os (interfaces_cue L number n) (text_field long units) k =
-    begin_line L (codes "interface " ++ quoted units (end_line k))
-says_at e T os cue field k = k
+abbrev pub seen : StreamField → SeenField
+seen header_field = seen_header
+seen (tag_field tag) = seen_tag tag
+seen (block_tag_field long) = seen_block_tag long
+seen end_tag_field = seen_end_tag
+seen reset_tag_field = seen_reset_tag
+seen (handle_field n) = seen_handle n
+seen (suid_field n) = seen_suid n
+seen (flags_field n) = seen_flags n
+seen (field_count_field n) = seen_field_count n
+seen (interface_count_field n) = seen_interface_count n
+seen (array_length_field n) = seen_array_length n
+seen (code_field n) = seen_code n
+seen (text_field long units) = seen_text units
+seen (block_length_field long n) = seen_block_length n
+seen (prims_field ps) = seen_bytes (prims_spelling ps)
+seen (bytes_field bytes) = seen_bytes bytes
 
-abbrev pub goes_at : ℕ → Known → List OwnerNode → Cue → List Cue → StreamField → Teller
-goes_at e T os header_cue cues header_field = teller e T os cues
-goes_at e T os top_cue cues (tag_field tag) = begin e 0 T os tag (top_cue ∷ cues)
-goes_at e T os top_cue cues (block_tag_field long) = teller e T os (block_length_cue ∷ top_cue ∷ cues)
-goes_at e T os top_cue cues reset_tag_field = teller (suc e) [] os (top_cue ∷ cues)
-goes_at e T os (note_cue L) cues (tag_field tag) = begin e L T os tag (note_cue L ∷ cues)
-goes_at e T os (note_cue L) cues (block_tag_field long) = teller e T os (block_length_cue ∷ note_cue L ∷ cues)
-goes_at e T os (note_cue L) cues end_tag_field = teller e T os cues
-goes_at e T os handle_cue cues (handle_field n) = teller e T os cues
-goes_at e T os string_cue cues (text_field long units) = teller e T os cues
-goes_at e T os text_place_cue cues (tag_field tag) = begin e 0 T os tag cues
-goes_at e T os (name_cue L) cues (tag_field tag) = begin e L T os tag cues
-goes_at e T os block_length_cue cues (block_length_field long zero) = teller e T os cues
-goes_at e T os block_length_cue cues (block_length_field long (suc n)) = teller e T os (block_cue ∷ cues)
-goes_at e T os block_cue cues (bytes_field bytes) = teller e T os cues
-goes_at e T os (length_cue L) cues (array_length_field n) = teller e T os (elements_cue L 0 n ∷ cues)
-goes_at e T os (elements_cue L i n) cues (prims_field ps) = teller e T os cues
-goes_at e T os (elements_cue L i (suc n)) cues (tag_field tag) = begin e L T os tag (elements_cue L (suc i) n ∷ cues)
-goes_at e T os (parts_cue L (raw_part name ∷ parts)) cues (prims_field ps) = teller e T os (parts_cue L parts ∷ cues)
-goes_at e T os (parts_cue L (value_part name ∷ parts)) cues (tag_field tag) =
-    begin e (suc L) T os tag (parts_cue L parts ∷ cues)
-goes_at e T os (class_cue owner L) cues (tag_field class_desc_tag) =
+-- the line of a raw value
+abbrev pub raw_line : ℕ → ValueName → List ℕ → List ℕ → List ℕ
+raw_line L name bytes k = begin_line L (name_text name (encode_lower bytes ++ end_line k))
+
+-- the lines of so many raw elements of this size, from `i` on
+abbrev pub raw_lines : ℕ → (i size left : ℕ) → List ℕ → List ℕ → List ℕ
+raw_lines L i size zero bytes k = k
+raw_lines L i size (suc n) bytes k =
+    raw_line L (element_at i) (take size bytes) (raw_lines L (suc i) size n (drop size bytes) k)
+
+-- the lines of so many raw elements, all of one size
+abbrev pub raw_elements_lines : ℕ → (i left : ℕ) → List ℕ → List ℕ → List ℕ
+raw_elements_lines L i n bytes k = raw_lines L i (length bytes / n) n bytes k
+
+-- What is said of a field, for each cue of a settled teller. `n` is how many handles are known, `o` the owner whose
+-- tag is the next.
+
+abbrev pub header_says : SeenField → List ℕ → List ℕ
+header_says seen_header k = codes "stream version 5" ++ end_line k
+header_says field k = k
+
+abbrev pub top_says : ℕ → ℕ → OwnerNode → SeenField → List ℕ → List ℕ
+top_says e n o (seen_tag tag) k = tag_says e n o tag k
+top_says e n o (seen_block_tag long) k = block_word long k
+top_says e n o seen_reset_tag k = codes "reset" ++ end_line k
+top_says e n o field k = k
+
+abbrev pub note_says : ℕ → ℕ → OwnerNode → ℕ → SeenField → List ℕ → List ℕ
+note_says e n o L (seen_tag tag) k = begin_line L (codes "note " ++ tag_says e n o tag k)
+note_says e n o L (seen_block_tag long) k = begin_line L (codes "note " ++ block_word long k)
+note_says e n o L field k = k
+
+abbrev pub handle_says : ℕ → SeenField → List ℕ → List ℕ
+handle_says e (seen_handle n) k = mark e n (end_line k)
+handle_says e field k = k
+
+abbrev pub string_says : SeenField → List ℕ → List ℕ
+string_says (seen_text units) k = quoted units (end_line k)
+string_says field k = k
+
+abbrev pub text_place_says : ℕ → ℕ → OwnerNode → SeenField → List ℕ → List ℕ
+text_place_says e n o (seen_tag tag) k = tag_says e n o tag k
+text_place_says e n o field k = k
+
+abbrev pub block_length_says : SeenField → List ℕ → List ℕ
+block_length_says (seen_block_length zero) k = decimal zero ++ (0x3A ∷ end_line k)
+block_length_says (seen_block_length (suc n)) k = decimal (suc n) ++ (0x3A ∷ 0x20 ∷ k)
+block_length_says field k = k
+
+abbrev pub block_says : SeenField → List ℕ → List ℕ
+block_says (seen_bytes bytes) k = encode_lower bytes ++ end_line k
+block_says field k = k
+
+-- a tag whose line begins with this word
+abbrev pub worded_says : ℕ → ℕ → OwnerNode → ℕ → (word : List ℕ) → SeenField → List ℕ → List ℕ
+worded_says e n o L word (seen_tag tag) k = begin_line L (word ++ tag_says e n o tag k)
+worded_says e n o L word field k = k
+
+-- a tag whose line begins with this name
+abbrev pub named_says : ℕ → ℕ → OwnerNode → ℕ → ValueName → SeenField → List ℕ → List ℕ
+named_says e n o L name (seen_tag tag) k = begin_line L (name_text name (tag_says e n o tag k))
+named_says e n o L name field k = k
+
+abbrev pub elements_says : ℕ → ℕ → OwnerNode → (L i left : ℕ) → SeenField → List ℕ → List ℕ
+elements_says e n o L i left (seen_bytes bytes) k = raw_elements_lines L i left bytes k
+elements_says e n o L i left (seen_tag tag) k = begin_line L (name_text (element_at i) (tag_says e n o tag k))
+elements_says e n o L i left field k = k
+
+abbrev pub raw_says : ℕ → ValueName → SeenField → List ℕ → List ℕ
+raw_says L name (seen_bytes bytes) k = raw_line L name bytes k
+raw_says L name field k = k
+
+abbrev pub name_says : SeenField → List ℕ → List ℕ
+name_says (seen_text units) k = quoted units k
+name_says field k = k
+
+abbrev pub suid_says : SeenField → List ℕ → List ℕ
+suid_says (seen_suid n) k = codes " suid " ++ (encode_lower (big_bytes 8 n) ++ k)
+suid_says field k = k
+
+abbrev pub flags_says : SeenField → List ℕ → List ℕ
+flags_says (seen_flags n) k = codes " flags " ++ (encode_lower (n ∷ []) ++ end_line k)
+flags_says field k = k
+
+abbrev pub code_says : ℕ → SeenField → List ℕ → List ℕ
+code_says L (seen_code c) k = begin_line L (codes "field " ++ (c ∷ 0x20 ∷ k))
+code_says L field k = k
+
+abbrev pub interface_says : ℕ → SeenField → List ℕ → List ℕ
+interface_says L (seen_text units) k = begin_line L (codes "interface " ++ quoted units (end_line k))
+interface_says L field k = k
+
+abbrev pub parts_says : ℕ → ℕ → OwnerNode → ℕ → List SectionPart → SeenField → List ℕ → List ℕ
+parts_says e n o L (raw_part name ∷ parts) field k = raw_says (suc L) name field k
+parts_says e n o L (value_part name ∷ parts) field k = named_says e n o (suc L) name field k
+parts_says e n o L parts field k = k
+
+abbrev pub says_at : ℕ → ℕ → OwnerNode → Cue → SeenField → List ℕ → List ℕ
+says_at e n o header_cue field k = header_says field k
+says_at e n o top_cue field k = top_says e n o field k
+says_at e n o (note_cue L) field k = note_says e n o L field k
+says_at e n o handle_cue field k = handle_says e field k
+says_at e n o string_cue field k = string_says field k
+says_at e n o text_place_cue field k = text_place_says e n o field k
+says_at e n o (name_cue L) field k = worded_says e n o L (codes "name ") field k
+says_at e n o block_length_cue field k = block_length_says field k
+says_at e n o block_cue field k = block_says field k
+says_at e n o (elements_cue L i left) field k = elements_says e n o L i left field k
+says_at e n o (parts_cue L parts) field k = parts_says e n o L parts field k
+says_at e n o (class_cue owner L) field k = worded_says e n o L (codes "class ") field k
+says_at e n o (class_handle_cue owner L) field k = handle_says e field k
+says_at e n o (super_cue L number layer) field k = worded_says e n o L (codes "super ") field k
+says_at e n o (super_handle_cue L number layer) field k = handle_says e field k
+says_at e n o (class_name_cue L) field k = name_says field k
+says_at e n o (suid_cue L name) field k = suid_says field k
+says_at e n o (flags_cue L number name) field k = flags_says field k
+says_at e n o (fields_cue L number name flags done left) field k = code_says L field k
+says_at e n o (field_name_cue L number name flags done c left) field k = name_says field k
+says_at e n o (interfaces_cue L number left) field k = interface_says L field k
+says_at e n o cue field k = k
+
+-- Where a field leads, for each cue; `cues` are the others.
+
+abbrev pub header_goes : ℕ → Known → List OwnerNode → List Cue → SeenField → Teller
+header_goes e T os cues seen_header = teller e T os cues
+header_goes e T os cues field = teller e T os (header_cue ∷ cues)
+
+abbrev pub top_goes : ℕ → Known → List OwnerNode → List Cue → SeenField → Teller
+top_goes e T os cues (seen_tag tag) = begin e 0 T os tag (top_cue ∷ cues)
+top_goes e T os cues (seen_block_tag long) = teller e T os (block_length_cue ∷ top_cue ∷ cues)
+top_goes e T os cues seen_reset_tag = teller (suc e) [] os (top_cue ∷ cues)
+top_goes e T os cues field = teller e T os (top_cue ∷ cues)
+
+abbrev pub note_goes : ℕ → Known → List OwnerNode → List Cue → ℕ → SeenField → Teller
+note_goes e T os cues L (seen_tag tag) = begin e L T os tag (note_cue L ∷ cues)
+note_goes e T os cues L (seen_block_tag long) = teller e T os (block_length_cue ∷ note_cue L ∷ cues)
+note_goes e T os cues L seen_end_tag = teller e T os cues
+note_goes e T os cues L field = teller e T os (note_cue L ∷ cues)
+
+abbrev pub handle_goes : ℕ → Known → List OwnerNode → List Cue → SeenField → Teller
+handle_goes e T os cues (seen_handle n) = teller e T os cues
+handle_goes e T os cues field = teller e T os (handle_cue ∷ cues)
+
+abbrev pub string_goes : ℕ → Known → List OwnerNode → List Cue → SeenField → Teller
+string_goes e T os cues (seen_text units) = teller e T os cues
+string_goes e T os cues field = teller e T os (string_cue ∷ cues)
+
+-- In the place of a type text only strings and references begin, so nothing else ever stands over the fields of a
+-- descriptor.
+abbrev pub text_tag_goes : ℕ → Known → List OwnerNode → List Cue → Tag → Teller
+text_tag_goes e T os cues reference_tag = begin e 0 T os reference_tag cues
+text_tag_goes e T os cues string_tag = begin e 0 T os string_tag cues
+text_tag_goes e T os cues long_string_tag = begin e 0 T os long_string_tag cues
+text_tag_goes e T os cues tag = teller e T os (text_place_cue ∷ cues)
+
+abbrev pub text_place_goes : ℕ → Known → List OwnerNode → List Cue → SeenField → Teller
+text_place_goes e T os cues (seen_tag tag) = text_tag_goes e T os cues tag
+text_place_goes e T os cues field = teller e T os (text_place_cue ∷ cues)
+
+abbrev pub name_goes : ℕ → Known → List OwnerNode → List Cue → ℕ → SeenField → Teller
+name_goes e T os cues L (seen_tag tag) = begin e L T os tag cues
+name_goes e T os cues L field = teller e T os (name_cue L ∷ cues)
+
+abbrev pub block_length_goes : ℕ → Known → List OwnerNode → List Cue → SeenField → Teller
+block_length_goes e T os cues (seen_block_length zero) = teller e T os cues
+block_length_goes e T os cues (seen_block_length (suc n)) = teller e T os (block_cue ∷ cues)
+block_length_goes e T os cues field = teller e T os (block_length_cue ∷ cues)
+
+abbrev pub block_goes : ℕ → Known → List OwnerNode → List Cue → SeenField → Teller
+block_goes e T os cues (seen_bytes bytes) = teller e T os cues
+block_goes e T os cues field = teller e T os (block_cue ∷ cues)
+
+abbrev pub length_goes : ℕ → Known → List OwnerNode → List Cue → ℕ → SeenField → Teller
+length_goes e T os cues L (seen_array_length n) = teller e T os (elements_cue L 0 n ∷ cues)
+length_goes e T os cues L field = teller e T os (length_cue L ∷ cues)
+
+abbrev pub elements_goes : ℕ → Known → List OwnerNode → List Cue → (L i left : ℕ) → SeenField → Teller
+elements_goes e T os cues L i left (seen_bytes bytes) = teller e T os cues
+elements_goes e T os cues L i (suc left) (seen_tag tag) = begin e L T os tag (elements_cue L (suc i) left ∷ cues)
+elements_goes e T os cues L i left field = teller e T os (elements_cue L i left ∷ cues)
+
+abbrev pub raw_goes : ℕ → Known → List OwnerNode → List Cue → ℕ → ValueName → List SectionPart → SeenField → Teller
+raw_goes e T os cues L name parts (seen_bytes bytes) = teller e T os (parts_cue L parts ∷ cues)
+raw_goes e T os cues L name parts field = teller e T os (parts_cue L (raw_part name ∷ parts) ∷ cues)
+
+abbrev pub value_goes : ℕ → Known → List OwnerNode → List Cue → ℕ → ValueName → List SectionPart → SeenField → Teller
+value_goes e T os cues L name parts (seen_tag tag) = begin e (suc L) T os tag (parts_cue L parts ∷ cues)
+value_goes e T os cues L name parts field = teller e T os (parts_cue L (value_part name ∷ parts) ∷ cues)
+
+abbrev pub parts_goes : ℕ → Known → List OwnerNode → List Cue → ℕ → List SectionPart → SeenField → Teller
+parts_goes e T os cues L (raw_part name ∷ parts) field = raw_goes e T os cues L name parts field
+parts_goes e T os cues L (value_part name ∷ parts) field = value_goes e T os cues L name parts field
+parts_goes e T os cues L parts field = teller e T os (parts_cue L parts ∷ cues)
+
+abbrev pub class_tag_goes : ℕ → Known → List OwnerNode → List Cue → Owner → ℕ → Tag → Teller
+class_tag_goes e T os cues owner L class_desc_tag =
     teller e T os (class_name_cue (suc L) ∷ made_cue owner L (length T) ∷ cues)
-goes_at e T os (class_cue owner L) cues (tag_field proxy_desc_tag) =
+class_tag_goes e T os cues owner L proxy_desc_tag =
     teller e (with_entry T known_pending) os
     (interface_count_cue (suc L) (length T) ∷ made_cue owner L (length T) ∷ cues)
-goes_at e T os (class_cue owner L) cues (tag_field tag) = teller e T os (class_handle_cue owner L ∷ cues)
-goes_at e T os (class_handle_cue owner L) cues (handle_field n) = teller e T os (made_cue owner L n ∷ cues)
-goes_at e T os (super_cue L number layer) cues (tag_field null_tag) =
-    teller e (slice_set T number (known_class (layer ∷ []))) os cues
-goes_at e T os (super_cue L number layer) cues (tag_field class_desc_tag) =
+class_tag_goes e T os cues owner L tag = teller e T os (class_handle_cue owner L ∷ cues)
+
+abbrev pub class_goes : ℕ → Known → List OwnerNode → List Cue → Owner → ℕ → SeenField → Teller
+class_goes e T os cues owner L (seen_tag tag) = class_tag_goes e T os cues owner L tag
+class_goes e T os cues owner L field = teller e T os (class_cue owner L ∷ cues)
+
+abbrev pub class_handle_goes : ℕ → Known → List OwnerNode → List Cue → Owner → ℕ → SeenField → Teller
+class_handle_goes e T os cues owner L (seen_handle n) = teller e T os (made_cue owner L n ∷ cues)
+class_handle_goes e T os cues owner L field = teller e T os (class_handle_cue owner L ∷ cues)
+
+abbrev pub super_tag_goes : ℕ → Known → List OwnerNode → List Cue → ℕ → ℕ → NamedLayer → Tag → Teller
+super_tag_goes e T os cues L number layer null_tag = teller e (slice_set T number (known_class (layer ∷ []))) os cues
+super_tag_goes e T os cues L number layer class_desc_tag =
     teller e T os (class_name_cue (suc L) ∷ close_cue number (length T) layer ∷ cues)
-goes_at e T os (super_cue L number layer) cues (tag_field proxy_desc_tag) =
+super_tag_goes e T os cues L number layer proxy_desc_tag =
     teller e (with_entry T known_pending) os
     (interface_count_cue (suc L) (length T) ∷ close_cue number (length T) layer ∷ cues)
-goes_at e T os (super_cue L number layer) cues (tag_field tag) = teller e T os (super_handle_cue L number layer ∷ cues)
-goes_at e T os (super_handle_cue L number layer) cues (handle_field n) = teller e T os (close_cue number n layer ∷ cues)
-goes_at e T os (class_name_cue L) cues (text_field long units) = teller e T os (suid_cue L units ∷ cues)
-goes_at e T os (suid_cue L name) cues (suid_field n) =
+super_tag_goes e T os cues L number layer tag = teller e T os (super_handle_cue L number layer ∷ cues)
+
+abbrev pub super_goes : ℕ → Known → List OwnerNode → List Cue → ℕ → ℕ → NamedLayer → SeenField → Teller
+super_goes e T os cues L number layer (seen_tag tag) = super_tag_goes e T os cues L number layer tag
+super_goes e T os cues L number layer field = teller e T os (super_cue L number layer ∷ cues)
+
+abbrev pub super_handle_goes : ℕ → Known → List OwnerNode → List Cue → ℕ → ℕ → NamedLayer → SeenField → Teller
+super_handle_goes e T os cues L number layer (seen_handle n) = teller e T os (close_cue number n layer ∷ cues)
+super_handle_goes e T os cues L number layer field = teller e T os (super_handle_cue L number layer ∷ cues)
+
+abbrev pub class_name_goes : ℕ → Known → List OwnerNode → List Cue → ℕ → SeenField → Teller
+class_name_goes e T os cues L (seen_text units) = teller e T os (suid_cue L units ∷ cues)
+class_name_goes e T os cues L field = teller e T os (class_name_cue L ∷ cues)
+
+abbrev pub suid_goes : ℕ → Known → List OwnerNode → List Cue → ℕ → List ℕ → SeenField → Teller
+suid_goes e T os cues L name (seen_suid n) =
     teller e (with_entry T known_pending) os (flags_cue L (length T) name ∷ cues)
-goes_at e T os (flags_cue L number name) cues (flags_field n) = teller e T os (field_count_cue L number name n ∷ cues)
-goes_at e T os (field_count_cue L number name flags) cues (field_count_field n) =
+suid_goes e T os cues L name field = teller e T os (suid_cue L name ∷ cues)
+
+abbrev pub flags_goes : ℕ → Known → List OwnerNode → List Cue → ℕ → ℕ → List ℕ → SeenField → Teller
+flags_goes e T os cues L number name (seen_flags n) = teller e T os (field_count_cue L number name n ∷ cues)
+flags_goes e T os cues L number name field = teller e T os (flags_cue L number name ∷ cues)
+
+abbrev pub field_count_goes : ℕ → Known → List OwnerNode → List Cue → ℕ → ℕ → List ℕ → ℕ → SeenField → Teller
+field_count_goes e T os cues L number name flags (seen_field_count n) =
     teller e T os (fields_cue L number name flags [] n ∷ cues)
-goes_at e T os (fields_cue L number name flags done (suc n)) cues (code_field c) =
+field_count_goes e T os cues L number name flags field = teller e T os (field_count_cue L number name flags ∷ cues)
+
+abbrev pub code_goes : ℕ → Known → List OwnerNode → List Cue → ℕ → ℕ → List ℕ → ℕ → List NamedField → (left : ℕ) → SeenField → Teller
+code_goes e T os cues L number name flags done (suc n) (seen_code c) =
     teller e T os (field_name_cue L number name flags done c n ∷ cues)
-goes_at e T os (field_name_cue L number name flags done c n) cues (text_field long units) =
+code_goes e T os cues L number name flags done n field =
+    teller e T os (fields_cue L number name flags done n ∷ cues)
+
+abbrev pub field_name_goes : ℕ → Known → List OwnerNode → List Cue → ℕ → ℕ → List ℕ → ℕ → List NamedField → (code left : ℕ) → SeenField → Teller
+field_name_goes e T os cues L number name flags done c n (seen_text units) =
     teller e T os
     (type_cue (is_object_code c) ∷ fields_cue L number name flags (record { code = c; name = units } ∷ done) n ∷ cues)
-goes_at e T os (interface_count_cue L number) cues (interface_count_field n) =
+field_name_goes e T os cues L number name flags done c n field =
+    teller e T os (field_name_cue L number name flags done c n ∷ cues)
+
+abbrev pub interface_count_goes : ℕ → Known → List OwnerNode → List Cue → ℕ → ℕ → SeenField → Teller
+interface_count_goes e T os cues L number (seen_interface_count n) =
     teller e T os (interfaces_cue L number n ∷ cues)
-goes_at e T os (interfaces_cue L number (suc n)) cues (text_field long units) =
-    teller e T os (interfaces_cue L number n ∷ cues)
+interface_count_goes e T os cues L number field = teller e T os (interface_count_cue L number ∷ cues)
+
+abbrev pub interface_goes : ℕ → Known → List OwnerNode → List Cue → ℕ → ℕ → (left : ℕ) → SeenField → Teller
+interface_goes e T os cues L number (suc n) (seen_text units) = teller e T os (interfaces_cue L number n ∷ cues)
+interface_goes e T os cues L number n field = teller e T os (interfaces_cue L number n ∷ cues)
+
+abbrev pub goes_at : ℕ → Known → List OwnerNode → Cue → List Cue → SeenField → Teller
+goes_at e T os header_cue cues field = header_goes e T os cues field
+goes_at e T os top_cue cues field = top_goes e T os cues field
+goes_at e T os (note_cue L) cues field = note_goes e T os cues L field
+goes_at e T os handle_cue cues field = handle_goes e T os cues field
+goes_at e T os string_cue cues field = string_goes e T os cues field
+goes_at e T os text_place_cue cues field = text_place_goes e T os cues field
+goes_at e T os (name_cue L) cues field = name_goes e T os cues L field
+goes_at e T os block_length_cue cues field = block_length_goes e T os cues field
+goes_at e T os block_cue cues field = block_goes e T os cues field
+goes_at e T os (length_cue L) cues field = length_goes e T os cues L field
+goes_at e T os (elements_cue L i n) cues field = elements_goes e T os cues L i n field
+goes_at e T os (parts_cue L parts) cues field = parts_goes e T os cues L parts field
+goes_at e T os (class_cue owner L) cues field = class_goes e T os cues owner L field
+goes_at e T os (class_handle_cue owner L) cues field = class_handle_goes e T os cues owner L field
+goes_at e T os (super_cue L number layer) cues field = super_goes e T os cues L number layer field
+goes_at e T os (super_handle_cue L number layer) cues field = super_handle_goes e T os cues L number layer field
+goes_at e T os (class_name_cue L) cues field = class_name_goes e T os cues L field
+goes_at e T os (suid_cue L name) cues field = suid_goes e T os cues L name field
+goes_at e T os (flags_cue L number name) cues field = flags_goes e T os cues L number name field
+goes_at e T os (field_count_cue L number name flags) cues field = field_count_goes e T os cues L number name flags field
+goes_at e T os (fields_cue L number name flags done n) cues field = code_goes e T os cues L number name flags done n field
+goes_at e T os (field_name_cue L number name flags done c n) cues field =
+    field_name_goes e T os cues L number name flags done c n field
+goes_at e T os (interface_count_cue L number) cues field = interface_count_goes e T os cues L number field
+goes_at e T os (interfaces_cue L number n) cues field = interface_goes e T os cues L number n field
 goes_at e T os cue cues field = teller e T os (cue ∷ cues)
 
-abbrev pub says_in : ℕ → Known → List OwnerNode → List Cue → StreamField → List ℕ → List ℕ
-says_in e T os [] field k = k
-says_in e T os (cue ∷ cues) field k = says_at e T os cue field k
+abbrev pub says_in : ℕ → ℕ → OwnerNode → List Cue → SeenField → List ℕ → List ℕ
+says_in e n o [] field k = k
+says_in e n o (cue ∷ cues) field k = says_at e n o cue field k
 
 abbrev pub says : Teller → StreamField → List ℕ → List ℕ
-says s field k = says_in s.epoch s.known s.owners s.cues field k
+says s field k = says_in s.epoch (length s.known) (first_owner s.owners) s.cues (seen field) k
 
-abbrev pub goes_in : ℕ → Known → List OwnerNode → List Cue → StreamField → Teller
+abbrev pub goes_in : ℕ → Known → List OwnerNode → List Cue → SeenField → Teller
 goes_in e T os [] field = teller e T os []
 goes_in e T os (cue ∷ cues) field = goes_at e T os cue cues field
 
 abbrev pub goes : Teller → StreamField → Teller
-goes s field = goes_in s.epoch s.known s.owners s.cues field
+goes s field = goes_in s.epoch s.known s.owners s.cues (seen field)
 
 -- what a teller says along these fields
 abbrev pub tell : Teller → List Piece → List ℕ

@@ -2,8 +2,8 @@
 //! function, so that the check insists on its proof; the statements are in `specs/`, as `Laws` and
 //! `FrontLaws`.
 
-ghost use Rattle.jser_shown.specs.FrontLaws.{TellsFronts, IndexesFronts, CollectsFronts, OneMore};
-ghost use Rattle.jser_shown.specs.Laws.{Told, EndsThere, Indexed, Collected, PlacesAreCounted, Counted};
+ghost use Rattle.jser_shown.specs.FrontLaws.{TellsFronts, IndexesFronts, CollectsFronts, NamesFronts, OneMore};
+ghost use Rattle.jser_shown.specs.Laws.{Told, EndsThere, Indexed, Collected, Named, PlacesAreCounted, Counted};
 
 /// Along the fields of a list that obeys the format the teller says the list's text of `show`.
 pub fn told()
@@ -27,6 +27,11 @@ pub fn collected()
     ensures { Collected }
 {}
 
+/// The names of classes and interfaces that are taken along these fields are the checked names of the list.
+pub fn named()
+    ensures { Named }
+{}
+
 /// The place after some bytes is so many bytes further on as they are.
 pub fn places_are_counted()
     ensures { PlacesAreCounted }
@@ -46,6 +51,11 @@ pub fn indexes_fronts()
 /// So are the owners that are collected.
 pub fn collects_fronts()
     ensures { CollectsFronts }
+{}
+
+/// So are the names that are taken.
+pub fn names_fronts()
+    ensures { NamesFronts }
 {}
 
 /// One field more is one step, from a teller that has settled.

@@ -92,6 +92,16 @@ impl Contents {
         }
     }
 
+    /// Contents of a list that is known to obey the format, as one is that was read from the bytes of a stream.
+    /// Takes no memory.
+    #[doc(hidden)]
+    pub fn from_obeying(list: Vec<Content>) -> Contents
+        requires { IsContents (view_contents list.items) }
+        ensures { result ≡ list.items }
+    {
+        Contents { list }
+    }
+
     /// The contents, in order.
     pub fn list(&self) -> &[Content]
         ensures list { result.now ≡ self.now }

@@ -1,0 +1,33 @@
+-- What a first walk has found, as a graph.
+use Rattle.std.proofs.Common.{◌≡◌, ℕ, List, ◌∙◌, ap, Ok, Err}
+use Rattle.jser_shown.specs.Indexing.{Index, nodes_in}
+use Rattle.jser_shown.specs.Owners.{OwnerNode as ToldOwner}
+use Rattle.jser_reader.specs.declared.Stop.{Stop}
+use Rattle.jser_reader.specs.declared.Stop.TheVariants as stop
+use Rattle.jser_reader.specs.declared.Totals.{Totals}
+use Rattle.jser_graph.specs.declared.survey.Survey.{Survey}
+use Rattle.jser_graph.specs.Reading.{IsRefused, Surveys}
+use Rattle.jser_graph.specs.Graphs.{StandsForSome, IfRefused}
+
+pub stands_for : (bytes copy : List ℕ) (survey : Survey) (totals : Totals) (nodes : Index) (owners : List ToldOwner) (names : List (List ℕ))
+    → Surveys bytes (Ok (record { survey = survey; totals = totals })) → copy ≡ bytes → nodes ≡ survey.nodes → owners ≡ survey.owners.owners
+    → names ≡ survey.names
+    → StandsForSome bytes (record { bytes = copy; nodes = nodes_in nodes; names = names; owners = owners; totals = totals })
+unfolding Surveys
+stands_for bytes copy survey totals nodes owners names h c n o m = (
+  h.0,
+  record {
+    bytes_are = c;
+    passes = h.1.passes;
+    nodes_are = ap nodes_in n ∙ h.1.nodes;
+    names_are = m ∙ h.1.names;
+    owners_are = o ∙ ap (λ x. x.owners) h.1.owners;
+    totals_are = h.1.totals_are;
+  },
+)
+
+pub is_refused : (bytes : List ℕ) (why : Stop) → Surveys bytes (Err why) → IfRefused (IsRefused bytes) why
+unfolding Surveys
+is_refused bytes (stop.Refused refusal) h = h
+is_refused bytes stop.OutOfMemory h = h
+is_refused bytes stop.Spent h = h

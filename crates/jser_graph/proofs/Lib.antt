@@ -1,0 +1,10 @@
+pub mod ListedLemmas
+pub mod StoredLemmas
+pub mod DecodeLemmas
+pub mod OwnerLemmas
+pub mod AlongLemmas
+pub mod SurveyLemmas
+pub mod ReadLemmas
+pub mod NodeLemmas
+pub mod GraphLemmas
+pub mod OutputLemmas

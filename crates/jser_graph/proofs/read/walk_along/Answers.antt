@@ -1,0 +1,43 @@
+use Rattle.std.proofs.Common.{rules, refl, subst, Ok}
+use Rattle.jser_reader.specs.Gates.{open_gate}
+use Rattle.jser_reader.specs.ItemsTold.{TellsItems}
+use Rattle.jser_reader.specs.ReaderStates.{HasProgress}
+use Rattle.jser_graph.proofs.ReadLemmas.{memory_out, next_stops, finish_walks, wants_more, takes_item, took, laws_of}
+use Rattle.jser_graph.proofs.read.walk_along.Goals as goal
+
+pub returns-in-Err : goal.returns-in-Err
+returns-in-Err c =
+    next_stops c.args.bytes.now c.items.rest.now c.in-Err.stop c.items.reader.machine c.items.reader.tally c.next.new.self.machine c.next.new.self.tally
+    c.items.survey c.items.invariant c.in-Err.ensures.tells c.items.survey
+
+pub items-preserved-in-Ok-More : goal.items-preserved-in-Ok-More
+items-preserved-in-Ok-More c =
+    wants_more c.args.bytes.now c.items.rest.now _ c.items.reader.machine c.items.reader.tally c.next.new.self.machine c.next.new.self.tally
+    c.items.survey c.items.invariant (subst (λ s. TellsItems open_gate c.items.rest.now (Ok s) c.items.reader.machine c.items.reader.tally c.next.new.self.machine c.next.new.self.tally)
+    c.in-Ok-More.field-0-is c.in-Ok-More.ensures.items) (search rules) refl
+
+pub items-preserved : goal.items-preserved
+items-preserved c =
+    takes_item c.args.bytes.now c.items.rest.now c.split_at.result.0.now c.split_at.result.1.now c.in-Ok-Item.item c.in-Ok-Item.used _
+    c.items.reader.machine c.items.reader.tally c.next.new.self.machine c.next.new.self.tally c.items.survey c.item.new.self c.one_more.ensures
+    c.places_are_counted.ensures c.items.invariant
+    (subst (λ s. TellsItems open_gate c.items.rest.now (Ok s) c.items.reader.machine c.items.reader.tally c.next.new.self.machine c.next.new.self.tally)
+    c.in-Ok-Item.field-0-is c.in-Ok-Item.ensures.items)
+    (subst (HasProgress c.items.rest.now) c.in-Ok-Item.field-0-is c.in-Ok-Item.ensures.progress).0
+    (subst (HasProgress c.items.rest.now) c.in-Ok-Item.field-0-is c.in-Ok-Item.ensures.progress).1
+    (search rules) (search rules) refl
+    (took c.in-Ok-Item.item _ c.items.survey c.item.new.self c.in-Ok.ensures.steps c.in-Ok.ensures.same c.in-Ok.ensures.place)
+
+pub returns-in-Err-item : goal.returns-in-Err-item
+returns-in-Err-item c = memory_out c.args.bytes.now c.item.new.self
+
+pub returns-in-Ok-settle : goal.returns-in-Ok-settle
+returns-in-Ok-settle c =
+    finish_walks c.args.bytes.now c.items.rest.now c.finish.result c.items.reader.machine c.items.reader.tally c.finish.new.self.machine c.items.survey
+    c.settle.new.self
+    (laws_of c.one_reading.ensures c.indexed.ensures c.collected.ensures c.indexes_fronts.ensures c.collects_fronts.ensures c.named.ensures
+    c.names_fronts.ensures)
+    c.items.invariant (search rules) c.in-Ok-settle.ensures c.finish.ensures.tells c.finish.ensures.fields
+
+pub returns-in-Err-settle : goal.returns-in-Err-settle
+returns-in-Err-settle c = memory_out c.args.bytes.now c.settle.new.self

@@ -1,0 +1,8 @@
+use Rattle.std.proofs.Common.{rules}
+use Rattle.jser_graph.proofs.SurveyLemmas.{part_text, decoded}
+use Rattle.jser_graph.proofs.survey.Survey.item.Goals as goal
+
+pub returns-in_ok-field-in-Text-clause-steps : goal.returns-in_ok-field-in-Text-clause-steps
+returns-in_ok-field-in-Text-clause-steps c = λ told e at.
+    c.in_ok-field-in-Text.ensures.steps told
+    (decoded told c.in-Text.bytes c.deref.result (part_text c.args.item c.in-Text.bytes told (search rules) e) (search rules)) at

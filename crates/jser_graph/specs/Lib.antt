@@ -1,0 +1,10 @@
+pub mod Listed
+pub mod StoredNodes
+pub mod Indexing
+pub mod Collecting
+pub mod Decoding
+pub mod Along
+pub mod Surveying
+pub mod Reading
+pub mod Graphs
+pub mod Outputs

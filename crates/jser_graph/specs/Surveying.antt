@@ -1,0 +1,86 @@
+-- A first walk along the fields: the teller that goes along, and the index and the owners that are kept by its side.
+use Rattle.std.specs.Prelude.{ℕ, ◌≡◌, Bool, true, false, List, [], ◌∷◌, ◌++◌, length, Option, Some, None}
+use Rattle.jser_reading.specs.Roles.{Owner as ToldOwner}
+use Rattle.jser_reading.specs.Labels.{StreamField, text_field, Piece}
+use Rattle.jser_reading.specs.FieldBytes.{joined}
+use Rattle.jser_shown.specs.Telling.{settled, goes, begin_telling}
+use Rattle.jser_shown.specs.Indexing.{Index, made, kind_of_owner, begin_index, settle_index, index_in}
+use Rattle.jser_shown.specs.Collecting.{Collection, begin_collection, settle_collection, collect}
+use Rattle.jser_shown.specs.Naming.{name_in}
+use Rattle.jser_shown.specs.Fronts.{teller_at, index_after, collection_after, names_after}
+use Rattle.jser_walk.specs.Steps.{made_collection, section_due, external_due, type_word_due, line_end_due, made_due, quiet_due}
+use Rattle.jser_walk.specs.Steps.{Due as ToldDue}
+use Rattle.jser_walk.specs.Prompts.{string_prompt, class_name_prompt, interface_prompt}
+use Rattle.jser_walk.specs.Prompts.{Prompt as ToldPrompt}
+use Rattle.jser_graph.specs.declared.survey.Survey.{Survey}
+
+abbrev pub made_by : ToldDue → Option ToldOwner
+made_by (section_due L name) = None
+made_by (external_due L name) = None
+made_by type_word_due = None
+made_by line_end_due = None
+made_by (made_due owner) = Some owner
+made_by quiet_due = None
+
+-- what is kept of an owner that gets its handle, if one does; `n` is how many handles are known
+
+abbrev pub nodes_by : Option ToldOwner → Index → Index
+nodes_by None x = x
+nodes_by (Some owner) x = made (kind_of_owner owner) x
+
+abbrev pub owners_by : Option ToldOwner → ℕ → Collection → Collection
+owners_by None n x = x
+owners_by (Some owner) n x = made_collection owner n x
+
+-- the text that comes next is a string
+abbrev pub is_string : ToldPrompt → Bool
+is_string string_prompt = true
+is_string prompt = false
+
+-- .. or a checked name
+abbrev pub is_name : ToldPrompt → Bool
+is_name class_name_prompt = true
+is_name (interface_prompt L) = true
+is_name prompt = false
+
+abbrev pub names_by : (is_name : Bool) → StreamField → List (List ℕ) → List (List ℕ)
+names_by true (text_field long units) names = names ++ (units ∷ [])
+names_by is_name told names = names
+
+-- before the first field
+pub record Begins (s : Survey) : Type 0 where
+  pub walk : s.walk ≡ begin_telling []
+  pub nodes : s.nodes ≡ begin_index
+  pub owners : s.owners ≡ begin_collection
+  pub names : s.names ≡ []
+
+-- some steps nearer to where it settles for the next field
+pub record Settles (old now : Survey) : Type 0 where
+  pub walk : settled old.walk ≡ settled now.walk
+  pub nodes : settle_index old.walk.known old.walk.cues old.nodes ≡ settle_index now.walk.known now.walk.cues now.nodes
+  pub owners : settle_collection old.walk.known old.walk.cues old.owners ≡ settle_collection now.walk.known now.walk.cues now.owners
+  pub names : now.names ≡ old.names
+  pub place : now.nodes.place ≡ old.nodes.place
+
+-- it has settled
+pub record Ended (old new : Survey) : Type 0 where
+  pub walk : new.walk ≡ settled old.walk
+  pub nodes : new.nodes ≡ settle_index old.walk.known old.walk.cues old.nodes
+  pub owners : new.owners ≡ settle_collection old.walk.known old.walk.cues old.owners
+  pub names : new.names ≡ old.names
+  pub place : new.nodes.place ≡ old.nodes.place
+
+-- it has settled and gone past this field
+pub record Steps (told : StreamField) (old new : Survey) : Type 0 where
+  pub walk : new.walk ≡ goes (settled old.walk) told
+  pub nodes : new.nodes ≡ index_in (settled old.walk).cues told (settle_index old.walk.known old.walk.cues old.nodes)
+  pub owners : new.owners ≡ collect (settled old.walk).known told (settle_collection old.walk.known old.walk.cues old.owners)
+  pub names : new.names ≡ name_in (settled old.walk).cues told old.names
+
+-- it has gone along these fields
+pub record IsAt (front : List Piece) (s : Survey) : Type 0 where
+  pub walk : s.walk ≡ teller_at (begin_telling []) front
+  pub nodes : s.nodes ≡ index_after (begin_telling []) begin_index front
+  pub owners : s.owners ≡ collection_after (begin_telling []) begin_collection front
+  pub names : s.names ≡ names_after (begin_telling []) [] front
+  pub place : s.nodes.place ≡ length (joined front)

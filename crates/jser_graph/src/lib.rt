@@ -1,0 +1,21 @@
+//! A stream kept by its handles: what each handle names, the text of every string, the checked names, the text of show,
+//! and the bytes as they were read.
+#![tactic(auto)]
+
+mod decode;
+mod graph;
+mod lists;
+mod node;
+mod nodes;
+mod output;
+mod owners;
+mod part;
+mod read;
+mod survey;
+#[cfg(test)]
+mod tests;
+mod texts;
+
+pub use graph::Graph;
+pub use node::{Node, NodeKind};
+pub use output::GraphFault;

@@ -1,0 +1,64 @@
+//! Nodes: what the handles of a stream name.
+ghost use Rattle.std.specs.Prelude.{◌≡◌};
+ghost use Rattle.jser_graph.specs.StoredNodes.{told_kind, kind_in};
+
+/// What a handle names.
+#[derive(Clone, Copy, PartialEq, Eq, Hash, Debug)]
+pub enum NodeKind {
+    /// A string.
+    Text,
+    /// A class descriptor.
+    PlainDesc,
+    /// A proxy class descriptor.
+    ProxyDesc,
+    /// A class object.
+    ClassObject,
+    /// An array.
+    Array,
+    /// An enum constant.
+    EnumConst,
+    /// An object.
+    Object,
+}
+
+/// A node of a stream.
+#[derive(Clone, Copy, PartialEq, Eq, Hash, Debug)]
+pub struct Node {
+    /// What it is.
+    pub kind: NodeKind,
+    /// The place of its tag: the number of bytes of the stream before it.
+    pub tag_byte: u64,
+}
+
+/// What is kept of a node beside the place of its tag.
+#[derive(Clone, Copy, PartialEq, Eq, Debug)]
+pub(crate) enum Detail {
+    /// A string, by the number of its text.
+    Text(usize),
+    /// Any other node.
+    Other(NodeKind),
+}
+
+/// A node, as it is kept.
+#[derive(Clone, Copy, PartialEq, Eq, Debug)]
+pub(crate) struct StoredNode {
+    pub(crate) tag_byte: u64,
+    pub(crate) detail: Detail,
+}
+
+impl StoredNode {
+    /// What it is, and where its tag stands.
+    pub(crate) fn node(self) -> Node
+        ensures kind { told_kind result.kind ≡ kind_in self.detail }
+        ensures tag_byte { result.tag_byte ≡ self.tag_byte }
+    {
+        let kind = match self.detail {
+            Detail::Text(_) => NodeKind::Text,
+            Detail::Other(kind) => kind,
+        };
+        Node {
+            kind,
+            tag_byte: self.tag_byte,
+        }
+    }
+}

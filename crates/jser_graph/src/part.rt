@@ -1,0 +1,38 @@
+//! What a reader lends of a stream that it is given in one piece: fields, or the bytes of texts.
+ghost use Rattle.jser_graph.specs.Along.{IsPartOf};
+
+use jser_reader::Item;
+use jser_walk::Field;
+
+/// A field, or what leads to one.
+#[derive(Clone, Copy)]
+pub(crate) enum Part<'p> {
+    /// A field that is no text.
+    Field(Field<'p>),
+    /// All bytes of a text.
+    Text(&'p [u8]),
+    /// The length of a text whose bytes come next.
+    Length,
+}
+
+/// The item, as a part.
+pub(crate) fn part_of(item: Item<'_>) -> Part<'_>
+    ensures { IsPartOf item.entry result }
+{
+    match item {
+        Item::Header => Part::Field(Field::Header),
+        Item::Tag(tag) => Part::Field(Field::Tag(tag)),
+        Item::Handle(handle) => Part::Field(Field::Handle(handle)),
+        Item::TextLength(0) => Part::Text(&[]),
+        Item::TextLength(_) => Part::Length,
+        Item::TextPart(bytes) => Part::Text(bytes),
+        Item::Suid(suid) => Part::Field(Field::Suid(suid)),
+        Item::Flags(flags) => Part::Field(Field::Flags(flags)),
+        Item::FieldCount(count) => Part::Field(Field::FieldCount(count)),
+        Item::InterfaceCount(count) => Part::Field(Field::InterfaceCount(count)),
+        Item::TypeCode(code) => Part::Field(Field::TypeCode(code)),
+        Item::ArrayLength(length) => Part::Field(Field::ArrayLength(length)),
+        Item::BlockLength(length) => Part::Field(Field::BlockLength(length)),
+        Item::RawPart(bytes) => Part::Field(Field::Raw(bytes)),
+    }
+}

@@ -1,0 +1,74 @@
+//! The first walk along the bytes of a stream.
+ghost use Rattle.jser_graph.specs.Surveying.{Begins};
+ghost use Rattle.jser_graph.specs.Reading.{BeginsAt, Walks, Surveys};
+
+use crate::survey::Survey;
+use jser_reader::{OpenGate, Reader, Step, Stop, Totals};
+use jser_reading::laws::one_reading;
+use jser_shown::laws::{
+    collected, collects_fronts, indexed, indexes_fronts, named, names_fronts, one_more,
+    places_are_counted,
+};
+use std::alloc::Global;
+
+/// What a first walk along a stream finds, and its counts.
+#[derive(Drop)]
+pub(crate) struct Found<'a> {
+    pub(crate) survey: Survey<'a>,
+    pub(crate) totals: Totals,
+}
+
+/// Goes along the bytes, if they are a stream.
+#[tactic(auto, using(crate::proofs::ReadLemmas::found_ok, crate::proofs::ReadLemmas::found_err))]
+pub(crate) fn survey<'a>(alloc: Global, bytes: &[u8]) -> Result<Found<'a>, Stop>
+    ensures { Surveys bytes.now result }
+{
+    let mut reader = Reader::new(alloc, OpenGate);
+    let mut survey = Survey::new(alloc);
+    let mut units = Vec::new(alloc);
+    match walk_along(&mut reader, &mut survey, &mut units, bytes) {
+        Ok(totals) => Ok(Found { survey, totals }),
+        Err(stop) => Err(stop),
+    }
+}
+
+/// Goes along the bytes with a new reader, and lets the survey go along their fields.
+fn walk_along(
+    reader: &mut Reader<OpenGate>,
+    survey: &mut Survey<'_>,
+    units: &mut Vec<u16>,
+    bytes: &[u8],
+) -> Result<Totals, Stop>
+    requires reader { BeginsAt reader.old }
+    requires survey { Begins survey.old }
+    ensures { Walks bytes.now survey.new result }
+{
+    one_reading();
+    indexed();
+    collected();
+    indexes_fronts();
+    collects_fronts();
+    named();
+    names_fronts();
+    let mut rest = bytes;
+    'items: while !rest.is_empty() {
+        one_more();
+        places_are_counted();
+        match reader.next(rest) {
+            Err(stop) => return Err(stop),
+            Ok(Step::More) => rest = &[],
+            Ok(Step::Item { item, used }) => {
+                let (_, after) = rest.split_at(used);
+                let end = (bytes.len() - after.len()) as u64;
+                match survey.item(item, units, end) {
+                    Ok(()) => rest = after,
+                    Err(_) => return Err(Stop::OutOfMemory),
+                }
+            }
+        }
+    }
+    match survey.settle() {
+        Ok(()) => reader.finish(),
+        Err(_) => Err(Stop::OutOfMemory),
+    }
+}

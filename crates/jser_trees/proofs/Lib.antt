@@ -1,0 +1,16 @@
+pub mod AnswerLemmas
+pub mod ArraysBounded
+pub mod HandlesBounded
+pub mod Levels
+pub mod Loops
+pub mod NotesLoop
+pub mod Numbers
+pub mod PartsBuilt
+pub mod RefsBounded
+pub mod RoundTrips
+pub mod SectionsLoop
+pub mod TextsBuilt
+pub mod TopLoop
+pub mod TreeLemmas
+pub mod ValuesBuilt
+pub mod ValuesLoop

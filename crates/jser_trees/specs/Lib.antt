@@ -1,0 +1,4 @@
+pub mod Answers
+pub mod Building
+pub mod Found
+pub mod Laws

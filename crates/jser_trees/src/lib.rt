@@ -1,0 +1,18 @@
+//! From bytes to trees: a stream that a gate passes, as the list of its contents (Java Object Serialization
+//! Specification, section 6.4).
+#![tactic(auto)]
+
+mod chains;
+mod cursor;
+mod gate;
+pub mod laws;
+mod read;
+mod texts;
+mod values;
+
+pub use jser_reader::{Gate, OpenGate, Reason, Refusal, Stop};
+pub use jser_value::Contents;
+pub use read::read_all;
+
+#[cfg(test)]
+mod tests;

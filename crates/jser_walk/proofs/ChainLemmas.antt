@@ -1,0 +1,187 @@
+-- Chains as they are kept: one more, fronts, what links lead to, and what is found at the end of a walk up.
+use Rattle.std.proofs.Common.{◌≡◌, ℕ, suc, ◌+◌, ◌-◌, ◌<◌, ◌≤◌, ◌^◌, List, [], ◌∷◌, ◌++◌, length, take, drop, fold, get_or, slice_get, Option, Some, None, refl, ap, sym, ◌∙◌, subst, inl, inr, arith, append_assoc, append-nil, length-append}
+use Rattle.std.proofs.lemmas.Bool.{cases_lt}
+use Rattle.std.proofs.lemmas.Option.{slice_get-get_or}
+use Rattle.std.proofs.lemmas.List.{get_or_append_left, get_or_push, get_or_at, take_at, drop_at, length_push}
+use Rattle.std.proofs.lemmas.List.Sums.{fold_push}
+use Rattle.jser_walk.specs.declared.chains.Chain.{Chain}
+use Rattle.jser_walk.specs.declared.chains.Links.{Links}
+use Rattle.jser_walk.specs.Chains.{chain_in, IsFront, chain_of_parent, chain_above, with_chain, chains_of, front_of, AreLinks, IsTold, AreTold, AreKept, LinksTo, LinkUnder, IsUnder, IsHighest}
+
+-- fronts
+
+IsFront-append : (xs ys : List ℕ) → IsFront xs (xs ++ ys)
+IsFront-append xs ys = record { rest = ap (λ rest. xs ++ rest) (sym (drop_at xs ys (length xs) refl)) }
+
+IsFront-from : (xs ys whole : List ℕ) → whole ≡ xs ++ ys → IsFront xs whole
+IsFront-from xs ys whole e = subst (IsFront xs) (sym e) (IsFront-append xs ys)
+
+pub IsFront-refl : (xs : List ℕ) → IsFront xs xs
+IsFront-refl xs = IsFront-from xs [] xs (rw append-nil refl)
+
+pub IsFront-trans : (xs ys zs : List ℕ) → IsFront xs ys → IsFront ys zs → IsFront xs zs
+IsFront-trans xs ys zs f g =
+    IsFront-from xs (drop (length xs) ys ++ drop (length ys) zs) zs
+    (g.rest ∙ ap (λ front. front ++ drop (length ys) zs) f.rest ∙ append_assoc xs (drop (length xs) ys) (drop (length ys) zs))
+
+-- one more chain
+
+chains_of-push : (cs : List Chain) (c : Chain) → chains_of (cs ++ c ∷ []) ≡ with_chain (chains_of cs) c
+unfolding chains_of
+chains_of-push cs c = fold_push with_chain [] cs c
+
+pub chains_of_none : (cs : List Chain) → cs ≡ [] → chains_of cs ≡ []
+unfolding chains_of
+chains_of_none cs e = ap (λ xs. fold with_chain [] xs) e
+
+pub kept_none : (cs : List Chain) → cs ≡ [] → AreKept cs
+kept_none cs e = record {
+  told = λ place c inside read. absurd (omega (arith, ap length e));
+  fewer = omega (arith, ap length e);
+}
+
+length-fold_with_chain : (chains : List (List ℕ)) (cs : List Chain) → length (fold with_chain chains cs) ≡ length chains + length cs
+length-fold_with_chain chains [] = omega arith
+length-fold_with_chain chains (c ∷ cs) =
+    length-fold_with_chain (with_chain chains c) cs ∙ omega (arith, length_push chains (chain_above chains c.links ++ c.layer ∷ []))
+
+pub length_chains_of : (cs : List Chain) → length (chains_of cs) ≡ length cs
+unfolding chains_of
+length_chains_of cs = length-fold_with_chain [] cs ∙ omega arith
+
+chain_above-push : (chains others : List (List ℕ)) (chain : List ℕ) (place : ℕ) (links : Option Links) → AreLinks others place links → place ≤ length chains → chain_above (chains ++ chain ∷ []) links ≡ chain_above chains links
+chain_above-push chains others chain place None told within = refl
+chain_above-push chains others chain place (Some links) told within = get_or_append_left chains (chain ∷ []) [] links.parent (omega arith)
+
+AreLinks-push : (chains : List (List ℕ)) (chain : List ℕ) (place : ℕ) (links : Option Links) → place < length chains → AreLinks chains place links → AreLinks (chains ++ chain ∷ []) place links
+AreLinks-push chains chain place None inside told = tt
+AreLinks-push chains chain place (Some links) inside told =
+    let same : chain_in (chains ++ chain ∷ []) place ≡ chain_in chains place = get_or_append_left chains (chain ∷ []) [] place inside in
+    let jump_same : chain_in (chains ++ chain ∷ []) links.jump ≡ chain_in chains links.jump = get_or_append_left chains (chain ∷ []) [] links.jump (omega arith) in
+    (told.0, told.1, rw (jump_same, same) told.2)
+
+IsTold-push : (chains : List (List ℕ)) (chain : List ℕ) (place : ℕ) (c : Chain) → place < length chains → IsTold chains place c → IsTold (chains ++ chain ∷ []) place c
+IsTold-push chains chain place c inside told =
+    let same : chain_in (chains ++ chain ∷ []) place ≡ chain_in chains place = get_or_append_left chains (chain ∷ []) [] place inside in
+    let above : chain_above (chains ++ chain ∷ []) c.links ≡ chain_above chains c.links = chain_above-push chains chains chain place c.links told.links (omega arith) in
+    record {
+      own = same ∙ told.own ∙ ap (λ (front : List ℕ). front ++ c.layer ∷ []) (sym above);
+      layers = told.layers ∙ ap length (sym same);
+      within = told.within;
+      links = AreLinks-push chains chain place c.links inside told.links;
+    }
+
+above_of_parent : (chains : List (List ℕ)) (parent : Option ℕ) (links : Option Links) → LinkUnder chains parent links → chain_above chains links ≡ chain_of_parent chains parent
+above_of_parent chains None None under = refl
+above_of_parent chains None (Some links) under = absurd under
+above_of_parent chains (Some parent) None under = absurd under
+above_of_parent chains (Some parent) (Some links) under = ap (chain_in chains) under.parent_is
+
+AreLinks-new : (chains : List (List ℕ)) (parent : Option ℕ) (links : Option Links) (layer : ℕ) → LinkUnder chains parent links → AreLinks (chains ++ (chain_above chains links ++ layer ∷ []) ∷ []) (length chains) links
+AreLinks-new chains None None layer under = tt
+AreLinks-new chains None (Some links) layer under = absurd under
+AreLinks-new chains (Some parent) None layer under = absurd under
+AreLinks-new chains (Some parent) (Some links) layer under =
+    let chain : List ℕ = chain_in chains links.parent ++ layer ∷ [] in
+    let here : chain_in (chains ++ chain ∷ []) (length chains) ≡ chain = get_or_push chains chain [] (length chains) refl in
+    let jump_same : chain_in (chains ++ chain ∷ []) links.jump ≡ chain_in chains links.jump = get_or_append_left chains (chain ∷ []) [] links.jump under.jump_in in
+    let front : IsFront (chain_in chains links.jump) (chain_in chains links.parent) = rw under.parent_is under.jump_front in (
+      rw under.parent_is under.parent_in,
+      under.jump_in,
+      rw (jump_same, here) (IsFront-trans _ _ _ front (IsFront-append (chain_in chains links.parent) (layer ∷ []))),
+    )
+
+IsTold-new : (chains : List (List ℕ)) (parent : Option ℕ) (layer : ℕ) (c : Chain) → IsUnder chains parent layer c → IsTold (with_chain chains c) (length chains) c
+IsTold-new chains parent layer c under =
+    let chain : List ℕ = chain_above chains c.links ++ c.layer ∷ [] in
+    let here : chain_in (with_chain chains c) (length chains) ≡ chain = get_or_push chains chain [] (length chains) refl in
+    let links : AreLinks (with_chain chains c) (length chains) c.links = AreLinks-new chains parent c.links c.layer under.links in
+    let above : chain_above (with_chain chains c) c.links ≡ chain_above chains c.links = chain_above-push chains (with_chain chains c) chain (length chains) c.links links (omega arith) in
+    let is_chain : chain_of_parent chains parent ++ layer ∷ [] ≡ chain =
+    rw (above_of_parent chains parent c.links under.links, under.layer_is) refl
+    in
+    record {
+      own = here ∙ ap (λ (front : List ℕ). front ++ c.layer ∷ []) (sym above);
+      layers = under.layers ∙ ap length (is_chain ∙ sym here);
+      within = under.within;
+      links = links;
+    }
+
+told_push : (old new : List Chain) (c : Chain) (parent : Option ℕ) (layer : ℕ) → AreTold old → new ≡ old ++ c ∷ [] → IsUnder (chains_of old) parent layer c → AreTold new
+told_push old new c parent layer told is under =
+    subst AreTold (sym is) (λ place x inside read.
+    rw (chains_of-push old c)
+    (elim (cases_lt place (length old)) [
+      | inl before ↦
+          IsTold-push (chains_of old) _ place x (rw (length_chains_of old) before)
+          (told place x before (read ∙ get_or_append_left old (c ∷ []) x place before))
+      | inr after ↦
+          let last : length old ≡ place = omega (arith, length_push old c) in
+          let same : x ≡ c = read ∙ get_or_push old c x place last in
+          rw (same, sym last, ← length_chains_of old) (IsTold-new (chains_of old) parent layer c under)
+    ]))
+
+pub kept_push : (old new : List Chain) (c : Chain) (parent : Option ℕ) (layer : ℕ) → AreKept old → length old < 2 ^ 32 - 1 → new ≡ old ++ c ∷ [] → IsUnder (chains_of old) parent layer c → AreKept new
+kept_push old new c parent layer kept few is under = record {
+  told = told_push old new c parent layer kept.told is under;
+  fewer = omega (arith, ap length is, length_push old c);
+}
+
+pub chains_push : (old new : List Chain) (c : Chain) (parent : Option ℕ) (layer : ℕ) → new ≡ old ++ c ∷ [] → IsUnder (chains_of old) parent layer c → chains_of new ≡ chains_of old ++ (chain_of_parent (chains_of old) parent ++ layer ∷ []) ∷ []
+chains_push old new c parent layer is under =
+    ap chains_of is ∙ chains_of-push old c ∙ rw (above_of_parent (chains_of old) parent c.links under.links, under.layer_is) refl
+
+-- a class that is made of a layer alone, or of a parent, a jump and a layer
+
+pub under_none : (cs : List Chain) (parent : Option ℕ) (layer : ℕ) (c : Chain) → parent ≡ None → c ≡ record { layer = layer; links = None; layers = 1 } → IsUnder (chains_of cs) parent layer c
+under_none cs parent layer c is made = rw (is, made) (record {
+  layer_is = refl;
+  links = tt;
+  layers = refl;
+  within = omega arith;
+})
+
+pub under_parent : (cs : List Chain) (parent : Option ℕ) (number jump : ℕ) (layer : ℕ) (above c : Chain) → IsTold (chains_of cs) number above → number < length cs → parent ≡ Some number → jump < length cs → IsFront (chain_in (chains_of cs) jump) (chain_in (chains_of cs) number) → c ≡ record { layer = layer; links = Some record { parent = number; jump = jump }; layers = above.layers + 1 } → IsUnder (chains_of cs) parent layer c
+under_parent cs parent number jump layer above c at_parent inside is jump_in front made =
+    let links : LinksTo (chains_of cs) number record { parent = number; jump = jump } =
+    record { parent_is = refl; parent_in = rw (length_chains_of cs) inside; jump_in = rw (length_chains_of cs) jump_in; jump_front = front }
+    in
+    rw (is, made) (record {
+      layer_is = refl;
+      links = links;
+      layers = ap (λ n. n + 1) at_parent.layers ∙ sym (length_push (chain_in (chains_of cs) number) layer);
+      within = omega (arith, at_parent.within, length_chains_of cs);
+    })
+
+-- the layer at the end of a walk
+
+slice_get_at : (xs : List ℕ) (y : ℕ) (ys : List ℕ) (k : ℕ) → length xs ≡ k → slice_get (xs ++ y ∷ ys) k ≡ Some y
+slice_get_at xs y ys k is =
+    let inside : k < length (xs ++ y ∷ ys) = omega (arith, length-append xs (y ∷ ys)) in
+    slice_get-get_or (xs ++ y ∷ ys) k y inside ∙ ap Some (get_or_at xs y ys y k is)
+
+front_of-ends : (front above : List ℕ) (layer : ℕ) → front ≡ above ++ layer ∷ [] → front_of front ≡ above
+front_of-ends front above layer ends =
+    let long : length front ≡ length above + 1 = ap length ends ∙ length_push above layer in
+    let short : length front - 1 ≡ length above = omega arith in
+    rw short (ap (λ chain. take (length above) chain) ends ∙ take_at above (layer ∷ []) (length above) refl)
+
+-- the class with as many superclasses has the layer at that index
+pub layer_found : (chains : List (List ℕ)) (place k : ℕ) (c : Chain) (whole : List ℕ) → IsTold chains place c → IsHighest k whole (chain_in chains place) → slice_get whole k ≡ Some c.layer
+layer_found chains place k c whole told highest =
+    let front : List ℕ = chain_in chains place in
+    let above : List ℕ = chain_above chains c.links in
+    let rest : List ℕ = drop (length front) whole in
+    let split : whole ≡ above ++ c.layer ∷ rest =
+    highest.is_front.rest ∙ ap (λ f. f ++ rest) told.own ∙ append_assoc above (c.layer ∷ []) rest
+    in
+    let long : length front ≡ length above + 1 = ap length told.own ∙ length_push above c.layer in
+    let least : length (front_of front) ≤ k = highest.least in
+    let over : k < length front = highest.over in
+    let here : length above ≡ k = omega (arith, ap length (front_of-ends front above c.layer told.own)) in
+    rw split (slice_get_at above c.layer rest k here)
+
+-- the own layer of a chain is its last
+pub own_told : (chains : List (List ℕ)) (place : ℕ) (c : Chain) → IsTold chains place c → chain_in chains place ≡ front_of (chain_in chains place) ++ c.layer ∷ []
+own_told chains place c told =
+    told.own ∙ ap (λ above. above ++ c.layer ∷ []) (sym (front_of-ends (chain_in chains place) (chain_above chains c.links) c.layer told.own))

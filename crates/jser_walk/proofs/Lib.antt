@@ -1,0 +1,11 @@
+pub mod ChainLemmas
+pub mod LayerLemmas
+pub mod TableLemmas
+pub mod PartLemmas
+pub mod SeenLemmas
+pub mod FrameLemmas
+pub mod WaitLemmas
+pub mod PassLemmas
+pub mod TakeLemmas
+pub mod DraftLemmas
+pub mod WalkLemmas

@@ -1,0 +1,13 @@
+use Rattle.std.proofs.Common.{rules}
+use Rattle.jser_walk.proofs.TableLemmas.{known_closed, known_unclosed}
+use Rattle.jser_walk.proofs.table.Table.close.Goals as goal
+
+pub returns-then-number-len-clause-known : goal.returns-then-number-len-clause-known
+returns-then-number-len-clause-known c =
+    known_closed _ _ _ _ _ _ _ _ _ _ c.self.view_is c.self.invariant c.chain_above-above.ensures
+    c.in_ok-chain.ensures.added c.in_ok-chain.ensures.number
+
+pub returns-else-number-len-clause-known : goal.returns-else-number-len-clause-known
+returns-else-number-len-clause-known c =
+    known_unclosed _ _ _ _ _ _ _ _ _ _ c.self.view_is c.self.invariant c.chain_above-above.ensures
+    c.in_ok-chain.ensures.added (search rules)

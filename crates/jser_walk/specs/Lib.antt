@@ -1,0 +1,11 @@
+pub mod Given
+pub mod Steps
+pub mod Prompts
+pub mod Views
+pub mod Chains
+pub mod Layers
+pub mod Tables
+pub mod Frames
+pub mod Seen
+pub mod Phases
+pub mod Laws

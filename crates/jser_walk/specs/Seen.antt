@@ -1,0 +1,63 @@
+-- What a walk sees of a field stands for what a teller sees of it.
+use Rattle.std.specs.Prelude.{ℕ, ◌≡◌, ◌==◌, Bool, true, false, if◌then◌else◌, List, Option, Some, None, option_map}
+use Rattle.jser_reading.specs.Labels.{null_tag, reference_tag, class_desc_tag, object_tag, string_tag, array_tag, class_tag, long_string_tag, proxy_desc_tag, enum_tag, StreamField}
+use Rattle.jser_reading.specs.Labels.{Tag as ToldTag}
+use Rattle.jser_shown.specs.Telling.{SeenField, seen_header, seen_end_tag, seen_reset_tag, seen_tag, seen_block_tag, seen_handle, seen_suid, seen_flags, seen_field_count, seen_interface_count, seen_array_length, seen_code, seen_block_length, seen_text, seen_bytes}
+use Rattle.jser_shown.specs.Telling.{seen as seen_of}
+use Rattle.jser_walk.specs.declared.seen.Tag.{Tag}
+use Rattle.jser_walk.specs.declared.seen.Tag.TheVariants as tag
+use Rattle.jser_walk.specs.declared.seen.Seen.{Seen}
+use Rattle.jser_walk.specs.declared.seen.Seen.TheVariants as seen
+
+abbrev pub told_tag : Tag → ToldTag
+told_tag tag.Null = null_tag
+told_tag tag.Reference = reference_tag
+told_tag tag.ClassDesc = class_desc_tag
+told_tag tag.Object = object_tag
+told_tag tag.String = string_tag
+told_tag tag.Array = array_tag
+told_tag tag.Class = class_tag
+told_tag tag.LongString = long_string_tag
+told_tag tag.ProxyDesc = proxy_desc_tag
+told_tag tag.Enum = enum_tag
+
+abbrev pub told_seen : Seen → SeenField
+told_seen seen.Header = seen_header
+told_seen (seen.Tag tag) = seen_tag (told_tag tag)
+told_seen (seen.BlockTag long) = seen_block_tag long
+told_seen seen.EndTag = seen_end_tag
+told_seen seen.ResetTag = seen_reset_tag
+told_seen (seen.Handle n) = seen_handle n
+told_seen (seen.Suid n) = seen_suid n
+told_seen (seen.Flags n) = seen_flags n
+told_seen (seen.FieldCount n) = seen_field_count n
+told_seen (seen.InterfaceCount n) = seen_interface_count n
+told_seen (seen.ArrayLength n) = seen_array_length n
+told_seen (seen.TypeCode n) = seen_code n
+told_seen (seen.BlockLength n) = seen_block_length n
+told_seen (seen.Text units) = seen_text units.now
+told_seen (seen.Bytes bytes) = seen_bytes bytes.now
+
+-- the field is seen as what it is
+abbrev pub Sees : Option Seen → StreamField → Type 0
+Sees None told = ⊥
+Sees (Some s) told = told_seen s ≡ seen_of told
+
+-- what is seen of a tag
+abbrev pub tag_seen : ℕ → Option SeenField
+tag_seen b =
+    if b == 0x70 then Some (seen_tag null_tag)
+    else (if b == 0x71 then Some (seen_tag reference_tag)
+    else (if b == 0x72 then Some (seen_tag class_desc_tag)
+    else (if b == 0x73 then Some (seen_tag object_tag)
+    else (if b == 0x74 then Some (seen_tag string_tag)
+    else (if b == 0x75 then Some (seen_tag array_tag)
+    else (if b == 0x76 then Some (seen_tag class_tag)
+    else (if b == 0x77 then Some (seen_block_tag false)
+    else (if b == 0x78 then Some seen_end_tag
+    else (if b == 0x79 then Some seen_reset_tag
+    else (if b == 0x7A then Some (seen_block_tag true)
+    else (if b == 0x7C then Some (seen_tag long_string_tag)
+    else (if b == 0x7D then Some (seen_tag proxy_desc_tag)
+    else (if b == 0x7E then Some (seen_tag enum_tag)
+    else None)))))))))))))

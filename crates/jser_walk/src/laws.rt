@@ -1,0 +1,28 @@
+//! Laws of the definitions alone. Each is the clause of an empty function, so that the check insists on its proof;
+//! the statements are in `specs/Laws`.
+ghost use Rattle.jser_walk.specs.Laws.{StepsSettle, StepsEnd, NothingDue, PromptsSay, PromptsKeep};
+
+/// A step does not change where a teller settles; what it says comes first, and what is kept by its side.
+pub fn steps_settle()
+    ensures { StepsSettle }
+{}
+
+/// After each step there is one step less.
+pub fn steps_end()
+    ensures { StepsEnd }
+{}
+
+/// Where nothing is due the teller has settled, and nothing more is said or kept.
+pub fn nothing_due()
+    ensures { NothingDue }
+{}
+
+/// What is said of a field is said by the prompt.
+pub fn prompts_say()
+    ensures { PromptsSay }
+{}
+
+/// So is what it does to the index and to the checked names.
+pub fn prompts_keep()
+    ensures { PromptsKeep }
+{}

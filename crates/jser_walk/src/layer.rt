@@ -1,0 +1,136 @@
+//! The classes of chains, with their names.
+ghost use Rattle.std.specs.Prelude.{◌≡◌, ◌<◌, length, is_some, option_map};
+ghost use Rattle.jser_grammar.specs.Codes.{prim_code_of, is_object_code};
+ghost use Rattle.jser_shown.specs.Known.{fields_in, has_notes, is_external_class};
+ghost use Rattle.jser_walk.specs.Steps.{layer_name};
+ghost use Rattle.jser_walk.specs.Layers.{told_layer, told_fields, field_at, is_raw_at, NextRaw, NextValue};
+ghost use Rattle.jser_walk.specs.Views.{view_name};
+
+/// A field of a class.
+#[derive(Drop)]
+pub(crate) struct NamedField {
+    /// The type code.
+    pub(crate) code: u8,
+    /// The UTF-16 units of its name.
+    pub(crate) name: Vec<u16>,
+}
+
+/// A class of a chain.
+#[derive(Drop)]
+pub(crate) enum Layer {
+    /// A plain class.
+    Class {
+        /// The UTF-16 units of its name.
+        name: Vec<u16>,
+        /// The flags of its descriptor.
+        flags: u8,
+        /// Its fields, in the order of the descriptor.
+        fields: Vec<NamedField>,
+    },
+    /// A proxy class.
+    Proxy,
+}
+
+impl Layer {
+    /// The name; None for a proxy.
+    pub(crate) fn name(&self) -> Option<&[u16]>
+        ensures { view_name result ≡ layer_name (told_layer self.now) }
+    {
+        match self {
+            Layer::Class { name, .. } => Some(name.as_slice()),
+            Layer::Proxy => None,
+        }
+    }
+
+    /// The fields; a proxy has none.
+    pub(crate) fn fields(&self) -> &[NamedField]
+        ensures { told_fields result.now ≡ fields_in (told_layer self.now) }
+    {
+        match self {
+            Layer::Class { fields, .. } => fields.as_slice(),
+            Layer::Proxy => &[],
+        }
+    }
+
+    /// Whether an annotation stands behind the values of its section.
+    pub(crate) fn has_notes(&self) -> bool
+        ensures { result ≡ has_notes (told_layer self.now) }
+    {
+        match self {
+            Layer::Class { flags, .. } => flags % 2 == 1,
+            Layer::Proxy => false,
+        }
+    }
+
+    /// Whether it is externalizable.
+    pub(crate) fn is_external(&self) -> bool
+        ensures { result ≡ is_external_class (told_layer self.now) }
+    {
+        match self {
+            Layer::Class { flags, .. } => flags / 4 % 2 == 1,
+            Layer::Proxy => false,
+        }
+    }
+}
+
+/// Whether the code is that of a primitive type.
+fn is_primitive(code: u8) -> bool
+    ensures { result ≡ is_some (prim_code_of code) }
+{
+    matches!(code, 0x42 | 0x43 | 0x44 | 0x46 | 0x49 | 0x4A | 0x53 | 0x5A)
+}
+
+/// Whether a field with this code has a type text.
+pub(crate) fn has_type_text(code: u8) -> bool
+    ensures { result ≡ is_object_code code }
+{
+    code == 0x5B || code == 0x4C
+}
+
+/// Whether the field at this place is of a primitive type.
+#[tactic(auto, using(crate::proofs::LayerLemmas::code_at))]
+fn is_raw(fields: &[NamedField], place: usize) -> bool
+    requires { place < length fields.now }
+    ensures { result ≡ is_raw_at (told_fields fields.now) place }
+{
+    is_primitive(fields[place].code)
+}
+
+/// The name of the field at this place.
+#[tactic(auto, using(crate::proofs::LayerLemmas::name_at))]
+pub(crate) fn name_of(fields: &[NamedField], place: usize) -> &[u16]
+    requires { place < length fields.now }
+    ensures { result.now ≡ (field_at (told_fields fields.now) place).name }
+{
+    fields[place].name.as_slice()
+}
+
+/// The place of the next field of a primitive type, at `from` or after it.
+#[tactic(auto, using(crate::proofs::LayerLemmas::raw_found, crate::proofs::LayerLemmas::raw_passed, crate::proofs::LayerLemmas::no_raw))]
+pub(crate) fn next_raw(fields: &[NamedField], from: usize) -> Option<usize>
+    ensures { NextRaw (told_fields fields.now) from result }
+{
+    let mut place = from;
+    'fields: while place < fields.len() {
+        if is_raw(fields, place) {
+            return Some(place);
+        }
+        place += 1;
+    }
+    None
+}
+
+/// The place of the next field of another type, at `from` or after it.
+#[tactic(auto, using(crate::proofs::LayerLemmas::value_found, crate::proofs::LayerLemmas::value_passed, crate::proofs::LayerLemmas::no_value))]
+pub(crate) fn next_value(fields: &[NamedField], from: usize) -> Option<usize>
+    ensures { NextValue (told_fields fields.now) from result }
+{
+    let mut place = from;
+    'fields: while place < fields.len() {
+        if !is_raw(fields, place) {
+            return Some(place);
+        }
+        place += 1;
+    }
+    None
+}

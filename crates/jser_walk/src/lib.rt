@@ -1,0 +1,27 @@
+//! The walk along the fields of a stream.
+#![tactic(auto)]
+
+mod chains;
+mod draft;
+mod due;
+mod entry;
+mod field;
+mod frame;
+pub mod laws;
+mod layer;
+mod owner;
+mod part;
+mod phase;
+mod prompt;
+mod seen;
+mod stack;
+mod standing;
+mod table;
+mod walk;
+
+pub use due::Due;
+pub use field::Field;
+pub use owner::{Owner, OwnerNode};
+pub use prompt::Prompt;
+pub use seen::{Seen, Tag, see};
+pub use walk::Walk;

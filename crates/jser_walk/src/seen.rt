@@ -1,0 +1,115 @@
+//! What a walk sees of a field: tags by name, texts in either form alike, and so with raw values and the bytes of
+//! blocks.
+ghost use Rattle.jser_reading.specs.Labels.{StreamField};
+ghost use Rattle.jser_walk.specs.Given.{IsOf};
+ghost use Rattle.jser_walk.specs.Seen.{Sees, tag_seen, told_seen};
+ghost use Rattle.std.specs.Prelude.{◌≡◌, option_map};
+
+use crate::field::Field;
+
+/// A tag that begins a value, or stands in a class place or a text place.
+#[derive(Clone, Copy, PartialEq, Eq, Hash, Debug)]
+pub enum Tag {
+    /// TC_NULL.
+    Null,
+    /// TC_REFERENCE.
+    Reference,
+    /// TC_CLASSDESC.
+    ClassDesc,
+    /// TC_OBJECT.
+    Object,
+    /// TC_STRING.
+    String,
+    /// TC_ARRAY.
+    Array,
+    /// TC_CLASS.
+    Class,
+    /// TC_LONGSTRING.
+    LongString,
+    /// TC_PROXYCLASSDESC.
+    ProxyDesc,
+    /// TC_ENUM.
+    Enum,
+}
+
+/// What is seen of a field.
+#[derive(Clone, Copy, PartialEq, Eq, Hash, Debug)]
+pub enum Seen<'f> {
+    /// The header.
+    Header,
+    /// The tag of a value.
+    Tag(Tag),
+    /// The tag of a block, in the long form or the short one.
+    BlockTag(bool),
+    /// TC_ENDBLOCKDATA.
+    EndTag,
+    /// TC_RESET.
+    ResetTag,
+    /// The number of an entry.
+    Handle(usize),
+    /// The serial version UID of a descriptor.
+    Suid(u64),
+    /// The flags of a descriptor.
+    Flags(u8),
+    /// The number of fields of a descriptor.
+    FieldCount(u16),
+    /// The number of interfaces of a proxy descriptor.
+    InterfaceCount(u32),
+    /// The number of elements of an array.
+    ArrayLength(u32),
+    /// The type code of a field.
+    TypeCode(u8),
+    /// The number of bytes of a block.
+    BlockLength(u32),
+    /// The UTF-16 units of a text.
+    Text(&'f [u16]),
+    /// The bytes of raw values or of a block.
+    Bytes(&'f [u8]),
+}
+
+/// What is seen of a field; None of one that no stream has.
+#[tactic(auto, using(crate::proofs::SeenLemmas::sees_tag))]
+pub fn see(field: Field<'_>) -> Option<Seen<'_>>
+    ensures { (told : StreamField) → IsOf field.entry told → Sees result told }
+{
+    match field {
+        Field::Header => Some(Seen::Header),
+        Field::Tag(byte) => see_tag(byte),
+        Field::Handle(handle) => match handle.checked_sub(0x7E_0000) {
+            Some(number) => Some(Seen::Handle(number as usize)),
+            None => None,
+        },
+        Field::Suid(suid) => Some(Seen::Suid(suid)),
+        Field::Flags(flags) => Some(Seen::Flags(flags)),
+        Field::FieldCount(count) => Some(Seen::FieldCount(count)),
+        Field::InterfaceCount(count) => Some(Seen::InterfaceCount(count)),
+        Field::ArrayLength(length) => Some(Seen::ArrayLength(length)),
+        Field::TypeCode(code) => Some(Seen::TypeCode(code)),
+        Field::BlockLength(length) => Some(Seen::BlockLength(length)),
+        Field::Text(units) => Some(Seen::Text(units)),
+        Field::Raw(bytes) => Some(Seen::Bytes(bytes)),
+    }
+}
+
+/// What is seen of a tag; None of a byte that is no tag.
+fn see_tag(byte: u8) -> Option<Seen<'static>>
+    ensures { option_map told_seen result ≡ tag_seen byte }
+{
+    match byte {
+        0x70 => Some(Seen::Tag(Tag::Null)),
+        0x71 => Some(Seen::Tag(Tag::Reference)),
+        0x72 => Some(Seen::Tag(Tag::ClassDesc)),
+        0x73 => Some(Seen::Tag(Tag::Object)),
+        0x74 => Some(Seen::Tag(Tag::String)),
+        0x75 => Some(Seen::Tag(Tag::Array)),
+        0x76 => Some(Seen::Tag(Tag::Class)),
+        0x77 => Some(Seen::BlockTag(false)),
+        0x78 => Some(Seen::EndTag),
+        0x79 => Some(Seen::ResetTag),
+        0x7A => Some(Seen::BlockTag(true)),
+        0x7C => Some(Seen::Tag(Tag::LongString)),
+        0x7D => Some(Seen::Tag(Tag::ProxyDesc)),
+        0x7E => Some(Seen::Tag(Tag::Enum)),
+        _ => None,
+    }
+}

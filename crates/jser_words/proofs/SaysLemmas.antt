@@ -1,0 +1,76 @@
+-- Texts that are said one after another.
+use Rattle.std.proofs.Common.{◌≡◌, ℕ, ◌+◌, ◌<◌, List, [], ◌∷◌, ◌++◌, refl, sym, ap, subst, ◌∙◌, append_assoc, take, length, get_or}
+use Rattle.std.proofs.lemmas.List.{take_more, flat_map_more}
+use Rattle.std.specs.List.{flat_map}
+use Rattle.std.specs.Prelude.{codes}
+use Rattle.hex.specs.Hex.{encode_lower}
+use Rattle.jser_prim.specs.Bytes.{big_bytes}
+use Rattle.jser_prim.specs.Outgoing.{Outgoing, SinkState, Puts}
+use Rattle.jser_prim.proofs.OutgoingLemmas.{puts_none, puts_both}
+use Rattle.jser_shown.specs.Words.{quoted, quoted_unit}
+use Rattle.jser_words.specs.Says.{Saying, Says}
+
+pub says_none : (a : Outgoing) (d : SinkState) (all : List ℕ → List ℕ) → Saying a a d d all all
+says_none a d all = record { bytes = []; puts = puts_none a d; is = λ k. refl }
+
+pub says_bytes : (a b : Outgoing) (d e : SinkState) (bytes : List ℕ) → Puts a b d e bytes → Says a b d e (λ k. bytes ++ k)
+says_bytes a b d e bytes h = record { bytes = bytes; puts = h; is = λ k. refl }
+
+-- some of a text, and more of what was left
+pub says_on : (a b c : Outgoing) (d e f : SinkState) (all middle left : List ℕ → List ℕ) → Saying a b d e all middle
+    → Saying b c e f middle left → Saying a c d f all left
+says_on a b c d e f all middle left h g = record {
+  bytes = h.bytes ++ g.bytes;
+  puts = puts_both a b c d e f h.bytes g.bytes h.puts g.puts;
+  is = λ k. h.is k ∙ ap (λ x. h.bytes ++ x) (g.is k) ∙ sym (append_assoc h.bytes g.bytes (left k));
+}
+
+-- a text, where another one is to follow
+pub says_before : (a b : Outgoing) (d e : SinkState) (text after : List ℕ → List ℕ) → Says a b d e text
+    → Saying a b d e (λ k. text (after k)) after
+says_before a b d e text after h = record { bytes = h.bytes; puts = h.puts; is = λ k. h.is (after k) }
+
+-- the same text in other words
+pub says_same : (a b : Outgoing) (d e : SinkState) (text other : List ℕ → List ℕ) → ((k : List ℕ) → other k ≡ text k)
+    → Says a b d e text → Says a b d e other
+says_same a b d e text other same h = record { bytes = h.bytes; puts = h.puts; is = λ k. same k ∙ h.is k }
+
+pub says_both : (a b c : Outgoing) (d e f : SinkState) (s t : List ℕ → List ℕ) → Says a b d e s → Says b c e f t → Says a c d f (λ k. s (t k))
+says_both a b c d e f s t h g = says_on a b c d e f (λ k. s (t k)) t (λ k. k) (says_before a b d e s t h) g
+
+pub says_three : (a b c d : Outgoing) (p q r s : SinkState) (x y z : List ℕ → List ℕ) → Says a b p q x → Says b c q r y → Says c d r s z
+    → Says a d p s (λ k. x (y (z k)))
+says_three a b c d p q r s x y z f g h = says_both a b d p q s x (λ k. y (z k)) f (says_both b c d q r s y z g h)
+
+pub says_four : (a b c d e : Outgoing) (p q r s t : SinkState) (w x y z : List ℕ → List ℕ) → Says a b p q w → Says b c q r x → Says c d r s y → Says d e s t z
+    → Says a e p t (λ k. w (x (y (z k))))
+says_four a b c d e p q r s t w x y z f g h i = says_both a b e p q t w (λ k. x (y (z k))) f (says_three b c d e q r s t x y z g h i)
+
+pub says_five : (a b c d e f : Outgoing) (p q r s t u : SinkState) (v w x y z : List ℕ → List ℕ) → Says a b p q v → Says b c q r w → Says c d r s x → Says d e s t y
+    → Says e f t u z → Says a f p u (λ k. v (w (x (y (z k)))))
+says_five a b c d e f p q r s t u v w x y z g h i j l =
+    says_both a b f p q u v (λ k. w (x (y (z k)))) g (says_four b c d e f q r s t u w x y z h i j l)
+
+-- a unit more
+pub puts_unit : (a b c : Outgoing) (d e f : SinkState) (units : List ℕ) (i unit : ℕ) → Puts a b d e (flat_map quoted_unit (take i units)) → i < length units → unit ≡ get_or units i 0
+    → Puts b c e f (quoted_unit unit) → Puts a c d f (flat_map quoted_unit (take (i + 1) units))
+puts_unit a b c d e f units i unit so inside is more =
+    subst (Puts a c d f) (ap (λ u. flat_map quoted_unit (take i units) ++ quoted_unit u) is ∙ flat_map_more quoted_unit [] (take i units) (get_or units i 0) ∙ ap (flat_map quoted_unit) (sym (take_more units i 0 inside)))
+    (puts_both a b c d e f (flat_map quoted_unit (take i units)) (quoted_unit unit) so more)
+
+-- a unit by its number
+pub puts_escaped : (a b c : Outgoing) (d e f : SinkState) (digits hex : List ℕ) → Puts a b d e (0x5C ∷ 0x75 ∷ []) → Puts b c e f digits
+    → digits ≡ hex → Puts a c d f (0x5C ∷ 0x75 ∷ hex)
+puts_escaped a b c d e f digits hex h g is = puts_both a b c d e f (0x5C ∷ 0x75 ∷ []) hex h (subst (λ t. Puts b c e f t) is g)
+
+pub says_quoted : (a b c g : Outgoing) (d e f h : SinkState) (units : List ℕ) → Says a b d e (λ k. 0x22 ∷ k) → Puts b c e f (flat_map quoted_unit units)
+    → Says c g f h (λ k. 0x22 ∷ k) → Says a g d h (λ k. quoted units k)
+says_quoted a b c g d e f h units x y z =
+    says_three a b c g d e f h (λ k. 0x22 ∷ k) (λ k. flat_map quoted_unit units ++ k) (λ k. 0x22 ∷ k) x (says_bytes b c e f (flat_map quoted_unit units) y) z
+
+pub says_suid : (a b c : Outgoing) (d e f : SinkState) (bytes : List ℕ) (n : ℕ) → Says a b d e (λ k. codes " suid " ++ k)
+    → Says b c e f (λ k. encode_lower bytes ++ k) → bytes ≡ big_bytes 8 n
+    → Says a c d f (λ k. codes " suid " ++ (encode_lower (big_bytes 8 n) ++ k))
+says_suid a b c d e f bytes n h g is =
+    says_both a b c d e f (λ k. codes " suid " ++ k) (λ k. encode_lower (big_bytes 8 n) ++ k) h
+    (says_same b c e f (λ k. encode_lower bytes ++ k) (λ k. encode_lower (big_bytes 8 n) ++ k) (λ k. ap (λ x. encode_lower x ++ k) (sym is)) g)

@@ -1,0 +1,90 @@
+-- Steps between two fields.
+use Rattle.std.proofs.Common.{◌≡◌, ℕ, ◌<◌, List, [], true, None, Result, Ok, Err, OnOk, OnErr, refl, sym, ap, subst, ◌∙◌, rules, arith}
+use Rattle.jser_prim.specs.Outgoing.{Outgoing, SinkState}
+use Rattle.jser_prim.proofs.OutgoingLemmas.{puts_none}
+use Rattle.jser_reading.specs.Labels.{StreamField}
+use Rattle.jser_shown.specs.Cues.{Teller}
+use Rattle.jser_shown.specs.Telling.{says, settle_says, settled}
+use Rattle.jser_walk.specs.Laws.{StepsSettle, StepsEnd, NothingDue}
+use Rattle.jser_walk.specs.Steps.{due, due_says, pass, steps_left}
+use Rattle.jser_words.specs.Passing.{Passed, says_next}
+use Rattle.jser_words.specs.Says.{Saying, Says, Begins}
+use Rattle.jser_words.proofs.SaysLemmas.{says_on, says_both}
+
+steps-settle : StepsSettle
+steps-settle = search rules
+
+steps-end : StepsEnd
+steps-end = search rules
+
+nothing-due : NothingDue
+nothing-due = search rules
+
+pub says_no_due : (a : Outgoing) (d : SinkState) (s : Teller) → due s ≡ None → Says a a d d (λ k. due_says (due s) k)
+says_no_due a d s is = record { bytes = []; puts = puts_none a d; is = λ k. ap (λ x. due_says x k) is }
+
+-- a step more
+pub says_step : (a b c : Outgoing) (d e f : SinkState) (all : List ℕ → List ℕ) (s t : Teller)
+    → Saying a b d e all (λ k. settle_says s.known s.cues k) → Says b c e f (λ k. due_says (due s) k) → t ≡ pass s
+    → Saying a c d f all (λ k. settle_says t.known t.cues k)
+says_step a b c d e f all s t h g is =
+    says_on a b c d e f all (λ k. settle_says s.known s.cues k) (λ k. settle_says t.known t.cues k) h (record {
+      bytes = g.bytes;
+      puts = g.puts;
+      is = λ k. (steps-settle s).1 k ∙ ap (λ x. due_says (due s) (settle_says x.known x.cues k)) (sym is) ∙ g.is (settle_says t.known t.cues k);
+    })
+
+pub step_settles : (s t : Teller) → t ≡ pass s → settled s ≡ settled t
+step_settles s t is = (steps-settle s).0 ∙ ap settled (sym is)
+
+pub one_step_less : (s t : Teller) → Passed true s t → steps_left t < steps_left s
+one_step_less s t passed =
+    let less = steps-end s passed.0.0 passed.0.1 in
+    omega (arith, less, ap steps_left passed.1)
+
+-- nothing more is due
+pub says_settled : (a b c : Outgoing) (d e f : SinkState) (all : List ℕ → List ℕ) (s : Teller)
+    → Saying a b d e all (λ k. settle_says s.known s.cues k) → Says b c e f (λ k. due_says (due s) k) → due s ≡ None → Says a c d f all
+says_settled a b c d e f all s h g is =
+    says_on a b c d e f all (λ k. settle_says s.known s.cues k) (λ k. k) h (record {
+      bytes = g.bytes;
+      puts = g.puts;
+      is = λ k. (nothing-due s is).1 k ∙ ap (λ x. due_says x k) (sym is) ∙ g.is k;
+    })
+
+pub settled_there : (s : Teller) → due s ≡ None → settled s ≡ s
+settled_there s is = (nothing-due s is).0
+
+-- where memory ran out in a step
+pub says_begun : (a b c : Outgoing) (d e f : SinkState) (all : List ℕ → List ℕ) (s : Teller)
+    → Saying a b d e all (λ k. settle_says s.known s.cues k) → Says b c e f (λ k. due_says (due s) k) → Begins a c d f all
+says_begun a b c d e f all s h g = record {
+  left = λ k. settle_says (pass s).known (pass s).cues k;
+  said = says_step a b c d e f all s (pass s) h g refl;
+}
+
+pub on_err_any : {T E P : Type 0} (r : Result T E) → P → OnErr r P
+on_err_any (Ok x) p = tt
+on_err_any (Err e) p = p
+
+pub on_ok_any : {T E P : Type 0} (r : Result T E) → P → OnOk r P
+on_ok_any (Ok x) p = p
+on_ok_any (Err e) p = tt
+
+-- a field, where all is said that was due before it
+pub says_then : (a b c : Outgoing) (d e f : SinkState) (s t : Teller) (told : StreamField) → Says a b d e (λ k. settle_says s.known s.cues k)
+    → t ≡ settled s → Says b c e f (λ k. says t told k) → Says a c d f (λ k. says_next s told k)
+says_then a b c d e f s t told h is g =
+    says_both a b c d e f (λ k. settle_says s.known s.cues k) (λ k. says (settled s) told k) h
+    (subst (λ u. Says b c e f (λ k. says u told k)) is g)
+
+-- where memory ran out before the field
+pub begins_dues : (a b : Outgoing) (d e : SinkState) (s : Teller) (told : StreamField) → Begins a b d e (λ k. settle_says s.known s.cues k)
+    → Begins a b d e (λ k. says_next s told k)
+begins_dues a b d e s told h = record {
+  left = λ k. h.left (says (settled s) told k);
+  said = record { bytes = h.said.bytes; puts = h.said.puts; is = λ k. h.said.is (says (settled s) told k) };
+}
+
+pub begins_all : (a b : Outgoing) (d e : SinkState) (all : List ℕ → List ℕ) → Says a b d e all → Begins a b d e all
+begins_all a b d e all h = record { left = λ k. k; said = h }

@@ -1,0 +1,10 @@
+use Rattle.std.proofs.Common.{rules}
+use Rattle.jser_words.proofs.LineLemmas.{says_piece}
+use Rattle.jser_words.proofs.SaysLemmas.{says_on}
+use Rattle.jser_words.proofs.number.say_hex.Goals as goal
+
+pub pieces-preserved : goal.pieces-preserved
+pieces-preserved g c = says_piece _ _ _ _ _ _ _ _ _ _ 64 c.pieces.invariant c.say_hex_piece.ensures (search rules) (search rules)
+
+pub returns : goal.returns
+returns g c = says_on _ _ _ _ _ _ _ _ _ c.pieces.invariant c.say_hex_piece-2.ensures

@@ -1,0 +1,13 @@
+use Rattle.std.proofs.Common.{rules, refl}
+use Rattle.jser_words.proofs.ValueLemmas.{says_no_elements, says_element, says_all_elements}
+use Rattle.jser_words.proofs.value.say_pieces.Goals as goal
+
+pub elements-init : goal.elements-init
+elements-init g c = says_no_elements _ _ _ _ _ _ _
+
+pub elements-preserved : goal.elements-preserved
+elements-preserved g c =
+    says_element _ _ _ _ _ _ _ _ _ _ _ _ _ _ _ _ c.elements.invariant c.say_raw_element.ensures (search rules) refl (search rules) (search rules)
+
+pub returns : goal.returns
+returns g c = says_all_elements _ _ _ _ _ _ _ _ _ _ _ c.elements.invariant (search rules)

@@ -1,0 +1,5 @@
+pub mod Says
+pub mod TagWords
+pub mod FieldWords
+pub mod DueWords
+pub mod Passing

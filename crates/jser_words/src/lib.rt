@@ -1,0 +1,22 @@
+//! The words of the text of `show`, put into an outbox one after another. Nothing here takes memory.
+#![tactic(auto)]
+
+mod descriptor;
+mod due;
+mod field;
+mod line;
+mod number;
+mod quote;
+mod tag;
+mod tagged;
+mod telling;
+mod value;
+
+pub use due::say_due;
+pub use line::say;
+pub use number::say_decimal;
+pub use quote::say_quoted;
+pub use telling::{say_all_due, say_field, say_next};
+
+#[cfg(test)]
+mod tests;

@@ -1,0 +1,46 @@
+//! Words as they are, and the beginnings of lines.
+ghost use Rattle.std.specs.Prelude.{suc, ◌≤◌, ◌++◌};
+ghost use Rattle.jser_shown.specs.Words.{begin_line};
+ghost use Rattle.jser_words.specs.Says.{SaysTo};
+
+use jser_prim::{Outbox, Sink};
+
+/// How many levels are begun by one piece of spaces at most.
+const LEVELS: usize = 32;
+
+/// Says these bytes.
+#[tactic(auto, using(crate::proofs::SaysLemmas::says_bytes))]
+pub fn say<W: Sink>(outbox: &mut Outbox, sink: &mut W, words: &[u8])
+    ensures { SaysTo W.gone_out W.has_failed outbox.old outbox.new sink.old sink.new (λ k. words.now ++ k) }
+{
+    outbox.put(sink, words);
+}
+
+/// Says the beginning of a line of this level: two spaces for each.
+pub(crate) fn say_line_start<W: Sink>(outbox: &mut Outbox, sink: &mut W, level: u64)
+    ensures { SaysTo W.gone_out W.has_failed outbox.old outbox.new sink.old sink.new (λ k. begin_line level k) }
+{
+    let mut left = level;
+    'runs: while left > LEVELS as u64 {
+        say_levels(outbox, sink, LEVELS);
+        left -= LEVELS as u64;
+    }
+    say_levels(outbox, sink, left as usize);
+}
+
+/// Says the beginning of a line that is one level deeper than this one.
+pub(crate) fn say_deeper_line_start<W: Sink>(outbox: &mut Outbox, sink: &mut W, level: u64)
+    ensures { SaysTo W.gone_out W.has_failed outbox.old outbox.new sink.old sink.new (λ k. begin_line (suc level) k) }
+{
+    say(outbox, sink, b"  ");
+    say_line_start(outbox, sink, level);
+}
+
+/// Says the spaces of a few levels.
+fn say_levels<W: Sink>(outbox: &mut Outbox, sink: &mut W, levels: usize)
+    requires { levels ≤ 32 }
+    ensures { SaysTo W.gone_out W.has_failed outbox.old outbox.new sink.old sink.new (λ k. begin_line levels k) }
+{
+    let spaces = [b' '; 2 * LEVELS];
+    say(outbox, sink, &spaces[..2 * levels]);
+}

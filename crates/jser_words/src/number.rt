@@ -1,0 +1,103 @@
+//! Numbers in words: decimal, hexadecimal, and the marks of handles.
+ghost use Rattle.std.specs.Prelude.{◌≡◌, ◌≤◌, ◌+◌, ◌++◌, length};
+ghost use Rattle.std.specs.Fmt.{decimal};
+ghost use Rattle.hex.specs.Hex.{encode_lower};
+ghost use Rattle.jser_prim.specs.Bytes.{big_bytes};
+ghost use Rattle.jser_shown.specs.Words.{end_line, mark, without_zeros};
+ghost use Rattle.jser_words.specs.Says.{SaysTo};
+
+use crate::line::say;
+use byteorder::{BigEndian, ByteOrder};
+use itoa::Buffer;
+use jser_prim::{Outbox, Sink};
+
+/// How many bytes are put in hexadecimal at a time.
+const PIECE: usize = 64;
+
+/// The handle with the number 0, as it is written in a stream.
+const FIRST_HANDLE: u64 = 0x7E0000;
+
+/// Says a number in decimal.
+pub fn say_decimal<W: Sink>(outbox: &mut Outbox, sink: &mut W, number: u64)
+    ensures { SaysTo W.gone_out W.has_failed outbox.old outbox.new sink.old sink.new (λ k. decimal number ++ k) }
+{
+    let mut buffer = Buffer::new();
+    say(outbox, sink, buffer.format(number).as_bytes());
+}
+
+/// Says bytes in lower-case hexadecimal, two digits a byte.
+pub(crate) fn say_hex<W: Sink>(outbox: &mut Outbox, sink: &mut W, bytes: &[u8])
+    ensures { SaysTo W.gone_out W.has_failed outbox.old outbox.new sink.old sink.new (λ k. encode_lower bytes.now ++ k) }
+{
+    let mut rest = bytes;
+    'pieces: while rest.len() > PIECE {
+        let (piece, after) = rest.split_at(PIECE);
+        say_hex_piece(outbox, sink, piece);
+        rest = after;
+    }
+    say_hex_piece(outbox, sink, rest);
+}
+
+/// Says a few bytes in hexadecimal.
+fn say_hex_piece<W: Sink>(outbox: &mut Outbox, sink: &mut W, bytes: &[u8])
+    requires { length bytes.now ≤ 64 }
+    ensures { SaysTo W.gone_out W.has_failed outbox.old outbox.new sink.old sink.new (λ k. encode_lower bytes.now ++ k) }
+{
+    let mut digits = [0; 2 * PIECE];
+    let room = &mut digits[..2 * bytes.len()];
+    match hex::encode_to_slice(bytes, room) {
+        Ok(()) => {}
+        Err(_) => unreachable!(),
+    }
+    say(outbox, sink, room);
+}
+
+/// Says the mark of the handle with this number in this epoch, as `#0.7e0000`.
+pub(crate) fn say_mark<W: Sink>(outbox: &mut Outbox, sink: &mut W, epoch: u64, number: u64)
+    ensures { SaysTo W.gone_out W.has_failed outbox.old outbox.new sink.old sink.new (λ k. mark epoch number k) }
+{
+    say(outbox, sink, b"#");
+    say_decimal(outbox, sink, epoch);
+    say(outbox, sink, b".");
+    say_handle(outbox, sink, number);
+}
+
+/// Says a mark, and the end of its line.
+pub(crate) fn say_mark_line<W: Sink>(outbox: &mut Outbox, sink: &mut W, epoch: u64, number: u64)
+    ensures { SaysTo W.gone_out W.has_failed outbox.old outbox.new sink.old sink.new (λ k. mark epoch number (end_line k)) }
+{
+    say_mark(outbox, sink, epoch, number);
+    say(outbox, sink, b"\n");
+}
+
+/// Says a handle as it is written, in hexadecimal without zeros at the beginning.
+fn say_handle<W: Sink>(outbox: &mut Outbox, sink: &mut W, number: u64)
+    ensures { SaysTo W.gone_out W.has_failed outbox.old outbox.new sink.old sink.new (λ k. without_zeros (encode_lower (big_bytes 4 (0x7E0000 + number))) ++ k) }
+{
+    let mut bytes = [0; 4];
+    BigEndian::write_u32(&mut bytes, handle_written(number));
+    let mut digits = [0; 8];
+    match hex::encode_to_slice(bytes.as_slice(), &mut digits) {
+        Ok(()) => {}
+        Err(_) => unreachable!(),
+    }
+    say(outbox, sink, without_first_zeros(&digits));
+}
+
+/// A handle as it is written, in 32 bits.
+fn handle_written(number: u64) -> u32
+    ensures { big_bytes 4 result ≡ big_bytes 4 (0x7E0000 + number) }
+{
+    (FIRST_HANDLE.wrapping_add(number) % (1 << 32)) as u32
+}
+
+/// The text without the zeros at its beginning.
+fn without_first_zeros(text: &[u8]) -> &[u8]
+    ensures { result.now ≡ without_zeros text.now }
+{
+    let mut rest = text;
+    'zeros: while let [b'0', after @ ..] = rest {
+        rest = after;
+    }
+    rest
+}
