@@ -224,8 +224,8 @@ tells_part (step.Item lent count) p kept used took given front gate old new tall
             let now = ap (λ c. c ++ take used front) o.cut_is in
             let here = ap (λ xs. cut ++ xs) et in
             subst (λ c. 0 < number_of c) (sym here ∙ now)
-                (text_goes new.phase new s (cut ++ take used given) long (machine_stands gate fields (cut ++ take used given) new tally sn).stands text
-                (ap length (sym here ∙ now) ∙ size)))
+            (text_goes new.phase new s (cut ++ take used given) long (machine_stands gate fields (cut ++ take used given) new tally sn).stands text
+            (ap length (sym here ∙ now) ∙ size)))
             (λ all. is_full gate given front used old tally fields cut st w all)
             (subst (λ xs. MakesItem (open_phase old) (cut_of old) xs lent) (sym et) mi);
       });
