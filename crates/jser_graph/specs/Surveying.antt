@@ -35,13 +35,13 @@ owners_by (Some owner) n x = made_collection owner n x
 -- the text that comes next is a string
 abbrev pub is_string : ToldPrompt → Bool
 is_string string_prompt = true
-is_string prompt = false
+is_string _ = false
 
 -- .. or a checked name
 abbrev pub is_name : ToldPrompt → Bool
 is_name class_name_prompt = true
 is_name (interface_prompt L) = true
-is_name prompt = false
+is_name _ = false
 
 abbrev pub names_by : (is_name : Bool) → StreamField → List (List ℕ) → List (List ℕ)
 names_by true (text_field long units) names = names ++ (units ∷ [])

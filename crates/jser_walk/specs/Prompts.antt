@@ -90,15 +90,15 @@ prompt_says flags_prompt e n o field k = flags_says field k
 prompt_says (field_prompt L) e n o field k = code_says L field k
 prompt_says field_name_prompt e n o field k = name_says field k
 prompt_says (interface_prompt L) e n o field k = interface_says L field k
-prompt_says prompt e n o field k = k
+prompt_says _ e n o field k = k
 
 -- what a field does there to the index
 abbrev pub prompt_index : Prompt → StreamField → Index → Index
 prompt_index string_prompt field x = index_field true field x
-prompt_index prompt field x = index_field false field x
+prompt_index _ field x = index_field false field x
 
 -- and to the checked names
 abbrev pub prompt_names : Prompt → SeenField → List (List ℕ) → List (List ℕ)
 prompt_names class_name_prompt field names = name_seen field names
 prompt_names (interface_prompt L) field names = name_seen field names
-prompt_names prompt field names = names
+prompt_names _ field names = names
