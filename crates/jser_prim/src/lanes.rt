@@ -7,6 +7,9 @@ use std::simd::prelude::*;
 /// How many bytes are searched together for the first that is something else.
 const LANES: usize = 16;
 
+/// How many bytes are searched together where there are fewer.
+const HALF: usize = 8;
+
 /// How many bytes are tested together within a long run.
 const BLOCK: usize = 64;
 
@@ -23,6 +26,13 @@ pub(crate) fn ascii_len(bytes: &[u8]) -> usize
             return len;
         }
         len = after_blocks(bytes, len);
+    }
+    if bytes.len() - len >= HALF {
+        let run = ascii_half(bytes, len);
+        len += run;
+        if run < HALF {
+            return len;
+        }
     }
     'bytes: while len < bytes.len() && 0x01 <= bytes[len] && bytes[len] < 0x80 {
         len += 1;
@@ -62,16 +72,27 @@ fn ascii_run(bytes: &[u8], at: usize) -> usize
     ensures ascii { IsAsciiBetween bytes.now at (at + result) }
 {
     let stops = (u8x16::from_slice(&bytes[at..]) - u8x16::splat(1)).simd_ge(u8x16::splat(0x7F));
-    first_set(stops.to_bitmask())
+    first_set(stops.to_bitmask(), LANES)
 }
 
-/// The place of the lowest bit that is set, or `LANES` where none is.
+/// The same of a load of half as many bytes.
 #[inline(always)]
-fn first_set(mask: u64) -> usize
-    ensures { result ≡ first_set mask LANES }
+fn ascii_half(bytes: &[u8], at: usize) -> usize
+    requires { at + HALF ≤ length bytes.now }
+    ensures within { result ≤ HALF }
+    ensures ascii { IsAsciiBetween bytes.now at (at + result) }
+{
+    let stops = (u8x8::from_slice(&bytes[at..]) - u8x8::splat(1)).simd_ge(u8x8::splat(0x7F));
+    first_set(stops.to_bitmask(), HALF)
+}
+
+/// The place of the lowest bit that is set, or the number of lanes where none is.
+#[inline(always)]
+fn first_set(mask: u64, lanes: usize) -> usize
+    ensures { result ≡ first_set mask lanes }
 {
     if mask == 0 {
-        LANES
+        lanes
     } else {
         mask.trailing_zeros() as usize
     }

@@ -95,7 +95,7 @@ impl<G: Gate> Reader<G> {
             }
             Taken::Part(used) => Ok(lend(field, kept, front, used)),
             Taken::Stopped(_) => Err(self.machine.answer()),
-            Taken::Open => {
+            _ => {
                 if front.len() < piece.len() {
                     return Err(self.machine.exceed());
                 }

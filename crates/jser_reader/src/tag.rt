@@ -2,6 +2,12 @@
 //! `java.io.ObjectStreamConstants`).
 ghost use Rattle.jser_reader.specs.Tags.{IsTagOf};
 
+use jser_grammar::wire::{
+    TC_ARRAY, TC_BLOCKDATA, TC_BLOCKDATALONG, TC_CLASS, TC_CLASSDESC, TC_ENDBLOCKDATA, TC_ENUM,
+    TC_EXCEPTION, TC_LONGSTRING, TC_NULL, TC_OBJECT, TC_PROXYCLASSDESC, TC_REFERENCE, TC_RESET,
+    TC_STRING,
+};
+
 /// A tag that begins a value, or stands in a class place or a text place.
 #[derive(Clone, Copy)]
 pub(crate) enum ValueTag {
@@ -34,21 +40,21 @@ pub(crate) fn tag_of(byte: u8) -> Option<Tag>
     ensures { IsTagOf byte result }
 {
     match byte {
-        0x70 => Some(Tag::Value(ValueTag::Null)),
-        0x71 => Some(Tag::Value(ValueTag::Reference)),
-        0x72 => Some(Tag::Value(ValueTag::ClassDesc)),
-        0x73 => Some(Tag::Value(ValueTag::Object)),
-        0x74 => Some(Tag::Value(ValueTag::String)),
-        0x75 => Some(Tag::Value(ValueTag::Array)),
-        0x76 => Some(Tag::Value(ValueTag::Class)),
-        0x77 => Some(Tag::Block(false)),
-        0x78 => Some(Tag::EndBlockData),
-        0x79 => Some(Tag::Reset),
-        0x7A => Some(Tag::Block(true)),
-        0x7B => Some(Tag::Exception),
-        0x7C => Some(Tag::Value(ValueTag::LongString)),
-        0x7D => Some(Tag::Value(ValueTag::ProxyClassDesc)),
-        0x7E => Some(Tag::Value(ValueTag::Enum)),
+        TC_NULL => Some(Tag::Value(ValueTag::Null)),
+        TC_REFERENCE => Some(Tag::Value(ValueTag::Reference)),
+        TC_CLASSDESC => Some(Tag::Value(ValueTag::ClassDesc)),
+        TC_OBJECT => Some(Tag::Value(ValueTag::Object)),
+        TC_STRING => Some(Tag::Value(ValueTag::String)),
+        TC_ARRAY => Some(Tag::Value(ValueTag::Array)),
+        TC_CLASS => Some(Tag::Value(ValueTag::Class)),
+        TC_BLOCKDATA => Some(Tag::Block(false)),
+        TC_ENDBLOCKDATA => Some(Tag::EndBlockData),
+        TC_RESET => Some(Tag::Reset),
+        TC_BLOCKDATALONG => Some(Tag::Block(true)),
+        TC_EXCEPTION => Some(Tag::Exception),
+        TC_LONGSTRING => Some(Tag::Value(ValueTag::LongString)),
+        TC_PROXYCLASSDESC => Some(Tag::Value(ValueTag::ProxyClassDesc)),
+        TC_ENUM => Some(Tag::Value(ValueTag::Enum)),
         _ => None,
     }
 }

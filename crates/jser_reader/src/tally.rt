@@ -37,9 +37,9 @@ impl Tally {
         ensures { self.old.contents + 1 < 2 ^ 64 → self.old.earlier + old.entries < 2 ^ 64 → self.new ≡ tally_after old new self.old }
     {
         if old.at_top {
-            self.contents = self.contents.saturating_add(1);
+            self.contents = self.contents.wrapping_add(1);
             if new.entries == 0 {
-                self.earlier = self.earlier.saturating_add(old.entries);
+                self.earlier = self.earlier.wrapping_add(old.entries);
             }
         }
         if old.refs < new.refs {

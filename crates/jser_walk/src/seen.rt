@@ -6,6 +6,11 @@ ghost use Rattle.jser_walk.specs.Seen.{Sees, tag_seen, told_seen};
 ghost use Rattle.std.specs.Prelude.{◌≡◌, option_map};
 
 use crate::field::Field;
+use jser_grammar::wire::{
+    BASE_WIRE_HANDLE, TC_ARRAY, TC_BLOCKDATA, TC_BLOCKDATALONG, TC_CLASS, TC_CLASSDESC,
+    TC_ENDBLOCKDATA, TC_ENUM, TC_LONGSTRING, TC_NULL, TC_OBJECT, TC_PROXYCLASSDESC, TC_REFERENCE,
+    TC_RESET, TC_STRING,
+};
 
 /// A tag that begins a value, or stands in a class place or a text place.
 #[derive(Clone, Copy, PartialEq, Eq, Hash, Debug)]
@@ -75,7 +80,7 @@ pub fn see(field: Field<'_>) -> Option<Seen<'_>>
     match field {
         Field::Header => Some(Seen::Header),
         Field::Tag(byte) => see_tag(byte),
-        Field::Handle(handle) => match handle.checked_sub(0x7E_0000) {
+        Field::Handle(handle) => match handle.checked_sub(BASE_WIRE_HANDLE) {
             Some(number) => Some(Seen::Handle(number as usize)),
             None => None,
         },
@@ -96,20 +101,20 @@ fn see_tag(byte: u8) -> Option<Seen<'static>>
     ensures { option_map told_seen result ≡ tag_seen byte }
 {
     match byte {
-        0x70 => Some(Seen::Tag(Tag::Null)),
-        0x71 => Some(Seen::Tag(Tag::Reference)),
-        0x72 => Some(Seen::Tag(Tag::ClassDesc)),
-        0x73 => Some(Seen::Tag(Tag::Object)),
-        0x74 => Some(Seen::Tag(Tag::String)),
-        0x75 => Some(Seen::Tag(Tag::Array)),
-        0x76 => Some(Seen::Tag(Tag::Class)),
-        0x77 => Some(Seen::BlockTag(false)),
-        0x78 => Some(Seen::EndTag),
-        0x79 => Some(Seen::ResetTag),
-        0x7A => Some(Seen::BlockTag(true)),
-        0x7C => Some(Seen::Tag(Tag::LongString)),
-        0x7D => Some(Seen::Tag(Tag::ProxyDesc)),
-        0x7E => Some(Seen::Tag(Tag::Enum)),
+        TC_NULL => Some(Seen::Tag(Tag::Null)),
+        TC_REFERENCE => Some(Seen::Tag(Tag::Reference)),
+        TC_CLASSDESC => Some(Seen::Tag(Tag::ClassDesc)),
+        TC_OBJECT => Some(Seen::Tag(Tag::Object)),
+        TC_STRING => Some(Seen::Tag(Tag::String)),
+        TC_ARRAY => Some(Seen::Tag(Tag::Array)),
+        TC_CLASS => Some(Seen::Tag(Tag::Class)),
+        TC_BLOCKDATA => Some(Seen::BlockTag(false)),
+        TC_ENDBLOCKDATA => Some(Seen::EndTag),
+        TC_RESET => Some(Seen::ResetTag),
+        TC_BLOCKDATALONG => Some(Seen::BlockTag(true)),
+        TC_LONGSTRING => Some(Seen::Tag(Tag::LongString)),
+        TC_PROXYCLASSDESC => Some(Seen::Tag(Tag::ProxyDesc)),
+        TC_ENUM => Some(Seen::Tag(Tag::Enum)),
         _ => None,
     }
 }

@@ -9,13 +9,11 @@ ghost use Rattle.jser_words.specs.Says.{SaysTo};
 use crate::line::say;
 use byteorder::{BigEndian, ByteOrder};
 use itoa::Buffer;
+use jser_grammar::wire::BASE_WIRE_HANDLE;
 use jser_prim::{Outbox, Sink};
 
 /// How many bytes are put in hexadecimal at a time.
 const PIECE: usize = 64;
-
-/// The handle with the number 0, as it is written in a stream.
-const FIRST_HANDLE: u64 = 0x7E0000;
 
 /// Says a number in decimal.
 pub fn say_decimal<W: Sink>(outbox: &mut Outbox, sink: &mut W, number: u64)
@@ -88,7 +86,7 @@ fn say_handle<W: Sink>(outbox: &mut Outbox, sink: &mut W, number: u64)
 fn handle_written(number: u64) -> u32
     ensures { big_bytes 4 result ≡ big_bytes 4 (0x7E0000 + number) }
 {
-    (FIRST_HANDLE.wrapping_add(number) % (1 << 32)) as u32
+    (u64::from(BASE_WIRE_HANDLE).wrapping_add(number) % (1 << 32)) as u32
 }
 
 /// The text without the zeros at its beginning.

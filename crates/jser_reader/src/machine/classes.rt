@@ -17,10 +17,8 @@ use crate::machine::Machine;
 use crate::phase::Phase;
 use crate::refusal::Reason;
 use crate::tag::{Tag, ValueTag, tag_of};
+use jser_grammar::wire::BASE_WIRE_HANDLE;
 use jser_table::{ChainNumber, Class, Fit, Purpose};
-
-/// 0x7E0000, `baseWireHandle`: the first handle of an epoch.
-pub(super) const FIRST_HANDLE: u32 = 0x7E_0000;
 
 impl Machine {
     /// A new proxy descriptor as the class of the owner.
@@ -98,10 +96,10 @@ impl Machine {
         ensures { Tells (class_handle_reason (plain_gate self.old) (label_at (class_handle_at (goal_owner self.old.owner)) (suc (length self.old.frames)) self.old) (goal_owner self.old.owner) n)
             (owner_state self.old (chain_at self.old.table.entries (n - 0x7E0000))) result self.old self.new }
     {
-        if n < FIRST_HANDLE {
+        if n < BASE_WIRE_HANDLE {
             return self.refuse(Reason::NoSuchHandle);
         }
-        match self.table.class_at(n - FIRST_HANDLE) {
+        match self.table.class_at(n - BASE_WIRE_HANDLE) {
             Class::NotThere => self.refuse(Reason::NoSuchHandle),
             Class::NoClass => self.refuse(Reason::WrongKind),
             Class::Open => self.refuse(Reason::OpenDescriptor),

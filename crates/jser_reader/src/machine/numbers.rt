@@ -8,9 +8,9 @@ ghost use Rattle.jser_reader.specs.Numbers.{back_reason, after_length, after_blo
 
 use crate::frame::Frame;
 use crate::machine::Machine;
-use crate::machine::classes::FIRST_HANDLE;
 use crate::phase::Phase;
 use crate::refusal::Reason;
+use jser_grammar::wire::BASE_WIRE_HANDLE;
 
 impl Machine {
     /// The handle of a reference in a value place.
@@ -19,7 +19,7 @@ impl Machine {
     pub(super) fn back_handle(&mut self, n: u32) -> bool
         ensures { TellsSurely (back_reason self.old n) (after_value self.old) result self.old self.new }
     {
-        if n < FIRST_HANDLE || n - FIRST_HANDLE >= self.table.count() {
+        if n < BASE_WIRE_HANDLE || n - BASE_WIRE_HANDLE >= self.table.count() {
             return self.refuse(Reason::NoSuchHandle);
         }
         self.ended()

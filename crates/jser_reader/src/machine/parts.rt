@@ -165,8 +165,23 @@ impl Machine {
     }
 
     /// A value has ended.
-    #[tactic(auto, using(crate::proofs::PartLemmas::at_top, crate::proofs::PartLemmas::comes_at_last, crate::proofs::PartLemmas::kept_on, crate::proofs::PartLemmas::left_over, crate::proofs::PartLemmas::goes_shorter, crate::proofs::PartLemmas::fits_top))]
+    #[tactic(auto, using(crate::proofs::PartLemmas::at_top))]
+    #[inline(always)]
     pub(super) fn value_done(&mut self)
+        ensures ready { Ready self.new (after_value self.old) }
+        ensures kept { Kept self.old self.new }
+        ensures meter { self.new.meter ≡ self.old.meter }
+    {
+        match self.frames.top() {
+            None => self.phase = Phase::Top,
+            Some(_) => self.frames_done(),
+        }
+    }
+
+    /// A value has ended, below the top of the stream.
+    #[inline(never)]
+    #[tactic(auto, using(crate::proofs::PartLemmas::at_top, crate::proofs::PartLemmas::comes_at_last, crate::proofs::PartLemmas::kept_on, crate::proofs::PartLemmas::left_over, crate::proofs::PartLemmas::goes_shorter, crate::proofs::PartLemmas::fits_top))]
+    fn frames_done(&mut self)
         ensures ready { Ready self.new (after_value self.old) }
         ensures kept { Kept self.old self.new }
         ensures meter { self.new.meter ≡ self.old.meter }

@@ -10,10 +10,10 @@ ghost use Rattle.jser_reader.specs.Superclasses.{CountsPlace, strict_in, super_r
 
 use crate::frame::{Frame, Owner, Role};
 use crate::machine::Machine;
-use crate::machine::classes::FIRST_HANDLE;
 use crate::phase::Phase;
 use crate::refusal::Reason;
 use crate::tag::{Tag, ValueTag, tag_of};
+use jser_grammar::wire::BASE_WIRE_HANDLE;
 use jser_table::Class;
 
 impl Machine {
@@ -138,18 +138,18 @@ impl Machine {
     pub(super) fn super_handle(&mut self, n: u32) -> bool
         ensures { HasDescriptor self.old.frames → Tells (super_handle_reason self.old n) (closed_state self.old (Some (n - 0x7E0000))) result self.old self.new }
     {
-        if n < FIRST_HANDLE {
+        if n < BASE_WIRE_HANDLE {
             return self.refuse(Reason::NoSuchHandle);
         }
-        match self.table.class_at(n - FIRST_HANDLE) {
+        match self.table.class_at(n - BASE_WIRE_HANDLE) {
             Class::NotThere => self.refuse(Reason::NoSuchHandle),
             Class::NoClass => self.refuse(Reason::WrongKind),
             Class::Open => self.refuse(Reason::OpenDescriptor),
             Class::Closed(_) => {
-                if self.is_strict() && !self.table.all_serial(n - FIRST_HANDLE) {
+                if self.is_strict() && !self.table.all_serial(n - BASE_WIRE_HANDLE) {
                     return self.refuse(Reason::NotSerializable);
                 }
-                self.close(Some(n - FIRST_HANDLE))
+                self.close(Some(n - BASE_WIRE_HANDLE))
             }
         }
     }

@@ -9,6 +9,7 @@ use crate::phase::Phase;
 impl Machine {
     /// Takes bytes of a raw field: as many as are left of it, which is one at least, or all of the piece.
     #[tactic(auto, using(crate::proofs::TakeRawLemmas::raw_ends, crate::proofs::TakeRawLemmas::raw_stays))]
+    #[inline(never)]
     fn take_raw(&mut self, piece: &[u8]) -> Taken
         requires some { 0 < length piece.now }
         requires room { self.old.meter.at + length piece.now < 2 ^ 64 }
@@ -26,6 +27,7 @@ impl Machine {
 
     /// Takes bytes of raw values.
     #[tactic(auto, using(crate::proofs::TakeRawLemmas::takes_prims))]
+    #[inline(always)]
     pub(super) fn take_prims(&mut self, piece: &[u8]) -> Taken
         requires phase { self.old.phase ≡ Phase.Prims }
         requires some { 0 < length piece.now }
@@ -37,6 +39,7 @@ impl Machine {
 
     /// Takes bytes of a block.
     #[tactic(auto, using(crate::proofs::TakeRawLemmas::takes_block))]
+    #[inline(always)]
     pub(super) fn take_block(&mut self, piece: &[u8]) -> Taken
         requires phase { self.old.phase ≡ Phase.Bytes }
         requires some { 0 < length piece.now }

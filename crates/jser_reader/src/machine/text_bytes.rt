@@ -50,6 +50,7 @@ impl Machine {
 
     /// Scans these bytes of a checked name: all of them, or up to the one at which the machine stops.
     #[tactic(auto, using(crate::proofs::TextScanLemmas::none_scanned, crate::proofs::TextScanLemmas::one_more, crate::proofs::TextScanLemmas::stops_at, crate::proofs::TextScanLemmas::all_scanned))]
+    #[inline(never)]
     fn scan_name(&mut self, part: &[u8]) -> Option<usize>
         requires checked { is_checked self.old.text ≡ true }
         requires within { length part.now ≤ self.old.scan.left }
@@ -101,6 +102,7 @@ impl Machine {
 
     /// Takes bytes of the open text: as many as are left of it, or all of the piece.
     #[tactic(auto, using(crate::proofs::TextScanLemmas::text_stops, crate::proofs::TextScanLemmas::text_stays_open, crate::proofs::TextScanLemmas::text_ends))]
+    #[inline(never)]
     pub(super) fn take_text<G: Gate>(&mut self, gate: &G, piece: &[u8]) -> Taken
         requires phase { self.old.phase ≡ Phase.Text }
         requires some { 0 < length piece.now }

@@ -11,10 +11,10 @@ ghost use Rattle.jser_reader.specs.TextStates.{text_tag_reason, handle_reason, a
 
 use crate::gate::Gate;
 use crate::machine::Machine;
-use crate::machine::classes::FIRST_HANDLE;
 use crate::phase::{Phase, TextFor};
 use crate::refusal::Reason;
 use crate::tag::{Tag, ValueTag, tag_of};
+use jser_grammar::wire::BASE_WIRE_HANDLE;
 use jser_table::Entry;
 
 impl Machine {
@@ -72,10 +72,10 @@ impl Machine {
         ensures { IsForm self.old.text true → IsInside self.old.text self.old.frames
             → TellsSurely (handle_reason self.old n) (settle (moment_of self.old) (text_rest self.old self.old.text)) result self.old self.new }
     {
-        if n < FIRST_HANDLE {
+        if n < BASE_WIRE_HANDLE {
             return self.refuse(Reason::NoSuchHandle);
         }
-        match self.table.get(n - FIRST_HANDLE) {
+        match self.table.get(n - BASE_WIRE_HANDLE) {
             None => self.refuse(Reason::NoSuchHandle),
             Some(Entry::Text) => self.place_done(),
             Some(_) => self.refuse(Reason::WrongKind),

@@ -43,13 +43,13 @@ returns-in-Stopped-clause-tells g c =
 pub returns-then-front-piece-clause-tells : goal.returns-then-front-piece-clause-tells
 returns-then-front-piece-clause-tells g c =
     subst (λ r. NextTells (g.G.Gate.told r.gate) c.args.piece.now (Err c.exceed.result) r.machine r.tally c.exceed.new.self c.self.inside.tally) c.self.view_is
-    (step_over c.exceed.result _ c.args.piece.now c.args.front.now _ _ _ _ _ _ c.take.ensures c.in-Open.is c.exceed.ensures (subst (λ r. IsWithin r.machine c.args.piece.now c.args.front.now) (sym c.self.view_is) c.requires.within)
+    (step_over c.exceed.result _ c.args.piece.now c.args.front.now _ _ _ _ _ _ c.take.ensures c.in_default.is c.exceed.ensures (subst (λ r. IsWithin r.machine c.args.piece.now c.args.front.now) (sym c.self.view_is) c.requires.within)
     (all_bytes c.args.piece.now (λ k. omega (arith, c.type_inv.piece k))) c.if-front-piece.true (search rules))
 
 pub returns-else-front-piece-clause-tells : goal.returns-else-front-piece-clause-tells
 returns-else-front-piece-clause-tells g c =
     subst (λ r. NextTells (g.G.Gate.told r.gate) c.args.piece.now (Ok step.More) r.machine r.tally c.take.new.self c.self.inside.tally) c.self.view_is
-    (step_more _ c.args.piece.now c.args.front.now _ _ _ _ c.take.ensures c.in-Open.is (subst (λ r. IsWithin r.machine c.args.piece.now c.args.front.now) (sym c.self.view_is) c.requires.within)
+    (step_more _ c.args.piece.now c.args.front.now _ _ _ _ c.take.ensures c.in_default.is (subst (λ r. IsWithin r.machine c.args.piece.now c.args.front.now) (sym c.self.view_is) c.requires.within)
     (all_bytes c.args.piece.now (λ k. omega (arith, c.type_inv.piece k))) (λ more. let m = c.if-front-piece.false in omega arith))
 
 pub returns-in-Ended-clause-items : goal.returns-in-Ended-clause-items
@@ -73,7 +73,7 @@ returns-then-front-piece-clause-items g c = tells_stop c.args.piece.now c.exceed
 pub returns-else-front-piece-clause-items : goal.returns-else-front-piece-clause-items
 returns-else-front-piece-clause-items g c =
     subst (λ r. TellsItems (g.G.Gate.told r.gate) c.args.piece.now (Ok step.More) r.machine r.tally c.take.new.self c.self.inside.tally) c.self.view_is
-    (tells_more _ c.args.piece.now c.args.front.now _ _ _ _ c.take.ensures c.in-Open.is (subst (λ r. IsWithin r.machine c.args.piece.now c.args.front.now) (sym c.self.view_is) c.requires.within)
+    (tells_more _ c.args.piece.now c.args.front.now _ _ _ _ c.take.ensures c.in_default.is (subst (λ r. IsWithin r.machine c.args.piece.now c.args.front.now) (sym c.self.view_is) c.requires.within)
     (all_bytes c.args.piece.now (λ k. omega (arith, c.type_inv.piece k))) (λ more. let m = c.if-front-piece.false in omega arith))
 
 pub returns-in-Ended-clause-memory : goal.returns-in-Ended-clause-memory
@@ -90,7 +90,7 @@ returns-in-Stopped-clause-memory g c =
 pub returns-then-front-piece-clause-memory : goal.returns-then-front-piece-clause-memory
 returns-then-front-piece-clause-memory g c =
     subst (λ r. MemoryFree (g.G.Gate.told r.gate) c.args.piece.now (Err c.exceed.result) r.machine r.tally) c.self.view_is
-    (free_limit c.exceed.result _ c.args.piece.now c.args.front.now _ _ _ _ _ c.take.ensures c.in-Open.is c.exceed.ensures (subst (λ r. IsWithin r.machine c.args.piece.now c.args.front.now) (sym c.self.view_is) c.requires.within)
+    (free_limit c.exceed.result _ c.args.piece.now c.args.front.now _ _ _ _ _ c.take.ensures c.in_default.is c.exceed.ensures (subst (λ r. IsWithin r.machine c.args.piece.now c.args.front.now) (sym c.self.view_is) c.requires.within)
     (all_bytes c.args.piece.now (λ k. omega (arith, c.type_inv.piece k))) (search rules))
 
 pub returns-else-front-piece-clause-memory : goal.returns-else-front-piece-clause-memory

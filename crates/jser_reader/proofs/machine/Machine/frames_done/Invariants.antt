@@ -1,6 +1,6 @@
 use Rattle.std.proofs.Common.{◌≡◌, length}
 use Rattle.jser_reader.specs.Steps.{Kept, after_value}
-use Rattle.jser_reader.proofs.machine.Machine.value_done.Given as goal
+use Rattle.jser_reader.proofs.machine.Machine.frames_done.Given as goal
 
 abbrev pub invariant-frames : goal.invariant-frames
 invariant-frames l = record {
