@@ -1,23 +1,22 @@
--- A tree makes the table longer by no more entries than it has bytes: each entry has a tag of its own.
-use Rattle.std.proofs.Common.{ℕ, ◌+◌, ◌<◌, ◌≤◌, Bool, true, false, List, [], ◌∷◌, ◌++◌, length, arith, Option, Some, None}
+-- A tree makes the table longer by at most half as many entries as it has bytes.
+use Rattle.std.proofs.Common.{ℕ, ◌+◌, ◌*◌, ◌<◌, ◌≤◌, Bool, true, false, List, [], ◌∷◌, ◌++◌, length, length-append, arith, Option, Some, None}
 use Rattle.jser_grammar.proofs.Vocabulary.{text_entry, other_entry, pending_entry, big_bytes, TextPlaceTree, new_text, back_text, FieldTree, ValueTree, null, back, string, descriptor, class_object, array, enum_constant, object, DescTree, plain, proxy, ClassPlaceTree, no_class, back_class, new_class, BodyTree, raw_body, value_body, ValueTrees, no_values, value_and, section, SectionTrees, no_sections, section_and, NotesTree, no_notes, annotation, block, reset, content, ContentTrees, no_contents, content_and, value_count, Entries, add, plain_layer, proxy_layer, after_text_place, after_type, after_fields, after_value, after_desc, after_class, after_body, after_values, after_sections, after_notes, after_contents, chain_of_class, table_after}
-use Rattle.std.proofs.Common.{length-append}
 use Rattle.jser_grammar.specs.Spelling.{utf, string_spelling, text_place_spelling, type_spelling, fields_spelling, interfaces_spelling, prims_spelling, block_head, value_spelling, desc_spelling, class_spelling, body_spelling, values_spelling, sections_spelling, notes_spelling, annotation_spelling, contents_spelling, spelling}
 use Rattle.jser_grammar.proofs.TableLemmas.{length-add, length-close}
 
-some_string : (long : Bool) (units : List ℕ) → 0 < length (string_spelling long units)
+pub some_string : (long : Bool) (units : List ℕ) → 2 < length (string_spelling long units)
 some_string true units = omega arith
 some_string false units = omega arith
 
-pub sized_text : (t : TextPlaceTree) (T : Entries) → length (after_text_place T t) ≤ length T + length (text_place_spelling t)
+pub sized_text : (t : TextPlaceTree) (T : Entries) → 2 * length (after_text_place T t) ≤ 2 * length T + length (text_place_spelling t)
 sized_text (new_text t) T = omega (arith, length-add T text_entry, some_string t.long t.units)
 sized_text (back_text n) T = omega arith
 
-pub sized_type : (t : Option TextPlaceTree) (T : Entries) → length (after_type T t) ≤ length T + length (type_spelling t)
+pub sized_type : (t : Option TextPlaceTree) (T : Entries) → 2 * length (after_type T t) ≤ 2 * length T + length (type_spelling t)
 sized_type None T = omega arith
 sized_type (Some t) T = sized_text t T
 
-pub sized_fields : (fs : List FieldTree) (T : Entries) → length (after_fields T fs) ≤ length T + length (fields_spelling fs)
+pub sized_fields : (fs : List FieldTree) (T : Entries) → 2 * length (after_fields T fs) ≤ 2 * length T + length (fields_spelling fs)
 sized_fields [] T = omega arith
 sized_fields (f ∷ fs) T =
     omega (
@@ -30,11 +29,11 @@ sized_fields (f ∷ fs) T =
     )
 
 mutual
-  pub sized_value : (v : ValueTree) (T : Entries) → length (after_value T v) ≤ length T + length (value_spelling v)
+  pub sized_value : (v : ValueTree) (T : Entries) → 2 * length (after_value T v) ≤ 2 * length T + length (value_spelling v)
   sized_value null T = omega arith
   sized_value (back n) T = omega arith
   sized_value (string t) T = omega (arith, length-add T text_entry, some_string t.long t.units)
-  sized_value (descriptor x) T = sized_desc x T
+  sized_value (descriptor x) T = omega (arith, sized_desc x T)
   sized_value (class_object c) T = omega (arith, length-add (after_class T c) other_entry, sized_class c T)
   sized_value (array c b) T =
       omega (
@@ -64,7 +63,7 @@ mutual
         sized_sections ss (add (after_class T c) other_entry),
       )
 
-  pub sized_desc : (x : DescTree) (T : Entries) → length (after_desc T x) ≤ length T + length (desc_spelling x)
+  pub sized_desc : (x : DescTree) (T : Entries) → 2 * length (after_desc T x) < 2 * length T + length (desc_spelling x)
   sized_desc (plain name suid flags fields notes parent) T =
       let opened = add T pending_entry in
       let behind = after_fields opened fields in
@@ -102,22 +101,22 @@ mutual
         sized_class parent inside,
       )
 
-  pub sized_class : (c : ClassPlaceTree) (T : Entries) → length (after_class T c) ≤ length T + length (class_spelling c)
+  pub sized_class : (c : ClassPlaceTree) (T : Entries) → 2 * length (after_class T c) < 2 * length T + length (class_spelling c)
   sized_class no_class T = omega arith
   sized_class (back_class n) T = omega arith
   sized_class (new_class x) T = sized_desc x T
 
-  pub sized_body : (b : BodyTree) (T : Entries) → length (after_body T b) ≤ length T + length (body_spelling b)
+  pub sized_body : (b : BodyTree) (T : Entries) → 2 * length (after_body T b) ≤ 2 * length T + length (body_spelling b)
   sized_body (raw_body ps) T = omega arith
   sized_body (value_body vs) T =
       omega (arith, length-append (big_bytes 4 (value_count vs)) (values_spelling vs), sized_values vs T)
 
-  pub sized_values : (vs : ValueTrees) (T : Entries) → length (after_values T vs) ≤ length T + length (values_spelling vs)
+  pub sized_values : (vs : ValueTrees) (T : Entries) → 2 * length (after_values T vs) ≤ 2 * length T + length (values_spelling vs)
   sized_values no_values T = omega arith
   sized_values (value_and v vs) T =
       omega (arith, length-append (value_spelling v) (values_spelling vs), sized_value v T, sized_values vs (after_value T v))
 
-  pub sized_sections : (ss : SectionTrees) (T : Entries) → length (after_sections T ss) ≤ length T + length (sections_spelling ss)
+  pub sized_sections : (ss : SectionTrees) (T : Entries) → 2 * length (after_sections T ss) ≤ 2 * length T + length (sections_spelling ss)
   sized_sections no_sections T = omega arith
   sized_sections (section_and (section ps vs n) ss) T =
       omega (
@@ -131,13 +130,13 @@ mutual
         sized_sections ss (after_notes (after_values T vs) n),
       )
 
-  pub sized_notes : (n : NotesTree) (T : Entries) → length (after_notes T n) ≤ length T + length (notes_spelling n)
+  pub sized_notes : (n : NotesTree) (T : Entries) → 2 * length (after_notes T n) ≤ 2 * length T + length (notes_spelling n)
   sized_notes no_notes T = omega arith
-  sized_notes (annotation cs) T = sized_contents cs T
+  sized_notes (annotation cs) T = omega (arith, sized_contents cs T)
 
   -- an annotation; its end has a byte too
   pub sized_contents : (cs : ContentTrees) (T : Entries)
-      → length (after_contents T cs) ≤ length T + length (annotation_spelling cs)
+      → 2 * length (after_contents T cs) < 2 * length T + length (annotation_spelling cs)
   sized_contents no_contents T = omega arith
   sized_contents (content_and (block long b) cs) T =
       omega (arith, length-append (block_head long (length b) ++ b) (annotation_spelling cs), sized_contents cs T)
@@ -152,7 +151,7 @@ mutual
       )
 
 -- a content list, from a table on
-sized_top : (cs : ContentTrees) (T : Entries) → length (table_after T cs) ≤ length T + length (contents_spelling cs)
+sized_top : (cs : ContentTrees) (T : Entries) → 2 * length (table_after T cs) ≤ 2 * length T + length (contents_spelling cs)
 sized_top no_contents T = omega arith
 sized_top (content_and (block long b) cs) T =
     omega (arith, length-append (block_head long (length b) ++ b) (contents_spelling cs), sized_top cs T)
@@ -160,6 +159,6 @@ sized_top (content_and reset cs) T = omega (arith, sized_top cs [])
 sized_top (content_and (content v) cs) T =
     omega (arith, length-append (value_spelling v) (contents_spelling cs), sized_value v T, sized_top cs (after_value T v))
 
--- and a whole one: its table has fewer entries than it has bytes
-pub sized_list : (cs : ContentTrees) → length (table_after [] cs) + 4 ≤ length (spelling cs)
+-- and a whole one
+pub sized_list : (cs : ContentTrees) → 2 * length (table_after [] cs) + 4 ≤ length (spelling cs)
 sized_list cs = omega (arith, sized_top cs [])

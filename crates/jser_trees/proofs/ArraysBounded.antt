@@ -1,5 +1,5 @@
 -- An array has no more elements than bytes.
-use Rattle.std.proofs.Common.{ℕ, zero, suc, ◌+◌, ◌<◌, ◌≤◌, Bool, true, false, List, [], ◌∷◌, ◌++◌, length, arith, length-append}
+use Rattle.std.proofs.Common.{ℕ, ◌<◌, ◌≤◌, List, [], ◌∷◌, ◌++◌, length, arith, length-append}
 use Rattle.jser_grammar.proofs.Vocabulary.{big_bytes, PrimCode, byte_code, char_code, double_code, float_code, int_code, long_code, short_code, boolean_code, PrimTree, ValueTree, null, back, string, descriptor, class_object, array, enum_constant, object, DescTree, plain, proxy, ClassPlaceTree, no_class, back_class, new_class, BodyTree, raw_body, value_body, ValueTrees, no_values, value_and, section, SectionTrees, no_sections, section_and, NotesTree, no_notes, annotation, block, reset, content, ContentTrees, no_contents, content_and, value_count}
 use Rattle.jser_grammar.specs.Spelling.{utf, text_place_spelling, fields_spelling, interfaces_spelling, prim_spelling, prims_spelling, block_head, value_spelling, desc_spelling, class_spelling, body_spelling, values_spelling, sections_spelling, notes_spelling, annotation_spelling, contents_spelling}
 use Rattle.jser_grammar.specs.Counts.{array_length, arrays_in_value, arrays_in_desc, arrays_in_class, arrays_in_body, arrays_in_values, arrays_in_sections, arrays_in_notes, arrays_in_contents}

@@ -1,7 +1,7 @@
 -- One level further in.
-use Rattle.std.proofs.Common.{◌≡◌, ℕ, zero, suc, ◌-◌, ◌<◌, List, [], ◌∷◌, Option, Some, None, Result, Err, refl, sym, ◌∙◌, ap, arith, subst}
+use Rattle.std.proofs.Common.{◌≡◌, ℕ, zero, suc, ◌-◌, ◌<◌, List, [], ◌∷◌, Some, None, Result, Err, refl, sym, ◌∙◌, ap, arith, subst}
 use Rattle.jser_table.specs.declared.layer.Layer.{Layer}
-use Rattle.jser_table.specs.Entries.{TableEntry, other_entry, chain_at}
+use Rattle.jser_table.specs.Entries.{other_entry, chain_at}
 use Rattle.jser_grammar.specs.Trees.{ClassPlaceTree, SectionTrees, object}
 use Rattle.jser_grammar.specs.TableAfter.{Entries, add, after_class, chain_of_class}
 use Rattle.jser_value.specs.Tests.{IsClassAt}
@@ -9,7 +9,7 @@ use Rattle.jser_value.proofs.KeepLemmas.{class_behind_add}
 use Rattle.jser_trees.specs.declared.cursor.Fault.{Fault}
 use Rattle.jser_trees.specs.declared.cursor.Fault.TheVariants as fault
 use Rattle.jser_trees.specs.Found.{Finds}
-use Rattle.jser_trees.specs.Building.{value_in, desc_in, level_in, desc_level_in, Built, ◌>>=◌, BuildsDesc, BuildsValue, class_in, data_in, object_in}
+use Rattle.jser_trees.specs.Building.{value_in, desc_in, level_in, desc_level_in, Built, BuildsDesc, BuildsValue, class_in, data_in, object_in}
 
 pub value_too_deep : (steps : ℕ) (T : Entries) (bytes : List ℕ) → steps ≡ 0 → value_in steps T bytes ≡ None
 unfolding value_in

@@ -1,5 +1,5 @@
 -- The contents of an annotation on the way to being built: these were found, and what is left gives the others.
-use Rattle.std.proofs.Common.{◌≡◌, ◌==◌, true, false, ℕ, zero, suc, ◌+◌, ◌-◌, ◌<◌, List, [], ◌∷◌, ◌++◌, length, Option, Some, None, refl, sym, ◌∙◌, ap, arith, subst, if◌then◌else◌, ne_eqb}
+use Rattle.std.proofs.Common.{◌≡◌, ◌==◌, false, ℕ, zero, suc, ◌-◌, ◌<◌, List, [], ◌∷◌, ◌++◌, length, Some, None, refl, sym, ◌∙◌, ap, arith, subst, ne_eqb}
 use Rattle.jser_grammar.specs.Trees.{ContentTree, block, reset, content, ContentTrees, no_contents, content_and}
 use Rattle.jser_grammar.specs.TableAfter.{Entries, after_value, after_contents}
 use Rattle.jser_value.specs.declared.tree.Content.{Content}

@@ -1,11 +1,11 @@
 -- Bytes and numbers at the front, as the cursor takes them.
-use Rattle.std.proofs.Common.{◌≡◌, ℕ, suc, ◌+◌, ◌<◌, ◌≤◌, ◌^◌, true, false, List, [], ◌∷◌, length, take, drop, Some, None, refl, sym, ◌∙◌, ap, arith, le-leb, nat_lt, if◌then◌else◌}
+use Rattle.std.proofs.Common.{◌≡◌, ℕ, ◌<◌, ◌≤◌, ◌^◌, true, false, List, [], ◌∷◌, length, take, drop, Some, None, refl, sym, ◌∙◌, ap, arith}
 use Rattle.std.specs.Prelude.{nat_le}
 use Rattle.std.proofs.lemmas.Bool.Decides.{nat_tests}
 use Rattle.jser_prim.specs.Bytes.{big_bytes}
 use Rattle.jser_reading.specs.FieldsFromBytes.{number_of}
 use Rattle.jser_reading.proofs.Decoding.{number_2, number_4, number_8}
-use Rattle.jser_trees.specs.Building.{Built, ◌>>=◌, front_in, number_in}
+use Rattle.jser_trees.specs.Building.{front_in, number_in}
 
 pub front_there : (n : ℕ) (bytes : List ℕ) → n ≤ length bytes → front_in n bytes ≡ Some (take n bytes, drop n bytes)
 unfolding front_in

@@ -1,19 +1,18 @@
 -- Numbers, texts and the other parts without values are found again in their bytes.
-use Rattle.std.proofs.Common.{rules, if◌then◌else◌, ◌≡◌, ℕ, zero, suc, ◌+◌, ◌-◌, ◌<◌, ◌≤◌, ◌^◌, Bool, true, false, ◌==◌, ◌&&◌, ◌||◌, IsTrue, List, [], ◌∷◌, ◌++◌, length, take, drop, Option, Some, None, refl, sym, ◌∙◌, ap, arith, append_assoc, length-append, leb-true, le-leb, nat_lt}
-use Rattle.std.specs.Prelude.{nat_le, is_some}
-use Rattle.std.specs.List.{list_all}
+use Rattle.std.proofs.Common.{rules, if◌then◌else◌, ◌≡◌, ℕ, suc, ◌+◌, ◌-◌, ◌<◌, ◌^◌, Bool, true, false, ◌||◌, List, [], ◌∷◌, ◌++◌, length, Option, Some, None, refl, sym, ◌∙◌, ap, arith, append_assoc, length-append, le-leb, nat_lt}
+use Rattle.std.specs.Prelude.{nat_le}
 use Rattle.std.proofs.lemmas.List.{take_at, drop_at}
 use Rattle.jser_prim.specs.Bytes.{big_bytes}
 use Rattle.jser_prim.specs.ModifiedUtf8.{modified_utf8, IsUnits}
 use Rattle.jser_table.specs.Codes.{PrimCode, byte_code, char_code, double_code, float_code, int_code, long_code, short_code, boolean_code, size_of, letter_of, prim_code_of, is_object_code}
 use Rattle.jser_grammar.specs.Trees.{TextPlaceTree, new_text, back_text, FieldTree, PrimTree}
-use Rattle.jser_grammar.specs.Spelling.{utf, long_utf, reference, string_spelling, text_place_spelling, type_spelling, fields_spelling, interfaces_spelling, prim_spelling, prims_spelling, block_head}
+use Rattle.jser_grammar.specs.Spelling.{utf, long_utf, string_spelling, text_place_spelling, type_spelling, fields_spelling, interfaces_spelling, prim_spelling, prims_spelling}
 use Rattle.jser_grammar.specs.TableAfter.{Entries, after_type}
-use Rattle.jser_grammar.specs.Parts.{IsText, IsHandle, IsPrimOf, ArePrimsOf, ArePrims, IsBlock, AreClassNames, WellFormedText, WellFormedType, WellFormedFields}
+use Rattle.jser_grammar.specs.Parts.{IsText, IsHandle, IsPrimOf, ArePrimsOf, ArePrims, AreClassNames, WellFormedText, WellFormedType, WellFormedFields}
 use Rattle.jser_reading.specs.FieldsFromBytes.{number_of}
 use Rattle.jser_reading.proofs.Decoding.{number_1, number_2, number_4, number_8, length-big_bytes, units_back}
 use Rattle.jser_reading.proofs.TreeToMachine.{not_object}
-use Rattle.jser_trees.specs.Building.{◌>>=◌, front_in, number_in, is_same, units_from, sized_front_in, sized_text_in, text_in, back_in, new_text_in, text_place_in, byte_in, type_in, many_in, field_in, fields_in, interfaces_in, prim_in, prim_at, prims_in, block_in}
+use Rattle.jser_trees.specs.Building.{◌>>=◌, front_in, number_in, is_same, units_from, sized_front_in, sized_text_in, text_in, back_in, new_text_in, text_place_in, byte_in, type_in, many_in, field_in, fields_in, interfaces_in, prim_in, prim_at, prims_in}
 
 pub front_found : (n : ℕ) (xs rest : List ℕ) → length xs ≡ n → front_in n (xs ++ rest) ≡ Some (xs, rest)
 unfolding front_in

@@ -1,12 +1,9 @@
 -- A list has no more places than bytes.
-use Rattle.std.proofs.Common.{ℕ, suc, ◌+◌, ◌<◌, ◌≤◌, Bool, true, false, List, [], ◌∷◌, ◌++◌, length, arith, length-append}
+use Rattle.std.proofs.Common.{ℕ, suc, ◌≤◌, List, ◌∷◌, ◌++◌, length, arith, length-append}
 use Rattle.jser_grammar.proofs.Vocabulary.{big_bytes, ValueTree, null, back, string, descriptor, class_object, array, enum_constant, object, DescTree, plain, proxy, ClassPlaceTree, no_class, back_class, new_class, BodyTree, raw_body, value_body, ValueTrees, no_values, value_and, section, SectionTrees, no_sections, section_and, NotesTree, no_notes, annotation, block, reset, content, ContentTrees, no_contents, content_and, value_count}
-use Rattle.jser_grammar.specs.Spelling.{utf, string_spelling, text_place_spelling, fields_spelling, interfaces_spelling, prims_spelling, block_head, value_spelling, desc_spelling, class_spelling, body_spelling, values_spelling, sections_spelling, notes_spelling, annotation_spelling, contents_spelling}
+use Rattle.jser_grammar.specs.Spelling.{utf, text_place_spelling, fields_spelling, interfaces_spelling, prims_spelling, block_head, value_spelling, desc_spelling, class_spelling, body_spelling, values_spelling, sections_spelling, notes_spelling, annotation_spelling, contents_spelling}
+use Rattle.jser_grammar.proofs.TableSizes.{some_string}
 use Rattle.jser_grammar.specs.Counts.{refs_in_value, refs_in_desc, refs_in_class, refs_in_body, refs_in_values, refs_in_sections, refs_in_notes, refs_in_contents}
-
-pub some_string : (long : Bool) (units : List ℕ) → 2 < length (string_spelling long units)
-some_string true units = omega arith
-some_string false units = omega arith
 
 mutual
   refs_value : (v : ValueTree) → refs_in_value v ≤ length (value_spelling v)

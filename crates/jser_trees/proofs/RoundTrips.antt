@@ -1,12 +1,9 @@
 -- What is written of contents passes the open gate, with its limits lowered to those of trees.
-use Rattle.std.proofs.Common.{◌≡◌, ℕ, ◌+◌, ◌-◌, ◌*◌, ◌≤◌, ◌^◌, List, [], ◌∷◌, length, refl, arith}
-use Rattle.jser_grammar.specs.Trees.{ContentTrees}
-use Rattle.jser_grammar.specs.Spelling.{spelling}
+use Rattle.std.proofs.Common.{◌≡◌, ℕ, ◌-◌, ◌^◌, List, [], ◌∷◌, refl, arith}
 use Rattle.jser_grammar.specs.CheckedNames.{checked_names}
 use Rattle.jser_reading.specs.GateLimits.{Each}
 use Rattle.jser_verdict.specs.Gates.{pass}
 use Rattle.jser_reader.specs.Gates.{open_gate}
-use Rattle.jser_value.specs.Limits.{IsContents}
 use Rattle.jser_trees.specs.Laws.{WrittenPasses}
 use Rattle.jser_trees.proofs.RefsBounded.{refs_contents}
 use Rattle.jser_trees.proofs.ArraysBounded.{arrays_contents}

@@ -1,12 +1,12 @@
 -- The units of a text, collected byte by byte.
-use Rattle.std.proofs.Common.{◌≡◌, ◌↔◌, ◌∙◌, refl, sym, subst, ap, ◌<◌, ◌≤◌, ◌+◌, ℕ, Bool, true, false, ◌&&◌, ◌==◌, if◌then◌else◌, nat_lt, List, [], ◌∷◌, ◌++◌, length, take, drop, slice_index_or, Option, Some, None, Result, Ok, Err, IsOk, arith, eqb-true, true≢false}
+use Rattle.std.proofs.Common.{◌≡◌, ◌↔◌, ◌∙◌, refl, sym, subst, ap, ◌<◌, ◌≤◌, ◌+◌, ℕ, Bool, true, false, ◌==◌, nat_lt, List, [], ◌∷◌, ◌++◌, length, take, drop, slice_index_or, Option, Some, None, Result, Err, IsOk, arith, eqb-true, true≢false}
 use Rattle.std.specs.Option.{option_to_list}
 use Rattle.std.specs.List.{list_all}
 use Rattle.std.proofs.lemmas.List.{take_more, length-take-le, take_all, append-nil, take-append-drop}
 use Rattle.jser_prim.specs.Texts.{Scan, HasAccepted, BeginsText}
 use Rattle.jser_prim.specs.ModifiedUtf8.{modified_utf8, IsUnits}
 use Rattle.jser_prim.proofs.ScanLemmas.{accepts_text}
-use Rattle.jser_prim.proofs.TextLemmas.{begins_front, begins_whole}
+use Rattle.jser_prim.proofs.TextLemmas.{begins_front}
 use Rattle.jser_grammar.proofs.Bools.{and_left, and_right}
 use Rattle.jser_reading.specs.FieldsFromBytes.{units_in}
 use Rattle.jser_trees.specs.declared.cursor.Fault.{Fault}

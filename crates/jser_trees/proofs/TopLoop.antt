@@ -4,7 +4,7 @@ use Rattle.jser_grammar.specs.Trees.{ValueTree, ContentTree, block, reset, conte
 use Rattle.jser_grammar.specs.TableAfter.{Entries}
 use Rattle.jser_value.specs.declared.tree.Content.{Content}
 use Rattle.jser_value.specs.View.{view_content, view_contents}
-use Rattle.jser_trees.specs.Building.{Built, ◌>>=◌, BuildsValue, block_in, content_in, after_content, top_content_in, first_content_in, after_top, top_in}
+use Rattle.jser_trees.specs.Building.{Built, ◌>>=◌, BuildsValue, block_in, content_in, after_content, first_content_in, after_top, top_in}
 use Rattle.jser_trees.proofs.NotesLoop.{join_contents, join_none, join_more, view_more}
 
 abbrev pub top_behind : ContentTrees → Option ContentTrees → Option ContentTrees

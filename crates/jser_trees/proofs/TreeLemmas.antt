@@ -1,9 +1,8 @@
 -- What is found in a stream within the caps of trees is its list.
-use Rattle.std.proofs.Common.{◌≡◌, ℕ, ◌≤◌, List, length, Option, Some, None, Result, Err, refl, sym, ◌∙◌, ap, subst, arith}
+use Rattle.std.proofs.Common.{◌≡◌, ℕ, ◌≤◌, List, length, Option, Some, None, Err, sym, ◌∙◌, ap, subst, arith}
 use Rattle.jser_grammar.specs.Trees.{ContentTrees}
 use Rattle.jser_grammar.specs.Spelling.{spelling}
 use Rattle.jser_grammar.specs.Streams.{IsStreamOf}
-use Rattle.jser_grammar.specs.Counts.{depth_of}
 use Rattle.jser_value.specs.Limits.{IsContents}
 use Rattle.jser_verdict.specs.Gates.{Gate}
 use Rattle.jser_trees.specs.Answers.{tree_gate, SomePasses, IsTreeStream}

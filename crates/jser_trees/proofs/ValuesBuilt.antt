@@ -1,10 +1,10 @@
 -- Values, descriptors and lists of contents are found again in their spelling.
-use Rattle.std.proofs.Common.{◌≡◌, ℕ, zero, suc, ◌+◌, ◌*◌, ◌<◌, ◌≤◌, max, Bool, true, false, ◌==◌, ◌||◌, IsTrue, List, [], ◌∷◌, ◌++◌, length, Option, Some, None, refl, sym, ◌∙◌, ap, arith, append_assoc, length-append, MatchBool, slice_get, option_map, if◌then◌else◌}
+use Rattle.std.proofs.Common.{◌≡◌, ℕ, zero, suc, ◌+◌, ◌*◌, ◌<◌, ◌≤◌, Bool, true, false, List, [], ◌∷◌, ◌++◌, length, Option, Some, None, refl, sym, ◌∙◌, ap, arith, append_assoc, length-append, MatchBool, slice_get, option_map, if◌then◌else◌}
 use Rattle.jser_prim.specs.Bytes.{big_bytes}
-use Rattle.jser_grammar.proofs.Vocabulary.{has_write_method, pending_entry, other_entry, is_closed, Layer, modified_utf8, PrimCode, letter_of, primitive_codes, object_count, TextPlaceTree, ValueTree, null, back, string, descriptor, class_object, array, enum_constant, object, DescTree, plain, proxy, ClassPlaceTree, no_class, back_class, new_class, BodyTree, raw_body, value_body, ValueTrees, no_values, value_and, section, SectionTrees, no_sections, section_and, NotesTree, no_notes, annotation, ContentTree, block, reset, content, ContentTrees, no_contents, content_and, value_count, Entries, add, after_fields, after_value, after_class, after_values, after_notes, after_contents, chain_of_class, IsText, IsBlock, elements_of, is_external, WellFormedValue, WellFormedDesc, WellFormedClass, WellFormedSuperclass, WellFormedBody, WellFormedValues, WellFormedExternal, WellFormedSections, WellFormedNotesIf, WellFormedNotes, WellFormedContents, WellFormed}
-use Rattle.jser_grammar.specs.Spelling.{utf, string_spelling, text_place_spelling, fields_spelling, interfaces_spelling, prims_spelling, block_head, value_spelling, desc_spelling, class_spelling, body_spelling, values_spelling, sections_spelling, notes_spelling, annotation_spelling, content_spelling, contents_spelling, spelling}
+use Rattle.jser_grammar.proofs.Vocabulary.{has_write_method, pending_entry, other_entry, is_closed, Layer, PrimCode, letter_of, primitive_codes, object_count, ValueTree, null, back, string, descriptor, class_object, array, enum_constant, object, DescTree, plain, proxy, ClassPlaceTree, no_class, back_class, new_class, BodyTree, raw_body, value_body, ValueTrees, no_values, value_and, section, SectionTrees, no_sections, section_and, NotesTree, no_notes, annotation, ContentTree, block, reset, content, ContentTrees, no_contents, content_and, value_count, Entries, add, after_fields, after_value, after_class, after_values, after_notes, after_contents, chain_of_class, IsText, elements_of, is_external, WellFormedValue, WellFormedDesc, WellFormedClass, WellFormedSuperclass, WellFormedBody, WellFormedValues, WellFormedExternal, WellFormedSections, WellFormedNotesIf, WellFormedNotes, WellFormedContents}
+use Rattle.jser_grammar.specs.Spelling.{utf, string_spelling, text_place_spelling, fields_spelling, interfaces_spelling, prims_spelling, value_spelling, desc_spelling, class_spelling, body_spelling, values_spelling, sections_spelling, notes_spelling, annotation_spelling, contents_spelling}
 use Rattle.jser_grammar.specs.Counts.{depth_of_value, depth_in_desc, depth_in_class, depth_in_body, depth_in_values, depth_in_sections, depth_in_notes, depth_in_contents}
-use Rattle.jser_reading.proofs.Decoding.{number_1, number_2, number_4, number_8}
+use Rattle.jser_reading.proofs.Decoding.{number_1, number_4, number_8}
 use Rattle.jser_trees.specs.Building.{◌>>=◌, byte_in, BuildsValue, BuildsDesc, class_in, superclass_in, content_in, after_content, notes_in, annotation_in, values_in, notes_if_in, section_in, sections_in, external_in, data_in, elements_in, body_in, level_in, desc_level_in, plain_in, proxy_in, string_in, class_object_in, array_in, enum_constant_in, object_in, tagged_in, value_in, desc_in, top_content_in, after_top, top_in, list_in}
 use Rattle.jser_trees.specs.Laws.{FindsList}
 use Rattle.jser_trees.proofs.PartsBuilt.{front_found, number_found, sized_front_found, utf_found, long_utf_found, back_found, text_place_found, fields_found, interfaces_found, raw_found, prims_found, letter_back}

@@ -1,5 +1,5 @@
 -- Values on the way to being built: of so many, these were found, and what is left gives the others.
-use Rattle.std.proofs.Common.{◌≡◌, ℕ, zero, suc, ◌+◌, ◌-◌, ◌<◌, List, [], ◌∷◌, ◌++◌, Option, Some, None, refl, sym, ◌∙◌, ap, arith, subst}
+use Rattle.std.proofs.Common.{◌≡◌, ℕ, zero, suc, ◌-◌, ◌<◌, List, [], ◌∷◌, ◌++◌, Some, None, refl, sym, ◌∙◌, ap, arith, subst}
 use Rattle.jser_grammar.specs.Trees.{ValueTree, ValueTrees, no_values, value_and}
 use Rattle.jser_grammar.specs.TableAfter.{Entries, after_value, after_values}
 use Rattle.jser_value.specs.declared.tree.Value.{Value}

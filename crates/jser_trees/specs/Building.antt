@@ -8,8 +8,8 @@ use Rattle.jser_table.specs.declared.layer.Layer.{Layer}
 use Rattle.jser_table.specs.Chains.{has_write_method}
 use Rattle.jser_table.specs.Entries.{pending_entry, other_entry, is_closed}
 use Rattle.jser_grammar.specs.Codes.{PrimCode, size_of, prim_code_of, is_object_code, primitive_codes, object_count}
-use Rattle.jser_grammar.specs.Trees.{TextTree, TextPlaceTree, new_text, back_text, FieldTree, PrimTree, ValueTree, null, back, string, descriptor, class_object, array, enum_constant, object, DescTree, plain, proxy, ClassPlaceTree, no_class, back_class, new_class, BodyTree, raw_body, value_body, ValueTrees, no_values, value_and, SectionTree, SectionTrees, section, no_sections, section_and, NotesTree, no_notes, annotation, ContentTree, block, reset, content, ContentTrees, no_contents, content_and}
-use Rattle.jser_grammar.specs.TableAfter.{Entries, add, after_fields, after_value, after_class, after_values, after_notes, after_contents, chain_of_class}
+use Rattle.jser_grammar.specs.Trees.{TextPlaceTree, new_text, back_text, FieldTree, PrimTree, ValueTree, null, back, string, descriptor, class_object, array, enum_constant, object, DescTree, plain, proxy, ClassPlaceTree, no_class, back_class, new_class, BodyTree, raw_body, value_body, ValueTrees, no_values, value_and, SectionTree, SectionTrees, section, no_sections, section_and, NotesTree, no_notes, annotation, ContentTree, block, reset, content, ContentTrees, no_contents, content_and}
+use Rattle.jser_grammar.specs.TableAfter.{Entries, add, after_fields, after_value, after_class, after_values, after_contents, chain_of_class}
 use Rattle.jser_value.specs.Tests.{after_section, element_code}
 use Rattle.jser_grammar.specs.Parts.{is_external}
 use Rattle.jser_reading.specs.FieldsFromBytes.{number_of, units_in, head_size}

@@ -1,5 +1,5 @@
 //! What the table of handles tells a builder: the chain of an object's class, and what an array's elements are.
-ghost use Rattle.std.specs.Prelude.{◌≡◌, ◌<◌, ◌^◌, IfOk, IfErr, OnOk, IsTrue, map, length, slice_get, is_some, option_map};
+ghost use Rattle.std.specs.Prelude.{◌≡◌, ◌<◌, ◌≤◌, ◌+◌, ◌^◌, IfOk, IfErr, OnOk, IsTrue, map, length, slice_get, is_some, option_map};
 ghost use Rattle.std.specs.Option.{option_copied};
 ghost use Rattle.jser_table.specs.Chains.{own_layer, elements_of_kind};
 ghost use Rattle.jser_table.specs.Entries.{is_closed, chain_at};
@@ -13,13 +13,15 @@ ghost use Rattle.jser_value.specs.View.{view_field};
 use crate::cursor::Fault;
 use crate::texts::is_primitive;
 use jser_table::{BodyKind, Codes, Entry, Kind, Layer, LayerKind, Table, layer_kind_of};
-use jser_value::Field;
+use jser_value::{Field, Handles};
 use std::alloc::{AllocError, Global};
 
 /// Adds a handle, and returns its number.
-pub(crate) fn assign(table: &mut Table, kind: Kind) -> Result<u32, Fault>
+pub(crate) fn assign(table: &mut Handles, kind: Kind) -> Result<u32, Fault>
+    requires { length table.old.entries < 2147483648 }
     ensures added { OnOk result (table.new.entries ≡ add table.old.entries (new_entry kind)) }
     ensures number { IfOk result (λ number. number ≡ length table.old.entries) }
+    ensures spent { OnOk result (length table.new.entries ≤ length table.old.entries + 1) }
     ensures memory { IfErr result (λ fault. fault ≡ Fault.OutOfMemory) }
 {
     match table.assign(kind) {

@@ -1,5 +1,5 @@
 //! The bytes of an accepted stream, taken from the front.
-ghost use Rattle.std.specs.Prelude.{◌≡◌, [], ◌∷◌, length, IfOk, IfErr};
+ghost use Rattle.std.specs.Prelude.{◌≡◌, ◌+◌, ◌<◌, ◌≤◌, [], ◌∷◌, length, IfOk, IfErr, OnOk};
 ghost use Rattle.jser_trees.specs.Building.{front_in, number_in};
 ghost use Rattle.jser_trees.specs.Found.{Finds};
 
@@ -49,6 +49,7 @@ impl<'p> Cursor<'p> {
         ensures byte { IfOk result (λ byte. self.old ≡ byte ∷ self.new) }
         ensures fault { IfErr result (λ fault. fault ≡ Fault.Lost) }
         ensures end { IfErr result (λ _. self.old ≡ []) }
+        ensures shorter { OnOk result (length self.new < length self.old) }
     {
         match self.rest {
             [byte, rest @ ..] => {
@@ -64,6 +65,7 @@ impl<'p> Cursor<'p> {
     pub(crate) fn take(&mut self, count: usize) -> Result<&'p [u8], Fault>
         ensures taken { Finds (λ front. front.now) result self.new (front_in count self.old) }
         ensures size { IfOk result (λ front. length front.now ≡ count) }
+        ensures shorter { OnOk result (length self.new + count ≤ length self.old) }
     {
         if self.rest.len() < count {
             return Err(Fault::Lost);
@@ -76,7 +78,8 @@ impl<'p> Cursor<'p> {
     /// The next byte as a number.
     #[tactic(auto, using(crate::proofs::Numbers::byte_there, crate::proofs::Numbers::byte_short))]
     pub(crate) fn number_of_one(&mut self) -> Result<u8, Fault>
-        ensures { Finds (λ number. number) result self.new (number_in 1 self.old) }
+        ensures found { Finds (λ number. number) result self.new (number_in 1 self.old) }
+        ensures shorter { OnOk result (length self.new < length self.old) }
     {
         self.byte()
     }
@@ -84,7 +87,8 @@ impl<'p> Cursor<'p> {
     /// The next two bytes as a number.
     #[tactic(auto, using(crate::proofs::Numbers::two_there, crate::proofs::Numbers::number_short))]
     pub(crate) fn number_of_two(&mut self) -> Result<u16, Fault>
-        ensures { Finds (λ number. number) result self.new (number_in 2 self.old) }
+        ensures found { Finds (λ number. number) result self.new (number_in 2 self.old) }
+        ensures shorter { OnOk result (length self.new < length self.old) }
     {
         let front = self.take(2)?;
         Ok(read_u16(front))
@@ -93,7 +97,8 @@ impl<'p> Cursor<'p> {
     /// The next four bytes as a number.
     #[tactic(auto, using(crate::proofs::Numbers::four_there, crate::proofs::Numbers::number_short))]
     pub(crate) fn number_of_four(&mut self) -> Result<u32, Fault>
-        ensures { Finds (λ number. number) result self.new (number_in 4 self.old) }
+        ensures found { Finds (λ number. number) result self.new (number_in 4 self.old) }
+        ensures shorter { OnOk result (length self.new < length self.old) }
     {
         let front = self.take(4)?;
         Ok(read_u32(front))
@@ -102,7 +107,8 @@ impl<'p> Cursor<'p> {
     /// The next eight bytes as a number.
     #[tactic(auto, using(crate::proofs::Numbers::eight_there, crate::proofs::Numbers::number_short))]
     pub(crate) fn number_of_eight(&mut self) -> Result<u64, Fault>
-        ensures { Finds (λ number. number) result self.new (number_in 8 self.old) }
+        ensures found { Finds (λ number. number) result self.new (number_in 8 self.old) }
+        ensures shorter { OnOk result (length self.new < length self.old) }
     {
         let front = self.take(8)?;
         Ok(read_u64(front))

@@ -7,6 +7,9 @@ use std::alloc::{AllocError, AllocGlobal, Global};
 use std::process::Abort;
 use std::test::Fail;
 
+mod chance;
+mod maker;
+mod memory;
 mod replaced;
 mod rows;
 

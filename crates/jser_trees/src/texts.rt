@@ -1,5 +1,5 @@
 //! Texts, references, fields, interfaces, raw values and blocks out of their bytes.
-ghost use Rattle.std.specs.Prelude.{ℕ, List, [], ◌∷◌, ◌++◌, Err, OnOk, ◌≡◌, ◌<◌, ◌^◌, IfOk, IfErr, Ok, map, length, vec_len, option_map, is_some, false};
+ghost use Rattle.std.specs.Prelude.{ℕ, List, [], ◌∷◌, ◌++◌, ◌+◌, Err, OnOk, ◌≡◌, ◌<◌, ◌≤◌, ◌^◌, IfOk, IfErr, Ok, map, length, vec_len, option_map, is_some, false};
 ghost use Rattle.jser_prim.specs.Texts.{HasAccepted, BeginsText};
 ghost use Rattle.jser_grammar.specs.Codes.{prim_code_of, primitive_codes};
 ghost use Rattle.jser_value.specs.View.{view_text_place, view_field, view_prim};
@@ -8,21 +8,13 @@ ghost use Rattle.jser_reading.specs.FieldsFromBytes.{head_size};
 ghost use Rattle.jser_trees.specs.Found.{Finds, FindsAll};
 
 use crate::cursor::{Cursor, Fault};
+use jser_grammar::wire::{BASE_WIRE_HANDLE, TC_LONGSTRING, TC_REFERENCE, TC_STRING};
 use jser_prim::TextScan;
 use jser_value::{Field, Prim, Text, TextPlace};
 use std::alloc::Global;
 
-/// The first handle of an epoch.
-const BASE_WIRE_HANDLE: u32 = 0x7E_0000;
-
 /// The most fields that a descriptor has.
 const MOST_FIELDS: u16 = 0x7FFF;
-
-pub(crate) const TC_REFERENCE: u8 = 0x71;
-
-pub(crate) const TC_STRING: u8 = 0x74;
-
-pub(crate) const TC_LONGSTRING: u8 = 0x7C;
 
 /// What memory was there for, or that it ran out.
 pub(crate) fn kept<T, E: Drop>(outcome: Result<T, E>) -> Result<T, Fault>
@@ -67,7 +59,8 @@ fn units_of_bytes(alloc: Global, bytes: &[u8]) -> Result<Vec<u16>, Fault>
 
 /// The length of a text.
 fn text_length(cursor: &mut Cursor<'_>, long: bool) -> Result<u64, Fault>
-    ensures { Finds (λ length. length) result cursor.new (number_in (head_size long) cursor.old) }
+    ensures found { Finds (λ length. length) result cursor.new (number_in (head_size long) cursor.old) }
+    ensures shorter { OnOk result (length cursor.new < length cursor.old) }
 {
     if long {
         cursor.number_of_eight()
@@ -79,7 +72,8 @@ fn text_length(cursor: &mut Cursor<'_>, long: bool) -> Result<u64, Fault>
 /// The units of a text, whose length stands before it.
 #[tactic(auto, unfolding(crate::specs::Building::sized_text_in, crate::specs::Building::sized_front_in))]
 pub(crate) fn units(alloc: Global, cursor: &mut Cursor<'_>, long: bool) -> Result<Vec<u16>, Fault>
-    ensures { Finds (λ units. units.items) result cursor.new (text_in long cursor.old) }
+    ensures found { Finds (λ units. units.items) result cursor.new (text_in long cursor.old) }
+    ensures shorter { OnOk result (length cursor.new < length cursor.old) }
 {
     let length = text_length(cursor, long)?;
     let bytes = cursor.take(length as usize)?;
@@ -89,7 +83,8 @@ pub(crate) fn units(alloc: Global, cursor: &mut Cursor<'_>, long: bool) -> Resul
 /// The number of the entry that a handle names.
 #[tactic(auto, unfolding(crate::specs::Building::back_in))]
 pub(crate) fn number_of_handle(cursor: &mut Cursor<'_>) -> Result<u32, Fault>
-    ensures { Finds (λ number. number) result cursor.new (back_in cursor.old) }
+    ensures found { Finds (λ number. number) result cursor.new (back_in cursor.old) }
+    ensures shorter { OnOk result (length cursor.new < length cursor.old) }
 {
     let handle = cursor.number_of_four()?;
     if handle < BASE_WIRE_HANDLE {
@@ -101,7 +96,8 @@ pub(crate) fn number_of_handle(cursor: &mut Cursor<'_>) -> Result<u32, Fault>
 /// A new string, behind its tag.
 #[tactic(auto, unfolding(crate::specs::Building::new_text_in))]
 fn new_text(alloc: Global, cursor: &mut Cursor<'_>, long: bool) -> Result<TextPlace, Fault>
-    ensures { Finds view_text_place result cursor.new (new_text_in long cursor.old) }
+    ensures found { Finds view_text_place result cursor.new (new_text_in long cursor.old) }
+    ensures shorter { OnOk result (length cursor.new < length cursor.old) }
 {
     let units = units(alloc, cursor, long)?;
     Ok(TextPlace::New(Text { long, units }))
@@ -110,7 +106,8 @@ fn new_text(alloc: Global, cursor: &mut Cursor<'_>, long: bool) -> Result<TextPl
 /// A text place, with its tag.
 #[tactic(auto, unfolding(crate::specs::Building::text_place_in))]
 pub(crate) fn text_place(alloc: Global, cursor: &mut Cursor<'_>) -> Result<TextPlace, Fault>
-    ensures { Finds view_text_place result cursor.new (text_place_in cursor.old) }
+    ensures found { Finds view_text_place result cursor.new (text_place_in cursor.old) }
+    ensures shorter { OnOk result (length cursor.new < length cursor.old) }
 {
     match cursor.byte()? {
         TC_STRING => new_text(alloc, cursor, false),
@@ -123,7 +120,8 @@ pub(crate) fn text_place(alloc: Global, cursor: &mut Cursor<'_>) -> Result<TextP
 /// The type of a field, which stands there where its code is `[` or `L`.
 #[tactic(auto, unfolding(crate::specs::Building::type_in))]
 fn field_type(alloc: Global, cursor: &mut Cursor<'_>, code: u8) -> Result<Option<TextPlace>, Fault>
-    ensures { Finds (option_map view_text_place) result cursor.new (type_in code cursor.old) }
+    ensures found { Finds (option_map view_text_place) result cursor.new (type_in code cursor.old) }
+    ensures shorter { OnOk result (length cursor.new ≤ length cursor.old) }
 {
     match code {
         b'[' | b'L' => Ok(Some(text_place(alloc, cursor)?)),
@@ -134,7 +132,8 @@ fn field_type(alloc: Global, cursor: &mut Cursor<'_>, code: u8) -> Result<Option
 /// A field of a plain descriptor.
 #[tactic(auto, unfolding(crate::specs::Building::field_in, crate::specs::Building::byte_in))]
 fn field(alloc: Global, cursor: &mut Cursor<'_>) -> Result<Field, Fault>
-    ensures { Finds view_field result cursor.new (field_in cursor.old) }
+    ensures found { Finds view_field result cursor.new (field_in cursor.old) }
+    ensures shorter { OnOk result (length cursor.new < length cursor.old) }
 {
     let code = cursor.byte()?;
     let name = units(alloc, cursor, false)?;
@@ -147,6 +146,7 @@ fn field(alloc: Global, cursor: &mut Cursor<'_>) -> Result<Field, Fault>
 fn some_fields(alloc: Global, cursor: &mut Cursor<'_>, count: u16) -> Result<Vec<Field>, Fault>
     ensures found { Finds (λ fields. map view_field fields.items) result cursor.new (many_in field_in count cursor.old) }
     ensures count { IfOk result (λ fields. vec_len fields ≡ count) }
+    ensures shorter { IfOk result (λ fields. length cursor.new + vec_len fields ≤ length cursor.old) }
 {
     let mut fields = Vec::new(alloc);
     let mut left = count;
@@ -163,6 +163,7 @@ fn some_fields(alloc: Global, cursor: &mut Cursor<'_>, count: u16) -> Result<Vec
 pub(crate) fn fields(alloc: Global, cursor: &mut Cursor<'_>) -> Result<Vec<Field>, Fault>
     ensures found { Finds (λ fields. map view_field fields.items) result cursor.new (fields_in cursor.old) }
     ensures few { IfOk result (λ fields. length fields.items < 2 ^ 15) }
+    ensures shorter { IfOk result (λ fields. length cursor.new + vec_len fields ≤ length cursor.old) }
 {
     let count = cursor.number_of_two()?;
     if count > MOST_FIELDS {
@@ -174,7 +175,8 @@ pub(crate) fn fields(alloc: Global, cursor: &mut Cursor<'_>) -> Result<Vec<Field
 /// So many names of interfaces.
 #[tactic(auto, using(crate::proofs::Loops::many_begun, crate::proofs::Loops::many_next, crate::proofs::Loops::many_done, crate::proofs::Loops::many_failed))]
 fn some_names(alloc: Global, cursor: &mut Cursor<'_>, count: u32) -> Result<Vec<Vec<u16>>, Fault>
-    ensures { Finds (λ names. map (λ name. name.items) names.items) result cursor.new (many_in (text_in false) count cursor.old) }
+    ensures found { Finds (λ names. map (λ name. name.items) names.items) result cursor.new (many_in (text_in false) count cursor.old) }
+    ensures shorter { OnOk result (length cursor.new ≤ length cursor.old) }
 {
     let mut names = Vec::new(alloc);
     let mut left = count;
@@ -189,7 +191,8 @@ fn some_names(alloc: Global, cursor: &mut Cursor<'_>, count: u32) -> Result<Vec<
 /// The names of the interfaces of a proxy, whose number stands before them.
 #[tactic(auto, unfolding(crate::specs::Building::interfaces_in))]
 pub(crate) fn interfaces(alloc: Global, cursor: &mut Cursor<'_>) -> Result<Vec<Vec<u16>>, Fault>
-    ensures { Finds (λ names. map (λ name. name.items) names.items) result cursor.new (interfaces_in cursor.old) }
+    ensures found { Finds (λ names. map (λ name. name.items) names.items) result cursor.new (interfaces_in cursor.old) }
+    ensures shorter { OnOk result (length cursor.new < length cursor.old) }
 {
     let count = cursor.number_of_four()?;
     some_names(alloc, cursor, count)
@@ -198,7 +201,8 @@ pub(crate) fn interfaces(alloc: Global, cursor: &mut Cursor<'_>) -> Result<Vec<V
 /// A raw value of the type with this code.
 #[tactic(auto, unfolding(crate::specs::Building::prim_in))]
 fn prim(cursor: &mut Cursor<'_>, code: u8) -> Result<Prim, Fault>
-    ensures { Finds view_prim result cursor.new (prim_at (prim_code_of code) cursor.old) }
+    ensures found { Finds view_prim result cursor.new (prim_at (prim_code_of code) cursor.old) }
+    ensures shorter { OnOk result (length cursor.new < length cursor.old) }
 {
     match code {
         b'B' => Ok(Prim::B(cursor.number_of_one()?)),
@@ -221,7 +225,8 @@ pub(crate) fn prims(
     code: u8,
     count: u32,
 ) -> Result<Vec<Prim>, Fault>
-    ensures { Finds (λ prims. map view_prim prims.items) result cursor.new (many_in (prim_at (prim_code_of code)) count cursor.old) }
+    ensures found { Finds (λ prims. map view_prim prims.items) result cursor.new (many_in (prim_at (prim_code_of code)) count cursor.old) }
+    ensures shorter { OnOk result (length cursor.new ≤ length cursor.old) }
 {
     let mut prims = Vec::new(alloc);
     let mut left = count;
@@ -240,7 +245,8 @@ pub(crate) fn prims_of(
     cursor: &mut Cursor<'_>,
     codes: &[u8],
 ) -> Result<Vec<Prim>, Fault>
-    ensures { Finds (λ prims. map view_prim prims.items) result cursor.new (prims_in (primitive_codes codes.now) cursor.old) }
+    ensures found { Finds (λ prims. map view_prim prims.items) result cursor.new (prims_in (primitive_codes codes.now) cursor.old) }
+    ensures shorter { OnOk result (length cursor.new ≤ length cursor.old) }
 {
     let mut prims = Vec::new(alloc);
     'codes: for code in codes {
@@ -261,7 +267,8 @@ pub(crate) fn is_primitive(code: u8) -> bool
 
 /// How many bytes a block has.
 fn block_length(cursor: &mut Cursor<'_>, long: bool) -> Result<u32, Fault>
-    ensures { Finds (λ length. length) result cursor.new (number_in (block_head_size long) cursor.old) }
+    ensures found { Finds (λ length. length) result cursor.new (number_in (block_head_size long) cursor.old) }
+    ensures shorter { OnOk result (length cursor.new < length cursor.old) }
 {
     if long {
         cursor.number_of_four()
@@ -273,7 +280,8 @@ fn block_length(cursor: &mut Cursor<'_>, long: bool) -> Result<u32, Fault>
 /// The bytes of a block, whose number stands before them.
 #[tactic(auto, unfolding(crate::specs::Building::sized_front_in))]
 pub(crate) fn block(alloc: Global, cursor: &mut Cursor<'_>, long: bool) -> Result<Vec<u8>, Fault>
-    ensures { Finds (λ bytes. bytes.items) result cursor.new (block_in long cursor.old) }
+    ensures found { Finds (λ bytes. bytes.items) result cursor.new (block_in long cursor.old) }
+    ensures shorter { OnOk result (length cursor.new < length cursor.old) }
 {
     let length = block_length(cursor, long)?;
     let bytes = cursor.take(length as usize)?;

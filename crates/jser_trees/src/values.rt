@@ -1,7 +1,7 @@
 //! Values out of their bytes: one function for each form of the grammar.
 //!
 //! Recursion goes as deep as the trees, which `steps` bounds.
-ghost use Rattle.std.specs.Prelude.{◌≡◌, ◌<◌, ◌∷◌, [], IfOk, IfErr, OnOk, IsTrue, map, length, slice_get, option_map};
+ghost use Rattle.std.specs.Prelude.{◌≡◌, ◌<◌, ◌≤◌, ◌+◌, ◌∷◌, [], IfOk, IfErr, OnOk, IsTrue, map, length, slice_get, option_map};
 ghost use Rattle.jser_table.specs.Chains.{is_external};
 ghost use Rattle.jser_table.specs.Entries.{is_closed, chain_at, other_entry};
 ghost use Rattle.jser_grammar.specs.TableAfter.{add, after_fields, after_type, after_text_place, after_value, after_desc, after_class, after_body, after_values, after_sections, after_contents, chain_of_class, chain_of_desc};
@@ -10,48 +10,34 @@ ghost use Rattle.jser_value.specs.View.{view_text_place, view_field, view_value,
 ghost use Rattle.jser_trees.specs.Building.{after_content, back_class_in, block_content_in, data_in, body_in, top_content_in, first_content_in, after_top, string_in, value_in, desc_in, level_in, desc_level_in, tagged_in, class_in, superclass_in, content_in, annotation_in, values_in, section_at_in, sections_in, external_in, elements_in, plain_in, proxy_in, class_object_in, array_in, enum_constant_in, object_in, top_in};
 ghost use Rattle.jser_grammar.specs.Trees.{back_class};
 ghost use Rattle.jser_trees.specs.Found.{Finds, FindsAll};
+ghost use Rattle.jser_value.specs.Rooms.{HasRoom, HasRoomForOneMore, Spends, SpendsOneMore};
 
 use crate::chains::{
     assign, count_values, element_code, is_class, is_external, plain_layer, proxy_layer,
 };
 use crate::cursor::{Cursor, Fault};
 use crate::texts::{
-    TC_LONGSTRING, TC_REFERENCE, TC_STRING, block, fields, interfaces, kept, number_of_handle,
-    prims, prims_of, text_place, units,
+    block, fields, interfaces, kept, number_of_handle, prims, prims_of, text_place, units,
+};
+use jser_grammar::wire::{
+    TC_ARRAY, TC_BLOCKDATA, TC_BLOCKDATALONG, TC_CLASS, TC_CLASSDESC, TC_ENDBLOCKDATA, TC_ENUM,
+    TC_LONGSTRING, TC_NULL, TC_OBJECT, TC_PROXYCLASSDESC, TC_REFERENCE, TC_RESET, TC_STRING,
 };
 use jser_table::{Kind, Table};
-use jser_value::{Body, ClassPlace, Content, Desc, Field, Section, Text, TextPlace, Value};
+use jser_value::{
+    Body, ClassPlace, Content, Desc, Field, Handles, Section, Text, TextPlace, Value,
+};
 use std::alloc::Global;
-
-const TC_NULL: u8 = 0x70;
-
-const TC_CLASSDESC: u8 = 0x72;
-
-const TC_OBJECT: u8 = 0x73;
-
-const TC_ARRAY: u8 = 0x75;
-
-const TC_CLASS: u8 = 0x76;
-
-const TC_BLOCKDATA: u8 = 0x77;
-
-const TC_ENDBLOCKDATA: u8 = 0x78;
-
-const TC_RESET: u8 = 0x79;
-
-const TC_BLOCKDATALONG: u8 = 0x7A;
-
-const TC_PROXYCLASSDESC: u8 = 0x7D;
-
-const TC_ENUM: u8 = 0x7E;
 
 /// How many values and descriptors may stand within one another: two for each level of a tree.
 const MOST_STEPS: u32 = 2000;
 
 /// A new string has a handle.
-fn enter_text(table: &mut Table, place: &TextPlace) -> Result<(), Fault>
+fn enter_text(table: &mut Handles, place: &TextPlace) -> Result<(), Fault>
+    requires room { length table.old.entries < 2147483648 }
     ensures entered { OnOk result (table.new.entries ≡ after_text_place table.old.entries (view_text_place place.now)) }
     ensures memory { IfErr result (λ fault. fault ≡ Fault.OutOfMemory) }
+    ensures spent { OnOk result (length table.new.entries ≤ length table.old.entries + 1) }
 {
     match place {
         TextPlace::New(_) => {
@@ -63,9 +49,11 @@ fn enter_text(table: &mut Table, place: &TextPlace) -> Result<(), Fault>
 }
 
 /// So has a new string that is the type of a field.
-fn enter_type(table: &mut Table, field: &Field) -> Result<(), Fault>
+fn enter_type(table: &mut Handles, field: &Field) -> Result<(), Fault>
+    requires room { length table.old.entries < 2147483648 }
     ensures entered { OnOk result (table.new.entries ≡ after_type table.old.entries (option_map view_text_place field.now.text)) }
     ensures memory { IfErr result (λ fault. fault ≡ Fault.OutOfMemory) }
+    ensures spent { OnOk result (length table.new.entries ≤ length table.old.entries + 1) }
 {
     match &field.text {
         Some(place) => enter_text(table, place),
@@ -74,9 +62,11 @@ fn enter_type(table: &mut Table, field: &Field) -> Result<(), Fault>
 }
 
 /// The new strings among the types of these fields have handles.
-fn enter_types(table: &mut Table, fields: &[Field]) -> Result<(), Fault>
+fn enter_types(table: &mut Handles, fields: &[Field]) -> Result<(), Fault>
+    requires room { length table.old.entries + length fields.now ≤ 2147483647 }
     ensures entered { OnOk result (table.new.entries ≡ after_fields table.old.entries (map view_field fields.now)) }
     ensures memory { IfErr result (λ fault. fault ≡ Fault.OutOfMemory) }
+    ensures spent { OnOk result (length table.new.entries ≤ length table.old.entries + length fields.now) }
 {
     'fields: for field in fields {
         enter_type(table, field)?;
@@ -88,6 +78,7 @@ fn enter_types(table: &mut Table, fields: &[Field]) -> Result<(), Fault>
 fn back_class(cursor: &mut Cursor<'_>, table: &Table) -> Result<u32, Fault>
     ensures found { Finds (λ number. back_class number) result cursor.new (back_class_in table.now.entries cursor.old) }
     ensures class { IfOk result (λ number. IsTrue (is_closed (slice_get table.now.entries number))) }
+    ensures shorter { OnOk result (length cursor.new < length cursor.old) }
 {
     let number = number_of_handle(cursor)?;
     if !is_class(table, number) {
@@ -98,7 +89,8 @@ fn back_class(cursor: &mut Cursor<'_>, table: &Table) -> Result<u32, Fault>
 
 /// A block, behind its tag.
 fn block_content(alloc: Global, cursor: &mut Cursor<'_>, long: bool) -> Result<Content, Fault>
-    ensures { Finds view_content result cursor.new (block_content_in long cursor.old) }
+    ensures found { Finds view_content result cursor.new (block_content_in long cursor.old) }
+    ensures shorter { OnOk result (length cursor.new < length cursor.old) }
 {
     let bytes = block(alloc, cursor, long)?;
     Ok(Content::Block { long, bytes })
@@ -109,11 +101,13 @@ fn block_content(alloc: Global, cursor: &mut Cursor<'_>, long: bool) -> Result<C
 fn string(
     alloc: Global,
     cursor: &mut Cursor<'_>,
-    table: &mut Table,
+    table: &mut Handles,
     long: bool,
 ) -> Result<Value, Fault>
+    requires room { HasRoomForOneMore table.old.entries cursor.old }
     ensures found { Finds view_value result cursor.new (string_in long cursor.old) }
     ensures after { IfOk result (λ value. table.new.entries ≡ after_value table.old.entries (view_value value)) }
+    ensures spent { OnOk result (SpendsOneMore table.old.entries cursor.old table.new.entries cursor.new) }
 {
     let units = units(alloc, cursor, long)?;
     assign(table, Kind::Text)?;
@@ -123,9 +117,10 @@ fn string(
 /// The contents of a stream, behind its header.
 #[tactic(auto, using(crate::proofs::TopLoop::top_begun, crate::proofs::TopLoop::top_next, crate::proofs::TopLoop::top_done, crate::proofs::TopLoop::top_failed, crate::proofs::TopLoop::top_endless))]
 pub(crate) fn contents(alloc: Global, cursor: &mut Cursor<'_>) -> Result<Vec<Content>, Fault>
+    requires room { length cursor.old ≤ 2147483647 }
     ensures { FindsAll (λ list. view_contents list.items) result (top_in (value_in 2000) (length cursor.old) [] cursor.old) }
 {
-    let mut table = Table::new(alloc, u32::MAX);
+    let mut table = Handles::new(alloc);
     let mut list = Vec::new(alloc);
     let mut left = cursor.left();
     'contents: while left > 0 && cursor.left() > 0 {
@@ -141,9 +136,15 @@ pub(crate) fn contents(alloc: Global, cursor: &mut Cursor<'_>) -> Result<Vec<Con
 
 /// A content at the top.
 #[tactic(auto, unfolding(crate::specs::Building::top_content_in), using(crate::proofs::TopLoop::after_no_reset))]
-fn top_content(alloc: Global, cursor: &mut Cursor<'_>, table: &mut Table) -> Result<Content, Fault>
+fn top_content(
+    alloc: Global,
+    cursor: &mut Cursor<'_>,
+    table: &mut Handles,
+) -> Result<Content, Fault>
+    requires room { HasRoom table.old.entries cursor.old }
     ensures found { Finds view_content result cursor.new (first_content_in (value_in 2000) table.old.entries cursor.old) }
     ensures after { IfOk result (λ content. table.new.entries ≡ after_top table.old.entries (view_content content)) }
+    ensures spent { OnOk result (Spends table.old.entries cursor.old table.new.entries cursor.new) }
 {
     let tag = cursor.byte()?;
     if tag == TC_RESET {
@@ -159,12 +160,14 @@ fn top_content(alloc: Global, cursor: &mut Cursor<'_>, table: &mut Table) -> Res
 pub(crate) fn content(
     alloc: Global,
     cursor: &mut Cursor<'_>,
-    table: &mut Table,
+    table: &mut Handles,
     steps: u32,
     tag: u8,
 ) -> Result<Content, Fault>
+    requires room { HasRoomForOneMore table.old.entries cursor.old }
     ensures found { Finds view_content result cursor.new (content_in (value_in steps) table.old.entries (tag ∷ cursor.old)) }
     ensures after { IfOk result (λ content. table.new.entries ≡ after_content table.old.entries (view_content content)) }
+    ensures spent { OnOk result (SpendsOneMore table.old.entries cursor.old table.new.entries cursor.new) }
 {
     match tag {
         TC_BLOCKDATA => block_content(alloc, cursor, false),
@@ -179,11 +182,13 @@ pub(crate) fn content(
 fn notes(
     alloc: Global,
     cursor: &mut Cursor<'_>,
-    table: &mut Table,
+    table: &mut Handles,
     steps: u32,
 ) -> Result<Vec<Content>, Fault>
+    requires room { HasRoom table.old.entries cursor.old }
     ensures found { Finds (λ notes. view_contents notes.items) result cursor.new (annotation_in (value_in steps) table.old.entries cursor.old) }
     ensures after { IfOk result (λ notes. table.new.entries ≡ after_contents table.old.entries (view_contents notes.items)) }
+    ensures spent { OnOk result (Spends table.old.entries cursor.old table.new.entries cursor.new) }
 {
     let mut notes = Vec::new(alloc);
     let mut left = cursor.left();
@@ -205,12 +210,14 @@ fn notes(
 fn values(
     alloc: Global,
     cursor: &mut Cursor<'_>,
-    table: &mut Table,
+    table: &mut Handles,
     count: usize,
     steps: u32,
 ) -> Result<Vec<Value>, Fault>
+    requires room { HasRoom table.old.entries cursor.old }
     ensures found { Finds (λ values. view_values values.items) result cursor.new (values_in (value_in steps) count table.old.entries cursor.old) }
     ensures after { IfOk result (λ values. table.new.entries ≡ after_values table.old.entries (view_values values.items)) }
+    ensures spent { OnOk result (Spends table.old.entries cursor.old table.new.entries cursor.new) }
 {
     let mut values = Vec::new(alloc);
     let mut left = count;
@@ -228,11 +235,13 @@ fn values(
 fn next_value(
     alloc: Global,
     cursor: &mut Cursor<'_>,
-    table: &mut Table,
+    table: &mut Handles,
     steps: u32,
 ) -> Result<Value, Fault>
+    requires room { HasRoom table.old.entries cursor.old }
     ensures found { Finds view_value result cursor.new (value_in steps table.old.entries cursor.old) }
     ensures after { IfOk result (λ value. table.new.entries ≡ after_value table.old.entries (view_value value)) }
+    ensures spent { OnOk result (Spends table.old.entries cursor.old table.new.entries cursor.new) }
 {
     let tag = cursor.byte()?;
     value(alloc, cursor, table, steps, tag)
@@ -244,12 +253,14 @@ fn next_value(
 fn value(
     alloc: Global,
     cursor: &mut Cursor<'_>,
-    table: &mut Table,
+    table: &mut Handles,
     steps: u32,
     tag: u8,
 ) -> Result<Value, Fault>
+    requires room { HasRoomForOneMore table.old.entries cursor.old }
     ensures found { Finds view_value result cursor.new (value_in steps table.old.entries (tag ∷ cursor.old)) }
     ensures after { IfOk result (λ value. table.new.entries ≡ after_value table.old.entries (view_value value)) }
+    ensures spent { OnOk result (SpendsOneMore table.old.entries cursor.old table.new.entries cursor.new) }
 {
     if steps == 0 {
         return Err(Fault::Lost);
@@ -263,12 +274,14 @@ fn value(
 fn level(
     alloc: Global,
     cursor: &mut Cursor<'_>,
-    table: &mut Table,
+    table: &mut Handles,
     steps: u32,
     tag: u8,
 ) -> Result<Value, Fault>
+    requires room { HasRoomForOneMore table.old.entries cursor.old }
     ensures found { Finds view_value result cursor.new (level_in (desc_in steps) (value_in steps) table.old.entries tag cursor.old) }
     ensures after { IfOk result (λ value. table.new.entries ≡ after_value table.old.entries (view_value value)) }
+    ensures spent { OnOk result (SpendsOneMore table.old.entries cursor.old table.new.entries cursor.new) }
 {
     match tag {
         TC_CLASSDESC | TC_PROXYCLASSDESC => {
@@ -285,12 +298,14 @@ fn level(
 fn tagged(
     alloc: Global,
     cursor: &mut Cursor<'_>,
-    table: &mut Table,
+    table: &mut Handles,
     steps: u32,
     tag: u8,
 ) -> Result<Value, Fault>
+    requires room { HasRoomForOneMore table.old.entries cursor.old }
     ensures found { Finds view_value result cursor.new (tagged_in (desc_in steps) (value_in steps) table.old.entries tag cursor.old) }
     ensures after { IfOk result (λ value. table.new.entries ≡ after_value table.old.entries (view_value value)) }
+    ensures spent { OnOk result (SpendsOneMore table.old.entries cursor.old table.new.entries cursor.new) }
 {
     match tag {
         TC_NULL => Ok(Value::Null),
@@ -311,11 +326,13 @@ fn tagged(
 fn class_object(
     alloc: Global,
     cursor: &mut Cursor<'_>,
-    table: &mut Table,
+    table: &mut Handles,
     steps: u32,
 ) -> Result<Value, Fault>
+    requires room { HasRoomForOneMore table.old.entries cursor.old }
     ensures found { Finds view_value result cursor.new (class_object_in (desc_in steps) table.old.entries cursor.old) }
     ensures after { IfOk result (λ value. table.new.entries ≡ after_value table.old.entries (view_value value)) }
+    ensures spent { OnOk result (SpendsOneMore table.old.entries cursor.old table.new.entries cursor.new) }
 {
     let (descr, _) = next_class(alloc, cursor, table, steps)?;
     assign(table, Kind::Other)?;
@@ -328,14 +345,16 @@ fn class_object(
 fn array(
     alloc: Global,
     cursor: &mut Cursor<'_>,
-    table: &mut Table,
+    table: &mut Handles,
     steps: u32,
 ) -> Result<Value, Fault>
+    requires room { HasRoomForOneMore table.old.entries cursor.old }
     ensures found { Finds view_value result cursor.new (array_in (desc_in steps) (value_in steps) table.old.entries cursor.old) }
     ensures after { IfOk result (λ value. table.new.entries ≡ after_value table.old.entries (view_value value)) }
+    ensures spent { OnOk result (SpendsOneMore table.old.entries cursor.old table.new.entries cursor.new) }
 {
     let (descr, number) = next_class(alloc, cursor, table, steps)?;
-    let code = element_code(table, number);
+    let code = element_code(table.table(), number);
     assign(table, Kind::Other)?;
     let body = body(alloc, cursor, table, code, steps)?;
     Ok(Value::Array { descr, body })
@@ -347,12 +366,14 @@ fn array(
 fn body(
     alloc: Global,
     cursor: &mut Cursor<'_>,
-    table: &mut Table,
+    table: &mut Handles,
     code: Option<u8>,
     steps: u32,
 ) -> Result<Body, Fault>
+    requires room { HasRoom table.old.entries cursor.old }
     ensures found { Finds view_body result cursor.new (body_in (value_in steps) table.old.entries code cursor.old) }
     ensures after { IfOk result (λ body. table.new.entries ≡ after_body table.old.entries (view_body body)) }
+    ensures spent { OnOk result (Spends table.old.entries cursor.old table.new.entries cursor.new) }
 {
     let count = cursor.number_of_four()?;
     match code {
@@ -370,11 +391,13 @@ fn body(
 fn enum_constant(
     alloc: Global,
     cursor: &mut Cursor<'_>,
-    table: &mut Table,
+    table: &mut Handles,
     steps: u32,
 ) -> Result<Value, Fault>
+    requires room { HasRoomForOneMore table.old.entries cursor.old }
     ensures found { Finds view_value result cursor.new (enum_constant_in (desc_in steps) table.old.entries cursor.old) }
     ensures after { IfOk result (λ value. table.new.entries ≡ after_value table.old.entries (view_value value)) }
+    ensures spent { OnOk result (SpendsOneMore table.old.entries cursor.old table.new.entries cursor.new) }
 {
     let (descr, _) = next_class(alloc, cursor, table, steps)?;
     assign(table, Kind::Other)?;
@@ -389,11 +412,13 @@ fn enum_constant(
 fn object(
     alloc: Global,
     cursor: &mut Cursor<'_>,
-    table: &mut Table,
+    table: &mut Handles,
     steps: u32,
 ) -> Result<Value, Fault>
+    requires room { HasRoomForOneMore table.old.entries cursor.old }
     ensures found { Finds view_value result cursor.new (object_in (desc_in steps) (value_in steps) table.old.entries cursor.old) }
     ensures after { IfOk result (λ value. table.new.entries ≡ after_value table.old.entries (view_value value)) }
+    ensures spent { OnOk result (SpendsOneMore table.old.entries cursor.old table.new.entries cursor.new) }
 {
     let (descr, number) = next_class(alloc, cursor, table, steps)?;
     assign(table, Kind::Other)?;
@@ -407,15 +432,17 @@ fn object(
 fn data(
     alloc: Global,
     cursor: &mut Cursor<'_>,
-    table: &mut Table,
+    table: &mut Handles,
     number: u32,
     steps: u32,
 ) -> Result<Vec<Section>, Fault>
-    requires { IsTrue (is_closed (slice_get table.old.entries number)) }
+    requires closed { IsTrue (is_closed (slice_get table.old.entries number)) }
+    requires room { HasRoom table.old.entries cursor.old }
     ensures found { Finds (λ sections. view_sections sections.items) result cursor.new (data_in (value_in steps) table.old.entries (chain_at table.old.entries number) cursor.old) }
     ensures after { IfOk result (λ sections. table.new.entries ≡ after_sections table.old.entries (view_sections sections.items)) }
+    ensures spent { OnOk result (Spends table.old.entries cursor.old table.new.entries cursor.new) }
 {
-    if is_external(table, number) {
+    if is_external(table.table(), number) {
         external_section(alloc, cursor, table, steps)
     } else {
         sections(alloc, cursor, table, number, steps)
@@ -428,11 +455,13 @@ fn data(
 fn external_section(
     alloc: Global,
     cursor: &mut Cursor<'_>,
-    table: &mut Table,
+    table: &mut Handles,
     steps: u32,
 ) -> Result<Vec<Section>, Fault>
+    requires room { HasRoom table.old.entries cursor.old }
     ensures found { Finds (λ sections. view_sections sections.items) result cursor.new (external_in (value_in steps) table.old.entries cursor.old) }
     ensures after { IfOk result (λ sections. table.new.entries ≡ after_sections table.old.entries (view_sections sections.items)) }
+    ensures spent { OnOk result (Spends table.old.entries cursor.old table.new.entries cursor.new) }
 {
     let notes = notes(alloc, cursor, table, steps)?;
     let mut sections = Vec::new(alloc);
@@ -450,15 +479,17 @@ fn external_section(
 fn sections(
     alloc: Global,
     cursor: &mut Cursor<'_>,
-    table: &mut Table,
+    table: &mut Handles,
     number: u32,
     steps: u32,
 ) -> Result<Vec<Section>, Fault>
-    requires { IsTrue (is_closed (slice_get table.old.entries number)) }
+    requires closed { IsTrue (is_closed (slice_get table.old.entries number)) }
+    requires room { HasRoom table.old.entries cursor.old }
     ensures found { Finds (λ sections. view_sections sections.items) result cursor.new (sections_in (value_in steps) table.old.entries (chain_at table.old.entries number) cursor.old) }
     ensures after { IfOk result (λ sections. table.new.entries ≡ after_sections table.old.entries (view_sections sections.items)) }
+    ensures spent { OnOk result (Spends table.old.entries cursor.old table.new.entries cursor.new) }
 {
-    let count = table.layers(number);
+    let count = table.table().layers(number);
     let mut sections = Vec::new(alloc);
     'sections: for index in 0..count {
         let next = section(alloc, cursor, table, number, index, steps)?;
@@ -473,17 +504,19 @@ fn sections(
 fn section(
     alloc: Global,
     cursor: &mut Cursor<'_>,
-    table: &mut Table,
+    table: &mut Handles,
     number: u32,
     index: usize,
     steps: u32,
 ) -> Result<Section, Fault>
     requires closed { IsTrue (is_closed (slice_get table.old.entries number)) }
     requires index { index < length (chain_at table.old.entries number) }
+    requires room { HasRoom table.old.entries cursor.old }
     ensures found { Finds view_section result cursor.new (section_at_in (value_in steps) table.old.entries (slice_get (chain_at table.old.entries number) index) cursor.old) }
     ensures after { IfOk result (λ section. table.new.entries ≡ after_section table.old.entries (view_section section)) }
+    ensures spent { OnOk result (Spends table.old.entries cursor.old table.new.entries cursor.new) }
 {
-    let layer = table.layer(number, index);
+    let layer = table.table().layer(number, index);
     let codes = layer.codes.as_slice();
     let prims = prims_of(alloc, cursor, codes)?;
     let count = count_values(codes);
@@ -511,12 +544,14 @@ fn section(
 fn next_class(
     alloc: Global,
     cursor: &mut Cursor<'_>,
-    table: &mut Table,
+    table: &mut Handles,
     steps: u32,
 ) -> Result<(ClassPlace, u32), Fault>
+    requires room { HasRoom table.old.entries cursor.old }
     ensures found { Finds (λ x. view_class_place x.0) result cursor.new (class_in (desc_in steps) table.old.entries cursor.old) }
     ensures after { IfOk result (λ x. table.new.entries ≡ after_class table.old.entries (view_class_place x.0)) }
     ensures class { IfOk result (λ x. IsClassAt table.new.entries x.1 (chain_of_class table.old.entries (view_class_place x.0))) }
+    ensures spent { OnOk result (Spends table.old.entries cursor.old table.new.entries cursor.new) }
 {
     let tag = cursor.byte()?;
     class(alloc, cursor, table, steps, tag)
@@ -528,16 +563,18 @@ fn next_class(
 fn class(
     alloc: Global,
     cursor: &mut Cursor<'_>,
-    table: &mut Table,
+    table: &mut Handles,
     steps: u32,
     tag: u8,
 ) -> Result<(ClassPlace, u32), Fault>
+    requires room { HasRoomForOneMore table.old.entries cursor.old }
     ensures found { Finds (λ x. view_class_place x.0) result cursor.new (class_in (desc_in steps) table.old.entries (tag ∷ cursor.old)) }
     ensures after { IfOk result (λ x. table.new.entries ≡ after_class table.old.entries (view_class_place x.0)) }
     ensures class { IfOk result (λ x. IsClassAt table.new.entries x.1 (chain_of_class table.old.entries (view_class_place x.0))) }
+    ensures spent { OnOk result (SpendsOneMore table.old.entries cursor.old table.new.entries cursor.new) }
 {
     if tag == TC_REFERENCE {
-        let number = back_class(cursor, table)?;
+        let number = back_class(cursor, table.table())?;
         return Ok((ClassPlace::Back(number), number));
     }
     let (desc, number) = desc(alloc, cursor, table, steps, tag)?;
@@ -551,12 +588,14 @@ fn class(
 fn superclass(
     alloc: Global,
     cursor: &mut Cursor<'_>,
-    table: &mut Table,
+    table: &mut Handles,
     steps: u32,
 ) -> Result<(ClassPlace, Option<u32>), Fault>
+    requires room { HasRoom table.old.entries cursor.old }
     ensures found { Finds (λ x. view_class_place x.0) result cursor.new (superclass_in (desc_in steps) table.old.entries cursor.old) }
     ensures after { IfOk result (λ x. table.new.entries ≡ after_class table.old.entries (view_class_place x.0)) }
     ensures parent { IfOk result (λ x. IsParentAt table.new.entries (chain_of_class table.old.entries (view_class_place x.0)) x.1) }
+    ensures spent { OnOk result (Spends table.old.entries cursor.old table.new.entries cursor.new) }
 {
     let tag = cursor.byte()?;
     if tag == TC_NULL {
@@ -572,13 +611,15 @@ fn superclass(
 fn desc(
     alloc: Global,
     cursor: &mut Cursor<'_>,
-    table: &mut Table,
+    table: &mut Handles,
     steps: u32,
     tag: u8,
 ) -> Result<(Desc, u32), Fault>
+    requires room { HasRoomForOneMore table.old.entries cursor.old }
     ensures found { Finds (λ x. view_desc x.0) result cursor.new (desc_in steps table.old.entries (tag ∷ cursor.old)) }
     ensures after { IfOk result (λ x. table.new.entries ≡ after_desc table.old.entries (view_desc x.0)) }
     ensures class { IfOk result (λ x. IsClassAt table.new.entries x.1 (chain_of_desc table.old.entries (view_desc x.0))) }
+    ensures spent { OnOk result (SpendsOneMore table.old.entries cursor.old table.new.entries cursor.new) }
 {
     if steps == 0 {
         return Err(Fault::Lost);
@@ -592,13 +633,15 @@ fn desc(
 fn desc_level(
     alloc: Global,
     cursor: &mut Cursor<'_>,
-    table: &mut Table,
+    table: &mut Handles,
     steps: u32,
     tag: u8,
 ) -> Result<(Desc, u32), Fault>
+    requires room { HasRoomForOneMore table.old.entries cursor.old }
     ensures found { Finds (λ x. view_desc x.0) result cursor.new (desc_level_in (desc_in steps) (value_in steps) table.old.entries tag cursor.old) }
     ensures after { IfOk result (λ x. table.new.entries ≡ after_desc table.old.entries (view_desc x.0)) }
     ensures class { IfOk result (λ x. IsClassAt table.new.entries x.1 (chain_of_desc table.old.entries (view_desc x.0))) }
+    ensures spent { OnOk result (SpendsOneMore table.old.entries cursor.old table.new.entries cursor.new) }
 {
     match tag {
         TC_CLASSDESC => plain(alloc, cursor, table, steps),
@@ -613,12 +656,14 @@ fn desc_level(
 fn plain(
     alloc: Global,
     cursor: &mut Cursor<'_>,
-    table: &mut Table,
+    table: &mut Handles,
     steps: u32,
 ) -> Result<(Desc, u32), Fault>
+    requires room { HasRoomForOneMore table.old.entries cursor.old }
     ensures found { Finds (λ x. view_desc x.0) result cursor.new (plain_in (desc_in steps) (value_in steps) table.old.entries cursor.old) }
     ensures after { IfOk result (λ x. table.new.entries ≡ after_desc table.old.entries (view_desc x.0)) }
     ensures class { IfOk result (λ x. IsClassAt table.new.entries x.1 (chain_of_desc table.old.entries (view_desc x.0))) }
+    ensures spent { OnOk result (SpendsOneMore table.old.entries cursor.old table.new.entries cursor.new) }
 {
     let name = units(alloc, cursor, false)?;
     let suid = cursor.number_of_eight()?;
@@ -647,12 +692,14 @@ fn plain(
 fn proxy(
     alloc: Global,
     cursor: &mut Cursor<'_>,
-    table: &mut Table,
+    table: &mut Handles,
     steps: u32,
 ) -> Result<(Desc, u32), Fault>
+    requires room { HasRoomForOneMore table.old.entries cursor.old }
     ensures found { Finds (λ x. view_desc x.0) result cursor.new (proxy_in (desc_in steps) (value_in steps) table.old.entries cursor.old) }
     ensures after { IfOk result (λ x. table.new.entries ≡ after_desc table.old.entries (view_desc x.0)) }
     ensures class { IfOk result (λ x. IsClassAt table.new.entries x.1 (chain_of_desc table.old.entries (view_desc x.0))) }
+    ensures spent { OnOk result (SpendsOneMore table.old.entries cursor.old table.new.entries cursor.new) }
 {
     let number = assign(table, Kind::Pending)?;
     let interfaces = interfaces(alloc, cursor)?;

@@ -1,6 +1,6 @@
 -- A list of parts on the way to being tested: of the whole, each part so far passed, and what is left
 -- decides, with the table as it is now.
-use Rattle.std.proofs.Common.{◌≡◌, ◌==◌, ◌<◌, ◌≤◌, ℕ, zero, suc, ◌+◌, Bool, true, false, ◌&&◌, true≢false, eq-eqb, eqb-true, add-one, List, [], ◌∷◌, length, refl, sym, ap, ◌∙◌, arith, Some, None, slice_get, map, drop, get_or, subst, Err}
+use Rattle.std.proofs.Common.{◌≡◌, ◌==◌, ◌<◌, ◌≤◌, ℕ, zero, suc, ◌+◌, Bool, true, false, ◌&&◌, true≢false, eq-eqb, eqb-true, add-one, List, [], ◌∷◌, ◌++◌, length, length-append, refl, sym, ap, ◌∙◌, arith, Some, None, slice_get, map, drop, get_or, subst, Err}
 use Rattle.jser_table.specs.Chains.{own_layer}
 use Rattle.jser_table.specs.declared.layer.Layer.{Layer}
 use Rattle.jser_value.specs.declared.tree.Value.{Value}
@@ -15,6 +15,8 @@ use Rattle.jser_value.proofs.KeepLemmas.{class_behind_section}
 use Rattle.jser_grammar.specs.TableAfter.{Entries, after_values, after_sections, after_contents}
 use Rattle.jser_value.specs.Tests.{Judges, is_bare, obeys_alone, obeys_notes, obeys_external, obeys_section, obeys_section_at, obeys_sections, after_section, IsClassAt}
 use Rattle.jser_grammar.specs.Trees.{PrimTree, ValueTrees, no_values, value_and, value_count, SectionTrees, no_sections, section_and, SectionTree, section, annotation, ContentTrees}
+use Rattle.jser_grammar.specs.Spelling.{prims_spelling, values_spelling, notes_spelling, sections_spelling}
+use Rattle.jser_value.specs.Rooms.{Spends}
 use Rattle.jser_value.specs.View.{view_prim, view_values, view_section, view_sections}
 
 pub record Awaits (left whole : Bool) (after_left after_whole : Entries) : Type 0 where
@@ -174,3 +176,31 @@ pub judged_failed : {X : Type 0} → (r : Result X Fault) (e : Fault) (part whol
 judged_failed {X} r fault.NotRight part whole A B U V is h fails =
     subst (λ (q : Result X Fault). Judges q whole B V) (sym is) (fails h)
 judged_failed {X} r fault.OutOfMemory part whole A B U V is h fails = subst (λ (q : Result X Fault). Judges q whole B V) (sym is) tt
+
+-- ---- handles and bytes
+
+one_section : (s : SectionTree) (ss : SectionTrees)
+    → length (sections_spelling (section_and s ss)) ≡ length (sections_spelling (section_and s no_sections)) + length (sections_spelling ss)
+one_section (section ps vs n) ss =
+    omega (
+      arith,
+      length-append (prims_spelling ps) (values_spelling vs ++ (notes_spelling n ++ sections_spelling ss)),
+      length-append (values_spelling vs) (notes_spelling n ++ sections_spelling ss),
+      length-append (notes_spelling n) (sections_spelling ss),
+      length-append (prims_spelling ps) (values_spelling vs ++ (notes_spelling n ++ [])),
+      length-append (values_spelling vs) (notes_spelling n ++ []),
+      length-append (notes_spelling n) [],
+    )
+
+-- behind one more section
+pub sections_spent : (T U V : Entries) (sections : List Section) (k : ℕ) (s : Section)
+    → Spends T (sections_spelling (view_sections sections)) U (sections_spelling (view_sections (drop k sections))) → k < length sections
+    → s ≡ get_or sections k s → Spends U (sections_spelling (view_sections (s ∷ []))) V []
+    → Spends T (sections_spelling (view_sections sections)) V (sections_spelling (view_sections (drop (k + 1) sections)))
+sections_spent T U V sections k s before h e spent =
+    let next = sections_at sections k s h e in
+    let bytes : length (sections_spelling (view_sections (drop k sections)))
+    ≡ length (sections_spelling (view_sections (s ∷ []))) + length (sections_spelling (view_sections (drop (suc k) sections))) =
+    ap (λ (xs : List Section). length (sections_spelling (view_sections xs))) next
+    ∙ one_section (view_section s) (view_sections (drop (suc k) sections)) in
+    rw add-one (omega (arith, before, spent, bytes))

@@ -36,6 +36,11 @@ pub enum ValueCause {
 }
 
 /// A list of contents that is refused, and why.
+///
+/// The list may be deeper than trees may be, and then it is not safe to let it go: dropping a list, comparing it and printing
+/// it for debugging call themselves once for each of its levels, and a list of a million levels may overflow the stack. Pass such a
+/// fault on, or take its list apart from the outside: move what stands in the outermost values out of them, level by
+/// level, and drop each value when nothing stands in it.
 #[derive(PartialEq, Eq, Debug, Drop, Error)]
 #[error("{cause}")]
 pub struct ValueFault {

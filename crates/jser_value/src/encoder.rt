@@ -16,6 +16,11 @@ ghost use Rattle.jser_grammar.specs.Spelling.{value_spelling, desc_spelling, cla
 
 use crate::contents::Contents;
 use crate::tree::{Body, ClassPlace, Content, Desc, Field, Raw, Section, Text, TextPlace, Value};
+use jser_grammar::wire::{
+    BASE_WIRE_HANDLE, TC_ARRAY, TC_BLOCKDATA, TC_BLOCKDATALONG, TC_CLASS, TC_CLASSDESC,
+    TC_ENDBLOCKDATA, TC_ENUM, TC_LONGSTRING, TC_NULL, TC_OBJECT, TC_PROXYCLASSDESC, TC_REFERENCE,
+    TC_RESET, TC_STRING,
+};
 use jser_prim::{Outbox, Sink, spell_unit};
 use thiserror::Error;
 
@@ -78,9 +83,6 @@ fn put_list<W: Sink>(outbox: &mut Outbox, sink: &mut W, contents: &[Content])
         put_content(outbox, sink, content);
     }
 }
-
-/// The first handle of an epoch.
-const BASE_WIRE_HANDLE: u32 = 0x7E0000;
 
 /// A raw value, in as many bytes as its type has.
 fn put_prim<W: Sink>(outbox: &mut Outbox, sink: &mut W, prim: Raw)
@@ -150,7 +152,7 @@ fn put_unit<W: Sink>(outbox: &mut Outbox, sink: &mut W, unit: u16)
 fn put_reference<W: Sink>(outbox: &mut Outbox, sink: &mut W, number: u32)
     ensures { PutsTo W.gone_out W.has_failed outbox.old outbox.new sink.old sink.new (reference number) }
 {
-    outbox.put_u8(sink, 0x71);
+    outbox.put_u8(sink, TC_REFERENCE);
     outbox.put_u32(sink, BASE_WIRE_HANDLE.wrapping_add(number));
 }
 
@@ -160,10 +162,10 @@ fn put_text<W: Sink>(outbox: &mut Outbox, sink: &mut W, text: &Text)
     ensures { PutsTo W.gone_out W.has_failed outbox.old outbox.new sink.old sink.new (string_spelling text.now.long text.now.units.items) }
 {
     if text.long {
-        outbox.put_u8(sink, 0x7C);
+        outbox.put_u8(sink, TC_LONGSTRING);
         put_long_utf(outbox, sink, &text.units);
     } else {
-        outbox.put_u8(sink, 0x74);
+        outbox.put_u8(sink, TC_STRING);
         put_utf(outbox, sink, &text.units);
     }
 }
@@ -236,26 +238,26 @@ fn put_value<W: Sink>(outbox: &mut Outbox, sink: &mut W, value: &Value)
     ensures { PutsTo W.gone_out W.has_failed outbox.old outbox.new sink.old sink.new (value_spelling (view_value value.now)) }
 {
     match value {
-        Value::Null => outbox.put_u8(sink, 0x70),
+        Value::Null => outbox.put_u8(sink, TC_NULL),
         Value::Back(number) => put_reference(outbox, sink, *number),
         Value::Text(text) => put_text(outbox, sink, text),
         Value::Desc(desc) => put_desc(outbox, sink, desc),
         Value::ClassObject(descr) => {
-            outbox.put_u8(sink, 0x76);
+            outbox.put_u8(sink, TC_CLASS);
             put_class(outbox, sink, descr);
         }
         Value::Array { descr, body } => {
-            outbox.put_u8(sink, 0x75);
+            outbox.put_u8(sink, TC_ARRAY);
             put_class(outbox, sink, descr);
             put_body(outbox, sink, body);
         }
         Value::EnumConst { descr, name } => {
-            outbox.put_u8(sink, 0x7E);
+            outbox.put_u8(sink, TC_ENUM);
             put_class(outbox, sink, descr);
             put_text_place(outbox, sink, name);
         }
         Value::Object { descr, sections } => {
-            outbox.put_u8(sink, 0x73);
+            outbox.put_u8(sink, TC_OBJECT);
             put_class(outbox, sink, descr);
             put_sections(outbox, sink, sections);
         }
@@ -270,7 +272,7 @@ fn put_class<W: Sink>(outbox: &mut Outbox, sink: &mut W, place: &ClassPlace)
     match place {
         ClassPlace::New(desc) => put_desc(outbox, sink, desc),
         ClassPlace::Back(number) => put_reference(outbox, sink, *number),
-        ClassPlace::Null => outbox.put_u8(sink, 0x70),
+        ClassPlace::Null => outbox.put_u8(sink, TC_NULL),
     }
 }
 
@@ -365,7 +367,7 @@ fn put_annotation<W: Sink>(outbox: &mut Outbox, sink: &mut W, contents: &Vec<Con
     ensures { PutsTo W.gone_out W.has_failed outbox.old outbox.new sink.old sink.new (annotation_spelling (view_contents contents.now.items)) }
 {
     put_contents(outbox, sink, contents);
-    outbox.put_u8(sink, 0x78);
+    outbox.put_u8(sink, TC_ENDBLOCKDATA);
 }
 
 /// Contents, one after another.
@@ -390,7 +392,7 @@ fn put_content<W: Sink>(outbox: &mut Outbox, sink: &mut W, content: &Content)
             put_block_head(outbox, sink, *long, bytes.len());
             outbox.put(sink, bytes);
         }
-        Content::Reset => outbox.put_u8(sink, 0x79),
+        Content::Reset => outbox.put_u8(sink, TC_RESET),
         Content::Value(value) => put_value(outbox, sink, value),
     }
 }
@@ -401,10 +403,10 @@ fn put_block_head<W: Sink>(outbox: &mut Outbox, sink: &mut W, long: bool, size: 
     ensures { PutsTo W.gone_out W.has_failed outbox.old outbox.new sink.old sink.new (block_head long size) }
 {
     if long {
-        outbox.put_u8(sink, 0x7A);
+        outbox.put_u8(sink, TC_BLOCKDATALONG);
         put_length(outbox, sink, size);
     } else {
-        outbox.put_u8(sink, 0x77);
+        outbox.put_u8(sink, TC_BLOCKDATA);
         outbox.put_u8(sink, (size % 0x100) as u8);
     }
 }
@@ -429,7 +431,7 @@ fn put_plain_head<W: Sink>(
 )
     ensures { PutsTo W.gone_out W.has_failed outbox.old outbox.new sink.old sink.new (plain_head name.now suid flags (map view_field fields.now)) }
 {
-    outbox.put_u8(sink, 0x72);
+    outbox.put_u8(sink, TC_CLASSDESC);
     put_utf(outbox, sink, name);
     outbox.put_u64(sink, suid);
     outbox.put_u8(sink, flags);
@@ -442,7 +444,7 @@ fn put_plain_head<W: Sink>(
 fn put_proxy_head<W: Sink>(outbox: &mut Outbox, sink: &mut W, interfaces: &[Vec<u16>])
     ensures { PutsTo W.gone_out W.has_failed outbox.old outbox.new sink.old sink.new (proxy_head (map (λ name. name.items) interfaces.now)) }
 {
-    outbox.put_u8(sink, 0x7D);
+    outbox.put_u8(sink, TC_PROXYCLASSDESC);
     put_length(outbox, sink, interfaces.len());
     put_interfaces(outbox, sink, interfaces);
 }

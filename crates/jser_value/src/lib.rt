@@ -6,6 +6,7 @@
 mod contents;
 mod depth;
 mod encoder;
+mod handles;
 pub mod laws;
 mod obeys;
 mod parts;
@@ -14,6 +15,8 @@ mod tree;
 
 pub use contents::{Contents, ValueCause, ValueFault};
 pub use encoder::{EncodeFault, encode};
+#[doc(hidden)]
+pub use handles::Handles;
 pub use tree::{
     Body, ClassPlace, Content, Desc, Field, Raw as Prim, Section, Text, TextPlace, Value,
 };

@@ -2,7 +2,7 @@
 //! `specs/WellFormed.antt` says, and adds its handles.
 //!
 //! One function for each type of the tree. Recursion goes as deep as the tree, which the caller bounds.
-ghost use Rattle.std.specs.Prelude.{◌≡◌, [], ◌<◌, ◌^◌, nat_lt, map, length, true, false, IfOk, IfErr, MatchBool, Ok, Err, slice_get, IsTrue, option_map};
+ghost use Rattle.std.specs.Prelude.{◌≡◌, [], ◌∷◌, ◌+◌, ◌<◌, ◌≤◌, ◌^◌, OnOk, nat_lt, map, length, true, false, IfOk, IfErr, MatchBool, Ok, Err, slice_get, IsTrue, option_map};
 ghost use Rattle.std.specs.Option.{option_copied};
 ghost use Rattle.jser_table.specs.Chains.{own_layer};
 ghost use Rattle.jser_table.specs.Entries.{is_closed, chain_at, other_entry};
@@ -12,8 +12,11 @@ ghost use Rattle.jser_value.specs.PartTests.{obeys_text_place, obeys_type, obeys
 ghost use Rattle.jser_grammar.specs.TableAfter.{add, plain_layer, proxy_layer, after_text_place, after_type, after_fields, after_value, after_desc, after_class, after_body, after_values, after_sections, after_notes, after_contents, chain_of_class, chain_of_desc};
 ghost use Rattle.jser_value.specs.Tests.{element_code, is_bare, obeys_layer, obeys_head, obeys_interfaces, obeys_value, obeys_desc, obeys_class, obeys_superclass, obeys_raw_body, obeys_body, obeys_values, obeys_external, obeys_sections, obeys_notes, obeys_contents, obeys_array, obeys_enum_constant, obeys_object, obeys_section_at, obeys_alone, after_section, Judges, IsClassAt, IsParentAt};
 ghost use Rattle.jser_grammar.specs.Trees.{value_body};
+ghost use Rattle.jser_grammar.specs.Spelling.{text_place_spelling, type_spelling, fields_spelling, value_spelling, desc_spelling, class_spelling, body_spelling, values_spelling, sections_spelling, annotation_spelling, contents_spelling};
+ghost use Rattle.jser_value.specs.Rooms.{HasRoom, HasRoomForOneMore, Spends, SpendsOneMore};
 ghost use Rattle.jser_value.specs.View.{view_text_place, view_field, view_prim, view_value, view_desc, view_class_place, view_body, view_values, view_section, view_sections, view_contents};
 
+use crate::handles::Handles;
 use crate::parts::{
     are_class_names, are_prims, are_prims_of, codes_of, count_values, element_code_of, has_handle,
     is_block, is_class_name, is_flags, is_object, is_primitive, is_text,
@@ -34,11 +37,12 @@ pub(crate) enum Fault {
     OutOfMemory,
 }
 
-/// Adds a handle. A table that is full is answered as out of memory: a list whose spelling has at most
-/// 2^31 - 1 bytes has fewer handles than a table takes.
-fn assign(table: &mut Table, kind: Kind) -> Result<u32, Fault>
+/// Adds a handle.
+fn assign(table: &mut Handles, kind: Kind) -> Result<u32, Fault>
+    requires room { length table.old.entries < 2147483648 }
     ensures judged { Judges result true (add table.old.entries (new_entry kind)) table.new.entries }
     ensures number { IfOk result (λ number. number ≡ length table.old.entries) }
+    ensures spent { OnOk result (length table.new.entries ≤ length table.old.entries + 1) }
 {
     match table.assign(kind) {
         Ok(number) => Ok(number),
@@ -53,11 +57,13 @@ fn require(holds: bool) -> Result<(), Fault>
 }
 
 /// A text place: a new string, or a reference to one.
-fn check_text_place(table: &mut Table, place: &TextPlace) -> Result<(), Fault>
-    ensures { Judges result
+fn check_text_place(table: &mut Handles, place: &TextPlace) -> Result<(), Fault>
+    requires room { HasRoom table.old.entries (text_place_spelling (view_text_place place.now)) }
+    ensures judged { Judges result
         (obeys_text_place table.old.entries (view_text_place place.now))
         (after_text_place table.old.entries (view_text_place place.now))
         table.new.entries }
+    ensures spent { OnOk result (Spends table.old.entries (text_place_spelling (view_text_place place.now)) table.new.entries []) }
 {
     match place {
         TextPlace::New(text) => {
@@ -65,18 +71,22 @@ fn check_text_place(table: &mut Table, place: &TextPlace) -> Result<(), Fault>
             assign(table, Kind::Text)?;
         }
         TextPlace::Back(number) => {
-            require(matches!(table.get(*number), Some(Entry::Text)) && has_handle(*number))?;
+            require(
+                matches!(table.table().get(*number), Some(Entry::Text)) && has_handle(*number),
+            )?;
         }
     }
     Ok(())
 }
 
 /// The type of a field, where there is one. `seen` tells of an object field before it.
-fn check_type(table: &mut Table, seen: bool, field: &Field) -> Result<(), Fault>
-    ensures { Judges result
+fn check_type(table: &mut Handles, seen: bool, field: &Field) -> Result<(), Fault>
+    requires room { HasRoom table.old.entries (type_spelling (option_map view_text_place field.now.text)) }
+    ensures judged { Judges result
         (obeys_type table.old.entries seen field.now.code (option_map view_text_place field.now.text))
         (after_type table.old.entries (option_map view_text_place field.now.text))
         table.new.entries }
+    ensures spent { OnOk result (Spends table.old.entries (type_spelling (option_map view_text_place field.now.text)) table.new.entries []) }
 {
     match &field.text {
         None => require(is_primitive(field.code) && !seen),
@@ -88,11 +98,13 @@ fn check_type(table: &mut Table, seen: bool, field: &Field) -> Result<(), Fault>
 }
 
 /// The fields of a descriptor.
-fn check_fields(table: &mut Table, fields: &[Field]) -> Result<(), Fault>
-    ensures { Judges result
+fn check_fields(table: &mut Handles, fields: &[Field]) -> Result<(), Fault>
+    requires room { HasRoom table.old.entries (fields_spelling (map view_field fields.now)) }
+    ensures judged { Judges result
         (obeys_fields table.old.entries false (map view_field fields.now))
         (after_fields table.old.entries (map view_field fields.now))
         table.new.entries }
+    ensures spent { OnOk result (Spends table.old.entries (fields_spelling (map view_field fields.now)) table.new.entries []) }
 {
     let mut seen = false;
     'fields: for field in fields {
@@ -216,41 +228,46 @@ fn are_interfaces(names: &[Vec<u16>]) -> bool
 }
 
 /// A reference to a class that has been read. Gives its number.
-fn check_back_class(table: &mut Table, number: u32) -> Result<u32, Fault>
+fn check_back_class(table: &mut Handles, number: u32) -> Result<u32, Fault>
     ensures judged { Judges result
         (obeys_back_to_class table.old.entries number)
         table.old.entries
         table.new.entries }
     ensures class { IfOk result (λ class. IsClassAt table.new.entries class (chain_at table.old.entries number)) }
+    ensures spent { OnOk result (length table.new.entries ≤ length table.old.entries) }
 {
-    require(matches!(table.get(number), Some(Entry::Closed(_))) && has_handle(number))?;
+    require(matches!(table.table().get(number), Some(Entry::Closed(_))) && has_handle(number))?;
     Ok(number)
 }
 
 /// An enum constant of this class: its name.
-fn check_enum_constant(table: &mut Table, number: u32, name: &TextPlace) -> Result<(), Fault>
-    requires { IsTrue (is_closed (slice_get table.old.entries number)) }
-    ensures { Judges result
+fn check_enum_constant(table: &mut Handles, number: u32, name: &TextPlace) -> Result<(), Fault>
+    requires closed { IsTrue (is_closed (slice_get table.old.entries number)) }
+    requires room { HasRoomForOneMore table.old.entries (text_place_spelling (view_text_place name.now)) }
+    ensures judged { Judges result
         (obeys_enum_constant table.old.entries (view_text_place name.now) (chain_at table.old.entries number))
         (after_text_place (add table.old.entries other_entry) (view_text_place name.now))
         table.new.entries }
+    ensures spent { OnOk result (SpendsOneMore table.old.entries (text_place_spelling (view_text_place name.now)) table.new.entries []) }
 {
-    require(table.fit(number, Purpose::EnumConst) == Fit::Fits)?;
+    require(table.table().fit(number, Purpose::EnumConst) == Fit::Fits)?;
     assign(table, Kind::Other)?;
     check_text_place(table, name)
 }
 
 /// A value.
 #[cycle(obeys)]
-fn check_value(alloc: Global, table: &mut Table, value: &Value) -> Result<(), Fault>
-    ensures { Judges result
+fn check_value(alloc: Global, table: &mut Handles, value: &Value) -> Result<(), Fault>
+    requires room { HasRoom table.old.entries (value_spelling (view_value value.now)) }
+    ensures judged { Judges result
         (obeys_value table.old.entries (view_value value.now))
         (after_value table.old.entries (view_value value.now))
         table.new.entries }
+    ensures spent { OnOk result (Spends table.old.entries (value_spelling (view_value value.now)) table.new.entries []) }
 {
     match value {
         Value::Null => {}
-        Value::Back(number) => require(*number < table.count() && has_handle(*number))?,
+        Value::Back(number) => require(*number < table.table().count() && has_handle(*number))?,
         Value::Text(text) => {
             require(is_text(text.long, &text.units))?;
             assign(table, Kind::Text)?;
@@ -280,15 +297,17 @@ fn check_value(alloc: Global, table: &mut Table, value: &Value) -> Result<(), Fa
 
 /// An array of this class: elements of the kind that the class says.
 #[cycle(obeys)]
-fn check_array(alloc: Global, table: &mut Table, number: u32, body: &Body) -> Result<(), Fault>
-    requires { IsTrue (is_closed (slice_get table.old.entries number)) }
-    ensures { Judges result
+fn check_array(alloc: Global, table: &mut Handles, number: u32, body: &Body) -> Result<(), Fault>
+    requires closed { IsTrue (is_closed (slice_get table.old.entries number)) }
+    requires room { HasRoomForOneMore table.old.entries (body_spelling (view_body body.now)) }
+    ensures judged { Judges result
         (obeys_array table.old.entries (view_body body.now) (chain_at table.old.entries number))
         (after_body (add table.old.entries other_entry) (view_body body.now))
         table.new.entries }
+    ensures spent { OnOk result (SpendsOneMore table.old.entries (body_spelling (view_body body.now)) table.new.entries []) }
 {
-    require(table.fit(number, Purpose::Array) == Fit::Fits)?;
-    let code = element_code(table, number);
+    require(table.table().fit(number, Purpose::Array) == Fit::Fits)?;
+    let code = element_code(table.table(), number);
     assign(table, Kind::Other)?;
     check_body(alloc, table, body, code)
 }
@@ -298,18 +317,20 @@ fn check_array(alloc: Global, table: &mut Table, number: u32, body: &Body) -> Re
 #[tactic(auto, using(crate::proofs::KeepLemmas::class_behind_add))]
 fn check_object(
     alloc: Global,
-    table: &mut Table,
+    table: &mut Handles,
     number: u32,
     sections: &Vec<Section>,
 ) -> Result<(), Fault>
-    requires { IsTrue (is_closed (slice_get table.old.entries number)) }
-    ensures { Judges result
+    requires closed { IsTrue (is_closed (slice_get table.old.entries number)) }
+    requires room { HasRoomForOneMore table.old.entries (sections_spelling (view_sections sections.now.items)) }
+    ensures judged { Judges result
         (obeys_object table.old.entries (view_sections sections.now.items) (chain_at table.old.entries number))
         (after_sections (add table.old.entries other_entry) (view_sections sections.now.items))
         table.new.entries }
+    ensures spent { OnOk result (SpendsOneMore table.old.entries (sections_spelling (view_sections sections.now.items)) table.new.entries []) }
 {
-    require(table.fit(number, Purpose::Object) == Fit::Fits)?;
-    let external = is_external(table, number);
+    require(table.table().fit(number, Purpose::Object) == Fit::Fits)?;
+    let external = is_external(table.table(), number);
     assign(table, Kind::Other)?;
     if external {
         check_external(alloc, table, sections)
@@ -321,12 +342,14 @@ fn check_object(
 /// A new descriptor. Gives its number.
 #[cycle(obeys)]
 #[tactic(auto, using(crate::proofs::KeepLemmas::pending_plain, crate::proofs::KeepLemmas::pending_proxy))]
-fn check_desc(alloc: Global, table: &mut Table, desc: &Desc) -> Result<u32, Fault>
+fn check_desc(alloc: Global, table: &mut Handles, desc: &Desc) -> Result<u32, Fault>
+    requires room { HasRoom table.old.entries (desc_spelling (view_desc desc.now)) }
     ensures judged { Judges result
         (obeys_desc table.old.entries (view_desc desc.now))
         (after_desc table.old.entries (view_desc desc.now))
         table.new.entries }
     ensures class { IfOk result (λ number. IsClassAt table.new.entries number (chain_of_desc table.old.entries (view_desc desc.now))) }
+    ensures spent { OnOk result (Spends table.old.entries (desc_spelling (view_desc desc.now)) table.new.entries []) }
 {
     match desc {
         Desc::Plain {
@@ -365,14 +388,16 @@ fn check_desc(alloc: Global, table: &mut Table, desc: &Desc) -> Result<u32, Faul
 #[cycle(obeys)]
 fn check_superclass(
     alloc: Global,
-    table: &mut Table,
+    table: &mut Handles,
     parent: &ClassPlace,
 ) -> Result<Option<u32>, Fault>
+    requires room { HasRoom table.old.entries (class_spelling (view_class_place parent.now)) }
     ensures judged { Judges result
         (obeys_superclass table.old.entries (view_class_place parent.now))
         (after_class table.old.entries (view_class_place parent.now))
         table.new.entries }
     ensures parent { IfOk result (IsParentAt table.new.entries (chain_of_class table.old.entries (view_class_place parent.now))) }
+    ensures spent { OnOk result (Spends table.old.entries (class_spelling (view_class_place parent.now)) table.new.entries []) }
 {
     match parent {
         ClassPlace::New(desc) => Ok(Some(check_desc(alloc, table, desc)?)),
@@ -383,12 +408,14 @@ fn check_superclass(
 
 /// A class place. Gives the number of the class.
 #[cycle(obeys)]
-fn check_class(alloc: Global, table: &mut Table, descr: &ClassPlace) -> Result<u32, Fault>
+fn check_class(alloc: Global, table: &mut Handles, descr: &ClassPlace) -> Result<u32, Fault>
+    requires room { HasRoom table.old.entries (class_spelling (view_class_place descr.now)) }
     ensures judged { Judges result
         (obeys_class table.old.entries (view_class_place descr.now))
         (after_class table.old.entries (view_class_place descr.now))
         table.new.entries }
     ensures class { IfOk result (λ number. IsClassAt table.new.entries number (chain_of_class table.old.entries (view_class_place descr.now))) }
+    ensures spent { OnOk result (Spends table.old.entries (class_spelling (view_class_place descr.now)) table.new.entries []) }
 {
     match descr {
         ClassPlace::New(desc) => check_desc(alloc, table, desc),
@@ -399,11 +426,18 @@ fn check_class(alloc: Global, table: &mut Table, descr: &ClassPlace) -> Result<u
 
 /// The elements of an array: raw values of the type with this code, or values where there is none.
 #[cycle(obeys)]
-fn check_body(alloc: Global, table: &mut Table, body: &Body, code: Option<u8>) -> Result<(), Fault>
-    ensures { Judges result
+fn check_body(
+    alloc: Global,
+    table: &mut Handles,
+    body: &Body,
+    code: Option<u8>,
+) -> Result<(), Fault>
+    requires room { HasRoom table.old.entries (body_spelling (view_body body.now)) }
+    ensures judged { Judges result
         (obeys_body table.old.entries (view_body body.now) code)
         (after_body table.old.entries (view_body body.now))
         table.new.entries }
+    ensures spent { OnOk result (Spends table.old.entries (body_spelling (view_body body.now)) table.new.entries []) }
 {
     match body {
         Body::Prims(prims) => require(are_elements(code, prims)),
@@ -416,14 +450,16 @@ fn check_body(alloc: Global, table: &mut Table, body: &Body, code: Option<u8>) -
 #[tactic(auto, using(crate::proofs::ObeysLemmas::value_count_of))]
 fn check_elements(
     alloc: Global,
-    table: &mut Table,
+    table: &mut Handles,
     code: Option<u8>,
     values: &[Value],
 ) -> Result<(), Fault>
-    ensures { Judges result
+    requires room { HasRoom table.old.entries (values_spelling (view_values values.now)) }
+    ensures judged { Judges result
         (obeys_body table.old.entries (value_body (view_values values.now)) code)
         (after_values table.old.entries (view_values values.now))
         table.new.entries }
+    ensures spent { OnOk result (Spends table.old.entries (values_spelling (view_values values.now)) table.new.entries []) }
 {
     require(code.is_none())?;
     require(is_count(values.len()))?;
@@ -431,11 +467,13 @@ fn check_elements(
 }
 
 #[cycle(obeys)]
-fn check_values(alloc: Global, table: &mut Table, values: &[Value]) -> Result<(), Fault>
-    ensures { Judges result
+fn check_values(alloc: Global, table: &mut Handles, values: &[Value]) -> Result<(), Fault>
+    requires room { HasRoom table.old.entries (values_spelling (view_values values.now)) }
+    ensures judged { Judges result
         (obeys_values table.old.entries (view_values values.now))
         (after_values table.old.entries (view_values values.now))
         table.new.entries }
+    ensures spent { OnOk result (Spends table.old.entries (values_spelling (view_values values.now)) table.new.entries []) }
 {
     'values: for value in values {
         check_value(alloc, table, value)?;
@@ -446,11 +484,13 @@ fn check_values(alloc: Global, table: &mut Table, values: &[Value]) -> Result<()
 /// What an externalizable class wrote: one section, of an annotation alone.
 #[cycle(obeys)]
 #[tactic(auto, using(crate::proofs::ObeysLemmas::only_section, crate::proofs::ObeysLemmas::more_sections))]
-fn check_external(alloc: Global, table: &mut Table, sections: &Vec<Section>) -> Result<(), Fault>
-    ensures { Judges result
+fn check_external(alloc: Global, table: &mut Handles, sections: &Vec<Section>) -> Result<(), Fault>
+    requires room { HasRoom table.old.entries (sections_spelling (view_sections sections.now.items)) }
+    ensures judged { Judges result
         (obeys_external table.old.entries (view_sections sections.now.items))
         (after_sections table.old.entries (view_sections sections.now.items))
         table.new.entries }
+    ensures spent { OnOk result (Spends table.old.entries (sections_spelling (view_sections sections.now.items)) table.new.entries []) }
 {
     match sections.as_slice() {
         [section] => check_alone(alloc, table, section),
@@ -461,11 +501,13 @@ fn check_external(alloc: Global, table: &mut Table, sections: &Vec<Section>) -> 
 /// An annotation alone.
 #[cycle(obeys)]
 #[tactic(auto, using(crate::proofs::ObeysLemmas::after_bare))]
-fn check_alone(alloc: Global, table: &mut Table, section: &Section) -> Result<(), Fault>
-    ensures { Judges result
+fn check_alone(alloc: Global, table: &mut Handles, section: &Section) -> Result<(), Fault>
+    requires room { HasRoom table.old.entries (sections_spelling (view_sections (section.now ∷ []))) }
+    ensures judged { Judges result
         (obeys_alone table.old.entries (view_section section.now))
         (after_section table.old.entries (view_section section.now))
         table.new.entries }
+    ensures spent { OnOk result (Spends table.old.entries (sections_spelling (view_sections (section.now ∷ []))) table.new.entries []) }
 {
     require(is_bare(section))?;
     match &section.notes {
@@ -479,17 +521,19 @@ fn check_alone(alloc: Global, table: &mut Table, section: &Section) -> Result<()
 #[tactic(auto, using(crate::proofs::ObeysLemmas::as_many_sections, crate::proofs::ObeysLemmas::sections_failed, crate::proofs::ObeysLemmas::sections_next))]
 fn check_sections(
     alloc: Global,
-    table: &mut Table,
+    table: &mut Handles,
     number: u32,
     sections: &Vec<Section>,
 ) -> Result<(), Fault>
-    requires { IsTrue (is_closed (slice_get table.old.entries number)) }
-    ensures { Judges result
+    requires closed { IsTrue (is_closed (slice_get table.old.entries number)) }
+    requires room { HasRoom table.old.entries (sections_spelling (view_sections sections.now.items)) }
+    ensures judged { Judges result
         (obeys_sections table.old.entries (view_sections sections.now.items) (chain_at table.old.entries number))
         (after_sections table.old.entries (view_sections sections.now.items))
         table.new.entries }
+    ensures spent { OnOk result (Spends table.old.entries (sections_spelling (view_sections sections.now.items)) table.new.entries []) }
 {
-    require(sections.len() == table.layers(number))?;
+    require(sections.len() == table.table().layers(number))?;
     'sections: for (index, section) in sections.iter().enumerate() {
         check_section(alloc, table, number, index, section)?;
     }
@@ -500,19 +544,21 @@ fn check_sections(
 #[cycle(obeys)]
 fn check_section(
     alloc: Global,
-    table: &mut Table,
+    table: &mut Handles,
     number: u32,
     index: usize,
     section: &Section,
 ) -> Result<(), Fault>
     requires closed { IsTrue (is_closed (slice_get table.old.entries number)) }
     requires index { index < length (chain_at table.old.entries number) }
-    ensures { Judges result
+    requires room { HasRoom table.old.entries (sections_spelling (view_sections (section.now ∷ []))) }
+    ensures judged { Judges result
         (obeys_section_at table.old.entries (view_section section.now) (slice_get (chain_at table.old.entries number) index))
         (after_section table.old.entries (view_section section.now))
         table.new.entries }
+    ensures spent { OnOk result (Spends table.old.entries (sections_spelling (view_sections (section.now ∷ []))) table.new.entries []) }
 {
-    let layer = table.layer(number, index);
+    let layer = table.table().layer(number, index);
     require(is_section_of(layer, section))?;
     let expected = layer.has_write_method();
     check_values(alloc, table, &section.values)?;
@@ -527,11 +573,13 @@ fn check_section(
 
 /// The contents of an annotation: no reset stands there.
 #[cycle(obeys)]
-fn check_notes(alloc: Global, table: &mut Table, notes: &[Content]) -> Result<(), Fault>
-    ensures { Judges result
+fn check_notes(alloc: Global, table: &mut Handles, notes: &[Content]) -> Result<(), Fault>
+    requires room { HasRoom table.old.entries (annotation_spelling (view_contents notes.now)) }
+    ensures judged { Judges result
         (obeys_notes table.old.entries (view_contents notes.now))
         (after_contents table.old.entries (view_contents notes.now))
         table.new.entries }
+    ensures spent { OnOk result (Spends table.old.entries (annotation_spelling (view_contents notes.now)) table.new.entries []) }
 {
     'notes: for content in notes {
         match content {
@@ -546,9 +594,10 @@ fn check_notes(alloc: Global, table: &mut Table, notes: &[Content]) -> Result<()
 /// Whether a list of contents obeys the format.
 #[tactic(auto, using(crate::proofs::RightLemmas::right_contents))]
 pub(crate) fn check_contents(alloc: Global, list: &[Content]) -> Result<(), Fault>
-    ensures { Judges result (obeys_contents [] (view_contents list.now)) [] [] }
+    requires room { length (contents_spelling (view_contents list.now)) ≤ 2147483647 }
+    ensures judged { Judges result (obeys_contents [] (view_contents list.now)) [] [] }
 {
-    let mut table = Table::new(alloc, u32::MAX);
+    let mut table = Handles::new(alloc);
     'list: for content in list {
         match content {
             Content::Block { long, bytes } => require(is_block(*long, bytes))?,

@@ -10,11 +10,9 @@ ghost use Rattle.jser_value.specs.View.{view_prim, view_field};
 
 use crate::size::after_units;
 use crate::tree::{Field, Raw};
+use jser_grammar::wire::BASE_WIRE_HANDLE;
 use jser_table::{BodyKind, LayerKind, layer_kind_of};
 use std::alloc::{AllocError, Global};
-
-/// The first handle of an epoch.
-const BASE_WIRE_HANDLE: u32 = 0x7E0000;
 
 const SC_SERIALIZABLE: u8 = 0x02;
 

@@ -1,7 +1,10 @@
 //! The contents of a stream as a tree, one type for each form of the grammar. A tree may be wrong: a type
 //! says what can be written down, and `Contents` says which lists obey the format.
+//!
+//! To drop, compare and print a tree takes a call for each of its levels. The contents of a `Contents` have at most 1,000; a
+//! tree of a million levels may overflow the stack, so build none that is deeper than that.
 
-/// A content of a stream or of an annotation.
+/// A content of a stream or of an annotation. Dropping, comparing and debug-printing it recurse as deep as it is nested.
 #[derive(PartialEq, Eq, Debug, Drop)]
 #[cycle(tree)]
 pub enum Content {

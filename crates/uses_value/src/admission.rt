@@ -7,7 +7,8 @@ ghost use Rattle.jser_value.specs.Causes.{IsWithin, IsTooDeep, IsTooLarge, IsNot
 use jser_value::{Content, Contents, ValueCause, ValueFault};
 use std::alloc::Global;
 
-/// Whether a list is the contents of a stream. `false` may also mean that memory ran out.
+/// Whether a list is the contents of a stream. `false` may also mean that memory ran out. The list is dropped, so it must
+/// not be so deep that dropping it overflows the stack (see `ValueFault`).
 pub fn is_stream(alloc: Global, list: Vec<Content>) -> bool
     ensures { IsTrue result → WellFormed (view_contents list.items) }
 {
@@ -29,7 +30,8 @@ pub enum Advice {
     SendAgain,
 }
 
-/// What a store tells the sender of this list.
+/// What a store tells the sender of this list, which is dropped: it must not be so deep that this overflows the stack (see
+/// `ValueFault`).
 pub fn advice_on(alloc: Global, list: Vec<Content>) -> Advice
     ensures flatten { (result ≡ Advice.Flatten) ↔ IsTooDeep (view_contents list.items) }
     ensures split { (result ≡ Advice.Split) ↔ IsTooLarge (view_contents list.items) }

@@ -1,4 +1,4 @@
-use Rattle.std.proofs.Common.{rules, length, ap, ◌∙◌, Err}
+use Rattle.std.proofs.Common.{rules, length, ap, Err}
 use Rattle.jser_trees.specs.Building.{units_from}
 use Rattle.jser_trees.proofs.TextsBuilt.{goes_on, text_there, text_nowhere, lost_all}
 use Rattle.jser_trees.proofs.texts.units_of_bytes.Goals as goal

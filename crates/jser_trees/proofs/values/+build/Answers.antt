@@ -1,9 +1,8 @@
-use Rattle.std.proofs.Common.{rules, map, ap, ◌∙◌, Some, slice_get, length}
+use Rattle.std.proofs.Common.{rules, arith, map, ap, ◌∙◌, Some, slice_get}
 use Rattle.jser_table.specs.Entries.{chain_at}
 use Rattle.jser_value.specs.declared.tree.Desc.{the_lemmas}
-use Rattle.jser_value.specs.declared.tree.Value.{the_lemmas as value_lemmas}
 use Rattle.jser_value.specs.declared.tree.Desc.TheVariants as desc
-use Rattle.jser_value.specs.View.{view_field, view_prim, view_values, view_section, view_sections, view_content, view_contents, view_class_place, view_desc}
+use Rattle.jser_value.specs.View.{view_field, view_prim, view_values, view_sections, view_content, view_contents, view_class_place, view_desc}
 use Rattle.jser_value.proofs.KeepLemmas.{class_plain, class_proxy}
 use Rattle.jser_value.proofs.ViewLemmas.{view_object}
 use Rattle.jser_trees.specs.Building.{value_in, desc_in, content_in, annotation_in}
@@ -18,7 +17,7 @@ pub notes-returns-then-tag-eq-TC_ENDBLOCKDATA-clause-found :
     goal.notes-returns-then-tag-eq-TC_ENDBLOCKDATA-clause-found
 notes-returns-then-tag-eq-TC_ENDBLOCKDATA-clause-found t c =
     notes_ended (value_in c.args.steps) c.args.table.now.entries c.notes.table.entries c.notes.left c.in_ok-tag.tag c.args.cursor.now c.notes.cursor
-    c.byte.new.self (view_contents c.notes.notes.items) c.notes.invariant c.notes-test.true c.in_ok-tag.ensures.byte c.if-tag-eq-TC_ENDBLOCKDATA.true
+    c.byte.new.self (view_contents c.notes.notes.items) c.notes.invariant.0 c.notes-test.true c.in_ok-tag.ensures.byte c.if-tag-eq-TC_ENDBLOCKDATA.true
 
 pub notes-returns-in_err-note-clause-found : goal.notes-returns-in_err-note-clause-found
 notes-returns-in_err-note-clause-found t c =
@@ -26,13 +25,15 @@ notes-returns-in_err-note-clause-found t c =
     (content_in (value_in c.args.steps) c.notes.table.entries (c.in_ok-tag.tag ∷ c.byte.new.self)) (annotation_in (value_in c.args.steps) c.args.table.now.entries c.args.cursor.now)
     (search rules) c.in_err-note.ensures.found
     (notes_failed (value_in c.args.steps) c.args.table.now.entries c.notes.table.entries c.notes.left c.in_ok-tag.tag c.args.cursor.now c.notes.cursor
-    c.byte.new.self (view_contents c.notes.notes.items) c.notes.invariant c.notes-test.true c.in_ok-tag.ensures.byte c.if-tag-eq-TC_ENDBLOCKDATA.false)
+    c.byte.new.self (view_contents c.notes.notes.items) c.notes.invariant.0 c.notes-test.true c.in_ok-tag.ensures.byte c.if-tag-eq-TC_ENDBLOCKDATA.false)
 
 pub notes-notes-preserved : goal.notes-notes-preserved
-notes-notes-preserved t c =
-    notes_next (value_in c.args.steps) c.args.table.now.entries c.notes.table.entries c.content.new.table.entries c.notes.left c.in_ok-tag.tag c.args.cursor.now
-    c.notes.cursor c.byte.new.self c.content.new.cursor c.notes.notes.items c.push.new.self.items c.in_ok-note.note c.notes.invariant c.notes-test.true
-    c.in_ok-tag.ensures.byte c.if-tag-eq-TC_ENDBLOCKDATA.false c.in_ok-note.ensures.found c.in_ok-note.ensures.after (search rules)
+notes-notes-preserved t c = (
+  notes_next (value_in c.args.steps) c.args.table.now.entries c.notes.table.entries c.content.new.table.entries c.notes.left c.in_ok-tag.tag c.args.cursor.now
+      c.notes.cursor c.byte.new.self c.content.new.cursor c.notes.notes.items c.push.new.self.items c.in_ok-note.note c.notes.invariant.0 c.notes-test.true
+      c.in_ok-tag.ensures.byte c.if-tag-eq-TC_ENDBLOCKDATA.false c.in_ok-note.ensures.found c.in_ok-note.ensures.after (search rules),
+  omega (arith, c.notes.invariant.1, c.in_ok-tag.ensures.shorter, c.in_ok-note.ensures.spent),
+)
 
 pub object-returns-clause-found : goal.object-returns-clause-found
 object-returns-clause-found t c =
@@ -73,13 +74,17 @@ section-returns-else-has_notes-clause-found t c =
     ∙ ap (λ s. Some (s, c.values.new.cursor)) (without_notes c.in_ok-prims.prims c.in_ok-values.values)
 
 pub sections-sections-preserved : goal.sections-sections-preserved
-sections-sections-preserved t c =
-    sections_next (value_in c.args.steps) c.args.table.now.entries c.sections.table.entries c.section.new.table.entries c.args.number
-    (chain_at c.args.table.now.entries c.args.number) c.sections.index c.args.cursor.now c.sections.cursor c.section.new.cursor c.sections.sections.items
-    c.push.new.self.items c.in_ok-next.next c.sections.invariant (search rules) c.in_ok-next.ensures.found c.in_ok-next.ensures.after (search rules)
+sections-sections-preserved t c = (
+  sections_next (value_in c.args.steps) c.args.table.now.entries c.sections.table.entries c.section.new.table.entries c.args.number
+      (chain_at c.args.table.now.entries c.args.number) c.sections.index c.args.cursor.now c.sections.cursor c.section.new.cursor c.sections.sections.items
+      c.push.new.self.items c.in_ok-next.next c.sections.invariant.0 (search rules) c.in_ok-next.ensures.found c.in_ok-next.ensures.after (search rules),
+  omega (arith, c.sections.invariant.1, c.in_ok-next.ensures.spent),
+)
 
 pub values-values-preserved : goal.values-values-preserved
-values-values-preserved t c =
-    values_next (value_in c.args.steps) c.args.table.now.entries c.values.table.entries c.next_value.new.table.entries c.args.count c.values.left c.args.cursor.now
-    c.values.cursor c.next_value.new.cursor c.values.values.items c.push.new.self.items c.in_ok-next.next c.values.invariant c.values-test.true
-    c.in_ok-next.ensures.found c.in_ok-next.ensures.after (search rules)
+values-values-preserved t c = (
+  values_next (value_in c.args.steps) c.args.table.now.entries c.values.table.entries c.next_value.new.table.entries c.args.count c.values.left c.args.cursor.now
+      c.values.cursor c.next_value.new.cursor c.values.values.items c.push.new.self.items c.in_ok-next.next c.values.invariant.0 c.values-test.true
+      c.in_ok-next.ensures.found c.in_ok-next.ensures.after (search rules),
+  omega (arith, c.values.invariant.1, c.in_ok-next.ensures.spent),
+)

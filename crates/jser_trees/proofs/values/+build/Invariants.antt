@@ -5,6 +5,7 @@ use Rattle.jser_value.specs.View.{view_values, view_sections, view_contents}
 use Rattle.jser_trees.proofs.ValuesLoop.{AwaitsValues}
 use Rattle.jser_trees.proofs.NotesLoop.{AwaitsNotes}
 use Rattle.jser_trees.proofs.SectionsLoop.{AwaitsSections}
+use Rattle.jser_value.specs.Rooms.{Spends}
 use Rattle.jser_trees.proofs.values.+build.Given as goal
 
 abbrev pub decreases-level : goal.decreases-level
@@ -78,12 +79,14 @@ decreases-desc_level l = 10 * l.steps + 5
 
 abbrev pub invariant-values-values : goal.invariant-values-values
 invariant-values-values l = AwaitsValues (value_in l.steps) l.fn.table.entries l.table.entries l.fn.count l.left l.fn.cursor l.cursor (view_values l.values.items)
+    × Spends l.fn.table.entries l.fn.cursor l.table.entries l.cursor
 
 abbrev pub decreases-values-values : goal.decreases-values-values
 decreases-values-values l = l.left
 
 abbrev pub invariant-notes-notes : goal.invariant-notes-notes
 invariant-notes-notes l = AwaitsNotes (value_in l.steps) l.fn.table.entries l.table.entries l.left l.fn.cursor l.cursor (view_contents l.notes.items)
+    × Spends l.fn.table.entries l.fn.cursor l.table.entries l.cursor
 
 abbrev pub decreases-notes-notes : goal.decreases-notes-notes
 decreases-notes-notes l = l.left
@@ -91,3 +94,4 @@ decreases-notes-notes l = l.left
 abbrev pub invariant-sections-sections : goal.invariant-sections-sections
 invariant-sections-sections l =
     AwaitsSections (value_in l.steps) l.fn.table.entries l.table.entries l.number (chain_at l.fn.table.entries l.number) l.index l.fn.cursor l.cursor (view_sections l.sections.items)
+    × Spends l.fn.table.entries l.fn.cursor l.table.entries l.cursor

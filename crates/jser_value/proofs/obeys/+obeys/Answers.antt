@@ -2,7 +2,7 @@ use Rattle.std.proofs.Common.{map, arith, rules}
 use Rattle.std.proofs.lemmas.Grind.{common_steps}
 use Rattle.jser_value.proofs.KeepLemmas.{class_plain, class_proxy}
 use Rattle.jser_table.specs.Entries.{chain_at}
-use Rattle.jser_value.proofs.ObeysLemmas.{sections_next, sections_failed, judged_alone, judged_failed}
+use Rattle.jser_value.proofs.ObeysLemmas.{sections_next, sections_spent, sections_failed, judged_alone, judged_failed}
 use Rattle.jser_value.proofs.obeys.+obeys.Goals as goal
 use Rattle.jser_value.specs.declared.tree.Desc.{the_lemmas}
 use Rattle.jser_value.specs.declared.tree.Section.{the_lemmas as section_lemmas}
@@ -25,21 +25,24 @@ check_desc-returns-in_ok-above-in-Proxy-clause-class t c =
     (search rules) (search rules) (search rules) (search rules) (search rules) (search rules) (search rules) (search (rules, the_lemmas))
 
 pub check_sections-sections-preserved : goal.check_sections-sections-preserved
-check_sections-sections-preserved t c =
-    sections_next c.sections.table.entries c.check_section.new.table.entries c.args.number c.sections.index
-    (chain_at c.args.table.now.entries c.args.number) c.args.sections.now.items c.section-item.result _ _ c.sections.invariant
-    (search rules) (search rules) (search rules) (search rules)
+check_sections-sections-preserved t c = (
+  sections_next c.sections.table.entries c.check_section.new.table.entries c.args.number c.sections.index
+      (chain_at c.args.table.now.entries c.args.number) c.args.sections.now.items c.section-item.result _ _ c.sections.invariant.0
+      (search rules) (search rules) (search rules) (search rules),
+  sections_spent c.args.table.now.entries c.sections.table.entries c.check_section.new.table.entries c.args.sections.now.items c.sections.index
+      c.section-item.result c.sections.invariant.1 (search rules) (search rules) (search rules),
+)
 
-pub check_alone-returns-in-Some : goal.check_alone-returns-in-Some
-check_alone-returns-in-Some t c =
+pub check_alone-returns-in-Some-clause-judged : goal.check_alone-returns-in-Some-clause-judged
+check_alone-returns-in-Some-clause-judged t c =
     judged_alone c.check_notes.result c.args.table.now.entries c.check_notes.new.table.entries (map view_prim c.args.section.now.prims.items)
     (view_values c.args.section.now.values.items) (view_contents c.in-Some.notes.items) (view_section c.args.section.now)
     (search (rules, section_lemmas)) (grind (arith, common_steps)) (search rules)
 
-pub check_sections-returns-in_err-check_section : goal.check_sections-returns-in_err-check_section
-check_sections-returns-in_err-check_section t c =
+pub check_sections-returns-in_err-check_section-clause-judged : goal.check_sections-returns-in_err-check_section-clause-judged
+check_sections-returns-in_err-check_section-clause-judged t c =
     judged_failed c.from_residual-in_err-check_section.result c.in_err-check_section.field-0.0 _ _ _ _ _ _
-    (search rules) c.in_err-check_section.ensures
+    (search rules) c.in_err-check_section.ensures.judged
     (λ fails. sections_failed c.sections.table.entries c.args.number c.sections.index
-    (chain_at c.args.table.now.entries c.args.number) c.args.sections.now.items c.section-item.result _ _ c.sections.invariant
+    (chain_at c.args.table.now.entries c.args.number) c.args.sections.now.items c.section-item.result _ _ c.sections.invariant.0
     (search rules) (search rules) fails)
