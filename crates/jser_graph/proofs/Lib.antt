@@ -3,8 +3,13 @@ pub mod StoredLemmas
 pub mod DecodeLemmas
 pub mod OwnerLemmas
 pub mod AlongLemmas
+pub mod PartLemmas
 pub mod SurveyLemmas
+pub mod TurnLemmas
 pub mod ReadLemmas
+pub mod PassLemmas
+pub mod ShowLemmas
+pub mod ShownLemmas
 pub mod NodeLemmas
 pub mod GraphLemmas
 pub mod OutputLemmas

@@ -1,6 +1,6 @@
 -- The first walk along the bytes of a stream.
-use Rattle.std.proofs.Common.{◌≡◌, ◌⊎◌, inl, inr, ℕ, ◌+◌, ◌-◌, ◌<◌, ◌≤◌, List, [], ◌∷◌, ◌++◌, length, take, drop, Result, Ok, Err, refl, sym, ◌∙◌, ap, ap₂, subst, arith, append_assoc, append-nil, length-append}
-use Rattle.std.proofs.lemmas.List.{length-take-le, take-append-drop}
+use Rattle.std.proofs.Common.{◌≡◌, inl, inr, ℕ, ◌+◌, ◌-◌, List, [], ◌∷◌, ◌++◌, length, take, drop, Result, Ok, Err, refl, sym, ◌∙◌, ap, ap₂, subst, arith, append_assoc, append-nil, length-append}
+use Rattle.std.proofs.lemmas.List.{take-append-drop}
 use Rattle.jser_grammar.specs.Trees.{ContentTrees}
 use Rattle.jser_reading.specs.Labels.{StreamField, Label, Piece, piece}
 use Rattle.jser_reading.specs.FieldBytes.{bytes_of, joined}
@@ -13,25 +13,23 @@ use Rattle.jser_shown.specs.Collecting.{collection, begin_collection, collected}
 use Rattle.jser_shown.specs.Laws.{Indexed, Collected, Named, PlacesAreCounted}
 use Rattle.jser_shown.specs.Naming.{named}
 use Rattle.jser_shown.specs.FrontLaws.{IndexesFronts, CollectsFronts, NamesFronts, OneMore}
-use Rattle.jser_verdict.specs.Gates.{Gate}
 use Rattle.jser_verdict.specs.Passing.{Passes}
 use Rattle.jser_reader.specs.Gates.{open_gate}
 use Rattle.jser_reader.specs.declared.Item.{Item}
 use Rattle.jser_reader.specs.declared.Refusal.{Refusal}
-use Rattle.jser_reader.specs.declared.Step.TheVariants as step
 use Rattle.jser_reader.specs.declared.Stop.{Stop}
 use Rattle.jser_reader.specs.declared.Stop.TheVariants as stop
 use Rattle.jser_reader.specs.declared.Totals.{Totals}
 use Rattle.jser_reader.specs.declared.tally.Tally.{Tally}
 use Rattle.jser_reader.specs.Readers.{Seen}
-use Rattle.jser_reader.specs.ReaderStates.{StandsFor, NextTells, FinishTells}
+use Rattle.jser_reader.specs.ReaderStates.{NextTells, FinishTells}
 use Rattle.jser_reader.specs.Streams.{AreRefused, AreTruncated}
-use Rattle.jser_reader.specs.ItemsTold.{StandsIn, FieldEnds, FieldGoesOn, Lends, TellsItems, TellsFields}
+use Rattle.jser_reader.specs.ItemsTold.{StandsIn, TellsFields}
 use Rattle.jser_graph.specs.declared.survey.Survey.{Survey}
-use Rattle.jser_graph.specs.Along.{Ends, IsLength, InText, IsStuck, FieldTaken, FieldOpen}
 use Rattle.jser_graph.specs.Surveying.{Begins, Ended, Steps, IsAt}
-use Rattle.jser_graph.specs.Reading.{Where, GoesAlong, IsOfList, FrontRefused, Walks, Surveys}
-use Rattle.jser_graph.proofs.AlongLemmas.{moves}
+use Rattle.jser_graph.specs.Along.{Ends, IsLength, Where}
+use Rattle.jser_graph.specs.Reading.{SurveysAlong, IsOfList, FrontRefused, Walks, Surveys}
+use Rattle.jser_graph.proofs.TurnLemmas.{stands_for, whole, begins, joined_one, Does}
 
 -- ---- refusals
 
@@ -50,13 +48,8 @@ front_refused front rest bytes refusal split r =
     let e : take refusal.to_byte bytes ≡ front = ap (λ k. take k bytes) all ∙ ap (take (length front)) split ∙ take_front front rest in
     record { within = omega arith; refused = subst (λ xs. AreRefused open_gate xs refusal) (sym e) r }
 
-stands_for : (gate : Gate) (front : List Piece) (cut : List ℕ) (r : Seen) (tally : Tally) → StandsIn gate front cut r tally
-    → StandsFor gate (joined front ++ cut) r tally
-unfolding StandsFor
-stands_for gate front cut r tally h = (h.counted, h.within)
-
 pub next_stops : (bytes rest : List ℕ) (why : Stop) (r : Seen) (tally : Tally) (new : Seen) (after : Tally) (survey : Survey)
-    → GoesAlong open_gate bytes rest r tally survey → NextTells open_gate rest (Err why) r tally new after → (last : Survey) → Walks bytes last (Err why)
+    → SurveysAlong bytes rest r tally survey → NextTells open_gate rest (Err why) r tally new after → (last : Survey) → Walks bytes last (Err why)
 unfolding NextTells Walks
 next_stops bytes rest (stop.Refused refusal) r tally new after survey h t last =
     let x = t (joined h.front ++ h.cut) (stands_for open_gate h.front h.cut r tally h.stands) in
@@ -66,12 +59,8 @@ next_stops bytes rest (stop.Refused refusal) r tally new after survey h t last =
 next_stops bytes rest stop.OutOfMemory r tally new after survey h t last = tt
 next_stops bytes rest stop.Spent r tally new after survey h t last = t (joined h.front ++ h.cut) (stands_for open_gate h.front h.cut r tally h.stands)
 
-whole : (bytes rest : List ℕ) (front : List Piece) (cut : List ℕ) → bytes ≡ (joined front ++ cut) ++ rest → length rest ≡ 0 → bytes ≡ joined front ++ cut
-whole bytes [] front cut split n = split ∙ append-nil (joined front ++ cut)
-whole bytes (b ∷ rest) front cut split n = absurd (omega arith)
-
 pub finish_stops : (bytes rest : List ℕ) (why : Stop) (r : Seen) (tally : Tally) (new : Seen) (survey : Survey)
-    → GoesAlong open_gate bytes rest r tally survey → length rest ≡ 0 → FinishTells open_gate (Err why) r tally new → (last : Survey) → Walks bytes last (Err why)
+    → SurveysAlong bytes rest r tally survey → length rest ≡ 0 → FinishTells open_gate (Err why) r tally new → (last : Survey) → Walks bytes last (Err why)
 unfolding FinishTells Walks
 finish_stops bytes rest (stop.Refused refusal) r tally new survey h n t last =
     inr (subst (λ xs. AreTruncated open_gate xs refusal) (sym (whole bytes rest h.front h.cut h.split n))
@@ -79,31 +68,7 @@ finish_stops bytes rest (stop.Refused refusal) r tally new survey h n t last =
 finish_stops bytes rest stop.OutOfMemory r tally new survey h n t last = tt
 finish_stops bytes rest stop.Spent r tally new survey h n t last = t (joined h.front ++ h.cut) (stands_for open_gate h.front h.cut r tally h.stands)
 
--- ---- more is wanted
-
-pub wants_more : (bytes rest none : List ℕ) (r : Seen) (tally : Tally) (new : Seen) (after : Tally) (survey : Survey)
-    → GoesAlong open_gate bytes rest r tally survey → TellsItems open_gate rest (Ok step.More) r tally new after → 0 < length rest → none ≡ []
-    → GoesAlong open_gate bytes none new after survey
-unfolding TellsItems
-wants_more bytes rest none r tally new after survey h t some e =
-    let w = t h.front h.cut h.stands in
-    let n = length-append h.cut rest in
-    record {
-      front = h.front;
-      cut = h.cut ++ rest;
-      split =
-          h.split ∙ append_assoc (joined h.front) h.cut rest ∙ sym (append-nil (joined h.front ++ (h.cut ++ rest)))
-          ∙ ap (λ xs. (joined h.front ++ (h.cut ++ rest)) ++ xs) (sym e);
-      stands = w.stands;
-      where_it_is = inr (record { some = λ z. let m = ap length z in omega arith; at_end = inl e });
-    }
-
 -- ---- an item
-
-joined_one : (front : List Piece) (label : Label) (told : StreamField) → joined (front ++ (piece label told ∷ [])) ≡ joined front ++ bytes_of told
-joined_one [] label told = append-nil (bytes_of told)
-joined_one (piece l f ∷ front) label told =
-    ap (λ xs. bytes_of f ++ xs) (joined_one front label told) ∙ sym (append_assoc (bytes_of f) (joined front) (bytes_of told))
 
 is_after : (front : List Piece) (label : Label) (told : StreamField) (old new : Survey) → OneMore → PlacesAreCounted → IsAt front old → Steps told old new
     → new.nodes.place ≡ length (joined front) + length (bytes_of told) → IsAt (front ++ (piece label told ∷ [])) new
@@ -131,85 +96,16 @@ pub record Took (lent : Item) (end : ℕ) (old new : Survey) : Type 0 where
   pub same : IsLength lent → new ≡ old
   pub place : (told : StreamField) → Ends lent told → new.nodes.place ≡ end
 
-field_taken : (bytes rest taken cut : List ℕ) (front : List Piece) (lent : Item) (end : ℕ) (r : Seen) (tally : Tally) (old new : Survey) → OneMore → PlacesAreCounted
-    → bytes ≡ (joined front ++ cut) ++ (taken ++ rest) → end ≡ length bytes - length rest → IsAt front old → Took lent end old new
-    → FieldTaken open_gate front cut taken lent r tally → GoesAlong open_gate bytes rest r tally new
-field_taken bytes rest taken cut front lent end r tally old new more counted split is_end at took f =
-    let joins : joined (front ++ (piece f.label f.told ∷ [])) ≡ joined front ++ (cut ++ taken) =
-    joined_one front f.label f.told ∙ ap (λ xs. joined front ++ xs) f.bytes in
-    let parts : bytes ≡ (joined front ++ (cut ++ taken)) ++ rest =
-    split ∙ sym (append_assoc (joined front ++ cut) taken rest) ∙ ap (λ xs. xs ++ rest) (append_assoc (joined front) cut taken) in
-    let n = ap length parts ∙ length-append (joined front ++ (cut ++ taken)) rest in
-    let m = length-append (joined front) (cut ++ taken) in
-    let k = ap length f.bytes in
-    let at_end : length (joined front) + length (bytes_of f.told) ≡ end = omega arith in
-    let ends : place_after old.nodes.place (bytes_of f.told) ≡ end =
-    counted old.nodes.place (bytes_of f.told) ∙ ap (λ p. p + length (bytes_of f.told)) at.place ∙ at_end in
-    record {
-      front = front ++ (piece f.label f.told ∷ []);
-      cut = [];
-      split = parts ∙ ap (λ xs. xs ++ rest) (sym joins ∙ sym (append-nil (joined (front ++ (piece f.label f.told ∷ [])))));
-      stands = f.stands;
-      where_it_is = inl (inl refl, is_after front f.label f.told old new more counted at (took.steps f.told f.ends ends) (took.place f.told f.ends ∙ sym at_end));
-    }
-
-field_open : (bytes rest taken cut : List ℕ) (front : List Piece) (lent : Item) (end : ℕ) (r : Seen) (tally : Tally) (old new : Survey)
-    → bytes ≡ (joined front ++ cut) ++ (taken ++ rest) → IsAt front old → Took lent end old new
-    → FieldOpen open_gate front cut taken rest lent r tally → GoesAlong open_gate bytes rest r tally new
-field_open bytes rest taken cut front lent end r tally old new split at took o = record {
-  front = front;
-  cut = cut ++ taken;
-  split = split ∙ sym (append_assoc (joined front ++ cut) taken rest) ∙ ap (λ xs. xs ++ rest) (append_assoc (joined front) cut taken);
-  stands = o.stands;
-  where_it_is = goes o.goes_on;
+pub does : (bytes rest : List ℕ) (lent : Item) (end : ℕ) (old new : Survey) → OneMore → PlacesAreCounted → end ≡ length bytes - length rest → Took lent end old new
+    → Does bytes rest lent (λ front. IsAt front old) (λ front. IsAt front new)
+does bytes rest lent end old new more counted is_end took = record {
+  ended = λ front label told ends size at.
+      let here : length (joined front) + length (bytes_of told) ≡ end = omega arith in
+      let place : place_after old.nodes.place (bytes_of told) ≡ end =
+      counted old.nodes.place (bytes_of told) ∙ ap (λ p. p + length (bytes_of told)) at.place ∙ here in
+      is_after front label told old new more counted at (took.steps told ends place) (took.place told ends ∙ sym here);
+  same = λ l front at. subst (IsAt front) (sym (took.same l)) at;
 }
-  where
-    goes : (IsLength lent × InText front (cut ++ taken)) ⊎ IsStuck open_gate front (cut ++ taken) rest → Where open_gate front (cut ++ taken) rest new
-    goes (inl (l, t)) = inl (inr t, subst (IsAt front) (sym (took.same l)) at)
-    goes (inr s) = inr s
-
--- nothing more is lent where it is stuck
-no_more : {A : Type 0} (front : List Piece) (cut given : List ℕ) (lent : Item) (used : ℕ) (r : Seen) (tally : Tally) → 0 < used → used ≤ length given
-    → IsStuck open_gate front cut given → Lends open_gate front cut given lent used r tally → A
-no_more front cut given lent used r tally some le s l =
-    let n = length-take-le used given le in
-    let m = length-append cut (take used given) in
-    let k = length-append (joined front) cut in
-    let j = length-append (joined front) (cut ++ take used given) in
-    over s.at_end l.after n m k j
-  where
-    over : {A : Type 0} → (given ≡ []) ⊎ (length (joined front ++ cut) ≡ open_gate.bytes)
-        → FieldEnds open_gate front l.label (cut ++ take used given) r tally ⊎ FieldGoesOn open_gate front (cut ++ take used given) given used lent r tally
-        → length (take used given) ≡ used → length (cut ++ take used given) ≡ length cut + length (take used given)
-        → length (joined front ++ cut) ≡ length (joined front) + length cut
-        → length (joined front ++ (cut ++ take used given)) ≡ length (joined front) + length (cut ++ take used given) → A
-    over (inl e) x n m k j = let z = ap length e in absurd (omega arith)
-    over (inr e) (inl f) n m k j =
-        let w = f.stands.within in
-        let a = ap length (append-nil (joined (front ++ (piece l.label f.field ∷ []))) ∙ joined_one front l.label f.field) in
-        let b = ap length f.spelled in
-        let c = length-append (joined front) (bytes_of f.field) in
-        absurd (omega arith)
-    over (inr e) (inr o) n m k j = let w = o.stands.within in absurd (omega arith)
-
-pub takes_item : (bytes given taken rest : List ℕ) (lent : Item) (used end : ℕ) (r : Seen) (tally : Tally) (new : Seen) (after : Tally) (old survey : Survey)
-    → OneMore → PlacesAreCounted → GoesAlong open_gate bytes given r tally old → TellsItems open_gate given (Ok (step.Item lent used)) r tally new after
-    → 0 < used → used ≤ length given → taken ≡ take used given → given ≡ taken ++ rest → end ≡ length bytes - length rest → Took lent end old survey
-    → GoesAlong open_gate bytes rest new after survey
-unfolding TellsItems
-takes_item bytes given taken rest lent used end r tally new after old survey more counted h t some le is split is_end took =
-    let l = t h.front h.cut h.stands in
-    goes h.where_it_is l
-  where
-    goes : Where open_gate h.front h.cut given old → Lends open_gate h.front h.cut given lent used new after → GoesAlong open_gate bytes rest new after survey
-    goes (inl (b, at)) l =
-        let parts : bytes ≡ (joined h.front ++ h.cut) ++ (taken ++ rest) = h.split ∙ ap (λ xs. (joined h.front ++ h.cut) ++ xs) split in
-        let size : length taken ≡ used = ap length is ∙ length-take-le used given le in
-        elim (moves open_gate h.front h.cut given taken rest lent used new after b some is size split l) [
-          | inl f ↦ field_taken bytes rest taken h.cut h.front lent end new after old survey more counted parts is_end at took f
-          | inr o ↦ field_open bytes rest taken h.cut h.front lent end new after old survey parts at took o
-        ]
-    goes (inr s) l = no_more h.front h.cut given lent used new after some le s l
 
 -- ---- the end
 
@@ -245,7 +141,7 @@ found_of bytes list other front old new totals laws at ended passes fields p are
     }
 
 pub finishes : (bytes rest : List ℕ) (totals : Totals) (r : Seen) (tally : Tally) (after : Seen) (old new : Survey) → Laws
-    → GoesAlong open_gate bytes rest r tally old → length rest ≡ 0 → Ended old new → FinishTells open_gate (Ok totals) r tally after
+    → SurveysAlong bytes rest r tally old → length rest ≡ 0 → Ended old new → FinishTells open_gate (Ok totals) r tally after
     → TellsFields open_gate (Ok totals) r tally → Walks bytes new (Ok totals)
 unfolding FinishTells TellsFields Walks
 finishes bytes rest totals r tally after old new laws h n ended t f =
@@ -258,7 +154,7 @@ finishes bytes rest totals r tally after old new laws h n ended t f =
     goes : h.cut ≡ [] → ((list : ContentTrees) × Passes open_gate (joined h.front) list × (h.front ≡ fields_of list))
         → (((list : ContentTrees) × Passes open_gate (joined h.front ++ h.cut) list × Rattle.jser_reader.specs.Tallies.AreTotals (joined h.front ++ h.cut) list totals)
         × Rattle.jser_reader.specs.ReaderStates.IsSpent after)
-        → bytes ≡ joined h.front ++ h.cut → joined h.front ≡ bytes → Where open_gate h.front h.cut rest old
+        → bytes ≡ joined h.front ++ h.cut → joined h.front ≡ bytes → Where open_gate (λ front. IsAt front old) h.front h.cut rest
         → (list : ContentTrees) × IsOfList bytes new totals list
     goes none x y is same (inl (b, at)) = (
       x.0,
@@ -267,15 +163,13 @@ finishes bytes rest totals r tally after old new laws h n ended t f =
     )
     goes none x y is same (inr s) = absurd (s.some none)
 
+pub at_none : (survey : Survey) → Begins survey → IsAt [] survey
+at_none survey b =
+    record { walk = b.walk; nodes = b.nodes; owners = b.owners; names = b.names; place = ap (λ x. x.place) b.nodes }
+
 pub goes_none : (bytes : List ℕ) (r : Seen) (tally : Tally) (survey : Survey) → StandsIn open_gate [] [] r tally → Begins survey
-    → GoesAlong open_gate bytes bytes r tally survey
-goes_none bytes r tally survey st b = record {
-  front = [];
-  cut = [];
-  split = refl;
-  stands = st;
-  where_it_is = inl (inl refl, record { walk = b.walk; nodes = b.nodes; owners = b.owners; names = b.names; place = ap (λ x. x.place) b.nodes });
-}
+    → SurveysAlong bytes bytes r tally survey
+goes_none bytes r tally survey st b = begins bytes r tally (λ front. IsAt front survey) st (at_none survey b)
 
 pub laws_of : OneReading → Indexed → Collected → IndexesFronts → CollectsFronts → Named → NamesFronts → Laws
 laws_of o i c x y n f = record { one_reading = o; indexed = i; collected = c; indexes = x; collects = y; named_are = n; names = f }
@@ -292,7 +186,7 @@ found_err bytes survey stop.OutOfMemory h = h
 found_err bytes survey stop.Spent h = h
 
 pub finish_walks : (bytes rest : List ℕ) (result : Result Totals Stop) (r : Seen) (tally : Tally) (after : Seen) (old new : Survey) → Laws
-    → GoesAlong open_gate bytes rest r tally old → length rest ≡ 0 → Ended old new → FinishTells open_gate result r tally after
+    → SurveysAlong bytes rest r tally old → length rest ≡ 0 → Ended old new → FinishTells open_gate result r tally after
     → TellsFields open_gate result r tally → Walks bytes new result
 finish_walks bytes rest (Ok totals) r tally after old new laws h n ended t f = finishes bytes rest totals r tally after old new laws h n ended t f
 finish_walks bytes rest (Err why) r tally after old new laws h n ended t f = finish_stops bytes rest why r tally after old h n t new

@@ -1,7 +1,5 @@
 -- A first walk settles step by step.
-use denote.Bor.{Bor}
-use Rattle.std.proofs.Common.{◌≡◌, ℕ, zero, suc, ◌-◌, ◌<◌, Bool, List, [], ◌∷◌, length, Option, Some, None, refl, sym, ◌∙◌, ap, ap₂, subst, arith}
-use Rattle.jser_prim.specs.ModifiedUtf8.{IsUnits, modified_utf8}
+use Rattle.std.proofs.Common.{◌≡◌, ℕ, ◌-◌, ◌<◌, Bool, List, [], ◌∷◌, length, Option, Some, None, refl, sym, ◌∙◌, ap, ap₂, arith}
 use Rattle.jser_reading.specs.Roles.{Owner as ToldOwner}
 use Rattle.jser_reading.specs.Labels.{Tag, null_tag, reference_tag, class_desc_tag, object_tag, string_tag, array_tag, class_tag, long_string_tag, proxy_desc_tag, enum_tag, StreamField, header_field, tag_field, block_tag_field, end_tag_field, reset_tag_field, handle_field, suid_field, flags_field, field_count_field, interface_count_field, array_length_field, code_field, text_field, block_length_field, prims_field, bytes_field}
 use Rattle.jser_reading.specs.FieldBytes.{bytes_of}
@@ -18,14 +16,6 @@ use Rattle.jser_walk.specs.Steps.{Due as ToldDue}
 use Rattle.jser_walk.specs.Prompts.{class_name_prompt, interface_prompt, prompt_at, prompt_in, prompt_of, prompt_names}
 use Rattle.jser_walk.specs.Prompts.{Prompt as ToldPrompt}
 use Rattle.jser_walk.specs.Laws.{StepsSettle, StepsEnd, NothingDue, PromptsKeep}
-use Rattle.jser_reader.specs.declared.Item.{Item}
-use Rattle.jser_reader.specs.declared.Item.TheVariants as item
-use Rattle.jser_walk.specs.declared.Field.{Field}
-use Rattle.jser_walk.specs.declared.Field.TheVariants as field
-use Rattle.jser_walk.specs.Given.{IsOf}
-use Rattle.jser_graph.specs.declared.part.Part.{Part}
-use Rattle.jser_graph.specs.declared.part.Part.TheVariants as part
-use Rattle.jser_graph.specs.Along.{IsPartOf, PartIs, Ends}
 use Rattle.jser_graph.specs.declared.survey.Survey.{Survey}
 use Rattle.jser_graph.specs.Surveying.{made_by, nodes_by, owners_by, is_string, is_name, names_by, Settles, Ended, Steps}
 use Rattle.jser_graph.specs.Indexing.{begun_by, index_by}
@@ -177,39 +167,3 @@ steps_taken told old mid new string name last end e s l p n o w keeps is_a m = r
       m ∙ ap (λ b. names_by b told mid.names) is_a ∙ sym ((keeps mid.walk told).1 mid.names ∙ by_prompt (prompt_of mid.walk) told mid.names)
       ∙ ap₂ (λ t x. name_in t.cues told x) e.walk e.names;
 }
-
--- ---- the text of an item
-
-abbrev text_in : Part → List ℕ
-text_in (part.Text bytes) = bytes.now
-text_in _ = []
-
-abbrev IsTextPart : Part → Type 0
-IsTextPart (part.Text bytes) = Unit {0}
-IsTextPart _ = ⊥
-
-no_text : {A : Type 0} (f : Field) (bytes : Bor (List ℕ)) → part.Text bytes ≡ part.Field f → A
-no_text f bytes e = absurd (subst IsTextPart e tt)
-
-pub part_text : (lent : Item) (bytes : Bor (List ℕ)) (told : StreamField) → IsPartOf lent (part.Text bytes) → Ends lent told → PartIs (part.Text bytes) told
-part_text item.Header bytes told i e = no_text _ bytes i
-part_text (item.Tag n) bytes told i e = no_text _ bytes i
-part_text (item.Handle n) bytes told i e = no_text _ bytes i
-part_text (item.Suid n) bytes told i e = no_text _ bytes i
-part_text (item.Flags n) bytes told i e = no_text _ bytes i
-part_text (item.FieldCount n) bytes told i e = no_text _ bytes i
-part_text (item.InterfaceCount n) bytes told i e = no_text _ bytes i
-part_text (item.TypeCode n) bytes told i e = no_text _ bytes i
-part_text (item.ArrayLength n) bytes told i e = no_text _ bytes i
-part_text (item.BlockLength n) bytes told i e = no_text _ bytes i
-part_text (item.RawPart b) bytes told i e = no_text _ bytes i
-part_text (item.TextPart b) bytes (text_field long units) i e = (e.0, e.1 ∙ ap text_in (sym i))
-part_text (item.TextLength zero) bytes (text_field long units) i e =
-    (subst IsUnits (sym e.1) refl, ap modified_utf8 e.1 ∙ sym i)
-part_text (item.TextLength (suc n)) bytes told i e = absurd i
-part_text _ bytes told i e = absurd e
-
-pub decoded : (told : StreamField) (bytes units : Bor (List ℕ)) → PartIs (part.Text bytes) told
-    → ((us : List ℕ) → IsUnits us → modified_utf8 us ≡ bytes.now → units.now ≡ us) → IsOf (field.Text units) told
-decoded (text_field long us) bytes units p d = d us p.0 p.1
-decoded _ bytes units p d = absurd p

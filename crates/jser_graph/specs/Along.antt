@@ -11,6 +11,9 @@ use Rattle.jser_reader.specs.declared.Item.TheVariants as item
 use Rattle.jser_reader.specs.declared.tally.Tally.{Tally}
 use Rattle.jser_reader.specs.Readers.{Seen}
 use Rattle.jser_reader.specs.Items.{items_at, text_items}
+use Rattle.jser_reader.specs.declared.OpenGate.{OpenGate}
+use Rattle.jser_reader.specs.Gates.{open_gate}
+use Rattle.jser_reader.specs.ReaderStates.{Reading}
 use Rattle.jser_reader.specs.ItemsTold.{StandsIn}
 use Rattle.jser_walk.specs.declared.Field.TheVariants as field
 use Rattle.jser_walk.specs.Given.{IsOf}
@@ -93,6 +96,23 @@ pub record FieldOpen (gate : Gate) (front : List Piece) (cut taken rest : List �
   pub stands : StandsIn gate front (cut ++ taken) r tally
   pub goes_on : (IsLength lent × InText front (cut ++ taken)) ⊎ IsStuck gate front (cut ++ taken) rest
 
+-- what an item does
 abbrev pub Moves : Gate → (front : List Piece) (cut taken rest : List ℕ) → Item → Seen → Tally → Type 0
 Moves gate front cut taken rest lent r tally =
     FieldTaken gate front cut taken lent r tally ⊎ FieldOpen gate front cut taken rest lent r tally
+
+-- so far along the bytes: this holds of the fields that the reader took; or nothing more can come
+abbrev pub Where : Gate → (P : List Piece → Type 0) → (front : List Piece) (cut rest : List ℕ) → Type 0
+Where gate P front cut rest = (Between front cut × P front) ⊎ IsStuck gate front cut rest
+
+-- the reader took the first of the bytes: whole fields, and bytes of the next one
+pub record GoesAlong (gate : Gate) (bytes rest : List ℕ) (r : Seen) (tally : Tally) (P : List Piece → Type 0) : Type 0 where
+  pub front : List Piece
+  pub cut : List ℕ
+  pub split : bytes ≡ (joined front ++ cut) ++ rest
+  pub stands : StandsIn gate front cut r tally
+  pub where_it_is : Where gate P front cut rest
+
+-- a reader under the open gate that has taken nothing
+abbrev pub BeginsAt : Reading OpenGate → Type 0
+BeginsAt reader = StandsIn open_gate [] [] reader.machine reader.tally

@@ -8,3 +8,4 @@ pub mod Surveying
 pub mod Reading
 pub mod Graphs
 pub mod Outputs
+pub mod Showing

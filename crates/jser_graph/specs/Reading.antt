@@ -1,46 +1,29 @@
 -- The first walk along the bytes of a stream: where it stands, and what it has found at the end.
-use Rattle.std.specs.Prelude.{ℕ, ◌≡◌, ◌⊎◌, ◌≤◌, List, [], ◌++◌, length, take, Result, Ok, Err}
+use Rattle.std.specs.Prelude.{ℕ, ◌≡◌, ◌⊎◌, ◌≤◌, List, [], length, take, Result, Ok, Err}
 use Rattle.jser_grammar.specs.Trees.{ContentTrees}
 use Rattle.jser_grammar.specs.CheckedNames.{checked_names}
-use Rattle.jser_reading.specs.Labels.{Piece}
-use Rattle.jser_reading.specs.FieldBytes.{joined}
 use Rattle.jser_shown.specs.Nodes.{nodes_of}
 use Rattle.jser_shown.specs.Owners.{owners_of}
 use Rattle.jser_shown.specs.Indexing.{nodes_in}
 use Rattle.jser_shown.specs.Collecting.{collection}
-use Rattle.jser_verdict.specs.Gates.{Gate}
 use Rattle.jser_verdict.specs.Passing.{Passes}
 use Rattle.jser_reader.specs.Gates.{open_gate}
 use Rattle.jser_reader.specs.declared.Refusal.{Refusal}
 use Rattle.jser_reader.specs.declared.Stop.{Stop}
 use Rattle.jser_reader.specs.declared.Stop.TheVariants as stop
-use Rattle.jser_reader.specs.declared.OpenGate.{OpenGate}
 use Rattle.jser_reader.specs.declared.Totals.{Totals}
 use Rattle.jser_reader.specs.declared.tally.Tally.{Tally}
-use Rattle.jser_reader.specs.ReaderStates.{Reading}
 use Rattle.jser_reader.specs.Readers.{Seen}
 use Rattle.jser_reader.specs.Streams.{AreRefused, AreTruncated}
 use Rattle.jser_reader.specs.Tallies.{AreTotals}
-use Rattle.jser_reader.specs.ItemsTold.{StandsIn}
 use Rattle.jser_graph.specs.declared.read.Found.{Found}
 use Rattle.jser_graph.specs.declared.survey.Survey.{Survey}
-use Rattle.jser_graph.specs.Along.{Between, IsStuck}
+use Rattle.jser_graph.specs.Along.{GoesAlong}
 use Rattle.jser_graph.specs.Surveying.{IsAt}
 
--- so far along the bytes: the reader stands for fields, and the walk has gone along them; or nothing more can come
-abbrev pub Where : Gate → List Piece → (cut rest : List ℕ) → Survey → Type 0
-Where gate front cut rest survey = (Between front cut × IsAt front survey) ⊎ IsStuck gate front cut rest
-
-pub record GoesAlong (gate : Gate) (bytes rest : List ℕ) (r : Seen) (tally : Tally) (survey : Survey) : Type 0 where
-  pub front : List Piece
-  pub cut : List ℕ
-  pub split : bytes ≡ (joined front ++ cut) ++ rest
-  pub stands : StandsIn gate front cut r tally
-  pub where_it_is : Where gate front cut rest survey
-
--- a reader under the open gate that has taken nothing
-abbrev pub BeginsAt : Reading OpenGate → Type 0
-BeginsAt reader = StandsIn open_gate [] [] reader.machine reader.tally
+-- so far along the bytes, with a survey of the fields
+abbrev pub SurveysAlong : (bytes rest : List ℕ) → Seen → Tally → Survey → Type 0
+SurveysAlong bytes rest r tally survey = GoesAlong open_gate bytes rest r tally (λ front. IsAt front survey)
 
 -- The bytes are a stream of this list that passes, and what was found is that of the list.
 pub record IsOfList (bytes : List ℕ) (survey : Survey) (totals : Totals) (list : ContentTrees) : Type 0 where

@@ -11,6 +11,7 @@ mod output;
 mod owners;
 mod part;
 mod read;
+mod show;
 mod survey;
 #[cfg(test)]
 mod tests;

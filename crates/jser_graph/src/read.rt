@@ -1,6 +1,7 @@
 //! The first walk along the bytes of a stream.
 ghost use Rattle.jser_graph.specs.Surveying.{Begins};
-ghost use Rattle.jser_graph.specs.Reading.{BeginsAt, Walks, Surveys};
+ghost use Rattle.jser_graph.specs.Along.{BeginsAt};
+ghost use Rattle.jser_graph.specs.Reading.{Walks, Surveys};
 
 use crate::survey::Survey;
 use jser_reader::{OpenGate, Reader, Step, Stop, Totals};

@@ -9,6 +9,7 @@ use std::process::Abort;
 use std::test::Fail;
 
 mod rows;
+mod show;
 
 /// Keeps all that it is given, up to `room` bytes; from then on it fails.
 #[derive(Drop)]

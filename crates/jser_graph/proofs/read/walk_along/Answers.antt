@@ -2,7 +2,9 @@ use Rattle.std.proofs.Common.{rules, refl, subst, Ok}
 use Rattle.jser_reader.specs.Gates.{open_gate}
 use Rattle.jser_reader.specs.ItemsTold.{TellsItems}
 use Rattle.jser_reader.specs.ReaderStates.{HasProgress}
-use Rattle.jser_graph.proofs.ReadLemmas.{memory_out, next_stops, finish_walks, wants_more, takes_item, took, laws_of}
+use Rattle.jser_graph.specs.Surveying.{IsAt}
+use Rattle.jser_graph.proofs.TurnLemmas.{wants_more, turns, takes_item}
+use Rattle.jser_graph.proofs.ReadLemmas.{memory_out, next_stops, finish_walks, does, took, laws_of}
 use Rattle.jser_graph.proofs.read.walk_along.Goals as goal
 
 pub returns-in-Err : goal.returns-in-Err
@@ -13,20 +15,23 @@ returns-in-Err c =
 pub items-preserved-in-Ok-More : goal.items-preserved-in-Ok-More
 items-preserved-in-Ok-More c =
     wants_more c.args.bytes.now c.items.rest.now _ c.items.reader.machine c.items.reader.tally c.next.new.self.machine c.next.new.self.tally
-    c.items.survey c.items.invariant (subst (λ s. TellsItems open_gate c.items.rest.now (Ok s) c.items.reader.machine c.items.reader.tally c.next.new.self.machine c.next.new.self.tally)
+    (λ front. IsAt front c.items.survey) c.items.invariant
+    (subst (λ s. TellsItems open_gate c.items.rest.now (Ok s) c.items.reader.machine c.items.reader.tally c.next.new.self.machine c.next.new.self.tally)
     c.in-Ok-More.field-0-is c.in-Ok-More.ensures.items) (search rules) refl
 
 pub items-preserved : goal.items-preserved
 items-preserved c =
-    takes_item c.args.bytes.now c.items.rest.now c.split_at.result.0.now c.split_at.result.1.now c.in-Ok-Item.item c.in-Ok-Item.used _
-    c.items.reader.machine c.items.reader.tally c.next.new.self.machine c.next.new.self.tally c.items.survey c.item.new.self c.one_more.ensures
-    c.places_are_counted.ensures c.items.invariant
+    takes_item c.args.bytes.now c.split_at.result.1.now c.in-Ok-Item.item c.next.new.self.machine c.next.new.self.tally
+    (λ front. IsAt front c.items.survey) (λ front. IsAt front c.item.new.self)
+    (turns c.args.bytes.now c.items.rest.now c.split_at.result.0.now c.split_at.result.1.now c.in-Ok-Item.item c.in-Ok-Item.used
+    c.items.reader.machine c.items.reader.tally c.next.new.self.machine c.next.new.self.tally (λ front. IsAt front c.items.survey) c.items.invariant
     (subst (λ s. TellsItems open_gate c.items.rest.now (Ok s) c.items.reader.machine c.items.reader.tally c.next.new.self.machine c.next.new.self.tally)
     c.in-Ok-Item.field-0-is c.in-Ok-Item.ensures.items)
     (subst (HasProgress c.items.rest.now) c.in-Ok-Item.field-0-is c.in-Ok-Item.ensures.progress).0
     (subst (HasProgress c.items.rest.now) c.in-Ok-Item.field-0-is c.in-Ok-Item.ensures.progress).1
-    (search rules) (search rules) refl
-    (took c.in-Ok-Item.item _ c.items.survey c.item.new.self c.in-Ok.ensures.steps c.in-Ok.ensures.same c.in-Ok.ensures.place)
+    (search rules) (search rules))
+    (does c.args.bytes.now c.split_at.result.1.now c.in-Ok-Item.item _ c.items.survey c.item.new.self c.one_more.ensures c.places_are_counted.ensures refl
+    (took c.in-Ok-Item.item _ c.items.survey c.item.new.self c.in-Ok.ensures.steps c.in-Ok.ensures.same c.in-Ok.ensures.place))
 
 pub returns-in-Err-item : goal.returns-in-Err-item
 returns-in-Err-item c = memory_out c.args.bytes.now c.item.new.self

@@ -1,10 +1,9 @@
 use Rattle.std.proofs.Common.{length}
-use Rattle.jser_reader.specs.Gates.{open_gate}
-use Rattle.jser_graph.specs.Reading.{GoesAlong}
+use Rattle.jser_graph.specs.Reading.{SurveysAlong}
 use Rattle.jser_graph.proofs.read.walk_along.Given as goal
 
 abbrev pub invariant-items : goal.invariant-items
-invariant-items l = GoesAlong open_gate l.bytes l.rest l.reader.machine l.reader.tally l.survey
+invariant-items l = SurveysAlong l.bytes l.rest l.reader.machine l.reader.tally l.survey
 
 abbrev pub decreases-items : goal.decreases-items
 decreases-items l = length l.rest

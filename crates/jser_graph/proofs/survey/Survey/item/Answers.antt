@@ -1,5 +1,5 @@
 use Rattle.std.proofs.Common.{rules}
-use Rattle.jser_graph.proofs.SurveyLemmas.{part_text, decoded}
+use Rattle.jser_graph.proofs.PartLemmas.{part_text, decoded}
 use Rattle.jser_graph.proofs.survey.Survey.item.Goals as goal
 
 pub returns-in_ok-field-in-Text-clause-steps : goal.returns-in_ok-field-in-Text-clause-steps

@@ -1,0 +1,143 @@
+//! The text of `show`, told along the bytes of a graph.
+ghost use Rattle.std.specs.Prelude.{◌≡◌, OnOk, OnErr, IfOk, IfErr};
+ghost use Rattle.jser_reading.specs.Labels.{StreamField};
+ghost use Rattle.jser_shown.specs.Telling.{begin_telling, goes, settled};
+ghost use Rattle.jser_words.specs.Passing.{says_next};
+ghost use Rattle.jser_words.specs.Says.{BeginsTo, SaysTo};
+ghost use Rattle.jser_graph.specs.Along.{BeginsAt, Ends, IsLength};
+ghost use Rattle.jser_graph.specs.Showing.{CountsText, WroteText, WroteFront, KeptSink, HasFailedIf, PutsTextTo, PutsFrontTo};
+
+use crate::decode::decode;
+use crate::graph::Graph;
+use crate::output::GraphFault;
+use crate::part::{Part, part_of};
+use jser_prim::{Outbox, Sink};
+use jser_reader::{Item, OpenGate, Reader, Step};
+use jser_shown::laws::{one_more, tells_fronts, told};
+use jser_walk::{Field, Walk};
+use jser_words::{say_all_due, say_next};
+use std::alloc::{AllocError, Global};
+
+impl Graph {
+    /// Writes the text of `show`, and returns its length, which is exact up to 2^64 - 1 and stays there.
+    ///
+    /// The bytes are gone along a second time. It takes memory for the table of handles of an epoch with the names of
+    /// classes and fields, for the stack of what is open, and for the units of the longest text.
+    ///
+    /// # Errors
+    ///
+    /// `Write` where the sink failed; nothing more is read then. `OutOfMemory` where memory ran out. Both say how many
+    /// of the first bytes of the text went out.
+    pub fn show<W: Sink>(&self, alloc: Global, sink: &mut W) -> Result<u64, GraphFault>
+        ensures length { IfOk result (CountsText self.now) }
+        ensures out { OnOk result (WroteText self.now (W.gone_out sink.old) (W.gone_out sink.new)) }
+        ensures written { IfErr result (WroteFront self.now (W.gone_out sink.old) (W.gone_out sink.new)) }
+        ensures kept { OnOk result (KeptSink self.now (W.has_failed sink.old) (W.has_failed sink.new)) }
+        ensures failed { IfErr result (HasFailedIf self.now (W.has_failed sink.old) (W.has_failed sink.new)) }
+    {
+        let mut outbox = Outbox::new();
+        let told = self.say(alloc, &mut outbox, sink);
+        outbox.flush(sink);
+        let written = outbox.written();
+        if outbox.has_failed() {
+            return Err(GraphFault::Write { written });
+        }
+        match told {
+            Ok(()) => Ok(written),
+            Err(_) => Err(GraphFault::OutOfMemory { written }),
+        }
+    }
+
+    /// Says the text, or a beginning of it where the sink failed.
+    ///
+    /// # Errors
+    ///
+    /// Where memory ran out. What was said before is a beginning of the text.
+    fn say<W: Sink>(
+        &self,
+        alloc: Global,
+        outbox: &mut Outbox,
+        sink: &mut W,
+    ) -> Result<(), AllocError>
+        ensures said { OnOk result (PutsTextTo W.gone_out W.has_failed self.now.bytes (begin_telling self.now.owners) outbox.old outbox.new sink.old sink.new) }
+        ensures front { OnErr result (PutsFrontTo W.gone_out W.has_failed self.now.bytes (begin_telling self.now.owners) outbox.old outbox.new sink.old sink.new) }
+    {
+        let mut reader = Reader::new(alloc, OpenGate);
+        let mut walk = Walk::new(alloc, &self.owners);
+        let mut units = Vec::new(alloc);
+        say_along(
+            outbox,
+            sink,
+            &mut reader,
+            &mut walk,
+            &mut units,
+            &self.bytes,
+        )
+    }
+}
+
+/// Says the text of a stream along its bytes, until the sink fails. `units` is room for those of a text.
+fn say_along<W: Sink>(
+    outbox: &mut Outbox,
+    sink: &mut W,
+    reader: &mut Reader<OpenGate>,
+    walk: &mut Walk<'_>,
+    units: &mut Vec<u16>,
+    bytes: &[u8],
+) -> Result<(), AllocError>
+    requires { BeginsAt reader.old }
+    ensures said { OnOk result (PutsTextTo W.gone_out W.has_failed bytes.now walk.old outbox.old outbox.new sink.old sink.new) }
+    ensures front { OnErr result (PutsFrontTo W.gone_out W.has_failed bytes.now walk.old outbox.old outbox.new sink.old sink.new) }
+{
+    one_more();
+    tells_fronts();
+    told();
+    let mut rest = bytes;
+    'items: while !rest.is_empty() {
+        if outbox.has_failed() {
+            return Ok(());
+        }
+        match reader.next(rest) {
+            // The bytes were accepted before, by a reader like this one, so nothing is refused here.
+            Err(_) => return Err(AllocError),
+            Ok(Step::More) => rest = &[],
+            Ok(Step::Item { item, used }) => {
+                let (_, after) = rest.split_at(used);
+                say_item(outbox, sink, walk, units, item)?;
+                rest = after;
+            }
+        }
+    }
+    say_all_due(outbox, sink, walk)
+}
+
+/// Says the field that an item ends, with all that is due before it.
+///
+/// # Errors
+///
+/// Where memory runs out. What was said before is a beginning of that.
+fn say_item<W: Sink>(
+    outbox: &mut Outbox,
+    sink: &mut W,
+    walk: &mut Walk<'_>,
+    units: &mut Vec<u16>,
+    item: Item<'_>,
+) -> Result<(), AllocError>
+    ensures said { OnOk result ((told : StreamField) → Ends item.entry told
+        → SaysTo W.gone_out W.has_failed outbox.old outbox.new sink.old sink.new (λ k. says_next walk.old told k)) }
+    ensures goes { OnOk result ((told : StreamField) → Ends item.entry told → walk.new ≡ goes (settled walk.old) told) }
+    ensures same { OnOk result (IsLength item.entry
+        → SaysTo W.gone_out W.has_failed outbox.old outbox.new sink.old sink.new (λ k. k) × (walk.new ≡ walk.old)) }
+    ensures front { OnErr result ((told : StreamField) → Ends item.entry told
+        → BeginsTo W.gone_out W.has_failed outbox.old outbox.new sink.old sink.new (λ k. says_next walk.old told k)) }
+    ensures length { OnErr result (IsLength item.entry → ⊥) }
+{
+    match part_of(item) {
+        Part::Field(field) => say_next(outbox, sink, walk, field),
+        Part::Text(bytes) => {
+            decode(bytes, units)?;
+            say_next(outbox, sink, walk, Field::Text(units))
+        }
+        Part::Length => Ok(()),
+    }
+}

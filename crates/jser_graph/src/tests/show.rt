@@ -1,0 +1,159 @@
+//! The texts of `show` of worked streams, and what goes out of them where the sink fails.
+
+use crate::tests::{LINKED_PAIR, Page, graph_of, nest};
+use crate::{Graph, GraphFault};
+use std::alloc::AllocGlobal;
+use std::process::Abort;
+use std::test::Fail;
+
+const LINKED_PAIR_TEXT: &[u8] = b"stream version 5
+object #0.7e0002
+  class desc #0.7e0000 \"List\" suid 69c88a154016ae68 flags 02
+    field I \"value\"
+    field L \"next\" type text #0.7e0001 \"LList;\"
+    super null
+  data \"List\"
+    \"value\" = 00000011
+    \"next\" = object #0.7e0003
+      class ref #0.7e0000
+      data \"List\"
+        \"value\" = 00000013
+        \"next\" = null
+ref #0.7e0003
+";
+
+/// The stream is shown as this text, to a sink that takes so many bytes at once.
+fn shows_by(
+    rt: &(impl Abort + AllocGlobal),
+    graph: &Graph,
+    text: &[u8],
+    step: usize,
+) -> Result<(), Fail> {
+    let mut page = Page::new(rt.alloc(), step, 1_000_000);
+    let count = graph.show(rt.alloc(), &mut page)?;
+    assert!(rt; page.bytes.as_slice() == text);
+    assert_eq!(rt; count, text.len() as u64);
+    Ok(())
+}
+
+/// The stream is shown as this text.
+fn shows(rt: &(impl Abort + AllocGlobal), bytes: &[u8], text: &[u8]) -> Result<(), Fail> {
+    let graph = graph_of(rt, bytes);
+    shows_by(rt, &graph, text, 4096)?;
+    shows_by(rt, &graph, text, 1)?;
+    Ok(())
+}
+
+#[test]
+fn show_linked_pair(rt: HostRuntime) -> Result<(), Fail> {
+    shows(&rt, LINKED_PAIR, LINKED_PAIR_TEXT)?;
+    Ok(())
+}
+
+#[test]
+fn show_array_list(rt: HostRuntime) -> Result<(), Fail> {
+    shows(
+        &rt,
+        b"\xAC\xED\x00\x05\x73\x72\x00\x13\x6A\x61\x76\x61\x2E\x75\x74\x69\x6C\x2E\x41\x72\x72\x61\x79\x4C\x69\x73\x74\x78\x81\xD2\x1D\x99\xC7\x61\x9D\x03\x00\x01\x49\x00\x04\x73\x69\x7A\x65\x78\x70\x00\x00\x00\x01\x77\x04\x00\x00\x00\x01\x74\x00\x01\x61\x78",
+        b"stream version 5
+object #0.7e0001
+  class desc #0.7e0000 \"java.util.ArrayList\" suid 7881d21d99c7619d flags 03
+    field I \"size\"
+    super null
+  data \"java.util.ArrayList\"
+    \"size\" = 00000001
+    note block 4: 00000001
+    note text #0.7e0002 \"a\"
+",
+    )?;
+    Ok(())
+}
+
+#[test]
+fn show_int_array(rt: HostRuntime) -> Result<(), Fail> {
+    shows(
+        &rt,
+        b"\xAC\xED\x00\x05\x75\x72\x00\x02\x5B\x49\x4D\xBA\x60\x26\x76\xEA\xB2\xA5\x02\x00\x00\x78\x70\x00\x00\x00\x02\x00\x00\x00\x01\xFF\xFF\xFF\xFF",
+        b"stream version 5
+array #0.7e0001 length 2
+  class desc #0.7e0000 \"[I\" suid 4dba602676eab2a5 flags 02
+    super null
+  [0] 00000001
+  [1] ffffffff
+",
+    )?;
+    Ok(())
+}
+
+#[test]
+fn show_reset_epochs(rt: HostRuntime) -> Result<(), Fail> {
+    shows(
+        &rt,
+        b"\xAC\xED\x00\x05\x74\x00\x01\x61\x79\x74\x00\x01\x62\x71\x00\x7E\x00\x00",
+        b"stream version 5
+text #0.7e0000 \"a\"
+reset
+text #1.7e0000 \"b\"
+ref #1.7e0000
+",
+    )?;
+    Ok(())
+}
+
+#[test]
+fn show_nothing(rt: HostRuntime) -> Result<(), Fail> {
+    shows(&rt, b"\xAC\xED\x00\x05", b"stream version 5\n")?;
+    Ok(())
+}
+
+/// The length of the text of `nest(999)`, from the definition of the text: 3 lines for the first array, with that of the
+/// version before them, 2 for each other array, indented by its level, and one for the null in the last one.
+const NEST_999_LENGTH: u64 = 2_047_027;
+
+/// Its lines go as deep as the arrays.
+#[test]
+fn show_nest_999(rt: HostRuntime) -> Result<(), Fail> {
+    let bytes = nest(rt.alloc(), 999)?;
+    let graph = graph_of(&rt, &bytes);
+    let mut page = Page::new(rt.alloc(), 4096, 10_000_000);
+    assert_eq!(rt; graph.show(rt.alloc(), &mut page)?, NEST_999_LENGTH);
+    assert_eq!(rt; page.bytes.len() as u64, NEST_999_LENGTH);
+    Ok(())
+}
+
+/// What went out is the beginning of the text that the fault counts, wherever the sink fails, and the graph still
+/// answers.
+#[test]
+fn show_fails_anywhere(rt: HostRuntime) -> Result<(), Fail> {
+    let graph = graph_of(&rt, LINKED_PAIR);
+    for room in 0..LINKED_PAIR_TEXT.len() {
+        let mut page = Page::new(rt.alloc(), 7, room);
+        let written = room as u64;
+        match graph.show(rt.alloc(), &mut page) {
+            Err(fault) => assert_eq!(rt; fault, GraphFault::Write { written }),
+            Ok(_) => panic!(rt; "it has no room for all"),
+        }
+        assert!(rt; page.failed);
+        assert!(rt; page.bytes.as_slice() == &LINKED_PAIR_TEXT[..room]);
+    }
+    shows_by(&rt, &graph, LINKED_PAIR_TEXT, 7)?;
+    Ok(())
+}
+
+/// Wherever an allocation is refused, what went out is the beginning of the text that the fault counts.
+#[test]
+fn show_in_any_memory(rt: HostRuntime) -> Result<(), Fail> {
+    let graph = Graph::read(rt.alloc(), LINKED_PAIR)?;
+    let mut page = Page::new(rt.alloc(), 4096, 1_000_000);
+    match graph.show(rt.alloc(), &mut page) {
+        Ok(count) => {
+            assert_eq!(rt; count, LINKED_PAIR_TEXT.len() as u64);
+            assert!(rt; page.bytes.as_slice() == LINKED_PAIR_TEXT);
+        }
+        Err(GraphFault::Write { written } | GraphFault::OutOfMemory { written }) => {
+            assert_eq!(rt; page.bytes.len() as u64, written);
+            assert!(rt; LINKED_PAIR_TEXT.starts_with(&page.bytes));
+        }
+    }
+    Ok(())
+}
