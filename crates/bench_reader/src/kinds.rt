@@ -21,8 +21,10 @@ pub enum Kind {
     Blocks,
     /// References to one string.
     References,
-    /// Towers of arrays, one inside the other.
+    /// Towers of 60,000 arrays, one inside the other.
     Nests,
+    /// The same of 900 arrays, which trees may have.
+    LowNests,
     /// Objects of a class with 1,000 layers, a byte in the highest and in the lowest.
     SparseChains,
     /// The same with a byte in each layer.
@@ -40,13 +42,14 @@ pub enum Kind {
 }
 
 /// Each kind, by the word that names it.
-pub const KINDS: [(&str, Kind); 13] = [
+pub const KINDS: [(&str, Kind); 14] = [
     ("strings", Kind::Strings),
     ("ints", Kind::Ints),
     ("objects", Kind::Objects),
     ("blocks", Kind::Blocks),
     ("references", Kind::References),
     ("nests", Kind::Nests),
+    ("low-nests", Kind::LowNests),
     ("chains-sparse", Kind::SparseChains),
     ("chains-full", Kind::FullChains),
     ("enums", Kind::Enums),
@@ -65,7 +68,8 @@ pub fn stream_of(alloc: Global, kind: Kind, size: u32) -> Result<Vec<u8>> {
         Kind::Objects => objects(&mut writer, size)?,
         Kind::Blocks => blocks(&mut writer, size)?,
         Kind::References => references(&mut writer, size)?,
-        Kind::Nests => nests(&mut writer, size)?,
+        Kind::Nests => nests(&mut writer, size, 60_000)?,
+        Kind::LowNests => nests(&mut writer, size, 900)?,
         Kind::SparseChains => chains(&mut writer, size, false)?,
         Kind::FullChains => chains(&mut writer, size, true)?,
         Kind::Enums => enums(&mut writer, size)?,
@@ -139,18 +143,21 @@ fn references(writer: &mut Writer, size: u32) -> Result<()> {
 }
 
 /// Each tower has 60,000 arrays of one element, the last of which is NULL.
-fn nests(writer: &mut Writer, size: u32) -> Result<()> {
+fn nests(writer: &mut Writer, size: u32, tower: u32) -> Result<()> {
     writer.class("[LA;", 2, &[])?;
     writer.put(&[TC_NULL])?;
-    for number in 0..size / 10 {
+    let mut left = tower;
+    for _ in 0..size / 10 {
         writer.put(&[TC_ARRAY])?;
         writer.back(0)?;
         writer.number(1)?;
-        if number % 60_000 == 59_999 {
+        left = left.saturating_sub(1);
+        if left == 0 {
             writer.put(&[TC_NULL])?;
+            left = tower;
         }
     }
-    if (size / 10) % 60_000 != 0 {
+    if left != tower {
         writer.put(&[TC_NULL])?;
     }
     Ok(())

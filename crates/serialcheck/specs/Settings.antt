@@ -11,7 +11,7 @@ use Rattle.jser_filter.specs.declared.ModulesFault.{ModulesFault}
 use Rattle.jser_filter.specs.Faults.{fault_text, modules_fault_text}
 use Rattle.jser_filter.specs.Filters.{IsFirstFault}
 use Rattle.jser_filter.specs.Pieces.{Piece}
-use Rattle.jser_filter.specs.Tables.{Line, ModuleTable, lines_of, table_of, AreSoundLines, IsFirstLineFault}
+use Rattle.jser_filter.specs.Tables.{ModuleTable, lines_of, table_of, AreSoundLines, IsFirstLineFault}
 
 -- the most bytes of a file of modules
 abbrev pub most_modules_bytes : ℕ

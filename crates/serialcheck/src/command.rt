@@ -1,8 +1,8 @@
 //! The program's command line, as clap reads it.
-ghost use Rattle.std.specs.Prelude.{◌≡◌, IfOk, false};
-ghost use Rattle.clap.specs.Words.{app_of, rule_of};
+ghost use Rattle.std.specs.Prelude.{◌≡◌, IfOk, codes, false};
+ghost use Rattle.clap.specs.Words.{app_of, new_app, rule_of};
 ghost use Rattle.clap.specs.declared.Command.{out-Command};
-ghost use Rattle.serialcheck.specs.App.{filter_rule, modules_rule, strict_rule, file_rule, check_app, the_app};
+ghost use Rattle.serialcheck.specs.App.{filter_rule, modules_rule, strict_rule, file_rule, check_app, show_app, list_app, versioned, the_app};
 
 use clap::{Arg, ArgAction, Command};
 use std::alloc::{AllocError, Global};
@@ -19,6 +19,32 @@ fn check_command<'a>(alloc: Global) -> Result<Command<'a>, AllocError>
         .arg(filter_arg(alloc))?
         .arg(modules_arg(alloc))?
         .arg(strict_arg(alloc))?
+        .arg(file_arg(alloc))
+}
+
+/// `serialcheck show FILE`.
+fn show_command<'a>(alloc: Global) -> Result<Command<'a>, AllocError>
+    ensures app { IfOk result (λ command. app_of command ≡ show_app) }
+    ensures local { IfOk result (λ command. (out-Command command).has_globals ≡ false) }
+{
+    Command::new(alloc, "show")
+        .about(
+            "Prints what a Java serialization stream holds, a line for each thing in it, and makes no object of it",
+        )
+        .arg(file_arg(alloc))
+}
+
+/// `serialcheck list [--filter T] [--modules M] FILE`.
+fn list_command<'a>(alloc: Global) -> Result<Command<'a>, AllocError>
+    ensures app { IfOk result (λ command. app_of command ≡ list_app) }
+    ensures local { IfOk result (λ command. (out-Command command).has_globals ≡ false) }
+{
+    Command::new(alloc, "list")
+        .about(
+            "Prints a line for each class name in a Java serialization stream: how often it stands there, what the filter says of it, and the name. The filter refuses nothing here",
+        )
+        .arg(filter_arg(alloc))?
+        .arg(modules_arg(alloc))?
         .arg(file_arg(alloc))
 }
 
@@ -66,12 +92,21 @@ fn file_arg<'a>(alloc: Global) -> Arg<'a>
 /// The version that `--version` tells.
 const VERSION: &str = "0.1.0";
 
+/// The program's command, without its subcommands.
+fn bare_command<'a>(alloc: Global) -> Command<'a>
+    ensures { app_of result ≡ versioned (new_app (codes "serialcheck")) }
+{
+    Command::new(alloc, "serialcheck")
+        .about("Checks and shows Java serialization streams, and runs none of their classes")
+        .version(VERSION)
+}
+
 /// The program's command, with its subcommands.
 pub(crate) fn command<'a>(alloc: Global) -> Result<Command<'a>, AllocError>
     ensures { IfOk result (λ command. app_of command ≡ the_app) }
 {
-    Command::new(alloc, "serialcheck")
-        .about("Checks Java serialization streams, and runs none of their classes")
-        .version(VERSION)
-        .subcommand(check_command(alloc)?)
+    let one = bare_command(alloc).subcommand(check_command(alloc)?)?;
+    let two = one.subcommand(show_command(alloc)?)?;
+    let all = two.subcommand(list_command(alloc)?)?;
+    Ok(all)
 }

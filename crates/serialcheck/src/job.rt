@@ -1,15 +1,16 @@
 //! What the program does: one job on an opened input, printed to an output; faults go to another one.
-ghost use Rattle.std.specs.Prelude.{◌≡◌, ◌⊎◌, ◌<◌, ◌++◌, IfOk, OnOk, IfSome, IsOkAnd, true, string_bytes};
-ghost use Rattle.std.specs.Fmt.{decimal};
-ghost use Rattle.std.specs.Io.KnownBytes.{Appends, Keeps};
-ghost use Rattle.serialcheck.specs.Lines.{yes_line, no_line, SaysYes, SaysNo, SaysAccepted, SaysRefused};
+ghost use Rattle.std.specs.Prelude.{◌≡◌, ◌⊎◌, IfSome, true};
+ghost use Rattle.std.specs.Io.KnownBytes.{Keeps};
+ghost use Rattle.serialcheck.specs.Lines.{SaysYes, SaysNo, SaysAccepted, SaysRefused, SaysFailed};
 
+use crate::answer::{print_line, text_of_refusal, text_of_report};
+use crate::list::list;
+use crate::show::show;
 use crate::status::{ACCEPTED, REFUSED, tell_failure};
-use jser_check::{CheckFault, Options, Refusal, Report, Stop, check_reader};
+use jser_check::{CheckFault, Options, Stop, check_reader};
 use jser_filter::Filter;
-use jser_prim::{Sink, Source, give_all};
-use std::alloc::{AllocError, Global};
-use std::fmt::Write;
+use jser_prim::{Sink, Source};
+use std::alloc::Global;
 
 /// What is to be done.
 #[derive(Debug, Drop)]
@@ -21,12 +22,21 @@ pub enum Job {
         /// Whether a name that no pattern matches is refused.
         strict: bool,
     },
+    /// Print the input as text, if it is a stream.
+    Show,
+    /// Print the checked names of the input, if it is a stream, with how often each stands there and what the filter
+    /// says of it. The filter refuses nothing.
+    List {
+        /// The filter, with its table of modules.
+        filter: Filter,
+    },
 }
 
 /// Does the job: reads `input`, prints the answer to `output`, and returns the status. Faults of the devices
 /// and a lack of memory are reported on `faults`; a fault of `faults` itself changes nothing.
 ///
-/// Nothing is printed to `output` before the input was accepted or refused.
+/// Nothing is printed to `output` before the input was accepted or refused. A check reads the input in pieces; the
+/// other jobs read it whole, at most 2^40 + 1 bytes, and keep it.
 pub fn run<R: Source, W: Sink, E: Sink>(
     alloc: Global,
     job: &Job,
@@ -36,7 +46,7 @@ pub fn run<R: Source, W: Sink, E: Sink>(
 ) -> u8
     ensures accepted { result ≡ 0 → IfSome (R.to_come input.old) (λ bytes. SaysAccepted job.now bytes (W.gone_out output.old) (W.gone_out output.new)) }
     ensures refused { result ≡ 1 → IfSome (R.to_come input.old) (λ bytes. SaysRefused job.now bytes (W.gone_out output.old) (W.gone_out output.new)) }
-    ensures failed { result ≡ 3 → (W.has_failed output.new ≡ true) ⊎ Keeps (W.gone_out output.old) (W.gone_out output.new) }
+    ensures failed { result ≡ 3 → SaysFailed job.now (R.to_come input.old) (W.has_failed output.new) (W.gone_out output.old) (W.gone_out output.new) }
     ensures status { (result ≡ 0) ⊎ ((result ≡ 1) ⊎ (result ≡ 3)) }
 {
     match job {
@@ -44,6 +54,8 @@ pub fn run<R: Source, W: Sink, E: Sink>(
             let options = Options { strict: *strict };
             check(alloc, filter, options, input, output, faults)
         }
+        Job::Show => show(alloc, input, output, faults),
+        Job::List { filter } => list(alloc, filter, input, output, faults),
     }
 }
 
@@ -69,62 +81,5 @@ fn check<R: Source, W: Sink, E: Sink>(
         }
         Err(CheckFault::Stop(_)) => tell_failure(faults, "out of memory\n"),
         Err(CheckFault::ReadFault) => tell_failure(faults, "read failed\n"),
-    }
-}
-
-/// `yes B bytes, C contents, R refs, depth D`
-fn text_of_report(alloc: Global, report: Report) -> Result<String, AllocError>
-    ensures { IfOk result (λ text. string_bytes text ≡ yes_line report) }
-{
-    let mut text = String::new(alloc);
-    push_count(&mut text, "yes ", report.bytes)?;
-    push_count(&mut text, " bytes, ", report.contents)?;
-    push_count(&mut text, " contents, ", report.refs)?;
-    push_count(&mut text, " refs, depth ", report.depth)?;
-    text.push_str("\n")?;
-    Ok(text)
-}
-
-/// `no at A to E: REASON`
-fn text_of_refusal(alloc: Global, refusal: Refusal) -> Result<String, AllocError>
-    ensures { IfOk result (λ text. string_bytes text ≡ no_line refusal) }
-{
-    let mut text = String::new(alloc);
-    push_count(&mut text, "no at ", refusal.from_byte)?;
-    push_count(&mut text, " to ", refusal.to_byte)?;
-    text.push_str(": ")?;
-    text.push_str(refusal.reason.name())?;
-    text.push_str("\n")?;
-    Ok(text)
-}
-
-/// Appends some words and a number in decimal.
-fn push_count(text: &mut String, words: &str, count: u64) -> Result<(), AllocError>
-    ensures { OnOk result (string_bytes text.new ≡ string_bytes text.old ++ words.now ++ decimal count) }
-{
-    text.push_str(words)?;
-    write!(text, "{count}")?;
-    Ok(())
-}
-
-/// Prints a line, and returns its status, or tells why it could not be printed.
-#[tactic(auto, using(crate::proofs::Lines::kept))]
-fn print_line<W: Sink, E: Sink>(
-    output: &mut W,
-    faults: &mut E,
-    line: Result<String, AllocError>,
-    status: u8,
-) -> u8
-    requires { status < 3 }
-    ensures printed { result ≡ status → IsOkAnd line (λ text. Appends (W.gone_out output.old) (W.gone_out output.new) (string_bytes text)) }
-    ensures failed { result ≡ 3 → (W.has_failed output.new ≡ true) ⊎ Keeps (W.gone_out output.old) (W.gone_out output.new) }
-    ensures status { (result ≡ status) ⊎ (result ≡ 3) }
-{
-    let Ok(text) = line else {
-        return tell_failure(faults, "out of memory\n");
-    };
-    match give_all(output, text.as_bytes()) {
-        Ok(()) => status,
-        Err(_) => tell_failure(faults, "write failed\n"),
     }
 }

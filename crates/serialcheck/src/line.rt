@@ -22,6 +22,20 @@ pub enum Line {
         /// The file that holds the stream, or `-` for standard input.
         file: String,
     },
+    /// Show a stream as text.
+    Show {
+        /// The file that holds the stream, or `-` for standard input.
+        file: String,
+    },
+    /// List the class names of a stream.
+    List {
+        /// The filter's text, empty where none is given.
+        filter: String,
+        /// The file of modules, if one is named.
+        modules: Option<String>,
+        /// The file that holds the stream, or `-` for standard input.
+        file: String,
+    },
 }
 
 /// Why a command line asks for nothing.
@@ -80,6 +94,18 @@ fn asked(alloc: Global, name: &str, matches: &ArgMatches<'_>) -> Result<Option<L
             filter: text_of(alloc, matches, "filter")?,
             strict: is_strict(matches),
             modules: value_of(alloc, matches, "modules")?,
+            file,
+        }));
+    }
+    if name == "show" {
+        return Ok(Some(Line::Show { file }));
+    }
+    if name == "list" {
+        let filter = text_of(alloc, matches, "filter")?;
+        let modules = value_of(alloc, matches, "modules")?;
+        return Ok(Some(Line::List {
+            filter,
+            modules,
             file,
         }));
     }

@@ -1,4 +1,4 @@
-//! serialcheck: checks Java serialization streams, and runs none of their classes.
+//! serialcheck: checks and shows Java serialization streams, and runs none of their classes.
 //!
 //! `main` reads the command line, the filter and the table of modules, and then opens the input; `job::run` does the
 //! work on what was opened.
@@ -8,10 +8,16 @@ ghost use Rattle.std.specs.Prelude.{◌≡◌, ◌⊎◌, ◌≤◌, IfOk, IfErr
 ghost use Rattle.jser_prim.specs.ModifiedUtf8.{utf16_units};
 ghost use Rattle.jser_filter.specs.Pieces.{pieces_of};
 
+mod answer;
 mod command;
+mod counting;
+mod input;
 mod job;
+mod keyed;
 mod line;
+mod list;
 mod settings;
+mod show;
 mod status;
 #[cfg(test)]
 mod tests;
@@ -73,6 +79,19 @@ fn status_of<W: Sink, E: Sink>(rt: &HostRuntime, output: &mut W, faults: &mut E)
                 let job = Job::Check { filter, strict };
                 on_file(rt, &job, file.as_str(), output, faults)
             }
+            Err(status) => status,
+        },
+        Ok(Some(Line::Show { file })) => on_file(rt, &Job::Show, file.as_str(), output, faults),
+        Ok(
+            Some(
+                Line::List {
+                    filter,
+                    modules,
+                    file,
+                },
+            ),
+        ) => match filter_with(rt, filter.as_str(), modules, faults) {
+            Ok(filter) => on_file(rt, &Job::List { filter }, file.as_str(), output, faults),
             Err(status) => status,
         },
         Ok(None) => tell_misuse(faults, "no command\n"),

@@ -1,5 +1,5 @@
-//! All the bytes of a source, if they are not too many.
-ghost use Rattle.std.specs.Prelude.{◌≡◌, ◌<◌, ◌≤◌, ◌+◌, IfOk, OnOk, IfSome, length, vec_len, true, false};
+//! The bytes of a source, if they are not too many.
+ghost use Rattle.std.specs.Prelude.{◌≡◌, ◌<◌, ◌≤◌, ◌+◌, ◌^◌, IfOk, OnOk, IfSome, length, take, vec_len, true, false};
 ghost use Rattle.std.specs.Io.KnownBytes.{IsAtEnd};
 ghost use Rattle.serialcheck.specs.Settings.{most_modules_bytes};
 ghost use Rattle.serialcheck.specs.Whole.{ReadsOnto};
@@ -24,29 +24,53 @@ const MOST: usize = 16_777_216;
 /// How many bytes a read asks for at most.
 const BUFFER_LEN: usize = 65_536;
 
-/// All the bytes of a source.
+/// All the bytes of a file of modules.
 ///
 /// # Errors
 ///
 /// `WholeFault`, with the reason.
-#[tactic(auto, using(crate::proofs::WholeLemmas::reads_on, crate::proofs::WholeLemmas::reads_nothing, crate::proofs::WholeLemmas::consumed_all))]
 pub(crate) fn read_whole<R: Source>(alloc: Global, source: &mut R) -> Result<Vec<u8>, WholeFault>
     ensures bytes { IfOk result (λ whole. IfSome (R.to_come source.old) (λ bytes. bytes ≡ whole.items)) }
     ensures within { IfOk result (λ whole. vec_len whole ≤ most_modules_bytes) }
 {
+    let whole = match read_front(alloc, source, MOST) {
+        Ok(front) => front,
+        Err(fault) => return Err(fault),
+    };
+    if whole.len() > MOST {
+        return Err(WholeFault::TooLong);
+    }
+    Ok(whole)
+}
+
+/// The first bytes of a source: all of them, or one more than `most` where there are more than that.
+///
+/// # Errors
+///
+/// `WholeFault::Failed` where a read failed, `WholeFault::OutOfMemory` where memory ran out.
+#[tactic(auto, using(crate::proofs::WholeLemmas::reads_on, crate::proofs::WholeLemmas::reads_nothing, crate::proofs::WholeLemmas::front_at_end, crate::proofs::WholeLemmas::front_of_many))]
+pub(crate) fn read_front<R: Source>(
+    alloc: Global,
+    source: &mut R,
+    most: usize,
+) -> Result<Vec<u8>, WholeFault>
+    requires { most ≤ 2 ^ 40 }
+    ensures bytes { IfOk result (λ front. IfSome (R.to_come source.old) (λ bytes. take (most + 1) bytes ≡ front.items)) }
+    ensures within { IfOk result (λ front. vec_len front ≤ most + 1) }
+{
     let Ok(mut buffer) = new_buffer(alloc) else {
         return Err(WholeFault::OutOfMemory);
     };
-    let mut all = Vec::new(alloc);
-    'reads: while all.len() <= MOST {
-        let room = (MOST + 1 - all.len()).min(buffer.len());
-        match read_some(source, &mut buffer[..room], &mut all) {
+    let mut front = Vec::new(alloc);
+    'reads: while front.len() <= most {
+        let room = (most + 1 - front.len()).min(buffer.len());
+        match read_some(source, &mut buffer[..room], &mut front) {
             Err(fault) => return Err(fault),
-            Ok(false) => return Ok(all),
+            Ok(false) => return Ok(front),
             Ok(true) => {}
         }
     }
-    Err(WholeFault::TooLong)
+    Ok(front)
 }
 
 /// Room for the bytes of a read.

@@ -61,6 +61,53 @@ fn words(rt: HostRuntime) {
 }
 
 #[test]
+fn words_of_show(rt: HostRuntime) {
+    let asked = line_of(rt.alloc(), &["serialcheck", "show", "a.ser"]);
+    let Ok(Some(Line::Show { file })) = &asked else {
+        assert!(rt; false, "no show");
+        return;
+    };
+    assert_eq!(rt; file.as_str(), "a.ser");
+}
+
+#[test]
+fn words_of_list(rt: HostRuntime) {
+    for (words, wanted) in [
+        (&["serialcheck", "list", "-"][..], ("", None, "-")),
+        (
+            &[
+                "serialcheck",
+                "list",
+                "--modules",
+                "m.txt",
+                "--filter",
+                "!*",
+                "a.ser",
+            ][..],
+            ("!*", Some("m.txt"), "a.ser"),
+        ),
+    ] {
+        let asked = line_of(rt.alloc(), words);
+        let Ok(
+            Some(
+                Line::List {
+                    filter,
+                    modules,
+                    file,
+                },
+            ),
+        ) = &asked
+        else {
+            assert!(rt; false, "no list");
+            return;
+        };
+        assert_eq!(rt; filter.as_str(), wanted.0);
+        assert_eq!(rt; modules.as_ref().map(String::as_str), wanted.1);
+        assert_eq!(rt; file.as_str(), wanted.2);
+    }
+}
+
+#[test]
 fn no_command(rt: HostRuntime) {
     let asked = line_of(rt.alloc(), &["serialcheck"]);
     assert!(rt; matches!(&asked, Ok(None)));
@@ -68,7 +115,7 @@ fn no_command(rt: HostRuntime) {
 
 #[test]
 fn words_that_are_wrong(rt: HostRuntime) {
-    for wrong in ["check", "--help", "show", "--version"] {
+    for wrong in ["check", "--help", "show", "list", "tree", "--version"] {
         let words = ["serialcheck", wrong];
         let asked = line_of(rt.alloc(), &words);
         assert!(rt; matches!(&asked, Err(LineFault::Clap(_))), "{wrong}");
@@ -78,6 +125,16 @@ fn words_that_are_wrong(rt: HostRuntime) {
         let asked = line_of(rt.alloc(), &words);
         assert!(rt; matches!(&asked, Err(LineFault::Clap(_))), "{wrong}");
     }
+    for command in ["show", "list"] {
+        let words = ["serialcheck", command, "b.ser", "--strict"];
+        let asked = line_of(rt.alloc(), &words);
+        assert!(rt; matches!(&asked, Err(LineFault::Clap(_))), "{command}");
+    }
+    let asked = line_of(
+        rt.alloc(),
+        &["serialcheck", "show", "b.ser", "--filter", "!*"],
+    );
+    assert!(rt; matches!(&asked, Err(LineFault::Clap(_))));
 }
 
 #[test]

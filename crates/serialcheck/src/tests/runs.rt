@@ -1,19 +1,12 @@
-//! What `run` prints, and the status that it returns.
+//! What `run` prints of a check, and the status that it returns.
 
 use crate::job::{Job, run};
-use crate::tests::{Broken, Page, new_page};
+use crate::tests::streams::{ABC_NULL_REF, ARRAY_LIST};
+use crate::tests::{Broken, assert_fails, assert_prints, new_page};
 use jser_filter::{Filter, Modules};
 use jser_prim::FromRead;
-use std::alloc::{AllocGlobal, Global};
-use std::process::Abort;
+use std::alloc::Global;
 use std::test::Fail;
-
-/// A string, NULL and a reference to the string.
-const ABC_NULL_REF: [u8; 16] = *b"\xAC\xED\x00\x05\x74\x00\x03abc\x70\x71\x00\x7E\x00\x00";
-
-/// An `ArrayList` that holds the string `a`.
-const ARRAY_LIST: [u8; 62] =
-    *b"\xAC\xED\x00\x05\x73\x72\x00\x13java.util.ArrayList\x78\x81\xD2\x1D\x99\xC7\x61\x9D\x03\x00\x01\x49\x00\x04size\x78\x70\x00\x00\x00\x01\x77\x04\x00\x00\x00\x01\x74\x00\x01a\x78";
 
 /// The job of a check under the filter of this text.
 fn check_job(alloc: Global, text: &str, strict: bool) -> Result<Job, Fail> {
@@ -21,28 +14,15 @@ fn check_job(alloc: Global, text: &str, strict: bool) -> Result<Job, Fail> {
     Ok(Job::Check { filter, strict })
 }
 
-/// The job on these bytes prints this line, and returns this status, also where the output takes a byte a call.
-fn assert_prints(rt: &(impl Abort + AllocGlobal), job: &Job, bytes: &[u8], status: u8, line: &str) {
-    for most in [1, 1000] {
-        let mut output = new_page(rt.alloc(), most, 1000);
-        let mut faults = new_page(rt.alloc(), 1000, 1000);
-        let mut input = FromRead::new(bytes);
-        let given = run(rt.alloc(), job, &mut input, &mut output, &mut faults);
-        assert_eq!(rt; given, status, "{line}");
-        assert!(rt; output.holds(line), "{line}");
-        assert!(rt; faults.holds(""), "{line}");
-    }
-}
-
 #[test]
 fn prints_the_counts(rt: HostRuntime) -> Result<(), Fail> {
     let job = check_job(rt.alloc(), "", false)?;
     let line = "yes 16 bytes, 3 contents, 3 refs, depth 1\n";
-    assert_prints(&rt, &job, &ABC_NULL_REF, 0, line);
+    assert_prints(&rt, &job, ABC_NULL_REF, 0, line);
     let line = "yes 4 bytes, 0 contents, 0 refs, depth 0\n";
     assert_prints(&rt, &job, b"\xAC\xED\x00\x05", 0, line);
     let line = "yes 62 bytes, 1 contents, 3 refs, depth 2\n";
-    assert_prints(&rt, &job, &ARRAY_LIST, 0, line);
+    assert_prints(&rt, &job, ARRAY_LIST, 0, line);
     Ok(())
 }
 
@@ -73,7 +53,7 @@ fn asks_the_filter(rt: HostRuntime) -> Result<(), Fail> {
         ("maxdepth=1", false, 1, "no at 46 to 47: DepthExceeded\n"),
     ] {
         let job = check_job(rt.alloc(), text, strict)?;
-        assert_prints(&rt, &job, &ARRAY_LIST, status, line);
+        assert_prints(&rt, &job, ARRAY_LIST, status, line);
     }
     Ok(())
 }
@@ -87,20 +67,8 @@ fn asks_the_table_of_modules(rt: HostRuntime) -> Result<(), Fail> {
         strict: false,
     };
     let line = "no at 6 to 27: ClassRejected\n";
-    assert_prints(&rt, &job, &ARRAY_LIST, 1, line);
+    assert_prints(&rt, &job, ARRAY_LIST, 1, line);
     Ok(())
-}
-
-/// What a run leaves in its output and in its faults, and its status.
-fn assert_fails(
-    rt: &impl Abort,
-    status: u8,
-    (output, printed): (&Page, &str),
-    (faults, told): (&Page, &str),
-) {
-    assert_eq!(rt; status, 3);
-    assert!(rt; output.holds(printed), "{printed}");
-    assert!(rt; faults.holds(told), "{told}");
 }
 
 #[test]
@@ -121,7 +89,7 @@ fn run_write_fails(rt: HostRuntime) -> Result<(), Fail> {
     for (room, front) in [(0, ""), (7, "yes 16 ")] {
         let mut output = new_page(rt.alloc(), 3, room);
         let mut faults = new_page(rt.alloc(), 1000, 1000);
-        let mut input = FromRead::new(&ABC_NULL_REF[..]);
+        let mut input = FromRead::new(ABC_NULL_REF);
         let status = run(rt.alloc(), &job, &mut input, &mut output, &mut faults);
         assert_fails(&rt, status, (&output, front), (&faults, "write failed\n"));
     }
