@@ -41,6 +41,13 @@ pub enum Kind {
     Proxies,
 }
 
+impl Kind {
+    /// Whether its objects have many superclasses: a graph takes a step for each of them.
+    pub fn has_chains(self) -> bool {
+        matches!(self, Kind::SparseChains | Kind::FullChains)
+    }
+}
+
 /// Each kind, by the word that names it.
 pub const KINDS: [(&str, Kind); 14] = [
     ("strings", Kind::Strings),

@@ -34,18 +34,20 @@ enum Way {
 fn main(rt: HostRuntime) -> Result<()> {
     let Some(asked) = env::args(&rt)?.nth(1) else {
         for (_, kind) in KINDS {
-            let _ = measured(&rt, rt.alloc(), &stream_of(rt.alloc(), kind, 20_000)?)?;
+            let stream = stream_of(rt.alloc(), kind, 2_000)?;
+            let _ = measured(&rt, rt.alloc(), &stream, kind.has_chains())?;
         }
         return Ok(());
     };
     let Ok(megabytes) = asked.parse::<u16>() else {
-        let speeds = measured(&rt, rt.alloc(), &read(&rt, asked.as_str())?)?;
+        let speeds = measured(&rt, rt.alloc(), &read(&rt, asked.as_str())?, false)?;
         println!(rt; "{speeds}")?;
         return Ok(());
     };
     let size = u32::from(megabytes).saturating_mul(1_000_000);
     for (name, kind) in KINDS {
-        let speeds = measured(&rt, rt.alloc(), &stream_of(rt.alloc(), kind, size)?)?;
+        let stream = stream_of(rt.alloc(), kind, size)?;
+        let speeds = measured(&rt, rt.alloc(), &stream, kind.has_chains())?;
         println!(rt; "{name}: {speeds}")?;
     }
     Ok(())
@@ -58,7 +60,8 @@ struct Speeds {
     skip: u64,
     /// None where the stream is deeper than trees may be.
     trees: Option<u64>,
-    graphs: GraphSpeeds,
+    /// None of a stream of long chains, of which graphs would take too long.
+    graphs: Option<GraphSpeeds>,
 }
 
 impl fmt::Display for Speeds {
@@ -68,17 +71,25 @@ impl fmt::Display for Speeds {
             Some(trees) => write!(f, ", trees {trees} MB/s")?,
             None => write!(f, ", too deep for trees")?,
         }
-        write!(f, "{}", self.graphs)
+        match self.graphs {
+            Some(graphs) => write!(f, "{graphs}"),
+            None => write!(f, ", chains too long for graphs"),
+        }
     }
 }
 
 /// How fast a stream is read in each way: the best of three times.
-fn measured(rt: &impl Clock, alloc: Global, stream: &[u8]) -> Result<Speeds> {
+fn measured(rt: &impl Clock, alloc: Global, stream: &[u8], has_chains: bool) -> Result<Speeds> {
+    let graphs = if has_chains {
+        None
+    } else {
+        Some(best_of_graphs(rt, alloc, stream)?)
+    };
     Ok(Speeds {
         next: best(rt, alloc, stream, Way::Next)?,
         skip: best(rt, alloc, stream, Way::Skip)?,
         trees: best_of_trees(rt, alloc, stream)?,
-        graphs: best_of_graphs(rt, alloc, stream)?,
+        graphs,
     })
 }
 
