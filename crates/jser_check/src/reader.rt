@@ -3,7 +3,8 @@ ghost use Rattle.std.specs.Prelude.{◌≡◌, ◌≢◌, ◌+◌, ◌<◌, ◌�
 ghost use Rattle.std.specs.Io.KnownBytes.{IsAtEnd};
 ghost use Rattle.jser_grammar.specs.Parts.{IsBytes};
 ghost use Rattle.jser_reader.specs.ReaderStates.{StandsFor};
-ghost use Rattle.jser_check.specs.Admitted.{most_bytes, gate_of_filter};
+ghost use Rattle.jser_grammar.specs.Caps.{most_bytes};
+ghost use Rattle.jser_check.specs.Admitted.{gate_of_filter};
 ghost use Rattle.jser_check.specs.Answers.{Reports, Refuses, CarriesFirst};
 ghost use Rattle.jser_check.specs.Sources.{TakesAtMost, ReadTells, ReadsTell, FailsWith};
 ghost use Rattle.jser_check.specs.SourceAnswers.{IfFaultRefused, Undecided, TakesFew, SourceTells};
