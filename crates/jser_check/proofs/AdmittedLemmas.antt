@@ -13,7 +13,8 @@ use Rattle.jser_reading.specs.GateLimits.{Each}
 use Rattle.jser_verdict.specs.Gates.{pass}
 use Rattle.jser_verdict.specs.Passing.{Passes}
 use Rattle.jser_check.specs.declared.gate.Options.{Options}
-use Rattle.jser_check.specs.Admitted.{most_bytes, most_depth, most_refs, most_array, IsWithin, AdmitsAt, AdmitsName, IsAdmitted, lesser, undecided_answer, answer_at, gate_of_filter}
+use Rattle.jser_grammar.specs.Caps.{most_bytes, most_depth, most_refs, most_array}
+use Rattle.jser_check.specs.Admitted.{IsWithin, AdmitsAt, AdmitsName, IsAdmitted, lesser, undecided_answer, answer_at, gate_of_filter}
 
 -- ---- limits
 

@@ -22,7 +22,8 @@ use Rattle.jser_filter.specs.Filters.{FilterView}
 use Rattle.jser_check.specs.declared.answer.CheckFault.{CheckFault}
 use Rattle.jser_check.specs.declared.answer.CheckFault.TheVariants as fault
 use Rattle.jser_check.specs.declared.gate.Options.{Options}
-use Rattle.jser_check.specs.Admitted.{most_bytes, FilterWith, gate_of_filter}
+use Rattle.jser_grammar.specs.Caps.{most_bytes}
+use Rattle.jser_check.specs.Admitted.{FilterWith, gate_of_filter}
 use Rattle.jser_check.specs.Feeding.{RefusesIn, StopCases}
 use Rattle.jser_check.specs.Answers.{report_of, Reports, CarriesFirst, Refuses, IfRefused, IsRightOf, Tells}
 use Rattle.jser_check.specs.Sources.{read_bytes, TakesAtMost, Taken, Stopped, TakenAll, ReadsTell}

@@ -9,7 +9,7 @@ use Rattle.jser_reader.specs.declared.Stop.TheVariants as stop
 use Rattle.jser_reader.specs.declared.tally.Tally.{Tally}
 use Rattle.jser_reader.specs.Readers.{Seen}
 use Rattle.jser_reader.specs.ReaderStates.{Reading, StandsFor}
-use Rattle.jser_check.specs.Admitted.{most_bytes}
+use Rattle.jser_grammar.specs.Caps.{most_bytes}
 use Rattle.jser_check.specs.Feeding.{Fed, StopCases, StopsIn}
 use Rattle.jser_check.specs.declared.answer.CheckFault.{CheckFault}
 use Rattle.jser_check.specs.declared.answer.CheckFault.TheVariants as fault

@@ -7,27 +7,10 @@ use Rattle.jser_grammar.specs.Trees.{ContentTrees}
 use Rattle.jser_grammar.specs.Streams.{IsStreamOf}
 use Rattle.jser_grammar.specs.CheckedNames.{checked_names}
 use Rattle.jser_grammar.specs.Counts.{depth_of, refs_of, array_lengths, epoch_handles}
+use Rattle.jser_grammar.specs.Caps.{most_bytes, most_depth, most_refs, most_array, most_handles}
 use Rattle.jser_reading.specs.GateLimits.{Each}
 use Rattle.jser_verdict.specs.Gates.{Gate, Answer, pass, rejected, unmatched}
 use Rattle.jser_check.specs.declared.gate.Options.{Options}
-
--- The greatest limits that there are: 2^40 bytes, depth 65,535, 2^63 - 1 places, 2^31 - 1 elements in an array; and
--- handles go from 0x7E0000 to 0x7FFFFFFF.
-
-abbrev pub most_bytes : ℕ
-most_bytes = 2 ^ 40
-
-abbrev pub most_depth : ℕ
-most_depth = 65535
-
-abbrev pub most_refs : ℕ
-most_refs = 2 ^ 63 - 1
-
-abbrev pub most_array : ℕ
-most_array = 2 ^ 31 - 1
-
-abbrev pub most_handles : ℕ
-most_handles = 2139226112
 
 -- at most the limit of a filter, if it sets one, and at most the greatest
 abbrev pub IsWithin : (limit : Option ℕ) → (most n : ℕ) → Type 0

@@ -4,7 +4,8 @@ use Rattle.std.proofs.Math.Nat.{min-le_right, le_refl}
 use Rattle.jser_filter.specs.Filters.{FilterView, limits_of}
 use Rattle.jser_verdict.specs.Gates.{IsGate}
 use Rattle.jser_check.specs.declared.gate.Options.{Options}
-use Rattle.jser_check.specs.Admitted.{most_bytes, most_depth, most_refs, most_array, most_handles, lesser, gate_of_filter}
+use Rattle.jser_grammar.specs.Caps.{most_bytes, most_depth, most_refs, most_array, most_handles}
+use Rattle.jser_check.specs.Admitted.{lesser, gate_of_filter}
 
 lesser_within : (limit : Option ℕ) (most : ℕ) → lesser limit most ≤ most
 lesser_within None most = le_refl most

@@ -7,7 +7,7 @@ use Rattle.jser_reader.specs.declared.Stop.{Stop}
 use Rattle.jser_reader.specs.ReaderStates.{Reading, StandsFor}
 use Rattle.jser_check.specs.declared.answer.CheckFault.{CheckFault}
 use Rattle.jser_check.specs.declared.answer.CheckFault.TheVariants as fault
-use Rattle.jser_check.specs.Admitted.{most_bytes}
+use Rattle.jser_grammar.specs.Caps.{most_bytes}
 use Rattle.jser_check.specs.Feeding.{Fed, StopCases}
 
 -- how many bytes a read asks for at most

@@ -6,6 +6,7 @@ ghost use Rattle.jser_verdict.specs.Passing.{Passes};
 ghost use Rattle.jser_check.specs.Admitted.{lesser, answer_at, gate_of_filter, IsAdmitted};
 
 use jser_filter::{Filter, Verdict};
+use jser_grammar::caps::{MOST_ARRAY, MOST_BYTES, MOST_DEPTH, MOST_HANDLES, MOST_REFS};
 use jser_reader::{Answer, Gate};
 use std::marker::Model;
 
@@ -55,23 +56,23 @@ impl<'f> Gate for FilterGate<'f> {
     }
 
     fn max_bytes(&self) -> u64 {
-        lesser(self.filter.limits().bytes, 0x100_0000_0000)
+        lesser(self.filter.limits().bytes, MOST_BYTES)
     }
 
     fn max_depth(&self) -> u32 {
-        lesser(self.filter.limits().depth, 65_535) as u32
+        lesser(self.filter.limits().depth, u64::from(MOST_DEPTH)) as u32
     }
 
     fn max_refs(&self) -> u64 {
-        lesser(self.filter.limits().refs, 0x7FFF_FFFF_FFFF_FFFF)
+        lesser(self.filter.limits().refs, MOST_REFS)
     }
 
     fn max_array(&self) -> u32 {
-        lesser(self.filter.limits().array, 0x7FFF_FFFF) as u32
+        lesser(self.filter.limits().array, u64::from(MOST_ARRAY)) as u32
     }
 
     fn max_handles(&self) -> u32 {
-        2_139_226_112
+        MOST_HANDLES
     }
 
     ghost use Rattle.jser_check.specs.Caps.{keeps_caps};

@@ -3,7 +3,8 @@ ghost use Rattle.std.specs.Prelude.{◌≡◌, ◌≢◌, ◌+◌, ◌<◌, ◌�
 ghost use Rattle.std.specs.Io.KnownBytes.{IsAtEnd};
 ghost use Rattle.jser_grammar.specs.Parts.{IsBytes};
 ghost use Rattle.jser_reader.specs.ReaderStates.{StandsFor};
-ghost use Rattle.jser_check.specs.Admitted.{most_bytes, gate_of_filter};
+ghost use Rattle.jser_grammar.specs.Caps.{most_bytes};
+ghost use Rattle.jser_check.specs.Admitted.{gate_of_filter};
 ghost use Rattle.jser_check.specs.Answers.{Reports, Refuses, CarriesFirst};
 ghost use Rattle.jser_check.specs.Sources.{TakesAtMost, ReadTells, ReadsTell, FailsWith};
 ghost use Rattle.jser_check.specs.SourceAnswers.{IfFaultRefused, Undecided, TakesFew, SourceTells};
@@ -11,12 +12,10 @@ ghost use Rattle.jser_check.specs.SourceAnswers.{IfFaultRefused, Undecided, Take
 use crate::answer::{CheckFault, Report};
 use crate::gate::{FilterGate, Options};
 use jser_filter::Filter;
+use jser_grammar::caps::MOST_BYTES;
 use jser_prim::Source;
 use jser_reader::{Gate, Reader, Stop, Totals};
 use std::alloc::{AllocError, Global};
-
-/// The most bytes that a stream may have.
-const BYTE_CAP: u64 = 0x100_0000_0000;
 
 /// How many bytes a read asks for at most.
 const BUFFER_LEN: usize = 65_535;
@@ -94,7 +93,7 @@ fn read_whole<R: Source, G: Gate>(
     };
     let mut taken: u64 = 0;
     'reads: loop {
-        let room = (BYTE_CAP + 1 - taken).min(buffer.len() as u64) as usize;
+        let room = (MOST_BYTES + 1 - taken).min(buffer.len() as u64) as usize;
         match read_some(source, reader, &mut buffer[..room]) {
             Ok(0) => return Ok(()),
             Ok(count) => taken += count as u64,

@@ -1,3 +1,5 @@
+pub mod Wire
+pub mod Caps
 pub mod Codes
 pub mod Trees
 pub mod Spelling

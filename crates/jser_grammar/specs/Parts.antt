@@ -10,6 +10,7 @@ use Rattle.jser_table.specs.Names.{NameKind, plain_name, array_name, malformed_n
 use Rattle.jser_grammar.specs.Codes.{PrimCode, size_of, prim_code_of, is_object_code}
 use Rattle.jser_grammar.specs.Trees.{TextPlaceTree, new_text, back_text, FieldTree, PrimTree}
 use Rattle.jser_grammar.specs.TableAfter.{Entries, after_type}
+use Rattle.jser_grammar.specs.Wire.{BASE_WIRE_HANDLE}
 
 -- the modified UTF-8 of a text has a length of 2 bytes, or of 8 bytes and below 2 ^ 63
 abbrev pub text_bound : Bool → ℕ
@@ -38,7 +39,7 @@ IsFlags flags = (flags < 32) × IsFalse (is_serializable flags && is_externaliza
 
 -- the handle has four bytes
 abbrev pub IsHandle : ℕ → Type 0
-IsHandle n = 0x7E0000 + n < 2 ^ 32
+IsHandle n = BASE_WIRE_HANDLE + n < 2 ^ 32
 
 -- a reference in a value place names any handle before it
 abbrev pub IsBack : Entries → ℕ → Type 0

@@ -7,6 +7,7 @@ use Rattle.jser_prim.specs.Bytes.{big_bytes}
 use Rattle.jser_prim.specs.ModifiedUtf8.{modified_utf8}
 use Rattle.jser_grammar.specs.Codes.{size_of}
 use Rattle.jser_grammar.specs.Trees.{TextPlaceTree, new_text, back_text, FieldTree, PrimTree, ValueTree, null, back, string, descriptor, class_object, array, enum_constant, object, DescTree, plain, proxy, ClassPlaceTree, no_class, back_class, new_class, BodyTree, raw_body, value_body, ValueTrees, no_values, value_and, value_count, section, SectionTrees, no_sections, section_and, NotesTree, no_notes, annotation, ContentTree, block, reset, content, ContentTrees, no_contents, content_and}
+use Rattle.jser_grammar.specs.Wire.{TC_NULL, TC_REFERENCE, TC_CLASSDESC, TC_OBJECT, TC_STRING, TC_ARRAY, TC_CLASS, TC_BLOCKDATA, TC_ENDBLOCKDATA, TC_RESET, TC_BLOCKDATALONG, TC_LONGSTRING, TC_PROXYCLASSDESC, TC_ENUM, BASE_WIRE_HANDLE, stream_header}
 
 -- (utf): the length of the modified UTF-8 in 2 bytes, and the modified UTF-8
 abbrev pub utf : List ℕ → List ℕ
@@ -18,12 +19,12 @@ long_utf units = big_bytes 8 (length (modified_utf8 units)) ++ modified_utf8 uni
 
 -- prevObject: TC_REFERENCE (int)handle
 abbrev pub reference : ℕ → List ℕ
-reference n = 0x71 ∷ big_bytes 4 (0x7E0000 + n)
+reference n = TC_REFERENCE ∷ big_bytes 4 (BASE_WIRE_HANDLE + n)
 
 -- newString: TC_STRING newHandle (utf) | TC_LONGSTRING newHandle (long-utf)
 abbrev pub string_spelling : Bool → List ℕ → List ℕ
-string_spelling false units = 0x74 ∷ utf units
-string_spelling true units = 0x7C ∷ long_utf units
+string_spelling false units = TC_STRING ∷ utf units
+string_spelling true units = TC_LONGSTRING ∷ long_utf units
 
 abbrev pub text_place_spelling : TextPlaceTree → List ℕ
 text_place_spelling (new_text t) = string_spelling t.long t.units
@@ -54,32 +55,32 @@ prims_spelling (p ∷ ps) = prim_spelling p ++ prims_spelling ps
 
 -- blockdatashort: TC_BLOCKDATA (unsigned byte)size; blockdatalong: TC_BLOCKDATALONG (int)size
 abbrev pub block_head : Bool → ℕ → List ℕ
-block_head false size = 0x77 ∷ big_bytes 1 size
-block_head true size = 0x7A ∷ big_bytes 4 size
+block_head false size = TC_BLOCKDATA ∷ big_bytes 1 size
+block_head true size = TC_BLOCKDATALONG ∷ big_bytes 4 size
 
 abbrev mutual
   pub value_spelling : ValueTree → List ℕ
-  value_spelling null = 0x70 ∷ []
+  value_spelling null = TC_NULL ∷ []
   value_spelling (back n) = reference n
   value_spelling (string t) = string_spelling t.long t.units
   value_spelling (descriptor d) = desc_spelling d
-  value_spelling (class_object c) = 0x76 ∷ class_spelling c
-  value_spelling (array c b) = 0x75 ∷ (class_spelling c ++ body_spelling b)
-  value_spelling (enum_constant c t) = 0x7E ∷ (class_spelling c ++ text_place_spelling t)
-  value_spelling (object c ss) = 0x73 ∷ (class_spelling c ++ sections_spelling ss)
+  value_spelling (class_object c) = TC_CLASS ∷ class_spelling c
+  value_spelling (array c b) = TC_ARRAY ∷ (class_spelling c ++ body_spelling b)
+  value_spelling (enum_constant c t) = TC_ENUM ∷ (class_spelling c ++ text_place_spelling t)
+  value_spelling (object c ss) = TC_OBJECT ∷ (class_spelling c ++ sections_spelling ss)
 
   -- TC_CLASSDESC className serialVersionUID newHandle classDescFlags fields classAnnotation superClassDesc
   -- TC_PROXYCLASSDESC newHandle (int)count proxyInterfaceName[count] classAnnotation superClassDesc
   pub desc_spelling : DescTree → List ℕ
   desc_spelling (plain name suid flags fields notes parent) =
-      0x72 ∷ (utf name ++ (big_bytes 8 suid ++ (flags ∷ (big_bytes 2 (length fields) ++ (fields_spelling fields
+      TC_CLASSDESC ∷ (utf name ++ (big_bytes 8 suid ++ (flags ∷ (big_bytes 2 (length fields) ++ (fields_spelling fields
       ++ (annotation_spelling notes ++ class_spelling parent))))))
   desc_spelling (proxy interfaces notes parent) =
-      0x7D ∷ (big_bytes 4 (length interfaces) ++ (interfaces_spelling interfaces
+      TC_PROXYCLASSDESC ∷ (big_bytes 4 (length interfaces) ++ (interfaces_spelling interfaces
       ++ (annotation_spelling notes ++ class_spelling parent)))
 
   pub class_spelling : ClassPlaceTree → List ℕ
-  class_spelling no_class = 0x70 ∷ []
+  class_spelling no_class = TC_NULL ∷ []
   class_spelling (back_class n) = reference n
   class_spelling (new_class d) = desc_spelling d
 
@@ -103,12 +104,12 @@ abbrev mutual
 
   -- the contents of an annotation and its endBlockData
   pub annotation_spelling : ContentTrees → List ℕ
-  annotation_spelling no_contents = 0x78 ∷ []
+  annotation_spelling no_contents = TC_ENDBLOCKDATA ∷ []
   annotation_spelling (content_and c cs) = content_spelling c ++ annotation_spelling cs
 
   pub content_spelling : ContentTree → List ℕ
   content_spelling (block long bytes) = block_head long (length bytes) ++ bytes
-  content_spelling reset = 0x79 ∷ []
+  content_spelling reset = TC_RESET ∷ []
   content_spelling (content v) = value_spelling v
 
 abbrev pub contents_spelling : ContentTrees → List ℕ
@@ -117,4 +118,4 @@ contents_spelling (content_and c cs) = content_spelling c ++ contents_spelling c
 
 -- stream: magic version contents
 abbrev pub spelling : ContentTrees → List ℕ
-spelling cs = 0xAC ∷ 0xED ∷ 0x00 ∷ 0x05 ∷ contents_spelling cs
+spelling cs = stream_header ++ contents_spelling cs

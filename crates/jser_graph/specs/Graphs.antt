@@ -2,6 +2,7 @@
 use Rattle.std.specs.Prelude.{ℕ, ◌≡◌, ◌-◌, ◌++◌, nat_lt, if◌then◌else◌, List, [], ◌∷◌, slice_get, Option, Some, None}
 use Rattle.jser_grammar.specs.Trees.{ContentTrees}
 use Rattle.jser_grammar.specs.CheckedNames.{checked_names}
+use Rattle.jser_grammar.specs.Wire.{BASE_WIRE_HANDLE}
 use Rattle.jser_shown.specs.Nodes.{Nodes, nodes_of}
 use Rattle.jser_shown.specs.Nodes.{Node as ToldNode}
 use Rattle.jser_shown.specs.Owners.{owners_of}
@@ -56,7 +57,7 @@ node_in lists epoch number = in_list (slice_get lists epoch) number
 
 -- by its handle, as it is written; the first one is 0x7E0000
 abbrev pub node_at : List Nodes → (epoch handle : ℕ) → Option ToldNode
-node_at lists epoch handle = if nat_lt handle 0x7E0000 then None else node_in lists epoch (handle - 0x7E0000)
+node_at lists epoch handle = if nat_lt handle BASE_WIRE_HANDLE then None else node_in lists epoch (handle - BASE_WIRE_HANDLE)
 
 abbrev pub stored_in : Listed StoredNode → (epoch number : ℕ) → Option StoredNode
 stored_in lists epoch number = in_list (slice_get (lists.ended ++ (lists.last ∷ [])) epoch) number

@@ -3,6 +3,7 @@ use Rattle.std.specs.Prelude.{ℕ, ◌≡◌, ◌<◌, ◌≤◌, List, length, 
 use Rattle.std.specs.Io.KnownBytes.{Appends}
 use Rattle.jser_grammar.specs.Trees.{ContentTrees}
 use Rattle.jser_grammar.specs.Counts.{depth_of}
+use Rattle.jser_grammar.specs.Caps.{most_tree_bytes, most_tree_depth}
 use Rattle.jser_value.specs.declared.Contents.{Contents}
 use Rattle.jser_value.specs.declared.ValueCause.{ValueCause}
 use Rattle.jser_value.specs.declared.ValueCause.TheVariants as cause
@@ -22,8 +23,8 @@ IsOf graph contents = (bytes : List ℕ) (list : ContentTrees) → StandsFor gra
 
 -- The list is deeper than 1,000; or it is not, and longer than 2^31 - 1 bytes.
 abbrev pub CauseOf : ValueCause → (bytes : List ℕ) → ContentTrees → Type 0
-CauseOf cause.TooDeep bytes list = 1000 < depth_of list
-CauseOf cause.TooLarge bytes list = (depth_of list ≤ 1000) × (2147483647 < length bytes)
+CauseOf cause.TooDeep bytes list = most_tree_depth < depth_of list
+CauseOf cause.TooLarge bytes list = (depth_of list ≤ most_tree_depth) × (most_tree_bytes < length bytes)
 CauseOf cause.NotRight bytes list = ⊥
 CauseOf cause.OutOfMemory bytes list = Unit {0}
 

@@ -4,6 +4,7 @@ ghost use Rattle.std.specs.Io.KnownBytes.{Appends};
 ghost use Rattle.jser_graph.specs.Outputs.{WroteFirst, IsOf, HasCause};
 
 use crate::graph::Graph;
+use jser_grammar::caps::{MOST_TREE_BYTES, MOST_TREE_DEPTH};
 use jser_prim::{Sink, give_all};
 use jser_reader::OpenGate;
 use jser_reading::laws::one_reading;
@@ -11,12 +12,6 @@ use jser_trees::read_all;
 use jser_value::{Contents, ValueCause};
 use std::alloc::Global;
 use thiserror::Error;
-
-/// The greatest depth of a tree.
-const MOST_DEPTH: u64 = 1000;
-
-/// The most bytes that the spelling of a tree has.
-const MOST_BYTES: u64 = 0x7FFF_FFFF;
 
 /// Why what was asked for did not go out whole.
 #[derive(Clone, Copy, PartialEq, Eq, Hash, Debug, Error)]
@@ -68,10 +63,10 @@ impl Graph {
         ensures cause { IfErr result (HasCause self.now) }
     {
         one_reading();
-        if self.totals.depth > MOST_DEPTH {
+        if self.totals.depth > u64::from(MOST_TREE_DEPTH) {
             return Err(ValueCause::TooDeep);
         }
-        if self.totals.bytes > MOST_BYTES {
+        if self.totals.bytes > MOST_TREE_BYTES {
             return Err(ValueCause::TooLarge);
         }
         // The bytes were accepted before, under a gate that passes more, so nothing is refused here.

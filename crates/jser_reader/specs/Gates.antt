@@ -1,5 +1,6 @@
 -- What a gate answers, and the gate that passes all.
 use Rattle.std.specs.Prelude.{◌^◌, ◌-◌}
+use Rattle.jser_grammar.specs.Caps.{most_bytes, most_depth, most_refs, most_array, most_handles}
 use Rattle.jser_verdict.specs.Gates.{Gate, pass, rejected, unmatched}
 use Rattle.jser_verdict.specs.Gates.{Answer as ToldAnswer}
 use Rattle.jser_reader.specs.declared.gate.Answer.{Answer}
@@ -12,4 +13,4 @@ told_answer answer.Unmatched = unmatched
 
 -- all names pass, and each limit is its cap
 abbrev pub open_gate : Gate
-open_gate = record { bytes = 2 ^ 40; depth = 65535; refs = 2 ^ 63 - 1; array = 2 ^ 31 - 1; handles = 2139226112; answer = λ name. pass }
+open_gate = record { bytes = most_bytes; depth = most_depth; refs = most_refs; array = most_array; handles = most_handles; answer = λ name. pass }

@@ -1,5 +1,6 @@
 -- The bytes of tags (`java.io.ObjectStreamConstants`), and the fields that they are.
 use Rattle.std.specs.Prelude.{◌≡◌, ℕ, ◌<◌, ◌⊎◌, Bool, true, false, Option, Some, None}
+use Rattle.jser_grammar.specs.Wire.{TC_NULL, TC_BLOCKDATA, TC_ENDBLOCKDATA, TC_RESET, TC_BLOCKDATALONG, TC_EXCEPTION, TC_ENUM}
 use Rattle.jser_reading.specs.Labels.{null_tag, reference_tag, class_desc_tag, object_tag, string_tag, array_tag, class_tag, long_string_tag, proxy_desc_tag, enum_tag}
 use Rattle.jser_reading.specs.Labels.{Tag as ToldTag}
 use Rattle.jser_reading.specs.FieldBytes.{tag_byte}
@@ -22,17 +23,17 @@ told_tag value.Enum = enum_tag
 
 -- TC_BLOCKDATA and TC_BLOCKDATALONG
 abbrev pub block_byte : (long : Bool) → ℕ
-block_byte false = 0x77
-block_byte true = 0x7A
+block_byte false = TC_BLOCKDATA
+block_byte true = TC_BLOCKDATALONG
 
 abbrev pub byte_of : Tag → ℕ
 byte_of (tag.Value t) = tag_byte (told_tag t)
 byte_of (tag.Block long) = block_byte long
-byte_of tag.EndBlockData = 0x78
-byte_of tag.Reset = 0x79
-byte_of tag.Exception = 0x7B
+byte_of tag.EndBlockData = TC_ENDBLOCKDATA
+byte_of tag.Reset = TC_RESET
+byte_of tag.Exception = TC_EXCEPTION
 
 -- the byte is this tag, or no tag
 abbrev pub IsTagOf : ℕ → Option Tag → Type 0
-IsTagOf byte None = (byte < 0x70) ⊎ (0x7E < byte)
+IsTagOf byte None = (byte < TC_NULL) ⊎ (TC_ENUM < byte)
 IsTagOf byte (Some t) = byte ≡ byte_of t

@@ -5,6 +5,7 @@ use Rattle.jser_prim.specs.Bytes.{big_bytes}
 use Rattle.jser_prim.specs.Texts.{HasAccepted}
 use Rattle.jser_table.specs.Codes.{PrimCode, size_of}
 use Rattle.jser_grammar.specs.Parts.{text_bound, IsBytes}
+use Rattle.jser_grammar.specs.Wire.{stream_header}
 use Rattle.jser_reading.specs.Goals.{Part, raw_part, Goal, parts_goal, block_goal, State, settle, settled}
 use Rattle.jser_reading.specs.Labels.{StreamField, Piece}
 use Rattle.jser_reading.specs.FieldBytes.{joined}
@@ -69,7 +70,7 @@ size_of_phase phase.Stopped = 0
 
 -- STREAM_MAGIC and STREAM_VERSION
 abbrev pub header_bytes : List ℕ
-header_bytes = 0xAC ∷ 0xED ∷ 0x00 ∷ 0x05 ∷ []
+header_bytes = stream_header
 
 -- what was taken of the header is right so far
 abbrev pub IsRightSoFar : Phase → List ℕ → Type 0

@@ -5,6 +5,8 @@ ghost use Rattle.jser_table.specs.Names.{name_kind, malformed_name};
 ghost use Rattle.jser_verdict.specs.Gates.{Gate as ToldGate, IsGate, pass};
 ghost use Rattle.jser_reader.specs.Gates.{told_answer, open_gate};
 
+use jser_grammar::caps::{MOST_ARRAY, MOST_BYTES, MOST_DEPTH, MOST_HANDLES, MOST_REFS};
+
 /// What a gate says of the name of a class.
 #[derive(Clone, Copy, PartialEq, Eq, Hash, Debug)]
 pub enum Answer {
@@ -65,23 +67,23 @@ impl Gate for OpenGate {
     }
 
     fn max_bytes(&self) -> u64 {
-        0x100_0000_0000
+        MOST_BYTES
     }
 
     fn max_depth(&self) -> u32 {
-        65_535
+        MOST_DEPTH
     }
 
     fn max_refs(&self) -> u64 {
-        0x7FFF_FFFF_FFFF_FFFF
+        MOST_REFS
     }
 
     fn max_array(&self) -> u32 {
-        0x7FFF_FFFF
+        MOST_ARRAY
     }
 
     fn max_handles(&self) -> u32 {
-        2_139_226_112
+        MOST_HANDLES
     }
 
     ghost use Rattle.std.proofs.Common.{rules};

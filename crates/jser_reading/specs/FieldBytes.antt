@@ -2,29 +2,30 @@
 use Rattle.std.specs.Prelude.{ℕ, ◌+◌, true, false, List, [], ◌∷◌, ◌++◌}
 use Rattle.jser_prim.specs.Bytes.{big_bytes}
 use Rattle.jser_grammar.specs.Spelling.{utf, long_utf, prims_spelling}
+use Rattle.jser_grammar.specs.Wire.{TC_NULL, TC_REFERENCE, TC_CLASSDESC, TC_OBJECT, TC_STRING, TC_ARRAY, TC_CLASS, TC_BLOCKDATA, TC_ENDBLOCKDATA, TC_RESET, TC_BLOCKDATALONG, TC_LONGSTRING, TC_PROXYCLASSDESC, TC_ENUM, BASE_WIRE_HANDLE, stream_header}
 use Rattle.jser_reading.specs.Labels.{Tag, null_tag, reference_tag, class_desc_tag, object_tag, string_tag, array_tag, class_tag, long_string_tag, proxy_desc_tag, enum_tag, StreamField, header_field, tag_field, block_tag_field, end_tag_field, reset_tag_field, handle_field, suid_field, flags_field, field_count_field, interface_count_field, array_length_field, code_field, text_field, block_length_field, prims_field, bytes_field, Piece, piece}
 
 -- TC_NULL and so on
 abbrev pub tag_byte : Tag → ℕ
-tag_byte null_tag = 0x70
-tag_byte reference_tag = 0x71
-tag_byte class_desc_tag = 0x72
-tag_byte object_tag = 0x73
-tag_byte string_tag = 0x74
-tag_byte array_tag = 0x75
-tag_byte class_tag = 0x76
-tag_byte long_string_tag = 0x7C
-tag_byte proxy_desc_tag = 0x7D
-tag_byte enum_tag = 0x7E
+tag_byte null_tag = TC_NULL
+tag_byte reference_tag = TC_REFERENCE
+tag_byte class_desc_tag = TC_CLASSDESC
+tag_byte object_tag = TC_OBJECT
+tag_byte string_tag = TC_STRING
+tag_byte array_tag = TC_ARRAY
+tag_byte class_tag = TC_CLASS
+tag_byte long_string_tag = TC_LONGSTRING
+tag_byte proxy_desc_tag = TC_PROXYCLASSDESC
+tag_byte enum_tag = TC_ENUM
 
 abbrev pub bytes_of : StreamField → List ℕ
-bytes_of header_field = 0xAC ∷ 0xED ∷ 0x00 ∷ 0x05 ∷ []
+bytes_of header_field = stream_header
 bytes_of (tag_field tag) = tag_byte tag ∷ []
-bytes_of (block_tag_field false) = 0x77 ∷ []
-bytes_of (block_tag_field true) = 0x7A ∷ []
-bytes_of end_tag_field = 0x78 ∷ []
-bytes_of reset_tag_field = 0x79 ∷ []
-bytes_of (handle_field n) = big_bytes 4 (0x7E0000 + n)
+bytes_of (block_tag_field false) = TC_BLOCKDATA ∷ []
+bytes_of (block_tag_field true) = TC_BLOCKDATALONG ∷ []
+bytes_of end_tag_field = TC_ENDBLOCKDATA ∷ []
+bytes_of reset_tag_field = TC_RESET ∷ []
+bytes_of (handle_field n) = big_bytes 4 (BASE_WIRE_HANDLE + n)
 bytes_of (suid_field n) = big_bytes 8 n
 bytes_of (flags_field n) = n ∷ []
 bytes_of (field_count_field n) = big_bytes 2 n

@@ -3,6 +3,7 @@
 use Rattle.std.specs.Prelude.{ℕ, zero, suc, ◌+◌, ◌-◌, ◌*◌, ◌^◌, Bool, true, false, cond, nat_lt, nat_eq, List, [], ◌∷◌, length, take, drop, Option, Some, None}
 use Rattle.jser_grammar.specs.Codes.{PrimCode, size_of}
 use Rattle.jser_grammar.specs.Trees.{PrimTree}
+use Rattle.jser_grammar.specs.Wire.{TC_NULL, TC_REFERENCE, TC_CLASSDESC, TC_OBJECT, TC_STRING, TC_ARRAY, TC_CLASS, TC_BLOCKDATA, TC_ENDBLOCKDATA, TC_RESET, TC_BLOCKDATALONG, TC_LONGSTRING, TC_PROXYCLASSDESC, TC_ENUM, BASE_WIRE_HANDLE}
 use Rattle.jser_reading.specs.Labels.{null_tag, reference_tag, class_desc_tag, object_tag, string_tag, array_tag, class_tag, long_string_tag, proxy_desc_tag, enum_tag, StreamField, header_field, tag_field, block_tag_field, end_tag_field, reset_tag_field, handle_field, suid_field, flags_field, field_count_field, interface_count_field, array_length_field, code_field, text_field, block_length_field, prims_field, bytes_field, Position, nowhere, header_at, top_at, annotation_at, value_at, text_place_at, class_place_at, superclass_place_at, back_handle_at, text_handle_at, class_handle_at, superclass_handle_at, string_at, class_name_at, field_name_at, interface_name_at, suid_at, field_count_at, interface_count_at, array_length_at, flags_at, type_code_at, block_length_at, raw_at, bytes_at}
 
 -- the number with these bytes, the highest first
@@ -30,15 +31,15 @@ units_in (suc k) (b ∷ bytes) =
 -- the field that a tag is
 unfoldable pub tag_from : ℕ → Option StreamField
 tag_from b =
-    cond (nat_eq b 0x70) (Some (tag_field null_tag))
-    (cond (nat_eq b 0x71) (Some (tag_field reference_tag)) (cond (nat_eq b 0x72) (Some (tag_field class_desc_tag))
-    (cond (nat_eq b 0x73) (Some (tag_field object_tag))
-    (cond (nat_eq b 0x74) (Some (tag_field string_tag)) (cond (nat_eq b 0x75) (Some (tag_field array_tag))
-    (cond (nat_eq b 0x76) (Some (tag_field class_tag))
-    (cond (nat_eq b 0x77) (Some (block_tag_field false)) (cond (nat_eq b 0x78) (Some end_tag_field)
-    (cond (nat_eq b 0x79) (Some reset_tag_field)
-    (cond (nat_eq b 0x7A) (Some (block_tag_field true)) (cond (nat_eq b 0x7C) (Some (tag_field long_string_tag))
-    (cond (nat_eq b 0x7D) (Some (tag_field proxy_desc_tag)) (cond (nat_eq b 0x7E) (Some (tag_field enum_tag)) None)))))))))))))
+    cond (nat_eq b TC_NULL) (Some (tag_field null_tag))
+    (cond (nat_eq b TC_REFERENCE) (Some (tag_field reference_tag)) (cond (nat_eq b TC_CLASSDESC) (Some (tag_field class_desc_tag))
+    (cond (nat_eq b TC_OBJECT) (Some (tag_field object_tag))
+    (cond (nat_eq b TC_STRING) (Some (tag_field string_tag)) (cond (nat_eq b TC_ARRAY) (Some (tag_field array_tag))
+    (cond (nat_eq b TC_CLASS) (Some (tag_field class_tag))
+    (cond (nat_eq b TC_BLOCKDATA) (Some (block_tag_field false)) (cond (nat_eq b TC_ENDBLOCKDATA) (Some end_tag_field)
+    (cond (nat_eq b TC_RESET) (Some reset_tag_field)
+    (cond (nat_eq b TC_BLOCKDATALONG) (Some (block_tag_field true)) (cond (nat_eq b TC_LONGSTRING) (Some (tag_field long_string_tag))
+    (cond (nat_eq b TC_PROXYCLASSDESC) (Some (tag_field proxy_desc_tag)) (cond (nat_eq b TC_ENUM) (Some (tag_field enum_tag)) None)))))))))))))
 
 -- so many raw values of one type
 unfoldable pub prims_in : PrimCode → ℕ → List ℕ → List PrimTree
@@ -63,10 +64,10 @@ field_in value_at bytes = tag_from (first bytes)
 field_in text_place_at bytes = tag_from (first bytes)
 field_in (class_place_at owner) bytes = tag_from (first bytes)
 field_in (superclass_place_at owner strict) bytes = tag_from (first bytes)
-field_in back_handle_at bytes = Some (handle_field (number_of bytes - 0x7E0000))
-field_in text_handle_at bytes = Some (handle_field (number_of bytes - 0x7E0000))
-field_in (class_handle_at owner) bytes = Some (handle_field (number_of bytes - 0x7E0000))
-field_in (superclass_handle_at owner strict) bytes = Some (handle_field (number_of bytes - 0x7E0000))
+field_in back_handle_at bytes = Some (handle_field (number_of bytes - BASE_WIRE_HANDLE))
+field_in text_handle_at bytes = Some (handle_field (number_of bytes - BASE_WIRE_HANDLE))
+field_in (class_handle_at owner) bytes = Some (handle_field (number_of bytes - BASE_WIRE_HANDLE))
+field_in (superclass_handle_at owner strict) bytes = Some (handle_field (number_of bytes - BASE_WIRE_HANDLE))
 field_in (string_at long) bytes = text_in long bytes
 field_in (class_name_at role) bytes = text_in false bytes
 field_in field_name_at bytes = text_in false bytes

@@ -4,6 +4,7 @@ use Rattle.std.specs.List.{flat_map}
 use Rattle.std.specs.Fmt.{decimal}
 use Rattle.hex.specs.Hex.{encode_lower}
 use Rattle.jser_prim.specs.Bytes.{big_bytes}
+use Rattle.jser_grammar.specs.Wire.{BASE_WIRE_HANDLE}
 
 -- the end of a line
 abbrev pub end_line : List ℕ → List ℕ
@@ -22,7 +23,7 @@ without_zeros (c ∷ cs) = if c == 0x30 then without_zeros cs else c ∷ cs
 -- a mark: `#`, the epoch, `.`, the four bytes of the handle in hexadecimal without zeros at the beginning
 abbrev pub mark : ℕ → ℕ → List ℕ → List ℕ
 mark epoch n rest =
-    0x23 ∷ (decimal epoch ++ (0x2E ∷ (without_zeros (encode_lower (big_bytes 4 (0x7E0000 + n))) ++ rest)))
+    0x23 ∷ (decimal epoch ++ (0x2E ∷ (without_zeros (encode_lower (big_bytes 4 (BASE_WIRE_HANDLE + n))) ++ rest)))
 
 -- a unit in a quoted text
 abbrev pub quoted_unit : ℕ → List ℕ

@@ -163,10 +163,10 @@ pub fn size_of_code(code: u8) -> Option<u8>
     ensures { result ≡ option_map size_of (prim_code_of code) }
 {
     match code {
-        0x42 | 0x5A => Some(1),
-        0x43 | 0x53 => Some(2),
-        0x46 | 0x49 => Some(4),
-        0x44 | 0x4A => Some(8),
+        b'B' | b'Z' => Some(1),
+        b'C' | b'S' => Some(2),
+        b'F' | b'I' => Some(4),
+        b'D' | b'J' => Some(8),
         _ => None,
     }
 }

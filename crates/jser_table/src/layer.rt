@@ -6,17 +6,8 @@ ghost use Rattle.jser_table.specs.Sections.{HoldsFor};
 ghost use Rattle.jser_table.specs.Fits.{class_fit, object_fit};
 
 use crate::codes::{Codes, size_of_code};
+use crate::flags::{SC_BLOCK_DATA, SC_ENUM, SC_EXTERNALIZABLE, SC_SERIALIZABLE, SC_WRITE_METHOD};
 use crate::section::Section;
-
-const SC_WRITE_METHOD: u8 = 0x01;
-
-const SC_SERIALIZABLE: u8 = 0x02;
-
-const SC_EXTERNALIZABLE: u8 = 0x04;
-
-const SC_BLOCK_DATA: u8 = 0x08;
-
-const SC_ENUM: u8 = 0x10;
 
 /// What the elements of an array are.
 #[derive(Clone, Copy, PartialEq, Eq, Hash, Debug)]

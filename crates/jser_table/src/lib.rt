@@ -7,6 +7,7 @@ mod class;
 mod codes;
 mod descriptor;
 mod entry;
+pub mod flags;
 pub mod laws;
 mod layer;
 mod name;

@@ -4,6 +4,7 @@ use Rattle.jser_grammar.specs.Parts.{IsBytes}
 use Rattle.jser_grammar.specs.Trees.{ContentTrees}
 use Rattle.jser_grammar.specs.Streams.{IsStreamOf}
 use Rattle.jser_grammar.specs.Counts.{depth_of}
+use Rattle.jser_grammar.specs.Caps.{most_tree_bytes, most_tree_depth}
 use Rattle.jser_verdict.specs.Reasons.{Reason as ToldReason}
 use Rattle.jser_verdict.specs.Gates.{Gate, lowered}
 use Rattle.jser_verdict.specs.Passing.{Passes}
@@ -18,7 +19,7 @@ use Rattle.jser_reader.specs.Streams.{AreRefused, AreTruncated}
 
 -- The gate of trees: at most 2^31 - 1 bytes, and at most 1,000 deep.
 abbrev pub tree_gate : Gate → Gate
-tree_gate gate = lowered 2147483647 1000 gate
+tree_gate gate = lowered most_tree_bytes most_tree_depth gate
 
 -- the bytes are a stream of some list that passes
 abbrev pub SomePasses : Gate → List ℕ → Type 0
@@ -62,5 +63,5 @@ Tells gate bytes (Err stop.Spent) = ⊥
 pub record IsTreeStream (bytes : List ℕ) : Type 0 where
   pub list : ContentTrees
   pub is_stream : IsStreamOf bytes list
-  pub depth : depth_of list ≤ 1000
-  pub size : length bytes ≤ 2147483647
+  pub depth : depth_of list ≤ most_tree_depth
+  pub size : length bytes ≤ most_tree_bytes

@@ -12,6 +12,7 @@ use Rattle.jser_grammar.specs.Trees.{TextPlaceTree, new_text, back_text, FieldTr
 use Rattle.jser_grammar.specs.TableAfter.{Entries, add, after_fields, after_value, after_class, after_values, after_contents, chain_of_class}
 use Rattle.jser_value.specs.Tests.{after_section, element_code}
 use Rattle.jser_grammar.specs.Parts.{is_external}
+use Rattle.jser_grammar.specs.Wire.{TC_NULL, TC_REFERENCE, TC_CLASSDESC, TC_OBJECT, TC_STRING, TC_ARRAY, TC_CLASS, TC_BLOCKDATA, TC_ENDBLOCKDATA, TC_RESET, TC_BLOCKDATALONG, TC_LONGSTRING, TC_PROXYCLASSDESC, TC_ENUM, BASE_WIRE_HANDLE}
 use Rattle.jser_reading.specs.FieldsFromBytes.{number_of, units_in, head_size}
 
 infixl 10 ◌>>=◌
@@ -69,7 +70,7 @@ text_in long = sized_text_in (head_size long)
 unfoldable pub back_in : List ℕ → Built ℕ
 back_in bytes = do
   handle ← number_in 4 bytes
-  (if nat_le 0x7E0000 handle.0 then Some (handle.0 - 0x7E0000, handle.1) else None)
+  (if nat_le BASE_WIRE_HANDLE handle.0 then Some (handle.0 - BASE_WIRE_HANDLE, handle.1) else None)
 
 unfoldable pub new_text_in : Bool → List ℕ → Built TextPlaceTree
 new_text_in long bytes = do
@@ -84,8 +85,8 @@ back_text_in bytes = do
 unfoldable pub text_place_in : List ℕ → Built TextPlaceTree
 text_place_in [] = None
 text_place_in (tag ∷ bytes) =
-    if tag == 0x74 then new_text_in false bytes
-    else (if tag == 0x7C then new_text_in true bytes else (if tag == 0x71 then back_text_in bytes else None))
+    if tag == TC_STRING then new_text_in false bytes
+    else (if tag == TC_LONGSTRING then new_text_in true bytes else (if tag == TC_REFERENCE then back_text_in bytes else None))
 
 -- the type of a field, which stands there where its code is `[` or `L`
 unfoldable pub type_in : ℕ → List ℕ → Built (Option TextPlaceTree)
@@ -161,11 +162,11 @@ back_class_in T bytes = do
 unfoldable pub class_in : BuildsDesc → Entries → List ℕ → Built ClassPlaceTree
 class_in desc T [] = None
 class_in desc T (tag ∷ bytes) =
-    if tag == 0x71 then back_class_in T bytes else (desc T (tag ∷ bytes) >>= λ x. Some (new_class x.0, x.1))
+    if tag == TC_REFERENCE then back_class_in T bytes else (desc T (tag ∷ bytes) >>= λ x. Some (new_class x.0, x.1))
 
 unfoldable pub superclass_in : BuildsDesc → Entries → List ℕ → Built ClassPlaceTree
 superclass_in desc T [] = None
-superclass_in desc T (tag ∷ bytes) = if tag == 0x70 then Some (no_class, bytes) else class_in desc T (tag ∷ bytes)
+superclass_in desc T (tag ∷ bytes) = if tag == TC_NULL then Some (no_class, bytes) else class_in desc T (tag ∷ bytes)
 
 abbrev pub block_content_in : Bool → List ℕ → Built ContentTree
 block_content_in long bytes = do
@@ -175,8 +176,8 @@ block_content_in long bytes = do
 unfoldable pub content_in : BuildsValue → Entries → List ℕ → Built ContentTree
 content_in value T [] = None
 content_in value T (tag ∷ bytes) =
-    if tag == 0x77 then block_content_in false bytes
-    else (if tag == 0x7A then block_content_in true bytes
+    if tag == TC_BLOCKDATA then block_content_in false bytes
+    else (if tag == TC_BLOCKDATALONG then block_content_in true bytes
     else (value T (tag ∷ bytes) >>= λ v. Some (content v.0, v.1)))
 
 abbrev pub after_content : Entries → ContentTree → Entries
@@ -189,7 +190,7 @@ unfoldable pub notes_in : BuildsValue → ℕ → Entries → List ℕ → Built
 notes_in value zero T bytes = None
 notes_in value (suc n) T [] = None
 notes_in value (suc n) T (tag ∷ bytes) =
-    if tag == 0x78 then Some (no_contents, bytes)
+    if tag == TC_ENDBLOCKDATA then Some (no_contents, bytes)
     else (content_in value T (tag ∷ bytes) >>= λ c.
     notes_in value n (after_content T c.0) c.1 >>= λ others. Some (content_and c.0 others.0, others.1))
 
@@ -295,26 +296,26 @@ object_in desc value T bytes = do
 -- a value that is no descriptor, behind its tag
 unfoldable pub tagged_in : BuildsDesc → BuildsValue → Entries → (tag : ℕ) → List ℕ → Built ValueTree
 tagged_in desc value T tag bytes =
-    if tag == 0x70 then Some (null, bytes)
-    else (if tag == 0x71 then (back_in bytes >>= λ number. Some (back number.0, number.1))
-    else (if tag == 0x74 then string_in false bytes
-    else (if tag == 0x7C then string_in true bytes
-    else (if tag == 0x76 then class_object_in desc T bytes
-    else (if tag == 0x75 then array_in desc value T bytes
-    else (if tag == 0x7E then enum_constant_in desc T bytes
-    else (if tag == 0x73 then object_in desc value T bytes
+    if tag == TC_NULL then Some (null, bytes)
+    else (if tag == TC_REFERENCE then (back_in bytes >>= λ number. Some (back number.0, number.1))
+    else (if tag == TC_STRING then string_in false bytes
+    else (if tag == TC_LONGSTRING then string_in true bytes
+    else (if tag == TC_CLASS then class_object_in desc T bytes
+    else (if tag == TC_ARRAY then array_in desc value T bytes
+    else (if tag == TC_ENUM then enum_constant_in desc T bytes
+    else (if tag == TC_OBJECT then object_in desc value T bytes
     else None)))))))
 
 -- a value with its tag, and a descriptor, one level further in
 unfoldable pub level_in : BuildsDesc → BuildsValue → Entries → (tag : ℕ) → List ℕ → Built ValueTree
 level_in desc value T tag bytes =
-    if tag == 0x72 || tag == 0x7D then (desc T (tag ∷ bytes) >>= λ x. Some (descriptor x.0, x.1))
+    if tag == TC_CLASSDESC || tag == TC_PROXYCLASSDESC then (desc T (tag ∷ bytes) >>= λ x. Some (descriptor x.0, x.1))
     else tagged_in desc value T tag bytes
 
 unfoldable pub desc_level_in : BuildsDesc → BuildsValue → Entries → (tag : ℕ) → List ℕ → Built DescTree
 desc_level_in desc value T tag bytes =
-    if tag == 0x72 then plain_in desc value T bytes
-    else (if tag == 0x7D then proxy_in desc value T bytes else None)
+    if tag == TC_CLASSDESC then plain_in desc value T bytes
+    else (if tag == TC_PROXYCLASSDESC then proxy_in desc value T bytes else None)
 
 -- ---- values and descriptors
 
@@ -332,7 +333,7 @@ unfoldable mutual
 -- ---- the whole stream
 
 unfoldable pub top_content_in : BuildsValue → Entries → (tag : ℕ) → List ℕ → Built ContentTree
-top_content_in value T tag bytes = if tag == 0x79 then Some (reset, bytes) else content_in value T (tag ∷ bytes)
+top_content_in value T tag bytes = if tag == TC_RESET then Some (reset, bytes) else content_in value T (tag ∷ bytes)
 
 abbrev pub first_content_in : BuildsValue → Entries → List ℕ → Built ContentTree
 first_content_in value T [] = None

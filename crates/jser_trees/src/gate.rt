@@ -1,14 +1,9 @@
 //! The gate of trees: that of the caller, with its limits of bytes and depth lowered to the caps of trees.
 ghost use Rattle.std.specs.Prelude.{◌≡◌};
 
+use jser_grammar::caps::{MOST_TREE_BYTES, MOST_TREE_DEPTH};
 use jser_reader::{Answer, Gate};
 use std::marker::Model;
-
-/// The most bytes of a stream that becomes a tree.
-const MOST_BYTES: u64 = 0x7FFF_FFFF;
-
-/// The deepest that a tree goes.
-const DEEPEST: u32 = 1000;
 
 /// A gate with its limits of bytes and depth lowered.
 #[derive(Drop)]
@@ -32,21 +27,22 @@ impl<'g, G: Gate> TreeGate<'g, G> {
 }
 
 impl<'g, G: Gate> Gate for TreeGate<'g, G> {
+    ghost use Rattle.jser_grammar.specs.Caps.{most_tree_bytes, most_tree_depth};
     ghost use Rattle.jser_verdict.specs.Gates.{lowered};
     ghost use Rattle.jser_verdict.proofs.Passing.{lowered_is_gate};
 
-    ghost told = { λ gate. lowered 2147483647 1000 (G.told gate) };
+    ghost told = { λ gate. lowered most_tree_bytes most_tree_depth (G.told gate) };
 
     fn name(&self, name: &[u16]) -> Answer {
         self.gate.name(name)
     }
 
     fn max_bytes(&self) -> u64 {
-        self.gate.max_bytes().min(MOST_BYTES)
+        self.gate.max_bytes().min(MOST_TREE_BYTES)
     }
 
     fn max_depth(&self) -> u32 {
-        self.gate.max_depth().min(DEEPEST)
+        self.gate.max_depth().min(MOST_TREE_DEPTH)
     }
 
     fn max_refs(&self) -> u64 {
@@ -61,5 +57,5 @@ impl<'g, G: Gate> Gate for TreeGate<'g, G> {
         self.gate.max_handles()
     }
 
-    ghost within = { λ gate. lowered_is_gate (G.told gate) 2147483647 1000 (G.within gate) };
+    ghost within = { λ gate. lowered_is_gate (G.told gate) most_tree_bytes most_tree_depth (G.within gate) };
 }

@@ -1,6 +1,7 @@
 //! Bytes to trees.
 ghost use Rattle.std.specs.Prelude.{IfOk, IfErr, ◌≡◌, ◌≤◌, length};
 ghost use Rattle.jser_grammar.specs.Streams.{IsStreamOf};
+ghost use Rattle.jser_grammar.specs.Caps.{most_tree_bytes};
 ghost use Rattle.jser_value.specs.View.{view_contents};
 ghost use Rattle.jser_verdict.specs.Passing.{Passes};
 ghost use Rattle.jser_trees.specs.Answers.{tree_gate, IfRefused, Refuses, CarriesFirst, Tells, IsTreeStream};
@@ -68,7 +69,7 @@ fn tree_of(alloc: Global, bytes: &[u8]) -> Result<Contents, OutOfMemory>
 /// The list of contents behind the header.
 #[tactic(auto, unfolding(crate::specs::Building::list_in))]
 fn list_of(alloc: Global, bytes: &[u8]) -> Result<Vec<Content>, Fault>
-    requires { length bytes.now ≤ 2147483647 }
+    requires { length bytes.now ≤ most_tree_bytes }
     ensures { FindsAll (λ list. view_contents list.items) result (list_in bytes.now) }
 {
     let mut cursor = Cursor::new(bytes);

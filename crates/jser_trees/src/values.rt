@@ -9,6 +9,7 @@ ghost use Rattle.jser_value.specs.Tests.{after_section, IsClassAt, IsParentAt};
 ghost use Rattle.jser_value.specs.View.{view_text_place, view_field, view_value, view_desc, view_class_place, view_body, view_values, view_section, view_sections, view_content, view_contents};
 ghost use Rattle.jser_trees.specs.Building.{after_content, back_class_in, block_content_in, data_in, body_in, top_content_in, first_content_in, after_top, string_in, value_in, desc_in, level_in, desc_level_in, tagged_in, class_in, superclass_in, content_in, annotation_in, values_in, section_at_in, sections_in, external_in, elements_in, plain_in, proxy_in, class_object_in, array_in, enum_constant_in, object_in, top_in};
 ghost use Rattle.jser_grammar.specs.Trees.{back_class};
+ghost use Rattle.jser_grammar.specs.Caps.{most_tree_bytes};
 ghost use Rattle.jser_trees.specs.Found.{Finds, FindsAll};
 ghost use Rattle.jser_value.specs.Rooms.{HasRoom, HasRoomForOneMore, Spends, SpendsOneMore};
 
@@ -63,7 +64,7 @@ fn enter_type(table: &mut Handles, field: &Field) -> Result<(), Fault>
 
 /// The new strings among the types of these fields have handles.
 fn enter_types(table: &mut Handles, fields: &[Field]) -> Result<(), Fault>
-    requires room { length table.old.entries + length fields.now ≤ 2147483647 }
+    requires room { length table.old.entries + length fields.now ≤ most_tree_bytes }
     ensures entered { OnOk result (table.new.entries ≡ after_fields table.old.entries (map view_field fields.now)) }
     ensures memory { IfErr result (λ fault. fault ≡ Fault.OutOfMemory) }
     ensures spent { OnOk result (length table.new.entries ≤ length table.old.entries + length fields.now) }
@@ -117,7 +118,7 @@ fn string(
 /// The contents of a stream, behind its header.
 #[tactic(auto, using(crate::proofs::TopLoop::top_begun, crate::proofs::TopLoop::top_next, crate::proofs::TopLoop::top_done, crate::proofs::TopLoop::top_failed, crate::proofs::TopLoop::top_endless))]
 pub(crate) fn contents(alloc: Global, cursor: &mut Cursor<'_>) -> Result<Vec<Content>, Fault>
-    requires room { length cursor.old ≤ 2147483647 }
+    requires room { length cursor.old ≤ most_tree_bytes }
     ensures { FindsAll (λ list. view_contents list.items) result (top_in (value_in 2000) (length cursor.old) [] cursor.old) }
 {
     let mut table = Handles::new(alloc);

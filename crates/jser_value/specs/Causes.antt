@@ -9,18 +9,19 @@ use Rattle.jser_grammar.specs.Trees.{ContentTrees}
 use Rattle.jser_grammar.specs.Spelling.{spelling}
 use Rattle.jser_grammar.specs.WellFormed.{WellFormed}
 use Rattle.jser_grammar.specs.Counts.{depth_of}
+use Rattle.jser_grammar.specs.Caps.{most_tree_bytes, most_tree_depth}
 
 -- neither deeper nor longer than trees may be
 pub record IsWithin (contents : ContentTrees) : Type 0 where
-  pub depth : depth_of contents ≤ 1000
-  pub size : length (spelling contents) ≤ 2147483647
+  pub depth : depth_of contents ≤ most_tree_depth
+  pub size : length (spelling contents) ≤ most_tree_bytes
 
 abbrev pub IsTooDeep : ContentTrees → Type 0
-IsTooDeep contents = 1000 < depth_of contents
+IsTooDeep contents = most_tree_depth < depth_of contents
 
 -- not too deep, and too long
 abbrev pub IsTooLarge : ContentTrees → Type 0
-IsTooLarge contents = (depth_of contents ≤ 1000) × (2147483647 < length (spelling contents))
+IsTooLarge contents = (depth_of contents ≤ most_tree_depth) × (most_tree_bytes < length (spelling contents))
 
 -- neither, and against the format
 abbrev pub IsNotRight : ContentTrees → Type 0

@@ -10,6 +10,7 @@ use Rattle.jser_grammar.specs.Codes.{size_of, letter_of, prim_code_of, is_object
 use Rattle.jser_grammar.specs.Trees.{TextPlaceTree, new_text, back_text, FieldTree, PrimTree}
 use Rattle.jser_grammar.specs.TableAfter.{Entries, after_type}
 use Rattle.jser_grammar.specs.Parts.{text_bound, is_malformed, block_bound}
+use Rattle.jser_grammar.specs.Wire.{BASE_WIRE_HANDLE}
 
 -- these numbers are below a bound
 abbrev pub all_below : ℕ → List ℕ → Bool
@@ -29,7 +30,7 @@ abbrev pub obeys_flags : ℕ → Bool
 obeys_flags flags = nat_lt flags 32 && not (is_serializable flags && is_externalizable flags)
 
 abbrev pub is_handle : ℕ → Bool
-is_handle n = nat_lt (0x7E0000 + n) (2 ^ 32)
+is_handle n = nat_lt (BASE_WIRE_HANDLE + n) (2 ^ 32)
 
 abbrev pub obeys_back : Entries → ℕ → Bool
 obeys_back T n = nat_lt n (length T) && is_handle n

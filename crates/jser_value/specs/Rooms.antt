@@ -1,6 +1,7 @@
 -- What is left of a number of levels, or of bytes, for a part of a tree.
 use Rattle.std.specs.Prelude.{ℕ, suc, ◌≡◌, ◌+◌, ◌<◌, ◌≤◌, Bool, true, false, List, length, Option, Some, None}
 use Rattle.jser_grammar.specs.TableAfter.{Entries}
+use Rattle.jser_grammar.specs.Caps.{most_tree_bytes}
 
 -- a part so deep fits into `room` levels, or it does not
 abbrev pub FitsRoom : ℕ → ℕ → Bool → Type 0
@@ -17,11 +18,11 @@ Leaves room taken None = room < taken
 
 -- each of the bytes could be a handle's
 abbrev pub HasRoom : Entries → List ℕ → Type 0
-HasRoom T bytes = length T + length bytes ≤ 2147483647
+HasRoom T bytes = length T + length bytes ≤ most_tree_bytes
 
 -- and one more handle
 abbrev pub HasRoomForOneMore : Entries → List ℕ → Type 0
-HasRoomForOneMore T bytes = length T + length bytes < 2147483647
+HasRoomForOneMore T bytes = length T + length bytes < most_tree_bytes
 
 -- Of the bytes those before `rest` were gone through, and no more handles added than that.
 abbrev pub Spends : Entries → List ℕ → Entries → List ℕ → Type 0

@@ -8,15 +8,13 @@ use crate::depth::contents_within;
 use crate::obeys::{Fault, check_contents};
 use crate::size::after_contents;
 use crate::tree::Content;
+use jser_grammar::caps::{MOST_TREE_BYTES, MOST_TREE_DEPTH};
 use std::alloc::Global;
 use std::marker::Model;
 use thiserror::Error;
 
-/// How deep trees are at most: the calls on trees recurse.
-const MAX_DEPTH: u32 = 1000;
-
-/// How many bytes the spelling of a list has at most, behind the four of the header.
-const MAX_SIZE: u64 = 0x7FFF_FFFF - 4;
+/// How many bytes the spelling of a list has at most, after the four of the header.
+const MOST_AFTER_HEADER: u64 = MOST_TREE_BYTES - 4;
 
 /// Why a list of contents is refused: the first of these that holds.
 #[derive(Clone, Copy, PartialEq, Eq, Hash, Debug, Error)]
@@ -121,10 +119,10 @@ impl Contents {
 fn cause_against(alloc: Global, list: &[Content]) -> Option<ValueCause>
     ensures { MatchOption result (IsContents (view_contents list.now)) (λ cause. Explains cause (view_contents list.now)) }
 {
-    if !contents_within(list, MAX_DEPTH) {
+    if !contents_within(list, MOST_TREE_DEPTH) {
         return Some(ValueCause::TooDeep);
     }
-    if after_contents(MAX_SIZE, list).is_none() {
+    if after_contents(MOST_AFTER_HEADER, list).is_none() {
         return Some(ValueCause::TooLarge);
     }
     match check_contents(alloc, list) {

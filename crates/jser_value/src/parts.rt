@@ -11,12 +11,9 @@ ghost use Rattle.jser_value.specs.View.{view_prim, view_field};
 use crate::size::after_units;
 use crate::tree::{Field, Raw};
 use jser_grammar::wire::BASE_WIRE_HANDLE;
+use jser_table::flags::{SC_EXTERNALIZABLE, SC_SERIALIZABLE};
 use jser_table::{BodyKind, LayerKind, layer_kind_of};
 use std::alloc::{AllocError, Global};
-
-const SC_SERIALIZABLE: u8 = 0x02;
-
-const SC_EXTERNALIZABLE: u8 = 0x04;
 
 /// Whether the modified UTF-8 of a text has a length of 2 bytes, or of 8 bytes and below 2^63.
 pub(crate) fn is_text(long: bool, units: &[u16]) -> bool

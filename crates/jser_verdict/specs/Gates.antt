@@ -1,6 +1,7 @@
 -- A gate: its limits, and its answer to each checked name. What its limits may be at most is `IsGate`; of what the
 -- limits say, see `Passing` for whole lists and `Rows` for the bytes of one field.
 use Rattle.std.specs.Prelude.{ℕ, ◌-◌, ◌^◌, ◌≤◌, min, Bool, true, false, List}
+use Rattle.jser_grammar.specs.Caps.{most_bytes, most_depth, most_refs, most_array, most_handles}
 use Rattle.jser_reading.specs.GateLimits.{GateLimits}
 
 pub data Answer : Type 0 where
@@ -16,11 +17,11 @@ pub record Gate : Type 0 where
   pub handles : ℕ
   pub answer : List ℕ → Answer
 
--- The caps that each gate keeps: 2^40 bytes, depth 65,535; and handles go from 0x7E0000 to 0x7FFFFFFF.
+-- The caps that each gate keeps.
 abbrev pub IsGate : Gate → Type 0
 IsGate gate =
-    (gate.bytes ≤ 2 ^ 40) × (gate.depth ≤ 65535) × (gate.refs ≤ 2 ^ 63 - 1) × (gate.array ≤ 2 ^ 31 - 1)
-    × (gate.handles ≤ 2139226112)
+    (gate.bytes ≤ most_bytes) × (gate.depth ≤ most_depth) × (gate.refs ≤ most_refs) × (gate.array ≤ most_array)
+    × (gate.handles ≤ most_handles)
 
 -- The gate with its limits of bytes and depth lowered, as a call that makes trees lowers them by the caps of trees.
 abbrev pub lowered : (most deepest : ℕ) → Gate → Gate

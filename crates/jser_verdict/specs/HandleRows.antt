@@ -4,6 +4,7 @@
 use Rattle.std.specs.Prelude.{ℕ, ◌+◌, ◌-◌, ◌&&◌, ◌||◌, Bool, true, false, if◌then◌else◌, nat_lt, nat_le, List, length, Option, Some, None, slice_get}
 use Rattle.jser_table.specs.Entries.{TableEntry, text_entry, other_entry, pending_entry, closed_entry, is_pending}
 use Rattle.jser_grammar.specs.TableAfter.{Entries}
+use Rattle.jser_grammar.specs.Wire.{BASE_WIRE_HANDLE}
 use Rattle.jser_reading.specs.Labels.{Position, back_handle_at, text_handle_at, class_handle_at, superclass_handle_at}
 use Rattle.jser_verdict.specs.BytesSoFar.{of_number}
 
@@ -19,11 +20,11 @@ handle_row position bytes test = is_handle_position position && of_number 4 byte
 
 -- no entry has this handle
 abbrev pub is_no_handle : Entries → ℕ → Bool
-is_no_handle table n = nat_lt n 0x7E0000 || nat_le (0x7E0000 + length table) n
+is_no_handle table n = nat_lt n BASE_WIRE_HANDLE || nat_le (BASE_WIRE_HANDLE + length table) n
 
 -- the entry with this handle
 abbrev pub entry_named : Entries → ℕ → Option TableEntry
-entry_named table n = if nat_le 0x7E0000 n then slice_get table (n - 0x7E0000) else None
+entry_named table n = if nat_le BASE_WIRE_HANDLE n then slice_get table (n - BASE_WIRE_HANDLE) else None
 
 abbrev pub is_no_text : Option TableEntry → Bool
 is_no_text None = false

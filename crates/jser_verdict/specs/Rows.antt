@@ -8,6 +8,7 @@ use Rattle.jser_table.specs.Chains.{is_serializable, is_externalizable}
 use Rattle.jser_table.specs.Names.{name_kind}
 use Rattle.jser_grammar.specs.Codes.{prim_code_of, is_object_code}
 use Rattle.jser_grammar.specs.Parts.{is_malformed}
+use Rattle.jser_grammar.specs.Wire.{stream_header}
 use Rattle.jser_reading.specs.Labels.{Position, header_at, class_handle_at, superclass_handle_at, string_at, class_name_at, field_name_at, interface_name_at, suid_at, field_count_at, interface_count_at, array_length_at, flags_at, type_code_at, block_length_at, Label}
 use Rattle.jser_verdict.specs.Reasons.{Reason, bytes_exceeded, bad_header, bad_tag, exception_tag, reset_inside, bad_text, negative_length, bad_type_code, field_order, bad_flags, null_class, no_such_handle, wrong_kind, open_descriptor, bad_array_name, wrong_class, external_raw, not_serializable, class_rejected, class_unmatched, depth_exceeded, refs_exceeded, array_exceeded, truncated, handle_space}
 use Rattle.jser_verdict.specs.Gates.{Gate, is_rejected, is_unmatched}
@@ -19,7 +20,7 @@ use Rattle.jser_verdict.specs.ClassRows.{wrong_class_row, external_raw_row, not_
 
 -- STREAM_MAGIC and STREAM_VERSION
 abbrev pub bad_header_row : Position → List ℕ → Bool
-bad_header_row header_at bytes = differs (0xAC ∷ 0xED ∷ 0x00 ∷ 0x05 ∷ []) bytes
+bad_header_row header_at bytes = differs stream_header bytes
 bad_header_row _ bytes = false
 
 abbrev pub bad_text_row : Position → List ℕ → Bool

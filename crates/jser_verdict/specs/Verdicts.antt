@@ -6,6 +6,7 @@ use Rattle.jser_table.specs.Entries.{is_pending}
 use Rattle.jser_table.specs.Names.{name_kind}
 use Rattle.jser_grammar.specs.Codes.{prim_code_of}
 use Rattle.jser_grammar.specs.Parts.{is_malformed}
+use Rattle.jser_grammar.specs.Wire.{TC_NULL, TC_RESET, TC_EXCEPTION, stream_header}
 use Rattle.jser_reading.specs.Roles.{Owner, ChainOwner, Role}
 use Rattle.jser_reading.specs.Labels.{StreamField, Position, nowhere, header_at, top_at, annotation_at, value_at, text_place_at, class_place_at, superclass_place_at, back_handle_at, text_handle_at, class_handle_at, superclass_handle_at, string_at, class_name_at, field_name_at, interface_name_at, suid_at, field_count_at, interface_count_at, array_length_at, flags_at, type_code_at, block_length_at, raw_at, bytes_at, Label}
 use Rattle.jser_reading.specs.FieldsFromBytes.{number_of, size_in, field_in}
@@ -45,17 +46,17 @@ limit_reason gate label b =
 
 abbrev pub content_reason : Gate → Label → ℕ → Option Reason
 content_reason gate label b =
-    told_if (not (is_known_tag label.position b)) bad_tag (told_if (nat_eq b 0x7B) exception_tag (limit_reason gate label b))
+    told_if (not (is_known_tag label.position b)) bad_tag (told_if (nat_eq b TC_EXCEPTION) exception_tag (limit_reason gate label b))
 
 abbrev pub inner_reason : Gate → Label → ℕ → Option Reason
 inner_reason gate label b =
     told_if (not (is_known_tag label.position b)) bad_tag
-    (told_if (nat_eq b 0x7B) exception_tag (told_if (nat_eq b 0x79) reset_inside (limit_reason gate label b)))
+    (told_if (nat_eq b TC_EXCEPTION) exception_tag (told_if (nat_eq b TC_RESET) reset_inside (limit_reason gate label b)))
 
 abbrev pub class_tag_reason : Gate → Label → Owner → ℕ → Option Reason
 class_tag_reason gate label owner b =
     told_if (not (is_known_tag label.position b)) bad_tag
-    (told_if (nat_eq b 0x70) null_class (told_if (is_wrong_proxy owner b) wrong_class (limit_reason gate label b)))
+    (told_if (nat_eq b TC_NULL) null_class (told_if (is_wrong_proxy owner b) wrong_class (limit_reason gate label b)))
 
 abbrev pub other_tag_reason : Gate → Label → ℕ → Option Reason
 other_tag_reason gate label b = told_if (not (is_known_tag label.position b)) bad_tag (limit_reason gate label b)
@@ -135,7 +136,7 @@ code_reason seen code =
 -- the reason for which bytes are refused, if they are
 abbrev pub reason_at : Gate → Label → Position → List ℕ → Option Reason
 reason_at gate label nowhere bytes = None
-reason_at gate label header_at bytes = told_if (differs (0xAC ∷ 0xED ∷ 0x00 ∷ 0x05 ∷ []) bytes) bad_header None
+reason_at gate label header_at bytes = told_if (differs stream_header bytes) bad_header None
 reason_at gate label top_at bytes = on_byte bytes (content_reason gate label)
 reason_at gate label annotation_at bytes = on_byte bytes (inner_reason gate label)
 reason_at gate label value_at bytes = on_byte bytes (inner_reason gate label)

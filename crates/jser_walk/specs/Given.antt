@@ -2,6 +2,7 @@
 -- of class places, and the nodes that an earlier walk found for them.
 use Rattle.std.specs.Prelude.{ℕ, ◌≡◌, ◌+◌, true, false, List, [], ◌∷◌, map}
 use Rattle.jser_grammar.specs.Spelling.{prims_spelling}
+use Rattle.jser_grammar.specs.Wire.{TC_BLOCKDATA, TC_ENDBLOCKDATA, TC_RESET, TC_BLOCKDATALONG, BASE_WIRE_HANDLE}
 use Rattle.jser_reading.specs.Roles.{object_owner, array_owner, enum_owner, class_owner}
 use Rattle.jser_reading.specs.Roles.{Owner as ToldOwner}
 use Rattle.jser_reading.specs.Labels.{StreamField, header_field, tag_field, block_tag_field, end_tag_field, reset_tag_field, handle_field, suid_field, flags_field, field_count_field, interface_count_field, array_length_field, code_field, text_field, block_length_field, prims_field, bytes_field}
@@ -18,11 +19,11 @@ use Rattle.jser_walk.specs.declared.owner.OwnerNode.{OwnerNode}
 abbrev pub IsOf : Field → StreamField → Type 0
 IsOf field.Header header_field = Unit {0}
 IsOf (field.Tag b) (tag_field tag) = b ≡ tag_byte tag
-IsOf (field.Tag b) (block_tag_field false) = b ≡ 0x77
-IsOf (field.Tag b) (block_tag_field true) = b ≡ 0x7A
-IsOf (field.Tag b) end_tag_field = b ≡ 0x78
-IsOf (field.Tag b) reset_tag_field = b ≡ 0x79
-IsOf (field.Handle h) (handle_field n) = h ≡ 0x7E0000 + n
+IsOf (field.Tag b) (block_tag_field false) = b ≡ TC_BLOCKDATA
+IsOf (field.Tag b) (block_tag_field true) = b ≡ TC_BLOCKDATALONG
+IsOf (field.Tag b) end_tag_field = b ≡ TC_ENDBLOCKDATA
+IsOf (field.Tag b) reset_tag_field = b ≡ TC_RESET
+IsOf (field.Handle h) (handle_field n) = h ≡ BASE_WIRE_HANDLE + n
 IsOf (field.Suid m) (suid_field n) = m ≡ n
 IsOf (field.Flags m) (flags_field n) = m ≡ n
 IsOf (field.FieldCount m) (field_count_field n) = m ≡ n

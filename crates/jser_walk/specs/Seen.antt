@@ -1,5 +1,6 @@
 -- What a walk sees of a field stands for what a teller sees of it.
 use Rattle.std.specs.Prelude.{ℕ, ◌≡◌, ◌==◌, Bool, true, false, if◌then◌else◌, List, Option, Some, None, option_map}
+use Rattle.jser_grammar.specs.Wire.{TC_NULL, TC_REFERENCE, TC_CLASSDESC, TC_OBJECT, TC_STRING, TC_ARRAY, TC_CLASS, TC_BLOCKDATA, TC_ENDBLOCKDATA, TC_RESET, TC_BLOCKDATALONG, TC_LONGSTRING, TC_PROXYCLASSDESC, TC_ENUM}
 use Rattle.jser_reading.specs.Labels.{null_tag, reference_tag, class_desc_tag, object_tag, string_tag, array_tag, class_tag, long_string_tag, proxy_desc_tag, enum_tag, StreamField}
 use Rattle.jser_reading.specs.Labels.{Tag as ToldTag}
 use Rattle.jser_shown.specs.Telling.{SeenField, seen_header, seen_end_tag, seen_reset_tag, seen_tag, seen_block_tag, seen_handle, seen_suid, seen_flags, seen_field_count, seen_interface_count, seen_array_length, seen_code, seen_block_length, seen_text, seen_bytes}
@@ -46,18 +47,18 @@ Sees (Some s) told = told_seen s ≡ seen_of told
 -- what is seen of a tag
 abbrev pub tag_seen : ℕ → Option SeenField
 tag_seen b =
-    if b == 0x70 then Some (seen_tag null_tag)
-    else (if b == 0x71 then Some (seen_tag reference_tag)
-    else (if b == 0x72 then Some (seen_tag class_desc_tag)
-    else (if b == 0x73 then Some (seen_tag object_tag)
-    else (if b == 0x74 then Some (seen_tag string_tag)
-    else (if b == 0x75 then Some (seen_tag array_tag)
-    else (if b == 0x76 then Some (seen_tag class_tag)
-    else (if b == 0x77 then Some (seen_block_tag false)
-    else (if b == 0x78 then Some seen_end_tag
-    else (if b == 0x79 then Some seen_reset_tag
-    else (if b == 0x7A then Some (seen_block_tag true)
-    else (if b == 0x7C then Some (seen_tag long_string_tag)
-    else (if b == 0x7D then Some (seen_tag proxy_desc_tag)
-    else (if b == 0x7E then Some (seen_tag enum_tag)
+    if b == TC_NULL then Some (seen_tag null_tag)
+    else (if b == TC_REFERENCE then Some (seen_tag reference_tag)
+    else (if b == TC_CLASSDESC then Some (seen_tag class_desc_tag)
+    else (if b == TC_OBJECT then Some (seen_tag object_tag)
+    else (if b == TC_STRING then Some (seen_tag string_tag)
+    else (if b == TC_ARRAY then Some (seen_tag array_tag)
+    else (if b == TC_CLASS then Some (seen_tag class_tag)
+    else (if b == TC_BLOCKDATA then Some (seen_block_tag false)
+    else (if b == TC_ENDBLOCKDATA then Some seen_end_tag
+    else (if b == TC_RESET then Some seen_reset_tag
+    else (if b == TC_BLOCKDATALONG then Some (seen_block_tag true)
+    else (if b == TC_LONGSTRING then Some (seen_tag long_string_tag)
+    else (if b == TC_PROXYCLASSDESC then Some (seen_tag proxy_desc_tag)
+    else (if b == TC_ENUM then Some (seen_tag enum_tag)
     else None)))))))))))))

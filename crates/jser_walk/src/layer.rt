@@ -6,6 +6,8 @@ ghost use Rattle.jser_walk.specs.Steps.{layer_name};
 ghost use Rattle.jser_walk.specs.Layers.{told_layer, told_fields, field_at, is_raw_at, NextRaw, NextValue};
 ghost use Rattle.jser_walk.specs.Views.{view_name};
 
+use jser_table::flags::{SC_EXTERNALIZABLE, SC_WRITE_METHOD};
+
 /// A field of a class.
 #[derive(Drop)]
 pub(crate) struct NamedField {
@@ -57,17 +59,18 @@ impl Layer {
         ensures { result ≡ has_notes (told_layer self.now) }
     {
         match self {
-            Layer::Class { flags, .. } => flags % 2 == 1,
+            Layer::Class { flags, .. } => flags & SC_WRITE_METHOD != 0,
             Layer::Proxy => false,
         }
     }
 
     /// Whether it is externalizable.
+    #[tactic(auto, using(jser_table::proofs::FlagLemmas::externalizable_bit))]
     pub(crate) fn is_external(&self) -> bool
         ensures { result ≡ is_external_class (told_layer self.now) }
     {
         match self {
-            Layer::Class { flags, .. } => flags / 4 % 2 == 1,
+            Layer::Class { flags, .. } => flags & SC_EXTERNALIZABLE != 0,
             Layer::Proxy => false,
         }
     }
@@ -77,14 +80,14 @@ impl Layer {
 fn is_primitive(code: u8) -> bool
     ensures { result ≡ is_some (prim_code_of code) }
 {
-    matches!(code, 0x42 | 0x43 | 0x44 | 0x46 | 0x49 | 0x4A | 0x53 | 0x5A)
+    matches!(code, b'B' | b'C' | b'D' | b'F' | b'I' | b'J' | b'S' | b'Z')
 }
 
 /// Whether a field with this code has a type text.
 pub(crate) fn has_type_text(code: u8) -> bool
     ensures { result ≡ is_object_code code }
 {
-    code == 0x5B || code == 0x4C
+    code == b'[' || code == b'L'
 }
 
 /// Whether the field at this place is of a primitive type.

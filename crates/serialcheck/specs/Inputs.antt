@@ -1,6 +1,7 @@
 -- What is known of an input of which the first bytes were read: all, or one more than a stream may have.
-use Rattle.std.specs.Prelude.{ℕ, ◌≡◌, ◌+◌, ◌^◌, List, take, Option}
+use Rattle.std.specs.Prelude.{ℕ, ◌≡◌, ◌+◌, List, take, Option}
 use Rattle.std.specs.Io.KnownBytes.{Appends}
+use Rattle.jser_grammar.specs.Caps.{most_bytes}
 use Rattle.jser_reader.specs.declared.Refusal.{Refusal}
 use Rattle.jser_graph.specs.Graphs.{GraphView, StandsForSome}
 use Rattle.jser_graph.specs.Reading.{IsRefused}
@@ -10,7 +11,7 @@ use Rattle.serialcheck.specs.declared.input.Unread.TheVariants as unread
 
 -- what holds of all bytes, whatever comes after these
 abbrev pub OfAll : (List ℕ → Type 0) → (front : List ℕ) → Type 0
-OfAll P front = (bytes : List ℕ) → take (2 ^ 40 + 1) bytes ≡ front → P bytes
+OfAll P front = (bytes : List ℕ) → take (most_bytes + 1) bytes ≡ front → P bytes
 
 -- the graph stands for all of them
 unfoldable pub StandsForAll : (front : List ℕ) → GraphView → Type 0

@@ -9,6 +9,7 @@ use crate::answer::{print_line, text_of_refusal};
 use crate::status::{REFUSED, tell_failure};
 use crate::whole::{WholeFault, read_front};
 use jser_check::Refusal;
+use jser_grammar::caps::MOST_BYTES;
 use jser_graph::Graph;
 use jser_prim::{Sink, Source};
 use jser_reader::Stop;
@@ -26,9 +27,6 @@ pub(crate) enum Unread {
     OutOfMemory,
 }
 
-/// The most bytes that a stream may have, 2^40.
-const BYTE_CAP: usize = 0x100_0000_0000;
-
 /// The stream of a source, which is read to its end, or until one byte more than a stream may have has come.
 ///
 /// # Errors
@@ -39,7 +37,7 @@ pub(crate) fn read_stream<R: Source>(alloc: Global, input: &mut R) -> Result<Gra
     ensures accepted { IfOk result (λ graph. IfSome (R.to_come input.old) (λ bytes. StandsForSome bytes graph)) }
     ensures refused { IfErr result (λ unread. IfSome (R.to_come input.old) (λ bytes. IfUnreadRefused (IsRefused bytes) unread)) }
 {
-    match read_front(alloc, input, BYTE_CAP) {
+    match read_front(alloc, input, MOST_BYTES as usize) {
         Ok(front) => stream_of(alloc, &front),
         Err(WholeFault::OutOfMemory) => Err(Unread::OutOfMemory),
         Err(_) => Err(Unread::Failed),

@@ -1,6 +1,7 @@
 //! The bytes of a source, if they are not too many.
-ghost use Rattle.std.specs.Prelude.{◌≡◌, ◌<◌, ◌≤◌, ◌+◌, ◌^◌, IfOk, OnOk, IfSome, length, take, vec_len, true, false};
+ghost use Rattle.std.specs.Prelude.{◌≡◌, ◌<◌, ◌≤◌, ◌+◌, IfOk, OnOk, IfSome, length, take, vec_len, true, false};
 ghost use Rattle.std.specs.Io.KnownBytes.{IsAtEnd};
+ghost use Rattle.jser_grammar.specs.Caps.{most_bytes};
 ghost use Rattle.serialcheck.specs.Settings.{most_modules_bytes};
 ghost use Rattle.serialcheck.specs.Whole.{ReadsOnto};
 
@@ -54,7 +55,7 @@ pub(crate) fn read_front<R: Source>(
     source: &mut R,
     most: usize,
 ) -> Result<Vec<u8>, WholeFault>
-    requires { most ≤ 2 ^ 40 }
+    requires { most ≤ most_bytes }
     ensures bytes { IfOk result (λ front. IfSome (R.to_come source.old) (λ bytes. take (most + 1) bytes ≡ front.items)) }
     ensures within { IfOk result (λ front. vec_len front ≤ most + 1) }
 {

@@ -2,6 +2,7 @@
 ghost use Rattle.std.specs.Prelude.{◌≡◌, ◌<◌, ◌-◌, length, suc};
 ghost use Rattle.jser_table.specs.Chains.{chain_in};
 ghost use Rattle.jser_table.specs.Entries.{chain_at};
+ghost use Rattle.jser_grammar.specs.Wire.{TC_PROXYCLASSDESC};
 ghost use Rattle.jser_reading.specs.FieldBytes.{tag_byte};
 ghost use Rattle.jser_reading.specs.FieldsFromBytes.{tag_from};
 ghost use Rattle.jser_reading.specs.Labels.{class_place_at, class_handle_at};
@@ -24,8 +25,8 @@ impl Machine {
     /// A new proxy descriptor as the class of the owner.
     #[tactic(auto, using(crate::proofs::ClassLemmas::object_proxy, crate::proofs::ClassLemmas::array_proxy, crate::proofs::ClassLemmas::enum_proxy, crate::proofs::ClassLemmas::class_proxy))]
     fn proxy_class(&mut self) -> bool
-        ensures { Tells (class_tag_reason (plain_gate self.old) (label_at (class_place_at (goal_owner self.old.owner)) (suc (length self.old.frames)) self.old) (goal_owner self.old.owner) 0x7D)
-            (after_class_tag self.old (tag_from 0x7D)) result self.old self.new }
+        ensures { Tells (class_tag_reason (plain_gate self.old) (label_at (class_place_at (goal_owner self.old.owner)) (suc (length self.old.frames)) self.old) (goal_owner self.old.owner) TC_PROXYCLASSDESC)
+            (after_class_tag self.old (tag_from TC_PROXYCLASSDESC)) result self.old self.new }
     {
         match self.owner {
             Owner::Array => self.refuse(Reason::WrongClass),

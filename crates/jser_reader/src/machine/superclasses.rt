@@ -1,5 +1,6 @@
 //! Superclass places: the tag, and the handle of a superclass that has been read.
 ghost use Rattle.std.specs.Prelude.{◌≡◌, ◌-◌, Some};
+ghost use Rattle.jser_grammar.specs.Wire.{TC_NULL, TC_REFERENCE, TC_CLASSDESC, TC_PROXYCLASSDESC};
 ghost use Rattle.jser_reading.specs.FieldBytes.{tag_byte};
 ghost use Rattle.jser_reading.specs.FieldsFromBytes.{tag_from};
 ghost use Rattle.jser_reader.specs.Tags.{told_tag};
@@ -56,7 +57,7 @@ impl Machine {
     /// NULL in a superclass place, a class with no superclass.
     #[tactic(auto, using(crate::proofs::SuperTagLemmas::null_fails, crate::proofs::SuperTagLemmas::null_closes))]
     fn null_super(&mut self) -> bool
-        ensures { HasDescriptor self.old.frames → Tells (super_reason self.old 0x70) (after_super_tag self.old (tag_from 0x70)) result self.old self.new }
+        ensures { HasDescriptor self.old.frames → Tells (super_reason self.old TC_NULL) (after_super_tag self.old (tag_from TC_NULL)) result self.old self.new }
     {
         if !self.count_place() {
             return false;
@@ -67,7 +68,7 @@ impl Machine {
     /// A reference in a superclass place.
     #[tactic(auto, using(crate::proofs::SuperTagLemmas::back_fails, crate::proofs::SuperTagLemmas::back_goes))]
     fn back_super(&mut self) -> bool
-        ensures { HasDescriptor self.old.frames → Tells (super_reason self.old 0x71) (after_super_tag self.old (tag_from 0x71)) result self.old self.new }
+        ensures { HasDescriptor self.old.frames → Tells (super_reason self.old TC_REFERENCE) (after_super_tag self.old (tag_from TC_REFERENCE)) result self.old self.new }
     {
         if !self.count_place() {
             return false;
@@ -78,7 +79,7 @@ impl Machine {
     /// A new plain descriptor in a superclass place.
     #[tactic(auto, using(crate::proofs::SuperTagLemmas::plain_fails, crate::proofs::SuperTagLemmas::plain_goes))]
     fn plain_super(&mut self) -> bool
-        ensures { Tells (super_reason self.old 0x72) (after_super_tag self.old (tag_from 0x72)) result self.old self.new }
+        ensures { Tells (super_reason self.old TC_CLASSDESC) (after_super_tag self.old (tag_from TC_CLASSDESC)) result self.old self.new }
     {
         if !self.count_place() {
             return false;
@@ -90,7 +91,7 @@ impl Machine {
     /// A new proxy descriptor in a superclass place.
     #[tactic(auto, using(crate::proofs::SuperTagLemmas::proxy_fails, crate::proofs::SuperTagLemmas::proxy_goes))]
     fn proxy_super(&mut self) -> bool
-        ensures { Tells (super_reason self.old 0x7D) (after_super_tag self.old (tag_from 0x7D)) result self.old self.new }
+        ensures { Tells (super_reason self.old TC_PROXYCLASSDESC) (after_super_tag self.old (tag_from TC_PROXYCLASSDESC)) result self.old self.new }
     {
         if !self.count_place() {
             return false;

@@ -1,5 +1,5 @@
 use Rattle.std.proofs.Common.{◌≡◌, ◌≤◌, ◌+◌, ◌-◌, vec_len}
-use Rattle.jser_check.specs.Admitted.{most_bytes}
+use Rattle.jser_grammar.specs.Caps.{most_bytes}
 use Rattle.jser_check.specs.Sources.{read_bytes, Taken}
 use Rattle.jser_check.proofs.reader.read_whole.Given as goal
 
