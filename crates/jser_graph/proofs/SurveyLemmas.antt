@@ -11,11 +11,11 @@ use Rattle.jser_shown.specs.Telling.{settled, goes, seen}
 use Rattle.jser_shown.specs.Naming.{name_in}
 use Rattle.jser_shown.specs.Indexing.{Index, index, settle_index, made, moved, begin_node, index_at, index_in, kind_of_owner}
 use Rattle.jser_shown.specs.Collecting.{Collection, settle_collection, filled, last_number, collect}
-use Rattle.jser_walk.specs.Steps.{section_due, external_due, type_word_due, line_end_due, made_due, quiet_due, due, pass, due_index, due_collection, steps_left}
+use Rattle.jser_walk.specs.Steps.{section_due, external_due, type_word_due, line_end_due, made_due, quiet_due, due, pass_quietly, due_index, due_collection, steps_left}
 use Rattle.jser_walk.specs.Steps.{Due as ToldDue}
 use Rattle.jser_walk.specs.Prompts.{class_name_prompt, interface_prompt, prompt_at, prompt_in, prompt_of, prompt_names}
 use Rattle.jser_walk.specs.Prompts.{Prompt as ToldPrompt}
-use Rattle.jser_walk.specs.Laws.{StepsSettle, StepsEnd, NothingDue, PromptsKeep}
+use Rattle.jser_walk.specs.Laws.{QuietStepsSettle, QuietStepsEnd, NothingDue, PromptsKeep}
 use Rattle.jser_graph.specs.declared.survey.Survey.{Survey}
 use Rattle.jser_graph.specs.Surveying.{made_by, nodes_by, owners_by, is_string, is_name, names_by, Settles, Ended, Steps}
 use Rattle.jser_graph.specs.Indexing.{begun_by, index_by}
@@ -48,9 +48,9 @@ same_place (Some owner) x = place_made owner x.place x.begun x.nodes x.ended
 pub settles_none : (s : Survey) → Settles s s
 settles_none s = record { walk = refl; nodes = refl; owners = refl; names = refl; place = refl }
 
-pub settles_more : (old now mid new : Survey) (d : ToldDue) (o : Option ToldOwner) → StepsSettle → Settles old now → due now.walk ≡ Some d → o ≡ made_by d
+pub settles_more : (old now mid new : Survey) (d : ToldDue) (o : Option ToldOwner) → QuietStepsSettle → Settles old now → due now.walk ≡ Some d → o ≡ made_by d
     → mid.nodes ≡ nodes_by o now.nodes → mid.owners ≡ owners_by o (length now.walk.known) now.owners
-    → new.walk ≡ pass now.walk → new.nodes ≡ mid.nodes → new.owners ≡ mid.owners → new.names ≡ now.names → Settles old new
+    → new.walk ≡ pass_quietly now.walk → new.nodes ≡ mid.nodes → new.owners ≡ mid.owners → new.names ≡ now.names → Settles old new
 settles_more old now mid new d o law h is made nodes owners walk n c names =
     let l = law now.walk in
     let nodes_are : new.nodes ≡ due_index (due now.walk) now.nodes =
@@ -61,9 +61,9 @@ settles_more old now mid new d o law h is made nodes owners walk n c names =
     record {
       walk = h.walk ∙ l.0 ∙ ap settled (sym walk);
       nodes =
-          h.nodes ∙ l.2 now.nodes ∙ ap₂ (λ w x. settle_index w.known w.cues x) (sym walk) (sym nodes_are);
+          h.nodes ∙ l.1 now.nodes ∙ ap₂ (λ w x. settle_index w.known w.cues x) (sym walk) (sym nodes_are);
       owners =
-          h.owners ∙ l.3 now.owners ∙ ap₂ (λ w x. settle_collection w.known w.cues x) (sym walk) (sym owners_are);
+          h.owners ∙ l.2 now.owners ∙ ap₂ (λ w x. settle_collection w.known w.cues x) (sym walk) (sym owners_are);
       names = names ∙ h.names;
       place = ap (λ x. x.place) (n ∙ nodes) ∙ same_place o now.nodes ∙ h.place;
     }
@@ -79,7 +79,7 @@ settles_all old now law h none =
       place = h.place;
     }
 
-pub steps_less : (now new : Teller) (d : ToldDue) → StepsEnd → due now ≡ Some d → new ≡ pass now → steps_left new < steps_left now
+pub steps_less : (now new : Teller) (d : ToldDue) → QuietStepsEnd → due now ≡ Some d → new ≡ pass_quietly now → steps_left new < steps_left now
 steps_less now new d law is e =
     let n = law now d is in
     let m = ap steps_left e in

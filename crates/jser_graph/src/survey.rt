@@ -18,7 +18,7 @@ use crate::owners::Owners;
 use crate::part::{Part, part_of};
 use crate::texts::Texts;
 use jser_reader::Item;
-use jser_walk::laws::{nothing_due, prompts_keep, steps_end, steps_settle};
+use jser_walk::laws::{nothing_due, prompts_keep, quiet_steps_end, quiet_steps_settle};
 use jser_walk::{Due, Field, Owner, OwnerNode, Prompt, Walk};
 use std::alloc::{AllocError, Global};
 
@@ -116,11 +116,11 @@ impl<'a> Survey<'a> {
     {
         nothing_due();
         'steps: while let Some(due) = self.walk.due() {
-            steps_settle();
-            steps_end();
+            quiet_steps_settle();
+            quiet_steps_end();
             let made = made_by(due);
             self.make(made)?;
-            self.walk.pass()?;
+            self.walk.pass_quietly()?;
         }
         Ok(())
     }

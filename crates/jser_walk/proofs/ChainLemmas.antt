@@ -1,25 +1,27 @@
 -- Chains as they are kept: one more, fronts, what links lead to, and what is found at the end of a walk up.
-use Rattle.std.proofs.Common.{◌≡◌, ℕ, suc, ◌+◌, ◌-◌, ◌<◌, ◌≤◌, ◌^◌, List, [], ◌∷◌, ◌++◌, length, take, drop, fold, get_or, slice_get, Option, Some, None, refl, ap, sym, ◌∙◌, subst, inl, inr, arith, append_assoc, append-nil, length-append}
+use Rattle.std.proofs.Common.{◌≡◌, ℕ, suc, ◌+◌, ◌-◌, ◌<◌, ◌≤◌, ◌^◌, List, [], ◌∷◌, ◌++◌, length, take, drop, fold, cond, count_by, get_or, slice_get, Option, Some, None, refl, ap, sym, ◌∙◌, subst, inl, inr, arith, append_assoc, append-nil, length-append}
 use Rattle.std.proofs.lemmas.Bool.{cases_lt}
 use Rattle.std.proofs.lemmas.Option.{slice_get-get_or}
 use Rattle.std.proofs.lemmas.List.{get_or_append_left, get_or_push, get_or_at, take_at, drop_at, length_push}
-use Rattle.std.proofs.lemmas.List.Sums.{fold_push}
+use Rattle.std.proofs.lemmas.List.Sums.{fold_push, sum_by-append, count_by-le-length}
 use Rattle.jser_walk.specs.declared.chains.Chain.{Chain}
 use Rattle.jser_walk.specs.declared.chains.Links.{Links}
-use Rattle.jser_walk.specs.Chains.{chain_in, IsFront, chain_of_parent, chain_above, with_chain, chains_of, front_of, AreLinks, IsTold, AreTold, AreKept, LinksTo, LinkUnder, IsUnder, IsHighest}
+use Rattle.jser_walk.specs.declared.chains.Own.{Own}
+use Rattle.jser_walk.specs.declared.chains.Counted.TheVariants as counted
+use Rattle.jser_walk.specs.Chains.{chain_in, IsFront, chain_of_parent, chain_above, with_chain, chains_of, front_of, is_filled_own, AreLinks, IsTold, AreTold, AreKept, LinksTo, LinkUnder, IsUnder, IsHighest}
 
 -- fronts
 
-IsFront-append : (xs ys : List ℕ) → IsFront xs (xs ++ ys)
+IsFront-append : (xs ys : List Own) → IsFront xs (xs ++ ys)
 IsFront-append xs ys = record { rest = ap (λ rest. xs ++ rest) (sym (drop_at xs ys (length xs) refl)) }
 
-IsFront-from : (xs ys whole : List ℕ) → whole ≡ xs ++ ys → IsFront xs whole
+IsFront-from : (xs ys whole : List Own) → whole ≡ xs ++ ys → IsFront xs whole
 IsFront-from xs ys whole e = subst (IsFront xs) (sym e) (IsFront-append xs ys)
 
-pub IsFront-refl : (xs : List ℕ) → IsFront xs xs
+pub IsFront-refl : (xs : List Own) → IsFront xs xs
 IsFront-refl xs = IsFront-from xs [] xs (rw append-nil refl)
 
-pub IsFront-trans : (xs ys zs : List ℕ) → IsFront xs ys → IsFront ys zs → IsFront xs zs
+pub IsFront-trans : (xs ys zs : List Own) → IsFront xs ys → IsFront ys zs → IsFront xs zs
 IsFront-trans xs ys zs f g =
     IsFront-from xs (drop (length xs) ys ++ drop (length ys) zs) zs
     (g.rest ∙ ap (λ front. front ++ drop (length ys) zs) f.rest ∙ append_assoc xs (drop (length xs) ys) (drop (length ys) zs))
@@ -40,75 +42,79 @@ kept_none cs e = record {
   fewer = omega (arith, ap length e);
 }
 
-length-fold_with_chain : (chains : List (List ℕ)) (cs : List Chain) → length (fold with_chain chains cs) ≡ length chains + length cs
+length-fold_with_chain : (chains : List (List Own)) (cs : List Chain) → length (fold with_chain chains cs) ≡ length chains + length cs
 length-fold_with_chain chains [] = omega arith
 length-fold_with_chain chains (c ∷ cs) =
-    length-fold_with_chain (with_chain chains c) cs ∙ omega (arith, length_push chains (chain_above chains c.links ++ c.layer ∷ []))
+    length-fold_with_chain (with_chain chains c) cs ∙ omega (arith, length_push chains (chain_above chains c.links ++ c.own ∷ []))
 
 pub length_chains_of : (cs : List Chain) → length (chains_of cs) ≡ length cs
 unfolding chains_of
 length_chains_of cs = length-fold_with_chain [] cs ∙ omega arith
 
-chain_above-push : (chains others : List (List ℕ)) (chain : List ℕ) (place : ℕ) (links : Option Links) → AreLinks others place links → place ≤ length chains → chain_above (chains ++ chain ∷ []) links ≡ chain_above chains links
+chain_above-push : (chains others : List (List Own)) (chain : List Own) (place : ℕ) (links : Option Links) → AreLinks others place links → place ≤ length chains → chain_above (chains ++ chain ∷ []) links ≡ chain_above chains links
 chain_above-push chains others chain place None told within = refl
 chain_above-push chains others chain place (Some links) told within = get_or_append_left chains (chain ∷ []) [] links.parent (omega arith)
 
-AreLinks-push : (chains : List (List ℕ)) (chain : List ℕ) (place : ℕ) (links : Option Links) → place < length chains → AreLinks chains place links → AreLinks (chains ++ chain ∷ []) place links
+AreLinks-push : (chains : List (List Own)) (chain : List Own) (place : ℕ) (links : Option Links) → place < length chains → AreLinks chains place links → AreLinks (chains ++ chain ∷ []) place links
 AreLinks-push chains chain place None inside told = tt
 AreLinks-push chains chain place (Some links) inside told =
     let same : chain_in (chains ++ chain ∷ []) place ≡ chain_in chains place = get_or_append_left chains (chain ∷ []) [] place inside in
     let jump_same : chain_in (chains ++ chain ∷ []) links.jump ≡ chain_in chains links.jump = get_or_append_left chains (chain ∷ []) [] links.jump (omega arith) in
     (told.0, told.1, rw (jump_same, same) told.2)
 
-IsTold-push : (chains : List (List ℕ)) (chain : List ℕ) (place : ℕ) (c : Chain) → place < length chains → IsTold chains place c → IsTold (chains ++ chain ∷ []) place c
+IsTold-push : (chains : List (List Own)) (chain : List Own) (place : ℕ) (c : Chain) → place < length chains → IsTold chains place c → IsTold (chains ++ chain ∷ []) place c
 IsTold-push chains chain place c inside told =
     let same : chain_in (chains ++ chain ∷ []) place ≡ chain_in chains place = get_or_append_left chains (chain ∷ []) [] place inside in
     let above : chain_above (chains ++ chain ∷ []) c.links ≡ chain_above chains c.links = chain_above-push chains chains chain place c.links told.links (omega arith) in
     record {
-      own = same ∙ told.own ∙ ap (λ (front : List ℕ). front ++ c.layer ∷ []) (sym above);
+      own = same ∙ told.own ∙ ap (λ (front : List Own). front ++ c.own ∷ []) (sym above);
       layers = told.layers ∙ ap length (sym same);
+      filled = told.filled ∙ ap (count_by is_filled_own) (sym same);
+      fewer = told.fewer;
       within = told.within;
       links = AreLinks-push chains chain place c.links inside told.links;
     }
 
-above_of_parent : (chains : List (List ℕ)) (parent : Option ℕ) (links : Option Links) → LinkUnder chains parent links → chain_above chains links ≡ chain_of_parent chains parent
+above_of_parent : (chains : List (List Own)) (parent : Option ℕ) (links : Option Links) → LinkUnder chains parent links → chain_above chains links ≡ chain_of_parent chains parent
 above_of_parent chains None None under = refl
 above_of_parent chains None (Some links) under = absurd under
 above_of_parent chains (Some parent) None under = absurd under
 above_of_parent chains (Some parent) (Some links) under = ap (chain_in chains) under.parent_is
 
-AreLinks-new : (chains : List (List ℕ)) (parent : Option ℕ) (links : Option Links) (layer : ℕ) → LinkUnder chains parent links → AreLinks (chains ++ (chain_above chains links ++ layer ∷ []) ∷ []) (length chains) links
-AreLinks-new chains None None layer under = tt
-AreLinks-new chains None (Some links) layer under = absurd under
-AreLinks-new chains (Some parent) None layer under = absurd under
-AreLinks-new chains (Some parent) (Some links) layer under =
-    let chain : List ℕ = chain_in chains links.parent ++ layer ∷ [] in
+AreLinks-new : (chains : List (List Own)) (parent : Option ℕ) (links : Option Links) (own : Own) → LinkUnder chains parent links → AreLinks (chains ++ (chain_above chains links ++ own ∷ []) ∷ []) (length chains) links
+AreLinks-new chains None None own under = tt
+AreLinks-new chains None (Some links) own under = absurd under
+AreLinks-new chains (Some parent) None own under = absurd under
+AreLinks-new chains (Some parent) (Some links) own under =
+    let chain : List Own = chain_in chains links.parent ++ own ∷ [] in
     let here : chain_in (chains ++ chain ∷ []) (length chains) ≡ chain = get_or_push chains chain [] (length chains) refl in
     let jump_same : chain_in (chains ++ chain ∷ []) links.jump ≡ chain_in chains links.jump = get_or_append_left chains (chain ∷ []) [] links.jump under.jump_in in
     let front : IsFront (chain_in chains links.jump) (chain_in chains links.parent) = rw under.parent_is under.jump_front in (
       rw under.parent_is under.parent_in,
       under.jump_in,
-      rw (jump_same, here) (IsFront-trans _ _ _ front (IsFront-append (chain_in chains links.parent) (layer ∷ []))),
+      rw (jump_same, here) (IsFront-trans _ _ _ front (IsFront-append (chain_in chains links.parent) (own ∷ []))),
     )
 
-IsTold-new : (chains : List (List ℕ)) (parent : Option ℕ) (layer : ℕ) (c : Chain) → IsUnder chains parent layer c → IsTold (with_chain chains c) (length chains) c
-IsTold-new chains parent layer c under =
-    let chain : List ℕ = chain_above chains c.links ++ c.layer ∷ [] in
+IsTold-new : (chains : List (List Own)) (parent : Option ℕ) (own : Own) (c : Chain) → IsUnder chains parent own c → IsTold (with_chain chains c) (length chains) c
+IsTold-new chains parent own c under =
+    let chain : List Own = chain_above chains c.links ++ c.own ∷ [] in
     let here : chain_in (with_chain chains c) (length chains) ≡ chain = get_or_push chains chain [] (length chains) refl in
-    let links : AreLinks (with_chain chains c) (length chains) c.links = AreLinks-new chains parent c.links c.layer under.links in
+    let links : AreLinks (with_chain chains c) (length chains) c.links = AreLinks-new chains parent c.links c.own under.links in
     let above : chain_above (with_chain chains c) c.links ≡ chain_above chains c.links = chain_above-push chains (with_chain chains c) chain (length chains) c.links links (omega arith) in
-    let is_chain : chain_of_parent chains parent ++ layer ∷ [] ≡ chain =
-    rw (above_of_parent chains parent c.links under.links, under.layer_is) refl
+    let is_chain : chain_of_parent chains parent ++ own ∷ [] ≡ chain =
+    rw (above_of_parent chains parent c.links under.links, under.own_is) refl
     in
     record {
-      own = here ∙ ap (λ (front : List ℕ). front ++ c.layer ∷ []) (sym above);
+      own = here ∙ ap (λ (front : List Own). front ++ c.own ∷ []) (sym above);
       layers = under.layers ∙ ap length (is_chain ∙ sym here);
+      filled = under.filled ∙ ap (count_by is_filled_own) (is_chain ∙ sym here);
+      fewer = omega (arith, under.layers, under.filled, count_by-le-length is_filled_own (chain_of_parent chains parent ++ own ∷ []));
       within = under.within;
       links = links;
     }
 
-told_push : (old new : List Chain) (c : Chain) (parent : Option ℕ) (layer : ℕ) → AreTold old → new ≡ old ++ c ∷ [] → IsUnder (chains_of old) parent layer c → AreTold new
-told_push old new c parent layer told is under =
+told_push : (old new : List Chain) (c : Chain) (parent : Option ℕ) (own : Own) → AreTold old → new ≡ old ++ c ∷ [] → IsUnder (chains_of old) parent own c → AreTold new
+told_push old new c parent own told is under =
     subst AreTold (sym is) (λ place x inside read.
     rw (chains_of-push old c)
     (elim (cases_lt place (length old)) [
@@ -118,70 +124,80 @@ told_push old new c parent layer told is under =
       | inr after ↦
           let last : length old ≡ place = omega (arith, length_push old c) in
           let same : x ≡ c = read ∙ get_or_push old c x place last in
-          rw (same, sym last, ← length_chains_of old) (IsTold-new (chains_of old) parent layer c under)
+          rw (same, sym last, ← length_chains_of old) (IsTold-new (chains_of old) parent own c under)
     ]))
 
-pub kept_push : (old new : List Chain) (c : Chain) (parent : Option ℕ) (layer : ℕ) → AreKept old → length old < 2 ^ 32 - 1 → new ≡ old ++ c ∷ [] → IsUnder (chains_of old) parent layer c → AreKept new
-kept_push old new c parent layer kept few is under = record {
-  told = told_push old new c parent layer kept.told is under;
+pub kept_push : (old new : List Chain) (c : Chain) (parent : Option ℕ) (own : Own) → AreKept old → length old < 2 ^ 32 - 1 → new ≡ old ++ c ∷ [] → IsUnder (chains_of old) parent own c → AreKept new
+kept_push old new c parent own kept few is under = record {
+  told = told_push old new c parent own kept.told is under;
   fewer = omega (arith, ap length is, length_push old c);
 }
 
-pub chains_push : (old new : List Chain) (c : Chain) (parent : Option ℕ) (layer : ℕ) → new ≡ old ++ c ∷ [] → IsUnder (chains_of old) parent layer c → chains_of new ≡ chains_of old ++ (chain_of_parent (chains_of old) parent ++ layer ∷ []) ∷ []
-chains_push old new c parent layer is under =
-    ap chains_of is ∙ chains_of-push old c ∙ rw (above_of_parent (chains_of old) parent c.links under.links, under.layer_is) refl
+pub chains_push : (old new : List Chain) (c : Chain) (parent : Option ℕ) (own : Own) → new ≡ old ++ c ∷ [] → IsUnder (chains_of old) parent own c → chains_of new ≡ chains_of old ++ (chain_of_parent (chains_of old) parent ++ own ∷ []) ∷ []
+chains_push old new c parent own is under =
+    ap chains_of is ∙ chains_of-push old c ∙ rw (above_of_parent (chains_of old) parent c.links under.links, under.own_is) refl
 
 -- a class that is made of a layer alone, or of a parent, a jump and a layer
 
-pub under_none : (cs : List Chain) (parent : Option ℕ) (layer : ℕ) (c : Chain) → parent ≡ None → c ≡ record { layer = layer; links = None; layers = 1 } → IsUnder (chains_of cs) parent layer c
-under_none cs parent layer c is made = rw (is, made) (record {
-  layer_is = refl;
+count_by_push : (chain : List Own) (own : Own) → count_by is_filled_own (chain ++ own ∷ []) ≡ count_by is_filled_own chain + cond own.is_filled 1 0
+count_by_push chain own = sum_by-append (λ x. cond (is_filled_own x) 1 0) chain (own ∷ []) ∙ omega arith
+
+pub under_none : (cs : List Chain) (parent : Option ℕ) (own : Own) (one : ℕ) (c : Chain) → parent ≡ None → one ≡ cond own.is_filled 1 0 → c ≡ record { own = own; links = None; layers = 1; filled = one } → IsUnder (chains_of cs) parent own c
+under_none cs parent own one c is counts made = rw (is, made) (record {
+  own_is = refl;
   links = tt;
   layers = refl;
+  filled = omega (arith, counts, count_by_push [] own);
   within = omega arith;
 })
 
-pub under_parent : (cs : List Chain) (parent : Option ℕ) (number jump : ℕ) (layer : ℕ) (above c : Chain) → IsTold (chains_of cs) number above → number < length cs → parent ≡ Some number → jump < length cs → IsFront (chain_in (chains_of cs) jump) (chain_in (chains_of cs) number) → c ≡ record { layer = layer; links = Some record { parent = number; jump = jump }; layers = above.layers + 1 } → IsUnder (chains_of cs) parent layer c
-under_parent cs parent number jump layer above c at_parent inside is jump_in front made =
+pub under_parent : (cs : List Chain) (parent : Option ℕ) (number jump : ℕ) (own : Own) (one : ℕ) (above c : Chain) → IsTold (chains_of cs) number above → number < length cs → parent ≡ Some number → jump < length cs → IsFront (chain_in (chains_of cs) jump) (chain_in (chains_of cs) number) → one ≡ cond own.is_filled 1 0 → c ≡ record { own = own; links = Some record { parent = number; jump = jump }; layers = above.layers + 1; filled = above.filled + one } → IsUnder (chains_of cs) parent own c
+under_parent cs parent number jump own one above c at_parent inside is jump_in front counts made =
     let links : LinksTo (chains_of cs) number record { parent = number; jump = jump } =
     record { parent_is = refl; parent_in = rw (length_chains_of cs) inside; jump_in = rw (length_chains_of cs) jump_in; jump_front = front }
     in
     rw (is, made) (record {
-      layer_is = refl;
+      own_is = refl;
       links = links;
-      layers = ap (λ n. n + 1) at_parent.layers ∙ sym (length_push (chain_in (chains_of cs) number) layer);
+      layers = ap (λ n. n + 1) at_parent.layers ∙ sym (length_push (chain_in (chains_of cs) number) own);
+      filled = omega (arith, counts, at_parent.filled, count_by_push (chain_in (chains_of cs) number) own);
       within = omega (arith, at_parent.within, length_chains_of cs);
     })
 
 -- the layer at the end of a walk
 
-slice_get_at : (xs : List ℕ) (y : ℕ) (ys : List ℕ) (k : ℕ) → length xs ≡ k → slice_get (xs ++ y ∷ ys) k ≡ Some y
+slice_get_at : (xs : List Own) (y : Own) (ys : List Own) (k : ℕ) → length xs ≡ k → slice_get (xs ++ y ∷ ys) k ≡ Some y
 slice_get_at xs y ys k is =
     let inside : k < length (xs ++ y ∷ ys) = omega (arith, length-append xs (y ∷ ys)) in
     slice_get-get_or (xs ++ y ∷ ys) k y inside ∙ ap Some (get_or_at xs y ys y k is)
 
-front_of-ends : (front above : List ℕ) (layer : ℕ) → front ≡ above ++ layer ∷ [] → front_of front ≡ above
-front_of-ends front above layer ends =
-    let long : length front ≡ length above + 1 = ap length ends ∙ length_push above layer in
+pub front_of-ends : (front above : List Own) (own : Own) → front ≡ above ++ own ∷ [] → front_of front ≡ above
+front_of-ends front above own ends =
+    let long : length front ≡ length above + 1 = ap length ends ∙ length_push above own in
     let short : length front - 1 ≡ length above = omega arith in
-    rw short (ap (λ chain. take (length above) chain) ends ∙ take_at above (layer ∷ []) (length above) refl)
+    rw short (ap (λ chain. take (length above) chain) ends ∙ take_at above (own ∷ []) (length above) refl)
 
--- the class with as many superclasses has the layer at that index
-pub layer_found : (chains : List (List ℕ)) (place k : ℕ) (c : Chain) (whole : List ℕ) → IsTold chains place c → IsHighest k whole (chain_in chains place) → slice_get whole k ≡ Some c.layer
-layer_found chains place k c whole told highest =
-    let front : List ℕ = chain_in chains place in
-    let above : List ℕ = chain_above chains c.links in
-    let rest : List ℕ = drop (length front) whole in
-    let split : whole ≡ above ++ c.layer ∷ rest =
-    highest.is_front.rest ∙ ap (λ f. f ++ rest) told.own ∙ append_assoc above (c.layer ∷ []) rest
-    in
-    let long : length front ≡ length above + 1 = ap length told.own ∙ length_push above c.layer in
+-- the class with as many superclasses stands behind so many layers
+pub above_length : (k : ℕ) (whole front above : List Own) (own : Own) → IsHighest counted.Layers k whole front → front ≡ above ++ own ∷ [] → length above ≡ k
+above_length k whole front above own highest ends =
     let least : length (front_of front) ≤ k = highest.least in
+    let long : length front ≡ length above + 1 = ap length ends ∙ length_push above own in
     let over : k < length front = highest.over in
-    let here : length above ≡ k = omega (arith, ap length (front_of-ends front above c.layer told.own)) in
-    rw split (slice_get_at above c.layer rest k here)
+    omega (arith, ap length (front_of-ends front above own ends))
+
+pub split_at : (whole front above : List Own) (own : Own) → IsFront front whole → front ≡ above ++ own ∷ [] → whole ≡ above ++ own ∷ drop (length front) whole
+split_at whole front above own is_front ends =
+    is_front.rest ∙ ap (λ f. f ++ drop (length front) whole) ends ∙ append_assoc above (own ∷ []) (drop (length front) whole)
+
+-- .. and has the layer at that index
+pub layer_found : (chains : List (List Own)) (place k : ℕ) (c : Chain) (whole : List Own) → IsTold chains place c → IsHighest counted.Layers k whole (chain_in chains place) → slice_get whole k ≡ Some c.own
+layer_found chains place k c whole told highest =
+    let front : List Own = chain_in chains place in
+    let above : List Own = chain_above chains c.links in
+    let split = split_at whole front above c.own highest.is_front told.own in
+    rw split (slice_get_at above c.own (drop (length front) whole) k (above_length k whole front above c.own highest told.own))
 
 -- the own layer of a chain is its last
-pub own_told : (chains : List (List ℕ)) (place : ℕ) (c : Chain) → IsTold chains place c → chain_in chains place ≡ front_of (chain_in chains place) ++ c.layer ∷ []
+pub own_told : (chains : List (List Own)) (place : ℕ) (c : Chain) → IsTold chains place c → chain_in chains place ≡ front_of (chain_in chains place) ++ c.own ∷ []
 own_told chains place c told =
-    told.own ∙ ap (λ above. above ++ c.layer ∷ []) (sym (front_of-ends (chain_in chains place) (chain_above chains c.links) c.layer told.own))
+    told.own ∙ ap (λ above. above ++ c.own ∷ []) (sym (front_of-ends (chain_in chains place) (chain_above chains c.links) c.own told.own))

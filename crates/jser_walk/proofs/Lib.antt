@@ -1,4 +1,5 @@
 pub mod ChainLemmas
+pub mod FilledLemmas
 pub mod LayerLemmas
 pub mod TableLemmas
 pub mod PartLemmas
@@ -6,6 +7,7 @@ pub mod SeenLemmas
 pub mod FrameLemmas
 pub mod WaitLemmas
 pub mod PassLemmas
+pub mod QuietLemmas
 pub mod TakeLemmas
 pub mod DraftLemmas
 pub mod WalkLemmas

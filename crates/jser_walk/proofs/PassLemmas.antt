@@ -36,7 +36,7 @@ no_sections table level number is = sym (ap (λ c. parts_cue level (object_parts
 pub pass_first : (layers : List NamedLayer) (chains : List (List NamedLayer)) (frames : List Frame) (f : Frame) (e : ℕ) (known : Known) (os : List OwnerNode) → frames ≡ f ∷ tail_of frames → pass_in (cues_of layers chains frames) e known os ≡ pass_at (cue_of layers chains f) e known os (cues_of layers chains (tail_of frames))
 pass_first layers chains frames f e known os is = ap (λ fs. pass_in (cues_of layers chains fs) e known os) is
 
-part_first : (layers : List NamedLayer) (chains : List (List NamedLayer)) (frames : List Frame) (level chain index : ℕ) (s : Stage) (parts : List SectionPart) (e : ℕ) (known : Known) (os : List OwnerNode) → frames ≡ frame.Sections level chain index s ∷ tail_of frames → parts_from (layers_in chains chain) index s ≡ parts → pass_in (cues_of layers chains frames) e known os ≡ pass_part level parts e known os (cues_of layers chains (tail_of frames))
+pub part_first : (layers : List NamedLayer) (chains : List (List NamedLayer)) (frames : List Frame) (level chain index : ℕ) (s : Stage) (parts : List SectionPart) (e : ℕ) (known : Known) (os : List OwnerNode) → frames ≡ frame.Sections level chain index s ∷ tail_of frames → parts_from (layers_in chains chain) index s ≡ parts → pass_in (cues_of layers chains frames) e known os ≡ pass_part level parts e known os (cues_of layers chains (tail_of frames))
 part_first layers chains frames level chain index s parts e known os top is =
     pass_first layers chains frames (frame.Sections level chain index s) e known os top
     ∙ ap (λ ps. pass_part level ps e known os (cues_of layers chains (tail_of frames))) is

@@ -86,6 +86,11 @@ abbrev pub IsNextPart : List NamedLayer → (index : ℕ) → Stage → NextPart
 IsNextPart chain index stage next =
     BeginsWith (parts_from chain index stage) next.part (parts_from chain next.index next.stage)
 
+-- behind the first line of a section come its fields
+abbrev pub LeadsToFields : Part → Stage → Type 0
+LeadsToFields (part.Section name) s = s ≡ stage.Raw 0
+LeadsToFields p s = Unit {0}
+
 -- on a stack
 abbrev pub all_frames : Option Frame → List Frame → List Frame
 all_frames None below = []

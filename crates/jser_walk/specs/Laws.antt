@@ -1,12 +1,12 @@
 -- What the steps and prompts of a walk have to do with the teller.
-use Rattle.std.specs.Prelude.{ℕ, suc, ◌≡◌, List, length, Option, Some, None}
+use Rattle.std.specs.Prelude.{ℕ, suc, ◌≡◌, ◌<◌, List, length, Option, Some, None}
 use Rattle.jser_reading.specs.Labels.{StreamField}
 use Rattle.jser_shown.specs.Cues.{Teller}
 use Rattle.jser_shown.specs.Telling.{settled, settle_says, says, seen, first_owner}
 use Rattle.jser_shown.specs.Indexing.{Index, settle_index, index_in}
 use Rattle.jser_shown.specs.Naming.{name_in}
 use Rattle.jser_shown.specs.Collecting.{Collection, settle_collection}
-use Rattle.jser_walk.specs.Steps.{Due, due, pass, due_says, due_index, due_collection, steps_left}
+use Rattle.jser_walk.specs.Steps.{Due, due, pass, pass_quietly, due_says, due_index, due_collection, steps_left}
 use Rattle.jser_walk.specs.Prompts.{prompt_of, prompt_says, prompt_index, prompt_names}
 
 -- A step does not change where the teller settles; what it says comes first, and what it keeps.
@@ -22,6 +22,19 @@ StepsSettle = (s : Teller) →
 -- After each step there is one step less.
 abbrev pub StepsEnd : Type 0
 StepsEnd = (s : Teller) (d : Due) → due s ≡ Some d → steps_left s ≡ suc (steps_left (pass s))
+
+-- A step of one who says nothing does not change where the teller settles, nor what is kept.
+abbrev pub QuietStepsSettle : Type 0
+QuietStepsSettle = (s : Teller) →
+    (settled s ≡ settled (pass_quietly s))
+    × ((x : Index) → settle_index s.known s.cues x
+    ≡ settle_index (pass_quietly s).known (pass_quietly s).cues (due_index (due s) x))
+    × ((x : Collection) → settle_collection s.known s.cues x
+    ≡ settle_collection (pass_quietly s).known (pass_quietly s).cues (due_collection (length s.known) (due s) x))
+
+-- After each of these there are fewer steps.
+abbrev pub QuietStepsEnd : Type 0
+QuietStepsEnd = (s : Teller) (d : Due) → due s ≡ Some d → steps_left (pass_quietly s) < steps_left s
 
 -- Where nothing is due the teller has settled, and nothing more is said or kept.
 abbrev pub NothingDue : Type 0

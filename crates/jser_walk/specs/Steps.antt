@@ -102,6 +102,32 @@ pass_in (cue ∷ cues) e T os = pass_at cue e T os cues
 abbrev pub pass : Teller → Teller
 pass s = pass_in s.cues s.epoch s.known s.owners
 
+-- The same for one who says nothing: first lines of sections that follow each other are one step.
+
+-- the parts behind the first lines with which they begin
+abbrev pub past_lines : List SectionPart → List SectionPart
+past_lines [] = []
+past_lines (data_part l ∷ parts) = past_lines parts
+past_lines (external_part l ∷ parts) = external_part l ∷ parts
+past_lines (raw_part name ∷ parts) = raw_part name ∷ parts
+past_lines (value_part name ∷ parts) = value_part name ∷ parts
+past_lines (note_part ∷ parts) = note_part ∷ parts
+
+abbrev pub quiet_part : ℕ → List SectionPart → ℕ → Known → List OwnerNode → List Cue → Teller
+quiet_part L (data_part l ∷ parts) e T os cues = teller e T os (parts_cue L (past_lines parts) ∷ cues)
+quiet_part L parts e T os cues = pass_part L parts e T os cues
+
+abbrev pub quiet_at : Cue → ℕ → Known → List OwnerNode → List Cue → Teller
+quiet_at (parts_cue L parts) e T os cues = quiet_part L parts e T os cues
+quiet_at cue e T os cues = pass_at cue e T os cues
+
+abbrev pub quiet_in : List Cue → ℕ → Known → List OwnerNode → Teller
+quiet_in [] e T os = teller e T os []
+quiet_in (cue ∷ cues) e T os = quiet_at cue e T os cues
+
+abbrev pub pass_quietly : Teller → Teller
+pass_quietly s = quiet_in s.cues s.epoch s.known s.owners
+
 -- What a step says before `k`, what follows.
 
 abbrev pub section_line : (word : List ℕ) → (name : Option (List ℕ)) → List ℕ → List ℕ

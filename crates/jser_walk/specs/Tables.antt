@@ -4,7 +4,8 @@ use Rattle.jser_shown.specs.Known.{NamedLayer, proxy_layer, KnownEntry, known_te
 use Rattle.jser_walk.specs.declared.entry.Entry.{Entry}
 use Rattle.jser_walk.specs.declared.entry.Entry.TheVariants as entry
 use Rattle.jser_walk.specs.declared.layer.Layer.{Layer}
-use Rattle.jser_walk.specs.Layers.{told_layer}
+use Rattle.jser_walk.specs.declared.chains.Own.{Own}
+use Rattle.jser_walk.specs.Layers.{told_layer, is_filled}
 
 -- what is known of the handles of the epoch; the layers of its classes, in the order in which their fields ended; the
 -- chains of the classes whose descriptors have ended, in this order
@@ -38,10 +39,13 @@ IsChainAbove table parent (Some chain) =
 
 -- How it is kept: chains by the numbers of their layers, classes by the numbers of their chains.
 
-abbrev pub named_chain : List NamedLayer → List ℕ → List NamedLayer
-named_chain layers chain = map (layer_in layers) chain
+abbrev pub named_own : List NamedLayer → Own → NamedLayer
+named_own layers own = layer_in layers own.layer
 
-abbrev pub named_chains : List NamedLayer → List (List ℕ) → List (List NamedLayer)
+abbrev pub named_chain : List NamedLayer → List Own → List NamedLayer
+named_chain layers chain = map (named_own layers) chain
+
+abbrev pub named_chains : List NamedLayer → List (List Own) → List (List NamedLayer)
 named_chains layers chains = map (named_chain layers) chains
 
 abbrev pub told_entry : List (List NamedLayer) → Entry → KnownEntry
@@ -53,7 +57,7 @@ told_entry chains (entry.Class n) = known_class (layers_in chains n)
 abbrev pub told_entries : List (List NamedLayer) → List Entry → Known
 told_entries chains entries = map (told_entry chains) entries
 
-abbrev pub table_of : List Entry → List NamedLayer → List (List ℕ) → TableView
+abbrev pub table_of : List Entry → List NamedLayer → List (List Own) → TableView
 table_of entries layers chains = record {
   known = told_entries (named_chains layers chains) entries;
   layers = layers;
@@ -67,9 +71,14 @@ IsAmong chains entry.Other = Unit {0}
 IsAmong chains entry.Pending = Unit {0}
 IsAmong chains (entry.Class n) = n < chains
 
-abbrev pub AreBelow : ℕ → List ℕ → Type 0
-AreBelow layers chain = All (λ n. n < layers) chain
+-- what is told of a layer is told of the one with that number
+pub record IsOwnOf (layers : List NamedLayer) (own : Own) : Type 0 where
+  pub below : own.layer < length layers
+  pub filled : own.is_filled ≡ is_filled (layer_in layers own.layer)
 
-pub record IsSound (entries : List Entry) (layers : List NamedLayer) (chains : List (List ℕ)) : Type 0 where
+abbrev pub AreOf : List NamedLayer → List Own → Type 0
+AreOf layers chain = All (IsOwnOf layers) chain
+
+pub record IsSound (entries : List Entry) (layers : List NamedLayer) (chains : List (List Own)) : Type 0 where
   pub among : All (IsAmong (length chains)) entries
-  pub below : All (AreBelow (length layers)) chains
+  pub of : All (AreOf layers) chains

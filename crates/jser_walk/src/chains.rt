@@ -2,9 +2,9 @@
 //!
 //! Each class keeps a link to its parent and one that jumps further up, so a chain takes no memory beyond its own
 //! layer, and any layer of it is found in a number of steps in the order of its logarithm.
-ghost use Rattle.std.specs.Prelude.{◌≡◌, ◌+◌, ◌<◌, ◌≤◌, ◌^◌, [], ◌∷◌, ◌++◌, length, slice_get, Some, None, OnOk, OnErr, IfOk, IfSome, IfNone, ◌-◌, ◌*◌};
+ghost use Rattle.std.specs.Prelude.{◌≡◌, ◌+◌, ◌<◌, ◌≤◌, ◌^◌, [], ◌∷◌, ◌++◌, length, take, drop, count_by, slice_get, Some, None, OnOk, OnErr, IfOk, IfSome, IfNone, ◌-◌, ◌*◌};
 ghost use Rattle.std.specs.Option.{ForSome};
-ghost use Rattle.jser_walk.specs.Chains.{chain_in, chain_of_parent, front_of, chains_of, IsFront, AreTold, IsTold, IsUnder, IsHighest, GoesUp, JumpsFar, TakesJump};
+ghost use Rattle.jser_walk.specs.Chains.{chain_in, chain_of_parent, front_of, chains_of, is_filled_own, count_of, told_count, from_filled_own, IsFront, AreTold, IsTold, IsUnder, IsHighest, GoesUp, JumpsFar, TakesJump};
 
 use std::alloc::{AllocError, Global};
 use std::marker::Model;
@@ -17,28 +17,46 @@ pub(crate) struct Links {
     jump: u32,
 }
 
+/// The own layer of a class.
+#[derive(Clone, Copy)]
+pub(crate) struct Own {
+    /// Its number.
+    pub(crate) layer: u32,
+    /// Whether an object holds anything of it.
+    pub(crate) is_filled: bool,
+}
+
 /// A class.
 #[derive(Drop)]
 pub(crate) struct Chain {
-    /// The number of its own layer.
-    layer: u32,
+    own: Own,
     /// None for a class with no superclass.
     links: Option<Links>,
     /// How many layers the chain has.
     layers: u32,
+    /// How many of them an object holds anything of.
+    filled: u32,
 }
 
-/// Chains, each seen as the list of the numbers of its layers, the highest superclass first.
+/// What a walk up a chain counts: all layers, or those that an object holds anything of.
+#[derive(Clone, Copy)]
+enum Counted {
+    Layers,
+    Filled,
+}
+
+/// Chains, each seen as the list of its layers, the highest superclass first.
 #[derive(Drop)]
 pub(crate) struct Chains {
     kept: Vec<Chain>,
 }
 
 impl Model for Chains {
-    ghost use Rattle.std.specs.Prelude.{ℕ, List};
+    ghost use Rattle.std.specs.Prelude.{List};
+    ghost use Rattle.jser_walk.specs.declared.chains.Own.{Own};
     ghost use Rattle.jser_walk.specs.Chains.{AreKept, chains_of};
 
-    ghost Value = { List (List ℕ) };
+    ghost Value = { List (List Own) };
 
     ghost view = { λ a. chains_of a.kept.items };
 
@@ -58,9 +76,9 @@ impl Chains {
 
     /// Adds the chain of the parent, if there is one, with this layer at its end, and gives its number.
     #[tactic(auto, using(crate::proofs::ChainLemmas::length_chains_of, crate::proofs::ChainLemmas::kept_push, crate::proofs::ChainLemmas::chains_push))]
-    pub(crate) fn add(&mut self, layer: u32, parent: Option<u32>) -> Result<u32, AllocError>
+    pub(crate) fn add(&mut self, own: Own, parent: Option<u32>) -> Result<u32, AllocError>
         requires { ForSome parent (λ number. number < length self.old) }
-        ensures added { OnOk result (self.new ≡ self.old ++ (chain_of_parent self.old parent ++ layer ∷ []) ∷ []) }
+        ensures added { OnOk result (self.new ≡ self.old ++ (chain_of_parent self.old parent ++ own ∷ []) ∷ []) }
         ensures number { IfOk result (λ number. number ≡ length self.old) }
         ensures kept { OnErr result (self.new ≡ self.old) }
     {
@@ -68,7 +86,7 @@ impl Chains {
             return Err(AllocError);
         }
         let number = self.kept.len() as u32;
-        let chain = chain_under(&self.kept, parent, layer);
+        let chain = chain_under(&self.kept, parent, own);
         self.kept.push(chain)?;
         Ok(number)
     }
@@ -82,9 +100,9 @@ impl Chains {
         chain_at(&self.kept, number as usize).layers as usize
     }
 
-    /// The number of the layer of the chain at this index.
+    /// The layer of the chain at this index.
     #[tactic(auto, using(crate::proofs::ChainLemmas::length_chains_of))]
-    pub(crate) fn layer(&self, number: u32, index: usize) -> u32
+    pub(crate) fn layer(&self, number: u32, index: usize) -> Own
         requires number_in { number < length self.now }
         requires index_in { index < length (chain_in self.now number) }
         ensures { slice_get (chain_in self.now number) index ≡ Some result }
@@ -92,13 +110,23 @@ impl Chains {
         layer_at(&self.kept, number as usize, index)
     }
 
-    /// The number of the class's own layer.
+    /// The index of the first layer, at `from` or after it, that an object holds anything of; or one past the last,
+    /// where it holds nothing of them.
+    #[tactic(auto, using(crate::proofs::ChainLemmas::length_chains_of))]
+    pub(crate) fn next_filled(&self, number: u32, from: usize) -> usize
+        requires { number < length self.now }
+        ensures { drop result (chain_in self.now number) ≡ from_filled_own (drop from (chain_in self.now number)) }
+    {
+        next_filled_at(&self.kept, number as usize, from)
+    }
+
+    /// The class's own layer.
     #[tactic(auto, using(crate::proofs::ChainLemmas::length_chains_of, crate::proofs::ChainLemmas::own_told))]
-    pub(crate) fn own(&self, number: u32) -> u32
+    pub(crate) fn own(&self, number: u32) -> Own
         requires { number < length self.now }
         ensures { chain_in self.now number ≡ front_of (chain_in self.now number) ++ result ∷ [] }
     {
-        chain_at(&self.kept, number as usize).layer
+        chain_at(&self.kept, number as usize).own
     }
 
     /// Forgets all chains, and keeps the room.
@@ -110,26 +138,40 @@ impl Chains {
     }
 }
 
+impl Chain {
+    /// How many layers count.
+    fn count(&self, counted: Counted) -> usize
+        ensures { result ≡ told_count counted self.now }
+    {
+        match counted {
+            Counted::Layers => self.layers as usize,
+            Counted::Filled => self.filled as usize,
+        }
+    }
+}
+
 /// The class of this layer under this parent, if it has one.
-fn chain_under(kept: &[Chain], parent: Option<u32>, layer: u32) -> Chain
+fn chain_under(kept: &[Chain], parent: Option<u32>, own: Own) -> Chain
     requires told { AreTold kept.now }
     requires parent_in { ForSome parent (λ number. number < length kept.now) }
     requires fewer { length kept.now < 2 ^ 32 - 1 }
-    ensures { IsUnder (chains_of kept.now) parent layer result }
+    ensures { IsUnder (chains_of kept.now) parent own result }
 {
     let Some(parent) = parent else {
         return Chain {
-            layer,
+            own,
             links: None,
             layers: 1,
+            filled: u32::from(own.is_filled),
         };
     };
     let jump = jump_from(kept, parent);
     let above = chain_at(kept, parent as usize);
     Chain {
-        layer,
+        own,
         links: Some(Links { parent, jump }),
         layers: above.layers + 1,
+        filled: above.filled + u32::from(own.is_filled),
     }
 }
 
@@ -168,46 +210,81 @@ fn chain_at(kept: &[Chain], place: usize) -> &Chain
     &kept[place]
 }
 
-/// The number of the layer at this index of the chain at `start`.
+/// The layer at this index of the chain at `start`.
 #[tactic(auto, using(crate::proofs::ChainLemmas::layer_found))]
-fn layer_at(kept: &[Chain], start: usize, index: usize) -> u32
+fn layer_at(kept: &[Chain], start: usize, index: usize) -> Own
     requires told { AreTold kept.now }
     requires start_in { start < length kept.now }
     requires index_in { index < length (chain_in (chains_of kept.now) start) }
     ensures { slice_get (chain_in (chains_of kept.now) start) index ≡ Some result }
 {
-    let place = highest(kept, start, index);
-    chain_at(kept, place).layer
+    let place = highest(kept, start, Counted::Layers, index);
+    chain_at(kept, place).own
 }
 
-/// The highest class of the chain at `start`, itself included, with more layers than the bound.
-fn highest(kept: &[Chain], start: usize, bound: usize) -> usize
+/// The index of the first layer, at `from` or after it, that an object holds anything of; or one past the last.
+#[tactic(auto, using(crate::proofs::FilledLemmas::past_all))]
+fn next_filled_at(kept: &[Chain], start: usize, from: usize) -> usize
     requires told { AreTold kept.now }
     requires start_in { start < length kept.now }
-    requires over { bound < length (chain_in (chains_of kept.now) start) }
+    ensures { drop result (chain_in (chains_of kept.now) start) ≡ from_filled_own (drop from (chain_in (chains_of kept.now) start)) }
+{
+    let class = chain_at(kept, start);
+    let layers = class.count(Counted::Layers);
+    if from >= layers {
+        return layers;
+    }
+    let before = filled_before(kept, start, from);
+    if class.count(Counted::Filled) <= before {
+        return layers;
+    }
+    let place = highest(kept, start, Counted::Filled, before);
+    chain_at(kept, place).count(Counted::Layers) - 1
+}
+
+/// Of how many of the layers before this index an object holds anything.
+#[tactic(auto, using(crate::proofs::FilledLemmas::count_before))]
+fn filled_before(kept: &[Chain], start: usize, index: usize) -> usize
+    requires told { AreTold kept.now }
+    requires start_in { start < length kept.now }
+    requires index_in { index < length (chain_in (chains_of kept.now) start) }
+    ensures { result ≡ count_by is_filled_own (take index (chain_in (chains_of kept.now) start)) }
+{
+    if index == 0 {
+        return 0;
+    }
+    let place = highest(kept, start, Counted::Layers, index - 1);
+    chain_at(kept, place).count(Counted::Filled)
+}
+
+/// The highest class of the chain at `start`, itself included, whose count is over the bound.
+fn highest(kept: &[Chain], start: usize, counted: Counted, bound: usize) -> usize
+    requires told { AreTold kept.now }
+    requires start_in { start < length kept.now }
+    requires over { bound < count_of counted (chain_in (chains_of kept.now) start) }
     ensures inside { result < length kept.now }
-    ensures highest { IsHighest bound (chain_in (chains_of kept.now) start) (chain_in (chains_of kept.now) result) }
+    ensures highest { IsHighest counted bound (chain_in (chains_of kept.now) start) (chain_in (chains_of kept.now) result) }
 {
     let mut place = start;
-    'walk: while let Some(higher) = step_up(kept, place, bound) {
+    'walk: while let Some(higher) = step_up(kept, place, counted, bound) {
         place = higher;
     }
     place
 }
 
-/// The superclass that the longest link leads to and that has more layers than the bound, if there is one.
-fn step_up(kept: &[Chain], place: usize, bound: usize) -> Option<usize>
+/// The superclass that the longest link leads to whose count is over the bound, if there is one.
+fn step_up(kept: &[Chain], place: usize, counted: Counted, bound: usize) -> Option<usize>
     requires told { AreTold kept.now }
     requires place_in { place < length kept.now }
-    ensures up { IfSome result (λ higher. GoesUp bound (chains_of kept.now) place higher) }
-    ensures top { IfNone result (length (front_of (chain_in (chains_of kept.now) place)) ≤ bound) }
-    ensures far { IfSome result (TakesJump kept.now bound place) }
+    ensures up { IfSome result (λ higher. GoesUp counted bound (chains_of kept.now) place higher) }
+    ensures top { IfNone result (count_of counted (front_of (chain_in (chains_of kept.now) place)) ≤ bound) }
+    ensures far { IfSome result (TakesJump kept.now counted bound place) }
 {
     let links = chain_at(kept, place).links?;
     let (jump, parent) = (links.jump as usize, links.parent as usize);
-    if chain_at(kept, jump).layers as usize > bound {
+    if chain_at(kept, jump).count(counted) > bound {
         Some(jump)
-    } else if chain_at(kept, parent).layers as usize > bound {
+    } else if chain_at(kept, parent).count(counted) > bound {
         Some(parent)
     } else {
         None

@@ -1,7 +1,7 @@
 //! The parts of the sections of an object, one after another.
 ghost use Rattle.std.specs.Prelude.{◌<◌, ◌-◌, ◌^◌, length};
 ghost use Rattle.jser_walk.specs.Tables.{layers_in};
-ghost use Rattle.jser_walk.specs.Frames.{IsNextPart};
+ghost use Rattle.jser_walk.specs.Frames.{IsNextPart, LeadsToFields};
 
 use crate::frame::Stage;
 use crate::layer::{Layer, name_of, next_raw, next_value};
@@ -32,10 +32,10 @@ pub(crate) struct NextPart<'t> {
 }
 
 /// The first part of the sections of this chain, from a stage of the layer at this index on.
-
 pub(crate) fn next_part(table: &Table, chain: u32, index: usize, stage: Stage) -> NextPart<'_>
     requires { chain < length table.now.chains }
-    ensures { IsNextPart (layers_in table.now.chains chain) index stage result }
+    ensures next { IsNextPart (layers_in table.now.chains chain) index stage result }
+    ensures fields { LeadsToFields result.part result.stage }
 {
     if index >= table.layers(chain) {
         return NextPart {
@@ -62,10 +62,10 @@ pub(crate) fn next_part(table: &Table, chain: u32, index: usize, stage: Stage) -
 }
 
 /// The same from the first line of a section on.
-
 fn section_part(table: &Table, chain: u32, index: usize) -> NextPart<'_>
     requires { chain < length table.now.chains }
-    ensures { IsNextPart (layers_in table.now.chains chain) index Stage.Start result }
+    ensures next { IsNextPart (layers_in table.now.chains chain) index Stage.Start result }
+    ensures fields { LeadsToFields result.part result.stage }
 {
     if index >= table.layers(chain) {
         return NextPart {
@@ -82,12 +82,12 @@ fn section_part(table: &Table, chain: u32, index: usize) -> NextPart<'_>
 }
 
 /// The same from the values of a section on.
-
 fn value_part(table: &Table, chain: u32, index: usize, from: usize) -> NextPart<'_>
     requires chain_in { chain < length table.now.chains }
     requires index_in { index < length (layers_in table.now.chains chain) }
     requires fits { index < 2 ^ 64 - 1 }
-    ensures { IsNextPart (layers_in table.now.chains chain) index (Stage.Value from) result }
+    ensures next { IsNextPart (layers_in table.now.chains chain) index (Stage.Value from) result }
+    ensures fields { LeadsToFields result.part result.stage }
 {
     let layer = table.layer(chain, index);
     let fields = layer.fields();

@@ -1,10 +1,10 @@
 //! The table of handles of an epoch, with the names of classes and fields.
-ghost use Rattle.std.specs.Prelude.{◌≡◌, ◌<◌, [], ◌∷◌, ◌++◌, length, slice_get, slice_set, option_map, Some, OnOk, OnErr, IfOk};
+ghost use Rattle.std.specs.Prelude.{◌≡◌, ◌<◌, [], ◌∷◌, ◌++◌, length, drop, slice_get, slice_set, option_map, Some, OnOk, OnErr, IfOk};
 ghost use Rattle.jser_shown.specs.Known.{known_text, known_other, known_pending, known_class, with_entry, own_class_of};
-ghost use Rattle.jser_walk.specs.Layers.{told_layer};
+ghost use Rattle.jser_walk.specs.Layers.{told_layer, from_filled};
 ghost use Rattle.jser_walk.specs.Tables.{layer_in, layers_in, layers_above, IsChainOf, IsChainAbove};
 
-use crate::chains::Chains;
+use crate::chains::{Chains, Own};
 use crate::entry::Entry;
 use crate::layer::Layer;
 use std::alloc::{AllocError, Global};
@@ -126,7 +126,8 @@ impl Table {
         ensures kept { OnErr result (self.new.chains ≡ self.old.chains) }
     {
         let above = self.chain_above(parent);
-        let chain = self.chains.add(layer, above)?;
+        let is_filled = self.layers[layer as usize].is_filled();
+        let chain = self.chains.add(Own { layer, is_filled }, above)?;
         if number < self.entries.len() {
             self.entries[number] = Entry::Class(chain);
         }
@@ -169,8 +170,18 @@ impl Table {
         requires index_in { index < length (layers_in self.now.chains chain) }
         ensures { slice_get (layers_in self.now.chains chain) index ≡ Some (told_layer result.now) }
     {
-        let number = self.chains.layer(chain, index);
-        &self.layers[number as usize]
+        let own = self.chains.layer(chain, index);
+        &self.layers[own.layer as usize]
+    }
+
+    /// The index of the first layer, at `from` or after it, that an object holds anything of; or one past the last,
+    /// where it holds nothing of them.
+    #[tactic(auto, using(crate::proofs::TableLemmas::filled_named, crate::proofs::TableLemmas::length_chains))]
+    pub(crate) fn next_filled(&self, chain: u32, from: usize) -> usize
+        requires { chain < length self.now.chains }
+        ensures { drop result (layers_in self.now.chains chain) ≡ from_filled (drop from (layers_in self.now.chains chain)) }
+    {
+        self.chains.next_filled(chain, from)
     }
 
     /// The class's own layer.
@@ -179,7 +190,7 @@ impl Table {
         requires { chain < length self.now.chains }
         ensures { own_class_of (layers_in self.now.chains chain) ≡ told_layer result.now }
     {
-        let number = self.chains.own(chain);
-        &self.layers[number as usize]
+        let own = self.chains.own(chain);
+        &self.layers[own.layer as usize]
     }
 }

@@ -4,7 +4,7 @@ ghost use Rattle.jser_shown.specs.Known.{Known, classes_at, is_external_chain};
 ghost use Rattle.jser_shown.specs.Owners.{OwnerNode as ToldNode};
 ghost use Rattle.jser_shown.specs.Cues.{teller, parts_cue, made_cue, object_parts};
 ghost use Rattle.jser_walk.specs.Given.{told_owner};
-ghost use Rattle.jser_walk.specs.Steps.{pass, pass_in};
+ghost use Rattle.jser_walk.specs.Steps.{pass, pass_in, pass_quietly, quiet_in};
 ghost use Rattle.jser_walk.specs.Frames.{cue_of, cues_of, tail_of, FrameFits, FramesFit, FirstIs};
 ghost use Rattle.jser_walk.specs.Phases.{StandsIn};
 
@@ -83,6 +83,41 @@ fn pass_sections(
     }
 }
 
+/// The same for one who says nothing: first lines of sections that follow each other are one step.
+#[tactic(auto, using(crate::proofs::QuietLemmas::lines_passed, crate::proofs::QuietLemmas::notes_quiet, crate::proofs::QuietLemmas::end_quiet, crate::proofs::QuietLemmas::raw_quiet, crate::proofs::QuietLemmas::value_quiet))]
+fn pass_sections_quietly(
+    table: &Table,
+    frames: &mut Stack,
+    level: u64,
+    chain: u32,
+    index: usize,
+    stage: Stage,
+) -> Result<(), AllocError>
+    requires chain_in { chain < length table.now.chains }
+    requires fit { FramesFit (length table.now.layers) (length table.now.chains) frames.old }
+    requires top { frames.old ≡ Frame.Sections level chain index stage ∷ tail_of frames.old }
+    ensures fit { FramesFit (length table.now.layers) (length table.now.chains) frames.new }
+    ensures passes { OnOk result ((e : ℕ) (known : Known) (os : List ToldNode) → teller e known os (cues_of table.now.layers table.now.chains frames.new) ≡ quiet_in (cues_of table.now.layers table.now.chains frames.old) e known os) }
+{
+    let next = next_part(table, chain, index, stage);
+    match next.part {
+        Part::Section(_) => {
+            let filled = table.next_filled(chain, next.index);
+            frames.set_top(Frame::Sections {
+                level,
+                chain,
+                index: filled,
+                stage: Stage::Raw(0),
+            });
+            Ok(())
+        }
+        Part::Notes => pass_sections(table, frames, level, chain, index, stage),
+        Part::End => pass_sections(table, frames, level, chain, index, stage),
+        Part::Raw(_) => Ok(()),
+        Part::Value(_) => Ok(()),
+    }
+}
+
 impl<'a> Standing<'a> {
     /// Does what is due; nothing where nothing is.
     ///
@@ -139,6 +174,31 @@ impl<'a> Standing<'a> {
             None => (),
         }
         Ok(Phase::Frames)
+    }
+
+    /// The same for one who says nothing: first lines of sections that follow each other are one step.
+    ///
+    /// # Errors
+    ///
+    /// Where memory runs out.
+    #[tactic(auto, using(crate::proofs::FrameLemmas::top_fits))]
+    pub(crate) fn pass_quietly(&mut self) -> Result<Phase, AllocError>
+        ensures { IfOk result (λ phase. StandsIn phase self.new (pass_quietly self.old)) }
+    {
+        match self.frames.top() {
+            Some(
+                Frame::Sections {
+                    level,
+                    chain,
+                    index,
+                    stage,
+                },
+            ) => {
+                pass_sections_quietly(&self.table, &mut self.frames, level, chain, index, stage)?;
+                Ok(Phase::Frames)
+            }
+            _ => self.pass(),
+        }
     }
 
     /// An owner gets its handle, and what stands behind it comes in the place of the frame on top.

@@ -1,6 +1,6 @@
 //! The steps that need no field.
 ghost use Rattle.std.specs.Prelude.{◌≡◌, OnOk};
-ghost use Rattle.jser_walk.specs.Steps.{pass};
+ghost use Rattle.jser_walk.specs.Steps.{pass, pass_quietly};
 
 use crate::layer::Layer;
 use crate::phase::{Over, Phase};
@@ -8,6 +8,24 @@ use crate::walk::Walk;
 use std::alloc::AllocError;
 
 impl<'a> Walk<'a> {
+    /// The same as `pass` for one who says nothing: the first lines of sections that follow each other are one step.
+    /// So an object takes as many steps as it has sections with anything in them, and not one for each superclass.
+    ///
+    /// # Errors
+    ///
+    /// Where memory runs out. The walk is of no use then.
+    pub fn pass_quietly(&mut self) -> Result<(), AllocError>
+        ensures { OnOk result (self.new ≡ pass_quietly self.old) }
+    {
+        match self.phase {
+            Phase::Frames => {
+                self.phase = self.standing.pass_quietly()?;
+                Ok(())
+            }
+            _ => self.pass(),
+        }
+    }
+
     /// Does what is due; nothing where nothing is.
     ///
     /// # Errors

@@ -1,8 +1,8 @@
-use Rattle.std.proofs.Common.{refl}
+use Rattle.std.proofs.Common.{refl, rules}
 use Rattle.jser_walk.proofs.ChainLemmas.{under_parent}
 use Rattle.jser_walk.proofs.chains.chain_under.Goals as goal
 
 pub returns : goal.returns
 returns c =
-    under_parent _ _ _ _ _ _ _ c.chain_at-above.ensures.told (c.requires.parent_in _ c.in-Some.is) c.in-Some.is
-    c.jump_from-jump.ensures.inside c.jump_from-jump.ensures.front refl
+    under_parent _ _ _ _ _ _ _ _ c.chain_at-above.ensures.told (c.requires.parent_in _ c.in-Some.is) c.in-Some.is
+    c.jump_from-jump.ensures.inside c.jump_from-jump.ensures.front (search rules) refl

@@ -6,5 +6,5 @@ use Rattle.jser_graph.proofs.survey.Survey.settle.Goals as goal
 
 pub steps-preserved : goal.steps-preserved
 steps-preserved c =
-    settles_more _ c.steps.self c.make.new.self _ (told_due c.in-Some.due) (option_map told_owner c.made_by-made.result) c.steps_settle.ensures
+    settles_more _ c.steps.self c.make.new.self _ (told_due c.in-Some.due) (option_map told_owner c.made_by-made.result) c.quiet_steps_settle.ensures
     c.steps.invariant (sym c.due.ensures ∙ ap view_due c.in-Some.is) (search rules) (search rules) (search rules) (search rules) refl refl (search rules)
