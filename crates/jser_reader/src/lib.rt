@@ -21,6 +21,3 @@ pub use gate::{Answer, Gate, OpenGate};
 pub use item::{Item, Step, Totals};
 pub use reader::Reader;
 pub use refusal::{Reason, Refusal, Stop};
-
-#[cfg(test)]
-mod tests;

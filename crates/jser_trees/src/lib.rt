@@ -13,6 +13,3 @@ mod values;
 pub use jser_reader::{Gate, OpenGate, Reason, Refusal, Stop};
 pub use jser_value::Contents;
 pub use read::read_all;
-
-#[cfg(test)]
-mod tests;

@@ -1,7 +1,7 @@
 //! Arrays inside arrays, and how many frames are open.
 
 use crate::tests::{answer_of, totals};
-use crate::{OpenGate, Reader, Reason, Refusal, Stop};
+use jser_reader::{OpenGate, Reader, Reason, Refusal, Stop};
 use std::alloc::{AllocError, Global};
 use std::test::Fail;
 

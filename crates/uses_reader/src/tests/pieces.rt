@@ -1,7 +1,7 @@
 //! Items, states and cut streams, piece by piece.
 
 use crate::tests::{answer_of, totals};
-use crate::{Item, OpenGate, Reader, Reason, Refusal, Step, Stop};
+use jser_reader::{Item, OpenGate, Reader, Reason, Refusal, Step, Stop};
 use std::alloc::Global;
 use std::process::Abort;
 use std::test::Fail;

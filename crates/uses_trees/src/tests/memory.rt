@@ -1,6 +1,6 @@
 //! To be run with each allocation refused in turn: the answer is out of memory, or the right one.
 
-use crate::{OpenGate, Stop, read_all};
+use jser_trees::{OpenGate, Stop, read_all};
 use jser_prim::{Failed, Sink};
 use jser_value::encode;
 

@@ -1,6 +1,6 @@
 //! Streams from the format, whole and in pieces, and what the reader answers to them.
 
-use crate::{Gate, OpenGate, Reader, Reason, Refusal, Stop, Totals};
+use jser_reader::{Gate, OpenGate, Reader, Reason, Refusal, Stop, Totals};
 use std::alloc::{AllocError, AllocGlobal, Global};
 use std::process::Abort;
 use std::test::Fail;

@@ -3,7 +3,7 @@
 
 use crate::tests::maker::Maker;
 use crate::tests::{Page, contents_of, writes};
-use crate::{Contents, OpenGate, Stop, read_all};
+use jser_trees::{Contents, OpenGate, Stop, read_all};
 use jser_value::encode;
 use std::alloc::AllocGlobal;
 use std::process::Abort;

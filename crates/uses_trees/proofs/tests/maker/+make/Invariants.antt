@@ -1,5 +1,5 @@
 use Rattle.std.proofs.Common.{◌+◌, ◌*◌}
-use Rattle.jser_trees.proofs.tests.maker.+make.Given as goal
+use Rattle.uses_trees.proofs.tests.maker.+make.Given as goal
 
 abbrev pub decreases-value : goal.decreases-value
 decreases-value l = 10 * l.levels

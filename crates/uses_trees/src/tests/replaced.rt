@@ -1,7 +1,7 @@
 //! Worked streams with one byte replaced by each other one: what is still read is written as the same bytes.
 
 use crate::tests::writes;
-use crate::{OpenGate, Stop, read_all};
+use jser_trees::{OpenGate, Stop, read_all};
 use std::alloc::AllocGlobal;
 use std::process::Abort;
 use std::test::Fail;

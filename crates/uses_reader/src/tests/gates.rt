@@ -4,7 +4,7 @@ ghost use Rattle.jser_verdict.specs.Gates.{pass, rejected, unmatched};
 
 use crate::tests::pieces::LINKED_PAIR;
 use crate::tests::{answer_under, totals};
-use crate::{Answer, Gate, OpenGate, Reader, Reason, Refusal, Stop, Totals};
+use jser_reader::{Answer, Gate, OpenGate, Reader, Reason, Refusal, Stop, Totals};
 use std::alloc::AllocGlobal;
 use std::process::Abort;
 use std::test::Fail;
