@@ -92,7 +92,10 @@ fn right_or_out_of_memory(rt: HostRuntime) {
             let handed_out = hands_out_the_tree(&rt, &graph);
             assert_eq!(rt; graph.name_at(0), Some(&[0x4C, 0x69, 0x73, 0x74][..]));
             let mut sink = Compared::new(LINKED_PAIR);
-            assert_eq!(rt; graph.write_to(rt.alloc(), &mut sink), Ok(LINKED_PAIR.len() as u64));
+            assert_eq!(rt;
+                graph.write_to(rt.alloc(), &mut sink),
+                Ok(LINKED_PAIR.len() as u64)
+            );
             assert!(rt; sink.is_whole());
             if !shown || !handed_out {
                 let _ = println!(rt; "refused");
