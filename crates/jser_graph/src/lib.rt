@@ -13,8 +13,6 @@ mod part;
 mod read;
 mod show;
 mod survey;
-#[cfg(test)]
-mod tests;
 mod texts;
 
 pub use graph::Graph;

@@ -6,6 +6,7 @@ use std::process::Abort;
 use std::test::Fail;
 
 mod gates;
+mod memory;
 mod nests;
 mod pieces;
 mod rows;

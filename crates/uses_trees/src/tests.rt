@@ -1,7 +1,7 @@
 //! Streams from the format, read as trees and written again, and what is refused.
 
-use jser_trees::{Contents, OpenGate, Reason, Refusal, Stop, read_all};
 use jser_prim::{Failed, Sink};
+use jser_trees::{Contents, OpenGate, Reason, Refusal, Stop, read_all};
 use jser_value::{Content, Value, encode};
 use std::alloc::{AllocError, AllocGlobal, Global};
 use std::process::Abort;

@@ -1,7 +1,7 @@
 //! Worked streams, and what each of them is: the counts of a stream, or the refusal of bytes that are none.
 
-use jser_reader::Reason;
 use crate::tests::{assert_accepted, assert_refused, totals, with_zeros};
+use jser_reader::Reason;
 use std::test::Fail;
 
 #[test]

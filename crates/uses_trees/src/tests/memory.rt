@@ -1,7 +1,7 @@
 //! To be run with each allocation refused in turn: the answer is out of memory, or the right one.
 
-use jser_trees::{OpenGate, Stop, read_all};
 use jser_prim::{Failed, Sink};
+use jser_trees::{OpenGate, Stop, read_all};
 use jser_value::encode;
 
 /// Two linked objects, an annotation with block data and a string, and an array of ints.

@@ -1,12 +1,12 @@
 //! The texts of `show` of worked streams, and what goes out of them where the sink fails.
 
 use crate::tests::{LINKED_PAIR, Page, graph_of, nest};
-use crate::{Graph, GraphFault};
+use jser_graph::{Graph, GraphFault};
 use std::alloc::AllocGlobal;
 use std::process::Abort;
 use std::test::Fail;
 
-const LINKED_PAIR_TEXT: &[u8] = b"stream version 5
+pub(crate) const LINKED_PAIR_TEXT: &[u8] = b"stream version 5
 object #0.7e0002
   class desc #0.7e0000 \"List\" suid 69c88a154016ae68 flags 02
     field I \"value\"

@@ -1,6 +1,6 @@
 //! Graphs of worked streams: what their handles name, their texts and names, and what they hand out again.
 
-use crate::{Graph, GraphFault, Node, NodeKind};
+use jser_graph::{Graph, GraphFault, Node, NodeKind};
 use jser_prim::{Failed, Sink};
 use jser_reader::{Reason, Refusal, Stop};
 use jser_value::{ValueCause, encode};
@@ -8,6 +8,7 @@ use std::alloc::{AllocError, AllocGlobal, Global};
 use std::process::Abort;
 use std::test::Fail;
 
+mod memory;
 mod rows;
 mod show;
 

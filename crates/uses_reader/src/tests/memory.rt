@@ -1,0 +1,32 @@
+//! To be run with each allocation refused in turn: a reader answers the right counts, or out of memory and then, to
+//! each call, that it is spent.
+
+use crate::tests::pieces::LINKED_PAIR;
+use crate::tests::totals;
+use jser_reader::{OpenGate, Reader, Stop};
+use std::alloc::AllocGlobal;
+use std::process::Abort;
+
+/// Reads the stream in pieces of this size; whether there was memory.
+fn reads(rt: &(impl Abort + AllocGlobal), size: usize) -> bool {
+    let mut reader = Reader::new(rt.alloc(), OpenGate);
+    for piece in LINKED_PAIR.chunks(size) {
+        if let Err(stop) = reader.skip(piece) {
+            assert_eq!(rt; stop, Stop::OutOfMemory);
+            assert_eq!(rt; reader.skip(&[0x70]), Err(Stop::Spent));
+            assert_eq!(rt; reader.finish(), Err(Stop::Spent));
+            return false;
+        }
+    }
+    assert_eq!(rt; reader.finish(), Ok(totals(69, 2, 5, 3, 4)));
+    true
+}
+
+#[test]
+fn right_or_out_of_memory(rt: HostRuntime) {
+    for size in [1, 69] {
+        if !reads(&rt, size) {
+            let _ = println!(rt; "refused");
+        }
+    }
+}
