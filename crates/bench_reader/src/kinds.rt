@@ -42,7 +42,7 @@ pub enum Kind {
 }
 
 impl Kind {
-    /// Whether its objects have many superclasses: a graph takes a step for each of them.
+    /// Whether its objects have many superclasses: a text has a line for each of them.
     pub fn has_chains(self) -> bool {
         matches!(self, Kind::SparseChains | Kind::FullChains)
     }

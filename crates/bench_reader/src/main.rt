@@ -60,8 +60,7 @@ struct Speeds {
     skip: u64,
     /// None where the stream is deeper than trees may be.
     trees: Option<u64>,
-    /// None of a stream of long chains, of which graphs would take too long.
-    graphs: Option<GraphSpeeds>,
+    graphs: GraphSpeeds,
 }
 
 impl fmt::Display for Speeds {
@@ -71,25 +70,17 @@ impl fmt::Display for Speeds {
             Some(trees) => write!(f, ", trees {trees} MB/s")?,
             None => write!(f, ", too deep for trees")?,
         }
-        match self.graphs {
-            Some(graphs) => write!(f, "{graphs}"),
-            None => write!(f, ", chains too long for graphs"),
-        }
+        write!(f, "{}", self.graphs)
     }
 }
 
 /// How fast a stream is read in each way: the best of three times.
 fn measured(rt: &impl Clock, alloc: Global, stream: &[u8], has_chains: bool) -> Result<Speeds> {
-    let graphs = if has_chains {
-        None
-    } else {
-        Some(best_of_graphs(rt, alloc, stream)?)
-    };
     Ok(Speeds {
         next: best(rt, alloc, stream, Way::Next)?,
         skip: best(rt, alloc, stream, Way::Skip)?,
         trees: best_of_trees(rt, alloc, stream)?,
-        graphs,
+        graphs: best_of_graphs(rt, alloc, stream, !has_chains)?,
     })
 }
 

@@ -1,5 +1,5 @@
 -- A first walk settles step by step.
-use Rattle.std.proofs.Common.{◌≡◌, ℕ, ◌-◌, ◌<◌, Bool, List, [], ◌∷◌, length, Option, Some, None, refl, sym, ◌∙◌, ap, ap₂, arith}
+use Rattle.std.proofs.Common.{◌≡◌, ℕ, ◌-◌, ◌<◌, Bool, true, false, List, [], ◌∷◌, length, Option, Some, None, refl, true≢false, sym, ◌∙◌, ap, ap₂, arith}
 use Rattle.jser_reading.specs.Roles.{Owner as ToldOwner}
 use Rattle.jser_reading.specs.Labels.{Tag, null_tag, reference_tag, class_desc_tag, object_tag, string_tag, array_tag, class_tag, long_string_tag, proxy_desc_tag, enum_tag, StreamField, header_field, tag_field, block_tag_field, end_tag_field, reset_tag_field, handle_field, suid_field, flags_field, field_count_field, interface_count_field, array_length_field, code_field, text_field, block_length_field, prims_field, bytes_field}
 use Rattle.jser_reading.specs.FieldBytes.{bytes_of}
@@ -16,8 +16,12 @@ use Rattle.jser_walk.specs.Steps.{Due as ToldDue}
 use Rattle.jser_walk.specs.Prompts.{class_name_prompt, interface_prompt, prompt_at, prompt_in, prompt_of, prompt_names}
 use Rattle.jser_walk.specs.Prompts.{Prompt as ToldPrompt}
 use Rattle.jser_walk.specs.Laws.{QuietStepsSettle, QuietStepsEnd, NothingDue, PromptsKeep}
+use Rattle.jser_walk.specs.declared.Field.{Field}
+use Rattle.jser_walk.specs.declared.Field.TheVariants as field
+use Rattle.jser_walk.specs.Given.{IsOf}
 use Rattle.jser_graph.specs.declared.survey.Survey.{Survey}
-use Rattle.jser_graph.specs.Surveying.{made_by, nodes_by, owners_by, is_string, is_name, names_by, Settles, Ended, Steps}
+use Rattle.jser_graph.specs.declared.survey.TextUse.{TextUse}
+use Rattle.jser_graph.specs.Surveying.{made_by, nodes_by, owners_by, is_string, is_name, is_text, names_by, IsUseOf, Settles, Ended, Steps}
 use Rattle.jser_graph.specs.Indexing.{begun_by, index_by}
 use Rattle.jser_graph.specs.Collecting.{collect_by}
 
@@ -151,19 +155,55 @@ by_prompt (interface_prompt L) _ names = refl
 by_prompt _ (text_field long units) names = refl
 by_prompt _ _ names = refl
 
-pub steps_taken : (told : StreamField) (old mid new : Survey) (string name : Bool) (last end : ℕ) → Ended old mid → string ≡ is_string (prompt_of mid.walk)
+-- what a field is for, if it is a text
+
+abbrev NotText : StreamField → Type 0
+NotText (text_field long units) = ⊥
+NotText told = Unit {0}
+
+not_text : (f : Field) (told : StreamField) → is_text f ≡ false → IsOf f told → NotText told
+not_text (field.Text units) (text_field long told) apart is = absurd (true≢false apart)
+not_text _ (text_field long told) apart is = absurd is
+not_text f _ apart is = tt
+
+same_index : (told : StreamField) (a b : Bool) (x : Index) → NotText told → index_by a told x ≡ index_by b told x
+same_index (text_field long units) a b x apart = absurd apart
+same_index _ a b x apart = refl
+
+same_names : (told : StreamField) (a b : Bool) (names : List (List ℕ)) → NotText told → names_by a told names ≡ names_by b told names
+same_names (text_field long units) a b names apart = absurd apart
+same_names _ true true names apart = refl
+same_names _ true false names apart = refl
+same_names _ false true names apart = refl
+same_names _ false false names apart = refl
+
+pub use_of_text : (walk : Teller) (told : StreamField) (string name : Bool) → string ≡ is_string (prompt_of walk) → name ≡ is_name (prompt_of walk) → IsUseOf walk told record { is_string = string; is_name = name }
+use_of_text walk told string name s n = record {
+  nodes = λ x. ap (λ b. index_by b told x) s;
+  names = λ names. ap (λ b. names_by b told names) n;
+}
+
+pub use_of_other : (walk : Teller) (f : Field) (told : StreamField) → is_text f ≡ false → IsOf f told → IsUseOf walk told record { is_string = false; is_name = false }
+use_of_other walk f told apart is =
+    let other = not_text f told apart is in
+    record {
+      nodes = λ x. same_index told false (is_string (prompt_of walk)) x other;
+      names = λ names. same_names told false (is_name (prompt_of walk)) names other;
+    }
+
+pub steps_taken : (told : StreamField) (old mid new : Survey) (text : TextUse) (last end : ℕ) → Ended old mid → IsUseOf mid.walk told text
     → last ≡ length mid.walk.known - 1 → place_after old.nodes.place (bytes_of told) ≡ end
-    → (place_after mid.nodes.place (bytes_of told) ≡ end → new.nodes ≡ index_by string told mid.nodes) → new.owners ≡ collect_by last told mid.owners
-    → new.walk ≡ goes mid.walk told → PromptsKeep → name ≡ is_name (prompt_of mid.walk) → new.names ≡ names_by name told mid.names → Steps told old new
-steps_taken told old mid new string name last end e s l p n o w keeps is_a m = record {
+    → (place_after mid.nodes.place (bytes_of told) ≡ end → new.nodes ≡ index_by text.is_string told mid.nodes) → new.owners ≡ collect_by last told mid.owners
+    → new.walk ≡ goes mid.walk told → PromptsKeep → new.names ≡ names_by text.is_name told mid.names → Steps told old new
+steps_taken told old mid new text last end e text_is l p n o w keeps m = record {
   walk = w ∙ ap (λ t. goes t told) e.walk;
   nodes =
-      n (ap (λ k. place_after k (bytes_of told)) e.place ∙ p) ∙ ap (λ b. index_by b told mid.nodes) s ∙ sym (in_index mid.walk.cues told mid.nodes)
+      n (ap (λ k. place_after k (bytes_of told)) e.place ∙ p) ∙ text_is.nodes mid.nodes ∙ sym (in_index mid.walk.cues told mid.nodes)
       ∙ ap₂ (λ t x. index_in t.cues told x) e.walk e.nodes;
   owners =
       o ∙ sym (collected_by mid.walk.known told mid.owners last l)
       ∙ ap₂ (λ t x. collect t.known told x) e.walk e.owners;
   names =
-      m ∙ ap (λ b. names_by b told mid.names) is_a ∙ sym ((keeps mid.walk told).1 mid.names ∙ by_prompt (prompt_of mid.walk) told mid.names)
+      m ∙ text_is.names mid.names ∙ sym ((keeps mid.walk told).1 mid.names ∙ by_prompt (prompt_of mid.walk) told mid.names)
       ∙ ap₂ (λ t x. name_in t.cues told x) e.walk e.names;
 }

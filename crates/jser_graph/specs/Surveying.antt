@@ -3,6 +3,7 @@ use Rattle.std.specs.Prelude.{ℕ, ◌≡◌, Bool, true, false, List, [], ◌�
 use Rattle.jser_reading.specs.Roles.{Owner as ToldOwner}
 use Rattle.jser_reading.specs.Labels.{StreamField, text_field, Piece}
 use Rattle.jser_reading.specs.FieldBytes.{joined}
+use Rattle.jser_shown.specs.Cues.{Teller}
 use Rattle.jser_shown.specs.Telling.{settled, goes, begin_telling}
 use Rattle.jser_shown.specs.Indexing.{Index, made, kind_of_owner, begin_index, settle_index, index_in}
 use Rattle.jser_shown.specs.Collecting.{Collection, begin_collection, settle_collection, collect}
@@ -10,9 +11,13 @@ use Rattle.jser_shown.specs.Naming.{name_in}
 use Rattle.jser_shown.specs.Fronts.{teller_at, index_after, collection_after, names_after}
 use Rattle.jser_walk.specs.Steps.{made_collection, section_due, external_due, type_word_due, line_end_due, made_due, quiet_due}
 use Rattle.jser_walk.specs.Steps.{Due as ToldDue}
-use Rattle.jser_walk.specs.Prompts.{string_prompt, class_name_prompt, interface_prompt}
+use Rattle.jser_walk.specs.declared.Field.{Field}
+use Rattle.jser_walk.specs.declared.Field.TheVariants as field
+use Rattle.jser_walk.specs.Prompts.{string_prompt, class_name_prompt, interface_prompt, prompt_of}
 use Rattle.jser_walk.specs.Prompts.{Prompt as ToldPrompt}
 use Rattle.jser_graph.specs.declared.survey.Survey.{Survey}
+use Rattle.jser_graph.specs.declared.survey.TextUse.{TextUse}
+use Rattle.jser_graph.specs.Indexing.{index_by}
 
 abbrev pub made_by : ToldDue → Option ToldOwner
 made_by (section_due L name) = None
@@ -46,6 +51,15 @@ is_name _ = false
 abbrev pub names_by : (is_name : Bool) → StreamField → List (List ℕ) → List (List ℕ)
 names_by true (text_field long units) names = names ++ (units ∷ [])
 names_by is_name told names = names
+
+abbrev pub is_text : Field → Bool
+is_text (field.Text units) = true
+is_text f = false
+
+-- what is kept of this field is what the prompt says
+pub record IsUseOf (walk : Teller) (told : StreamField) (use_of : TextUse) : Type 0 where
+  pub nodes : (x : Index) → index_by use_of.is_string told x ≡ index_by (is_string (prompt_of walk)) told x
+  pub names : (names : List (List ℕ)) → names_by use_of.is_name told names ≡ names_by (is_name (prompt_of walk)) told names
 
 -- before the first field
 pub record Begins (s : Survey) : Type 0 where

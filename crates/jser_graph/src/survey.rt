@@ -8,7 +8,7 @@ ghost use Rattle.jser_walk.specs.Given.{IsOf, told_owner, told_nodes};
 ghost use Rattle.jser_walk.specs.Steps.{made_collection};
 ghost use Rattle.jser_walk.specs.Views.{told_due, view_prompt};
 ghost use Rattle.jser_graph.specs.StoredNodes.{told_kind};
-ghost use Rattle.jser_graph.specs.Surveying.{Begins, made_by, nodes_by, owners_by, is_string, is_name, names_by, Steps, Ended};
+ghost use Rattle.jser_graph.specs.Surveying.{Begins, made_by, nodes_by, owners_by, is_string, is_name, is_text, names_by, IsUseOf, Steps, Ended};
 ghost use Rattle.jser_graph.specs.Along.{Ends, IsLength};
 
 use crate::decode::decode;
@@ -68,6 +68,20 @@ fn is_name(prompt: Prompt<'_>) -> bool
     matches!(prompt, Prompt::ClassName | Prompt::Interface { .. })
 }
 
+/// Whether the field is a text.
+fn is_text(field: Field<'_>) -> bool
+    ensures { result ≡ is_text field.entry }
+{
+    matches!(field, Field::Text(_))
+}
+
+/// What a text is for; neither where it is not kept.
+#[derive(Clone, Copy)]
+pub(crate) struct TextUse {
+    is_string: bool,
+    is_name: bool,
+}
+
 impl<'a> Survey<'a> {
     /// Before the first field. Takes no memory.
     pub(crate) fn new(alloc: Global) -> Survey<'a>
@@ -125,6 +139,24 @@ impl<'a> Survey<'a> {
         Ok(())
     }
 
+    /// What the field is for, if it is a text. The walk is asked only then.
+    #[tactic(auto, using(crate::proofs::SurveyLemmas::use_of_text, crate::proofs::SurveyLemmas::use_of_other))]
+    fn text_use(&self, field: Field<'_>) -> TextUse
+        ensures { (told : StreamField) → IsOf field.entry told → IsUseOf self.now.walk told result }
+    {
+        if !is_text(field) {
+            return TextUse {
+                is_string: false,
+                is_name: false,
+            };
+        }
+        let prompt = self.walk.prompt();
+        TextUse {
+            is_string: is_string(prompt),
+            is_name: is_name(prompt),
+        }
+    }
+
     /// Adds a checked name, where the field is one.
     fn name(&mut self, field: Field<'_>, is_name: bool) -> Result<(), AllocError>
         ensures names { OnOk result ((told : StreamField) → IsOf field.entry told → self.new.names ≡ names_by is_name told self.old.names) }
@@ -147,12 +179,11 @@ impl<'a> Survey<'a> {
     {
         prompts_keep();
         self.settle()?;
-        let is_string = is_string(self.walk.prompt());
-        let is_name = is_name(self.walk.prompt());
+        let text = self.text_use(field);
         let last = self.next_number()?.saturating_sub(1);
-        self.nodes.take(field, is_string, end)?;
+        self.nodes.take(field, text.is_string, end)?;
         self.owners.take(field, last)?;
-        self.name(field, is_name)?;
+        self.name(field, text.is_name)?;
         self.walk.take(field)?;
         Ok(())
     }

@@ -8,7 +8,7 @@ use Rattle.jser_walk.specs.declared.chains.Chain.{Chain}
 use Rattle.jser_walk.specs.declared.chains.Links.{Links}
 use Rattle.jser_walk.specs.declared.chains.Own.{Own}
 use Rattle.jser_walk.specs.declared.chains.Counted.TheVariants as counted
-use Rattle.jser_walk.specs.Chains.{chain_in, IsFront, chain_of_parent, chain_above, with_chain, chains_of, front_of, is_filled_own, AreLinks, IsTold, AreTold, AreKept, LinksTo, LinkUnder, IsUnder, IsHighest}
+use Rattle.jser_walk.specs.Chains.{chain_in, IsFront, chain_of_parent, chain_above, with_chain, chains_of, front_of, is_filled_own, AreLinks, IsTold, AreTold, AreKept, LinksTo, LinkUnder, RunsUnder, IsRun, IsUnder, IsHighest}
 
 -- fronts
 
@@ -62,6 +62,17 @@ AreLinks-push chains chain place (Some links) inside told =
     let jump_same : chain_in (chains ++ chain ∷ []) links.jump ≡ chain_in chains links.jump = get_or_append_left chains (chain ∷ []) [] links.jump (omega arith) in
     (told.0, told.1, rw (jump_same, same) told.2)
 
+IsRun-push : (chains : List (List Own)) (chain : List Own) (place run : ℕ) → place < length chains → IsRun chains run place → IsRun (chains ++ chain ∷ []) run place
+IsRun-push chains chain place run inside is =
+    let same : (n : ℕ) → n ≤ place → chain_in (chains ++ chain ∷ []) n ≡ chain_in chains n =
+    λ n low. get_or_append_left chains (chain ∷ []) [] n (omega arith)
+    in
+    record {
+      before = is.before;
+      front = λ n high low. rw (same n low, same place (omega arith)) (is.front n high low);
+      long = λ n high low. rw (same n low, same place (omega arith)) (is.long n high low);
+    }
+
 IsTold-push : (chains : List (List Own)) (chain : List Own) (place : ℕ) (c : Chain) → place < length chains → IsTold chains place c → IsTold (chains ++ chain ∷ []) place c
 IsTold-push chains chain place c inside told =
     let same : chain_in (chains ++ chain ∷ []) place ≡ chain_in chains place = get_or_append_left chains (chain ∷ []) [] place inside in
@@ -72,6 +83,7 @@ IsTold-push chains chain place c inside told =
       filled = told.filled ∙ ap (count_by is_filled_own) (sym same);
       fewer = told.fewer;
       within = told.within;
+      run = IsRun-push chains chain place c.run inside told.run;
       links = AreLinks-push chains chain place c.links inside told.links;
     }
 
@@ -95,6 +107,47 @@ AreLinks-new chains (Some parent) (Some links) own under =
       rw (jump_same, here) (IsFront-trans _ _ _ front (IsFront-append (chain_in chains links.parent) (own ∷ []))),
     )
 
+IsRun-alone : (chains : List (List Own)) (chain : List Own) (run place : ℕ) → run ≡ place → IsRun chains run place
+IsRun-alone chains chain run place is = record {
+  before = omega arith;
+  front = λ n high low. let here : n ≡ place = omega arith in rw here (IsFront-refl (chain_in chains place));
+  long = λ n high low. let here : n ≡ place = omega arith in rw here (omega arith);
+}
+
+IsRun-goes_on : (chains : List (List Own)) (chain : List Own) (own : Own) (run number : ℕ) → number + 1 ≡ length chains → IsRun chains run number → chain ≡ chain_in chains number ++ own ∷ [] → IsRun (chains ++ chain ∷ []) run (length chains)
+IsRun-goes_on chains chain own run number last is made =
+    let here : chain_in (chains ++ chain ∷ []) (length chains) ≡ chain = get_or_push chains chain [] (length chains) refl in
+    let before : (n : ℕ) → n < length chains → chain_in (chains ++ chain ∷ []) n ≡ chain_in chains n =
+    λ n low. get_or_append_left chains (chain ∷ []) [] n low
+    in
+    record {
+      before = omega (arith, is.before);
+      front = λ n high low. elim (cases_lt n (length chains)) [
+        | inl under ↦
+            rw (before n under, here, made)
+            (IsFront-trans _ _ _ (is.front n high (omega arith)) (IsFront-append (chain_in chains number) (own ∷ [])))
+        | inr past ↦
+            let same : n ≡ length chains = omega arith in
+            rw same (IsFront-refl (chain_in (chains ++ chain ∷ []) (length chains)))
+      ];
+      long = λ n high low. elim (cases_lt n (length chains)) [
+        | inl under ↦
+            rw (before n under, here, made)
+            (omega (arith, is.long n high (omega arith), length_push (chain_in chains number) own))
+        | inr past ↦
+            let same : n ≡ length chains = omega arith in
+            rw same (omega arith)
+      ];
+    }
+
+IsRun-new : (chains : List (List Own)) (parent : Option ℕ) (own : Own) (c : Chain) → RunsUnder chains parent c.run → chain_of_parent chains parent ++ own ∷ [] ≡ chain_above chains c.links ++ c.own ∷ [] → IsRun (with_chain chains c) c.run (length chains)
+IsRun-new chains parent own c runs is_chain = elim runs [
+  | inl alone ↦ IsRun-alone (with_chain chains c) [] c.run (length chains) alone
+  | inr goes ↦
+      IsRun-goes_on chains (chain_above chains c.links ++ c.own ∷ []) own c.run goes.number goes.last goes.is_run
+      (sym is_chain ∙ ap (λ p. chain_of_parent chains p ++ own ∷ []) goes.parent_is)
+]
+
 IsTold-new : (chains : List (List Own)) (parent : Option ℕ) (own : Own) (c : Chain) → IsUnder chains parent own c → IsTold (with_chain chains c) (length chains) c
 IsTold-new chains parent own c under =
     let chain : List Own = chain_above chains c.links ++ c.own ∷ [] in
@@ -110,6 +163,7 @@ IsTold-new chains parent own c under =
       filled = under.filled ∙ ap (count_by is_filled_own) (is_chain ∙ sym here);
       fewer = omega (arith, under.layers, under.filled, count_by-le-length is_filled_own (chain_of_parent chains parent ++ own ∷ []));
       within = under.within;
+      run = IsRun-new chains parent own c under.run is_chain;
       links = links;
     }
 
@@ -142,17 +196,18 @@ chains_push old new c parent own is under =
 count_by_push : (chain : List Own) (own : Own) → count_by is_filled_own (chain ++ own ∷ []) ≡ count_by is_filled_own chain + cond own.is_filled 1 0
 count_by_push chain own = sum_by-append (λ x. cond (is_filled_own x) 1 0) chain (own ∷ []) ∙ omega arith
 
-pub under_none : (cs : List Chain) (parent : Option ℕ) (own : Own) (one : ℕ) (c : Chain) → parent ≡ None → one ≡ cond own.is_filled 1 0 → c ≡ record { own = own; links = None; layers = 1; filled = one } → IsUnder (chains_of cs) parent own c
-under_none cs parent own one c is counts made = rw (is, made) (record {
+pub under_none : (cs : List Chain) (parent : Option ℕ) (own : Own) (one run : ℕ) (c : Chain) → parent ≡ None → one ≡ cond own.is_filled 1 0 → run ≡ length cs → c ≡ record { own = own; links = None; layers = 1; filled = one; run = run } → IsUnder (chains_of cs) parent own c
+under_none cs parent own one run c is counts alone made = rw (is, made) (record {
   own_is = refl;
   links = tt;
   layers = refl;
   filled = omega (arith, counts, count_by_push [] own);
   within = omega arith;
+  run = inl (alone ∙ sym (length_chains_of cs));
 })
 
-pub under_parent : (cs : List Chain) (parent : Option ℕ) (number jump : ℕ) (own : Own) (one : ℕ) (above c : Chain) → IsTold (chains_of cs) number above → number < length cs → parent ≡ Some number → jump < length cs → IsFront (chain_in (chains_of cs) jump) (chain_in (chains_of cs) number) → one ≡ cond own.is_filled 1 0 → c ≡ record { own = own; links = Some record { parent = number; jump = jump }; layers = above.layers + 1; filled = above.filled + one } → IsUnder (chains_of cs) parent own c
-under_parent cs parent number jump own one above c at_parent inside is jump_in front counts made =
+pub under_parent : (cs : List Chain) (parent : Option ℕ) (number jump : ℕ) (own : Own) (one run : ℕ) (above c : Chain) → IsTold (chains_of cs) number above → number < length cs → parent ≡ Some number → jump < length cs → IsFront (chain_in (chains_of cs) jump) (chain_in (chains_of cs) number) → one ≡ cond own.is_filled 1 0 → RunsUnder (chains_of cs) (Some number) run → c ≡ record { own = own; links = Some record { parent = number; jump = jump }; layers = above.layers + 1; filled = above.filled + one; run = run } → IsUnder (chains_of cs) parent own c
+under_parent cs parent number jump own one run above c at_parent inside is jump_in front counts runs made =
     let links : LinksTo (chains_of cs) number record { parent = number; jump = jump } =
     record { parent_is = refl; parent_in = rw (length_chains_of cs) inside; jump_in = rw (length_chains_of cs) jump_in; jump_front = front }
     in
@@ -162,6 +217,7 @@ under_parent cs parent number jump own one above c at_parent inside is jump_in f
       layers = ap (λ n. n + 1) at_parent.layers ∙ sym (length_push (chain_in (chains_of cs) number) own);
       filled = omega (arith, counts, at_parent.filled, count_by_push (chain_in (chains_of cs) number) own);
       within = omega (arith, at_parent.within, length_chains_of cs);
+      run = runs;
     })
 
 -- the layer at the end of a walk

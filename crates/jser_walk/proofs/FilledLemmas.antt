@@ -1,7 +1,8 @@
 -- The next layer of a chain that an object holds anything of, by a walk up the chain.
-use Rattle.std.proofs.Common.{◌≡◌, ℕ, suc, ◌+◌, ◌-◌, ◌<◌, ◌≤◌, Bool, true, false, cond, List, [], ◌∷◌, ◌++◌, length, take, drop, count_by, refl, ap, sym, ◌∙◌, inl, inr, arith, append_assoc}
+use Rattle.std.proofs.Common.{◌≡◌, ℕ, suc, ◌+◌, ◌-◌, ◌<◌, ◌≤◌, Bool, true, false, cond, List, [], ◌∷◌, ◌++◌, length, take, drop, count_by, slice_get, Some, refl, ap, sym, ◌∙◌, inl, inr, arith, append_assoc}
 use Rattle.std.proofs.lemmas.Bool.{cases_lt}
-use Rattle.std.proofs.lemmas.List.{take_at, drop_at, length_push, take-take, take-append-le, drop-append-le, take-append-drop, drop_all}
+use Rattle.std.proofs.lemmas.Option.{get_or_from_slice_get, slice_get_within}
+use Rattle.std.proofs.lemmas.List.{take_at, drop_at, length_push, take-take, take-append-le, drop-append-le, take-append-drop, drop_all, drop_more}
 use Rattle.std.proofs.lemmas.List.Sums.{sum_by-append, sum_by-cons}
 use Rattle.jser_walk.specs.declared.chains.Chain.{Chain}
 use Rattle.jser_walk.specs.declared.chains.Own.{Own}
@@ -50,6 +51,14 @@ from_filled-at (x ∷ xs) y ys none here =
 pub past_all : (whole : List Own) (n from : ℕ) → n ≡ length whole → n ≤ from → drop n whole ≡ from_filled_own (drop from whole)
 past_all whole n from is past =
     drop_all n whole (omega arith) ∙ sym (ap from_filled_own (drop_all from whole (omega arith)))
+
+pub filled_here : (whole : List Own) (from : ℕ) (own : Own) → slice_get whole from ≡ Some own → own.is_filled ≡ true → drop from whole ≡ from_filled_own (drop from whole)
+filled_here whole from own is holds =
+    let first : drop from whole ≡ own ∷ drop (from + 1) whole =
+    drop_more whole from own (slice_get_within whole from own is)
+    ∙ ap (λ x. x ∷ drop (from + 1) whole) (get_or_from_slice_get whole from own own is)
+    in
+    rw (first, holds) refl
 
 pub none_filled : (whole : List Own) (n from before : ℕ) → n ≡ length whole → before ≡ count_by is_filled_own (take from whole) → count_by is_filled_own whole ≤ before → drop n whole ≡ from_filled_own (drop from whole)
 none_filled whole n from before is so_many few =

@@ -1,5 +1,6 @@
 pub mod ChainLemmas
 pub mod FilledLemmas
+pub mod RunLemmas
 pub mod LayerLemmas
 pub mod TableLemmas
 pub mod PartLemmas

@@ -228,7 +228,7 @@ sound_closed entries layers old new own l parent above view is sound chain insid
     in
     rw added (record {
       among = All-weaker (IsAmong (length old)) (IsAmong (length (old ++ (chain_of_parent old above ++ own ∷ []) ∷ [])))
-      (among_more _ _ (omega (arith, length_push old (chain_of_parent old above ++ own ∷ [])))) entries sound.among;
+          (among_more _ _ (omega (arith, length_push old (chain_of_parent old above ++ own ∷ [])))) entries sound.among;
       of = All-push (AreOf told) old (chain_of_parent old above ++ own ∷ []) sound.of last;
     })
 

@@ -1,7 +1,7 @@
 -- Chains of classes, each told by the places of its layers, the highest superclass first; and the links by which they
 -- are kept. A superclass stands before its subclasses, so the chain of a class is that of its parent and then its own
 -- layer.
-use Rattle.std.specs.Prelude.{ℕ, ◌≡◌, ◌+◌, ◌-◌, ◌*◌, ◌^◌, ◌<◌, ◌≤◌, List, [], ◌∷◌, ◌++◌, length, take, drop, fold, count_by, slice_get, slice_index_or, if◌then◌else◌, Bool, Option, Some, None}
+use Rattle.std.specs.Prelude.{ℕ, ◌≡◌, ◌+◌, ◌-◌, ◌*◌, ◌^◌, ◌<◌, ◌≤◌, ◌⊎◌, List, [], ◌∷◌, ◌++◌, length, take, drop, fold, count_by, slice_get, slice_index_or, if◌then◌else◌, Bool, Option, Some, None}
 use Rattle.jser_walk.specs.declared.chains.Chain.{Chain}
 use Rattle.jser_walk.specs.declared.chains.Links.{Links}
 use Rattle.jser_walk.specs.declared.chains.Own.{Own}
@@ -62,6 +62,12 @@ AreLinks chains place None = Unit {0}
 AreLinks chains place (Some links) =
     (links.parent < place) × (links.jump < place) × IsFront (chain_in chains links.jump) (chain_in chains place)
 
+-- the classes from `run` on to this place are superclasses, each the parent of the next
+pub record IsRun (chains : List (List Own)) (run place : ℕ) : Type 0 where
+  pub before : run ≤ place
+  pub front : (n : ℕ) → run ≤ n → n ≤ place → IsFront (chain_in chains n) (chain_in chains place)
+  pub long : (n : ℕ) → run ≤ n → n ≤ place → length (chain_in chains n) + (place - n) ≡ length (chain_in chains place)
+
 -- what is kept of a chain
 pub record IsTold (chains : List (List Own)) (place : ℕ) (c : Chain) : Type 0 where
   pub own : chain_in chains place ≡ chain_above chains c.links ++ c.own ∷ []
@@ -70,6 +76,7 @@ pub record IsTold (chains : List (List Own)) (place : ℕ) (c : Chain) : Type 0 
   pub fewer : c.filled ≤ c.layers
   pub within : c.layers ≤ place + 1
   pub links : AreLinks chains place c.links
+  pub run : IsRun chains c.run place
 
 abbrev pub AreTold : List Chain → Type 0
 AreTold kept =
@@ -92,6 +99,17 @@ LinkUnder chains None (Some links) = ⊥
 LinkUnder chains (Some parent) None = ⊥
 LinkUnder chains (Some parent) (Some links) = LinksTo chains parent links
 
+-- the run of the parent goes on with the next class
+pub record GoesOn (chains : List (List Own)) (parent : Option ℕ) (run : ℕ) : Type 0 where
+  pub number : ℕ
+  pub parent_is : parent ≡ Some number
+  pub last : number + 1 ≡ length chains
+  pub is_run : IsRun chains run number
+
+-- the run of the next class, which stands under this parent: one of its own, or that of the parent
+abbrev pub RunsUnder : List (List Own) → (parent : Option ℕ) → (run : ℕ) → Type 0
+RunsUnder chains parent run = (run ≡ length chains) ⊎ GoesOn chains parent run
+
 -- a class of this layer, made to stand under this parent
 pub record IsUnder (chains : List (List Own)) (parent : Option ℕ) (own : Own) (c : Chain) : Type 0 where
   pub own_is : c.own ≡ own
@@ -99,6 +117,7 @@ pub record IsUnder (chains : List (List Own)) (parent : Option ℕ) (own : Own) 
   pub layers : c.layers ≡ length (chain_of_parent chains parent ++ own ∷ [])
   pub filled : c.filled ≡ count_by is_filled_own (chain_of_parent chains parent ++ own ∷ [])
   pub within : c.layers ≤ length chains + 1
+  pub run : RunsUnder chains parent c.run
 
 -- One link up from the class at this place, to one whose count is over the bound.
 pub record GoesUp (counted : Counted) (bound : ℕ) (chains : List (List Own)) (place higher : ℕ) : Type 0 where

@@ -4,7 +4,7 @@
 //! layer, and any layer of it is found in a number of steps in the order of its logarithm.
 ghost use Rattle.std.specs.Prelude.{◌≡◌, ◌+◌, ◌<◌, ◌≤◌, ◌^◌, [], ◌∷◌, ◌++◌, length, take, drop, count_by, slice_get, Some, None, OnOk, OnErr, IfOk, IfSome, IfNone, ◌-◌, ◌*◌};
 ghost use Rattle.std.specs.Option.{ForSome};
-ghost use Rattle.jser_walk.specs.Chains.{chain_in, chain_of_parent, front_of, chains_of, is_filled_own, count_of, told_count, from_filled_own, IsFront, AreTold, IsTold, IsUnder, IsHighest, GoesUp, JumpsFar, TakesJump};
+ghost use Rattle.jser_walk.specs.Chains.{chain_in, chain_of_parent, front_of, chains_of, is_filled_own, count_of, told_count, from_filled_own, IsFront, AreTold, IsTold, IsUnder, RunsUnder, IsHighest, GoesUp, JumpsFar, TakesJump};
 
 use std::alloc::{AllocError, Global};
 use std::marker::Model;
@@ -36,6 +36,8 @@ pub(crate) struct Chain {
     layers: u32,
     /// How many of them an object holds anything of.
     filled: u32,
+    /// The first class of its run: from there on to this one each class is the parent of the next.
+    run: u32,
 }
 
 /// What a walk up a chain counts: all layers, or those that an object holds anything of.
@@ -163,15 +165,33 @@ fn chain_under(kept: &[Chain], parent: Option<u32>, own: Own) -> Chain
             links: None,
             layers: 1,
             filled: u32::from(own.is_filled),
+            run: kept.len() as u32,
         };
     };
     let jump = jump_from(kept, parent);
+    let run = run_under(kept, parent);
     let above = chain_at(kept, parent as usize);
     Chain {
         own,
         links: Some(Links { parent, jump }),
         layers: above.layers + 1,
         filled: above.filled + u32::from(own.is_filled),
+        run,
+    }
+}
+
+/// The first class of the run of a class under this parent. The parent's run goes on where that is the last class of all.
+#[tactic(auto, using(crate::proofs::RunLemmas::runs_on, crate::proofs::RunLemmas::runs_alone))]
+fn run_under(kept: &[Chain], parent: u32) -> u32
+    requires told { AreTold kept.now }
+    requires parent_in { parent < length kept.now }
+    requires fewer { length kept.now < 2 ^ 32 - 1 }
+    ensures { RunsUnder (chains_of kept.now) (Some parent) result }
+{
+    if parent as usize + 1 == kept.len() {
+        chain_at(kept, parent as usize).run
+    } else {
+        kept.len() as u32
     }
 }
 
@@ -218,8 +238,25 @@ fn layer_at(kept: &[Chain], start: usize, index: usize) -> Own
     requires index_in { index < length (chain_in (chains_of kept.now) start) }
     ensures { slice_get (chain_in (chains_of kept.now) start) index ≡ Some result }
 {
-    let place = highest(kept, start, Counted::Layers, index);
+    let place = class_at(kept, start, index);
     chain_at(kept, place).own
+}
+
+/// The class of the chain at `start` whose own layer has this index. It is found at once where it is of the same run.
+#[tactic(auto, using(crate::proofs::RunLemmas::run_highest))]
+fn class_at(kept: &[Chain], start: usize, index: usize) -> usize
+    requires told { AreTold kept.now }
+    requires start_in { start < length kept.now }
+    requires index_in { index < length (chain_in (chains_of kept.now) start) }
+    ensures inside { result < length kept.now }
+    ensures highest { IsHighest Counted.Layers index (chain_in (chains_of kept.now) start) (chain_in (chains_of kept.now) result) }
+{
+    let class = chain_at(kept, start);
+    let back = class.layers as usize - 1 - index;
+    if back <= start - class.run as usize {
+        return start - back;
+    }
+    highest(kept, start, Counted::Layers, index)
 }
 
 /// The index of the first layer, at `from` or after it, that an object holds anything of; or one past the last.
@@ -233,6 +270,9 @@ fn next_filled_at(kept: &[Chain], start: usize, from: usize) -> usize
     let layers = class.count(Counted::Layers);
     if from >= layers {
         return layers;
+    }
+    if layer_at(kept, start, from).is_filled {
+        return from;
     }
     let before = filled_before(kept, start, from);
     if class.count(Counted::Filled) <= before {
@@ -253,7 +293,7 @@ fn filled_before(kept: &[Chain], start: usize, index: usize) -> usize
     if index == 0 {
         return 0;
     }
-    let place = highest(kept, start, Counted::Layers, index - 1);
+    let place = class_at(kept, start, index - 1);
     chain_at(kept, place).count(Counted::Filled)
 }
 
