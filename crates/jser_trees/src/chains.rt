@@ -79,7 +79,7 @@ pub(crate) fn proxy_layer(alloc: Global) -> Layer
 }
 
 /// The class's own layer, the last of its chain.
-#[tactic(auto, using(jser_value::proofs::ObeysLemmas::own_layer_last, jser_value::proofs::ObeysLemmas::own_layer_none))]
+#[tactic(auto, using(jser_value::proofs::CheckLemmas::own_layer_last, jser_value::proofs::CheckLemmas::own_layer_none))]
 fn own_layer(table: &Table, number: u32) -> Option<&Layer>
     requires { IsTrue (is_closed (slice_get table.now.entries number)) }
     ensures { option_copied result ≡ own_layer (chain_at table.now.entries number) }

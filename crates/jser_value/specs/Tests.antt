@@ -9,8 +9,8 @@ use Rattle.jser_table.specs.declared.layer.Purpose.TheVariants as purpose
 use Rattle.jser_table.specs.Chains.{has_write_method}
 use Rattle.jser_table.specs.Entries.{pending_entry, other_entry, is_closed, chain_at}
 use Rattle.jser_table.specs.Fits.{fits}
-use Rattle.jser_value.specs.declared.obeys.Fault.{Fault}
-use Rattle.jser_value.specs.declared.obeys.Fault.TheVariants as fault
+use Rattle.jser_value.specs.declared.check.fault.Fault.{Fault}
+use Rattle.jser_value.specs.declared.check.fault.Fault.TheVariants as fault
 use Rattle.jser_grammar.specs.Codes.{letter_of, object_count}
 use Rattle.jser_grammar.specs.Trees.{ValueTree, null, back, string, descriptor, class_object, array, enum_constant, object, DescTree, plain, proxy, ClassPlaceTree, no_class, back_class, new_class, BodyTree, raw_body, value_body, ValueTrees, no_values, value_and, value_count, SectionTree, section, SectionTrees, no_sections, section_and, NotesTree, no_notes, annotation, block, reset, content, ContentTrees, no_contents, content_and, FieldTree, PrimTree, TextPlaceTree}
 use Rattle.jser_grammar.specs.TableAfter.{Entries, add, after_fields, after_value, after_class, after_values, after_notes, after_contents, chain_of_class}
@@ -37,12 +37,27 @@ obeys_interfaces interfaces = nat_lt (length interfaces) (2 ^ 31) && obeys_class
 abbrev pub is_bare : List PrimTree → ValueTrees → Bool
 is_bare ps vs = length ps == 0 && value_count vs == 0
 
+-- an annotation stands there exactly where one is expected
+abbrev pub is_annotated_as : NotesTree → Bool → Bool
+is_annotated_as no_notes expected = not expected
+is_annotated_as (annotation notes) expected = expected
+
+-- what a section of this layer holds besides its values and what its annotation holds
+abbrev pub obeys_frame : Option Layer → SectionTree → Bool
+obeys_frame None s = false
+obeys_frame (Some l) (section ps vs n) = obeys_layer l ps vs && is_annotated_as n (has_write_method l.flags)
+
 abbrev pub after_section : Entries → SectionTree → Entries
 after_section T (section ps vs n) = after_notes (after_values T vs) n
 
 abbrev pub obeys_raw_body : Option ℕ → List PrimTree → Bool
 obeys_raw_body None ps = false
 obeys_raw_body (Some code) ps = nat_lt (length ps) (2 ^ 31) && list_all (is_prim_of code) ps
+
+-- so many values may be the elements of an array, where its class says no raw ones
+abbrev pub obeys_value_count : Option ℕ → ValueTrees → Bool
+obeys_value_count None vs = nat_lt (value_count vs) (2 ^ 31)
+obeys_value_count (Some code) vs = false
 
 abbrev mutual
   pub obeys_value : Entries → ValueTree → Bool
@@ -84,8 +99,7 @@ abbrev mutual
 
   pub obeys_body : Entries → BodyTree → Option ℕ → Bool
   obeys_body T (raw_body ps) code = obeys_raw_body code ps
-  obeys_body T (value_body vs) None = nat_lt (value_count vs) (2 ^ 31) && obeys_values T vs
-  obeys_body T (value_body vs) (Some code) = false
+  obeys_body T (value_body vs) code = obeys_value_count code vs && obeys_values T vs
 
   pub obeys_values : Entries → ValueTrees → Bool
   obeys_values T no_values = true
@@ -142,6 +156,11 @@ obeys_object T ss chain = fits purpose.Object chain && obeys_data (add T other_e
 abbrev pub obeys_section_at : Entries → SectionTree → Option Layer → Bool
 obeys_section_at T s None = false
 obeys_section_at T s (Some l) = obeys_section T s l
+
+-- what a section holds, whatever its layer is
+abbrev pub obeys_held : Entries → SectionTree → Bool
+obeys_held T (section ps vs no_notes) = obeys_values T vs
+obeys_held T (section ps vs (annotation notes)) = obeys_values T vs && obeys_notes (after_values T vs) notes
 
 -- What a call of the check tells of a part, unless memory ran out: it passes its test, and the table is then
 -- the one after it; or it fails its test.

@@ -4,8 +4,8 @@ ghost use Rattle.jser_value.specs.View.{view_contents};
 ghost use Rattle.jser_value.specs.Limits.{IsContents};
 ghost use Rattle.jser_value.specs.Causes.{IsWithin, IsTooDeep, IsTooLarge, IsNotRight, Explains, FailsBy};
 
+use crate::check::{Fault, check_contents};
 use crate::depth::contents_within;
-use crate::obeys::{Fault, check_contents};
 use crate::size::after_contents;
 use crate::tree::Content;
 use jser_grammar::caps::{MOST_TREE_BYTES, MOST_TREE_DEPTH};

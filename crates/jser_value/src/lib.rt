@@ -3,12 +3,12 @@
 //! jser_grammar; `laws` has what holds of the definitions alone.
 #![tactic(auto)]
 
+mod check;
 mod contents;
 mod depth;
 mod encoder;
 mod handles;
 pub mod laws;
-mod obeys;
 mod parts;
 mod size;
 mod tree;

@@ -1,15 +1,16 @@
-//! Tests of the parts of a tree that need no table: texts, names, flags, handles, raw values and blocks.
-//! `specs/Parts.antt` has the rules.
-ghost use Rattle.std.specs.Prelude.{◌≡◌, map, is_some, option_map, IfOk};
+//! Tests of the parts of a tree that need no table: texts, names, flags, handles, raw values, blocks and counts.
+//! `specs/PartTests.antt` and `specs/Tests.antt` have them as definitions.
+ghost use Rattle.std.specs.Prelude.{◌≡◌, ◌<◌, ◌^◌, map, length, true, nat_lt, is_some, option_map, IfOk};
 ghost use Rattle.std.specs.List.{list_all};
 ghost use Rattle.jser_grammar.specs.Codes.{prim_code_of, is_object_code, letter_of, object_count};
 ghost use Rattle.jser_grammar.specs.Parts.{elements_of_kind};
 ghost use Rattle.jser_value.specs.PartTests.{obeys_text, obeys_class_name, obeys_class_names, obeys_flags, is_handle, is_prim_of, obeys_prims, obeys_block};
 ghost use Rattle.jser_grammar.specs.TableAfter.{codes_of};
-ghost use Rattle.jser_value.specs.View.{view_prim, view_field};
+ghost use Rattle.jser_value.specs.Tests.{is_bare, obeys_head, obeys_interfaces, obeys_raw_body, obeys_value_count};
+ghost use Rattle.jser_value.specs.View.{view_prim, view_field, view_values};
 
 use crate::size::after_units;
-use crate::tree::{Field, Raw};
+use crate::tree::{Field, Raw, Section, Value};
 use jser_grammar::wire::BASE_WIRE_HANDLE;
 use jser_table::flags::{SC_EXTERNALIZABLE, SC_SERIALIZABLE};
 use jser_table::{BodyKind, LayerKind, layer_kind_of};
@@ -154,4 +155,56 @@ pub(crate) fn codes_of(alloc: Global, fields: &[Field]) -> Result<Vec<u8>, Alloc
     ensures { IfOk result (λ codes. codes.items ≡ codes_of (map view_field fields.now)) }
 {
     fields.iter().map(|field| field.code).collect(alloc)
+}
+
+/// The most fields that a descriptor has.
+const MOST_FIELDS: usize = 0x7FFF;
+
+/// Whether a plain descriptor's own data is right, but for the types of its fields.
+pub(crate) fn is_head(name: &[u16], suid: u64, flags: u8, fields: &[Field]) -> bool
+    ensures head { result ≡ obeys_head name.now suid flags (map view_field fields.now) }
+    ensures few { result ≡ true → length fields.now < 2 ^ 15 }
+{
+    let _ = suid;
+    is_class_name(name) && is_flags(flags) && fields.len() <= MOST_FIELDS
+}
+
+/// Whether an array may have so many elements, and a proxy so many interfaces.
+fn is_count(count: usize) -> bool
+    ensures { result ≡ nat_lt count (2 ^ 31) }
+{
+    count < 0x8000_0000
+}
+
+/// Whether the raw values are the elements of an array of this type code.
+pub(crate) fn are_elements(code: Option<u8>, prims: &[Raw]) -> bool
+    ensures { result ≡ obeys_raw_body code (map view_prim prims.now) }
+{
+    match code {
+        Some(code) => is_count(prims.len()) && are_prims_of(code, prims),
+        None => false,
+    }
+}
+
+/// Whether an array may have these values as its elements, where `code` is the type code of its raw elements.
+#[tactic(auto, using(crate::proofs::CheckLemmas::value_count_of))]
+pub(crate) fn are_value_elements(code: Option<u8>, values: &[Value]) -> bool
+    ensures { result ≡ obeys_value_count code (view_values values.now) }
+{
+    code.is_none() && is_count(values.len())
+}
+
+/// Whether these are the interfaces of a proxy.
+pub(crate) fn are_interfaces(names: &[Vec<u16>]) -> bool
+    ensures { result ≡ obeys_interfaces (map (λ name. name.items) names.now) }
+{
+    is_count(names.len()) && are_class_names(names)
+}
+
+/// Whether the section has no raw values and no values.
+#[tactic(auto, using(crate::proofs::CheckLemmas::length_prims, crate::proofs::CheckLemmas::value_count_of))]
+pub(crate) fn is_bare(section: &Section) -> bool
+    ensures { result ≡ is_bare (map view_prim section.now.prims.items) (view_values section.now.values.items) }
+{
+    section.prims.is_empty() && section.values.is_empty()
 }

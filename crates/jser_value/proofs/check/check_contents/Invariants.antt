@@ -3,7 +3,7 @@ use Rattle.jser_value.specs.Tests.{obeys_contents}
 use Rattle.jser_value.specs.View.{view_contents}
 use Rattle.jser_grammar.specs.Spelling.{contents_spelling}
 use Rattle.jser_value.specs.Rooms.{HasRoom}
-use Rattle.jser_value.proofs.obeys.check_contents.Given as goal
+use Rattle.jser_value.proofs.check.check_contents.Given as goal
 
 abbrev pub invariant-list : goal.invariant-list
 invariant-list l =

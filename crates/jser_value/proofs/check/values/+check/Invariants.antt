@@ -3,10 +3,10 @@ use Rattle.jser_table.specs.Entries.{chain_at}
 use Rattle.jser_grammar.specs.TableAfter.{after_values, after_sections, after_contents}
 use Rattle.jser_value.specs.Tests.{obeys_values, obeys_sections, obeys_notes}
 use Rattle.jser_value.specs.View.{view_values, view_sections, view_contents}
-use Rattle.jser_value.proofs.ObeysLemmas.{Awaits, AwaitsSections}
+use Rattle.jser_value.proofs.CheckLemmas.{Awaits, AwaitsSections}
 use Rattle.jser_grammar.specs.Spelling.{values_spelling, sections_spelling, annotation_spelling}
 use Rattle.jser_value.specs.Rooms.{Spends}
-use Rattle.jser_value.proofs.obeys.+obeys.Given as goal
+use Rattle.jser_value.proofs.check.values.+check.Given as goal
 
 abbrev pub invariant-check_notes-notes : goal.invariant-check_notes-notes
 invariant-check_notes-notes l =

@@ -2,10 +2,10 @@ use Rattle.std.proofs.Common.{map, drop, false}
 use Rattle.jser_value.specs.PartTests.{obeys_fields}
 use Rattle.jser_grammar.specs.TableAfter.{after_fields}
 use Rattle.jser_value.specs.View.{view_field}
-use Rattle.jser_value.proofs.ObeysLemmas.{Awaits}
+use Rattle.jser_value.proofs.CheckLemmas.{Awaits}
 use Rattle.jser_grammar.specs.Spelling.{fields_spelling}
 use Rattle.jser_value.specs.Rooms.{Spends}
-use Rattle.jser_value.proofs.obeys.check_fields.Given as goal
+use Rattle.jser_value.proofs.check.texts.check_fields.Given as goal
 
 abbrev pub invariant-fields : goal.invariant-fields
 invariant-fields l =

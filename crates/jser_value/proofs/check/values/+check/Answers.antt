@@ -1,9 +1,10 @@
-use Rattle.std.proofs.Common.{map, arith, rules}
+use Rattle.std.proofs.Common.{map, slice_get, arith, rules}
 use Rattle.std.proofs.lemmas.Grind.{common_steps}
 use Rattle.jser_value.proofs.KeepLemmas.{class_plain, class_proxy}
 use Rattle.jser_table.specs.Entries.{chain_at}
-use Rattle.jser_value.proofs.ObeysLemmas.{sections_next, sections_spent, sections_failed, judged_alone, judged_failed}
-use Rattle.jser_value.proofs.obeys.+obeys.Goals as goal
+use Rattle.jser_value.specs.Tests.{after_section}
+use Rattle.jser_value.proofs.CheckLemmas.{sections_next, sections_spent, sections_failed, judged_alone, judged_failed, judged_section}
+use Rattle.jser_value.proofs.check.values.+check.Goals as goal
 use Rattle.jser_value.specs.declared.tree.Desc.{the_lemmas}
 use Rattle.jser_value.specs.declared.tree.Section.{the_lemmas as section_lemmas}
 use Rattle.jser_value.specs.View.{view_field, view_prim, view_values, view_section, view_contents, view_class_place, view_desc}
@@ -46,3 +47,8 @@ check_sections-returns-in_err-check_section-clause-judged t c =
     (λ fails. sections_failed c.sections.table.entries c.args.number c.sections.index
     (chain_at c.args.table.now.entries c.args.number) c.args.sections.now.items c.section-item.result _ _ c.sections.invariant.0
     (search rules) (search rules) fails)
+
+pub check_section-returns-clause-judged : goal.check_section-returns-clause-judged
+check_section-returns-clause-judged t c =
+    judged_section c.check_held.result c.args.table.now.entries c.check_held.new.table.entries (after_section c.args.table.now.entries (view_section c.args.section.now))
+    (slice_get (chain_at c.args.table.now.entries c.args.number) c.args.index) (view_section c.args.section.now) (search rules) (search rules)

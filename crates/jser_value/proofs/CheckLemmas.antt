@@ -1,20 +1,20 @@
 -- A list of parts on the way to being tested: of the whole, each part so far passed, and what is left
 -- decides, with the table as it is now.
-use Rattle.std.proofs.Common.{◌≡◌, ◌==◌, ◌<◌, ◌≤◌, ℕ, zero, suc, ◌+◌, Bool, true, false, ◌&&◌, true≢false, eq-eqb, eqb-true, add-one, List, [], ◌∷◌, ◌++◌, length, length-append, refl, sym, ap, ◌∙◌, arith, Some, None, slice_get, map, drop, get_or, subst, Err}
-use Rattle.jser_table.specs.Chains.{own_layer}
+use Rattle.std.proofs.Common.{◌≡◌, ◌==◌, ◌<◌, ◌≤◌, ℕ, zero, suc, ◌+◌, Bool, true, false, ◌&&◌, not, true≢false, eq-eqb, eqb-true, add-one, List, [], ◌∷◌, ◌++◌, length, length-append, refl, sym, ap, ◌∙◌, arith, Option, Some, None, slice_get, map, drop, get_or, subst, Err}
+use Rattle.jser_table.specs.Chains.{own_layer, has_write_method}
 use Rattle.jser_table.specs.declared.layer.Layer.{Layer}
 use Rattle.jser_value.specs.declared.tree.Value.{Value}
 use Rattle.std.specs.declared.result.Result.{Result}
-use Rattle.jser_value.specs.declared.obeys.Fault.{Fault}
-use Rattle.jser_value.specs.declared.obeys.Fault.TheVariants as fault
+use Rattle.jser_value.specs.declared.check.fault.Fault.{Fault}
+use Rattle.jser_value.specs.declared.check.fault.Fault.TheVariants as fault
 use Rattle.jser_value.specs.declared.tree.Raw.{Raw}
 use Rattle.jser_value.specs.declared.tree.Section.{Section}
 use Rattle.jser_table.specs.Entries.{chain_at}
 use Rattle.jser_grammar.proofs.Bools.{and_right}
 use Rattle.jser_value.proofs.KeepLemmas.{class_behind_section}
 use Rattle.jser_grammar.specs.TableAfter.{Entries, after_values, after_sections, after_contents}
-use Rattle.jser_value.specs.Tests.{Judges, is_bare, obeys_alone, obeys_notes, obeys_external, obeys_section, obeys_section_at, obeys_sections, after_section, IsClassAt}
-use Rattle.jser_grammar.specs.Trees.{PrimTree, ValueTrees, no_values, value_and, value_count, SectionTrees, no_sections, section_and, SectionTree, section, annotation, ContentTrees}
+use Rattle.jser_value.specs.Tests.{Judges, is_bare, obeys_layer, obeys_frame, obeys_held, obeys_alone, obeys_values, obeys_notes, obeys_external, obeys_section, obeys_section_at, obeys_sections, after_section, IsClassAt}
+use Rattle.jser_grammar.specs.Trees.{PrimTree, ValueTrees, no_values, value_and, value_count, SectionTrees, no_sections, section_and, SectionTree, section, no_notes, annotation, ContentTrees}
 use Rattle.jser_grammar.specs.Spelling.{prims_spelling, values_spelling, notes_spelling, sections_spelling}
 use Rattle.jser_value.specs.Rooms.{Spends}
 use Rattle.jser_value.specs.View.{view_prim, view_values, view_section, view_sections}
@@ -169,6 +169,34 @@ judged_alone r T U ps vs cs s e bare h =
     let test : obeys_alone T s ≡ obeys_notes T cs = ap (obeys_alone T) e ∙ ap (λ b. b && obeys_notes T cs) bare in
     let after : after_section T s ≡ after_contents T cs = ap (after_section T) e ∙ ap (λ (V : Entries). after_contents V cs) (after_bare T ps vs bare) in
     subst (λ (b : Bool). Judges r b (after_section T s) U) (sym test) (subst (λ (V : Entries). Judges r (obeys_notes T cs) V U) (sym after) h)
+
+-- a section is right where its layer allows it, and what it holds is right
+bare_apart : (a e v : Bool) → (a && (v && not e)) ≡ ((a && not e) && v)
+bare_apart true true true = refl
+bare_apart true true false = refl
+bare_apart true false true = refl
+bare_apart true false false = refl
+bare_apart false e v = refl
+
+annotated_apart : (a e v n : Bool) → (a && (v && (e && n))) ≡ ((a && e) && (v && n))
+annotated_apart true true v n = refl
+annotated_apart true false true n = refl
+annotated_apart true false false n = refl
+annotated_apart false e v n = refl
+
+section_apart : (T : Entries) (l : Option Layer) (s : SectionTree) → obeys_section_at T s l ≡ (obeys_frame l s && obeys_held T s)
+section_apart T None s = refl
+section_apart T (Some l) (section ps vs no_notes) = bare_apart (obeys_layer l ps vs) (has_write_method l.flags) (obeys_values T vs)
+section_apart T (Some l) (section ps vs (annotation cs)) =
+    annotated_apart (obeys_layer l ps vs) (has_write_method l.flags) (obeys_values T vs) (obeys_notes (after_values T vs) cs)
+
+pub judged_section : {X : Type 0} → (r : Result X Fault) (T U V : Entries) (l : Option Layer) (s : SectionTree) → obeys_frame l s ≡ true
+    → Judges r (obeys_held T s) V U → Judges r (obeys_section_at T s l) V U
+judged_section r T U V l s frame h =
+    subst (λ (b : Bool). Judges r b V U) (sym (section_apart T l s ∙ ap (λ b. b && obeys_held T s) frame)) h
+
+pub frame_failed : (T : Entries) (l : Option Layer) (s : SectionTree) → obeys_frame l s ≡ false → obeys_section_at T s l ≡ false
+frame_failed T l s h = section_apart T l s ∙ ap (λ b. b && obeys_held T s) h
 
 -- where a part fails its test, so does the whole
 pub judged_failed : {X : Type 0} → (r : Result X Fault) (e : Fault) (part whole : Bool) (A B U V : Entries) → r ≡ Err e → Judges {X = X} (Err e) part A U
