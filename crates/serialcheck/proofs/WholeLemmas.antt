@@ -1,5 +1,5 @@
 -- Reads of a source, one after another.
-use Rattle.std.proofs.Common.{◌≡◌, ℕ, ◌+◌, ◌≤◌, min, List, [], ◌++◌, length, take, Some, None, sym, subst, ap, ◌∙◌, arith, append-nil}
+use Rattle.std.proofs.Common.{◌≡◌, ℕ, ◌+◌, ◌≤◌, ◌<◌, min, List, [], ◌++◌, length, take, Some, None, sym, subst, ap, ◌∙◌, arith, append-nil}
 use Rattle.std.proofs.Math.Seq.{take-append_seam}
 use Rattle.std.proofs.lemmas.List.{take_all, length-take}
 use Rattle.std.specs.Prelude.{IfSome}
@@ -38,6 +38,14 @@ pub front_of_many : (old new : Option (List ℕ)) (xs : List ℕ) (n : ℕ) → 
 front_of_many None new xs n h e = tt
 front_of_many (Some a) None xs n h e = absurd h
 front_of_many (Some a) (Some b) xs n h e = ap (take n) h ∙ ap (λ k. take k (xs ++ b)) (sym e) ∙ take-append_seam xs b
+
+-- there are more than these, where they are as many as were wanted
+pub more_than : (told : Option (List ℕ)) (xs : List ℕ) (n : ℕ) → n < length xs → IfSome told (λ bytes. take (n + 1) bytes ≡ xs)
+    → IfSome told (λ bytes. n < length bytes)
+more_than None xs n many h = tt
+more_than (Some bytes) xs n many h =
+    let size : min (n + 1) (length bytes) ≡ length xs = sym (length-take (n + 1) bytes) ∙ ap length h in
+    omega (arith, size, many)
 
 -- the first bytes are all, where they are fewer than were wanted
 pub few_are_all : (bytes xs : List ℕ) (n : ℕ) → take (n + 1) bytes ≡ xs → length xs ≤ n → bytes ≡ xs

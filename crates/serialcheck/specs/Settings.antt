@@ -1,6 +1,6 @@
 -- What the filter's text and the file of modules of a command line say, and what is told where one is at fault.
 -- `failed` is whether the writer of faults has failed; `old` and `new` are what it had written before and after.
-use Rattle.std.specs.Prelude.{◌≡◌, ◌≢◌, ◌≤◌, ◌^◌, ◌⊎◌, ℕ, Bool, true, List, ◌++◌, length, codes, Option}
+use Rattle.std.specs.Prelude.{◌≡◌, ◌≢◌, ◌≤◌, ◌<◌, ◌^◌, ◌⊎◌, ℕ, Bool, true, List, ◌++◌, length, codes, Option, IfSome}
 use Rattle.std.specs.Str.{IsUtf8}
 use Rattle.std.specs.Io.KnownBytes.{Appends}
 use Rattle.jser_prim.specs.ModifiedUtf8.{utf16_units}
@@ -20,6 +20,10 @@ most_modules_bytes = 2 ^ 24
 -- the line went out, or the writer has failed
 abbrev pub Tells : (failed : Bool) → (old new : Option (List ℕ)) → (text : List ℕ) → Type 0
 Tells failed old new text = (failed ≡ true) ⊎ Appends old new text
+
+-- that memory ran out is told
+abbrev pub TellsNoMemory : (failed : Bool) → (old new : Option (List ℕ)) → Type 0
+TellsNoMemory failed old new = Tells failed old new (codes "out of memory\n")
 
 -- a fault that is told by its line, and not that memory ran out
 pub record TellsFilterFault (failed : Bool) (old new : Option (List ℕ)) (fault : FilterFault) : Type 0 where
@@ -55,3 +59,9 @@ pub record LineIsFaulty (bytes : List ℕ) (failed : Bool) (old new : Option (Li
 
 abbrev pub ModulesAreFaulty : List ℕ → (failed : Bool) → (old new : Option (List ℕ)) → Type 0
 ModulesAreFaulty bytes failed old new = IsNoText bytes failed old new ⊎ LineIsFaulty bytes failed old new
+
+-- A file of modules was not read to its end, and that is told: a read failed, or it has too many bytes. `broken` is
+-- whether its source has failed, and `to_come` the bytes of the file.
+pub record IsNotRead (broken : Bool) (to_come : Option (List ℕ)) (failed : Bool) (old new : Option (List ℕ)) : Type 0 where
+  pub why : (broken ≡ true) ⊎ IfSome to_come (λ bytes. most_modules_bytes < length bytes)
+  pub told : Tells failed old new (codes "read failed\n")

@@ -2,6 +2,7 @@
 //!
 //! A fault of the writer of faults itself changes no status.
 ghost use Rattle.std.specs.Prelude.{◌≡◌, ◌⊎◌, IsOkAnd, true, string_bytes};
+ghost use Rattle.serialcheck.specs.Settings.{Tells, TellsNoMemory};
 ghost use Rattle.std.specs.Io.KnownBytes.{Appends};
 
 use jser_prim::{Sink, give_all};
@@ -18,7 +19,8 @@ pub(crate) const FAILED: u8 = 3;
 
 /// Tells a failure, as far as that can be done, and returns the status of one.
 pub(crate) fn tell_failure<E: Sink>(faults: &mut E, line: &str) -> u8
-    ensures { result ≡ 3 }
+    ensures status { result ≡ 3 }
+    ensures told { Tells (E.has_failed faults.new) (E.gone_out faults.old) (E.gone_out faults.new) line.now }
 {
     let _ = give_all(faults, line.as_bytes());
     FAILED
@@ -27,7 +29,7 @@ pub(crate) fn tell_failure<E: Sink>(faults: &mut E, line: &str) -> u8
 /// Tells what is wrong with what was asked for, as far as that can be done, and returns the status for it.
 pub(crate) fn tell_misuse<E: Sink>(faults: &mut E, text: &str) -> u8
     ensures status { result ≡ 2 }
-    ensures told { (E.has_failed faults.new ≡ true) ⊎ Appends (E.gone_out faults.old) (E.gone_out faults.new) text.now }
+    ensures told { Tells (E.has_failed faults.new) (E.gone_out faults.old) (E.gone_out faults.new) text.now }
 {
     let _ = give_all(faults, text.as_bytes());
     MISUSED
@@ -38,6 +40,7 @@ pub(crate) fn tell_misuse_of<E: Sink>(faults: &mut E, text: Result<String, Alloc
     ensures status { (result ≡ 2) ⊎ (result ≡ 3) }
     ensures told { result ≡ 2 → (E.has_failed faults.new ≡ true)
         ⊎ IsOkAnd text (λ text. Appends (E.gone_out faults.old) (E.gone_out faults.new) (string_bytes text)) }
+    ensures failed { result ≡ 3 → TellsNoMemory (E.has_failed faults.new) (E.gone_out faults.old) (E.gone_out faults.new) }
 {
     match text {
         Ok(text) => tell_misuse(faults, text.as_str()),

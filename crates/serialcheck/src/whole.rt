@@ -1,5 +1,5 @@
 //! The bytes of a source, if they are not too many.
-ghost use Rattle.std.specs.Prelude.{◌≡◌, ◌<◌, ◌≤◌, ◌+◌, IfOk, OnOk, IfSome, length, take, vec_len, true, false};
+ghost use Rattle.std.specs.Prelude.{◌≡◌, ◌≢◌, ◌<◌, ◌≤◌, ◌+◌, IfOk, IfErr, OnOk, IfSome, length, take, vec_len, true, false};
 ghost use Rattle.std.specs.Io.KnownBytes.{IsAtEnd};
 ghost use Rattle.jser_grammar.specs.Caps.{most_bytes};
 ghost use Rattle.serialcheck.specs.Settings.{most_modules_bytes};
@@ -33,6 +33,9 @@ const BUFFER_LEN: usize = 65_536;
 pub(crate) fn read_whole<R: Source>(alloc: Global, source: &mut R) -> Result<Vec<u8>, WholeFault>
     ensures bytes { IfOk result (λ whole. IfSome (R.to_come source.old) (λ bytes. bytes ≡ whole.items)) }
     ensures within { IfOk result (λ whole. vec_len whole ≤ most_modules_bytes) }
+    ensures unbroken { OnOk result (R.has_failed source.new ≡ R.has_failed source.old) }
+    ensures broken { result ≡ Err WholeFault.Failed → R.has_failed source.new ≡ true }
+    ensures too_long { result ≡ Err WholeFault.TooLong → IfSome (R.to_come source.old) (λ bytes. most_modules_bytes < length bytes) }
 {
     let whole = match read_front(alloc, source, MOST) {
         Ok(front) => front,
@@ -58,6 +61,9 @@ pub(crate) fn read_front<R: Source>(
     requires { most ≤ most_bytes }
     ensures bytes { IfOk result (λ front. IfSome (R.to_come source.old) (λ bytes. take (most + 1) bytes ≡ front.items)) }
     ensures within { IfOk result (λ front. vec_len front ≤ most + 1) }
+    ensures unbroken { OnOk result (R.has_failed source.new ≡ R.has_failed source.old) }
+    ensures broken { result ≡ Err WholeFault.Failed → R.has_failed source.new ≡ true }
+    ensures cut { result ≢ Err WholeFault.TooLong }
 {
     let Ok(mut buffer) = new_buffer(alloc) else {
         return Err(WholeFault::OutOfMemory);
@@ -90,6 +96,9 @@ fn read_some<R: Source>(
 ) -> Result<bool, WholeFault>
     requires { 0 < length buffer.old }
     ensures read { OnOk result (ReadsOnto (R.to_come source.old) (R.to_come source.new) all.old.items all.new.items) }
+    ensures unbroken { OnOk result (R.has_failed source.new ≡ R.has_failed source.old) }
+    ensures broken { result ≡ Err WholeFault.Failed → R.has_failed source.new ≡ true }
+    ensures cut { result ≢ Err WholeFault.TooLong }
     ensures end { result ≡ Ok false → IsAtEnd (R.to_come source.new) × (all.new.items ≡ all.old.items) }
     ensures grows { result ≡ Ok true → vec_len all.old < vec_len all.new }
     ensures within { vec_len all.new ≤ vec_len all.old + length buffer.old }

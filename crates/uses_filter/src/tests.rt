@@ -1,4 +1,6 @@
 //! Each caller on a worked case.
+mod example;
+
 use crate::admission::{admits, judge_for_each_table, judge_for_good, judge_text};
 use crate::settings::{SettingsFault, depth_limit, forget_modules, is_in_module, load};
 use crate::texts::{faulty_piece, filter_line, modules_line, sound_lines};

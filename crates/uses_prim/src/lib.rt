@@ -2,6 +2,7 @@
 //! clauses of the calls that it makes.
 #![tactic(auto)]
 
+pub mod heads;
 pub mod numbers;
 pub mod records;
 pub mod sinks;

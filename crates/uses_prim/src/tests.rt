@@ -1,12 +1,15 @@
 //! Each caller on a worked case.
+mod example;
+
+use crate::heads::write_head;
 use crate::numbers::{handle, is_header, is_known};
 use crate::records::write_record;
 use crate::sinks::{begun, give_byte, given, is_delivered, is_lost, is_open};
 use crate::sources::{fails_now, last_taken, opened, take_again};
 use crate::spelling::{spelled, spells};
 use crate::texts::{
-    can_begin, drained, faulty_byte, first_fault, goes_on_after_fault, is_mended, is_text,
-    is_text_in_two, is_whole, push_again, push_more, push_pair, units_in,
+    can_begin, drained, ends_with, faulty_byte, first_fault, goes_on_after_fault, is_mended,
+    is_text, is_text_in_two, is_whole, own_bytes, push_again, push_more, push_pair, units_in,
 };
 use jser_prim::{Failed, TextFault, TextScan, ToWrite};
 use std::test::Fail;
@@ -44,6 +47,9 @@ fn whole_texts(rt: HostRuntime) -> Result<(), Fail> {
 fn texts_in_pieces(rt: HostRuntime) {
     let mut scan = TextScan::new(0);
     assert_eq!(rt; push_more(&mut scan, 0x61), None);
+    assert_eq!(rt; own_bytes(&TextScan::new(2), b"abc"), 2);
+    assert_eq!(rt; own_bytes(&TextScan::new(4), b"abc"), 3);
+    assert!(rt; ends_with(&mut TextScan::new(1), 0x61) && !ends_with(&mut TextScan::new(2), 0x61));
     assert!(rt; push_pair(&mut TextScan::new(2), 0xC3, 0xA9));
     assert_eq!(rt; push_again(&mut TextScan::new(1), 0xC3), Err(TextFault));
     assert_eq!(rt;
@@ -99,4 +105,13 @@ fn records(rt: HostRuntime) {
         None
     );
     assert_eq!(rt; short, [0, 0, 0, 3, 0x61, 0x62]);
+}
+
+#[test]
+fn heads(rt: HostRuntime) {
+    let mut page = [0u8; 11];
+    let written = write_head(&mut ToWrite::new(&mut page[..]), 7, 0x0102, 0x0304_0506);
+    assert_eq!(rt; written, Some(11));
+    assert_eq!(rt; page, [7, 1, 2, 0, 0, 0, 0, 3, 4, 5, 6]);
+    assert_eq!(rt; write_head(&mut ToWrite::new(&mut [][..]), 7, 1, 2), None);
 }

@@ -1,5 +1,5 @@
 //! Texts of modified UTF-8, in one piece and in several.
-ghost use Rattle.std.specs.Prelude.{◌≡◌, ◌<◌, ◌≤◌, ◌+◌, ◌↔◌, ℕ, List, [], ◌∷◌, ◌++◌, length, true, false, IsTrue, IsOk, IsSome, IfOk, IfSome};
+ghost use Rattle.std.specs.Prelude.{◌≡◌, ◌<◌, ◌≤◌, ◌+◌, ◌↔◌, ℕ, List, min, [], ◌∷◌, ◌++◌, length, true, false, IsTrue, IsOk, IsSome, IfOk, IfSome};
 ghost use Rattle.jser_prim.specs.ModifiedUtf8.{modified_utf8};
 ghost use Rattle.jser_prim.specs.Texts.{BeginsText, FaultsAfter, HasAccepted};
 
@@ -69,6 +69,27 @@ pub fn push_more(scan: &mut TextScan, byte: u8) -> Option<Result<Option<u16>, Te
         return None;
     }
     Some(scan.push(byte))
+}
+
+/// How many bytes of a piece are of the text. What follows them comes after it.
+pub fn own_bytes(scan: &TextScan, piece: &[u8]) -> usize
+    ensures { result ≡ min (length piece.now) scan.now.left }
+{
+    let left = scan.left();
+    if left < piece.len() as u64 {
+        left as usize
+    } else {
+        piece.len()
+    }
+}
+
+/// Scans a byte, and tells whether the text is complete with it.
+pub fn ends_with(scan: &mut TextScan, byte: u8) -> bool
+    requires { 0 < scan.old.left }
+    ensures { (len : ℕ) (bytes units : List ℕ) → HasAccepted len bytes units scan.old
+        → IsTrue result → length (bytes ++ byte ∷ []) ≡ len }
+{
+    scan.push(byte).is_ok() && scan.is_done()
 }
 
 /// Scans two bytes, and tells whether the text goes on with both.

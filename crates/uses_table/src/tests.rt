@@ -1,5 +1,7 @@
 //! Each caller on a worked case.
 
+mod example;
+
 use crate::classes::{Layout, can_be_read, holds_nothing, is_serial, layout_of, own_layer};
 use crate::data::{first_size, has_annotation};
 use crate::epochs::{

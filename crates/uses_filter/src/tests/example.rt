@@ -1,0 +1,32 @@
+//! The example of the README of `jser_filter`.
+
+// README: jser_filter
+use jser_filter::{Filter, Modules, Verdict};
+use jser_prim::units_of;
+use jser_table::{Element, element_of};
+
+fn allows(filter: &Filter, name: &[u16]) -> bool {
+    match element_of(name) {
+        Element::Malformed => false,
+        Element::Name(_) | Element::Primitive => {
+            !matches!(filter.judge(name), Verdict::Rejected(_))
+        }
+    }
+}
+// end
+
+use std::test::Fail;
+
+#[test]
+fn a_filter_with_modules(rt: HostRuntime) -> Result<(), Fail> {
+    let alloc = rt.alloc();
+    // README: jser_filter
+    let filter = Filter::parse(alloc, "java.util.*;!*;maxdepth=20")?;
+    assert!(rt; allows(&filter, &units_of(alloc, "java.util.ArrayList")?));
+    assert_eq!(rt; filter.limits().depth, Some(20));
+    let table = Modules::parse(alloc, "java.util=java.base")?;
+    let filter = filter.with_modules(table);
+    // end
+    assert!(rt; !allows(&filter, &units_of(alloc, "java.io.File")?));
+    Ok(())
+}
