@@ -117,7 +117,7 @@ impl Machine {
         if self.scan.left() > 0 {
             return Taken::Part(piece.len());
         }
-        let goes_on = self.text_done(gate);
+        let goes_on = self.text_ended(gate);
         Taken::after(used.max(1), goes_on)
     }
 }

@@ -91,7 +91,20 @@ impl Machine {
         self.done(Phase::TextTag)
     }
 
+    /// The text has ended whose bytes are being read, and all of them have been counted: mostly it is a string.
+    #[tactic(auto, using(crate::proofs::TextLemmas::value_ends))]
+    #[inline(always)]
+    pub(super) fn text_ended<G: Gate>(&mut self, gate: &G) -> bool
+        ensures { (units : List ℕ) → EndsText self.old units → TellsSurely (text_reason (G.told gate.now) self.old units) (after_text self.old units) result self.old self.new }
+    {
+        if self.text == TextFor::Value {
+            return self.ended();
+        }
+        self.text_done(gate)
+    }
+
     /// The text has ended whose bytes are being read, and all of them have been counted.
+    #[inline(never)]
     #[tactic(auto, using(crate::proofs::TextLemmas::value_ends, crate::proofs::TextLemmas::type_ends, crate::proofs::TextLemmas::object_field_named, crate::proofs::TextLemmas::field_named, crate::proofs::TextLemmas::class_name_ends, crate::proofs::TextLemmas::interface_name_ends))]
     pub(super) fn text_done<G: Gate>(&mut self, gate: &G) -> bool
         ensures { (units : List ℕ) → EndsText self.old units → TellsSurely (text_reason (G.told gate.now) self.old units) (after_text self.old units) result self.old self.new }
