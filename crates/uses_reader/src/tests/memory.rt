@@ -10,7 +10,7 @@ use std::process::Abort;
 /// Reads the stream in pieces of this size; whether there was memory.
 fn reads(rt: &(impl Abort + AllocGlobal), size: usize) -> bool {
     let mut reader = Reader::new(rt.alloc(), OpenGate);
-    for piece in LINKED_PAIR.chunks(size) {
+    for piece in LINKED_PAIR.chunks(size.max(1)) {
         if let Err(stop) = reader.skip(piece) {
             assert_eq!(rt; stop, Stop::OutOfMemory);
             assert_eq!(rt; reader.skip(&[0x70]), Err(Stop::Spent));
