@@ -2,7 +2,7 @@
 ghost use Rattle.std.specs.Prelude.{◌≡◌, ◌<◌, ◌-◌, length, suc};
 ghost use Rattle.jser_table.specs.Chains.{chain_in};
 ghost use Rattle.jser_table.specs.Entries.{chain_at};
-ghost use Rattle.jser_grammar.specs.Wire.{TC_PROXYCLASSDESC};
+ghost use Rattle.jser_grammar.specs.Wire.{TC_PROXYCLASSDESC, BASE_WIRE_HANDLE};
 ghost use Rattle.jser_reading.specs.FieldBytes.{tag_byte};
 ghost use Rattle.jser_reading.specs.FieldsFromBytes.{tag_from};
 ghost use Rattle.jser_reading.specs.Labels.{class_place_at, class_handle_at};
@@ -95,7 +95,7 @@ impl Machine {
     #[tactic(auto, using(crate::proofs::ClassLemmas::low_class, crate::proofs::ClassLemmas::no_such_class, crate::proofs::ClassLemmas::no_class, crate::proofs::ClassLemmas::open_class, crate::proofs::ClassLemmas::wrong_class_handle, crate::proofs::ClassLemmas::right_class))]
     pub(super) fn class_handle(&mut self, n: u32) -> bool
         ensures { Tells (class_handle_reason (plain_gate self.old) (label_at (class_handle_at (goal_owner self.old.owner)) (suc (length self.old.frames)) self.old) (goal_owner self.old.owner) n)
-            (owner_state self.old (chain_at self.old.table.entries (n - 0x7E0000))) result self.old self.new }
+            (owner_state self.old (chain_at self.old.table.entries (n - BASE_WIRE_HANDLE))) result self.old self.new }
     {
         if n < BASE_WIRE_HANDLE {
             return self.refuse(Reason::NoSuchHandle);

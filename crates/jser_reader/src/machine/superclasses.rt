@@ -1,6 +1,6 @@
 //! Superclass places: the tag, and the handle of a superclass that has been read.
 ghost use Rattle.std.specs.Prelude.{◌≡◌, ◌-◌, Some};
-ghost use Rattle.jser_grammar.specs.Wire.{TC_NULL, TC_REFERENCE, TC_CLASSDESC, TC_PROXYCLASSDESC};
+ghost use Rattle.jser_grammar.specs.Wire.{TC_NULL, TC_REFERENCE, TC_CLASSDESC, TC_PROXYCLASSDESC, BASE_WIRE_HANDLE};
 ghost use Rattle.jser_reading.specs.FieldBytes.{tag_byte};
 ghost use Rattle.jser_reading.specs.FieldsFromBytes.{tag_from};
 ghost use Rattle.jser_reader.specs.Tags.{told_tag};
@@ -137,7 +137,7 @@ impl Machine {
     /// The handle of a reference in a superclass place.
     #[tactic(auto, using(crate::proofs::SuperTagLemmas::low_super, crate::proofs::SuperTagLemmas::no_such_super, crate::proofs::SuperTagLemmas::no_class_super, crate::proofs::SuperTagLemmas::open_super, crate::proofs::SuperTagLemmas::unserial_super, crate::proofs::SuperTagLemmas::right_super, crate::proofs::SuperTagLemmas::is_read))]
     pub(super) fn super_handle(&mut self, n: u32) -> bool
-        ensures { HasDescriptor self.old.frames → Tells (super_handle_reason self.old n) (closed_state self.old (Some (n - 0x7E0000))) result self.old self.new }
+        ensures { HasDescriptor self.old.frames → Tells (super_handle_reason self.old n) (closed_state self.old (Some (n - BASE_WIRE_HANDLE))) result self.old self.new }
     {
         if n < BASE_WIRE_HANDLE {
             return self.refuse(Reason::NoSuchHandle);
