@@ -25,6 +25,7 @@ pub mod TagLemmas
 pub mod OwnerLemmas
 pub mod ClassLemmas
 pub mod CloseLemmas
+pub mod LayerLemmas
 pub mod SuperLemmas
 pub mod PlaceLemmas
 pub mod SuperTagLemmas

@@ -1,5 +1,6 @@
--- The numbers of the frames are those of sections and of descriptors that are open.
-use Rattle.std.specs.Prelude.{◌≡◌, ℕ, ◌≤◌, ◌<◌, List, [], ◌∷◌, length, slice_get, IsTrue}
+-- The numbers of the frames are those of sections and of descriptors that are open; and no more layers are kept than
+-- descriptors are open.
+use Rattle.std.specs.Prelude.{◌≡◌, ℕ, suc, ◌≤◌, ◌<◌, List, [], ◌∷◌, length, slice_get, IsTrue}
 use Rattle.jser_table.specs.declared.layer.Layer.{Layer}
 use Rattle.jser_table.specs.Codes.{primitive_codes}
 use Rattle.jser_table.specs.Entries.{TableEntry, is_pending}
@@ -48,3 +49,31 @@ HasDescriptor (f ∷ fs) = IsDescriptor f
 
 pub record AllFit (T : List TableEntry) (C : List (List Layer)) (frames : List Frame) : Type 0 where
   pub all : FramesFit T C (length T) frames
+
+-- what is on top is an array or an object
+abbrev pub IsPart : Frame → Type 0
+IsPart (frame.Elements left) = Unit {0}
+IsPart (frame.Fields last section pos prims values) = Unit {0}
+IsPart (frame.Notes last section) = Unit {0}
+IsPart frame.ExternalNotes = Unit {0}
+IsPart (frame.Descriptor number role) = ⊥
+
+abbrev pub HasParts : List Frame → Type 0
+HasParts [] = ⊥
+HasParts (f ∷ fs) = IsPart f
+
+-- how many descriptors there are, where there are so many below this frame
+abbrev pub descriptors_with : Frame → (below : ℕ) → ℕ
+descriptors_with (frame.Elements left) below = below
+descriptors_with (frame.Fields last section pos prims values) below = below
+descriptors_with (frame.Notes last section) below = below
+descriptors_with frame.ExternalNotes below = below
+descriptors_with (frame.Descriptor number role) below = suc below
+
+abbrev pub descriptors_in : List Frame → ℕ
+descriptors_in [] = 0
+descriptors_in (f ∷ fs) = descriptors_with f (descriptors_in fs)
+
+-- the layers below the innermost one are no more than the descriptors that are open
+pub record LayersFit (outer : List Layer) (frames : List Frame) : Type 0 where
+  pub few : length outer ≤ descriptors_in frames

@@ -90,7 +90,7 @@ pub(crate) struct Machine {
 impl Model for Machine {
     ghost use Rattle.std.specs.Prelude.{◌∷◌, reverse};
     ghost use Rattle.jser_reader.specs.Readers.{Seen};
-    ghost use Rattle.jser_reader.specs.Fitting.{AllFit};
+    ghost use Rattle.jser_reader.specs.Fitting.{AllFit, LayersFit};
 
     ghost Value = { Seen };
 
@@ -110,5 +110,5 @@ impl Model for Machine {
       name = a.name.items;
     } };
 
-    ghost invariant = { λ a. AllFit a.table.entries a.table.chains a.frames };
+    ghost invariant = { λ a. AllFit a.table.entries a.table.chains a.frames × LayersFit a.outer.items a.frames };
 }

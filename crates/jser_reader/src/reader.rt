@@ -1,5 +1,5 @@
 //! The reader: a stream in pieces of any sizes, field by field.
-ghost use Rattle.std.specs.Prelude.{◌≡◌, ◌<◌, ◌≤◌, [], length, take, IfOk};
+ghost use Rattle.std.specs.Prelude.{◌≡◌, ◌+◌, ◌<◌, ◌≤◌, [], length, take, IfOk};
 ghost use Rattle.jser_reader.specs.ReaderStates.{IsItem, HasProgress, StandsFor, NextTells, SkipTells, StaysStopped, FinishTells};
 ghost use Rattle.jser_reader.specs.Bounds.{FramesAreBounded, MemoryFree, SkipMemoryFree};
 ghost use Rattle.jser_reader.specs.ItemsMade.{MakesStep};
@@ -183,10 +183,12 @@ impl<G: Gate> Reader<G> {
         Ok(totals)
     }
 
-    /// How many frames are open: arrays, objects and descriptors.
+    /// How many frames are open: arrays, objects and descriptors. The layers of descriptors that are kept beside them
+    /// are at most one more.
     pub fn open_frames(&self) -> u64
         ensures is { result ≡ length self.now.machine.frames }
         ensures bounds { FramesAreBounded (G.told self.now.gate) result self.now.machine self.now.tally }
+        ensures layers { length self.now.machine.layers ≤ result + 1 }
     {
         self.machine.depth() as u64
     }

@@ -19,12 +19,20 @@ use crate::refusal::Reason;
 use jser_table::{Codes, Kind, Layer, LayerKind};
 
 impl Machine {
-    /// Puts the descriptor with this number on the stack, with a layer in which nothing is yet.
-    #[tactic(auto, using(crate::proofs::DescriptorLemmas::fits_opened, crate::proofs::DescriptorLemmas::opens_nothing, crate::proofs::DescriptorLemmas::opens))]
+    /// Puts the descriptor with this number on the stack, and then a layer in which nothing is yet: where memory runs
+    /// out between the two, there is no layer without its frame.
+    #[tactic(auto, using(crate::proofs::DescriptorLemmas::fits_opened, crate::proofs::LayerLemmas::frame_opened, crate::proofs::LayerLemmas::layer_opened, crate::proofs::DescriptorLemmas::opens_nothing, crate::proofs::DescriptorLemmas::opens))]
     fn push_descriptor(&mut self, role: Role, number: u32) -> bool
         requires { CanOpen self.old.table.entries self.old.table.chains number self.old.frames }
         ensures { Opens role number result self.old self.new }
     {
+        if self
+            .frames
+            .push(Frame::Descriptor { number, role })
+            .is_err()
+        {
+            return self.no_memory();
+        }
         let layer = Layer {
             kind: LayerKind::Other,
             flags: 0,
@@ -32,13 +40,6 @@ impl Machine {
         };
         let outer = std::mem::replace(&mut self.layer, layer);
         if self.outer.push(outer).is_err() {
-            return self.no_memory();
-        }
-        if self
-            .frames
-            .push(Frame::Descriptor { number, role })
-            .is_err()
-        {
             return self.no_memory();
         }
         true

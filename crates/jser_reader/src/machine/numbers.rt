@@ -60,7 +60,7 @@ impl Machine {
     }
 
     /// So many elements come that are values.
-    #[tactic(auto, using(crate::proofs::ArrayLemmas::value_elements, crate::proofs::ArrayLemmas::no_room))]
+    #[tactic(auto, using(crate::proofs::ArrayLemmas::value_elements, crate::proofs::ArrayLemmas::no_room, crate::proofs::LayerLemmas::layers_under_part))]
     fn value_elements(&mut self, n: u32) -> bool
         requires { 0 < n }
         ensures { Tells None (after_length self.old None n) result self.old self.new }

@@ -5,6 +5,7 @@ ghost use Rattle.jser_table.specs.Codes.{size_of};
 ghost use Rattle.jser_verdict.specs.Reasons.{handle_space};
 ghost use Rattle.jser_verdict.specs.Verdicts.{told_if};
 ghost use Rattle.jser_reader.specs.declared.frame.Frame.{Frame};
+ghost use Rattle.jser_reader.specs.Fitting.{HasParts};
 ghost use Rattle.jser_reader.specs.Handlers.{Tells, BeginsObject, Pushes, IsNext, is_full, object_state, owner_state};
 
 use crate::frame::{Frame, Owner};
@@ -14,10 +15,11 @@ use jser_table::{ChainNumber, Kind};
 
 impl Machine {
     /// Puts the frame of what begins on the stack, to be told which part of it comes first.
-    #[tactic(auto, using(crate::proofs::OwnerLemmas::pushes, crate::proofs::OwnerLemmas::pushes_nothing, crate::proofs::OwnerLemmas::fits_external))]
+    #[tactic(auto, using(crate::proofs::OwnerLemmas::pushes, crate::proofs::OwnerLemmas::pushes_nothing, crate::proofs::OwnerLemmas::fits_external, crate::proofs::LayerLemmas::layers_under_part))]
     fn open(&mut self) -> bool
         ensures frame { Pushes Frame.ExternalNotes result self.old self.new }
         ensures some { result ≡ true → 0 < length self.new.frames }
+        ensures parts { result ≡ true → HasParts self.new.frames }
         ensures table { result ≡ true → self.new.table ≡ self.old.table }
     {
         if self.frames.push(Frame::ExternalNotes).is_err() {

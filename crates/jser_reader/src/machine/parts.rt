@@ -5,7 +5,7 @@ ghost use Rattle.jser_table.specs.Sections.{layer_of, under, IsOn};
 ghost use Rattle.jser_reading.specs.Goals.{section_parts, annotation_if};
 ghost use Rattle.jser_reader.specs.declared.frame.Frame.{Frame};
 ghost use Rattle.jser_reader.specs.Frames.{rest_of_section};
-ghost use Rattle.jser_reader.specs.Fitting.{FrameFits};
+ghost use Rattle.jser_reader.specs.Fitting.{FrameFits, HasParts};
 ghost use Rattle.jser_reader.specs.Readers.{Ready};
 ghost use Rattle.jser_reader.specs.Stacks.{tail_of};
 ghost use Rattle.jser_reader.specs.Steps.{Kept, PartGives, GoesOn, after_value};
@@ -17,11 +17,13 @@ use jser_table::SectionNumber;
 
 impl Machine {
     /// Begins this section of the object on top.
-    #[tactic(auto, using(crate::proofs::PartLemmas::fits_fields, crate::proofs::PartLemmas::fits_notes, crate::proofs::PartLemmas::begins_prims, crate::proofs::PartLemmas::begins_value, crate::proofs::PartLemmas::begins_notes))]
+    #[tactic(auto, using(crate::proofs::PartLemmas::fits_fields, crate::proofs::PartLemmas::fits_notes, crate::proofs::PartLemmas::begins_prims, crate::proofs::PartLemmas::begins_value, crate::proofs::PartLemmas::begins_notes, crate::proofs::LayerLemmas::layers_of_part))]
     pub(super) fn begin_section(&mut self, last: SectionNumber, section: SectionNumber)
         requires some { 0 < length self.old.frames }
+        requires parts { HasParts self.old.frames }
         requires on { IsOn self.old.table.chains last section }
         ensures meter { self.new.meter ≡ self.old.meter }
+        ensures parts { HasParts self.new.frames }
         ensures part { PartGives true self.old self.new (section_parts (layer_of self.old.table.chains section ∷ under self.old.table.chains last section)) }
     {
         let held = self.table.section(section);
@@ -54,8 +56,10 @@ impl Machine {
     #[tactic(auto, using(crate::proofs::PartLemmas::no_section, crate::proofs::PartLemmas::one_section))]
     pub(super) fn next_section(&mut self, last: SectionNumber, section: SectionNumber) -> bool
         requires some { 0 < length self.old.frames }
+        requires parts { HasParts self.old.frames }
         requires on { IsOn self.old.table.chains last section }
         ensures meter { self.new.meter ≡ self.old.meter }
+        ensures parts { HasParts self.new.frames }
         ensures part { PartGives result self.old self.new (section_parts (under self.old.table.chains last section)) }
     {
         match self.table.next_section(last, section) {
@@ -68,11 +72,13 @@ impl Machine {
     }
 
     /// After the fields of a section: its annotation, or the section after it.
-    #[tactic(auto, using(crate::proofs::PartLemmas::fits_notes, crate::proofs::PartLemmas::ends_in_notes, crate::proofs::PartLemmas::ends_without))]
+    #[tactic(auto, using(crate::proofs::PartLemmas::fits_notes, crate::proofs::PartLemmas::ends_in_notes, crate::proofs::PartLemmas::ends_without, crate::proofs::LayerLemmas::layers_of_part))]
     fn section_end(&mut self, last: SectionNumber, section: SectionNumber) -> bool
         requires some { 0 < length self.old.frames }
+        requires parts { HasParts self.old.frames }
         requires on { IsOn self.old.table.chains last section }
         ensures meter { self.new.meter ≡ self.old.meter }
+        ensures parts { HasParts self.new.frames }
         ensures part { PartGives result self.old self.new
             (annotation_if (has_write_method (layer_of self.old.table.chains section).flags) (section_parts (under self.old.table.chains last section))) }
     {
@@ -85,7 +91,7 @@ impl Machine {
     }
 
     /// The next part of the object on top.
-    #[tactic(auto, using(crate::proofs::PartLemmas::fits_fields, crate::proofs::PartLemmas::goes_prims, crate::proofs::PartLemmas::goes_value, crate::proofs::PartLemmas::goes_on))]
+    #[tactic(auto, using(crate::proofs::PartLemmas::fits_fields, crate::proofs::PartLemmas::goes_prims, crate::proofs::PartLemmas::goes_value, crate::proofs::PartLemmas::goes_on, crate::proofs::LayerLemmas::layers_of_part))]
     fn next_part(
         &mut self,
         last: SectionNumber,
@@ -95,8 +101,10 @@ impl Machine {
         values: u16,
     ) -> bool
         requires some { 0 < length self.old.frames }
+        requires parts { HasParts self.old.frames }
         requires fits { FrameFits self.old.table.entries self.old.table.chains (Frame.Fields last section pos prims values) }
         ensures meter { self.new.meter ≡ self.old.meter }
+        ensures parts { HasParts self.new.frames }
         ensures part { PartGives result self.old self.new
             (rest_of_section pos values (layer_of self.old.table.chains section) (under self.old.table.chains last section)) }
     {
@@ -127,7 +135,7 @@ impl Machine {
     }
 
     /// The next part of what is on top, which is this frame; where there is none, the frame is taken off.
-    #[tactic(auto, using(crate::proofs::PartLemmas::fits_elements, crate::proofs::PartLemmas::fits_tail, crate::proofs::PartLemmas::leaves_elements, crate::proofs::PartLemmas::leaves_parts, crate::proofs::PartLemmas::at_element, crate::proofs::PartLemmas::at_part, crate::proofs::PartLemmas::at_notes))]
+    #[tactic(auto, using(crate::proofs::PartLemmas::fits_elements, crate::proofs::PartLemmas::fits_tail, crate::proofs::PartLemmas::leaves_elements, crate::proofs::PartLemmas::leaves_parts, crate::proofs::PartLemmas::at_element, crate::proofs::PartLemmas::at_part, crate::proofs::PartLemmas::at_notes, crate::proofs::LayerLemmas::layers_of_part, crate::proofs::LayerLemmas::layers_of_tail))]
     fn go_on(&mut self, frame: Frame) -> bool
         requires top { self.old.frames ≡ frame ∷ tail_of self.old.frames }
         requires fits { FrameFits self.old.table.entries self.old.table.chains frame }

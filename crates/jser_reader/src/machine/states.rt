@@ -1,5 +1,5 @@
 //! The machine before its first field and after its last: made, stopped, at the limit of bytes, spent.
-ghost use Rattle.std.specs.Prelude.{◌≡◌, ◌+◌, ◌-◌, ◌<◌, ◌^◌, true, false, length};
+ghost use Rattle.std.specs.Prelude.{◌≡◌, ◌+◌, ◌-◌, ◌<◌, ◌≤◌, ◌^◌, true, false, length};
 ghost use Rattle.jser_reader.specs.Handlers.{StopsWith, refusal};
 ghost use Rattle.jser_reader.specs.Walks.{IsNew};
 ghost use Rattle.jser_reader.specs.Tallies.{totals_of};
@@ -21,6 +21,7 @@ use std::alloc::Global;
 
 impl Machine {
     /// A machine that has taken nothing, with these limits, and so many handles in an epoch. Takes no memory.
+    #[tactic(auto, using(crate::proofs::LayerLemmas::no_layers))]
     pub(crate) fn new(alloc: Global, limits: Limits, handles: u32) -> Machine
         ensures new { IsNew result }
         ensures limits { HasLimits limits handles result }
@@ -148,8 +149,10 @@ impl Machine {
     }
 
     /// How many frames there are.
+    #[tactic(auto, using(crate::proofs::LayerLemmas::layers_are_bounded))]
     pub(crate) fn depth(&self) -> usize
-        ensures { result ≡ length self.now.frames }
+        ensures frames { result ≡ length self.now.frames }
+        ensures layers { length self.now.layers ≤ result + 1 }
     {
         self.frames.len()
     }

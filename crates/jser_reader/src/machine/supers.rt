@@ -26,7 +26,7 @@ enum Closing {
 
 impl Machine {
     /// Takes the layer of the innermost open descriptor, and puts that of the next one in its place.
-    #[tactic(auto, using(crate::proofs::CloseLemmas::next_layer, crate::proofs::CloseLemmas::last_layer))]
+    #[tactic(auto, using(crate::proofs::CloseLemmas::next_layer, crate::proofs::CloseLemmas::last_layer, crate::proofs::LayerLemmas::layer_taken, crate::proofs::LayerLemmas::no_layers))]
     fn pop_layer(&mut self) -> Layer
         ensures layer { result ≡ head_layer self.old.layers }
         ensures rest { PopsLayer self.old self.new }
@@ -43,12 +43,13 @@ impl Machine {
     }
 
     /// Closes the descriptor on top, which has this number, and takes it off.
-    #[tactic(auto, using(crate::proofs::CloseLemmas::fits_closed, crate::proofs::CloseLemmas::is_open, crate::proofs::CloseLemmas::closes, crate::proofs::SuperLemmas::closes_top))]
+    #[tactic(auto, using(crate::proofs::CloseLemmas::is_open))]
     fn close_top(&mut self, number: u32, role: Role, parent: Option<u32>)
         requires top { self.old.frames ≡ Frame.Descriptor number role ∷ tail_of self.old.frames }
         requires parent { ForSome parent (λ p. IsTrue (is_closed (slice_get self.old.table.entries p))) }
         ensures { ClosesTop number role parent self.old self.new }
     {
+        let _ = &self.alloc;
         let layer = self.pop_layer();
         self.frames.pop();
         self.table.close(number, layer, parent);

@@ -74,19 +74,20 @@ impl Machine {
         }
     }
 
-    /// The tag 0x79, `TC_RESET`: the table of handles is emptied.
-    #[tactic(auto, using(crate::proofs::TagLemmas::resets))]
+    /// The tag 0x79, `TC_RESET`: the table of handles is emptied. Nothing is open there.
+    #[tactic(auto, using(crate::proofs::TagLemmas::resets, crate::proofs::LayerLemmas::no_layers))]
     fn reset(&mut self) -> bool
         ensures reset { self.old.frames ≡ [] → Comes self.old self.new (after_content self.old (Some reset_tag_field)) }
         ensures result { result ≡ true }
     {
         self.frames.clear();
+        self.outer.clear();
         self.table.reset();
         self.done(Phase::Top)
     }
 
     /// The tag 0x78, `TC_ENDBLOCKDATA`: the annotation on top has ended.
-    #[tactic(auto, using(crate::proofs::TagLemmas::descriptor_ends, crate::proofs::TagLemmas::external_ends, crate::proofs::TagLemmas::section_ends, crate::proofs::TagLemmas::sections_end, crate::proofs::PartLemmas::fits_tail))]
+    #[tactic(auto, using(crate::proofs::TagLemmas::descriptor_ends, crate::proofs::TagLemmas::external_ends, crate::proofs::TagLemmas::section_ends, crate::proofs::TagLemmas::sections_end, crate::proofs::PartLemmas::fits_tail, crate::proofs::LayerLemmas::other_is_part, crate::proofs::LayerLemmas::layers_of_tail))]
     fn end_notes(&mut self) -> bool
         ensures end { HasNotes self.old.frames → Comes self.old self.new (after_end self.old) }
         ensures result { result ≡ true }
