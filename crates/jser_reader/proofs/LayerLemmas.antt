@@ -1,5 +1,5 @@
 -- How many layers are kept, by the descriptors among the frames: what each step of the code does to the count.
-use Rattle.std.proofs.Common.{◌≡◌, ℕ, suc, ◌+◌, ◌≤◌, List, [], ◌∷◌, ◌++◌, length, reverse, refl, sym, ◌∙◌, ap, subst, arith, length-append}
+use Rattle.std.proofs.Common.{◌≡◌, ℕ, suc, ◌+◌, ◌<◌, ◌≤◌, List, [], ◌∷◌, ◌++◌, length, reverse, refl, sym, ◌∙◌, ap, subst, arith, length-append}
 use Rattle.std.proofs.lemmas.List.{length-reverse}
 use Rattle.jser_table.specs.declared.layer.Layer.{Layer}
 use Rattle.jser_reader.specs.declared.frame.Frame.{Frame}
@@ -24,6 +24,10 @@ parts_count [] h = absurd h
 parts_count (f ∷ fs) h = sym (part_counts f (descriptors_in fs) h)
 
 -- what is on top is no descriptor
+
+pub parts_are_some : (frames : List Frame) → HasParts frames → 0 < length frames
+parts_are_some [] h = absurd h
+parts_are_some (f ∷ fs) h = omega arith
 
 pub other_is_part : (frames : List Frame) (f : Frame) → frames ≡ f ∷ tail_of frames → ((n : ℕ) (w : Role) → f ≡ frame.Descriptor n w → ⊥) → HasParts frames
 other_is_part frames f e d = subst HasParts (sym e) (go f d)

@@ -18,7 +18,6 @@ impl Machine {
     #[tactic(auto, using(crate::proofs::OwnerLemmas::pushes, crate::proofs::OwnerLemmas::pushes_nothing, crate::proofs::OwnerLemmas::fits_external, crate::proofs::LayerLemmas::layers_under_part))]
     fn open(&mut self) -> bool
         ensures frame { Pushes Frame.ExternalNotes result self.old self.new }
-        ensures some { result ≡ true → 0 < length self.new.frames }
         ensures parts { result ≡ true → HasParts self.new.frames }
         ensures table { result ≡ true → self.new.table ≡ self.old.table }
     {

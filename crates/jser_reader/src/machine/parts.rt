@@ -1,5 +1,5 @@
 //! What comes after a value: the next part of the array, object or descriptor that is open.
-ghost use Rattle.std.specs.Prelude.{◌≡◌, ◌∷◌, ◌<◌, length, true};
+ghost use Rattle.std.specs.Prelude.{◌≡◌, ◌∷◌, true};
 ghost use Rattle.jser_table.specs.Chains.{has_write_method};
 ghost use Rattle.jser_table.specs.Sections.{layer_of, under, IsOn};
 ghost use Rattle.jser_reading.specs.Goals.{section_parts, annotation_if};
@@ -17,9 +17,8 @@ use jser_table::SectionNumber;
 
 impl Machine {
     /// Begins this section of the object on top.
-    #[tactic(auto, using(crate::proofs::PartLemmas::fits_fields, crate::proofs::PartLemmas::fits_notes, crate::proofs::PartLemmas::begins_prims, crate::proofs::PartLemmas::begins_value, crate::proofs::PartLemmas::begins_notes, crate::proofs::LayerLemmas::layers_of_part))]
+    #[tactic(auto, using(crate::proofs::PartLemmas::fits_fields, crate::proofs::PartLemmas::fits_notes, crate::proofs::PartLemmas::begins_prims, crate::proofs::PartLemmas::begins_value, crate::proofs::PartLemmas::begins_notes, crate::proofs::LayerLemmas::layers_of_part, crate::proofs::LayerLemmas::parts_are_some))]
     pub(super) fn begin_section(&mut self, last: SectionNumber, section: SectionNumber)
-        requires some { 0 < length self.old.frames }
         requires parts { HasParts self.old.frames }
         requires on { IsOn self.old.table.chains last section }
         ensures meter { self.new.meter ≡ self.old.meter }
@@ -55,7 +54,6 @@ impl Machine {
     /// The section after this one, if there is one.
     #[tactic(auto, using(crate::proofs::PartLemmas::no_section, crate::proofs::PartLemmas::one_section))]
     pub(super) fn next_section(&mut self, last: SectionNumber, section: SectionNumber) -> bool
-        requires some { 0 < length self.old.frames }
         requires parts { HasParts self.old.frames }
         requires on { IsOn self.old.table.chains last section }
         ensures meter { self.new.meter ≡ self.old.meter }
@@ -72,9 +70,8 @@ impl Machine {
     }
 
     /// After the fields of a section: its annotation, or the section after it.
-    #[tactic(auto, using(crate::proofs::PartLemmas::fits_notes, crate::proofs::PartLemmas::ends_in_notes, crate::proofs::PartLemmas::ends_without, crate::proofs::LayerLemmas::layers_of_part))]
+    #[tactic(auto, using(crate::proofs::PartLemmas::fits_notes, crate::proofs::PartLemmas::ends_in_notes, crate::proofs::PartLemmas::ends_without, crate::proofs::LayerLemmas::layers_of_part, crate::proofs::LayerLemmas::parts_are_some))]
     fn section_end(&mut self, last: SectionNumber, section: SectionNumber) -> bool
-        requires some { 0 < length self.old.frames }
         requires parts { HasParts self.old.frames }
         requires on { IsOn self.old.table.chains last section }
         ensures meter { self.new.meter ≡ self.old.meter }
@@ -91,7 +88,7 @@ impl Machine {
     }
 
     /// The next part of the object on top.
-    #[tactic(auto, using(crate::proofs::PartLemmas::fits_fields, crate::proofs::PartLemmas::goes_prims, crate::proofs::PartLemmas::goes_value, crate::proofs::PartLemmas::goes_on, crate::proofs::LayerLemmas::layers_of_part))]
+    #[tactic(auto, using(crate::proofs::PartLemmas::fits_fields, crate::proofs::PartLemmas::goes_prims, crate::proofs::PartLemmas::goes_value, crate::proofs::PartLemmas::goes_on, crate::proofs::LayerLemmas::layers_of_part, crate::proofs::LayerLemmas::parts_are_some))]
     fn next_part(
         &mut self,
         last: SectionNumber,
@@ -100,7 +97,6 @@ impl Machine {
         prims: u16,
         values: u16,
     ) -> bool
-        requires some { 0 < length self.old.frames }
         requires parts { HasParts self.old.frames }
         requires fits { FrameFits self.old.table.entries self.old.table.chains (Frame.Fields last section pos prims values) }
         ensures meter { self.new.meter ≡ self.old.meter }
