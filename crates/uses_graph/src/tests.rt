@@ -8,9 +8,12 @@ use std::alloc::{AllocError, AllocGlobal, Global};
 use std::process::Abort;
 use std::test::Fail;
 
+mod example;
 mod memory;
 mod rows;
 mod show;
+mod walks;
+mod words;
 
 /// Keeps all that it is given, up to `room` bytes; from then on it fails.
 #[derive(Drop)]

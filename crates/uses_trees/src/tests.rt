@@ -8,6 +8,7 @@ use std::process::Abort;
 use std::test::Fail;
 
 mod chance;
+mod example;
 mod maker;
 mod memory;
 mod replaced;

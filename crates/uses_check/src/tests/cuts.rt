@@ -4,7 +4,7 @@ use crate::tests::{
     ABC_NULL_REF, ARRAY_LIST, ENUM_CONSTANT, INT_ARRAY, LAX, LINKED_PAIR, PROXY, RESET_EPOCHS,
     answer_in_pieces, assert_answer, refused, report, stream,
 };
-use crate::{CheckFault, Reason, Refusal, Report, Stop, check_bytes};
+use jser_check::{CheckFault, Reason, Refusal, Report, Stop, check_bytes};
 use jser_filter::Filter;
 use std::alloc::AllocGlobal;
 use std::process::Abort;

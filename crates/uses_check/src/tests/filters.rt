@@ -4,7 +4,7 @@ use crate::tests::{
     ARRAY_LIST, ENUM_CONSTANT, INT_ARRAY, LAX, LINKED_PAIR, PROXY, STRICT, assert_answer, refused,
     report, stream,
 };
-use crate::{FilterGate, Options, Reason, Report, Stop};
+use jser_check::{FilterGate, Options, Reason, Report, Stop};
 use jser_filter::{Filter, Modules};
 use jser_reader::{Answer, Gate};
 use std::alloc::AllocGlobal;

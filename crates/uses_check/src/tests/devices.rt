@@ -1,7 +1,7 @@
 //! Sources that fail, and how many bytes are taken.
 
 use crate::tests::{LAX, LINKED_PAIR, Pieces, refused, stream};
-use crate::{CheckFault, Reason, Report, check_reader};
+use jser_check::{CheckFault, Reason, Report, check_reader};
 use jser_filter::Filter;
 use jser_prim::Source;
 use std::alloc::AllocGlobal;

@@ -1,6 +1,6 @@
 //! Verdicts of many texts and names, each made from the rules by hand.
 use super::verdict_of;
-use crate::Verdict::{Allowed, NoClass, Rejected, Undecided};
+use jser_filter::Verdict::{Allowed, NoClass, Rejected, Undecided};
 use std::test::Fail;
 
 #[test]

@@ -5,7 +5,7 @@ use crate::tests::trees::{
     Build, abc_null_ref, array_list, enum_constant, external_over_serial, int_array, linked_pair,
     plain, proxy, reset_epochs, superclass_first,
 };
-use crate::{Body, ClassPlace, Content, Contents, Desc, Value, ValueCause, ValueFault};
+use jser_value::{Body, ClassPlace, Content, Contents, Desc, Value, ValueCause, ValueFault};
 use std::alloc::{AllocError, Global};
 use std::process::Abort;
 use std::test::Fail;

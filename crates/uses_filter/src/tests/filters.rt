@@ -1,5 +1,5 @@
-//! Worked examples of filter texts, limits and tables of modules.
-use crate::{
+//! Worked examples of filter texts, limits and tables of modules, by `jser_filter` alone.
+use jser_filter::{
     Filter, FilterCause, FilterFault, Limits, Modules, ModulesCause, ModulesFault, Verdict,
 };
 use jser_prim::units_of;
@@ -18,29 +18,6 @@ fn judge(filter: &Filter, name: &[u16]) -> Option<Verdict> {
         Element::Malformed => None,
         Element::Name(_) | Element::Primitive => Some(filter.judge(name)),
     }
-}
-
-/// The example of the README.
-fn allows(filter: &Filter, name: &[u16]) -> bool {
-    match element_of(name) {
-        Element::Malformed => false,
-        Element::Name(_) | Element::Primitive => {
-            !matches!(filter.judge(name), Verdict::Rejected(_))
-        }
-    }
-}
-
-#[test]
-fn readme(rt: HostRuntime) -> Result<(), Fail> {
-    let alloc = rt.alloc();
-    let filter = Filter::parse(alloc, "java.util.*;!*;maxdepth=20")?;
-    assert!(rt; allows(&filter, &units_of(alloc, "java.util.ArrayList")?));
-    assert!(rt; !allows(&filter, &units_of(alloc, "java.lang.Runtime")?));
-    assert_eq!(rt; filter.limits().depth, Some(20));
-    let table = Modules::parse(alloc, "java.util=java.base")?;
-    let filter = filter.with_modules(table);
-    assert!(rt; allows(&filter, &units_of(alloc, "[[I")?));
-    Ok(())
 }
 
 /// What a text says of a name.

@@ -1,10 +1,10 @@
 //! The worked streams under the empty filter.
 
-use crate::Reason;
 use crate::tests::{
     ABC_NULL_REF, ARRAY_LIST, ENUM_CONSTANT, INT_ARRAY, LAX, LINKED_PAIR, PROXY, RESET_EPOCHS,
     assert_accepted, assert_answer, assert_refused, report, stream,
 };
+use jser_check::Reason;
 use jser_filter::Filter;
 use std::test::Fail;
 

@@ -1,6 +1,6 @@
 //! What large filters and tables cost: the times go to standard error.
 use super::judge;
-use crate::{Filter, Modules, Verdict};
+use jser_filter::{Filter, Modules, Verdict};
 use jser_prim::units_of;
 use std::alloc::{AllocError, Global};
 use std::test::Fail;

@@ -1,7 +1,7 @@
 //! What is answered where memory runs out. `tools/refuse-allocations` runs these tests with each allocation
 //! refused in turn, and reads the lines that they print.
 use super::{fault_of, modules_fault_of};
-use crate::{Filter, FilterCause, FilterFault, Modules, ModulesCause, ModulesFault};
+use jser_filter::{Filter, FilterCause, FilterFault, Modules, ModulesCause, ModulesFault};
 use std::test::Fail;
 
 /// One piece of each kind. All but the limit and the empty one allocate.

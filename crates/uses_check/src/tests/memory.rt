@@ -2,7 +2,7 @@
 //! refused in turn.
 
 use crate::tests::{ARRAY_LIST, ENUM_CONSTANT, LAX, LINKED_PAIR, report, stream};
-use crate::{CheckFault, Report, Stop, check_bytes, check_reader};
+use jser_check::{CheckFault, Report, Stop, check_bytes, check_reader};
 use jser_filter::Filter;
 use jser_prim::FromRead;
 use std::alloc::{AllocError, AllocGlobal, Global};

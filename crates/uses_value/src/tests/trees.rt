@@ -1,7 +1,7 @@
 //! Worked streams as trees, with their bytes. The bytes are those of the format's worked examples.
 
-use crate::{Body, ClassPlace, Content, Desc, Field, Prim, Section, Text, TextPlace, Value};
 use jser_prim::units_of;
+use jser_value::{Body, ClassPlace, Content, Desc, Field, Prim, Section, Text, TextPlace, Value};
 use std::alloc::{AllocError, Global};
 
 /// What builds a worked stream.

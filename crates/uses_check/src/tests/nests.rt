@@ -1,7 +1,7 @@
 //! Arrays inside arrays, as deep as the cap allows and one deeper.
 
 use crate::tests::{LAX, answer_in_pieces, refused, report, stream};
-use crate::{CheckFault, Reason, Report, Stop, check_bytes};
+use jser_check::{CheckFault, Reason, Report, Stop, check_bytes};
 use jser_filter::Filter;
 use std::alloc::{AllocError, AllocGlobal, Global};
 use std::process::Abort;

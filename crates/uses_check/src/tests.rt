@@ -4,7 +4,7 @@
 //! reading.
 ghost use Rattle.std.specs.Prelude.{true};
 
-use crate::{CheckFault, Options, Reason, Refusal, Report, Stop, check_bytes, check_reader};
+use jser_check::{CheckFault, Options, Reason, Refusal, Report, Stop, check_bytes, check_reader};
 use jser_filter::Filter;
 use jser_prim::{Failed, FromRead, Source};
 use std::alloc::{AllocError, AllocGlobal, Global};
@@ -13,6 +13,7 @@ use std::test::Fail;
 
 mod cuts;
 mod devices;
+mod example;
 mod filters;
 mod memory;
 mod nests;

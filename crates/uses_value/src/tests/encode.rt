@@ -3,8 +3,8 @@ ghost use Rattle.std.specs.Prelude.{true};
 
 use super::contents::nest;
 use super::trees::{self, Build};
-use crate::{Content, Contents, EncodeFault, Value, encode};
 use jser_prim::{Failed, Sink, ToWrite};
+use jser_value::{Content, Contents, EncodeFault, Value, encode};
 use std::alloc::Global;
 use std::io::{self, Write};
 use std::process::Abort;
