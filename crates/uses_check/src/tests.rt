@@ -10,6 +10,7 @@ use jser_prim::{Failed, FromRead, Source};
 use std::alloc::{AllocError, AllocGlobal, Global};
 use std::process::Abort;
 use std::test::Fail;
+use test_support::Pieces;
 
 mod cuts;
 mod devices;
@@ -99,36 +100,6 @@ fn refused(reason: Reason, from_byte: u64, to_byte: u64) -> Stop {
     })
 }
 
-/// Returns its bytes, at most so many a call, and then ends or fails.
-#[derive(Drop)]
-struct Pieces<'a> {
-    rest: &'a [u8],
-    most: usize,
-    fails: bool,
-    failed: bool,
-}
-
-impl Source for Pieces<'_> {
-    ghost has_failed = { λ s. s.failed };
-
-    fn take(&mut self, buf: &mut [u8]) -> Result<usize, Failed> {
-        let count = self.most.min(self.rest.len()).min(buf.len());
-        if count == 0 && self.fails {
-            self.failed = true;
-            return Err(Failed);
-        }
-        let (front, rest) = self.rest.split_at(count);
-        let (room, _) = buf.split_at_mut(count);
-        room.copy_from_slice(front);
-        self.rest = rest;
-        Ok(count)
-    }
-
-    fn failed(&self) -> bool {
-        self.failed
-    }
-}
-
 /// What `check_reader` answers to the bytes, so many a call.
 fn answer_in_pieces(
     alloc: Global,
@@ -137,12 +108,7 @@ fn answer_in_pieces(
     filter: &Filter,
     options: Options,
 ) -> Result<Report, CheckFault> {
-    let mut pieces = Pieces {
-        rest: bytes,
-        most,
-        fails: false,
-        failed: false,
-    };
+    let mut pieces = Pieces::new(bytes, most);
     check_reader(alloc, &mut pieces, filter, options)
 }
 

@@ -1,12 +1,13 @@
 //! Sources that fail, and how many bytes are taken.
 
-use crate::tests::{LAX, LINKED_PAIR, Pieces, refused, stream};
+use crate::tests::{LAX, LINKED_PAIR, refused, stream};
 use jser_check::{CheckFault, Reason, Report, check_reader};
 use jser_filter::Filter;
 use jser_prim::Source;
 use std::alloc::AllocGlobal;
 use std::process::Abort;
 use std::test::Fail;
+use test_support::Pieces;
 
 /// `check_reader` answers this to a source that fails after these bytes, and then it has failed, if it was read
 /// to there.
@@ -17,12 +18,7 @@ fn assert_failing(
     answer: Result<Report, CheckFault>,
 ) -> Result<(), Fail> {
     let filter = Filter::parse(rt.alloc(), "")?;
-    let mut source = Pieces {
-        rest: bytes,
-        most,
-        fails: true,
-        failed: false,
-    };
+    let mut source = Pieces::failing(bytes, most);
     let found = check_reader(rt.alloc(), &mut source, &filter, LAX);
     assert_eq!(rt; found, answer);
     assert_eq!(rt; source.failed(), found == Err(CheckFault::ReadFault));
@@ -61,18 +57,13 @@ fn tail_then_zeros(rt: HostRuntime) -> Result<(), Fail> {
         bytes.push(0)?;
     }
     let filter = Filter::parse(rt.alloc(), "")?;
-    let mut source = Pieces {
-        rest: &bytes,
-        most: bytes.len(),
-        fails: false,
-        failed: false,
-    };
+    let mut source = Pieces::new(&bytes, bytes.len());
     let found = check_reader(rt.alloc(), &mut source, &filter, LAX);
     assert_eq!(rt;
         found,
         Err(CheckFault::Stop(refused(Reason::BadTag, 69, 70)))
     );
-    let taken = bytes.len().saturating_sub(source.rest.len());
+    let taken = bytes.len().saturating_sub(source.left());
     assert!(rt; taken <= 65_605, "{taken} bytes");
     Ok(())
 }

@@ -16,7 +16,7 @@ fn names_an_object(alloc: Global, bytes: &[u8], handle: u32) -> Result<bool, Sto
 }
 // end
 
-use crate::tests::LINKED_PAIR;
+use test_support::streams::LINKED_PAIR;
 
 #[test]
 fn objects_by_handle(rt: HostRuntime) {

@@ -20,8 +20,8 @@ fn say_fields<W: Sink>(
 }
 // end
 
-use crate::tests::Page;
 use std::test::Fail;
+use test_support::Page;
 
 #[test]
 fn null_in_words(rt: HostRuntime) -> Result<(), Fail> {

@@ -1,11 +1,11 @@
 //! To be run with each allocation refused in turn: a reader answers the right counts, or out of memory and then, to
 //! each call, that it is spent.
 
-use crate::tests::pieces::LINKED_PAIR;
 use crate::tests::totals;
 use jser_reader::{OpenGate, Reader, Step, Stop};
 use std::alloc::AllocGlobal;
 use std::process::Abort;
+use test_support::streams::LINKED_PAIR;
 
 /// Reads the stream in pieces of this size; whether there was memory.
 fn reads(rt: &(impl Abort + AllocGlobal), size: usize) -> bool {

@@ -9,51 +9,7 @@ use std::alloc::Global;
 use std::io::{self, Write};
 use std::process::Abort;
 use std::test::Fail;
-
-/// Keeps what it is given, so many bytes a call, and fails where there is no room left.
-#[derive(Drop)]
-struct Page {
-    bytes: Vec<u8>,
-    most: usize,
-    room: usize,
-    calls: usize,
-    failed: bool,
-}
-
-impl Page {
-    fn new(alloc: Global, most: usize, room: usize) -> Page {
-        Page {
-            bytes: Vec::new(alloc),
-            most,
-            room,
-            calls: 0,
-            failed: false,
-        }
-    }
-}
-
-impl Sink for Page {
-    ghost has_failed = { λ s. s.failed };
-
-    fn give(&mut self, bytes: &[u8]) -> Result<usize, Failed> {
-        if bytes.is_empty() {
-            return Ok(0);
-        }
-        self.calls = self.calls.saturating_add(1);
-        let count = self.most.min(self.room).min(bytes.len());
-        let (front, _) = bytes.split_at(count);
-        if count == 0 || self.bytes.extend_from_slice(front).is_err() {
-            self.failed = true;
-            return Err(Failed);
-        }
-        self.room -= count;
-        Ok(count)
-    }
-
-    fn failed(&self) -> bool {
-        self.failed
-    }
-}
+use test_support::Page;
 
 /// Takes so many bytes, and then none.
 #[derive(Drop)]
