@@ -1,5 +1,6 @@
-use super::{TextFault, TextFaultAfter, TextScan};
-use crate::text_bytes;
+//! Scans of texts, byte by byte and in slices.
+
+use jser_prim::{TextFault, TextFaultAfter, TextScan, text_bytes};
 use std::process::Abort;
 use std::test::Fail;
 

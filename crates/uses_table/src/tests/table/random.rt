@@ -2,8 +2,7 @@
 ghost use Rattle.std.specs.Prelude.{◌<◌};
 
 use super::{is_closed, is_pending, make_layer, try_close};
-use crate::descriptor::{Descriptor, Filed};
-use crate::{Entry, Kind, LayerKind, Table};
+use jser_table::{Entry, Kind, LayerKind, Table};
 use std::alloc::{AllocError, Global};
 use std::process::Abort;
 use std::test::Fail;
@@ -287,8 +286,6 @@ fn cost_of_a_long_chain(rt: HostRuntime) -> Result<(), Fail> {
     let (layers, filled) = (layers.as_nanos(), filled.as_nanos());
     let calls = u128::from(CALLS);
     let (layer, next) = (layers / calls, filled / calls);
-    let (class, section) = (size_of::<Descriptor>(), size_of::<Filed>());
-    eprintln!(rt; "a closed descriptor: {class} bytes, its section {section} bytes")?;
     eprintln!(rt; "layer: {layer} ns a call; next_filled: {next} ns a call")?;
     Ok(())
 }

@@ -1,4 +1,6 @@
-use super::{spell_unit, text_bytes, units_of};
+//! The spelling of units and of texts.
+
+use jser_prim::{spell_unit, text_bytes, units_of};
 use std::test::Fail;
 
 #[test]

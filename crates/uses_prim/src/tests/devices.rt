@@ -1,6 +1,7 @@
+//! Devices that fail, that are interrupted and that take or return little.
 ghost use Rattle.std.specs.Prelude.{None};
 
-use crate::{Failed, FromRead, Sink, Source, ToWrite};
+use jser_prim::{Failed, FromRead, Sink, Source, ToWrite};
 use std::io::{self, Error, ErrorKind, Read, Write};
 use std::test::Fail;
 

@@ -5,7 +5,7 @@ ghost use Rattle.jser_table.specs.Sections.{HasSection, IsOn, layer_of, HoldsFor
 
 use super::random::Random;
 use super::{make_layer, try_close};
-use crate::{BodyKind, Class, Fit, Kind, LayerKind, Purpose, SectionNumber, Sections, Table};
+use jser_table::{BodyKind, Class, Fit, Kind, LayerKind, Purpose, SectionNumber, Sections, Table};
 use std::alloc::Global;
 use std::process::Abort;
 use std::test::Fail;

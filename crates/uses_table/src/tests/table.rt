@@ -2,7 +2,7 @@
 ghost use Rattle.std.specs.Prelude.{◌≡◌, ◌<◌, ◌^◌, length, slice_get};
 ghost use Rattle.jser_table.specs.Entries.{is_pending, is_closed};
 
-use crate::{
+use jser_table::{
     BodyKind, Codes, Element, Entry, Fit, Kind, Layer, LayerKind, Purpose, Table, TableFault,
     element_of, layer_kind_of,
 };
@@ -74,23 +74,6 @@ fn all_serial_at(table: &Table, number: u32) -> Option<bool> {
 
 fn layers_at(table: &Table, number: u32) -> Option<usize> {
     is_closed(table, number).then(|| table.layers(number))
-}
-
-/// The example of the README.
-#[test]
-fn readme(rt: HostRuntime) -> Result<(), Fail> {
-    let alloc = rt.alloc();
-    let mut table = Table::new(alloc, 1000);
-    let number = table.assign(Kind::Pending)?;
-    let codes = Codes::new(vec![in alloc; INT]?);
-    let layer = Layer {
-        kind: LayerKind::Other,
-        flags: 0x02,
-        codes,
-    };
-    table.close(number, layer, None);
-    assert_eq!(rt; table.fit(number, Purpose::Object), Fit::Fits);
-    Ok(())
 }
 
 #[test]
