@@ -1,6 +1,6 @@
 use Rattle.std.specs.Option.{ForSome}
 use Rattle.jser_table.specs.Sections.{IsOn}
-use Rattle.jser_table.proofs.tests.sections.compare_each.Given as goal
+use Rattle.uses_table.proofs.tests.table.sections.compare_each.Given as goal
 
 -- the next section is one of the object's
 abbrev pub invariant-sections : goal.invariant-sections
