@@ -5,8 +5,6 @@ mod answer;
 mod bytes;
 mod gate;
 mod reader;
-#[cfg(test)]
-mod tests;
 
 pub use answer::{CheckFault, Report};
 pub use bytes::check_bytes;

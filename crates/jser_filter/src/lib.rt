@@ -13,8 +13,6 @@ mod pattern;
 mod piece;
 mod pieces;
 mod places;
-#[cfg(test)]
-mod tests;
 mod trie;
 mod units;
 mod verdict;

@@ -15,6 +15,3 @@ pub struct FailedAfter {
     /// How many bytes it had taken.
     pub given: usize,
 }
-
-#[cfg(test)]
-mod tests;

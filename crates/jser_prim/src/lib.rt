@@ -22,6 +22,3 @@ pub use scan::{TextFault, TextFaultAfter, TextScan};
 pub use sink::{Sink, ToWrite, give_all};
 pub use source::{FromRead, Source};
 pub use spelling::{spell_unit, text_bytes, units_of};
-
-#[cfg(test)]
-mod tests;

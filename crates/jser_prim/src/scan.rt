@@ -180,6 +180,3 @@ impl TextScan {
         len
     }
 }
-
-#[cfg(test)]
-mod tests;

@@ -70,6 +70,3 @@ fn push_char(units: &mut Vec<u16>, c: char) -> Result<(), AllocError>
     let mut pair = [0; 2];
     units.extend_from_slice(c.encode_utf16(&mut pair))
 }
-
-#[cfg(test)]
-mod tests;

@@ -13,8 +13,6 @@ mod layer;
 mod name;
 mod section;
 mod table;
-#[cfg(test)]
-mod tests;
 
 pub use class::{ChainNumber, Class};
 pub use codes::{Codes, size_of_code};

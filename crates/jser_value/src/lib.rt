@@ -20,6 +20,3 @@ pub use handles::Handles;
 pub use tree::{
     Body, ClassPlace, Content, Desc, Field, Raw as Prim, Section, Text, TextPlace, Value,
 };
-
-#[cfg(test)]
-mod tests;

@@ -1,59 +1,20 @@
 //! Graphs of worked streams: what their handles name, their texts and names, and what they hand out again.
 
 use jser_graph::{Graph, GraphFault, Node, NodeKind};
-use jser_prim::{Failed, Sink};
 use jser_reader::{Reason, Refusal, Stop};
 use jser_value::{ValueCause, encode};
 use std::alloc::{AllocError, AllocGlobal, Global};
 use std::process::Abort;
 use std::test::Fail;
+use test_support::Page;
+use test_support::streams::{LINKED_PAIR, RESET_EPOCHS, nest};
 
+mod example;
 mod memory;
 mod rows;
 mod show;
-
-/// Keeps all that it is given, up to `room` bytes; from then on it fails.
-#[derive(Drop)]
-struct Page {
-    bytes: Vec<u8>,
-    /// How many bytes it takes at once.
-    step: usize,
-    room: usize,
-    failed: bool,
-}
-
-impl Page {
-    fn new(alloc: Global, step: usize, room: usize) -> Page {
-        Page {
-            bytes: Vec::new(alloc),
-            step,
-            room,
-            failed: false,
-        }
-    }
-}
-
-impl Sink for Page {
-    ghost has_failed = { λ s. s.failed };
-
-    fn give(&mut self, bytes: &[u8]) -> Result<usize, Failed> {
-        let most = self.step.min(self.room).min(bytes.len());
-        if most == 0 && !bytes.is_empty() {
-            self.failed = true;
-            return Err(Failed);
-        }
-        if self.bytes.extend_from_slice(&bytes[..most]).is_err() {
-            self.failed = true;
-            return Err(Failed);
-        }
-        self.room -= most;
-        Ok(most)
-    }
-
-    fn failed(&self) -> bool {
-        self.failed
-    }
-}
+mod walks;
+mod words;
 
 /// The graph of a stream that is accepted.
 fn graph_of(rt: &(impl Abort + AllocGlobal), bytes: &[u8]) -> Graph {
@@ -64,21 +25,18 @@ fn graph_of(rt: &(impl Abort + AllocGlobal), bytes: &[u8]) -> Graph {
 }
 
 /// The graph hands out the bytes from which it was read, and its tree is written as these bytes too.
-fn hands_out(rt: &(impl Abort + AllocGlobal), bytes: &[u8]) -> Result<(), Fail> {
+fn hands_out(rt: &(impl Abort + AllocGlobal), name: &str, bytes: &[u8]) -> Result<(), Fail> {
     let graph = graph_of(rt, bytes);
     let mut page = Page::new(rt.alloc(), 4096, 1_000_000);
     let count = graph.write_to(rt.alloc(), &mut page)?;
-    assert!(rt; page.bytes.as_slice() == bytes);
-    assert_eq!(rt; count, bytes.len() as u64);
+    assert!(rt; page.bytes.as_slice() == bytes, "{name}");
+    assert_eq!(rt; count, bytes.len() as u64, "{name}");
     let contents = graph.contents(rt.alloc())?;
     let mut page = Page::new(rt.alloc(), 4096, 1_000_000);
     encode(&contents, &mut page)?;
-    assert!(rt; page.bytes.as_slice() == bytes);
+    assert!(rt; page.bytes.as_slice() == bytes, "{name}");
     Ok(())
 }
-
-const LINKED_PAIR: &[u8] =
-    b"\xAC\xED\x00\x05\x73\x72\x00\x04\x4C\x69\x73\x74\x69\xC8\x8A\x15\x40\x16\xAE\x68\x02\x00\x02\x49\x00\x05\x76\x61\x6C\x75\x65\x4C\x00\x04\x6E\x65\x78\x74\x74\x00\x06\x4C\x4C\x69\x73\x74\x3B\x78\x70\x00\x00\x00\x11\x73\x71\x00\x7E\x00\x00\x00\x00\x00\x13\x70\x71\x00\x7E\x00\x03";
 
 #[test]
 fn graph_of_linked_pair(rt: HostRuntime) -> Result<(), Fail> {
@@ -112,10 +70,7 @@ fn graph_of_linked_pair(rt: HostRuntime) -> Result<(), Fail> {
 
 #[test]
 fn graph_of_reset_epochs(rt: HostRuntime) -> Result<(), Fail> {
-    let graph = graph_of(
-        &rt,
-        b"\xAC\xED\x00\x05\x74\x00\x01\x61\x79\x74\x00\x01\x62\x71\x00\x7E\x00\x00",
-    );
+    let graph = graph_of(&rt, RESET_EPOCHS);
     let text = Node {
         kind: NodeKind::Text,
         tag_byte: 9,
@@ -149,18 +104,6 @@ fn refused(rt: HostRuntime) -> Result<(), Fail> {
         Ok(_) => panic!(rt; "half a header"),
     }
     Ok(())
-}
-
-/// So many arrays of the class `[LA;`, one inside the other.
-fn nest(alloc: Global, arrays: usize) -> Result<Vec<u8>, AllocError> {
-    let front =
-        b"\xAC\xED\x00\x05\x75\x72\x00\x04\x5B\x4C\x41\x3B\x00\x00\x00\x00\x00\x00\x00\x01\x02\x00\x00\x78\x70\x00\x00\x00\x01";
-    let mut bytes = front.to_vec(alloc)?;
-    for _ in 1..arrays {
-        bytes.extend_from_slice(b"\x75\x71\x00\x7E\x00\x00\x00\x00\x00\x01")?;
-    }
-    bytes.push(0x70)?;
-    Ok(bytes)
 }
 
 #[test]

@@ -5,6 +5,7 @@ use std::alloc::{AllocError, AllocGlobal, Global};
 use std::process::Abort;
 use std::test::Fail;
 
+mod example;
 mod gates;
 mod memory;
 mod nests;

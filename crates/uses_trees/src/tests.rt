@@ -1,40 +1,19 @@
 //! Streams from the format, read as trees and written again, and what is refused.
 
-use jser_prim::{Failed, Sink};
 use jser_trees::{Contents, OpenGate, Reason, Refusal, Stop, read_all};
 use jser_value::{Content, Value, encode};
 use std::alloc::{AllocError, AllocGlobal, Global};
 use std::process::Abort;
 use std::test::Fail;
+use test_support::Page;
+use test_support::streams::{ABC_NULL_REF, nest};
 
 mod chance;
+mod example;
 mod maker;
 mod memory;
 mod replaced;
 mod rows;
-
-/// Keeps all that it is given.
-#[derive(Drop)]
-struct Page {
-    bytes: Vec<u8>,
-    failed: bool,
-}
-
-impl Sink for Page {
-    ghost has_failed = { λ s. s.failed };
-
-    fn give(&mut self, bytes: &[u8]) -> Result<usize, Failed> {
-        if self.bytes.extend_from_slice(bytes).is_err() {
-            self.failed = true;
-            return Err(Failed);
-        }
-        Ok(bytes.len())
-    }
-
-    fn failed(&self) -> bool {
-        self.failed
-    }
-}
 
 /// The contents of a stream that passes.
 fn contents_of(rt: &(impl Abort + AllocGlobal), bytes: &[u8]) -> Contents {
@@ -45,17 +24,16 @@ fn contents_of(rt: &(impl Abort + AllocGlobal), bytes: &[u8]) -> Contents {
 }
 
 /// The bytes become a tree, and the tree becomes the bytes.
-fn reads_back(rt: &(impl Abort + AllocGlobal), bytes: &[u8]) -> Result<(), Fail> {
-    let contents = contents_of(rt, bytes);
-    writes(rt, &contents, bytes)
+fn reads_back(rt: &(impl Abort + AllocGlobal), name: &str, bytes: &[u8]) -> Result<(), Fail> {
+    match read_all(rt.alloc(), bytes, &OpenGate) {
+        Ok(contents) => writes(rt, &contents, bytes),
+        Err(_) => panic!(rt; "{name}: no stream, or no memory"),
+    }
 }
 
 /// The contents are written as these bytes.
 fn writes(rt: &(impl Abort + AllocGlobal), contents: &Contents, bytes: &[u8]) -> Result<(), Fail> {
-    let mut page = Page {
-        bytes: Vec::new(rt.alloc()),
-        failed: false,
-    };
+    let mut page = Page::new(rt.alloc(), usize::MAX, usize::MAX);
     let count = encode(contents, &mut page)?;
     assert!(rt; page.bytes.as_slice() == bytes);
     assert_eq!(rt; count, bytes.len() as u64);
@@ -82,23 +60,11 @@ fn refuses(
     Ok(())
 }
 
-/// So many arrays of the class `[LA;`, one inside the other.
-fn nest(alloc: Global, arrays: usize) -> Result<Vec<u8>, AllocError> {
-    let front =
-        b"\xAC\xED\x00\x05\x75\x72\x00\x04\x5B\x4C\x41\x3B\x00\x00\x00\x00\x00\x00\x00\x01\x02\x00\x00\x78\x70\x00\x00\x00\x01";
-    let mut bytes = front.to_vec(alloc)?;
-    for _ in 1..arrays {
-        bytes.extend_from_slice(b"\x75\x71\x00\x7E\x00\x00\x00\x00\x00\x01")?;
-    }
-    bytes.push(0x70)?;
-    Ok(bytes)
-}
-
 /// Arrays within arrays, as deep as trees may be.
 #[test]
 fn nest_999(rt: HostRuntime) -> Result<(), Fail> {
     let bytes = nest(rt.alloc(), 999)?;
-    reads_back(&rt, &bytes)
+    reads_back(&rt, "nest(999)", &bytes)
 }
 
 /// One deeper.
@@ -111,8 +77,7 @@ fn nest_1000(rt: HostRuntime) -> Result<(), Fail> {
 /// The list itself: a string, null, and a reference to the string.
 #[test]
 fn abc_null_ref_list(rt: HostRuntime) -> Result<(), Fail> {
-    let bytes = b"\xAC\xED\x00\x05\x74\x00\x03\x61\x62\x63\x70\x71\x00\x7E\x00\x00";
-    let contents = contents_of(&rt, bytes);
+    let contents = contents_of(&rt, ABC_NULL_REF);
     match contents.list() {
         [
             Content::Value(Value::Text(text)),

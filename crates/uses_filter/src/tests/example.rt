@@ -27,6 +27,7 @@ fn a_filter_with_modules(rt: HostRuntime) -> Result<(), Fail> {
     let table = Modules::parse(alloc, "java.util=java.base")?;
     let filter = filter.with_modules(table);
     // end
-    assert!(rt; !allows(&filter, &units_of(alloc, "java.io.File")?));
+    assert!(rt; !allows(&filter, &units_of(alloc, "java.lang.Runtime")?));
+    assert!(rt; allows(&filter, &units_of(alloc, "[[I")?));
     Ok(())
 }

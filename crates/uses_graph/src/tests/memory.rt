@@ -1,6 +1,5 @@
 //! To be run with each allocation refused in turn: each call answers out of memory, or the right thing.
 
-use crate::tests::LINKED_PAIR;
 use crate::tests::show::LINKED_PAIR_TEXT;
 use jser_graph::{Graph, GraphFault};
 use jser_prim::{Failed, Sink};
@@ -8,48 +7,8 @@ use jser_reader::Stop;
 use jser_value::{ValueCause, encode};
 use std::alloc::AllocGlobal;
 use std::process::Abort;
-
-/// Compares what it is given with these bytes, and takes no memory.
-#[derive(Drop)]
-struct Compared<'p> {
-    rest: &'p [u8],
-    same: bool,
-}
-
-impl<'p> Compared<'p> {
-    fn new(bytes: &'p [u8]) -> Compared<'p> {
-        Compared {
-            rest: bytes,
-            same: true,
-        }
-    }
-
-    /// Whether it was given all the bytes, and no others.
-    fn is_whole(&self) -> bool {
-        self.same && self.rest.is_empty()
-    }
-}
-
-impl<'p> Sink for Compared<'p> {
-    ghost use Rattle.std.specs.Prelude.{false};
-
-    ghost has_failed = { λ s. false };
-
-    fn give(&mut self, bytes: &[u8]) -> Result<usize, Failed> {
-        match self.rest.split_at_checked(bytes.len()) {
-            Some((front, rest)) => {
-                self.same = self.same && front == bytes;
-                self.rest = rest;
-            }
-            None => self.same = false,
-        }
-        Ok(bytes.len())
-    }
-
-    fn failed(&self) -> bool {
-        false
-    }
-}
+use test_support::Compared;
+use test_support::streams::LINKED_PAIR;
 
 /// The text of `show`, or a beginning of it of which the fault tells the length.
 fn shows(rt: &(impl Abort + AllocGlobal), graph: &Graph) -> bool {
@@ -60,8 +19,8 @@ fn shows(rt: &(impl Abort + AllocGlobal), graph: &Graph) -> bool {
             true
         }
         Err(fault) => {
-            assert!(rt; sink.same && sink.rest.len() <= LINKED_PAIR_TEXT.len());
-            let written = (LINKED_PAIR_TEXT.len() - sink.rest.len()) as u64;
+            assert!(rt; sink.is_front() && sink.left() <= LINKED_PAIR_TEXT.len());
+            let written = (LINKED_PAIR_TEXT.len() - sink.left()) as u64;
             assert_eq!(rt; fault, GraphFault::OutOfMemory { written });
             false
         }

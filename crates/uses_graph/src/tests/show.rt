@@ -1,10 +1,13 @@
 //! The texts of `show` of worked streams, and what goes out of them where the sink fails.
 
-use crate::tests::{LINKED_PAIR, Page, graph_of, nest};
+use crate::tests::graph_of;
 use jser_graph::{Graph, GraphFault};
+use jser_prim::Sink;
 use std::alloc::AllocGlobal;
 use std::process::Abort;
 use std::test::Fail;
+use test_support::Page;
+use test_support::streams::{ARRAY_LIST, INT_ARRAY, LINKED_PAIR, RESET_EPOCHS, nest};
 
 pub(crate) const LINKED_PAIR_TEXT: &[u8] = b"stream version 5
 object #0.7e0002
@@ -54,7 +57,7 @@ fn show_linked_pair(rt: HostRuntime) -> Result<(), Fail> {
 fn show_array_list(rt: HostRuntime) -> Result<(), Fail> {
     shows(
         &rt,
-        b"\xAC\xED\x00\x05\x73\x72\x00\x13\x6A\x61\x76\x61\x2E\x75\x74\x69\x6C\x2E\x41\x72\x72\x61\x79\x4C\x69\x73\x74\x78\x81\xD2\x1D\x99\xC7\x61\x9D\x03\x00\x01\x49\x00\x04\x73\x69\x7A\x65\x78\x70\x00\x00\x00\x01\x77\x04\x00\x00\x00\x01\x74\x00\x01\x61\x78",
+        ARRAY_LIST,
         b"stream version 5
 object #0.7e0001
   class desc #0.7e0000 \"java.util.ArrayList\" suid 7881d21d99c7619d flags 03
@@ -73,7 +76,7 @@ object #0.7e0001
 fn show_int_array(rt: HostRuntime) -> Result<(), Fail> {
     shows(
         &rt,
-        b"\xAC\xED\x00\x05\x75\x72\x00\x02\x5B\x49\x4D\xBA\x60\x26\x76\xEA\xB2\xA5\x02\x00\x00\x78\x70\x00\x00\x00\x02\x00\x00\x00\x01\xFF\xFF\xFF\xFF",
+        INT_ARRAY,
         b"stream version 5
 array #0.7e0001 length 2
   class desc #0.7e0000 \"[I\" suid 4dba602676eab2a5 flags 02
@@ -89,7 +92,7 @@ array #0.7e0001 length 2
 fn show_reset_epochs(rt: HostRuntime) -> Result<(), Fail> {
     shows(
         &rt,
-        b"\xAC\xED\x00\x05\x74\x00\x01\x61\x79\x74\x00\x01\x62\x71\x00\x7E\x00\x00",
+        RESET_EPOCHS,
         b"stream version 5
 text #0.7e0000 \"a\"
 reset
@@ -133,7 +136,7 @@ fn show_fails_anywhere(rt: HostRuntime) -> Result<(), Fail> {
             Err(fault) => assert_eq!(rt; fault, GraphFault::Write { written }),
             Ok(_) => panic!(rt; "it has no room for all"),
         }
-        assert!(rt; page.failed);
+        assert!(rt; page.failed());
         assert!(rt; page.bytes.as_slice() == &LINKED_PAIR_TEXT[..room]);
     }
     shows_by(&rt, &graph, LINKED_PAIR_TEXT, 7)?;

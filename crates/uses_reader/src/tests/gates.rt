@@ -2,12 +2,14 @@
 ghost use Rattle.std.specs.Prelude.{◌≡◌, ◌^◌, ◌-◌, ◌==◌, min, get_or, if◌then◌else◌};
 ghost use Rattle.jser_verdict.specs.Gates.{pass, rejected, unmatched};
 
-use crate::tests::pieces::LINKED_PAIR;
 use crate::tests::{answer_under, totals};
 use jser_reader::{Answer, Gate, OpenGate, Reader, Reason, Refusal, Stop, Totals};
 use std::alloc::AllocGlobal;
 use std::process::Abort;
 use std::test::Fail;
+use test_support::streams::{
+    ARRAY_LIST, ENUM_CONSTANT, EXTERNAL_OVER_SERIAL, INT_ARRAY, LINKED_PAIR, PROXY, RESET_EPOCHS,
+};
 
 /// Limits, each at most its cap, and the first letters of the names that are rejected, and that no pattern matches.
 #[derive(Clone, Copy, Drop)]
@@ -77,12 +79,6 @@ impl Gate for Limited {
 
     ghost within = { λ _. Prim.search rules };
 }
-
-const INT_ARRAY: &[u8] =
-    b"\xAC\xED\x00\x05\x75\x72\x00\x02\x5B\x49\x4D\xBA\x60\x26\x76\xEA\xB2\xA5\x02\x00\x00\x78\x70\x00\x00\x00\x02\x00\x00\x00\x01\xFF\xFF\xFF\xFF";
-
-const ARRAY_LIST: &[u8] =
-    b"\xAC\xED\x00\x05\x73\x72\x00\x13java.util.ArrayList\x78\x81\xD2\x1D\x99\xC7\x61\x9D\x03\x00\x01\x49\x00\x04size\x78\x70\x00\x00\x00\x01\x77\x04\x00\x00\x00\x01\x74\x00\x01\x61\x78";
 
 /// The bytes are refused for this reason under this gate, in pieces of one byte, of three, and whole.
 fn assert_refused(
@@ -161,7 +157,7 @@ fn enum_constant_rejected(rt: HostRuntime) -> Result<(), Fail> {
     assert_refused(
         &rt,
         rejects(b'E'),
-        b"\xAC\xED\x00\x05\x7E\x72\x00\x01\x45\x00\x00\x00\x00\x00\x00\x00\x00\x12\x00\x00\x78\x72\x00\x0Ejava.lang.Enum\x00\x00\x00\x00\x00\x00\x00\x00\x12\x00\x00\x78\x70\x74\x00\x01\x41",
+        ENUM_CONSTANT,
         Reason::ClassRejected,
         6,
         9,
@@ -171,14 +167,7 @@ fn enum_constant_rejected(rt: HostRuntime) -> Result<(), Fail> {
 
 #[test]
 fn interface_rejected(rt: HostRuntime) -> Result<(), Fail> {
-    assert_refused(
-        &rt,
-        rejects(b'I'),
-        b"\xAC\xED\x00\x05\x73\x7D\x00\x00\x00\x01\x00\x01\x49\x78\x72\x00\x17\x6A\x61\x76\x61\x2E\x6C\x61\x6E\x67\x2E\x72\x65\x66\x6C\x65\x63\x74\x2E\x50\x72\x6F\x78\x79\xE1\x27\xDA\x20\xCC\x10\x43\xCB\x02\x00\x01\x4C\x00\x01\x68\x74\x00\x25\x4C\x6A\x61\x76\x61\x2F\x6C\x61\x6E\x67\x2F\x72\x65\x66\x6C\x65\x63\x74\x2F\x49\x6E\x76\x6F\x63\x61\x74\x69\x6F\x6E\x48\x61\x6E\x64\x6C\x65\x72\x3B\x78\x70\x70",
-        Reason::ClassRejected,
-        10,
-        13,
-    )?;
+    assert_refused(&rt, rejects(b'I'), PROXY, Reason::ClassRejected, 10, 13)?;
     Ok(())
 }
 
@@ -187,7 +176,7 @@ fn gate_rejects_b(rt: HostRuntime) -> Result<(), Fail> {
     assert_refused(
         &rt,
         rejects(b'B'),
-        b"\xAC\xED\x00\x05\x73\x72\x00\x01\x41\x00\x00\x00\x00\x00\x00\x00\x01\x0C\x00\x00\x78\x72\x00\x01\x42\x00\x00\x00\x00\x00\x00\x00\x02\x02\x00\x01\x49\x00\x01\x6E\x78\x70\x77\x01\x05\x78",
+        EXTERNAL_OVER_SERIAL,
         Reason::ClassRejected,
         22,
         25,
@@ -254,12 +243,7 @@ fn handle_space(rt: HostRuntime) -> Result<(), Fail> {
 #[test]
 fn handle_space_enough(rt: HostRuntime) -> Result<(), Fail> {
     assert_accepted(&rt, handles(4), LINKED_PAIR, totals(69, 2, 5, 3, 4))?;
-    assert_accepted(
-        &rt,
-        handles(1),
-        b"\xAC\xED\x00\x05\x74\x00\x01\x61\x79\x74\x00\x01\x62\x71\x00\x7E\x00\x00",
-        totals(18, 4, 3, 1, 2),
-    )?;
+    assert_accepted(&rt, handles(1), RESET_EPOCHS, totals(18, 4, 3, 1, 2))?;
     Ok(())
 }
 

@@ -1,11 +1,11 @@
 //! To be run with each allocation refused in turn: a reader answers the right counts, or out of memory and then, to
 //! each call, that it is spent.
 
-use crate::tests::pieces::LINKED_PAIR;
 use crate::tests::totals;
-use jser_reader::{OpenGate, Reader, Stop};
+use jser_reader::{OpenGate, Reader, Step, Stop};
 use std::alloc::AllocGlobal;
 use std::process::Abort;
+use test_support::streams::LINKED_PAIR;
 
 /// Reads the stream in pieces of this size; whether there was memory.
 fn reads(rt: &(impl Abort + AllocGlobal), size: usize) -> bool {
@@ -28,5 +28,21 @@ fn right_or_out_of_memory(rt: HostRuntime) {
         if !reads(&rt, size) {
             let _ = println!(rt; "refused");
         }
+    }
+}
+
+/// An array of 0x7FFFFFFF ints, up to its length.
+const INT_ARRAY_FRONT: &[u8] =
+    b"\xAC\xED\x00\x05\x75\x72\x00\x02[I\x4D\xBA\x60\x26\x76\xEA\xB2\xA5\x02\x00\x00\x78\x70\x7F\xFF\xFF\xFF";
+
+#[test]
+fn raw_without_memory(rt: HostRuntime) {
+    let mut reader = Reader::new(rt.alloc(), OpenGate);
+    if reader.skip(INT_ARRAY_FRONT).is_err() {
+        let _ = println!(rt; "refused");
+        return;
+    }
+    for _ in 0..100 {
+        assert!(rt; matches!(reader.next(&[0x55]), Ok(Step::Item { used: 1, .. })));
     }
 }

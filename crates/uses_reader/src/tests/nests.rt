@@ -2,20 +2,8 @@
 
 use crate::tests::{answer_of, totals};
 use jser_reader::{OpenGate, Reader, Reason, Refusal, Stop};
-use std::alloc::{AllocError, Global};
 use std::test::Fail;
-
-/// So many arrays of the class `[LA;`, one inside the other.
-fn nest(alloc: Global, arrays: usize) -> Result<Vec<u8>, AllocError> {
-    let front =
-        b"\xAC\xED\x00\x05\x75\x72\x00\x04\x5B\x4C\x41\x3B\x00\x00\x00\x00\x00\x00\x00\x01\x02\x00\x00\x78\x70\x00\x00\x00\x01";
-    let mut bytes = front.to_vec(alloc)?;
-    for _ in 1..arrays {
-        bytes.extend_from_slice(b"\x75\x71\x00\x7E\x00\x00\x00\x00\x00\x01")?;
-    }
-    bytes.push(0x70)?;
-    Ok(bytes)
-}
+use test_support::streams::nest;
 
 #[test]
 fn nest_999(rt: HostRuntime) -> Result<(), Fail> {

@@ -3,10 +3,15 @@
 use crate::tests::{assert_accepted, assert_refused, totals, with_zeros};
 use jser_reader::Reason;
 use std::test::Fail;
+use test_support::streams::{
+    ABC_NULL_REF, ARRAY_LIST, BLOCKS, EMPTY_STREAM, ENUM_CONSTANT, EXTERNAL_OVER_SERIAL,
+    EXTERNAL_RAW, INT_ARRAY, INT_ARRAY_EMPTY, LINKED_PAIR, LONG_STRING, ODD_TEXTS, OWN_SUPERCLASS,
+    PROXY, RESET_EPOCHS, SUPERCLASS_FIRST,
+};
 
 #[test]
 fn empty_stream(rt: HostRuntime) -> Result<(), Fail> {
-    assert_accepted(&rt, b"\xAC\xED\x00\x05", totals(4, 0, 0, 0, 0))?;
+    assert_accepted(&rt, EMPTY_STREAM, totals(4, 0, 0, 0, 0))?;
     assert_refused(&rt, b"", Reason::Truncated, 0, 0)?;
     assert_refused(&rt, b"\xAC", Reason::Truncated, 0, 1)?;
     assert_refused(&rt, b"\x00", Reason::BadHeader, 0, 1)?;
@@ -16,21 +21,13 @@ fn empty_stream(rt: HostRuntime) -> Result<(), Fail> {
 
 #[test]
 fn abc_null_ref(rt: HostRuntime) -> Result<(), Fail> {
-    assert_accepted(
-        &rt,
-        b"\xAC\xED\x00\x05\x74\x00\x03\x61\x62\x63\x70\x71\x00\x7E\x00\x00",
-        totals(16, 3, 3, 1, 1),
-    )?;
+    assert_accepted(&rt, ABC_NULL_REF, totals(16, 3, 3, 1, 1))?;
     Ok(())
 }
 
 #[test]
 fn linked_pair(rt: HostRuntime) -> Result<(), Fail> {
-    assert_accepted(
-        &rt,
-        b"\xAC\xED\x00\x05\x73\x72\x00\x04\x4C\x69\x73\x74\x69\xC8\x8A\x15\x40\x16\xAE\x68\x02\x00\x02\x49\x00\x05\x76\x61\x6C\x75\x65\x4C\x00\x04\x6E\x65\x78\x74\x74\x00\x06\x4C\x4C\x69\x73\x74\x3B\x78\x70\x00\x00\x00\x11\x73\x71\x00\x7E\x00\x00\x00\x00\x00\x13\x70\x71\x00\x7E\x00\x03",
-        totals(69, 2, 5, 3, 4),
-    )?;
+    assert_accepted(&rt, LINKED_PAIR, totals(69, 2, 5, 3, 4))?;
     assert_refused(
         &rt,
         b"\xAC\xED\x00\x05\x73\x72\x00\x04\x4C\x69\x73\x74\x69\xC8\x8A\x15\x40\x16\xAE\x68\x02\x00\x02\x49\x00\x05\x76\x61\x6C\x75\x65\x4C\x00\x04\x6E\x65\x78\x74\x74\x00\x06\x4C\x4C\x69\x73\x74\x3B\x78\x70\x00\x00\x00\x11\x73\x71\x00\x7E\x00\x00\x00\x00\x00\x13\x70\x71\x00\x7E\x00\x03\x78",
@@ -43,16 +40,8 @@ fn linked_pair(rt: HostRuntime) -> Result<(), Fail> {
 
 #[test]
 fn int_array(rt: HostRuntime) -> Result<(), Fail> {
-    assert_accepted(
-        &rt,
-        b"\xAC\xED\x00\x05\x75\x72\x00\x02\x5B\x49\x4D\xBA\x60\x26\x76\xEA\xB2\xA5\x02\x00\x00\x78\x70\x00\x00\x00\x02\x00\x00\x00\x01\xFF\xFF\xFF\xFF",
-        totals(35, 1, 2, 2, 2),
-    )?;
-    assert_accepted(
-        &rt,
-        b"\xAC\xED\x00\x05\x75\x72\x00\x02\x5B\x49\x4D\xBA\x60\x26\x76\xEA\xB2\xA5\x02\x00\x00\x78\x70\x00\x00\x00\x00",
-        totals(27, 1, 2, 2, 2),
-    )?;
+    assert_accepted(&rt, INT_ARRAY, totals(35, 1, 2, 2, 2))?;
+    assert_accepted(&rt, INT_ARRAY_EMPTY, totals(27, 1, 2, 2, 2))?;
     assert_refused(
         &rt,
         b"\xAC\xED\x00\x05\x75\x72\x00\x02\x5B\x49\x4D\xBA\x60\x26\x76\xEA\xB2\xA5\x02\x00\x00\x78\x70\x7F\xFF\xFF\xFF",
@@ -65,31 +54,19 @@ fn int_array(rt: HostRuntime) -> Result<(), Fail> {
 
 #[test]
 fn enum_constant(rt: HostRuntime) -> Result<(), Fail> {
-    assert_accepted(
-        &rt,
-        b"\xAC\xED\x00\x05\x7E\x72\x00\x01\x45\x00\x00\x00\x00\x00\x00\x00\x00\x12\x00\x00\x78\x72\x00\x0E\x6A\x61\x76\x61\x2E\x6C\x61\x6E\x67\x2E\x45\x6E\x75\x6D\x00\x00\x00\x00\x00\x00\x00\x00\x12\x00\x00\x78\x70\x74\x00\x01\x41",
-        totals(55, 1, 3, 3, 4),
-    )?;
+    assert_accepted(&rt, ENUM_CONSTANT, totals(55, 1, 3, 3, 4))?;
     Ok(())
 }
 
 #[test]
 fn proxy(rt: HostRuntime) -> Result<(), Fail> {
-    assert_accepted(
-        &rt,
-        b"\xAC\xED\x00\x05\x73\x7D\x00\x00\x00\x01\x00\x01\x49\x78\x72\x00\x17\x6A\x61\x76\x61\x2E\x6C\x61\x6E\x67\x2E\x72\x65\x66\x6C\x65\x63\x74\x2E\x50\x72\x6F\x78\x79\xE1\x27\xDA\x20\xCC\x10\x43\xCB\x02\x00\x01\x4C\x00\x01\x68\x74\x00\x25\x4C\x6A\x61\x76\x61\x2F\x6C\x61\x6E\x67\x2F\x72\x65\x66\x6C\x65\x63\x74\x2F\x49\x6E\x76\x6F\x63\x61\x74\x69\x6F\x6E\x48\x61\x6E\x64\x6C\x65\x72\x3B\x78\x70\x70",
-        totals(98, 1, 4, 3, 4),
-    )?;
+    assert_accepted(&rt, PROXY, totals(98, 1, 4, 3, 4))?;
     Ok(())
 }
 
 #[test]
 fn reset_epochs(rt: HostRuntime) -> Result<(), Fail> {
-    assert_accepted(
-        &rt,
-        b"\xAC\xED\x00\x05\x74\x00\x01\x61\x79\x74\x00\x01\x62\x71\x00\x7E\x00\x00",
-        totals(18, 4, 3, 1, 2),
-    )?;
+    assert_accepted(&rt, RESET_EPOCHS, totals(18, 4, 3, 1, 2))?;
     assert_refused(
         &rt,
         b"\xAC\xED\x00\x05\x74\x00\x01\x61\x79\x74\x00\x01\x62\x71\x00\x7E\x00\x01",
@@ -128,11 +105,7 @@ fn own_superclass(rt: HostRuntime) -> Result<(), Fail> {
         21,
         25,
     )?;
-    assert_accepted(
-        &rt,
-        b"\xAC\xED\x00\x05\x72\x00\x01\x41\x00\x00\x00\x00\x00\x00\x00\x01\x02\x00\x00\x71\x00\x7E\x00\x00\x78\x70",
-        totals(26, 1, 3, 2, 1),
-    )?;
+    assert_accepted(&rt, OWN_SUPERCLASS, totals(26, 1, 3, 2, 1))?;
     Ok(())
 }
 
@@ -145,11 +118,7 @@ fn external_raw(rt: HostRuntime) -> Result<(), Fail> {
         17,
         18,
     )?;
-    assert_accepted(
-        &rt,
-        b"\xAC\xED\x00\x05\x76\x72\x00\x01\x41\x00\x00\x00\x00\x00\x00\x00\x01\x04\x00\x00\x78\x70",
-        totals(22, 1, 2, 2, 2),
-    )?;
+    assert_accepted(&rt, EXTERNAL_RAW, totals(22, 1, 2, 2, 2))?;
     assert_refused(
         &rt,
         b"\xAC\xED\x00\x05\x73\x72\x00\x01\x41\x00\x00\x00\x00\x00\x00\x00\x01\x00\x00\x00\x78\x70",
@@ -175,11 +144,7 @@ fn exception_and_inner_reset(rt: HostRuntime) -> Result<(), Fail> {
 
 #[test]
 fn external_over_serial(rt: HostRuntime) -> Result<(), Fail> {
-    assert_accepted(
-        &rt,
-        b"\xAC\xED\x00\x05\x73\x72\x00\x01\x41\x00\x00\x00\x00\x00\x00\x00\x01\x0C\x00\x00\x78\x72\x00\x01\x42\x00\x00\x00\x00\x00\x00\x00\x02\x02\x00\x01\x49\x00\x01\x6E\x78\x70\x77\x01\x05\x78",
-        totals(46, 1, 3, 3, 3),
-    )?;
+    assert_accepted(&rt, EXTERNAL_OVER_SERIAL, totals(46, 1, 3, 3, 3))?;
     Ok(())
 }
 
@@ -192,17 +157,13 @@ fn odd_texts(rt: HostRuntime) -> Result<(), Fail> {
         5,
         8,
     )?;
-    assert_accepted(
-        &rt,
-        b"\xAC\xED\x00\x05\x74\x00\x03\xED\xA0\x80",
-        totals(10, 1, 1, 1, 1),
-    )?;
+    assert_accepted(&rt, ODD_TEXTS, totals(10, 1, 1, 1, 1))?;
     Ok(())
 }
 
 #[test]
 fn blocks(rt: HostRuntime) -> Result<(), Fail> {
-    assert_accepted(&rt, b"\xAC\xED\x00\x05\x77\x00", totals(6, 1, 0, 0, 0))?;
+    assert_accepted(&rt, BLOCKS, totals(6, 1, 0, 0, 0))?;
     let bytes = with_zeros(rt.alloc(), b"\xAC\xED\x00\x05\x77\xFF", 255)?;
     assert_accepted(&rt, &bytes, totals(261, 1, 0, 0, 0))?;
     let bytes = with_zeros(rt.alloc(), b"\xAC\xED\x00\x05\x7A\x00\x00\x01", 257)?;
@@ -226,21 +187,13 @@ fn blocks(rt: HostRuntime) -> Result<(), Fail> {
 
 #[test]
 fn array_list(rt: HostRuntime) -> Result<(), Fail> {
-    assert_accepted(
-        &rt,
-        b"\xAC\xED\x00\x05\x73\x72\x00\x13\x6A\x61\x76\x61\x2E\x75\x74\x69\x6C\x2E\x41\x72\x72\x61\x79\x4C\x69\x73\x74\x78\x81\xD2\x1D\x99\xC7\x61\x9D\x03\x00\x01\x49\x00\x04\x73\x69\x7A\x65\x78\x70\x00\x00\x00\x01\x77\x04\x00\x00\x00\x01\x74\x00\x01\x61\x78",
-        totals(62, 1, 3, 2, 3),
-    )?;
+    assert_accepted(&rt, ARRAY_LIST, totals(62, 1, 3, 2, 3))?;
     Ok(())
 }
 
 #[test]
 fn superclass_first(rt: HostRuntime) -> Result<(), Fail> {
-    assert_accepted(
-        &rt,
-        b"\xAC\xED\x00\x05\x73\x72\x00\x01\x42\x00\x00\x00\x00\x00\x00\x00\x02\x02\x00\x01\x49\x00\x01\x69\x78\x72\x00\x01\x41\x00\x00\x00\x00\x00\x00\x00\x01\x03\x00\x01\x42\x00\x01\x62\x78\x70\x07\x78\x00\x00\x00\x09",
-        totals(52, 1, 3, 3, 3),
-    )?;
+    assert_accepted(&rt, SUPERCLASS_FIRST, totals(52, 1, 3, 3, 3))?;
     Ok(())
 }
 
@@ -307,11 +260,7 @@ fn descriptor_faults(rt: HostRuntime) -> Result<(), Fail> {
 
 #[test]
 fn long_string(rt: HostRuntime) -> Result<(), Fail> {
-    assert_accepted(
-        &rt,
-        b"\xAC\xED\x00\x05\x7C\x00\x00\x00\x00\x00\x00\x00\x01\x61",
-        totals(14, 1, 1, 1, 1),
-    )?;
+    assert_accepted(&rt, LONG_STRING, totals(14, 1, 1, 1, 1))?;
     assert_refused(
         &rt,
         b"\xAC\xED\x00\x05\x7C\xFF\xFF\xFF\xFF\xFF\xFF\xFF\xFF",

@@ -2,12 +2,13 @@
 //! written as the same bytes.
 
 use crate::tests::maker::Maker;
-use crate::tests::{Page, contents_of, writes};
+use crate::tests::{contents_of, writes};
 use jser_trees::{Contents, OpenGate, Stop, read_all};
 use jser_value::encode;
 use std::alloc::AllocGlobal;
 use std::process::Abort;
 use std::test::Fail;
+use test_support::Page;
 
 /// How many lists are made.
 const LISTS: u64 = 60;
@@ -30,10 +31,7 @@ fn comes_back(rt: &(impl Abort + AllocGlobal), seed: u64) -> Result<(), Fail> {
         Ok(contents) => contents,
         Err(_) => panic!(rt; "list {seed} does not obey the format"),
     };
-    let mut page = Page {
-        bytes: Vec::new(rt.alloc()),
-        failed: false,
-    };
+    let mut page = Page::new(rt.alloc(), usize::MAX, usize::MAX);
     let _ = encode(&contents, &mut page)?;
     let again = contents_of(rt, &page.bytes);
     assert!(rt; again.list() == contents.list(), "list {seed}");

@@ -1,5 +1,0 @@
-use Rattle.std.proofs.Common.{length}
-use Rattle.bench_reader.proofs.next_all.Given as goal
-
-abbrev pub decreases-items : goal.decreases-items
-decreases-items l = length l.rest

@@ -1,5 +1,0 @@
-//! Tests of what no clause says.
-
-mod contents;
-mod encode;
-mod trees;

@@ -1,0 +1,138 @@
+//! Streams that are cut after each byte, and streams with one byte replaced.
+
+use crate::tests::{
+    ABC_NULL_REF, ARRAY_LIST, ENUM_CONSTANT, INT_ARRAY, LAX, LINKED_PAIR, PROXY, RESET_EPOCHS,
+    answer_in_pieces, assert_answer, refused, report, stream,
+};
+use jser_check::{CheckFault, Reason, Refusal, Report, Stop, check_bytes};
+use jser_filter::Filter;
+use std::alloc::AllocGlobal;
+use std::process::Abort;
+use std::test::Fail;
+
+/// The answer is yes, or Truncated at so many bytes.
+fn is_cut_at(answer: Result<Report, Stop>, cut: usize) -> bool {
+    match answer {
+        Ok(counts) => counts.bytes == cut as u64,
+        Err(Stop::Refused(refusal)) => {
+            refusal.reason == Reason::Truncated && refusal.to_byte == cut as u64
+        }
+        Err(_) => false,
+    }
+}
+
+#[test]
+fn cuts(rt: HostRuntime) -> Result<(), Fail> {
+    let filter = Filter::parse(rt.alloc(), "")?;
+    for text in [
+        ABC_NULL_REF,
+        LINKED_PAIR,
+        INT_ARRAY,
+        ENUM_CONSTANT,
+        PROXY,
+        RESET_EPOCHS,
+        ARRAY_LIST,
+    ] {
+        let bytes = stream(rt.alloc(), text)?;
+        for cut in 0..bytes.len() {
+            let (front, _) = bytes.as_slice().split_at(cut);
+            let answer = check_bytes(rt.alloc(), front, &filter, LAX);
+            assert!(rt; is_cut_at(answer, cut), "cut after {cut} bytes");
+            assert_answer(&rt, front, &filter, LAX, answer);
+        }
+    }
+    Ok(())
+}
+
+/// Where the linked pair may end, and where its fields are cut.
+#[test]
+fn linked_pair_cuts(rt: HostRuntime) -> Result<(), Fail> {
+    let bytes = stream(rt.alloc(), LINKED_PAIR)?;
+    let filter = Filter::parse(rt.alloc(), "")?;
+    for (cut, answer) in [
+        (3, Err(refused(Reason::Truncated, 0, 3))),
+        (4, Ok(report(4, 0, 0, 0, 0))),
+        (10, Err(refused(Reason::Truncated, 6, 10))),
+        (64, Ok(report(64, 1, 4, 3, 4))),
+        (65, Err(refused(Reason::Truncated, 65, 65))),
+        (68, Err(refused(Reason::Truncated, 65, 68))),
+    ] {
+        let (front, _) = bytes.as_slice().split_at(bytes.len().min(cut));
+        assert_answer(&rt, front, &filter, LAX, answer);
+    }
+    Ok(())
+}
+
+/// The bytes before the deciding one are no refusal but Truncated, and the bytes after it change nothing.
+fn assert_decided(
+    rt: &(impl Abort + AllocGlobal),
+    filter: &Filter,
+    bytes: &[u8],
+    refusal: Refusal,
+) -> Result<(), Fail> {
+    let end = bytes.len().min(refusal.to_byte as usize);
+    let (front, _) = bytes.split_at(end.saturating_sub(1));
+    let answer = check_bytes(rt.alloc(), front, filter, LAX);
+    assert!(rt; is_cut_at(answer, front.len()));
+    let (decided, _) = bytes.split_at(end);
+    let mut other = decided.to_vec(rt.alloc())?;
+    for tail in [0x00, 0x70, 0xFF] {
+        other.push(tail)?;
+        let answer = check_bytes(rt.alloc(), &other, filter, LAX);
+        assert_eq!(rt; answer, Err(Stop::Refused(refusal)));
+    }
+    Ok(())
+}
+
+/// The checks of a slice, and of a source by one byte and by three, agree on the bytes, and a refusal is decided where it
+/// says.
+fn assert_agree(
+    rt: &(impl Abort + AllocGlobal),
+    filter: &Filter,
+    bytes: &[u8],
+) -> Result<(), Fail> {
+    let answer = check_bytes(rt.alloc(), bytes, filter, LAX);
+    for size in [1, 3] {
+        let pieced = answer_in_pieces(rt.alloc(), bytes, size, filter, LAX);
+        assert_eq!(rt; pieced, answer.map_err(CheckFault::Stop));
+    }
+    match answer {
+        Err(Stop::Refused(refusal)) if refusal.reason != Reason::Truncated => {
+            assert_decided(rt, filter, bytes, refusal)
+        }
+        Err(Stop::Refused(_)) | Ok(_) => Ok(()),
+        Err(_) => {
+            assert!(rt; false, "out of memory");
+            Ok(())
+        }
+    }
+}
+
+/// The byte at this place of the stream, replaced by each byte.
+fn assert_replaced(
+    rt: &(impl Abort + AllocGlobal),
+    filter: &Filter,
+    bytes: &[u8],
+    at: usize,
+) -> Result<(), Fail> {
+    let mut replaced = bytes.to_vec(rt.alloc())?;
+    for other in 0..=u8::MAX {
+        if let Some(byte) = replaced.get_mut(at) {
+            *byte = other;
+        }
+        assert_agree(rt, filter, &replaced)?;
+    }
+    Ok(())
+}
+
+#[test]
+fn replaced_bytes(rt: HostRuntime) -> Result<(), Fail> {
+    let filter = Filter::parse(rt.alloc(), "")?;
+    for text in [LINKED_PAIR, ENUM_CONSTANT, ARRAY_LIST] {
+        let bytes = stream(rt.alloc(), text)?;
+        for at in 0..bytes.len() {
+            assert_replaced(&rt, &filter, &bytes, at)?;
+        }
+    }
+    Ok(())
+}

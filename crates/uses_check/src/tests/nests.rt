@@ -1,0 +1,51 @@
+//! Arrays inside arrays, as deep as the cap allows and one deeper.
+
+use crate::tests::{LAX, answer_in_pieces, refused, report, stream};
+use jser_check::{CheckFault, Reason, Report, Stop, check_bytes};
+use jser_filter::Filter;
+use std::alloc::{AllocError, AllocGlobal, Global};
+use std::process::Abort;
+use std::test::Fail;
+
+/// So many arrays of the class `[LA;`, one inside the other.
+fn nest(alloc: Global, arrays: usize) -> Result<Vec<u8>, AllocError> {
+    let head = "ACED0005 75 72 0004 \"[LA;\" 0000000000000001 02 0000 78 70 00000001";
+    let mut bytes = stream(alloc, head)?;
+    for _ in 1..arrays {
+        bytes.extend_from_slice(b"\x75\x71\x00\x7E\x00\x00\x00\x00\x00\x01")?;
+    }
+    bytes.push(0x70)?;
+    Ok(bytes)
+}
+
+/// Both checks answer this to so many arrays.
+fn assert_nest(
+    rt: &(impl Abort + AllocGlobal),
+    arrays: usize,
+    answer: Result<Report, Stop>,
+) -> Result<(), Fail> {
+    let bytes = nest(rt.alloc(), arrays)?;
+    let filter = Filter::parse(rt.alloc(), "")?;
+    assert_eq!(rt; check_bytes(rt.alloc(), &bytes, &filter, LAX), answer);
+    let pieced = answer_in_pieces(rt.alloc(), &bytes, 4096, &filter, LAX);
+    assert_eq!(rt; pieced, answer.map_err(CheckFault::Stop));
+    Ok(())
+}
+
+#[test]
+fn nests(rt: HostRuntime) -> Result<(), Fail> {
+    assert_nest(&rt, 999, Ok(report(10_010, 1, 1001, 1000, 1000)))?;
+    assert_nest(&rt, 1000, Ok(report(10_020, 1, 1002, 1001, 1001)))
+}
+
+#[test]
+fn nest_as_deep_as_can_be(rt: HostRuntime) -> Result<(), Fail> {
+    let counts = report(655_360, 1, 65_536, 65_535, 65_535);
+    assert_nest(&rt, 65_534, Ok(counts))
+}
+
+#[test]
+fn nest_too_deep(rt: HostRuntime) -> Result<(), Fail> {
+    let deep = refused(Reason::DepthExceeded, 655_369, 655_370);
+    assert_nest(&rt, 65_535, Err(deep))
+}

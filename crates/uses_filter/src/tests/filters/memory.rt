@@ -1,0 +1,73 @@
+//! What is answered where memory runs out. `tools/refuse-allocations` runs these tests with each allocation
+//! refused in turn, and reads the lines that they print.
+use super::{fault_of, modules_fault_of};
+use jser_filter::{Filter, FilterCause, FilterFault, Modules, ModulesCause, ModulesFault};
+use std::test::Fail;
+
+/// One piece of each kind. All but the limit and the empty one allocate.
+const PIECES: &str = "a.B;c.*;d.**;e*;m/f.G;maxdepth=3;;!h.I";
+
+/// Of these lines the second is empty.
+const LINES: &str = "a=b\n\nc=d\ne=f";
+
+/// A refused allocation is reported at its piece or line, before the faulty one; otherwise the right fault is.
+#[test]
+fn out_of_memory_or_the_fault(rt: HostRuntime) {
+    let alloc = rt.alloc();
+    for (text, faulty) in [("a;b;max=1", 2), ("a;b;m/c.*;!d*;max=1", 4), ("max=1", 0)] {
+        match fault_of(alloc, text) {
+            Some(FilterFault { pattern, cause }) if cause == FilterCause::OutOfMemory => {
+                assert!(rt; pattern < faulty || pattern == 0, "{text}");
+            }
+            fault => {
+                let wanted = FilterFault {
+                    pattern: faulty,
+                    cause: FilterCause::UnknownLimit,
+                };
+                assert_eq!(rt; fault, Some(wanted), "{text}");
+            }
+        }
+    }
+    for (text, faulty) in [("a=b\na=c", 1), ("a=b\nc=d\n\ne=f\na=g", 4)] {
+        match modules_fault_of(alloc, text) {
+            Some(ModulesFault { line, cause }) if cause == ModulesCause::OutOfMemory => {
+                assert!(rt; line < faulty, "{text}");
+            }
+            fault => {
+                let wanted = ModulesFault {
+                    line: faulty,
+                    cause: ModulesCause::PackageTwice,
+                };
+                assert_eq!(rt; fault, Some(wanted), "{text}");
+            }
+        }
+    }
+}
+
+/// Prints the piece for which memory ran out.
+#[test]
+fn refused_piece(rt: HostRuntime) -> Result<(), Fail> {
+    match Filter::parse(rt.alloc(), PIECES) {
+        Ok(_) => eprintln!(rt; "every piece was read")?,
+        Err(fault) => {
+            assert_eq!(rt; fault.cause, FilterCause::OutOfMemory);
+            let piece = fault.pattern;
+            eprintln!(rt; "refused at piece {piece}")?;
+        }
+    }
+    Ok(())
+}
+
+/// Prints the line for which memory ran out.
+#[test]
+fn refused_line(rt: HostRuntime) -> Result<(), Fail> {
+    match Modules::parse(rt.alloc(), LINES) {
+        Ok(_) => eprintln!(rt; "every line was read")?,
+        Err(fault) => {
+            assert_eq!(rt; fault.cause, ModulesCause::OutOfMemory);
+            let line = fault.line;
+            eprintln!(rt; "refused at line {line}")?;
+        }
+    }
+    Ok(())
+}

@@ -1,0 +1,43 @@
+//! The example of the README of `jser_walk`.
+
+// README: jser_walk
+use jser_walk::{Field, Prompt, Walk};
+use std::alloc::AllocError;
+
+/// One step of a walk: past what is due, or else past a field, of which it says whether it is the name of a class.
+fn step(walk: &mut Walk<'_>, field: Field<'_>) -> Result<Option<bool>, AllocError> {
+    if walk.due().is_some() {
+        walk.pass()?;
+        return Ok(None);
+    }
+    let is_class_name = matches!(walk.prompt(), Prompt::ClassName);
+    walk.take(field)?;
+    Ok(Some(is_class_name))
+}
+// end
+
+use std::test::Fail;
+
+#[test]
+fn the_name_of_a_class(rt: HostRuntime) -> Result<(), Fail> {
+    let mut walk = Walk::new(rt.alloc(), &[]);
+    let name = [0x41];
+    let fields = [
+        (Field::Header, false),
+        (Field::Tag(0x72), false),
+        (Field::Text(&name), true),
+        (Field::Suid(0), false),
+    ];
+    for (field, want) in fields {
+        let mut found = None;
+        // nothing that is due here takes more steps
+        for _ in 0..9 {
+            if found.is_none() {
+                found = step(&mut walk, field)?;
+            }
+        }
+        assert_eq!(rt; found, Some(want));
+    }
+    assert_eq!(rt; walk.count(), 1);
+    Ok(())
+}

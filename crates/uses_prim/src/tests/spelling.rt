@@ -1,0 +1,58 @@
+//! The spelling of units and of texts.
+
+use jser_prim::{spell_unit, text_bytes, units_of};
+use std::test::Fail;
+
+#[test]
+fn spell_six_units(rt: HostRuntime) -> Result<(), Fail> {
+    let units = [0x0000, 0x007F, 0x0080, 0x07FF, 0x0800, 0xFFFF];
+    let bytes = text_bytes(rt.alloc(), &units)?;
+    let spelling = [
+        0xC0, 0x80, 0x7F, 0xC2, 0x80, 0xDF, 0xBF, 0xE0, 0xA0, 0x80, 0xEF, 0xBF, 0xBF,
+    ];
+    assert_eq!(rt; bytes.as_slice(), spelling.as_slice());
+    Ok(())
+}
+
+#[test]
+fn spell_each_form(rt: HostRuntime) {
+    let mut buffer = [0; 3];
+    for (unit, spelling) in [
+        (0x0000, &[0xC0, 0x80][..]),
+        (0x0061, &[0x61]),
+        (0x00E9, &[0xC3, 0xA9]),
+        (0x4E00, &[0xE4, 0xB8, 0x80]),
+        (0xD800, &[0xED, 0xA0, 0x80]),
+    ] {
+        assert_eq!(rt; spell_unit(unit, &mut buffer), spelling, "{unit:04x}");
+    }
+}
+
+#[test]
+fn units_of_two(rt: HostRuntime) -> Result<(), Fail> {
+    let units = units_of(rt.alloc(), "a\u{1F600}")?;
+    assert_eq!(rt; units.as_slice(), [0x0061, 0xD83D, 0xDE00].as_slice());
+    Ok(())
+}
+
+/// Where an allocation is refused, the answer is that memory ran out, and no other answer changes. (Where
+/// memory suffices this shows nothing beyond the tests above: run it with refused allocations.)
+#[test]
+fn refused_growth_changes_no_answer(rt: HostRuntime) -> Result<(), Fail> {
+    for text in ["", "a", "serial", "\u{0}\u{e9}\u{4e00}\u{1F600}"] {
+        let Ok(units) = units_of(rt.alloc(), text) else {
+            return Ok(());
+        };
+        let Ok(bytes) = text_bytes(rt.alloc(), &units) else {
+            return Ok(());
+        };
+        let spelling: &[u8] = match text {
+            "" => b"",
+            "a" => b"a",
+            "serial" => b"serial",
+            _ => b"\xC0\x80\xC3\xA9\xE4\xB8\x80\xED\xA0\xBD\xED\xB8\x80",
+        };
+        assert_eq!(rt; bytes.as_slice(), spelling, "{text:?}");
+    }
+    Ok(())
+}

@@ -1,0 +1,278 @@
+//! Sections of chains, long and short, closed in order and by turns, against a plain list of classes.
+ghost use Rattle.std.specs.Prelude.{◌≡◌, ◌<◌, ◌^◌, length};
+ghost use Rattle.std.specs.Option.{ForSome};
+ghost use Rattle.jser_table.specs.Sections.{HasSection, IsOn, layer_of, HoldsFor};
+
+use super::random::Random;
+use super::{make_layer, try_close};
+use jser_table::{BodyKind, Class, Fit, Kind, LayerKind, Purpose, SectionNumber, Sections, Table};
+use std::alloc::Global;
+use std::process::Abort;
+use std::test::Fail;
+
+/// A class: its superclass, its flags, and which of the lists of type codes below are its own.
+#[derive(Clone, Copy)]
+struct Plain {
+    parent: Option<usize>,
+    flags: u8,
+    fields: Fields,
+}
+
+/// Lists of type codes, with what the format says of them.
+#[derive(Clone, Copy, PartialEq, Eq)]
+enum Fields {
+    None,
+    Byte,
+    All,
+    Values,
+    /// In no stream, since objects come after raw values there.
+    Mixed,
+}
+
+impl Fields {
+    fn codes(self) -> &'static [u8]
+        ensures { length result.now < 2 ^ 15 }
+    {
+        match self {
+            Fields::None => b"",
+            Fields::Byte => b"B",
+            Fields::All => b"BCDFIJSZ[L",
+            Fields::Values => b"L[L",
+            Fields::Mixed => b"JLS",
+        }
+    }
+
+    /// The sizes of the raw values.
+    fn sizes(self) -> &'static [u8] {
+        match self {
+            Fields::None => &[],
+            Fields::Byte => &[1],
+            Fields::All => &[1, 2, 8, 4, 4, 8, 2, 1],
+            Fields::Values => &[],
+            Fields::Mixed => &[8, 2],
+        }
+    }
+
+    /// How many values there are.
+    fn values(self) -> u16 {
+        match self {
+            Fields::None => 0,
+            Fields::Byte => 0,
+            Fields::All => 2,
+            Fields::Values => 3,
+            Fields::Mixed => 1,
+        }
+    }
+}
+
+impl Plain {
+    fn is_filled(self) -> bool {
+        self.fields != Fields::None || self.flags & 0x01 != 0
+    }
+}
+
+/// Closes one more class, in the table and in the list.
+fn add(
+    rt: &impl Abort,
+    alloc: Global,
+    table: &mut Table,
+    classes: &mut Vec<Plain>,
+    class: Plain,
+) -> Result<(), Fail> {
+    let number = table.assign(Kind::Pending)?;
+    let layer = make_layer(alloc, LayerKind::Other, class.flags, class.fields.codes())?;
+    let parent = match class.parent {
+        None => None,
+        Some(parent) => Some(u32::try_from(parent)?),
+    };
+    assert!(rt; try_close(table, number, layer, parent));
+    classes.push(class)?;
+    Ok(())
+}
+
+/// The filled classes of the chain, the highest superclass first.
+fn filled_classes(alloc: Global, classes: &[Plain], number: usize) -> Result<Vec<Plain>, Fail> {
+    let mut filled = Vec::new(alloc);
+    let mut at = Some(number);
+    for _ in 0..classes.len() {
+        let Some(class) = at.and_then(|number| classes.get(number)) else {
+            break;
+        };
+        if class.is_filled() {
+            filled.push(*class)?;
+        }
+        at = class.parent;
+    }
+    filled.reverse();
+    Ok(filled)
+}
+
+/// Compares what the table tells of a section with the class whose it is.
+fn compare_section(rt: &impl Abort, table: &Table, number: SectionNumber, class: Plain)
+    requires { HasSection table.now.chains number }
+{
+    let section = table.section(number);
+    let sizes = class.fields.sizes();
+    assert_eq!(rt; section.prims as usize, sizes.len());
+    assert_eq!(rt; section.values, class.fields.values());
+    assert_eq!(rt; section.is_annotated, class.flags & 0x01 != 0);
+    let mut raw_bytes = 0u64;
+    for pos in 0..section.prims {
+        let size = table.prim_size(number, pos);
+        assert_eq!(rt; Some(&size), sizes.get(pos as usize));
+        raw_bytes = raw_bytes.wrapping_add(u64::from(size));
+    }
+    assert_eq!(rt; u64::from(section.raw_bytes), raw_bytes);
+}
+
+/// Compares the sections of an object of this class, from the first to the last.
+fn compare_sections(
+    rt: &impl Abort,
+    alloc: Global,
+    table: &Table,
+    classes: &[Plain],
+    number: usize,
+) -> Result<(), Fail> {
+    let filled = filled_classes(alloc, classes, number)?;
+    let Class::Closed(chain) = table.class_at(u32::try_from(number)?) else {
+        return Err("no closed class".into());
+    };
+    match table.sections(chain) {
+        Some(sections) => compare_each(rt, table, sections, &filled),
+        None => assert!(rt; filled.is_empty()),
+    }
+    Ok(())
+}
+
+/// Compares the sections with the filled classes, in order.
+fn compare_each(rt: &impl Abort, table: &Table, sections: Sections, filled: &[Plain])
+    requires { IsOn table.now.chains sections.last sections.first }
+{
+    let Sections { first, last } = sections;
+    let mut next = Some(first);
+    'sections: for class in filled {
+        assert!(rt; next.is_some());
+        if let Some(section) = next {
+            compare_section(rt, table, section, *class);
+            next = table.next_section(last, section);
+        }
+    }
+    assert!(rt; next.is_none());
+}
+
+/// A class with fields of random kinds, mostly few.
+fn random_class(random: &mut Random, parent: Option<usize>) -> Plain {
+    let fields = match random.below(8) {
+        0 => Fields::Byte,
+        1 => Fields::All,
+        2 => Fields::Values,
+        3 => Fields::Mixed,
+        _ => Fields::None,
+    };
+    let flags = if random.below(4) == 0 { 0x03 } else { 0x02 };
+    Plain {
+        parent,
+        flags,
+        fields,
+    }
+}
+
+/// A class with one byte.
+fn full_class(parent: Option<usize>) -> Plain {
+    Plain {
+        parent,
+        flags: 0x02,
+        fields: Fields::Byte,
+    }
+}
+
+#[test]
+fn sections_of_a_long_chain(rt: HostRuntime) -> Result<(), Fail> {
+    let mut table = Table::new(rt.alloc(), 100_000);
+    let mut classes = Vec::new(rt.alloc());
+    for number in 0..100_000usize {
+        add(
+            &rt,
+            rt.alloc(),
+            &mut table,
+            &mut classes,
+            full_class(number.checked_sub(1)),
+        )?;
+    }
+    for number in [0, 1, 50_000, 99_999] {
+        compare_sections(&rt, rt.alloc(), &table, &classes, number)?;
+    }
+    Ok(())
+}
+
+#[test]
+fn sections_of_chains_closed_by_turns(rt: HostRuntime) -> Result<(), Fail> {
+    let mut table = Table::new(rt.alloc(), 100_000);
+    let mut classes = Vec::new(rt.alloc());
+    for number in 0..100_000usize {
+        add(
+            &rt,
+            rt.alloc(),
+            &mut table,
+            &mut classes,
+            full_class(number.checked_sub(3)),
+        )?;
+    }
+    for number in [0, 2, 49_999, 99_998, 99_999] {
+        compare_sections(&rt, rt.alloc(), &table, &classes, number)?;
+    }
+    Ok(())
+}
+
+#[test]
+fn sections_of_random_chains(rt: HostRuntime) -> Result<(), Fail> {
+    let mut random = Random(23);
+    let mut table = Table::new(rt.alloc(), 1000);
+    for round in 0..300u32 {
+        let mut classes = Vec::new(rt.alloc());
+        for number in 0..(1 + random.below(60)) as usize {
+            let parent = match random.below(4) {
+                0 if number > 0 => Some(random.below(number as u64) as usize),
+                1 => None,
+                _ => number.checked_sub(1),
+            };
+            let class = random_class(&mut random, parent);
+            add(&rt, rt.alloc(), &mut table, &mut classes, class)?;
+        }
+        for number in 0..classes.len() {
+            compare_sections(&rt, rt.alloc(), &table, &classes, number)?;
+        }
+        table.reset();
+        assert_eq!(rt; table.count(), 0, "round {round}");
+    }
+    Ok(())
+}
+
+/// What a number names, as a class.
+#[test]
+fn class_at(rt: HostRuntime) -> Result<(), Fail> {
+    let mut table = Table::new(rt.alloc(), 9);
+    table.assign(Kind::Text)?;
+    table.assign(Kind::Other)?;
+    table.assign(Kind::Pending)?;
+    assert_eq!(rt; table.class_at(0), Class::NoClass);
+    assert_eq!(rt; table.class_at(1), Class::NoClass);
+    assert_eq!(rt; table.class_at(2), Class::Open);
+    assert_eq!(rt; table.class_at(3), Class::NotThere);
+    assert_eq!(rt; table.class_at(u32::MAX), Class::NotThere);
+    let layer = make_layer(
+        rt.alloc(),
+        LayerKind::Array(BodyKind::Prim(b'D')),
+        0x06,
+        &[],
+    )?;
+    assert!(rt; try_close(&mut table, 2, layer, None));
+    let Class::Closed(chain) = table.class_at(2) else {
+        return Err("no closed class".into());
+    };
+    assert_eq!(rt; table.chain_fit(chain, Purpose::Array), Fit::Fits);
+    assert_eq!(rt; table.element_size(chain), Some(8));
+    assert!(rt; table.is_external(chain));
+    assert!(rt; table.sections(chain).is_none());
+    Ok(())
+}

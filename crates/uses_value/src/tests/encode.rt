@@ -1,0 +1,115 @@
+//! What goes out of worked streams, to sinks that take all, take little, fail and take nothing.
+ghost use Rattle.std.specs.Prelude.{true};
+
+use super::contents::nest;
+use super::trees::{self, Build};
+use jser_prim::{Failed, Sink, ToWrite};
+use jser_value::{Content, Contents, EncodeFault, Value, encode};
+use std::alloc::Global;
+use std::io::{self, Write};
+use std::process::Abort;
+use std::test::Fail;
+use test_support::Page;
+
+/// Takes so many bytes, and then none.
+#[derive(Drop)]
+struct Stuck {
+    room: usize,
+}
+
+impl Write for Stuck {
+    fn write(&mut self, bytes: &[u8]) -> io::Result<usize> {
+        let count = self.room.min(bytes.len());
+        self.room -= count;
+        Ok(count)
+    }
+
+    fn flush(&mut self) -> io::Result<()> {
+        Ok(())
+    }
+}
+
+/// The contents of a worked stream.
+fn contents_of(alloc: Global, list: Build) -> Result<Contents, Fail> {
+    match Contents::new(alloc, list?) {
+        Ok(contents) => Ok(contents),
+        Err(fault) => Err(Fail::from(fault.cause)),
+    }
+}
+
+/// The stream of these contents is these bytes, however the sink takes them.
+fn writes(rt: &(impl Abort + AllocGlobal), list: Build, bytes: &[u8]) -> Result<(), Fail> {
+    let contents = contents_of(rt.alloc(), list)?;
+    for most in [1, 1000] {
+        let mut page = Page::new(rt.alloc(), most, 10_000);
+        let count = encode(&contents, &mut page)?;
+        assert!(rt; page.bytes.as_slice() == bytes);
+        assert_eq!(rt; count, bytes.len() as u64);
+    }
+    Ok(())
+}
+
+#[test]
+fn worked_streams(rt: HostRuntime) -> Result<(), Fail> {
+    let alloc = rt.alloc();
+    writes(&rt, Ok(Vec::new(alloc)), b"\xAC\xED\x00\x05")?;
+    writes(&rt, trees::abc_null_ref(alloc), trees::ABC_NULL_REF)?;
+    writes(&rt, trees::linked_pair(alloc), trees::LINKED_PAIR)?;
+    writes(&rt, trees::int_array(alloc), trees::INT_ARRAY)?;
+    writes(&rt, trees::enum_constant(alloc), trees::ENUM_CONSTANT)?;
+    writes(&rt, trees::proxy(alloc), trees::PROXY)?;
+    writes(&rt, trees::reset_epochs(alloc), trees::RESET_EPOCHS)?;
+    writes(
+        &rt,
+        trees::external_over_serial(alloc),
+        trees::EXTERNAL_OVER_SERIAL,
+    )?;
+    writes(&rt, trees::array_list(alloc), trees::ARRAY_LIST)?;
+    writes(&rt, trees::superclass_first(alloc), trees::SUPERCLASS_FIRST)
+}
+
+/// Arrays within arrays, as deep as trees may be.
+#[test]
+fn tree_nest_999(rt: HostRuntime) -> Result<(), Fail> {
+    let contents = contents_of(rt.alloc(), nest(rt.alloc(), 999, Value::Null))?;
+    let mut page = Page::new(rt.alloc(), 4096, 20_000);
+    assert_eq!(rt; encode(&contents, &mut page)?, 10_010);
+    assert_eq!(rt; page.bytes.len(), 10_010);
+    Ok(())
+}
+
+/// A writer that fails, or takes no more, behind any number of bytes: just these went out.
+#[test]
+fn write_fails_anywhere(rt: HostRuntime) -> Result<(), Fail> {
+    let contents = contents_of(rt.alloc(), trees::linked_pair(rt.alloc()))?;
+    for written in 0..69 {
+        let fault = Err(EncodeFault::Write {
+            written: written as u64,
+        });
+        let mut page = Page::new(rt.alloc(), 7, written);
+        assert!(rt; encode(&contents, &mut page) == fault, "after {written}");
+        let (front, _) = trees::LINKED_PAIR.split_at(written);
+        assert!(rt; page.bytes.as_slice() == front);
+        let mut stuck = ToWrite::new(Stuck { room: written });
+        assert!(rt; encode(&contents, &mut stuck) == fault, "after {written}");
+    }
+    Ok(())
+}
+
+/// Small parts go out together, and a long block as it is.
+#[test]
+fn sensible_pieces(rt: HostRuntime) -> Result<(), Fail> {
+    let contents = contents_of(rt.alloc(), trees::linked_pair(rt.alloc()))?;
+    let mut page = Page::new(rt.alloc(), 1000, 1000);
+    encode(&contents, &mut page)?;
+    assert_eq!(rt; page.calls, 1);
+    let block = Content::Block {
+        long: true,
+        bytes: vec![in rt.alloc(); 7u8; 5000]?,
+    };
+    let contents = contents_of(rt.alloc(), Ok(vec![in rt.alloc(); block]?))?;
+    let mut page = Page::new(rt.alloc(), 10_000, 10_000);
+    assert_eq!(rt; encode(&contents, &mut page)?, 5009);
+    assert_eq!(rt; page.calls, 2);
+    Ok(())
+}
