@@ -49,3 +49,4 @@ pub mod ItemStands
 pub mod ItemCalls
 pub mod ItemLaws
 pub mod SkipMemory
+pub mod PassLemmas
