@@ -193,11 +193,17 @@ quiet_place phase.TextTag r s cut field q h = of_state s _ field h.0.2 refl
 quiet_place phase.BackHandle r s cut field q h = of_state s _ field h.0 refl
 quiet_place phase.ClassHandle r s cut field q h = of_state s _ field h.0 refl
 quiet_place phase.TextHandle r s cut field q h = of_state s _ field h.0.2 refl
+quiet_place phase.Length8 r s cut field q h = of_state s _ field h.0.2 (quiet_text r r.text true (text_rest r r.text) field)
+quiet_place phase.Suid r s cut field q h = of_state s _ field h.0 refl
+quiet_place phase.Flags r s cut field q h = of_state s _ field h.0.1 refl
+quiet_place phase.FieldCount r s cut field q h = of_state s _ field h.0.1 refl
 quiet_place phase.TypeCode r s cut field q h = of_state s _ field h.0.2 (quiet_fields r r.header.fields field)
 quiet_place phase.Length2 r s cut field q h = of_state s _ field h.0.1 (quiet_text r r.text false (text_rest r r.text) field)
 quiet_place phase.Text r s cut field q h = of_state s _ field h.is (quiet_text r r.text h.long (text_rest r r.text) field)
 quiet_place phase.ArrayLength r s cut field q h = of_state s _ field h.0.is refl
 quiet_place phase.BlockLength1 r s cut field q h = of_state s _ field h.0 refl
+quiet_place phase.InterfaceCount r s cut field q h = of_state s _ field h.0.1 refl
+quiet_place phase.BlockLength4 r s cut field q h = of_state s _ field h.0 refl
 quiet_place phase.Prims r s cut field q h = of_state s _ field h.is refl
 quiet_place phase.Bytes r s cut field q h = of_state s _ field h.is refl
 quiet_place _ r s cut field q h = absurd q
@@ -490,3 +496,7 @@ pub then_halts : (gate : Gate) (piece rest : List ℕ) (used : ℕ) (old mid new
     → Passes gate rest None mid between new after → rest ≡ drop used piece → Passes gate piece None old before new after
 then_halts gate piece rest used old mid new before between after h g e =
     pass_halts gate piece rest used old mid new before between after h g (split_there piece rest used e)
+
+-- such a machine has not stopped
+pub quiet_goes_on : (r : Seen) → IsQuiet r.phase → r.phase ≡ phase.Stopped → ⊥
+quiet_goes_on r q e = subst IsQuiet e q

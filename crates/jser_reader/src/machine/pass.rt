@@ -182,6 +182,18 @@ impl Machine {
         Some(used)
     }
 
+    /// Takes bytes of the field that is open, whichever it is, where no count changes with it.
+    #[inline(always)]
+    fn pass_quiet<G: Gate>(&mut self, gate: &G, piece: &[u8]) -> Option<usize>
+        requires can { CanPass self.old piece.now }
+        requires some { 0 < length piece.now }
+        requires quiet { IsQuiet self.old.phase }
+        ensures passes { (tally : Tally) → Passes (G.told gate.now) piece.now result self.old tally self.new tally }
+        ensures progress { HasPassed piece.now result }
+    {
+        self.take(gate, piece).passed(piece.len())
+    }
+
     /// Takes some of the front of a piece that is not empty: a field or several, or all of the piece; None where the
     /// machine has stopped within it.
     #[tactic(auto, using(crate::proofs::PassLemmas::pass_stopped))]
@@ -205,7 +217,12 @@ impl Machine {
         match self.phase {
             Phase::Value | Phase::Top | Phase::Note => self.pass_value(gate, tally, piece),
             Phase::Prims => self.pass_prims(piece),
-            _ => self.pass_field(gate, tally, piece),
+            _ => {
+                if self.phase.is_quiet() {
+                    return self.pass_quiet(gate, piece);
+                }
+                self.pass_field(gate, tally, piece)
+            }
         }
     }
 }

@@ -191,6 +191,23 @@ impl Machine {
         }
     }
 
+    /// Takes a tag alone.
+    #[inline(never)]
+    fn pass_tag_alone<G: Gate>(
+        &mut self,
+        gate: &G,
+        tally: &mut Tally,
+        piece: &[u8],
+    ) -> Option<usize>
+        requires can { CanPass self.old piece.now }
+        requires some { 0 < length piece.now }
+        requires one { IsOne self.old.phase }
+        ensures passes { Passes (G.told gate.now) piece.now result self.old tally.old self.new tally.new }
+        ensures progress { HasPassed piece.now result }
+    {
+        self.pass_tag(gate, tally, piece)
+    }
+
     /// Takes the tag of a content or a value, and where it is a common one what comes after it.
     #[inline(always)]
     pub(super) fn pass_value<G: Gate>(
@@ -210,7 +227,7 @@ impl Machine {
             TC_STRING => self.pass_string(gate, tally, piece),
             TC_OBJECT | TC_ARRAY | TC_ENUM => self.pass_owner(gate, tally, piece),
             TC_BLOCKDATA => self.pass_block(gate, tally, piece),
-            _ => self.pass_field(gate, tally, piece),
+            _ => self.pass_tag_alone(gate, tally, piece),
         }
     }
 }
