@@ -41,7 +41,7 @@ both_more true false n = refl
 both_more false true n = refl
 both_more false false n = refl
 
-count_one_more : (test : Position → StreamField → Bool) (fields : List Piece) (l : Label) (f : StreamField)
+pub count_one_more : (test : Position → StreamField → Bool) (fields : List Piece) (l : Label) (f : StreamField)
     → count_of test (fields ++ (piece l f ∷ [])) ≡ one_more_if (test l.position f) (count_of test fields)
 count_one_more test [] l f = refl
 count_one_more test (piece k g ∷ fields) l f =

@@ -100,7 +100,7 @@ field_ended gate given front n old new before after fields cut h w le hb t same 
     (subst (λ b. FieldEnds gate fields (label_of (settled (left begin_state fields))) (b ++ take n given) new (tally_after (mark_of old) (mark_of new) before)) h.cut_is
     (subst (λ g. FieldEnds gate g (label_of (settled (left begin_state g))) (st.cut ++ take n given) new (tally_after (mark_of old) (mark_of new) before)) h.fields_are own))
 
-field_open : (gate : Gate) (given front : List ℕ) (n : ℕ) (old new : Seen) (tally : Tally) (fields : List Piece) (cut : List ℕ)
+pub field_open : (gate : Gate) (given front : List ℕ) (n : ℕ) (old new : Seen) (tally : Tally) (fields : List Piece) (cut : List ℕ)
     → StandsIn gate fields cut old tally → IsWithin old given front → n ≤ length front → IsBytes given → Keeps gate (take n front) old new
     → StandsIn gate fields (cut ++ take n given) new tally
 unfolding Keeps kept_stands kept_counts

@@ -50,3 +50,4 @@ pub mod ItemStands
 pub mod ItemCalls
 pub mod ItemLaws
 pub mod SkipMemory
+pub mod PassLemmas

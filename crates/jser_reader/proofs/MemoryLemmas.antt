@@ -34,7 +34,7 @@ use Rattle.jser_reader.proofs.ReaderLemmas.{front_of_front, field_goes_on, take_
 -- ---- the field that is open
 
 -- the machine stands where these fields lead
-stands_in : (gate : Gate) (front : List Piece) (cut : List ℕ) (r : Seen) (tally : Tally) → StandsIn gate front cut r tally
+pub stands_in : (gate : Gate) (front : List Piece) (cut : List ℕ) (r : Seen) (tally : Tally) → StandsIn gate front cut r tally
     → Stands gate r (settled (left begin_state front)) cut
 stands_in gate front cut r tally h =
     subst (λ fs. Stands gate r (settled (left begin_state fs)) cut) h.fields_are
@@ -77,7 +77,7 @@ same_size (block_length_at false) a b f n = refl
 same_size _ a b f n = refl
 
 -- not before the end of a field that is no checked name
-not_inside : (w : Position) (cut piece : List ℕ) (n : ℕ) → n ≤ length piece → (IsCheckedName w → ⊥) → EndsInside w (cut ++ piece)
+pub not_inside : (w : Position) (cut piece : List ℕ) (n : ℕ) → n ≤ length piece → (IsCheckedName w → ⊥) → EndsInside w (cut ++ piece)
     → MayRunOut w (cut ++ take n piece) → ⊥
 not_inside w cut piece n le other short (inl checked) = other checked
 not_inside w cut piece n le other short (inr k) =

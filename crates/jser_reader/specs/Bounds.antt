@@ -35,10 +35,3 @@ unfoldable pub SkipMemoryFree : Gate → (piece : List ℕ) → Result (Unit {0}
 SkipMemoryFree gate piece result r tally =
     (front : List Piece) (cut : List ℕ) (label : Label) → StandsIn gate front cut r tally → ComesNext front label
     → (IsCheckedName label.position → ⊥) → EndsInside label.position (cut ++ piece) → result ≢ Err stop.OutOfMemory
-
--- within such a piece, of which the rest is still to be taken, the same field is open
-pub record StaysInside (gate : Gate) (piece rest : List ℕ) (start : Seen) (before : Tally) (now : Seen) (tally : Tally) : Type 0 where
-  pub taken : List ℕ
-  pub split : piece ≡ taken ++ rest
-  pub stands : (front : List Piece) (cut : List ℕ) (label : Label) → StandsIn gate front cut start before → ComesNext front label
-      → EndsInside label.position (cut ++ piece) → StandsIn gate front (cut ++ taken) now tally

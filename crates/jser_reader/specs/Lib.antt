@@ -21,6 +21,7 @@ pub mod Numbers
 pub mod Descriptors
 pub mod FieldLists
 pub mod ReaderStates
+pub mod Passes
 pub mod Bounds
 pub mod States
 pub mod Streams

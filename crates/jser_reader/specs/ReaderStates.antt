@@ -70,13 +70,6 @@ unfoldable pub SkipTells : Gate → (piece : List ℕ) → Result (Unit {0}) Sto
 SkipTells gate piece result old before new after =
     (bytes : List ℕ) → StandsFor gate bytes old before → SkipCases gate bytes piece result new after
 
--- within a piece, of which the rest is still to be taken
-pub record SkipsOn (gate : Gate) (piece rest : List ℕ) (start : Seen) (before : Tally) (now : Seen) (tally : Tally) : Type 0 where
-  pub taken : List ℕ
-  pub split : piece ≡ taken ++ rest
-  pub stands : (bytes : List ℕ) → StandsFor gate bytes start before → StandsFor gate (bytes ++ taken) now tally
-  pub goes_on : start.phase ≡ phase.Stopped → ⊥
-
 -- A reader that has refused bytes, or is spent, answers that again, and nothing changes.
 unfoldable pub StaysStopped : {A : Type 0} → Result A Stop → (old new : Seen) → Type 0
 StaysStopped result old new =

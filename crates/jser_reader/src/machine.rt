@@ -23,6 +23,8 @@ mod names;
 mod numbers;
 mod owners;
 mod parts;
+mod pass;
+mod pass_values;
 mod states;
 mod superclasses;
 mod supers;

@@ -1,5 +1,6 @@
 //! The field that comes next or is being read.
-ghost use Rattle.std.specs.Prelude.{◌≡◌};
+ghost use Rattle.std.specs.Prelude.{◌≡◌, true};
+ghost use Rattle.jser_reader.specs.Passes.{IsQuiet};
 ghost use Rattle.jser_reader.specs.Walks.{size_of_phase};
 
 /// What a text is, which decides what comes after it.
@@ -90,5 +91,32 @@ impl Phase {
             Phase::Length8 | Phase::Suid => 8,
             Phase::Text | Phase::Prims | Phase::Bytes | Phase::Cut | Phase::Stopped => 0,
         }
+    }
+
+    /// Whether no count changes with the field: it is not at the top, and no place begins there.
+    #[inline(always)]
+    pub(crate) fn is_quiet(self) -> bool
+        ensures { result ≡ true → IsQuiet self }
+    {
+        matches!(
+            self,
+            Phase::ClassTag
+                | Phase::TextTag
+                | Phase::BackHandle
+                | Phase::ClassHandle
+                | Phase::TextHandle
+                | Phase::Length2
+                | Phase::Length8
+                | Phase::Text
+                | Phase::Suid
+                | Phase::Flags
+                | Phase::FieldCount
+                | Phase::TypeCode
+                | Phase::InterfaceCount
+                | Phase::ArrayLength
+                | Phase::BlockLength1
+                | Phase::BlockLength4
+                | Phase::Bytes
+        )
     }
 }

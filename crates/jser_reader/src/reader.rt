@@ -147,15 +147,12 @@ impl<G: Gate> Reader<G> {
         if self.machine.is_stopped() {
             return Err(self.machine.answer());
         }
-        let mut rest = piece;
-        'items: while !rest.is_empty() {
-            match self.next(rest) {
-                Err(stop) => return Err(stop),
-                Ok(Step::More) => return Ok(()),
-                Ok(Step::Item { used, .. }) => {
-                    let (_, others) = rest.split_at(used);
-                    rest = others;
-                }
+        let mut used = 0;
+        'steps: while used < piece.len() {
+            let (_, rest) = piece.split_at(used);
+            match self.machine.pass(&self.gate, &mut self.tally, rest) {
+                None => return Err(self.machine.answer()),
+                Some(more) => used += more,
             }
         }
         Ok(())

@@ -4,6 +4,7 @@ ghost use Rattle.jser_reader.specs.Handlers.{StopsWith, refusal};
 ghost use Rattle.jser_reader.specs.Walks.{IsNew};
 ghost use Rattle.jser_reader.specs.Tallies.{totals_of};
 ghost use Rattle.jser_reader.specs.Tallies.{mark_of};
+ghost use Rattle.jser_reader.specs.Passes.{CanPass};
 ghost use Rattle.jser_reader.specs.States.{HasLimits, AnswersStop, IsWithin, exceeded};
 
 use crate::cut::Cut;
@@ -85,6 +86,22 @@ impl Machine {
         let room = self.limits.bytes.saturating_sub(self.at);
         let (front, _) = piece.split_at(room.min(piece.len() as u64) as usize);
         front
+    }
+
+    /// Whether all of the piece is within the limit of bytes.
+    #[inline(always)]
+    pub(crate) fn has_room(&self, piece: &[u8]) -> bool
+        ensures { result ≡ true → CanPass self.now piece.now }
+    {
+        piece.len() as u64 <= self.limits.bytes.saturating_sub(self.at)
+    }
+
+    /// The field that comes next, or `Cut` within a number that was cut, or `Stopped`.
+    #[inline(always)]
+    pub(crate) fn phase(&self) -> Phase
+        ensures { result ≡ self.now.phase }
+    {
+        self.phase
     }
 
     /// One byte more than the limit has come.

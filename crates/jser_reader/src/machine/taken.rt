@@ -1,5 +1,6 @@
 //! What came of the bytes of a piece.
 ghost use Rattle.std.specs.Prelude.{◌≡◌};
+ghost use Rattle.jser_reader.specs.Passes.{passed_of};
 ghost use Rattle.jser_reader.specs.Takes.{taken_by};
 
 /// What came of the bytes of a piece that a field was handed.
@@ -26,5 +27,17 @@ impl Taken {
             return Taken::Ended(count);
         }
         Taken::Stopped(count)
+    }
+
+    /// How much was taken of a piece of this length; None where the machine has stopped.
+    #[inline(always)]
+    pub(crate) fn passed(self, len: usize) -> Option<usize>
+        ensures { result ≡ passed_of self len }
+    {
+        match self {
+            Taken::Ended(count) | Taken::Part(count) => Some(count),
+            Taken::Open => Some(len),
+            Taken::Stopped(_) => None,
+        }
     }
 }

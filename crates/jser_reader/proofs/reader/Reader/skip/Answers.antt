@@ -1,11 +1,10 @@
-use Rattle.std.proofs.Common.{rules, refl, subst, ◌∙◌}
+use Rattle.std.proofs.Common.{rules, arith, refl, sym, ap, subst, Some, None}
 use Rattle.jser_reader.specs.States.{AnswersStop}
-use Rattle.jser_reader.specs.ReaderStates.{NextTells}
+use Rattle.jser_reader.specs.Passes.{Passes}
 use Rattle.jser_reader.proofs.NextLemmas.{no_bytes, stays_stopped, not_stopped}
-use Rattle.jser_reader.specs.ItemsTold.{TellsItems}
-use Rattle.jser_reader.specs.Bounds.{MemoryFree}
-use Rattle.jser_reader.proofs.SkipMemory.{inside_begins, inside_goes_on, inside_stops, inside_ok, inside_stopped}
-use Rattle.jser_reader.proofs.SkipLemmas.{skip_begins, skip_goes_on, skip_takes, skip_ends, skip_stops, stopped_skips}
+use Rattle.jser_reader.proofs.SkipMemory.{inside_ok, inside_stopped}
+use Rattle.jser_reader.proofs.SkipLemmas.{stopped_skips}
+use Rattle.jser_reader.proofs.PassLemmas.{pass_none, then_passes, then_halts, passes_skip, halts_skip, halts_memory}
 use Rattle.jser_reader.proofs.reader.Reader.skip.Goals as goal
 
 pub returns-then-is_stopped-clause-tells : goal.returns-then-is_stopped-clause-tells
@@ -15,61 +14,58 @@ pub returns-then-is_stopped-clause-stays : goal.returns-then-is_stopped-clause-s
 returns-then-is_stopped-clause-stays g c =
     stays_stopped _ c.answer.result _ _ (search rules) (subst (λ r. AnswersStop c.answer.result r.machine c.answer.new.self) c.self.view_is c.answer.ensures)
 
-pub items-init : goal.items-init
-items-init g c = (refl, skip_begins _ c.args.piece.now _ _ (search rules), inside_begins _ c.args.piece.now _ _)
-
-pub returns-in-Err-clause-tells : goal.returns-in-Err-clause-tells
-returns-in-Err-clause-tells g c =
-    skip_stops _ c.args.piece.now c.items.rest.now _ c.in-Err.stop _ _ _ _ _ _ c.items.invariant.1
-    (subst (λ x. NextTells (g.G.Gate.told x) c.items.rest.now c.next.result c.items.self.machine c.items.self.tally c.next.new.self.machine c.next.new.self.tally) c.items.invariant.0 c.next.ensures.tells)
-    c.in-Err.is
-
-pub returns-in-Err-clause-stays : goal.returns-in-Err-clause-stays
-returns-in-Err-clause-stays g c = not_stopped _ _ _ c.items.invariant.1.goes_on
-
-pub returns-in-Err-clause-gate : goal.returns-in-Err-clause-gate
-returns-in-Err-clause-gate g c = c.next.ensures.gate ∙ c.items.invariant.0
-
-pub returns-in-Ok-More-clause-tells : goal.returns-in-Ok-More-clause-tells
-returns-in-Ok-More-clause-tells g c =
-    skip_takes _ c.args.piece.now c.items.rest.now _ _ _ _ _ _ _ c.items.invariant.1
-    (subst (λ x. NextTells (g.G.Gate.told x) c.items.rest.now c.next.result c.items.self.machine c.items.self.tally c.next.new.self.machine c.next.new.self.tally) c.items.invariant.0 c.next.ensures.tells)
-    (search rules)
-
-pub returns-in-Ok-More-clause-stays : goal.returns-in-Ok-More-clause-stays
-returns-in-Ok-More-clause-stays g c = not_stopped _ _ _ c.items.invariant.1.goes_on
-
-pub returns-in-Ok-More-clause-gate : goal.returns-in-Ok-More-clause-gate
-returns-in-Ok-More-clause-gate g c = c.next.ensures.gate ∙ c.items.invariant.0
-
-pub items-preserved : goal.items-preserved
-items-preserved g c = (
-  c.next.ensures.gate ∙ c.items.invariant.0,
-  skip_goes_on _ c.args.piece.now c.items.rest.now _ _ c.in-Ok-Item.field-0-0 c.in-Ok-Item.used _ _ _ _ _ _ c.items.invariant.1
-      (subst (λ x. NextTells (g.G.Gate.told x) c.items.rest.now c.next.result c.items.self.machine c.items.self.tally c.next.new.self.machine c.next.new.self.tally) c.items.invariant.0 c.next.ensures.tells)
-      (search rules) (search rules),
-  inside_goes_on _ c.args.piece.now c.items.rest.now _ _ c.in-Ok-Item.field-0-0 c.in-Ok-Item.used _ _ _ _ _ _ c.items.invariant.2
-      (subst (λ x. TellsItems (g.G.Gate.told x) c.items.rest.now c.next.result c.items.self.machine c.items.self.tally c.next.new.self.machine c.next.new.self.tally) c.items.invariant.0 c.next.ensures.items)
-      (search rules) (search rules),
-)
-
-pub returns-clause-tells : goal.returns-clause-tells
-returns-clause-tells g c = skip_ends _ c.args.piece.now _ _ _ _ _ c.items.invariant.1 (search rules)
-
-pub returns-clause-stays : goal.returns-clause-stays
-returns-clause-stays g c = not_stopped _ _ _ c.items.invariant.1.goes_on
-
 pub returns-then-is_stopped-clause-memory : goal.returns-then-is_stopped-clause-memory
 returns-then-is_stopped-clause-memory g c = inside_stopped c.answer.result c.args.piece.now _ _ _ (search rules)
 
-pub returns-in-Err-clause-memory : goal.returns-in-Err-clause-memory
-returns-in-Err-clause-memory g c =
-    inside_stops _ c.args.piece.now c.items.rest.now _ c.in-Err.stop _ _ _ _ c.items.invariant.2
-    (subst (λ x. MemoryFree (g.G.Gate.told x) c.items.rest.now c.next.result c.items.self.machine c.items.self.tally) c.items.invariant.0 c.next.ensures.memory)
-    c.in-Err.is
+pub steps-init : goal.steps-init
+steps-init g c = record {
+  gate = ap (λ r. r.gate) c.self.view_is;
+  within = omega arith;
+  passes =
+      subst (λ r. Passes (g.G.Gate.told c.args.self.now.gate) c.args.piece.now (Some 0) c.args.self.now.machine c.args.self.now.tally r.machine r.tally) (sym c.self.view_is)
+      (pass_none _ c.args.piece.now _ _);
+  goes_on = search rules;
+}
 
-pub returns-in-Ok-More-clause-memory : goal.returns-in-Ok-More-clause-memory
-returns-in-Ok-More-clause-memory g c = inside_ok _ tt c.args.piece.now _ _ _ refl
+pub returns-in-None-clause-tells : goal.returns-in-None-clause-tells
+returns-in-None-clause-tells g c =
+    halts_skip _ c.args.piece.now c.answer-in-None.result _ _ _ _ _ _
+    (then_halts _ c.args.piece.now c.split_at.result.1.now c.steps.used _ _ _ _ _ _ c.steps.invariant.passes
+    (subst (λ x. Passes (g.G.Gate.told x) c.split_at.result.1.now None c.steps.self-inside.machine c.steps.self-inside.tally c.pass.new.self c.pass.new.tally) c.steps.invariant.gate c.in-None.ensures.passes)
+    c.split_at.ensures.back)
+    c.answer-in-None.ensures
+
+pub returns-in-None-clause-memory : goal.returns-in-None-clause-memory
+returns-in-None-clause-memory g c =
+    halts_memory _ c.args.piece.now c.answer-in-None.result _ _ _ _ _
+    (then_halts _ c.args.piece.now c.split_at.result.1.now c.steps.used _ _ _ _ _ _ c.steps.invariant.passes
+    (subst (λ x. Passes (g.G.Gate.told x) c.split_at.result.1.now None c.steps.self-inside.machine c.steps.self-inside.tally c.pass.new.self c.pass.new.tally) c.steps.invariant.gate c.in-None.ensures.passes)
+    c.split_at.ensures.back)
+    c.answer-in-None.ensures
+
+pub returns-in-None-clause-stays : goal.returns-in-None-clause-stays
+returns-in-None-clause-stays g c = not_stopped _ _ _ c.steps.invariant.goes_on
+
+pub steps-preserved : goal.steps-preserved
+steps-preserved g c =
+    let le = c.in-Some.ensures.progress.1 in
+    let left = c.split_at.ensures.back_len in
+    let before = c.steps.invariant.within in
+    record {
+      gate = c.steps.invariant.gate;
+      within = omega arith;
+      passes =
+          then_passes _ c.args.piece.now c.split_at.result.1.now c.steps.used c.in-Some.more _ _ _ _ _ _ c.steps.invariant.passes
+          (subst (λ x. Passes (g.G.Gate.told x) c.split_at.result.1.now (Some c.in-Some.more) c.steps.self-inside.machine c.steps.self-inside.tally c.pass.new.self c.pass.new.tally) c.steps.invariant.gate c.in-Some.ensures.passes)
+          c.split_at.ensures.back;
+      goes_on = c.steps.invariant.goes_on;
+    }
+
+pub returns-clause-tells : goal.returns-clause-tells
+returns-clause-tells g c = passes_skip _ c.args.piece.now c.steps.used _ _ _ _ c.steps.invariant.passes (let out = c.steps-test.false in omega arith)
 
 pub returns-clause-memory : goal.returns-clause-memory
 returns-clause-memory g c = inside_ok _ tt c.args.piece.now _ _ _ refl
+
+pub returns-clause-stays : goal.returns-clause-stays
+returns-clause-stays g c = not_stopped _ _ _ c.steps.invariant.goes_on

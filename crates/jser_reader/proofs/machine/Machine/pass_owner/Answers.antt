@@ -1,0 +1,10 @@
+use Rattle.jser_reader.proofs.PassLemmas.{then_passes, then_halts}
+use Rattle.jser_reader.proofs.machine.Machine.pass_owner.Goals as goal
+
+pub returns-in-None-pass_class-clause-passes : goal.returns-in-None-pass_class-clause-passes
+returns-in-None-pass_class-clause-passes g c =
+    then_halts _ c.args.piece.now _ c.in-Some.tag _ _ _ _ _ _ c.in-Some.ensures.passes (c.in-None-pass_class.ensures.passes _ _) c.split_at.ensures.back
+
+pub returns-in-Some-pass_class-clause-passes : goal.returns-in-Some-pass_class-clause-passes
+returns-in-Some-pass_class-clause-passes g c =
+    then_passes _ c.args.piece.now _ c.in-Some.tag _ _ _ _ _ _ _ c.in-Some.ensures.passes (c.in-Some-pass_class.ensures.passes _ _) c.split_at.ensures.back

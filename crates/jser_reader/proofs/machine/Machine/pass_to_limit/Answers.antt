@@ -1,0 +1,15 @@
+use Rattle.std.proofs.Common.{rules, arith}
+use Rattle.jser_reader.proofs.ReaderLemmas.{all_bytes}
+use Rattle.jser_reader.proofs.PassLemmas.{front_can_pass, passes_front, passes_full}
+use Rattle.jser_reader.proofs.machine.Machine.pass_to_limit.Goals as goal
+
+pub pass_field-requires-clause-can : goal.pass_field-requires-clause-can
+pass_field-requires-clause-can g c =
+    front_can_pass c.args.piece.now c.within-front.result.now _ c.within-front.ensures (all_bytes c.within-front.result.now (λ k. omega (arith, c.type_inv.front k)))
+
+pub returns-then-is_empty-clause-passes : goal.returns-then-is_empty-clause-passes
+returns-then-is_empty-clause-passes g c =
+    passes_full c.exceed.result c.args.piece.now c.within-front.result.now _ _ _ _ _ c.within-front.ensures (all_bytes c.args.piece.now (λ k. omega (arith, c.type_inv.piece k))) (search rules) (search rules) c.exceed.ensures (search rules)
+
+pub returns-clause-passes : goal.returns-clause-passes
+returns-clause-passes g c = passes_front _ c.args.piece.now c.within-front.result.now _ _ _ _ _ c.pass_field.ensures.passes c.within-front.ensures

@@ -1,0 +1,228 @@
+//! Steps of a call that takes a whole piece: what comes next is taken from the front of the piece, and nothing is lent.
+//! For the common values several fields are taken in one step, without a look at all the others.
+ghost use Rattle.std.specs.Prelude.{◌≡◌, ◌<◌, length};
+ghost use Rattle.jser_reader.specs.Cuts.{IsFour};
+ghost use Rattle.jser_reader.specs.Passes.{Passes, HasPassed, CanPass, IsQuiet};
+ghost use Rattle.jser_reader.specs.Takes.{IsOne};
+ghost use Rattle.jser_verdict.specs.Gates.{Gate as ToldGate};
+
+use crate::gate::Gate;
+use crate::machine::Machine;
+use crate::machine::taken::Taken;
+use crate::phase::Phase;
+use crate::tally::Tally;
+
+impl Machine {
+    /// Takes bytes of the field that is open, whichever it is.
+    #[inline(never)]
+    pub(super) fn pass_field<G: Gate>(
+        &mut self,
+        gate: &G,
+        tally: &mut Tally,
+        piece: &[u8],
+    ) -> Option<usize>
+        requires can { CanPass self.old piece.now }
+        requires some { 0 < length piece.now }
+        requires goes_on { self.old.phase ≡ Phase.Stopped → ⊥ }
+        ensures passes { Passes (G.told gate.now) piece.now result self.old tally.old self.new tally.new }
+        ensures progress { HasPassed piece.now result }
+    {
+        let before = self.mark();
+        match self.take(gate, piece) {
+            Taken::Ended(used) => {
+                tally.count(before, self.mark());
+                Some(used)
+            }
+            Taken::Part(used) => Some(used),
+            Taken::Stopped(_) => None,
+            Taken::Open => Some(piece.len()),
+        }
+    }
+
+    /// Takes some of a piece that reaches over the limit of bytes.
+    #[inline(never)]
+    fn pass_to_limit<G: Gate>(&mut self, gate: &G, tally: &mut Tally, piece: &[u8]) -> Option<usize>
+        requires some { 0 < length piece.now }
+        requires goes_on { self.old.phase ≡ Phase.Stopped → ⊥ }
+        ensures passes { Passes (G.told gate.now) piece.now result self.old tally.old self.new tally.new }
+        ensures progress { HasPassed piece.now result }
+    {
+        let front = self.within(piece);
+        if front.is_empty() {
+            let _ = self.exceed();
+            return None;
+        }
+        self.pass_field(gate, tally, front)
+    }
+
+    /// Takes a tag, which comes next.
+    #[inline(always)]
+    pub(super) fn pass_tag<G: Gate>(
+        &mut self,
+        gate: &G,
+        tally: &mut Tally,
+        piece: &[u8],
+    ) -> Option<usize>
+        requires can { CanPass self.old piece.now }
+        requires some { 0 < length piece.now }
+        requires one { IsOne self.old.phase }
+        ensures passes { Passes (G.told gate.now) piece.now result self.old tally.old self.new tally.new }
+        ensures progress { HasPassed piece.now result }
+    {
+        let _ = gate;
+        let start = self.mark();
+        match self.take_one(piece) {
+            Taken::Ended(used) => {
+                tally.count(start, self.mark());
+                Some(used)
+            }
+            Taken::Part(used) => Some(used),
+            Taken::Stopped(_) => None,
+            Taken::Open => Some(piece.len()),
+        }
+    }
+
+    /// Takes a field of one byte, which comes next and changes no count.
+    #[inline(always)]
+    pub(super) fn pass_one(&mut self, piece: &[u8]) -> Option<usize>
+        requires can { CanPass self.old piece.now }
+        requires some { 0 < length piece.now }
+        requires one { IsOne self.old.phase }
+        requires quiet { IsQuiet self.old.phase }
+        ensures passes { (gate : ToldGate) (tally : Tally) → Passes gate piece.now result self.old tally self.new tally }
+        ensures progress { HasPassed piece.now result }
+    {
+        self.take_one(piece).passed(piece.len())
+    }
+
+    /// Takes bytes of a number of four bytes, which comes next and changes no count.
+    #[inline(always)]
+    pub(super) fn pass_four(&mut self, piece: &[u8]) -> Option<usize>
+        requires can { CanPass self.old piece.now }
+        requires some { 0 < length piece.now }
+        requires four { IsFour self.old.phase }
+        requires quiet { IsQuiet self.old.phase }
+        ensures passes { (gate : ToldGate) (tally : Tally) → Passes gate piece.now result self.old tally self.new tally }
+        ensures progress { HasPassed piece.now result }
+    {
+        self.take_four(piece).passed(piece.len())
+    }
+
+    /// Takes bytes of the length of a text, in two bytes, which comes next.
+    #[inline(always)]
+    pub(super) fn pass_length<G: Gate>(&mut self, gate: &G, piece: &[u8]) -> Option<usize>
+        requires can { CanPass self.old piece.now }
+        requires some { 0 < length piece.now }
+        requires phase { self.old.phase ≡ Phase.Length2 }
+        ensures passes { (tally : Tally) → Passes (G.told gate.now) piece.now result self.old tally self.new tally }
+        ensures progress { HasPassed piece.now result }
+    {
+        self.take_short_length(gate, piece).passed(piece.len())
+    }
+
+    /// Takes bytes of the text that is open.
+    #[inline(always)]
+    pub(super) fn pass_text<G: Gate>(&mut self, gate: &G, piece: &[u8]) -> Option<usize>
+        requires can { CanPass self.old piece.now }
+        requires some { 0 < length piece.now }
+        requires phase { self.old.phase ≡ Phase.Text }
+        ensures passes { (tally : Tally) → Passes (G.told gate.now) piece.now result self.old tally self.new tally }
+        ensures progress { HasPassed piece.now result }
+    {
+        self.take_text(gate, piece).passed(piece.len())
+    }
+
+    /// Takes bytes of the block that is open.
+    #[inline(always)]
+    pub(super) fn pass_bytes(&mut self, piece: &[u8]) -> Option<usize>
+        requires can { CanPass self.old piece.now }
+        requires some { 0 < length piece.now }
+        requires phase { self.old.phase ≡ Phase.Bytes }
+        ensures passes { (gate : ToldGate) (tally : Tally) → Passes gate piece.now result self.old tally self.new tally }
+        ensures progress { HasPassed piece.now result }
+    {
+        self.take_block(piece).passed(piece.len())
+    }
+
+    /// Takes bytes of raw values, as long as others come after them.
+    #[inline(always)]
+    fn pass_prim(&mut self, piece: &[u8]) -> Option<usize>
+        requires can { CanPass self.old piece.now }
+        requires some { 0 < length piece.now }
+        requires phase { self.old.phase ≡ Phase.Prims }
+        ensures passes { (gate : ToldGate) (tally : Tally) → Passes gate piece.now result self.old tally self.new tally }
+        ensures progress { HasPassed piece.now result }
+    {
+        self.take_prims(piece).passed(piece.len())
+    }
+
+    /// Takes raw values, those that come after them in the same section, and those of further sections.
+    #[inline(never)]
+    fn pass_prims(&mut self, piece: &[u8]) -> Option<usize>
+        requires can { CanPass self.old piece.now }
+        requires some { 0 < length piece.now }
+        requires phase { self.old.phase ≡ Phase.Prims }
+        ensures passes { (gate : ToldGate) (tally : Tally) → Passes gate piece.now result self.old tally self.new tally }
+        ensures progress { HasPassed piece.now result }
+    {
+        let mut used = match self.pass_prim(piece) {
+            None => return None,
+            Some(first) => first,
+        };
+        'values: while used < piece.len() {
+            let (_, rest) = piece.split_at(used);
+            if self.phase != Phase::Prims || !self.has_room(rest) {
+                return Some(used);
+            }
+            match self.pass_prim(rest) {
+                None => return None,
+                Some(more) => used += more,
+            }
+        }
+        Some(used)
+    }
+
+    /// Takes bytes of the field that is open, whichever it is, where no count changes with it.
+    #[inline(always)]
+    fn pass_quiet<G: Gate>(&mut self, gate: &G, piece: &[u8]) -> Option<usize>
+        requires can { CanPass self.old piece.now }
+        requires some { 0 < length piece.now }
+        requires quiet { IsQuiet self.old.phase }
+        ensures passes { (tally : Tally) → Passes (G.told gate.now) piece.now result self.old tally self.new tally }
+        ensures progress { HasPassed piece.now result }
+    {
+        self.take(gate, piece).passed(piece.len())
+    }
+
+    /// Takes some of the front of a piece that is not empty: a field or several, or all of the piece; None where the
+    /// machine has stopped within it.
+    #[tactic(auto, using(crate::proofs::PassLemmas::pass_stopped))]
+    #[inline(always)]
+    pub(crate) fn pass<G: Gate>(
+        &mut self,
+        gate: &G,
+        tally: &mut Tally,
+        piece: &[u8],
+    ) -> Option<usize>
+        requires { 0 < length piece.now }
+        ensures passes { Passes (G.told gate.now) piece.now result self.old tally.old self.new tally.new }
+        ensures progress { HasPassed piece.now result }
+    {
+        if self.is_stopped() {
+            return None;
+        }
+        if !self.has_room(piece) {
+            return self.pass_to_limit(gate, tally, piece);
+        }
+        match self.phase {
+            Phase::Value | Phase::Top | Phase::Note => self.pass_value(gate, tally, piece),
+            Phase::Prims => self.pass_prims(piece),
+            _ => {
+                if self.phase.is_quiet() {
+                    return self.pass_quiet(gate, piece);
+                }
+                self.pass_field(gate, tally, piece)
+            }
+        }
+    }
+}
