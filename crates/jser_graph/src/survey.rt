@@ -203,8 +203,8 @@ impl<'a> Survey<'a> {
         match part_of(item) {
             Part::Field(field) => self.field(field, end),
             Part::Text(bytes) => {
-                decode(bytes, units)?;
-                self.field(Field::Text(units), end)?;
+                let text = decode(bytes, units)?;
+                self.field(Field::Text(text), end)?;
                 Ok(())
             }
             Part::Length => Ok(()),
