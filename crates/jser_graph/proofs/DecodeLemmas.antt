@@ -1,5 +1,5 @@
 -- The units of a text, read byte by byte.
-use Rattle.std.proofs.Common.{◌≡◌, ℕ, zero, suc, ◌+◌, ◌<◌, ◌≤◌, Bool, true, false, List, [], ◌∷◌, ◌++◌, length, take, drop, Option, Result, Ok, Err, IsOk, IfOk, ◌↔◌, length-append, refl, sym, ◌∙◌, ap, subst, arith, slice_index_or}
+use Rattle.std.proofs.Common.{◌≡◌, ℕ, zero, suc, ◌+◌, ◌<◌, ◌≤◌, Bool, true, false, List, [], ◌∷◌, ◌++◌, length, take, drop, Option, Result, Ok, Err, IsOk, IfOk, ◌↔◌, length-append, refl, sym, ◌∙◌, ap, subst, arith, slice_index_or, inl, inr}
 use Rattle.std.proofs.lemmas.Bool.{false≢true}
 use Rattle.std.proofs.lemmas.List.{take-append-drop}
 use Rattle.std.specs.Option.{option_to_list}
@@ -7,8 +7,9 @@ use Rattle.jser_prim.specs.declared.TextFault.{TextFault}
 use Rattle.jser_prim.specs.ModifiedUtf8.{IsUnits, modified_utf8}
 use Rattle.jser_prim.specs.Texts.{Scan, BeginsText, HasAccepted}
 use Rattle.jser_prim.proofs.ScanLemmas.{accepts_text}
-use Rattle.jser_prim.proofs.TextLemmas.{one_text}
-use Rattle.jser_graph.specs.Decoding.{TakesByte, Decodes}
+use Rattle.jser_prim.proofs.TextLemmas.{one_text, units_head, units_tail}
+use Rattle.jser_prim.proofs.Units.{form_of}
+use Rattle.jser_graph.specs.Decoding.{TakesByte, Decodes, AreNarrow}
 
 -- one byte
 
@@ -93,3 +94,37 @@ take_whole [] zero le = refl
 take_whole [] (suc n) le = refl
 take_whole (b ∷ bytes) zero le = absurd (omega arith)
 take_whole (b ∷ bytes) (suc n) le = ap (λ xs. b ∷ xs) (take_whole bytes n (omega arith))
+
+-- where each byte is below 0x80, the bytes are the units
+
+abbrev Below : List ℕ → Type 0
+Below bytes = (k : ℕ) → k < length bytes → slice_index_or bytes k 0 < 0x80
+
+head_below : (bytes others : List ℕ) (b : ℕ) → bytes ≡ b ∷ others → Below bytes → b < 0x80
+head_below bytes others b e h = let all : Below (b ∷ others) = subst Below e h in all 0 (omega arith)
+
+tail_below : (bytes others : List ℕ) (b : ℕ) → bytes ≡ b ∷ others → Below bytes → Below others
+tail_below bytes others b e h = λ k less. let all : Below (b ∷ others) = subst Below e h in all (suc k) (omega arith)
+
+narrow_units : (told bytes : List ℕ) → IsUnits told → modified_utf8 told ≡ bytes → Below bytes → bytes ≡ told
+narrow_units [] bytes are e below = sym e
+narrow_units (u ∷ us) bytes are e below = elim (form_of u (units_head u us are)) [
+  | inl one ↦
+      let whole : bytes ≡ u ∷ modified_utf8 us = sym e ∙ ap (λ front. front ++ modified_utf8 us) one.spelled in
+      whole
+      ∙ ap (λ others. u ∷ others) (narrow_units us (modified_utf8 us) (units_tail u us are) refl (tail_below bytes (modified_utf8 us) u whole below))
+  | inr wide ↦ elim wide [
+    | inl two ↦
+        let whole : bytes ≡ (0xC0 + two.high) ∷ ((0x80 + two.low) ∷ modified_utf8 us) =
+        sym e ∙ ap (λ front. front ++ modified_utf8 us) two.spelled in
+        absurd (omega (arith, head_below bytes ((0x80 + two.low) ∷ modified_utf8 us) (0xC0 + two.high) whole below))
+    | inr three ↦
+        let whole : bytes ≡ (0xE0 + three.high) ∷ ((0x80 + three.middle) ∷ ((0x80 + three.low) ∷ modified_utf8 us)) =
+        sym e ∙ ap (λ front. front ++ modified_utf8 us) three.spelled in
+        absurd (omega (arith, head_below bytes ((0x80 + three.middle) ∷ ((0x80 + three.low) ∷ modified_utf8 us)) (0xE0 + three.high) whole below))
+  ]
+]
+
+pub narrow_text : (bytes room units : List ℕ) → AreNarrow bytes room → units ≡ take (length bytes) room
+    → (told : List ℕ) → IsUnits told → modified_utf8 told ≡ bytes → units ≡ told
+narrow_text bytes room units narrow is told are e = is ∙ narrow.units ∙ narrow_units told bytes are e narrow.narrow

@@ -11,7 +11,8 @@ use Rattle.jser_shown.specs.Telling.{settled, goes, seen}
 use Rattle.jser_shown.specs.Naming.{name_in}
 use Rattle.jser_shown.specs.Indexing.{Index, index, settle_index, made, moved, begin_node, index_at, index_in, kind_of_owner}
 use Rattle.jser_shown.specs.Collecting.{Collection, settle_collection, filled, last_number, collect}
-use Rattle.jser_walk.specs.Steps.{section_due, external_due, type_word_due, line_end_due, made_due, quiet_due, due, pass_quietly, due_index, due_collection, steps_left}
+use Rattle.jser_walk.specs.Steps.{section_due, external_due, type_word_due, line_end_due, made_due, quiet_due, made_collection, due, pass_quietly, due_index, due_collection, steps_left}
+use Rattle.jser_walk.specs.Views.{IsSilent}
 use Rattle.jser_walk.specs.Steps.{Due as ToldDue}
 use Rattle.jser_walk.specs.Prompts.{class_name_prompt, interface_prompt, prompt_at, prompt_in, prompt_of, prompt_names}
 use Rattle.jser_walk.specs.Prompts.{Prompt as ToldPrompt}
@@ -21,56 +22,88 @@ use Rattle.jser_walk.specs.declared.Field.TheVariants as field
 use Rattle.jser_walk.specs.Given.{IsOf}
 use Rattle.jser_graph.specs.declared.survey.Survey.{Survey}
 use Rattle.jser_graph.specs.declared.survey.TextUse.{TextUse}
-use Rattle.jser_graph.specs.Surveying.{made_by, nodes_by, owners_by, is_string, is_name, is_text, names_by, IsUseOf, Settles, Ended, Steps}
+use Rattle.jser_graph.specs.Surveying.{is_string, is_name, is_text, names_by, IsUseOf, Settles, Stepped, Ended, Keeps, Steps}
 use Rattle.jser_graph.specs.Indexing.{begun_by, index_by}
 use Rattle.jser_graph.specs.Collecting.{collect_by}
 
-by_nodes : (d : ToldDue) (x : Index) → due_index (Some d) x ≡ nodes_by (made_by d) x
-by_nodes (section_due L name) x = refl
-by_nodes (external_due L name) x = refl
-by_nodes type_word_due x = refl
-by_nodes line_end_due x = refl
-by_nodes (made_due owner) x = refl
-by_nodes quiet_due x = refl
+place_made : (owner : ToldOwner) (p : ℕ) (B : List ℕ) (N : Nodes) (D : List Nodes) → (made (kind_of_owner owner) (index p B N D)).place ≡ p
+place_made owner p [] N D = refl
+place_made owner p (tag ∷ B) N D = refl
 
-by_owners : (d : ToldDue) (n : ℕ) (x : Collection) → due_collection n (Some d) x ≡ owners_by (made_by d) n x
-by_owners (section_due L name) n x = refl
-by_owners (external_due L name) n x = refl
-by_owners type_word_due n x = refl
-by_owners line_end_due n x = refl
-by_owners (made_due owner) n x = refl
-by_owners quiet_due n x = refl
-
-same_place : (o : Option ToldOwner) (x : Index) → (nodes_by o x).place ≡ x.place
-same_place None x = refl
-same_place (Some owner) x = place_made owner x.place x.begun x.nodes x.ended
-  where
-    place_made : (owner : ToldOwner) (p : ℕ) (B : List ℕ) (N : Nodes) (D : List Nodes) → (made (kind_of_owner owner) (index p B N D)).place ≡ p
-    place_made owner p [] N D = refl
-    place_made owner p (tag ∷ B) N D = refl
+same_place : (d : ToldDue) (x : Index) → (due_index (Some d) x).place ≡ x.place
+same_place (section_due L name) x = refl
+same_place (external_due L name) x = refl
+same_place type_word_due x = refl
+same_place line_end_due x = refl
+same_place (made_due owner) x = place_made owner x.place x.begun x.nodes x.ended
+same_place quiet_due x = refl
 
 pub settles_none : (s : Survey) → Settles s s
 settles_none s = record { walk = refl; nodes = refl; owners = refl; names = refl; place = refl }
 
-pub settles_more : (old now mid new : Survey) (d : ToldDue) (o : Option ToldOwner) → QuietStepsSettle → Settles old now → due now.walk ≡ Some d → o ≡ made_by d
-    → mid.nodes ≡ nodes_by o now.nodes → mid.owners ≡ owners_by o (length now.walk.known) now.owners
-    → new.walk ≡ pass_quietly now.walk → new.nodes ≡ mid.nodes → new.owners ≡ mid.owners → new.names ≡ now.names → Settles old new
-settles_more old now mid new d o law h is made nodes owners walk n c names =
+pub settles_both : (old now new : Survey) → Settles old now → Settles now new → Settles old new
+settles_both old now new a b = record {
+  walk = a.walk ∙ b.walk;
+  nodes = a.nodes ∙ b.nodes;
+  owners = a.owners ∙ b.owners;
+  names = b.names ∙ a.names;
+  place = b.place ∙ a.place;
+}
+
+stepped : (now new : Survey) (d : ToldDue) → QuietStepsSettle → QuietStepsEnd → due now.walk ≡ Some d → new.walk ≡ pass_quietly now.walk
+    → new.nodes ≡ due_index (Some d) now.nodes → new.owners ≡ due_collection (length now.walk.known) (Some d) now.owners → new.names ≡ now.names → Stepped true now new
+stepped now new d law ends is walk nodes owners names =
     let l = law now.walk in
-    let nodes_are : new.nodes ≡ due_index (due now.walk) now.nodes =
-    n ∙ nodes ∙ ap (λ o. nodes_by o now.nodes) made ∙ sym (by_nodes d now.nodes) ∙ ap (λ x. due_index x now.nodes) (sym is) in
+    let nodes_are : new.nodes ≡ due_index (due now.walk) now.nodes = nodes ∙ ap (λ x. due_index x now.nodes) (sym is) in
     let owners_are : new.owners ≡ due_collection (length now.walk.known) (due now.walk) now.owners =
-    c ∙ owners ∙ ap (λ o. owners_by o (length now.walk.known) now.owners) made ∙ sym (by_owners d (length now.walk.known) now.owners)
-    ∙ ap (λ x. due_collection (length now.walk.known) x now.owners) (sym is) in
-    record {
-      walk = h.walk ∙ l.0 ∙ ap settled (sym walk);
-      nodes =
-          h.nodes ∙ l.1 now.nodes ∙ ap₂ (λ w x. settle_index w.known w.cues x) (sym walk) (sym nodes_are);
-      owners =
-          h.owners ∙ l.2 now.owners ∙ ap₂ (λ w x. settle_collection w.known w.cues x) (sym walk) (sym owners_are);
-      names = names ∙ h.names;
-      place = ap (λ x. x.place) (n ∙ nodes) ∙ same_place o now.nodes ∙ h.place;
-    }
+    owners ∙ ap (λ x. due_collection (length now.walk.known) x now.owners) (sym is)
+    in
+    let fewer = ends now.walk d is in
+    let same = ap steps_left walk in (
+      record {
+        walk = l.0 ∙ ap settled (sym walk);
+        nodes = l.1 now.nodes ∙ ap₂ (λ w x. settle_index w.known w.cues x) (sym walk) (sym nodes_are);
+        owners = l.2 now.owners ∙ ap₂ (λ w x. settle_collection w.known w.cues x) (sym walk) (sym owners_are);
+        names = names;
+        place = ap (λ x. x.place) nodes ∙ same_place d now.nodes;
+      },
+      omega arith,
+    )
+
+pub stepped_made : (now new : Survey) (owner : ToldOwner) (n : ℕ) → QuietStepsSettle → QuietStepsEnd → due now.walk ≡ Some (made_due owner) → new.walk ≡ pass_quietly now.walk
+    → n ≡ length now.walk.known → new.nodes ≡ made (kind_of_owner owner) now.nodes → new.owners ≡ made_collection owner n now.owners → new.names ≡ now.names → Stepped true now new
+stepped_made now new owner n law ends is walk count nodes owners names =
+    stepped now new (made_due owner) law ends is walk nodes (owners ∙ ap (λ k. made_collection owner k now.owners) count) names
+
+silently : (now new : Survey) (o : Option ToldDue) → QuietStepsSettle → QuietStepsEnd → due now.walk ≡ o → IsSilent o → new.walk ≡ pass_quietly now.walk
+    → new.nodes ≡ now.nodes → new.owners ≡ now.owners → new.names ≡ now.names → Stepped true now new
+silently now new None law ends is silent walk nodes owners names = absurd silent
+silently now new (Some (section_due L name)) law ends is silent walk nodes owners names = stepped now new (section_due L name) law ends is walk nodes owners names
+silently now new (Some (external_due L name)) law ends is silent walk nodes owners names = stepped now new (external_due L name) law ends is walk nodes owners names
+silently now new (Some type_word_due) law ends is silent walk nodes owners names = stepped now new type_word_due law ends is walk nodes owners names
+silently now new (Some line_end_due) law ends is silent walk nodes owners names = stepped now new line_end_due law ends is walk nodes owners names
+silently now new (Some (made_due owner)) law ends is silent walk nodes owners names = absurd silent
+silently now new (Some quiet_due) law ends is silent walk nodes owners names = stepped now new quiet_due law ends is walk nodes owners names
+
+pub stepped_silently : (now new : Survey) → QuietStepsSettle → QuietStepsEnd → IsSilent (due now.walk) → new.walk ≡ pass_quietly now.walk
+    → new.nodes ≡ now.nodes → new.owners ≡ now.owners → new.names ≡ now.names → Stepped true now new
+stepped_silently now new law ends silent walk nodes owners names =
+    silently now new (due now.walk) law ends refl silent walk nodes owners names
+
+-- where nothing was due nothing is done
+pub stepped_not : (now new : Survey) → NothingDue → due now.walk ≡ None → new.walk ≡ pass_quietly now.walk
+    → new.nodes ≡ now.nodes → new.owners ≡ now.owners → new.names ≡ now.names → Stepped false now new
+stepped_not now new law none walk nodes owners names =
+    let same : new.walk ≡ now.walk = walk ∙ (law now.walk none).4 in (
+      record {
+        walk = ap settled (sym same);
+        nodes = ap₂ (λ w x. settle_index w.known w.cues x) (sym same) (sym nodes);
+        owners = ap₂ (λ w x. settle_collection w.known w.cues x) (sym same) (sym owners);
+        names = names;
+        place = ap (λ x. x.place) nodes;
+      },
+      ap due same ∙ none,
+    )
 
 pub settles_all : (old now : Survey) → NothingDue → Settles old now → due now.walk ≡ None → Ended old now
 settles_all old now law h none =
@@ -82,12 +115,6 @@ settles_all old now law h none =
       names = h.names;
       place = h.place;
     }
-
-pub steps_less : (now new : Teller) (d : ToldDue) → QuietStepsEnd → due now ≡ Some d → new ≡ pass_quietly now → steps_left new < steps_left now
-steps_less now new d law is e =
-    let n = law now d is in
-    let m = ap steps_left e in
-    omega arith
 
 -- ---- one field
 
@@ -191,19 +218,24 @@ use_of_other walk f told apart is =
       names = λ names. same_names told false (is_name (prompt_of walk)) names other;
     }
 
-pub steps_taken : (told : StreamField) (old mid new : Survey) (text : TextUse) (last end : ℕ) → Ended old mid → IsUseOf mid.walk told text
-    → last ≡ length mid.walk.known - 1 → place_after old.nodes.place (bytes_of told) ≡ end
-    → (place_after mid.nodes.place (bytes_of told) ≡ end → new.nodes ≡ index_by text.is_string told mid.nodes) → new.owners ≡ collect_by last told mid.owners
-    → new.walk ≡ goes mid.walk told → PromptsKeep → new.names ≡ names_by text.is_name told mid.names → Steps told old new
-steps_taken told old mid new text last end e text_is l p n o w keeps m = record {
-  walk = w ∙ ap (λ t. goes t told) e.walk;
+-- the walk went past the field, and what there is to keep of it is kept
+pub steps_taken : (told : StreamField) (old mid went new : Survey) (text : TextUse) (last end : ℕ) → Ended old mid → IsUseOf mid.walk told text
+    → last ≡ length mid.walk.known - 1 → went.walk ≡ goes mid.walk told → went.nodes ≡ mid.nodes → went.owners ≡ mid.owners → went.names ≡ mid.names
+    → Keeps told text last end went new → PromptsKeep → place_after old.nodes.place (bytes_of told) ≡ end → Steps told old new
+steps_taken told old mid went new text last end e text_is l w n o m k keeps p = record {
+  walk = k.walk ∙ w ∙ ap (λ t. goes t told) e.walk;
   nodes =
-      n (ap (λ k. place_after k (bytes_of told)) e.place ∙ p) ∙ text_is.nodes mid.nodes ∙ sym (in_index mid.walk.cues told mid.nodes)
+      k.nodes (ap (λ x. place_after x.place (bytes_of told)) n ∙ ap (λ x. place_after x (bytes_of told)) e.place ∙ p)
+      ∙ ap (index_by text.is_string told) n ∙ text_is.nodes mid.nodes ∙ sym (in_index mid.walk.cues told mid.nodes)
       ∙ ap₂ (λ t x. index_in t.cues told x) e.walk e.nodes;
   owners =
-      o ∙ sym (collected_by mid.walk.known told mid.owners last l)
+      k.owners ∙ ap (collect_by last told) o ∙ sym (collected_by mid.walk.known told mid.owners last l)
       ∙ ap₂ (λ t x. collect t.known told x) e.walk e.owners;
   names =
-      m ∙ text_is.names mid.names ∙ sym ((keeps mid.walk told).1 mid.names ∙ by_prompt (prompt_of mid.walk) told mid.names)
+      k.names ∙ ap (names_by text.is_name told) m ∙ text_is.names mid.names ∙ sym ((keeps mid.walk told).1 mid.names ∙ by_prompt (prompt_of mid.walk) told mid.names)
       ∙ ap₂ (λ t x. name_in t.cues told x) e.walk e.names;
 }
+
+-- nothing was due
+pub ended_at_once : (s : Survey) → NothingDue → due s.walk ≡ None → Ended s s
+ended_at_once s law none = settles_all s s law (settles_none s) none

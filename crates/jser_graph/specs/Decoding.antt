@@ -1,5 +1,5 @@
--- Reading the units of a text byte by byte.
-use Rattle.std.specs.Prelude.{ℕ, ◌≡◌, Bool, true, List, [], ◌∷◌, ◌++◌, length}
+-- Reading the units of a text: all bytes at once where each is a unit, or byte by byte.
+use Rattle.std.specs.Prelude.{ℕ, ◌≡◌, ◌<◌, Bool, true, List, [], ◌∷◌, ◌++◌, length, slice_index, take}
 use Rattle.jser_prim.specs.ModifiedUtf8.{IsUnits, modified_utf8}
 use Rattle.jser_prim.specs.Texts.{Scan, BeginsText, HasAccepted}
 
@@ -13,3 +13,8 @@ TakesByte byte goes_on old new before after =
 unfoldable pub Decodes : (bytes front units : List ℕ) → Scan → Type 0
 Decodes bytes front units scan =
     (told : List ℕ) → IsUnits told → modified_utf8 told ≡ bytes → HasAccepted (length bytes) front units scan
+
+-- the bytes stand as units at the front of the room, and each of them is below 0x80
+pub record AreNarrow (bytes room : List ℕ) : Type 0 where
+  pub units : take (length bytes) room ≡ bytes
+  pub narrow : (k : ℕ) → k < length bytes → slice_index bytes k < 0x80

@@ -1,16 +1,15 @@
 -- A first walk along the fields: the teller that goes along, and the index and the owners that are kept by its side.
-use Rattle.std.specs.Prelude.{ℕ, ◌≡◌, Bool, true, false, List, [], ◌∷◌, ◌++◌, length, Option, Some, None}
-use Rattle.jser_reading.specs.Roles.{Owner as ToldOwner}
+use Rattle.std.specs.Prelude.{ℕ, ◌≡◌, ◌<◌, Bool, true, false, List, [], ◌∷◌, ◌++◌, length, None}
 use Rattle.jser_reading.specs.Labels.{StreamField, text_field, Piece}
-use Rattle.jser_reading.specs.FieldBytes.{joined}
+use Rattle.jser_reading.specs.FieldBytes.{bytes_of, joined}
+use Rattle.jser_shown.specs.Nodes.{place_after}
 use Rattle.jser_shown.specs.Cues.{Teller}
 use Rattle.jser_shown.specs.Telling.{settled, goes, begin_telling}
-use Rattle.jser_shown.specs.Indexing.{Index, made, kind_of_owner, begin_index, settle_index, index_in}
+use Rattle.jser_shown.specs.Indexing.{Index, begin_index, settle_index, index_in}
 use Rattle.jser_shown.specs.Collecting.{Collection, begin_collection, settle_collection, collect}
 use Rattle.jser_shown.specs.Naming.{name_in}
 use Rattle.jser_shown.specs.Fronts.{teller_at, index_after, collection_after, names_after}
-use Rattle.jser_walk.specs.Steps.{made_collection, section_due, external_due, type_word_due, line_end_due, made_due, quiet_due}
-use Rattle.jser_walk.specs.Steps.{Due as ToldDue}
+use Rattle.jser_walk.specs.Steps.{due, steps_left}
 use Rattle.jser_walk.specs.declared.Field.{Field}
 use Rattle.jser_walk.specs.declared.Field.TheVariants as field
 use Rattle.jser_walk.specs.Prompts.{string_prompt, class_name_prompt, interface_prompt, prompt_of}
@@ -18,24 +17,7 @@ use Rattle.jser_walk.specs.Prompts.{Prompt as ToldPrompt}
 use Rattle.jser_graph.specs.declared.survey.Survey.{Survey}
 use Rattle.jser_graph.specs.declared.survey.TextUse.{TextUse}
 use Rattle.jser_graph.specs.Indexing.{index_by}
-
-abbrev pub made_by : ToldDue → Option ToldOwner
-made_by (section_due L name) = None
-made_by (external_due L name) = None
-made_by type_word_due = None
-made_by line_end_due = None
-made_by (made_due owner) = Some owner
-made_by quiet_due = None
-
--- what is kept of an owner that gets its handle, if one does; `n` is how many handles are known
-
-abbrev pub nodes_by : Option ToldOwner → Index → Index
-nodes_by None x = x
-nodes_by (Some owner) x = made (kind_of_owner owner) x
-
-abbrev pub owners_by : Option ToldOwner → ℕ → Collection → Collection
-owners_by None n x = x
-owners_by (Some owner) n x = made_collection owner n x
+use Rattle.jser_graph.specs.Collecting.{collect_by}
 
 -- the text that comes next is a string
 abbrev pub is_string : ToldPrompt → Bool
@@ -76,6 +58,11 @@ pub record Settles (old now : Survey) : Type 0 where
   pub names : now.names ≡ old.names
   pub place : now.nodes.place ≡ old.nodes.place
 
+-- a step went on, or nothing was due
+abbrev pub Stepped : Bool → (old new : Survey) → Type 0
+Stepped true old new = Settles old new × (steps_left new.walk < steps_left old.walk)
+Stepped false old new = Settles old new × (due new.walk ≡ None)
+
 -- it has settled
 pub record Ended (old new : Survey) : Type 0 where
   pub walk : new.walk ≡ settled old.walk
@@ -83,6 +70,13 @@ pub record Ended (old new : Survey) : Type 0 where
   pub owners : new.owners ≡ settle_collection old.walk.known old.walk.cues old.owners
   pub names : new.names ≡ old.names
   pub place : new.nodes.place ≡ old.nodes.place
+
+-- of this field is kept what there is to keep
+pub record Keeps (told : StreamField) (text : TextUse) (last end : ℕ) (old new : Survey) : Type 0 where
+  pub walk : new.walk ≡ old.walk
+  pub nodes : place_after old.nodes.place (bytes_of told) ≡ end → new.nodes ≡ index_by text.is_string told old.nodes
+  pub owners : new.owners ≡ collect_by last told old.owners
+  pub names : new.names ≡ names_by text.is_name told old.names
 
 -- it has settled and gone past this field
 pub record Steps (told : StreamField) (old new : Survey) : Type 0 where

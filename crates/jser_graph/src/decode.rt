@@ -1,15 +1,57 @@
 //! The units of a text from its bytes.
-ghost use Rattle.std.specs.Prelude.{ℕ, List, ◌≡◌, OnOk, IfOk};
+ghost use Rattle.std.specs.Prelude.{ℕ, List, ◌≡◌, ◌≤◌, true, length, OnOk, IfOk};
 ghost use Rattle.jser_prim.specs.ModifiedUtf8.{IsUnits, modified_utf8};
-ghost use Rattle.jser_graph.specs.Decoding.{TakesByte};
+ghost use Rattle.jser_graph.specs.Decoding.{AreNarrow, TakesByte};
 
 use jser_prim::TextScan;
 use std::alloc::AllocError;
 
+/// The UTF-16 units of a text in modified UTF-8, lent from `room`. Bytes that are no such text have others.
+#[tactic(auto, using(crate::proofs::DecodeLemmas::narrow_text))]
+pub(crate) fn decode<'r>(bytes: &[u8], room: &'r mut Vec<u16>) -> Result<&'r [u16], AllocError>
+    ensures { IfOk result (λ units. (told : List ℕ) → IsUnits told → modified_utf8 told ≡ bytes.now → units.now ≡ told) }
+{
+    if widen(bytes, room)? {
+        let (units, _) = room.split_at(bytes.len());
+        return Ok(units);
+    }
+    decode_each(bytes, room)?;
+    Ok(room.as_slice())
+}
+
+/// Puts the bytes as units at the front of `room`, which is made longer where it is too short. False where the units of
+/// a text may be others, since not each of them is one byte.
+#[inline(always)]
+fn widen(bytes: &[u8], room: &mut Vec<u16>) -> Result<bool, AllocError>
+    ensures { IfOk result (λ narrow. narrow ≡ true → AreNarrow bytes.now room.new.items) }
+{
+    if room.len() < bytes.len() {
+        room.resize(bytes.len(), 0)?;
+    }
+    Ok(widen_all(bytes, room))
+}
+
+/// The same, where there is room.
+#[inline(always)]
+fn widen_all(bytes: &[u8], room: &mut [u16]) -> bool
+    requires { length bytes.now ≤ length room.old }
+    ensures { result ≡ true → AreNarrow bytes.now room.new }
+{
+    let mut narrow = true;
+    for (place, byte) in bytes.iter().enumerate() {
+        room[place] = u16::from(*byte);
+        if *byte >= 0x80 {
+            narrow = false;
+        }
+    }
+    narrow
+}
+
 /// Puts the UTF-16 units of a text in modified UTF-8 in place of those that are there. Bytes that are no such text
 /// leave others.
 #[tactic(auto, using(crate::proofs::DecodeLemmas::decodes_none, crate::proofs::DecodeLemmas::decodes_more, crate::proofs::DecodeLemmas::decodes_stopped, crate::proofs::DecodeLemmas::decodes_all))]
-pub(crate) fn decode(bytes: &[u8], units: &mut Vec<u16>) -> Result<(), AllocError>
+#[inline(never)]
+fn decode_each(bytes: &[u8], units: &mut Vec<u16>) -> Result<(), AllocError>
     ensures { OnOk result ((told : List ℕ) → IsUnits told → modified_utf8 told ≡ bytes.now → units.new.items ≡ told) }
 {
     units.clear();

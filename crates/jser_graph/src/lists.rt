@@ -38,6 +38,7 @@ impl<T: Drop> Lists<T> {
 
     /// Adds an item to the open list.
     #[tactic(auto, using(crate::proofs::ListedLemmas::ended_push, crate::proofs::ListedLemmas::open_push, crate::proofs::ListedLemmas::ends_push))]
+    #[inline(always)]
     pub(crate) fn push(&mut self, item: T) -> Result<(), AllocError>
         ensures last { OnOk result (self.new.last ≡ self.old.last ++ item ∷ []) }
         ensures ended { OnOk result (self.new.ended ≡ self.old.ended) }
@@ -97,6 +98,7 @@ impl<T: Drop> Lists<T> {
 impl Lists<u16> {
     /// Adds these items to the list that is open, and ends it: all of this, or nothing.
     #[tactic(auto, using(crate::proofs::ListedLemmas::ended_add, crate::proofs::ListedLemmas::open_add, crate::proofs::ListedLemmas::ends_add))]
+    #[inline(always)]
     pub(crate) fn add(&mut self, list: &[u16]) -> Result<(), AllocError>
         ensures ended { OnOk result (self.new.ended ≡ self.old.ended ++ (self.old.last ++ list.now) ∷ []) }
         ensures last { OnOk result (self.new.last ≡ []) }

@@ -65,6 +65,7 @@ impl Nodes {
 
     /// Makes the node of the last tag that has none yet.
     #[tactic(auto, using(crate::proofs::StoredLemmas::among_push))]
+    #[inline(always)]
     pub(crate) fn make(&mut self, kind: NodeKind) -> Result<(), AllocError>
         ensures { OnOk result (self.new ≡ made (told_kind kind) self.old) }
     {
@@ -79,6 +80,7 @@ impl Nodes {
 
     /// Makes the node of the last tag that has none yet, which is that of a string.
     #[tactic(auto, using(crate::proofs::StoredLemmas::among_push, crate::proofs::StoredLemmas::among_more, crate::proofs::StoredLemmas::all_among_more, crate::proofs::StoredLemmas::same_nodes, crate::proofs::StoredLemmas::same_ended, crate::proofs::StoredLemmas::new_units))]
+    #[inline(always)]
     fn make_text(&mut self, units: &[u16]) -> Result<(), AllocError>
         ensures { OnOk result (self.new ≡ make_text units.now self.old.place self.old.begun self.old.nodes self.old.ended) }
     {
@@ -95,6 +97,7 @@ impl Nodes {
 
     /// Begins the node of a tag.
     #[tactic(auto, using(crate::proofs::StoredLemmas::among_push))]
+    #[inline(always)]
     fn begin(&mut self, tag: u8) -> Result<(), AllocError>
         ensures { OnOk result ((told : Tag) → tag ≡ tag_byte told → self.new ≡ begun_by told self.old) }
     {
@@ -113,6 +116,7 @@ impl Nodes {
 
     /// Goes past a field, which ends at this place. `is_string` where it is the text of a string.
     #[tactic(auto, using(crate::proofs::StoredLemmas::among_end))]
+    #[inline(always)]
     pub(crate) fn take(
         &mut self,
         field: Field<'_>,

@@ -41,6 +41,7 @@ impl Owners {
 
     /// Fills in the last owner that is not.
     #[tactic(auto, using(crate::proofs::OwnerLemmas::filled_in, crate::proofs::OwnerLemmas::filled_past))]
+    #[inline(always)]
     pub(crate) fn fill(&mut self, node: OwnerNode)
         ensures { self.new ≡ filled (told_node node) self.old }
     {
@@ -53,6 +54,7 @@ impl Owners {
     }
 
     /// Begins an owner, where the tag is that of one.
+    #[inline(always)]
     fn begin(&mut self, tag: u8) -> Result<(), AllocError>
         ensures { OnOk result ((last : ℕ) (told : StreamField) → IsOf (Field.Tag tag) told → self.new ≡ collect_by last told self.old) }
     {
@@ -69,6 +71,7 @@ impl Owners {
     }
 
     /// Goes past a field; `last` is the number of the last handle of the epoch.
+    #[inline(always)]
     pub(crate) fn take(&mut self, field: Field<'_>, last: u32) -> Result<(), AllocError>
         ensures { OnOk result ((told : StreamField) → IsOf field.entry told → self.new ≡ collect_by last told self.old) }
     {

@@ -16,6 +16,7 @@ pub(crate) enum Part<'p> {
 }
 
 /// The item, as a part.
+#[inline(always)]
 pub(crate) fn part_of(item: Item<'_>) -> Part<'_>
     ensures { IsPartOf item.entry result }
 {

@@ -135,8 +135,8 @@ fn say_item<W: Sink>(
     match part_of(item) {
         Part::Field(field) => say_next(outbox, sink, walk, field),
         Part::Text(bytes) => {
-            decode(bytes, units)?;
-            say_next(outbox, sink, walk, Field::Text(units))
+            let text = decode(bytes, units)?;
+            say_next(outbox, sink, walk, Field::Text(text))
         }
         Part::Length => Ok(()),
     }

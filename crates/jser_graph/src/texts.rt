@@ -33,6 +33,7 @@ impl Texts {
     }
 
     /// Adds a text.
+    #[inline(always)]
     pub(crate) fn add(&mut self, units: &[u16]) -> Result<(), AllocError>
         ensures added { OnOk result (self.new ≡ self.old ++ units.now ∷ []) }
         ensures unchanged { OnErr result (self.new ≡ self.old) }
@@ -41,6 +42,7 @@ impl Texts {
     }
 
     /// How many there are.
+    #[inline(always)]
     pub(crate) fn count(&self) -> usize
         ensures { result ≡ length self.now }
     {

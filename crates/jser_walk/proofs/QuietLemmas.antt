@@ -1,5 +1,5 @@
 -- Steps of one who says nothing: first lines of sections that follow each other are one step.
-use Rattle.std.proofs.Common.{◌≡◌, ℕ, zero, suc, ◌+◌, ◌<◌, ◌≤◌, Bool, true, false, List, [], ◌∷◌, drop, Option, Some, None, is_some, refl, ap, sym, ◌∙◌, inl, inr, true≢false, arith}
+use Rattle.std.proofs.Common.{◌≡◌, ℕ, zero, suc, ◌+◌, ◌<◌, ◌≤◌, Bool, true, false, List, [], ◌∷◌, drop, Option, Some, None, is_some, refl, ap, sym, ◌∙◌, inl, inr, true≢false, subst, arith}
 use Rattle.std.proofs.lemmas.Bool.{cases_Bool}
 use Rattle.jser_grammar.specs.Codes.{prim_code_of}
 use Rattle.jser_shown.specs.Known.{NamedField, NamedLayer, class_layer, proxy_layer, Known, prim_names, object_names, fields_in, has_notes}
@@ -13,11 +13,12 @@ use Rattle.jser_walk.specs.declared.frame.Frame.{Frame}
 use Rattle.jser_walk.specs.declared.frame.Frame.TheVariants as frame
 use Rattle.jser_walk.specs.declared.frame.Stage.{Stage}
 use Rattle.jser_walk.specs.declared.frame.Stage.TheVariants as stage
-use Rattle.jser_walk.specs.Steps.{Due, due, pass_in, pass_part, past_lines, quiet_part, quiet_at, quiet_in, pass_quietly, part_steps, steps_left}
+use Rattle.jser_walk.specs.Steps.{Due, due, due_in, due_part, pass_in, pass_part, past_lines, quiet_part, quiet_at, quiet_in, pass_quietly, part_steps, steps_left}
 use Rattle.jser_walk.specs.Layers.{holds_any, is_filled, from_filled}
 use Rattle.jser_walk.specs.Tables.{layers_in}
-use Rattle.jser_walk.specs.Frames.{parts_at, parts_from, cue_of, cues_of, tail_of, IsTop, BeginsSection}
-use Rattle.jser_walk.proofs.PassLemmas.{part_first, raw_passed, value_passed}
+use Rattle.jser_walk.specs.Views.{IsSilent}
+use Rattle.jser_walk.specs.Frames.{parts_at, parts_from, cue_of, cues_of, tail_of, BeginsSection}
+use Rattle.jser_walk.proofs.PassLemmas.{part_first, sections_passed, raw_passed, value_passed}
 
 -- behind first lines nothing else is said, kept or wanted than before them
 
@@ -116,10 +117,6 @@ pub notes_quiet : (layers : List NamedLayer) (chains : List (List NamedLayer)) (
 notes_quiet layers chains old new level chain index s others e known os top is passed =
     passed ∙ same_step layers chains old level chain index s _ e known os top is refl
 
-pub end_quiet : (layers : List NamedLayer) (chains : List (List NamedLayer)) (old new : List Frame) (level chain index : ℕ) (s : Stage) (e : ℕ) (known : Known) (os : List OwnerNode) → old ≡ frame.Sections level chain index s ∷ tail_of old → parts_from (layers_in chains chain) index s ≡ [] → teller e known os (cues_of layers chains new) ≡ pass_in (cues_of layers chains old) e known os → teller e known os (cues_of layers chains new) ≡ quiet_in (cues_of layers chains old) e known os
-end_quiet layers chains old new level chain index s e known os top is passed =
-    passed ∙ same_step layers chains old level chain index s [] e known os top is refl
-
 pub raw_quiet : (layers : List NamedLayer) (chains : List (List NamedLayer)) (old : List Frame) (level chain index : ℕ) (s : Stage) (name : List ℕ) (others : List SectionPart) (e : ℕ) (known : Known) (os : List OwnerNode) → old ≡ frame.Sections level chain index s ∷ tail_of old → parts_from (layers_in chains chain) index s ≡ raw_part (field_named name) ∷ others → teller e known os (cues_of layers chains old) ≡ quiet_in (cues_of layers chains old) e known os
 raw_quiet layers chains old level chain index s name others e known os top is =
     raw_passed layers chains old level chain index s name others e known os top is
@@ -130,8 +127,35 @@ value_quiet layers chains old level chain index s name others e known os top is 
     value_passed layers chains old level chain index s name others e known os top is
     ∙ same_step layers chains old level chain index s _ e known os top is refl
 
--- a step by another frame on top
+-- what a step goes past
 
-abbrev NotSections : Option Frame → Type 0
-NotSections (Some (frame.Sections level chain index s)) = ⊥
-NotSections top = Unit {0}
+due_of : (layers : List NamedLayer) (chains : List (List NamedLayer)) (frames : List Frame) (level chain index : ℕ) (s : Stage) (parts : List SectionPart) → frames ≡ frame.Sections level chain index s ∷ tail_of frames → parts_from (layers_in chains chain) index s ≡ parts → due_in (cues_of layers chains frames) ≡ due_part level parts
+due_of layers chains frames level chain index s parts top is =
+    ap (λ fs. due_in (cues_of layers chains fs)) top ∙ ap (due_part level) is
+
+pub section_silent : (layers : List NamedLayer) (chains : List (List NamedLayer)) (frames : List Frame) (level chain index : ℕ) (s : Stage) (name : Option (List ℕ)) (others : List SectionPart) → frames ≡ frame.Sections level chain index s ∷ tail_of frames → BeginsSection (parts_from (layers_in chains chain) index s) name others → IsSilent (due_in (cues_of layers chains frames))
+section_silent layers chains frames level chain index s name others top begins =
+    subst IsSilent (sym (due_of layers chains frames level chain index s (data_part begins.layer ∷ others) top begins.parts_are)) tt
+
+pub notes_silent : (layers : List NamedLayer) (chains : List (List NamedLayer)) (frames : List Frame) (level chain index : ℕ) (s : Stage) (others : List SectionPart) → frames ≡ frame.Sections level chain index s ∷ tail_of frames → parts_from (layers_in chains chain) index s ≡ note_part ∷ others → IsSilent (due_in (cues_of layers chains frames))
+notes_silent layers chains frames level chain index s others top is =
+    subst IsSilent (sym (due_of layers chains frames level chain index s (note_part ∷ others) top is)) tt
+
+pub end_silent : (layers : List NamedLayer) (chains : List (List NamedLayer)) (frames : List Frame) (level chain index : ℕ) (s : Stage) → frames ≡ frame.Sections level chain index s ∷ tail_of frames → parts_from (layers_in chains chain) index s ≡ [] → IsSilent (due_in (cues_of layers chains frames))
+end_silent layers chains frames level chain index s top is =
+    subst IsSilent (sym (due_of layers chains frames level chain index s [] top is)) tt
+
+pub raw_waits : (layers : List NamedLayer) (chains : List (List NamedLayer)) (frames : List Frame) (level chain index : ℕ) (s : Stage) (name : List ℕ) (others : List SectionPart) → frames ≡ frame.Sections level chain index s ∷ tail_of frames → parts_from (layers_in chains chain) index s ≡ raw_part (field_named name) ∷ others → due_in (cues_of layers chains frames) ≡ None
+raw_waits layers chains frames level chain index s name others top is =
+    due_of layers chains frames level chain index s (raw_part (field_named name) ∷ others) top is
+
+pub value_waits : (layers : List NamedLayer) (chains : List (List NamedLayer)) (frames : List Frame) (level chain index : ℕ) (s : Stage) (name : List ℕ) (others : List SectionPart) → frames ≡ frame.Sections level chain index s ∷ tail_of frames → parts_from (layers_in chains chain) index s ≡ value_part (field_named name) ∷ others → due_in (cues_of layers chains frames) ≡ None
+value_waits layers chains frames level chain index s name others top is =
+    due_of layers chains frames level chain index s (value_part (field_named name) ∷ others) top is
+
+-- the end of all sections, which is popped
+
+pub end_popped : (layers : List NamedLayer) (chains : List (List NamedLayer)) (old new : List Frame) (level chain index : ℕ) (s : Stage) (e : ℕ) (known : Known) (os : List OwnerNode) → old ≡ frame.Sections level chain index s ∷ tail_of old → parts_from (layers_in chains chain) index s ≡ [] → new ≡ tail_of old → teller e known os (cues_of layers chains new) ≡ quiet_in (cues_of layers chains old) e known os
+end_popped layers chains old new level chain index s e known os top is put =
+    sections_passed layers chains old new level chain index s e known os top put is
+    ∙ same_step layers chains old level chain index s [] e known os top is refl

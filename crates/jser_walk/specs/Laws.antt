@@ -36,13 +36,14 @@ QuietStepsSettle = (s : Teller) →
 abbrev pub QuietStepsEnd : Type 0
 QuietStepsEnd = (s : Teller) (d : Due) → due s ≡ Some d → steps_left (pass_quietly s) < steps_left s
 
--- Where nothing is due the teller has settled, and nothing more is said or kept.
+-- Where nothing is due the teller has settled, nothing more is said or kept, and a step leads nowhere else.
 abbrev pub NothingDue : Type 0
 NothingDue = (s : Teller) → due s ≡ None →
     (settled s ≡ s)
     × ((k : List ℕ) → settle_says s.known s.cues k ≡ k)
     × ((x : Index) → settle_index s.known s.cues x ≡ x)
     × ((x : Collection) → settle_collection s.known s.cues x ≡ x)
+    × (pass_quietly s ≡ s)
 
 -- What is said of a field is said by the prompt.
 abbrev pub PromptsSay : Type 0

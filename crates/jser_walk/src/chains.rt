@@ -95,6 +95,7 @@ impl Chains {
 
     /// How many layers the chain has.
     #[tactic(auto, using(crate::proofs::ChainLemmas::length_chains_of))]
+    #[inline(always)]
     pub(crate) fn layers(&self, number: u32) -> usize
         requires { number < length self.now }
         ensures { result ≡ length (chain_in self.now number) }
@@ -104,6 +105,7 @@ impl Chains {
 
     /// The layer of the chain at this index.
     #[tactic(auto, using(crate::proofs::ChainLemmas::length_chains_of))]
+    #[inline(always)]
     pub(crate) fn layer(&self, number: u32, index: usize) -> Own
         requires number_in { number < length self.now }
         requires index_in { index < length (chain_in self.now number) }
@@ -115,6 +117,7 @@ impl Chains {
     /// The index of the first layer, at `from` or after it, that an object holds anything of; or one past the last,
     /// where it holds nothing of them.
     #[tactic(auto, using(crate::proofs::ChainLemmas::length_chains_of))]
+    #[inline(always)]
     pub(crate) fn next_filled(&self, number: u32, from: usize) -> usize
         requires { number < length self.now }
         ensures { drop result (chain_in self.now number) ≡ from_filled_own (drop from (chain_in self.now number)) }
@@ -124,6 +127,7 @@ impl Chains {
 
     /// The class's own layer.
     #[tactic(auto, using(crate::proofs::ChainLemmas::length_chains_of, crate::proofs::ChainLemmas::own_told))]
+    #[inline(always)]
     pub(crate) fn own(&self, number: u32) -> Own
         requires { number < length self.now }
         ensures { chain_in self.now number ≡ front_of (chain_in self.now number) ++ result ∷ [] }
@@ -221,6 +225,7 @@ fn jump_from(kept: &[Chain], parent: u32) -> u32
 }
 
 /// The class at this place, with all that it tells.
+#[inline(always)]
 fn chain_at(kept: &[Chain], place: usize) -> &Chain
     requires told { AreTold kept.now }
     requires place_in { place < length kept.now }
@@ -232,6 +237,7 @@ fn chain_at(kept: &[Chain], place: usize) -> &Chain
 
 /// The layer at this index of the chain at `start`.
 #[tactic(auto, using(crate::proofs::ChainLemmas::layer_found))]
+#[inline(always)]
 fn layer_at(kept: &[Chain], start: usize, index: usize) -> Own
     requires told { AreTold kept.now }
     requires start_in { start < length kept.now }
@@ -244,6 +250,7 @@ fn layer_at(kept: &[Chain], start: usize, index: usize) -> Own
 
 /// The class of the chain at `start` whose own layer has this index. It is found at once where it is of the same run.
 #[tactic(auto, using(crate::proofs::RunLemmas::run_highest))]
+#[inline(always)]
 fn class_at(kept: &[Chain], start: usize, index: usize) -> usize
     requires told { AreTold kept.now }
     requires start_in { start < length kept.now }
@@ -298,6 +305,7 @@ fn filled_before(kept: &[Chain], start: usize, index: usize) -> usize
 }
 
 /// The highest class of the chain at `start`, itself included, whose count is over the bound.
+#[inline(never)]
 fn highest(kept: &[Chain], start: usize, counted: Counted, bound: usize) -> usize
     requires told { AreTold kept.now }
     requires start_in { start < length kept.now }

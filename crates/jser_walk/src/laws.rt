@@ -24,7 +24,7 @@ pub fn quiet_steps_end()
     ensures { QuietStepsEnd }
 {}
 
-/// Where nothing is due the teller has settled, and nothing more is said or kept.
+/// Where nothing is due the teller has settled, nothing more is said or kept, and a step leads nowhere else.
 pub fn nothing_due()
     ensures { NothingDue }
 {}

@@ -35,6 +35,7 @@ pub(crate) enum Layer {
 
 impl Layer {
     /// The name; None for a proxy.
+    #[inline(always)]
     pub(crate) fn name(&self) -> Option<&[u16]>
         ensures { view_name result ≡ layer_name (told_layer self.now) }
     {
@@ -45,6 +46,7 @@ impl Layer {
     }
 
     /// The fields; a proxy has none.
+    #[inline(always)]
     pub(crate) fn fields(&self) -> &[NamedField]
         ensures { told_fields result.now ≡ fields_in (told_layer self.now) }
     {
@@ -55,6 +57,7 @@ impl Layer {
     }
 
     /// Whether an annotation stands behind the values of its section.
+    #[inline(always)]
     pub(crate) fn has_notes(&self) -> bool
         ensures { result ≡ has_notes (told_layer self.now) }
     {
@@ -77,6 +80,7 @@ impl Layer {
 
     /// Whether it is externalizable.
     #[tactic(auto, using(jser_table::proofs::FlagLemmas::externalizable_bit))]
+    #[inline(always)]
     pub(crate) fn is_external(&self) -> bool
         ensures { result ≡ is_external_class (told_layer self.now) }
     {
@@ -88,6 +92,7 @@ impl Layer {
 }
 
 /// Whether the code is that of a primitive type.
+#[inline(always)]
 fn is_primitive(code: u8) -> bool
     ensures { result ≡ is_some (prim_code_of code) }
 {
@@ -103,6 +108,7 @@ pub(crate) fn has_type_text(code: u8) -> bool
 
 /// Whether the field at this place is of a primitive type.
 #[tactic(auto, using(crate::proofs::LayerLemmas::code_at))]
+#[inline(always)]
 fn is_raw(fields: &[NamedField], place: usize) -> bool
     requires { place < length fields.now }
     ensures { result ≡ is_raw_at (told_fields fields.now) place }
@@ -112,6 +118,7 @@ fn is_raw(fields: &[NamedField], place: usize) -> bool
 
 /// The name of the field at this place.
 #[tactic(auto, using(crate::proofs::LayerLemmas::name_at))]
+#[inline(always)]
 pub(crate) fn name_of(fields: &[NamedField], place: usize) -> &[u16]
     requires { place < length fields.now }
     ensures { result.now ≡ (field_at (told_fields fields.now) place).name }
@@ -121,6 +128,7 @@ pub(crate) fn name_of(fields: &[NamedField], place: usize) -> &[u16]
 
 /// The place of the next field of a primitive type, at `from` or after it.
 #[tactic(auto, using(crate::proofs::LayerLemmas::raw_found, crate::proofs::LayerLemmas::raw_passed, crate::proofs::LayerLemmas::no_raw))]
+#[inline(always)]
 pub(crate) fn next_raw(fields: &[NamedField], from: usize) -> Option<usize>
     ensures { NextRaw (told_fields fields.now) from result }
 {
@@ -136,6 +144,7 @@ pub(crate) fn next_raw(fields: &[NamedField], from: usize) -> Option<usize>
 
 /// The place of the next field of another type, at `from` or after it.
 #[tactic(auto, using(crate::proofs::LayerLemmas::value_found, crate::proofs::LayerLemmas::value_passed, crate::proofs::LayerLemmas::no_value))]
+#[inline(always)]
 pub(crate) fn next_value(fields: &[NamedField], from: usize) -> Option<usize>
     ensures { NextValue (told_fields fields.now) from result }
 {

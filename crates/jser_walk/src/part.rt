@@ -5,6 +5,7 @@ ghost use Rattle.jser_walk.specs.Frames.{IsNextPart, LeadsToFields};
 
 use crate::frame::Stage;
 use crate::layer::{Layer, name_of, next_raw, next_value};
+use crate::seen::Tag;
 use crate::table::Table;
 
 /// A part of the sections of an object.
@@ -22,6 +23,17 @@ pub(crate) enum Part<'t> {
     End,
 }
 
+/// What of the sections of an object a field was.
+#[derive(Clone, Copy)]
+pub(crate) enum PartTaken {
+    /// Nothing: its part has not come.
+    Nothing,
+    /// A raw value.
+    Raw,
+    /// The tag of a value.
+    Value(Tag),
+}
+
 /// A part, and where the others begin.
 #[derive(Clone, Copy)]
 pub(crate) struct NextPart<'t> {
@@ -32,6 +44,7 @@ pub(crate) struct NextPart<'t> {
 }
 
 /// The first part of the sections of this chain, from a stage of the layer at this index on.
+#[inline(always)]
 pub(crate) fn next_part(table: &Table, chain: u32, index: usize, stage: Stage) -> NextPart<'_>
     requires { chain < length table.now.chains }
     ensures next { IsNextPart (layers_in table.now.chains chain) index stage result }
@@ -62,6 +75,7 @@ pub(crate) fn next_part(table: &Table, chain: u32, index: usize, stage: Stage) -
 }
 
 /// The same from the first line of a section on.
+#[inline(always)]
 fn section_part(table: &Table, chain: u32, index: usize) -> NextPart<'_>
     requires { chain < length table.now.chains }
     ensures next { IsNextPart (layers_in table.now.chains chain) index Stage.Start result }
@@ -82,6 +96,7 @@ fn section_part(table: &Table, chain: u32, index: usize) -> NextPart<'_>
 }
 
 /// The same from the values of a section on.
+#[inline(always)]
 fn value_part(table: &Table, chain: u32, index: usize, from: usize) -> NextPart<'_>
     requires chain_in { chain < length table.now.chains }
     requires index_in { index < length (layers_in table.now.chains chain) }

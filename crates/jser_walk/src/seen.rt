@@ -74,6 +74,7 @@ pub enum Seen<'f> {
 
 /// What is seen of a field; None of one that no stream has.
 #[tactic(auto, using(crate::proofs::SeenLemmas::sees_tag))]
+#[inline(always)]
 pub fn see(field: Field<'_>) -> Option<Seen<'_>>
     ensures { (told : StreamField) → IsOf field.entry told → Sees result told }
 {
@@ -97,6 +98,7 @@ pub fn see(field: Field<'_>) -> Option<Seen<'_>>
 }
 
 /// What is seen of a tag; None of a byte that is no tag.
+#[inline(always)]
 fn see_tag(byte: u8) -> Option<Seen<'static>>
     ensures { option_map told_seen result ≡ tag_seen byte }
 {

@@ -40,6 +40,7 @@ impl Stack {
     }
 
     /// The innermost frame, if there is one.
+    #[inline(always)]
     pub(crate) fn top(&self) -> Option<Frame>
         ensures { IsTop self.now result }
     {
@@ -47,6 +48,7 @@ impl Stack {
     }
 
     /// Puts a frame on top. The stack is as it was where memory runs out.
+    #[inline(always)]
     pub(crate) fn push(&mut self, frame: Frame) -> Result<(), AllocError>
         ensures ok { OnOk result (self.new ≡ frame ∷ self.old) }
         ensures err { OnErr result (self.new ≡ self.old) }
@@ -59,6 +61,7 @@ impl Stack {
     }
 
     /// Takes the frame off that is on top, if there is one.
+    #[inline(always)]
     pub(crate) fn pop(&mut self)
         ensures { self.new ≡ tail_of self.old }
     {
@@ -66,6 +69,7 @@ impl Stack {
     }
 
     /// Puts this frame in the place of the one on top. Takes no memory.
+    #[inline(always)]
     pub(crate) fn set_top(&mut self, frame: Frame)
         ensures { self.new ≡ frame ∷ tail_of self.old }
     {

@@ -50,6 +50,7 @@ impl<'a> Model for Standing<'a> {
 /// # Errors
 ///
 /// Where the level is the greatest number; no stream has so many levels.
+#[inline(always)]
 pub(crate) fn deeper(level: u64) -> Result<u64, AllocError>
     ensures { IfOk result (λ inner. inner ≡ level + 1) }
 {
@@ -70,6 +71,7 @@ impl<'a> Standing<'a> {
     }
 
     /// The epoch.
+    #[inline(always)]
     pub(crate) fn epoch(&self) -> u64
         ensures { result ≡ self.now.epoch }
     {
@@ -77,6 +79,7 @@ impl<'a> Standing<'a> {
     }
 
     /// How many handles of the epoch are assigned.
+    #[inline(always)]
     pub(crate) fn count(&self) -> usize
         ensures { result ≡ length self.now.known }
     {
@@ -84,6 +87,7 @@ impl<'a> Standing<'a> {
     }
 
     /// The owner whose tag comes next, or one of zeros.
+    #[inline(always)]
     pub(crate) fn first_owner(&self) -> OwnerNode
         ensures { told_node result ≡ first_owner self.now.owners }
     {
@@ -97,6 +101,7 @@ impl<'a> Standing<'a> {
     }
 
     /// Assigns the next handle to a string.
+    #[inline(always)]
     pub(crate) fn add_text(&mut self) -> Result<(), AllocError>
         ensures { OnOk result (self.new ≡ teller self.old.epoch (with_entry self.old.known known_text) self.old.owners self.old.cues) }
     {
@@ -114,6 +119,7 @@ impl<'a> Standing<'a> {
     }
 
     /// The class place of an owner has ended: its class is the one with this number.
+    #[inline(always)]
     pub(crate) fn end_class(
         &mut self,
         owner: Owner,
@@ -170,6 +176,7 @@ impl<'a> Standing<'a> {
     }
 
     /// The tag of a value.
+    #[inline(always)]
     pub(crate) fn begin(&mut self, level: u64, tag: Tag) -> Result<Phase, AllocError>
         ensures { IfOk result (λ phase. StandsIn phase self.new (begin self.old.epoch level self.old.known self.old.owners (told_tag tag) self.old.cues)) }
     {
@@ -198,6 +205,7 @@ impl<'a> Standing<'a> {
     }
 
     /// The tag of an owner: its class place comes, one level deeper.
+    #[inline(always)]
     fn begin_owner(&mut self, owner: Owner, level: u64) -> Result<Phase, AllocError>
         ensures { IfOk result (λ phase. StandsIn phase self.new (teller self.old.epoch self.old.known (without_first self.old.owners) (class_cue (told_owner owner) (level + 1) ∷ self.old.cues))) }
     {
@@ -209,6 +217,7 @@ impl<'a> Standing<'a> {
     }
 
     /// The tag in the class place of an owner.
+    #[inline(always)]
     pub(crate) fn begin_class(
         &mut self,
         owner: Owner,

@@ -58,6 +58,7 @@ impl Table {
 
     /// How many handles are assigned.
     #[tactic(auto, using(crate::proofs::TableLemmas::count_known))]
+    #[inline(always)]
     pub(crate) fn count(&self) -> usize
         ensures { result ≡ length self.now.known }
     {
@@ -65,6 +66,7 @@ impl Table {
     }
 
     /// Assigns the next handle to a string.
+    #[inline(always)]
     pub(crate) fn add_text(&mut self) -> Result<(), AllocError>
         ensures known { OnOk result (self.new.known ≡ with_entry self.old.known known_text) }
         ensures layers { self.new.layers ≡ self.old.layers }
@@ -75,6 +77,7 @@ impl Table {
     }
 
     /// Assigns the next handle to a class object, an array, an enum constant or an object.
+    #[inline(always)]
     pub(crate) fn add_other(&mut self) -> Result<(), AllocError>
         ensures known { OnOk result (self.new.known ≡ with_entry self.old.known known_other) }
         ensures layers { self.new.layers ≡ self.old.layers }
@@ -136,6 +139,7 @@ impl Table {
 
     /// The chain of the class with this number, if it is one.
     #[tactic(auto, using(crate::proofs::TableLemmas::is_chain, crate::proofs::TableLemmas::is_no_chain))]
+    #[inline(always)]
     pub(crate) fn chain(&self, number: usize) -> Option<u32>
         ensures { IsChainOf self.now number result }
     {
@@ -157,6 +161,7 @@ impl Table {
 
     /// How many layers the chain has.
     #[tactic(auto, using(crate::proofs::TableLemmas::length_named, crate::proofs::TableLemmas::length_chains))]
+    #[inline(always)]
     pub(crate) fn layers(&self, chain: u32) -> usize
         requires { chain < length self.now.chains }
         ensures { result ≡ length (layers_in self.now.chains chain) }
@@ -165,6 +170,7 @@ impl Table {
     }
 
     /// The layer of the chain at this index, where 0 is the highest superclass.
+    #[inline(always)]
     pub(crate) fn layer(&self, chain: u32, index: usize) -> &Layer
         requires chain_in { chain < length self.now.chains }
         requires index_in { index < length (layers_in self.now.chains chain) }
@@ -177,6 +183,7 @@ impl Table {
     /// The index of the first layer, at `from` or after it, that an object holds anything of; or one past the last,
     /// where it holds nothing of them.
     #[tactic(auto, using(crate::proofs::TableLemmas::filled_named, crate::proofs::TableLemmas::length_chains))]
+    #[inline(always)]
     pub(crate) fn next_filled(&self, chain: u32, from: usize) -> usize
         requires { chain < length self.now.chains }
         ensures { drop result (layers_in self.now.chains chain) ≡ from_filled (drop from (layers_in self.now.chains chain)) }
@@ -186,6 +193,7 @@ impl Table {
 
     /// The class's own layer.
     #[tactic(auto, using(crate::proofs::TableLemmas::own_named, crate::proofs::TableLemmas::length_chains))]
+    #[inline(always)]
     pub(crate) fn own(&self, chain: u32) -> &Layer
         requires { chain < length self.now.chains }
         ensures { own_class_of (layers_in self.now.chains chain) ≡ told_layer result.now }

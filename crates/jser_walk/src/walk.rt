@@ -1,11 +1,11 @@
 //! The walk: where it stands, and its steps.
-ghost use Rattle.std.specs.Prelude.{◌≡◌, ◌∷◌, [], length, Some, None, OnOk};
+ghost use Rattle.std.specs.Prelude.{◌≡◌, ◌∷◌, [], true, length, Some, None, OnOk, IfOk};
 ghost use Rattle.jser_reading.specs.Labels.{StreamField};
 ghost use Rattle.jser_shown.specs.Telling.{begin_telling, goes, first_owner};
 ghost use Rattle.jser_walk.specs.Given.{IsOf, told_node, told_nodes};
 ghost use Rattle.jser_walk.specs.Steps.{due, pass};
 ghost use Rattle.jser_walk.specs.Prompts.{prompt_of};
-ghost use Rattle.jser_walk.specs.Views.{view_due, view_prompt};
+ghost use Rattle.jser_walk.specs.Views.{view_due, view_prompt, Tries};
 
 mod passing;
 mod taking;
@@ -58,6 +58,7 @@ impl<'a> Walk<'a> {
     }
 
     /// The epoch: how many resets came.
+    #[inline(always)]
     pub fn epoch(&self) -> u64
         ensures { result ≡ self.now.epoch }
     {
@@ -65,6 +66,7 @@ impl<'a> Walk<'a> {
     }
 
     /// How many handles of the epoch are assigned.
+    #[inline(always)]
     pub fn count(&self) -> usize
         ensures { result ≡ length self.now.known }
     {
@@ -72,6 +74,7 @@ impl<'a> Walk<'a> {
     }
 
     /// The owner whose tag comes next, or one of zeros where no owners are left.
+    #[inline(always)]
     pub fn first_owner(&self) -> OwnerNode
         ensures { told_node result ≡ first_owner self.now.owners }
     {
@@ -98,6 +101,7 @@ impl<'a> Walk<'a> {
     }
 
     /// What the next field is wanted for.
+    #[inline(always)]
     pub fn prompt(&self) -> Prompt<'_>
         ensures { view_prompt result ≡ prompt_of self.now }
     {
@@ -136,12 +140,45 @@ impl<'a> Walk<'a> {
     ///
     /// Where memory runs out.
     #[tactic(auto, using(crate::proofs::WalkLemmas::goes_seen))]
+    #[inline(always)]
     pub fn take(&mut self, field: Field<'_>) -> Result<(), AllocError>
         ensures { OnOk result ((told : StreamField) → IsOf field.entry told → self.new ≡ goes self.old told) }
     {
         match see(field) {
             Some(seen) => self.take_seen(seen),
             None => Ok(()),
+        }
+    }
+
+    /// Goes past a field where nothing is due before it. The answer is false where something is, or where the field is not
+    /// the one that is waited for; the walk then stays.
+    ///
+    /// # Errors
+    ///
+    /// Where memory runs out.
+    #[tactic(auto, using(crate::proofs::WalkLemmas::goes_seen))]
+    #[inline(always)]
+    pub fn try_take(&mut self, field: Field<'_>) -> Result<bool, AllocError>
+        ensures tries { IfOk result (λ taken. Tries taken self.old self.new) }
+        ensures goes { IfOk result (λ taken. taken ≡ true → (told : StreamField) → IsOf field.entry told → self.new ≡ goes self.old told) }
+    {
+        match self.phase {
+            Phase::Frames => match see(field) {
+                Some(seen) => match self.standing.try_take(seen)? {
+                    Some(phase) => {
+                        self.phase = phase;
+                        Ok(true)
+                    }
+                    None => Ok(false),
+                },
+                None => Ok(false),
+            },
+            Phase::Fields { .. } => Ok(false),
+            Phase::Interfaces { .. } => Ok(false),
+            _ => {
+                self.take(field)?;
+                Ok(true)
+            }
         }
     }
 }

@@ -1,13 +1,14 @@
 //! Fields that a frame belongs to.
-ghost use Rattle.std.specs.Prelude.{◌≡◌, ◌∷◌, ◌+◌, ◌<◌, [], length, option_map, OnOk, IfOk};
+ghost use Rattle.std.specs.Prelude.{◌≡◌, ◌∷◌, ◌+◌, ◌<◌, [], length, option_map, None, OnOk, IfOk};
 ghost use Rattle.jser_shown.specs.Cues.{teller, top_cue, note_cue, elements_cue};
 ghost use Rattle.jser_shown.specs.Telling.{goes_in};
-ghost use Rattle.jser_walk.specs.Frames.{FramesFit, FirstIs, TakesPart, tail_of};
+ghost use Rattle.jser_walk.specs.Steps.{due};
+ghost use Rattle.jser_walk.specs.Frames.{FramesFit, FirstIs, TakesPart, TriesPart, tail_of};
 ghost use Rattle.jser_walk.specs.Seen.{told_seen, told_tag};
-ghost use Rattle.jser_walk.specs.Phases.{StandsIn};
+ghost use Rattle.jser_walk.specs.Phases.{StandsIn, TriesIn};
 
 use crate::frame::{Frame, Stage};
-use crate::part::{Part, next_part};
+use crate::part::{Part, PartTaken, next_part};
 use crate::phase::{Head, Phase};
 use crate::seen::{Seen, Tag};
 use crate::stack::Stack;
@@ -18,6 +19,7 @@ use std::alloc::AllocError;
 /// The field at the first part of the sections on top: that part is past, where the field is its, and this tag begins a
 /// value.
 #[tactic(auto, using(crate::proofs::TakeLemmas::raw_taken, crate::proofs::TakeLemmas::value_taken, crate::proofs::TakeLemmas::section_left, crate::proofs::TakeLemmas::notes_left, crate::proofs::TakeLemmas::end_left))]
+#[inline(always)]
 fn take_part(
     table: &Table,
     frames: &mut Stack,
@@ -60,13 +62,126 @@ fn take_part(
     }
 }
 
+/// The same where the first part is the field's; else nothing is done.
+#[tactic(auto, using(crate::proofs::TakeLemmas::raw_taken, crate::proofs::TakeLemmas::value_taken, crate::proofs::QuietLemmas::raw_waits, crate::proofs::QuietLemmas::value_waits))]
+#[inline(always)]
+fn try_part(
+    table: &Table,
+    frames: &mut Stack,
+    level: u64,
+    chain: u32,
+    index: usize,
+    stage: Stage,
+    seen: Seen<'_>,
+) -> PartTaken
+    requires chain_in { chain < length table.now.chains }
+    requires fit { FramesFit (length table.now.layers) (length table.now.chains) frames.old }
+    requires top { frames.old ≡ Frame.Sections level chain index stage ∷ tail_of frames.old }
+    ensures fit { FramesFit (length table.now.layers) (length table.now.chains) frames.new }
+    ensures tries { TriesPart table.now.layers table.now.chains level frames.old frames.new (told_seen seen.entry) result }
+{
+    let next = next_part(table, chain, index, stage);
+    let others = Frame::Sections {
+        level,
+        chain,
+        index: next.index,
+        stage: next.stage,
+    };
+    match next.part {
+        Part::Raw(_) => {
+            let Seen::Bytes(_) = seen else {
+                return PartTaken::Nothing;
+            };
+            frames.set_top(others);
+            PartTaken::Raw
+        }
+        Part::Value(_) => {
+            let Seen::Tag(tag) = seen else {
+                return PartTaken::Nothing;
+            };
+            frames.set_top(others);
+            PartTaken::Value(tag)
+        }
+        Part::Section(_) => PartTaken::Nothing,
+        Part::Notes => PartTaken::Nothing,
+        Part::End => PartTaken::Nothing,
+    }
+}
+
 impl<'a> Standing<'a> {
+    /// Goes past a field where nothing is due; else nothing is done, and the answer is None.
+    ///
+    /// # Errors
+    ///
+    /// Where memory runs out.
+    #[tactic(auto, using(crate::proofs::TakeLemmas::goes_first, crate::proofs::FrameLemmas::top_fits, crate::proofs::WaitLemmas::due_first))]
+    #[inline(always)]
+    pub(crate) fn try_take(&mut self, seen: Seen<'_>) -> Result<Option<Phase>, AllocError>
+        ensures { IfOk result (λ phase. TriesIn phase self.old self.new (goes_in self.old.epoch self.old.known self.old.owners self.old.cues (told_seen seen.entry))) }
+    {
+        match self.frames.top() {
+            Some(
+                Frame::Sections {
+                    level,
+                    chain,
+                    index,
+                    stage,
+                },
+            ) => {
+                let part = try_part(
+                    &self.table,
+                    &mut self.frames,
+                    level,
+                    chain,
+                    index,
+                    stage,
+                    seen,
+                );
+                match part {
+                    PartTaken::Raw => Ok(Some(Phase::Frames)),
+                    PartTaken::Value(tag) => {
+                        let phase = self.begin(deeper(level)?, tag)?;
+                        Ok(Some(phase))
+                    }
+                    PartTaken::Nothing => Ok(None),
+                }
+            }
+            Some(Frame::Elements { left, .. }) => {
+                if left == 0 {
+                    Ok(None)
+                } else {
+                    self.take_waiting(seen)
+                }
+            }
+            Some(Frame::Notes { .. }) => self.take_waiting(seen),
+            Some(Frame::Super { .. }) => self.take_waiting(seen),
+            Some(Frame::SuperHandle { .. }) => self.take_waiting(seen),
+            None => self.take_waiting(seen),
+            Some(Frame::External { .. }) => Ok(None),
+            Some(Frame::ExternalNotes { .. }) => Ok(None),
+            Some(Frame::End { .. }) => Ok(None),
+            Some(Frame::Made { .. }) => Ok(None),
+            Some(Frame::Close { .. }) => Ok(None),
+        }
+    }
+
+    /// Goes past a field that is waited for.
+    #[inline(always)]
+    fn take_waiting(&mut self, seen: Seen<'_>) -> Result<Option<Phase>, AllocError>
+        requires { due self.old ≡ None }
+        ensures { IfOk result (λ phase. TriesIn phase self.old self.new (goes_in self.old.epoch self.old.known self.old.owners self.old.cues (told_seen seen.entry))) }
+    {
+        let phase = self.take(seen)?;
+        Ok(Some(phase))
+    }
+
     /// Goes past a field.
     ///
     /// # Errors
     ///
     /// Where memory runs out.
     #[tactic(auto, using(crate::proofs::TakeLemmas::goes_first, crate::proofs::PassLemmas::close_fits, crate::proofs::FrameLemmas::top_fits, crate::proofs::FrameLemmas::tail_fits))]
+    #[inline(always)]
     pub(crate) fn take(&mut self, seen: Seen<'_>) -> Result<Phase, AllocError>
         ensures { IfOk result (λ phase. StandsIn phase self.new (goes_in self.old.epoch self.old.known self.old.owners self.old.cues (told_seen seen.entry))) }
     {
@@ -169,6 +284,7 @@ impl<'a> Standing<'a> {
     }
 
     /// A field at the top of the stream.
+    #[inline(always)]
     fn take_at_top(&mut self, seen: Seen<'_>) -> Result<Phase, AllocError>
         requires { self.old.cues ≡ top_cue ∷ [] }
         ensures { IfOk result (λ phase. StandsIn phase self.new (goes_in self.old.epoch self.old.known self.old.owners self.old.cues (told_seen seen.entry))) }
@@ -197,6 +313,7 @@ impl<'a> Standing<'a> {
 
     /// A field in an annotation, which is on top.
     #[tactic(auto, using(crate::proofs::TakeLemmas::popped_note, crate::proofs::FrameLemmas::tail_fits))]
+    #[inline(always)]
     fn take_note(&mut self, level: u64, seen: Seen<'_>) -> Result<Phase, AllocError>
         requires { FirstIs (note_cue level) self.old }
         ensures { IfOk result (λ phase. StandsIn phase self.new (goes_in self.old.epoch self.old.known self.old.owners self.old.cues (told_seen seen.entry))) }
@@ -214,6 +331,7 @@ impl<'a> Standing<'a> {
 
     /// The raw elements of an array, or the tag of an element. The array is on top.
     #[tactic(auto, using(crate::proofs::TakeLemmas::popped_elements, crate::proofs::FrameLemmas::tail_fits))]
+    #[inline(always)]
     fn take_element(
         &mut self,
         level: u64,

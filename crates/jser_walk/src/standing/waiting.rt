@@ -76,6 +76,7 @@ impl<'a> Standing<'a> {
 
     /// What the next field is wanted for.
     #[tactic(auto, using(crate::proofs::WaitLemmas::prompt_first, crate::proofs::FrameLemmas::top_fits))]
+    #[inline(never)]
     pub(crate) fn prompt(&self) -> Prompt<'_>
         ensures { view_prompt result ≡ prompt_of self.now }
     {

@@ -5,4 +5,4 @@ use Rattle.jser_graph.proofs.survey.Survey.item.Goals as goal
 pub returns-in_ok-field-in-Text-clause-steps : goal.returns-in_ok-field-in-Text-clause-steps
 returns-in_ok-field-in-Text-clause-steps c = λ told e at.
     c.in_ok-field-in-Text.ensures.steps told
-    (decoded told c.in-Text.bytes c.deref.result (part_text c.args.item c.in-Text.bytes told (search rules) e) (search rules)) at
+    (decoded told c.in-Text.bytes c.in_ok-text-in-Text.text (part_text c.args.item c.in-Text.bytes told (search rules) e) (search rules)) at

@@ -1,6 +1,6 @@
 use Rattle.std.proofs.Common.{take}
 use Rattle.jser_graph.proofs.DecodeLemmas.{decodes_all, take_whole}
-use Rattle.jser_graph.proofs.decode.decode.Goals as goal
+use Rattle.jser_graph.proofs.decode.decode_each.Goals as goal
 
 pub returns : goal.returns
 returns c =
