@@ -115,7 +115,7 @@ impl<'a> Standing<'a> {
     ///
     /// Where memory runs out.
     #[tactic(auto, using(crate::proofs::TakeLemmas::goes_first, crate::proofs::FrameLemmas::top_fits, crate::proofs::WaitLemmas::due_first))]
-    #[inline(always)]
+    #[inline(never)]
     pub(crate) fn try_take(&mut self, seen: Seen<'_>) -> Result<Option<Phase>, AllocError>
         ensures { IfOk result (λ phase. TriesIn phase self.old self.new (goes_in self.old.epoch self.old.known self.old.owners self.old.cues (told_seen seen.entry))) }
     {

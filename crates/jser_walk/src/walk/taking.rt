@@ -74,7 +74,7 @@ impl<'a> Walk<'a> {
     /// # Errors
     ///
     /// Where memory runs out.
-    #[inline(always)]
+    #[inline(never)]
     pub(crate) fn take_seen(&mut self, seen: Seen<'_>) -> Result<(), AllocError>
         ensures { OnOk result (self.new ≡ goes_in self.old.epoch self.old.known self.old.owners self.old.cues (told_seen seen.entry)) }
     {
