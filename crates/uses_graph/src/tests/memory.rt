@@ -19,8 +19,9 @@ fn shows(rt: &(impl Abort + AllocGlobal), graph: &Graph) -> bool {
             true
         }
         Err(fault) => {
-            assert!(rt; sink.is_front() && sink.left() <= LINKED_PAIR_TEXT.len());
-            let written = (LINKED_PAIR_TEXT.len() - sink.left()) as u64;
+            let left = sink.left();
+            assert!(rt; sink.is_front() && left <= LINKED_PAIR_TEXT.len());
+            let written = (LINKED_PAIR_TEXT.len() - left) as u64;
             assert_eq!(rt; fault, GraphFault::OutOfMemory { written });
             false
         }
