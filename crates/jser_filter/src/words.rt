@@ -42,7 +42,7 @@ pub(crate) fn add_in_module(
     place: usize,
 ) -> Result<(), AllocError>
     requires { IsTrie trie.old }
-    ensures ok { OnOk result (AddsWord trie.old trie.new (in_module module.now (name_word (view_name name.now))) place) }
+    ensures ok { OnOk result (AddsWord trie.old trie.new (in_module «module».now (name_word (view_name name.now))) place) }
     ensures err { OnErr result (Keeps trie.old trie.new) }
 {
     let module = extend_module(trie, module)?;
@@ -55,7 +55,7 @@ pub(crate) fn add_in_module(
 fn extend_module(trie: &mut Trie, module: &[u16]) -> Result<usize, AllocError>
     requires { IsTrie trie.old }
     ensures keeps { Keeps trie.old trie.new }
-    ensures leads { IfOk result (LeadsOn trie.old trie.new 0 (of_module ∷ (letters module.now ++ of_name ∷ []))) }
+    ensures leads { IfOk result (LeadsOn trie.old trie.new 0 (of_module ∷ (letters «module».now ++ of_name ∷ []))) }
 {
     let front = trie.extend(ROOT, OF_MODULE)?;
     let after = extend_along(trie, front, module)?;
@@ -121,7 +121,7 @@ pub(crate) fn first_in_module(
     name: &[u16],
 ) -> Option<usize>
     requires { option_map part_now «package» ≡ package_of name.now }
-    ensures { result ≡ first_in_module trie.now module.now (option_map part_now «package».entry) name.now }
+    ensures { result ≡ first_in_module trie.now «module».now (option_map part_now «package».entry) name.now }
 {
     let in_module = into_module(trie, module);
     match package {
@@ -155,7 +155,7 @@ fn first_of_package(trie: &Trie, walk: Walk) -> Option<usize>
 /// The walk to the names in a module.
 #[tactic(auto, using(crate::proofs::WordLemmas::walk_into))]
 fn into_module(trie: &Trie, module: &[u16]) -> Walk
-    ensures { result ≡ walk_along (edge_of trie.now) (mark_of trie.now) record { node = Some 0; first = mark_of trie.now 0 } (of_module ∷ (letters module.now ++ of_name ∷ [])) }
+    ensures { result ≡ walk_along (edge_of trie.now) (mark_of trie.now) record { node = Some 0; first = mark_of trie.now 0 } (of_module ∷ (letters «module».now ++ of_name ∷ [])) }
 {
     let front = trie.step(trie.start(), OF_MODULE);
     trie.step(trie.along(front, module), OF_NAME)

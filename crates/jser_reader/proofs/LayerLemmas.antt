@@ -1,11 +1,12 @@
 -- How many layers are kept, by the descriptors among the frames: what each step of the code does to the count.
-use Rattle.std.proofs.Common.{◌≡◌, ℕ, suc, ◌+◌, ◌<◌, ◌≤◌, List, [], ◌∷◌, ◌++◌, length, reverse, refl, sym, ◌∙◌, ap, subst, arith, length-append}
+use Rattle.std.proofs.Common.{◌≡◌, ℕ, suc, ◌+◌, ◌-◌, ◌<◌, ◌≤◌, Bool, true, false, List, [], ◌∷◌, ◌++◌, length, reverse, Option, Some, None, refl, sym, ◌∙◌, ap, subst, arith, length-append}
 use Rattle.std.proofs.lemmas.List.{length-reverse}
 use Rattle.jser_table.specs.declared.layer.Layer.{Layer}
 use Rattle.jser_reader.specs.declared.frame.Frame.{Frame}
 use Rattle.jser_reader.specs.declared.frame.Frame.TheVariants as frame
+use Rattle.jser_reader.specs.declared.frame.RawPlace.{RawPlace}
 use Rattle.jser_reader.specs.declared.frame.Role.{Role}
-use Rattle.jser_reader.specs.Stacks.{tail_of}
+use Rattle.jser_reader.specs.Stacks.{tail_of, CountsValue, CountsRaw}
 use Rattle.jser_reader.specs.Fitting.{IsPart, HasParts, descriptors_with, descriptors_in, LayersFit}
 use Rattle.jser_reader.specs.Readers.{Seen}
 use Rattle.jser_reader.specs.Closing.{rest_layers, PopsLayer}
@@ -49,6 +50,29 @@ layers_of_tail outer frames now e h fit = rw e (record { few = subst (λ n. leng
 
 pub layers_of_part : (outer : List Layer) (frames now : List Frame) (f : Frame) → now ≡ f ∷ tail_of frames → IsPart f → HasParts frames → LayersFit outer frames → LayersFit outer now
 layers_of_part outer frames now f e i h fit = layers_under_part outer (tail_of frames) now f e i (layers_of_tail outer frames (tail_of frames) refl h fit)
+
+-- a value or a raw value of what is on top is counted
+
+pub layers_of_value : (outer : List Layer) (counted : Bool) (frames now : List Frame) → CountsValue counted frames now → LayersFit outer frames → LayersFit outer now
+layers_of_value outer false frames now h fit = rw h.0 fit
+layers_of_value outer true [] now h fit = absurd h
+layers_of_value outer true (frame.Elements left ∷ fs) now h fit =
+    layers_of_part outer (frame.Elements left ∷ fs) now (frame.Elements (left - 1)) (h.2 ∙ ap (λ f. f ∷ fs) h.1.1) tt tt fit
+layers_of_value outer true (frame.Fields last section pos prims values ∷ fs) now h fit =
+    layers_of_part outer (frame.Fields last section pos prims values ∷ fs) now (frame.Fields last section pos prims (values - 1)) (h.2 ∙ ap (λ f. f ∷ fs) h.1.2) tt tt fit
+layers_of_value outer true (frame.Notes last section ∷ fs) now h fit = absurd h.1
+layers_of_value outer true (frame.ExternalNotes ∷ fs) now h fit = absurd h.1
+layers_of_value outer true (frame.Descriptor number role ∷ fs) now h fit = absurd h.1
+
+pub layers_of_raw : (outer : List Layer) (raw : Option RawPlace) (frames now : List Frame) → CountsRaw raw frames now → LayersFit outer frames → LayersFit outer now
+layers_of_raw outer None frames now h fit = rw h.0 fit
+layers_of_raw outer (Some raw) [] now h fit = absurd h
+layers_of_raw outer (Some raw) (frame.Elements left ∷ fs) now h fit = absurd h.1
+layers_of_raw outer (Some raw) (frame.Fields last section pos prims values ∷ fs) now h fit =
+    layers_of_part outer (frame.Fields last section pos prims values ∷ fs) now (frame.Fields last section (pos + 1) prims values) (h.2 ∙ ap (λ f. f ∷ fs) h.1.3) tt tt fit
+layers_of_raw outer (Some raw) (frame.Notes last section ∷ fs) now h fit = absurd h.1
+layers_of_raw outer (Some raw) (frame.ExternalNotes ∷ fs) now h fit = absurd h.1
+layers_of_raw outer (Some raw) (frame.Descriptor number role ∷ fs) now h fit = absurd h.1
 
 -- a descriptor is put on top, and then its layer
 

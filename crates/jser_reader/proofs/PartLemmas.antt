@@ -6,17 +6,18 @@ use Rattle.jser_table.specs.Chains.{has_write_method, is_filled, is_empty}
 use Rattle.jser_table.specs.Codes.{PrimCode, size_of, primitive_codes, object_count, prim_code_of, with_code, one_more_value}
 use Rattle.jser_table.specs.Entries.{TableEntry}
 use Rattle.jser_table.specs.Tables.{TableView}
-use Rattle.jser_table.specs.Sections.{layer_of, under, IsOn, HoldsFor}
+use Rattle.jser_table.specs.Sections.{HasSection, layer_of, under, IsOn, HoldsFor}
 use Rattle.jser_reading.specs.Goals.{Part, raw_part, value_part, annotation_part, prim_parts, value_parts, annotation_if, section_parts, parts_goal, settle}
 use Rattle.jser_reader.specs.declared.frame.Frame.{Frame}
 use Rattle.jser_reader.specs.declared.frame.Frame.TheVariants as frame
+use Rattle.jser_reader.specs.declared.frame.RawPlace.{RawPlace}
 use Rattle.jser_reader.specs.declared.phase.Phase.{Phase}
 use Rattle.jser_reader.specs.declared.phase.Phase.TheVariants as phase
-use Rattle.jser_reader.specs.Stacks.{tail_of}
+use Rattle.jser_reader.specs.Stacks.{tail_of, HasNoRaw, HasNoValue, IsOnTop, HasNoField, CountsValue, CountsRaw}
 use Rattle.jser_reader.specs.Frames.{frame_goals, rest_of_section}
 use Rattle.jser_reader.specs.Fitting.{FrameFits, IsBelow, bound_below, FramesFit, AllFit}
 use Rattle.jser_reader.specs.Readers.{Seen, moment_of, Ready, ReadyAt, HasNotes}
-use Rattle.jser_reader.specs.Steps.{Kept, before_parts, PartGives, after_value, GoesOn}
+use Rattle.jser_reader.specs.Steps.{Kept, before_parts, PartGives, after_value, GoesOn, FieldGoesOn}
 
 -- what is seen of a machine whose phase, stack, table and counters are these
 pub made : (new : Seen) (p : Phase) (fs : List Frame) (ls : List Layer) (T : TableView) (refs left : ℕ)
@@ -360,3 +361,149 @@ unfolding Ready after_value
 at_top start old new none e ep ef ey et er =
     let made_new = made new phase.Top [] old.layers old.table old.refs new.left ep (ef ∙ none) ey et er refl in
     subst (λ s. ReadyAt new.phase new s) e (rw made_new (refl, ap (λ fs. settle (moment_of old) (frame_goals old.table.chains old.layers fs)) none))
+
+-- a value of what is on top is counted where its frame stands
+
+pub fits_value : (T : List TableEntry) (C : List (List Layer)) (counted : Bool) (frames now : List Frame) → CountsValue counted frames now → AllFit T C frames → AllFit T C now
+fits_value T C false frames now h fit = rw h.0 fit
+fits_value T C true [] now h fit = absurd h
+fits_value T C true (frame.Elements left ∷ fs) now h fit =
+    fits_elements T C (frame.Elements left ∷ fs) now (left - 1) (h.2 ∙ ap (λ f. f ∷ fs) h.1.1) fit
+fits_value T C true (frame.Fields last section pos prims values ∷ fs) now h fit =
+    let f = fit.all.0 in
+    fits_fields T C (frame.Fields last section pos prims values ∷ fs) now last section pos prims (values - 1) (h.2 ∙ ap (λ f. f ∷ fs) h.1.2) fit f.0 f.1 f.2
+fits_value T C true (frame.Notes last section ∷ fs) now h fit = absurd h.1
+fits_value T C true (frame.ExternalNotes ∷ fs) now h fit = absurd h.1
+fits_value T C true (frame.Descriptor number role ∷ fs) now h fit = absurd h.1
+
+pub value_comes : (old new : Seen) → CountsValue true old.frames new.frames → AllFit old.table.entries old.table.chains old.frames
+    → new.phase ≡ phase.Value → new.layers ≡ old.layers → new.table ≡ old.table → new.refs ≡ old.refs → FieldGoesOn true old new
+unfolding FieldGoesOn
+value_comes old new h fit ep ey et er = go old.frames refl h fit
+  where
+    go : (frames : List Frame) → old.frames ≡ frames → CountsValue true frames new.frames → AllFit old.table.entries old.table.chains frames → GoesOn true old new
+    go [] e h fit = absurd h
+    go (frame.Elements left ∷ fs) e h fit =
+        let below : fs ≡ tail_of old.frames = sym (ap tail_of e) in
+        at_element old new left (e ∙ ap (λ gs. frame.Elements left ∷ gs) below) h.1.0 ep (h.2 ∙ ap₂ (λ f gs. f ∷ gs) h.1.1 below) ey et er
+    go (frame.Fields last section pos prims values ∷ fs) e h fit =
+        let below : fs ≡ tail_of old.frames = sym (ap tail_of e) in
+        at_part old new last section pos prims values (e ∙ ap (λ gs. frame.Fields last section pos prims values ∷ gs) below)
+        (goes_value old new last section pos prims values fit.all.0 h.1.0 h.1.1 ep (h.2 ∙ ap₂ (λ f gs. f ∷ gs) h.1.2 below) ey et er)
+    go (frame.Notes last section ∷ fs) e h fit = absurd h.1
+    go (frame.ExternalNotes ∷ fs) e h fit = absurd h.1
+    go (frame.Descriptor number role ∷ fs) e h fit = absurd h.1
+
+-- or a raw value
+
+pub fits_raw : (T : List TableEntry) (C : List (List Layer)) (raw : Option RawPlace) (frames now : List Frame) → CountsRaw raw frames now → AllFit T C frames → AllFit T C now
+fits_raw T C None frames now h fit = rw h.0 fit
+fits_raw T C (Some raw) [] now h fit = absurd h
+fits_raw T C (Some raw) (frame.Elements left ∷ fs) now h fit = absurd h.1
+fits_raw T C (Some raw) (frame.Fields last section pos prims values ∷ fs) now h fit =
+    let f = fit.all.0 in
+    let less = h.1.2 in
+    fits_fields T C (frame.Fields last section pos prims values ∷ fs) now last section (pos + 1) prims values (h.2 ∙ ap (λ f. f ∷ fs) h.1.3) fit f.0 f.1 (omega arith)
+fits_raw T C (Some raw) (frame.Notes last section ∷ fs) now h fit = absurd h.1
+fits_raw T C (Some raw) (frame.ExternalNotes ∷ fs) now h fit = absurd h.1
+fits_raw T C (Some raw) (frame.Descriptor number role ∷ fs) now h fit = absurd h.1
+
+-- its section is one, and its place is in it
+pub raw_stands : (T : List TableEntry) (C : List (List Layer)) (raw : RawPlace) (frames now : List Frame) → CountsRaw (Some raw) frames now → AllFit T C frames
+    → HasSection C raw.section × (raw.pos < length (primitive_codes (layer_of C raw.section).codes))
+raw_stands T C raw [] now h fit = absurd h
+raw_stands T C raw (frame.Elements left ∷ fs) now h fit = absurd h.1
+raw_stands T C raw (frame.Fields last section pos prims values ∷ fs) now h fit =
+    let f = fit.all.0 in
+    let codes = f.1 in
+    let less = h.1.2 in
+    let at = h.1.1 in (
+      subst (HasSection C) (sym h.1.0) f.0.section_in,
+      subst (λ (k : ℕ). raw.pos < length (primitive_codes (layer_of C k).codes)) (sym h.1.0) (omega arith),
+    )
+raw_stands T C raw (frame.Notes last section ∷ fs) now h fit = absurd h.1
+raw_stands T C raw (frame.ExternalNotes ∷ fs) now h fit = absurd h.1
+raw_stands T C raw (frame.Descriptor number role ∷ fs) now h fit = absurd h.1
+
+pub raw_comes : (old new : Seen) (between : List Frame) (raw : RawPlace) (size : ℕ) → CountsValue false old.frames between → CountsRaw (Some raw) between new.frames
+    → option_map size_of (slice_get (primitive_codes (layer_of old.table.chains raw.section).codes) raw.pos) ≡ Some size
+    → new.phase ≡ phase.Prims → new.left ≡ size → new.layers ≡ old.layers → new.table ≡ old.table → new.refs ≡ old.refs → FieldGoesOn true old new
+unfolding FieldGoesOn
+raw_comes old new between raw size same h code ep el ey et er = go between (sym same.0) h
+  where
+    go : (frames : List Frame) → old.frames ≡ frames → CountsRaw (Some raw) frames new.frames → GoesOn true old new
+    go [] e h = absurd h
+    go (frame.Elements left ∷ fs) e h = absurd h.1
+    go (frame.Fields last section pos prims values ∷ fs) e h =
+        let below : fs ≡ tail_of old.frames = sym (ap tail_of e) in
+        let here : option_map size_of (slice_get (primitive_codes (layer_of old.table.chains section).codes) pos) ≡ Some size =
+        ap₂ (λ (k p : ℕ). option_map size_of (slice_get (primitive_codes (layer_of old.table.chains k).codes) p)) (sym h.1.0) (sym h.1.1) ∙ code in
+        at_part old new last section pos prims values (e ∙ ap (λ gs. frame.Fields last section pos prims values ∷ gs) below)
+        (goes_prims old new last section pos prims values size here ep (h.2 ∙ ap₂ (λ f gs. f ∷ gs) h.1.3 below) ey et er el)
+    go (frame.Notes last section ∷ fs) e h = absurd h.1
+    go (frame.ExternalNotes ∷ fs) e h = absurd h.1
+    go (frame.Descriptor number role ∷ fs) e h = absurd h.1
+
+-- or neither is left
+pub none_comes : (old new : Seen) (between : List Frame) → CountsValue false old.frames between → CountsRaw None between new.frames
+    → new ≡ record old { frames = new.frames } → FieldGoesOn false old new
+unfolding FieldGoesOn
+none_comes old new between v r same =
+    let e : new.frames ≡ old.frames = r.0 ∙ v.0 in
+    (same ∙ ap (λ fs. record old { frames = fs }) e, (subst (IsOnTop HasNoRaw) v.0 r.1, v.1))
+
+-- the fields or elements of what is on top are done
+
+no_field : (frames : List Frame) (last section pos prims values : ℕ) → frames ≡ frame.Fields last section pos prims values ∷ tail_of frames → HasNoField frames
+    → (pos < prims → ⊥) × (0 < values → ⊥)
+no_field frames last section pos prims values e none =
+    let h : HasNoField (frame.Fields last section pos prims values ∷ tail_of frames) = subst HasNoField e none in (h.0, h.1 h.0)
+
+no_element : (frames : List Frame) (left : ℕ) → frames ≡ frame.Elements left ∷ tail_of frames → HasNoField frames → 0 < left → ⊥
+no_element frames left e none = let h : HasNoField (frame.Elements left ∷ tail_of frames) = subst HasNoField e none in h.1
+
+pub after_elements : (old new : Seen) (left : ℕ) → old.frames ≡ frame.Elements left ∷ tail_of old.frames → HasNoField old.frames
+    → new.frames ≡ tail_of old.frames → new.layers ≡ old.layers → new.table ≡ old.table → new.refs ≡ old.refs → GoesOn false old new
+after_elements old new left e none ef ey et er = leaves_elements old new left e (no_element old.frames left e none) ef ey et er
+
+pub after_section : (old new : Seen) (last section pos prims values : ℕ) → old.frames ≡ frame.Fields last section pos prims values ∷ tail_of old.frames
+    → FrameFits old.table.entries old.table.chains (frame.Fields last section pos prims values) → HasNoField old.frames
+    → PartGives true old new (annotation_if (has_write_method (layer_of old.table.chains section).flags) (section_parts (under old.table.chains last section)))
+    → GoesOn true old new
+after_section old new last section pos prims values e fits none p =
+    let h = no_field old.frames last section pos prims values e none in
+    at_part old new last section pos prims values e (goes_on old new last section pos prims values true fits h.0 h.1 p)
+
+pub after_sections : (old mid new : Seen) (last section pos prims values : ℕ) → old.frames ≡ frame.Fields last section pos prims values ∷ tail_of old.frames
+    → FrameFits old.table.entries old.table.chains (frame.Fields last section pos prims values) → HasNoField old.frames
+    → PartGives false old mid (annotation_if (has_write_method (layer_of old.table.chains section).flags) (section_parts (under old.table.chains last section)))
+    → new.frames ≡ tail_of mid.frames → new.layers ≡ mid.layers → new.table ≡ mid.table → new.refs ≡ mid.refs → GoesOn false old new
+after_sections old mid new last section pos prims values e fits none p ef ey et er =
+    let h = no_field old.frames last section pos prims values e none in
+    leaves_parts old mid new last section pos prims values (goes_on old mid last section pos prims values false fits h.0 h.1 p) e ef ey et er
+
+-- a field of what is on top comes next, or none is left there
+
+pub field_ready : (old new : Seen) → FieldGoesOn true old new → Ready new (after_value old)
+unfolding FieldGoesOn GoesOn
+field_ready old new h = h.0
+
+pub field_kept : (old new : Seen) → FieldGoesOn true old new → Kept old new
+unfolding FieldGoesOn GoesOn
+field_kept old new h = h.1
+
+pub field_at_last : (start old new : Seen) → FieldGoesOn true old new → after_value old ≡ after_value start → Ready new (after_value start)
+unfolding FieldGoesOn
+field_at_last start old new h e = comes_at_last start old new h e
+
+pub field_kept_on : (start old new : Seen) → FieldGoesOn true old new → Kept start old → Kept start new
+unfolding FieldGoesOn
+field_kept_on start old new h k = kept_on start old new true h k
+
+pub field_same : (old new : Seen) → FieldGoesOn false old new → new ≡ old
+unfolding FieldGoesOn
+field_same old new h = h.0
+
+pub none_left : (old new : Seen) → FieldGoesOn false old new → HasNoField new.frames
+unfolding FieldGoesOn
+none_left old new h = subst (λ (r : Seen). HasNoField r.frames) (sym h.0) h.1

@@ -2,7 +2,7 @@
 use Rattle.std.specs.Prelude.{◌≡◌, ◌<◌, suc, Bool, true, false, List, ◌∷◌, length}
 use Rattle.jser_reading.specs.Goals.{Part, parts_goal, State, settle}
 use Rattle.jser_reader.specs.declared.frame.Frame.{Frame}
-use Rattle.jser_reader.specs.Stacks.{tail_of}
+use Rattle.jser_reader.specs.Stacks.{tail_of, HasNoField}
 use Rattle.jser_reader.specs.Frames.{frame_goals}
 use Rattle.jser_reader.specs.Readers.{Seen, moment_of, goals_of, Ready}
 
@@ -37,3 +37,11 @@ GoCases false old new = (after_value new ≡ after_value old) × Kept old new ×
 
 unfoldable pub GoesOn : Bool → Seen → Seen → Type 0
 GoesOn b old new = GoCases b old new
+
+-- the next raw value or value of what is on top comes next; or none is left
+abbrev pub FieldCases : Bool → Seen → Seen → Type 0
+FieldCases true old new = GoesOn true old new
+FieldCases false old new = (new ≡ old) × HasNoField old.frames
+
+unfoldable pub FieldGoesOn : Bool → Seen → Seen → Type 0
+FieldGoesOn b old new = FieldCases b old new

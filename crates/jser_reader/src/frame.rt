@@ -1,4 +1,5 @@
 //! Frames: what is open while a field is read, one for each array, object and descriptor.
+ghost use Rattle.jser_reader.specs.Stacks.{GivesValue, GivesRaw};
 
 use jser_table::SectionNumber;
 
@@ -66,4 +67,69 @@ pub(crate) enum Frame {
         /// What it is read as.
         role: Role,
     },
+}
+
+/// A raw value of an object: its section, and its place among the raw values there.
+#[derive(Clone, Copy)]
+pub(crate) struct RawPlace {
+    pub(crate) section: SectionNumber,
+    pub(crate) pos: u16,
+}
+
+impl Frame {
+    /// Counts the next value, where the next part is a value.
+    #[inline(always)]
+    pub(crate) fn next_value(&mut self) -> bool
+        ensures { GivesValue result self.old self.new }
+    {
+        match self {
+            Frame::Elements { left } => {
+                if *left == 0 {
+                    return false;
+                }
+                *left -= 1;
+                true
+            }
+            Frame::Fields {
+                pos,
+                prims,
+                values,
+                ..
+            } => {
+                if *pos < *prims || *values == 0 {
+                    return false;
+                }
+                *values -= 1;
+                true
+            }
+            Frame::Notes { .. } | Frame::ExternalNotes | Frame::Descriptor { .. } => false,
+        }
+    }
+
+    /// Counts the next raw value, where the next part is one.
+    #[inline(always)]
+    pub(crate) fn next_raw(&mut self) -> Option<RawPlace>
+        ensures { GivesRaw result self.old self.new }
+    {
+        match self {
+            Frame::Fields {
+                section,
+                pos,
+                prims,
+                ..
+            } => {
+                if *pos >= *prims {
+                    return None;
+                }
+                let raw = RawPlace {
+                    section: *section,
+                    pos: *pos,
+                };
+                *pos += 1;
+                Some(raw)
+            }
+            Frame::Elements { .. } | Frame::Notes { .. } => None,
+            Frame::ExternalNotes | Frame::Descriptor { .. } => None,
+        }
+    }
 }

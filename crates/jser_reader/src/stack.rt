@@ -1,8 +1,8 @@
 //! The stack of frames. Its top lies in a field of its own, since nearly all work is done there.
 ghost use Rattle.std.specs.Prelude.{◌≡◌, ◌∷◌, ◌-◌, ◌^◌, ◌<◌, [], length, OnOk, OnErr};
-ghost use Rattle.jser_reader.specs.Stacks.{IsTop, tail_of};
+ghost use Rattle.jser_reader.specs.Stacks.{IsTop, CountsValue, CountsRaw, tail_of};
 
-use crate::frame::Frame;
+use crate::frame::{Frame, RawPlace};
 use std::alloc::{AllocError, Global};
 use std::marker::Model;
 
@@ -57,6 +57,28 @@ impl Stack {
         ensures { IsTop self.now result }
     {
         self.top
+    }
+
+    /// Counts the next value of what is on top, where the next part of that is a value.
+    #[inline(always)]
+    pub(crate) fn next_value(&mut self) -> bool
+        ensures { CountsValue result self.old self.new }
+    {
+        match &mut self.top {
+            Some(frame) => frame.next_value(),
+            None => false,
+        }
+    }
+
+    /// Counts the next raw value of what is on top, where the next part of that is one.
+    #[inline(always)]
+    pub(crate) fn next_raw(&mut self) -> Option<RawPlace>
+        ensures { CountsRaw result self.old self.new }
+    {
+        match &mut self.top {
+            Some(frame) => frame.next_raw(),
+            None => None,
+        }
     }
 
     /// Puts a frame on top. The stack is as it was where memory runs out.

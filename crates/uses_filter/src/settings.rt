@@ -60,7 +60,7 @@ pub fn depth_limit(filter: &Filter, own: u64) -> u64
 
 /// Whether the table puts the package into this module.
 pub fn is_in_module(modules: &Modules, package: &[u16], module: &[u16]) -> bool
-    ensures { result ≡ is_module module.now (module_of modules.now «package».now) }
+    ensures { result ≡ is_module «module».now (module_of modules.now «package».now) }
 {
     match modules.get(package) {
         Some(found) => found == module,

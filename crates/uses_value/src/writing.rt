@@ -1,5 +1,5 @@
 //! A writer, who measures a stream before he writes it, and tells what went out where writing failed.
-ghost use Rattle.std.specs.Prelude.{◌≡◌, List, ℕ, Option, None, false, length, IfOk, OnOk, IfErr};
+ghost use Rattle.std.specs.Prelude.{◌≡◌, List, ℕ, Option, None, true, false, length, MatchBool, IfOk, OnOk, IfErr};
 ghost use Rattle.std.specs.Io.KnownBytes.{Appends};
 ghost use Rattle.jser_grammar.specs.Spelling.{spelling};
 ghost use Rattle.jser_value.specs.View.{view_contents};
@@ -33,6 +33,14 @@ pub fn measured(contents: &Contents) -> u64
         Ok(count) => count,
         Err(_) => unreachable!(),
     }
+}
+
+/// Writes the stream of these contents to a sink that has not failed. The answer is whether the sink takes more.
+pub fn goes_on<W: Sink>(contents: &Contents, sink: &mut W) -> bool
+    requires { W.has_failed sink.old ≡ false }
+    ensures { MatchBool result (W.has_failed sink.new ≡ false) (W.has_failed sink.new ≡ true) }
+{
+    encode(contents, sink).is_ok()
 }
 
 /// Why a list was not written.

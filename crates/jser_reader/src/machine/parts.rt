@@ -7,8 +7,8 @@ ghost use Rattle.jser_reader.specs.declared.frame.Frame.{Frame};
 ghost use Rattle.jser_reader.specs.Frames.{rest_of_section};
 ghost use Rattle.jser_reader.specs.Fitting.{FrameFits, HasParts};
 ghost use Rattle.jser_reader.specs.Readers.{Ready};
-ghost use Rattle.jser_reader.specs.Stacks.{tail_of};
-ghost use Rattle.jser_reader.specs.Steps.{Kept, PartGives, GoesOn, after_value};
+ghost use Rattle.jser_reader.specs.Stacks.{tail_of, HasNoField};
+ghost use Rattle.jser_reader.specs.Steps.{Kept, PartGives, GoesOn, FieldGoesOn, after_value};
 
 use crate::frame::Frame;
 use crate::machine::Machine;
@@ -87,75 +87,44 @@ impl Machine {
         self.next_section(last, section)
     }
 
-    /// The next part of the object on top.
-    #[tactic(auto, using(crate::proofs::PartLemmas::fits_fields, crate::proofs::PartLemmas::goes_prims, crate::proofs::PartLemmas::goes_value, crate::proofs::PartLemmas::goes_on, crate::proofs::LayerLemmas::layers_of_part, crate::proofs::LayerLemmas::parts_are_some))]
-    fn next_part(
-        &mut self,
-        last: SectionNumber,
-        section: SectionNumber,
-        pos: u16,
-        prims: u16,
-        values: u16,
-    ) -> bool
-        requires parts { HasParts self.old.frames }
-        requires fits { FrameFits self.old.table.entries self.old.table.chains (Frame.Fields last section pos prims values) }
+    /// The next raw value or value of what is on top comes next, if one is left there.
+    #[tactic(auto, using(crate::proofs::PartLemmas::fits_value, crate::proofs::PartLemmas::value_comes, crate::proofs::PartLemmas::fits_raw, crate::proofs::PartLemmas::raw_stands, crate::proofs::PartLemmas::raw_comes, crate::proofs::PartLemmas::none_comes, crate::proofs::LayerLemmas::layers_of_value, crate::proofs::LayerLemmas::layers_of_raw))]
+    #[inline(always)]
+    fn next_field(&mut self) -> bool
         ensures meter { self.new.meter ≡ self.old.meter }
-        ensures parts { HasParts self.new.frames }
-        ensures part { PartGives result self.old self.new
-            (rest_of_section pos values (layer_of self.old.table.chains section) (under self.old.table.chains last section)) }
+        ensures field { FieldGoesOn result self.old self.new }
     {
-        if pos < prims {
-            self.left = u64::from(self.table.prim_size(section, pos));
-            self.frames.set_top(Frame::Fields {
-                last,
-                section,
-                pos: pos + 1,
-                prims,
-                values,
-            });
-            self.phase = Phase::Prims;
-            return true;
-        }
-        if values > 0 {
-            self.frames.set_top(Frame::Fields {
-                last,
-                section,
-                pos,
-                prims,
-                values: values - 1,
-            });
+        if self.frames.next_value() {
             self.phase = Phase::Value;
             return true;
         }
-        self.section_end(last, section)
+        match self.frames.next_raw() {
+            None => false,
+            Some(raw) => {
+                self.left = u64::from(self.table.prim_size(raw.section, raw.pos));
+                self.phase = Phase::Prims;
+                true
+            }
+        }
     }
 
-    /// The next part of what is on top, which is this frame; where there is none, the frame is taken off.
-    #[tactic(auto, using(crate::proofs::PartLemmas::fits_elements, crate::proofs::PartLemmas::fits_tail, crate::proofs::PartLemmas::leaves_elements, crate::proofs::PartLemmas::leaves_parts, crate::proofs::PartLemmas::at_element, crate::proofs::PartLemmas::at_part, crate::proofs::PartLemmas::at_notes, crate::proofs::LayerLemmas::layers_of_part, crate::proofs::LayerLemmas::layers_of_tail))]
-    fn go_on(&mut self, frame: Frame) -> bool
+    /// What comes after the fields or elements of what is on top, which is this frame; where nothing does, the frame is
+    /// taken off.
+    #[tactic(auto, using(crate::proofs::PartLemmas::fits_tail, crate::proofs::PartLemmas::after_elements, crate::proofs::PartLemmas::after_section, crate::proofs::PartLemmas::after_sections, crate::proofs::PartLemmas::at_notes, crate::proofs::LayerLemmas::layers_of_tail))]
+    fn after_fields(&mut self, frame: Frame) -> bool
         requires top { self.old.frames ≡ frame ∷ tail_of self.old.frames }
         requires fits { FrameFits self.old.table.entries self.old.table.chains frame }
+        requires none { HasNoField self.old.frames }
         ensures meter { self.new.meter ≡ self.old.meter }
         ensures goes { GoesOn result self.old self.new }
     {
         match frame {
-            Frame::Elements { left } => {
-                if left > 0 {
-                    self.frames.set_top(Frame::Elements { left: left - 1 });
-                    self.phase = Phase::Value;
-                    return true;
-                }
+            Frame::Elements { .. } => {
                 self.frames.pop();
                 false
             }
-            Frame::Fields {
-                last,
-                section,
-                pos,
-                prims,
-                values,
-            } => {
-                if self.next_part(last, section, pos, prims, values) {
+            Frame::Fields { last, section, .. } => {
+                if self.section_end(last, section) {
                     return true;
                 }
                 self.frames.pop();
@@ -183,15 +152,32 @@ impl Machine {
     }
 
     /// A value has ended, below the top of the stream.
+    #[tactic(auto, using(crate::proofs::PartLemmas::field_ready, crate::proofs::PartLemmas::field_kept, crate::proofs::PartLemmas::field_same, crate::proofs::PartLemmas::none_left))]
     #[inline(never)]
-    #[tactic(auto, using(crate::proofs::PartLemmas::at_top, crate::proofs::PartLemmas::comes_at_last, crate::proofs::PartLemmas::kept_on, crate::proofs::PartLemmas::left_over, crate::proofs::PartLemmas::goes_shorter, crate::proofs::PartLemmas::fits_top))]
     fn frames_done(&mut self)
         ensures ready { Ready self.new (after_value self.old) }
         ensures kept { Kept self.old self.new }
         ensures meter { self.new.meter ≡ self.old.meter }
     {
+        if !self.next_field() {
+            self.next_parts();
+        }
+    }
+
+    /// A value has ended below the top of the stream, the last one of what is on top.
+    #[tactic(auto, using(crate::proofs::PartLemmas::at_top, crate::proofs::PartLemmas::comes_at_last, crate::proofs::PartLemmas::kept_on, crate::proofs::PartLemmas::left_over, crate::proofs::PartLemmas::goes_shorter, crate::proofs::PartLemmas::fits_top, crate::proofs::PartLemmas::field_at_last, crate::proofs::PartLemmas::field_kept_on, crate::proofs::PartLemmas::field_same, crate::proofs::PartLemmas::none_left))]
+    #[inline(never)]
+    fn next_parts(&mut self)
+        requires none { HasNoField self.old.frames }
+        ensures ready { Ready self.new (after_value self.old) }
+        ensures kept { Kept self.old self.new }
+        ensures meter { self.new.meter ≡ self.old.meter }
+    {
         'frames: while let Some(frame) = self.frames.top() {
-            if self.go_on(frame) {
+            if self.after_fields(frame) {
+                return;
+            }
+            if self.next_field() {
                 return;
             }
         }

@@ -1,7 +1,7 @@
 //! Each caller on a worked case.
 use crate::admission::{Advice, advice_on, is_stream, take_again};
 use crate::sameness::{count, entries, one_end, same_by_bytes};
-use crate::writing::{WriteFault, measured, write};
+use crate::writing::{WriteFault, goes_on, measured, write};
 use jser_prim::ToWrite;
 use jser_value::{Body, ClassPlace, Content, Contents, Prim, Text, Value};
 use std::alloc::{AllocError, Global};
@@ -50,6 +50,11 @@ fn kept_contents(rt: HostRuntime) -> Result<(), Fail> {
     assert_eq!(rt; count(&contents), 3);
     assert_eq!(rt; entries(&contents).len(), 3);
     assert_eq!(rt; measured(&contents), 16);
+    let mut page = [0u8; 32];
+    let mut sink = ToWrite::new(&mut page[..]);
+    assert!(rt; goes_on(&contents, &mut sink));
+    assert!(rt; goes_on(&contents, &mut sink));
+    assert!(rt; !goes_on(&contents, &mut sink));
     Ok(())
 }
 
