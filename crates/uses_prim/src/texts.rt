@@ -126,6 +126,16 @@ pub fn is_mended(scan: &mut TextScan, byte: u8) -> bool
     scan.is_done()
 }
 
+/// Scans what came of a text, and tells whether the text is complete. One that was at fault before never is,
+/// however much of it is still to come.
+pub fn is_complete_after(scan: &mut TextScan, bytes: &[u8]) -> bool
+    requires { length bytes.now ≤ scan.old.left }
+    ensures { scan.old.has_failed ≡ true → result ≡ false }
+{
+    let _ = scan.push_all(bytes);
+    scan.is_done()
+}
+
 /// Whether a text that is at fault in these bytes goes on with one more byte: it never does.
 pub fn goes_on_after_fault(scan: &mut TextScan, bytes: &[u8], byte: u8) -> bool
     requires { length bytes.now ≤ scan.old.left }

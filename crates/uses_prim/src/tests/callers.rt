@@ -6,8 +6,9 @@ use crate::sinks::{begun, give_byte, given, is_delivered, is_lost, is_open};
 use crate::sources::{fails_now, last_taken, opened, take_again};
 use crate::spelling::{spelled, spells};
 use crate::texts::{
-    can_begin, drained, ends_with, faulty_byte, first_fault, goes_on_after_fault, is_mended,
-    is_text, is_text_in_two, is_whole, own_bytes, push_again, push_more, push_pair, units_in,
+    can_begin, drained, ends_with, faulty_byte, first_fault, goes_on_after_fault,
+    is_complete_after, is_mended, is_text, is_text_in_two, is_whole, own_bytes, push_again,
+    push_more, push_pair, units_in,
 };
 use jser_prim::{Failed, TextFault, TextScan, ToWrite};
 use std::test::Fail;
@@ -59,7 +60,10 @@ fn texts_in_pieces(rt: HostRuntime) {
     if scan.push(0x00).is_err() {
         assert!(rt; !drained(&mut scan, b"a", b"bc"));
         assert!(rt; !is_mended(&mut scan, 0x61));
+        assert!(rt; !is_complete_after(&mut scan, b""));
     }
+    assert!(rt; is_complete_after(&mut TextScan::new(1), b"a"));
+    assert!(rt; !is_complete_after(&mut TextScan::new(2), b"a"));
 }
 
 #[test]
