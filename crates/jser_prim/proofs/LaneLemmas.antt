@@ -1,6 +1,7 @@
 -- From the mask of one load to the bytes that it speaks of.
-use Rattle.std.proofs.Common.{◌≡◌, ℕ, ◌+◌, ◌%◌, ◌^◌, ◌<◌, ◌≤◌, Bool, true, not, ◌&&◌, ◌||◌, List, map, length, get_or, Fits, w8, sym, ap, ◌∙◌, arith, rules, tests}
-use Rattle.std.specs.Prelude.{nat_le, nat_lt}
+use Rattle.std.proofs.Common.{◌≡◌, ℕ, ◌+◌, ◌%◌, ◌^◌, ◌<◌, ◌≤◌, Bool, true, false, not, ◌&&◌, ◌||◌, List, map, length, get_or, Fits, w8, refl, sym, ap, ◌∙◌, arith, rules, tests}
+use Rattle.std.specs.Prelude.{nat_le, nat_lt, slice_index}
+use Rattle.std.proofs.lemmas.Bool.Decides.{nat_tests}
 use Rattle.std.proofs.lemmas.Bool.{agree_below, agree_below_at}
 use Rattle.std.proofs.lemmas.Simd.{first_set_mask_l, length-chunk, map-map, mask_l-mod, run_in_chunk_fails, run_in_chunk_le}
 use Rattle.std.proofs.lemmas.List.{length-map}
@@ -14,6 +15,14 @@ is_ascii b = nat_le 1 b && nat_lt b 0x80
 
 ascii_means : (b : ℕ) → is_ascii b ≡ true → (1 ≤ b) × (b < 0x80)
 ascii_means b test = (search (rules, tests), search (rules, tests))
+
+-- a run, and one that begins within it or just after it
+pub ascii_joined : (bytes : List ℕ) (a b c : ℕ) → IsAsciiBetween bytes 0 a → IsAsciiBetween bytes b c → b ≤ a → IsAsciiBetween bytes 0 c
+ascii_joined bytes a b c first second le = λ k from to. go k to (nat_lt k a) refl
+  where
+    go : (k : ℕ) → k < c → (x : Bool) → nat_lt k a ≡ x → (1 ≤ slice_index bytes k) × (slice_index bytes k < 0x80)
+    go k to true e = let before : k < a = grind (arith, nat_tests) in first k (omega arith) before
+    go k to false e = let after : a ≤ k = grind (arith, nat_tests) in second k (omega arith) to
 
 module _ (bytes : List ℕ) (at lanes run : ℕ) (mask : List ℕ) (room : at + lanes ≤ length bytes) (few : lanes ≤ 64)
     (fits : (k : ℕ) → Fits w8 (get_or bytes k 0)) (found : run ≡ first_set (mask_l (map (top 7) mask) % 2 ^ 64) lanes)

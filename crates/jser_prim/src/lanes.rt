@@ -13,7 +13,9 @@ const HALF: usize = 8;
 /// How many bytes are tested together within a long run.
 const BLOCK: usize = 64;
 
-/// How many bytes at the front of `bytes` come before the first that is not a unit of one byte.
+/// How many bytes at the front of `bytes` come before the first that is not a unit of one byte. The last bytes, where they
+/// are too few for a load, are searched with some that were searched before.
+#[tactic(auto, using(crate::proofs::LaneLemmas::ascii_joined))]
 pub(crate) fn ascii_len(bytes: &[u8]) -> usize
     ensures within { result ≤ length bytes.now }
     ensures ascii { IsAsciiBetween bytes.now 0 result }
@@ -27,12 +29,17 @@ pub(crate) fn ascii_len(bytes: &[u8]) -> usize
         }
         len = after_blocks(bytes, len);
     }
-    if bytes.len() - len >= HALF {
-        let run = ascii_half(bytes, len);
-        len += run;
+    if bytes.len() >= LANES {
+        let at = bytes.len() - LANES;
+        return at + ascii_run(bytes, at);
+    }
+    if bytes.len() >= HALF {
+        let run = ascii_half(bytes, 0);
         if run < HALF {
-            return len;
+            return run;
         }
+        let at = bytes.len() - HALF;
+        return at + ascii_half(bytes, at);
     }
     'bytes: while len < bytes.len() && 0x01 <= bytes[len] && bytes[len] < 0x80 {
         len += 1;

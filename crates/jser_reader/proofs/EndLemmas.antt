@@ -10,7 +10,7 @@ use Rattle.jser_reader.specs.Readers.{Seen, Header, Ready}
 use Rattle.jser_reader.specs.Steps.{Kept, after_value}
 use Rattle.jser_reader.specs.Handlers.{StopsWith, refusal, moved, Comes, Tells, TellsSurely, IsNext}
 
-same_value : (old new : Seen) → new.frames ≡ old.frames → new.layers ≡ old.layers → new.table ≡ old.table → new.refs ≡ old.refs → after_value new ≡ after_value old
+pub same_value : (old new : Seen) → new.frames ≡ old.frames → new.layers ≡ old.layers → new.table ≡ old.table → new.refs ≡ old.refs → after_value new ≡ after_value old
 unfolding after_value
 same_value old new ef ey et er = rw ef (rw ey (rw et (rw er refl)))
 

@@ -51,3 +51,4 @@ pub mod ItemCalls
 pub mod ItemLaws
 pub mod SkipMemory
 pub mod PassLemmas
+pub mod WholeLemmas

@@ -13,7 +13,7 @@ use Rattle.jser_reader.specs.declared.frame.Frame.TheVariants as frame
 use Rattle.jser_reader.specs.declared.frame.RawPlace.{RawPlace}
 use Rattle.jser_reader.specs.declared.phase.Phase.{Phase}
 use Rattle.jser_reader.specs.declared.phase.Phase.TheVariants as phase
-use Rattle.jser_reader.specs.Stacks.{tail_of, HasNoRaw, HasNoValue, IsOnTop, HasNoField, CountsValue, CountsRaw}
+use Rattle.jser_reader.specs.Stacks.{tail_of, HasNoRaw, IsOnTop, HasNoField, CountsValue, CountsRaw}
 use Rattle.jser_reader.specs.Frames.{frame_goals, rest_of_section}
 use Rattle.jser_reader.specs.Fitting.{FrameFits, IsBelow, bound_below, FramesFit, AllFit}
 use Rattle.jser_reader.specs.Readers.{Seen, moment_of, Ready, ReadyAt, HasNotes}

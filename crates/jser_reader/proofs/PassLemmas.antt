@@ -1,5 +1,5 @@
 -- A step of `skip`: what was taken of a piece, field after field.
-use Rattle.std.proofs.Common.{◌≡◌, ℕ, zero, suc, ◌+◌, ◌-◌, ◌^◌, ◌<◌, ◌≤◌, ◌==◌, Bool, true, false, nat_lt, max, ◌&&◌, List, [], ◌∷◌, ◌++◌, length, take, drop, Option, Some, None, Result, Ok, Err, refl, sym, ◌∙◌, ap, subst, arith, append_assoc, append-nil, length-append}
+use Rattle.std.proofs.Common.{◌≡◌, ℕ, zero, suc, ◌+◌, ◌-◌, ◌^◌, ◌<◌, ◌≤◌, ◌==◌, Bool, true, false, nat_lt, max, ◌&&◌, List, ◌∷◌, ◌++◌, length, take, drop, Option, Some, None, Result, Ok, Err, refl, sym, ◌∙◌, ap, subst, arith, append_assoc, append-nil, length-append}
 use Rattle.std.proofs.lemmas.Bool.Decides.{nat_tests}
 use Rattle.std.proofs.lemmas.List.{length-take-le, take-append-drop}
 use Rattle.jser_grammar.specs.Parts.{IsBytes}
@@ -51,7 +51,7 @@ use Rattle.jser_reader.proofs.NextLemmas.{CountsField, next_item, next_full, no_
 
 -- ---- one step after another
 
-joined_takes : (piece rest : List ℕ) (used k : ℕ) → used ≤ length piece → piece ≡ take used piece ++ rest → take used piece ++ take k rest ≡ take (used + k) piece
+pub joined_takes : (piece rest : List ℕ) (used k : ℕ) → used ≤ length piece → piece ≡ take used piece ++ rest → take used piece ++ take k rest ≡ take (used + k) piece
 joined_takes piece rest used k le e =
     take_more (take used piece) rest k ∙ ap (λ n. take (n + k) (take used piece ++ rest)) (length-take-le used piece le) ∙ ap (take (used + k)) (sym e)
 
@@ -239,19 +239,23 @@ quiet_tally old new tally et er =
     (ap (λ b. tally.earlier + number_if (b && new.entries == 0) old.entries) et ∙ n)
     (ap (λ b. max tally.depth (number_if b old.depth)) none ∙ d)
 
+pub quiet_takes : (gate : Gate) (used : ℕ) (piece : List ℕ) (old new : Seen) (tally : Tally) → used ≤ length piece → Takes gate (take used piece) true old new
+    → IsQuiet old.phase → CanPass old piece → Passes gate piece (Some used) old tally new tally
+unfolding PassTells PassInside StandsFor
+quiet_takes gate used piece old new tally le t q can = record {
+  tells = λ bytes st.
+      let x = field_counts gate bytes piece piece used old new tally can.within le can.all_bytes t st.0 st.1 in
+      let refs = quiet_refs gate old new bytes (take used piece) t (bytes_front used piece can.all_bytes) st.0.taken q in
+      let same = quiet_tally (mark_of old) (mark_of new) tally (quiet_top old.phase q) refs in
+      (le, (subst (λ a. HasCounted gate (bytes ++ take used piece) new a) same x.0, x.1));
+  inside = λ front cut label st comes inside. absurd (ended_inside gate piece used old new tally front cut label t st comes inside);
+}
+
 pub quiet_end : (gate : Gate) (used : ℕ) (took : Taken) (piece : List ℕ) (old new : Seen) (tally : Tally) → TakesFromFor gate took piece old new
     → took ≡ taken.Ended used → IsQuiet old.phase → CanPass old piece → Passes gate piece (Some used) old tally new tally
-unfolding TakesFromFor PassTells PassInside StandsFor
+unfolding TakesFromFor
 quiet_end gate used took piece old new tally k e q can =
-    let t = subst (λ x. TakenCases gate x piece old new) e k in
-    record {
-      tells = λ bytes st.
-          let x = field_counts gate bytes piece piece used old new tally can.within t.1 can.all_bytes t.2 st.0 st.1 in
-          let refs = quiet_refs gate old new bytes (take used piece) t.2 (bytes_front used piece can.all_bytes) st.0.taken q in
-          let same = quiet_tally (mark_of old) (mark_of new) tally (quiet_top old.phase q) refs in
-          (t.1, (subst (λ a. HasCounted gate (bytes ++ take used piece) new a) same x.0, x.1));
-      inside = λ front cut label st comes inside. absurd (ended_inside gate piece used old new tally front cut label t.2 st comes inside);
-    }
+    let t = subst (λ x. TakenCases gate x piece old new) e k in quiet_takes gate used piece old new tally t.1 t.2 q can
 
 -- ---- a field goes on
 

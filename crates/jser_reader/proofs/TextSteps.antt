@@ -24,7 +24,7 @@ use Rattle.jser_reader.specs.TextStates.{text_reason_of, text_reason, text_state
 use Rattle.jser_reader.specs.Walks.{size_of_phase, IsRightSoFar, CutStands, HasRead, HasReadAfter, TextStands, StandsAt, Stands, Took, Takes, Keeps, Counts, open_phase, cut_of}
 use Rattle.jser_reader.proofs.WalkLemmas.{before_last, walk_open}
 use Rattle.jser_reader.proofs.StandLemmas.{LeadsTo, tells_surely, surely_goes_on, judged}
-use Rattle.jser_reader.proofs.PhaseLemmas.{text_position, IsTextOf, text_is, is_open, ready_counted, counted_is}
+use Rattle.jser_reader.proofs.PhaseLemmas.{text_position, IsTextOf, text_is, is_open, whole_open, ready_counted, counted_is}
 use Rattle.jser_reader.proofs.FixedWalks.{limits_counted}
 use Rattle.jser_reader.proofs.TextWalks.{IsTextAt, name_reason, no_head, spelled, spelled_undecided, spelled_reason, spelled_found, with_length, begun_undecided, begun_more, fault_reason, negative_reason}
 
@@ -170,6 +170,17 @@ empty_text_taken gate long found old mid new taken h eo some e c = λ s cut st.
     empty : (long : Bool) → IsText long []
     empty false = (refl, omega arith)
     empty true = (refl, omega arith)
+
+-- the length of a text and its bytes, all at once
+pub short_text_taken : (gate : Gate) (old mid new : Seen) (taken units : List ℕ)
+    → (IsInside mid.text mid.frames → TellsSurely (text_reason gate mid units) (after_text mid units) true mid new)
+    → old.phase ≡ phase.Length2 → 0 < length taken → Counts taken old mid → IsText false units → spelled false units ≡ taken → Takes gate taken true old new
+unfolding Takes
+short_text_taken gate old mid new taken units h ep some c t e = λ s cut st.
+    let w = whole_open phase.Length2 old ep (omega arith) in
+    let o = is_open phase.Length2 old (settled s) cut st.stands w.0 (omega arith) in
+    whole_taken gate true old mid new s cut taken false units h st c some (length_open false old s o.ready) t
+    (e ∙ ap (λ xs. xs ++ taken) (sym (o.cut_is ∙ w.1)))
 
 -- the bytes of a text come next
 pub text_opened : (gate : Gate) (long : Bool) (len : ℕ) (old new : Seen) (taken : List ℕ)

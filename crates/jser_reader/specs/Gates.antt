@@ -1,5 +1,4 @@
 -- What a gate answers, and the gate that passes all.
-use Rattle.std.specs.Prelude.{◌^◌, ◌-◌}
 use Rattle.jser_grammar.specs.Caps.{most_bytes, most_depth, most_refs, most_array, most_handles}
 use Rattle.jser_verdict.specs.Gates.{Gate, pass, rejected, unmatched}
 use Rattle.jser_verdict.specs.Gates.{Answer as ToldAnswer}

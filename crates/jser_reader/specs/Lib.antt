@@ -22,6 +22,7 @@ pub mod Descriptors
 pub mod FieldLists
 pub mod ReaderStates
 pub mod Passes
+pub mod Wholes
 pub mod Bounds
 pub mod States
 pub mod Streams

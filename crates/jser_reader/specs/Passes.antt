@@ -1,5 +1,5 @@
 -- What a reader says of a step that takes some of the front of a piece and lends nothing: a field, part of one, or several.
-use Rattle.std.specs.Prelude.{◌≡◌, ◌≢◌, ℕ, ◌+◌, ◌<◌, ◌≤◌, List, ◌++◌, length, take, Option, Some, None}
+use Rattle.std.specs.Prelude.{◌≡◌, ◌≢◌, ℕ, ◌<◌, ◌≤◌, List, ◌++◌, length, take, Option, Some, None}
 use Rattle.jser_grammar.specs.Parts.{IsBytes}
 use Rattle.jser_reading.specs.Labels.{Label, Piece}
 use Rattle.jser_reading.specs.ComesNext.{ComesNext}

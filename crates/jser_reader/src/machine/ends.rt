@@ -56,4 +56,16 @@ impl Machine {
         self.value_done();
         true
     }
+
+    /// The same; the next field or element of what is on top is found in line.
+    #[tactic(auto, using(crate::proofs::EndLemmas::ends))]
+    #[inline(always)]
+    pub(super) fn ended_in_line(&mut self) -> bool
+        ensures comes { Comes self.old self.new (after_value self.old) }
+        ensures result { result ≡ true }
+    {
+        self.from = self.at;
+        self.value_done_in_line();
+        true
+    }
 }

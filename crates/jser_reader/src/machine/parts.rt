@@ -151,6 +151,24 @@ impl Machine {
         }
     }
 
+    /// A value has ended. The next field or element of what is on top is found in line.
+    #[tactic(auto, using(crate::proofs::PartLemmas::at_top, crate::proofs::PartLemmas::field_ready, crate::proofs::PartLemmas::field_kept, crate::proofs::PartLemmas::field_same, crate::proofs::PartLemmas::none_left))]
+    #[inline(always)]
+    pub(super) fn value_done_in_line(&mut self)
+        ensures ready { Ready self.new (after_value self.old) }
+        ensures kept { Kept self.old self.new }
+        ensures meter { self.new.meter ≡ self.old.meter }
+    {
+        match self.frames.top() {
+            None => self.phase = Phase::Top,
+            Some(_) => {
+                if !self.next_field() {
+                    self.next_parts();
+                }
+            }
+        }
+    }
+
     /// A value has ended, below the top of the stream.
     #[tactic(auto, using(crate::proofs::PartLemmas::field_ready, crate::proofs::PartLemmas::field_kept, crate::proofs::PartLemmas::field_same, crate::proofs::PartLemmas::none_left))]
     #[inline(never)]

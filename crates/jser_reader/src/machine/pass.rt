@@ -1,7 +1,6 @@
 //! Steps of a call that takes a whole piece: what comes next is taken from the front of the piece, and nothing is lent.
 //! For the common values several fields are taken in one step, without a look at all the others.
 ghost use Rattle.std.specs.Prelude.{◌≡◌, ◌<◌, length};
-ghost use Rattle.jser_reader.specs.Cuts.{IsFour};
 ghost use Rattle.jser_reader.specs.Passes.{Passes, HasPassed, CanPass, IsQuiet};
 ghost use Rattle.jser_reader.specs.Takes.{IsOne};
 ghost use Rattle.jser_verdict.specs.Gates.{Gate as ToldGate};
@@ -82,69 +81,7 @@ impl Machine {
         }
     }
 
-    /// Takes a field of one byte, which comes next and changes no count.
-    #[inline(always)]
-    pub(super) fn pass_one(&mut self, piece: &[u8]) -> Option<usize>
-        requires can { CanPass self.old piece.now }
-        requires some { 0 < length piece.now }
-        requires one { IsOne self.old.phase }
-        requires quiet { IsQuiet self.old.phase }
-        ensures passes { (gate : ToldGate) (tally : Tally) → Passes gate piece.now result self.old tally self.new tally }
-        ensures progress { HasPassed piece.now result }
-    {
-        self.take_one(piece).passed(piece.len())
-    }
-
-    /// Takes bytes of a number of four bytes, which comes next and changes no count.
-    #[inline(always)]
-    pub(super) fn pass_four(&mut self, piece: &[u8]) -> Option<usize>
-        requires can { CanPass self.old piece.now }
-        requires some { 0 < length piece.now }
-        requires four { IsFour self.old.phase }
-        requires quiet { IsQuiet self.old.phase }
-        ensures passes { (gate : ToldGate) (tally : Tally) → Passes gate piece.now result self.old tally self.new tally }
-        ensures progress { HasPassed piece.now result }
-    {
-        self.take_four(piece).passed(piece.len())
-    }
-
-    /// Takes bytes of the length of a text, in two bytes, which comes next.
-    #[inline(always)]
-    pub(super) fn pass_length<G: Gate>(&mut self, gate: &G, piece: &[u8]) -> Option<usize>
-        requires can { CanPass self.old piece.now }
-        requires some { 0 < length piece.now }
-        requires phase { self.old.phase ≡ Phase.Length2 }
-        ensures passes { (tally : Tally) → Passes (G.told gate.now) piece.now result self.old tally self.new tally }
-        ensures progress { HasPassed piece.now result }
-    {
-        self.take_short_length(gate, piece).passed(piece.len())
-    }
-
-    /// Takes bytes of the text that is open.
-    #[inline(always)]
-    pub(super) fn pass_text<G: Gate>(&mut self, gate: &G, piece: &[u8]) -> Option<usize>
-        requires can { CanPass self.old piece.now }
-        requires some { 0 < length piece.now }
-        requires phase { self.old.phase ≡ Phase.Text }
-        ensures passes { (tally : Tally) → Passes (G.told gate.now) piece.now result self.old tally self.new tally }
-        ensures progress { HasPassed piece.now result }
-    {
-        self.take_text(gate, piece).passed(piece.len())
-    }
-
-    /// Takes bytes of the block that is open.
-    #[inline(always)]
-    pub(super) fn pass_bytes(&mut self, piece: &[u8]) -> Option<usize>
-        requires can { CanPass self.old piece.now }
-        requires some { 0 < length piece.now }
-        requires phase { self.old.phase ≡ Phase.Bytes }
-        ensures passes { (gate : ToldGate) (tally : Tally) → Passes gate piece.now result self.old tally self.new tally }
-        ensures progress { HasPassed piece.now result }
-    {
-        self.take_block(piece).passed(piece.len())
-    }
-
-    /// Takes bytes of raw values, as long as others come after them.
+    /// Takes bytes of a raw value.
     #[inline(always)]
     fn pass_prim(&mut self, piece: &[u8]) -> Option<usize>
         requires can { CanPass self.old piece.now }
@@ -165,8 +102,8 @@ impl Machine {
         ensures passes { (gate : ToldGate) (tally : Tally) → Passes gate piece.now result self.old tally self.new tally }
         ensures progress { HasPassed piece.now result }
     {
-        let mut used = match self.pass_prim(piece) {
-            None => return None,
+        let mut used = match self.whole_raw(piece) {
+            None => return self.pass_prim(piece),
             Some(first) => first,
         };
         'values: while used < piece.len() {
@@ -174,8 +111,8 @@ impl Machine {
             if self.phase != Phase::Prims || !self.has_room(rest) {
                 return Some(used);
             }
-            match self.pass_prim(rest) {
-                None => return None,
+            match self.whole_raw(rest) {
+                None => return Some(used),
                 Some(more) => used += more,
             }
         }
