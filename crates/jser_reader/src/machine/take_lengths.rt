@@ -24,7 +24,6 @@ fn after_length(count: usize, progress: Progress) -> Taken
 impl Machine {
     /// Takes the length of a text in two bytes, which comes next, or as many of its bytes as there are.
     #[tactic(auto, using(crate::proofs::LengthLemmas::short_kept, crate::proofs::LengthLemmas::short_taken))]
-    #[inline(never)]
     pub(super) fn take_short_length<G: Gate>(&mut self, gate: &G, piece: &[u8]) -> Taken
         requires phase { self.old.phase ≡ Phase.Length2 }
         requires some { 0 < length piece.now }
