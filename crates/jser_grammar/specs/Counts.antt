@@ -4,6 +4,7 @@
 use Rattle.std.specs.Prelude.{ℕ, suc, ◌+◌, max, List, [], ◌∷◌, ◌++◌, length, sum}
 use Rattle.jser_grammar.specs.Trees.{ValueTree, null, back, string, descriptor, class_object, array, enum_constant, object, DescTree, plain, proxy, ClassPlaceTree, no_class, back_class, new_class, BodyTree, raw_body, value_body, ValueTrees, no_values, value_and, value_count, section, SectionTrees, no_sections, section_and, NotesTree, no_notes, annotation, block, reset, content, ContentTrees, no_contents, content_and}
 use Rattle.jser_grammar.specs.TableAfter.{Entries, after_value}
+use Rattle.jser_grammar.specs.InOrder.{gathered_in_contents}
 
 -- How many places there are: in a value with its own, in all else of those within it. A descriptor has one
 -- for its superclass.
@@ -95,53 +96,10 @@ abbrev mutual
   depth_in_contents (content_and reset cs) = depth_in_contents cs
   depth_in_contents (content_and (content v) cs) = max (depth_of_value v) (depth_in_contents cs)
 
--- the length of each array, in stream order
+-- the length of an array
 abbrev pub array_length : BodyTree → ℕ
 array_length (raw_body ps) = length ps
 array_length (value_body vs) = value_count vs
-
-abbrev mutual
-  pub arrays_in_value : ValueTree → List ℕ
-  arrays_in_value null = []
-  arrays_in_value (back n) = []
-  arrays_in_value (string t) = []
-  arrays_in_value (descriptor d) = arrays_in_desc d
-  arrays_in_value (class_object c) = arrays_in_class c
-  arrays_in_value (array c b) = arrays_in_class c ++ (array_length b ∷ arrays_in_body b)
-  arrays_in_value (enum_constant c t) = arrays_in_class c
-  arrays_in_value (object c ss) = arrays_in_class c ++ arrays_in_sections ss
-
-  pub arrays_in_desc : DescTree → List ℕ
-  arrays_in_desc (plain name suid flags fields notes parent) = arrays_in_contents notes ++ arrays_in_class parent
-  arrays_in_desc (proxy interfaces notes parent) = arrays_in_contents notes ++ arrays_in_class parent
-
-  pub arrays_in_class : ClassPlaceTree → List ℕ
-  arrays_in_class no_class = []
-  arrays_in_class (back_class n) = []
-  arrays_in_class (new_class d) = arrays_in_desc d
-
-  pub arrays_in_body : BodyTree → List ℕ
-  arrays_in_body (raw_body ps) = []
-  arrays_in_body (value_body vs) = arrays_in_values vs
-
-  pub arrays_in_values : ValueTrees → List ℕ
-  arrays_in_values no_values = []
-  arrays_in_values (value_and v vs) = arrays_in_value v ++ arrays_in_values vs
-
-  pub arrays_in_sections : SectionTrees → List ℕ
-  arrays_in_sections no_sections = []
-  arrays_in_sections (section_and (section ps vs n) ss) =
-      arrays_in_values vs ++ (arrays_in_notes n ++ arrays_in_sections ss)
-
-  pub arrays_in_notes : NotesTree → List ℕ
-  arrays_in_notes no_notes = []
-  arrays_in_notes (annotation cs) = arrays_in_contents cs
-
-  pub arrays_in_contents : ContentTrees → List ℕ
-  arrays_in_contents no_contents = []
-  arrays_in_contents (content_and (block long bytes) cs) = arrays_in_contents cs
-  arrays_in_contents (content_and reset cs) = arrays_in_contents cs
-  arrays_in_contents (content_and (content v) cs) = arrays_in_value v ++ arrays_in_contents cs
 
 -- how many handles each epoch has, from this table on
 abbrev pub epochs_from : Entries → ContentTrees → List ℕ
@@ -158,8 +116,9 @@ refs_of list = refs_in_contents list
 abbrev pub depth_of : ContentTrees → ℕ
 depth_of list = depth_in_contents list
 
+-- the length of each array, in stream order
 abbrev pub array_lengths : ContentTrees → List ℕ
-array_lengths list = arrays_in_contents list
+array_lengths list = gathered_in_contents (λ elements. array_length elements ∷ []) (λ names. []) list
 
 abbrev pub content_count : ContentTrees → ℕ
 content_count no_contents = 0

@@ -7,5 +7,6 @@ pub mod TableAfter
 pub mod Parts
 pub mod WellFormed
 pub mod Streams
+pub mod InOrder
 pub mod CheckedNames
 pub mod Counts

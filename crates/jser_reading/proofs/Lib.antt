@@ -20,8 +20,7 @@ pub mod Decoding
 pub mod PlainVerdict
 pub mod OneReading
 pub mod Observed
-pub mod NamesObserved
-pub mod ArraysObserved
+pub mod GatheredObserved
 pub mod PlacesObserved
 pub mod HandlesObserved
 pub mod WithinLimits

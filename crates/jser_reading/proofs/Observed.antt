@@ -1,6 +1,6 @@
 -- What is observed along fields: the depth and the number of each place, the length of each array, the number of
 -- each handle, each checked name. A gate lets fields through exactly where what is observed is within its limits.
-use Rattle.std.proofs.Common.{ℕ, suc, ◌≤◌, max, Bool, true, false, not, ◌&&◌, ◌||◌, List, [], ◌∷◌, length, refl, arith, IsTrue, nat_lt}
+use Rattle.std.proofs.Common.{ℕ, suc, ◌≤◌, max, Bool, true, false, not, ◌&&◌, ◌||◌, List, [], ◌∷◌, ◌++◌, length, refl, arith, IsTrue, nat_lt}
 use Rattle.jser_reading.proofs.Vocabulary.{StreamField, array_length_field, text_field, Position, class_name_at, interface_name_at, Piece, piece}
 use Rattle.std.proofs.Common.{nat_le, le-leb, leb-true}
 use Rattle.jser_reading.specs.Scanner.{AllPass}
@@ -18,22 +18,33 @@ abbrev pub most_handles : List Piece → ℕ
 most_handles [] = 0
 most_handles (piece l f ∷ ps) = max (number_if (assigns_handle l.position f) (suc (length l.moment.table))) (most_handles ps)
 
-abbrev pub length_in : StreamField → List ℕ → List ℕ
-length_in (array_length_field n) ns = n ∷ ns
-length_in _ ns = ns
+-- what is gathered along fields: something for each array length, something for each checked name
+
+abbrev gathered_name : {X : Type 0} → (List (List ℕ) → List X) → Position → List ℕ → List X → List X
+gathered_name names (class_name_at role) units xs = names (units ∷ []) ++ xs
+gathered_name names interface_name_at units xs = names (units ∷ []) ++ xs
+gathered_name names _ units xs = xs
+
+abbrev gathered_by : {X : Type 0} → (ℕ → List X) → (List (List ℕ) → List X) → Position → StreamField → List X → List X
+gathered_by lengths names w (array_length_field n) xs = lengths n ++ xs
+gathered_by lengths names w (text_field long units) xs = gathered_name names w units xs
+gathered_by lengths names w _ xs = xs
+
+abbrev pub gathered : {X : Type 0} → (ℕ → List X) → (List (List ℕ) → List X) → List Piece → List X
+gathered lengths names [] = []
+gathered lengths names (piece l f ∷ ps) = gathered_by lengths names l.position f (gathered lengths names ps)
+
+abbrev length_in : Position → StreamField → List ℕ → List ℕ
+length_in w f ns = gathered_by (λ n. n ∷ []) (λ names. []) w f ns
 
 abbrev pub lengths_in : List Piece → List ℕ
-lengths_in [] = []
-lengths_in (piece l f ∷ ps) = length_in f (lengths_in ps)
+lengths_in ps = gathered (λ n. n ∷ []) (λ names. []) ps
 
-abbrev pub name_in : Position → StreamField → List (List ℕ) → List (List ℕ)
-name_in (class_name_at role) (text_field long units) ns = units ∷ ns
-name_in interface_name_at (text_field long units) ns = units ∷ ns
-name_in _ f ns = ns
+abbrev name_in : Position → StreamField → List (List ℕ) → List (List ℕ)
+name_in w f ns = gathered_by (λ n. []) (λ names. names) w f ns
 
 abbrev pub names_in : List Piece → List (List ℕ)
-names_in [] = []
-names_in (piece l f ∷ ps) = name_in l.position f (names_in ps)
+names_in ps = gathered (λ n. []) (λ names. names) ps
 
 -- tests and what they say
 
@@ -57,29 +68,36 @@ one_from : (b : Bool) (x D : ℕ) → number_if b (suc x) ≤ D → IsTrue (not 
 one_from true x D h = le-leb (suc x) D h
 one_from false x D h = refl
 
-length_to : (f : StreamField) (A : ℕ) (ns : List ℕ) → IsTrue (array_is_within A f) → Each (λ n. n ≤ A) ns
-    → Each (λ n. n ≤ A) (length_in f ns)
-length_to (array_length_field n) A ns h k = (leb-true n A h, k)
-length_to _ A ns h k = k
+length_to : (w : Position) (f : StreamField) (A : ℕ) (ns : List ℕ) → IsTrue (array_is_within A f) → Each (λ n. n ≤ A) ns
+    → Each (λ n. n ≤ A) (length_in w f ns)
+length_to w (array_length_field n) A ns h k = (leb-true n A h, k)
+length_to (class_name_at role) (text_field long units) A ns h k = k
+length_to interface_name_at (text_field long units) A ns h k = k
+length_to _ _ A ns h k = k
 
-length_from : (f : StreamField) (A : ℕ) (ns : List ℕ) → Each (λ n. n ≤ A) (length_in f ns) → IsTrue (array_is_within A f)
-    × Each (λ n. n ≤ A) ns
-length_from (array_length_field n) A ns h = (le-leb n A h.0, h.1)
-length_from _ A ns h = (refl, h)
+length_from : (w : Position) (f : StreamField) (A : ℕ) (ns : List ℕ) → Each (λ n. n ≤ A) (length_in w f ns)
+    → IsTrue (array_is_within A f) × Each (λ n. n ≤ A) ns
+length_from w (array_length_field n) A ns h = (le-leb n A h.0, h.1)
+length_from (class_name_at role) (text_field long units) A ns h = (refl, h)
+length_from interface_name_at (text_field long units) A ns h = (refl, h)
+length_from _ _ A ns h = (refl, h)
 
 name_to : (w : Position) (f : StreamField) (passes : List ℕ → Bool) (ns : List (List ℕ)) → IsTrue (name_passes passes w f)
     → Each (λ n. IsTrue (passes n)) ns
     → Each (λ n. IsTrue (passes n)) (name_in w f ns)
+name_to w (array_length_field n) passes ns h k = k
 name_to (class_name_at role) (text_field long units) passes ns h k = (h, k)
 name_to interface_name_at (text_field long units) passes ns h k = (h, k)
-name_to _ f passes ns h k = k
+name_to _ _ passes ns h k = k
 
 name_from : (w : Position) (f : StreamField) (passes : List ℕ → Bool) (ns : List (List ℕ))
     → Each (λ n. IsTrue (passes n)) (name_in w f ns)
     → IsTrue (name_passes passes w f) × Each (λ n. IsTrue (passes n)) ns
 name_from (class_name_at role) (text_field long units) passes ns h = h
 name_from interface_name_at (text_field long units) passes ns h = h
-name_from _ f passes ns h = (refl, h)
+name_from _ (array_length_field n) passes ns h = (refl, h)
+name_from _ (text_field long units) passes ns h = (refl, h)
+name_from _ _ passes ns h = (refl, h)
 
 -- what is observed is within the limits
 pub record IsObserved (limits : GateLimits) (ps : List Piece) : Type 0 where
@@ -107,7 +125,7 @@ observed limits (piece l f ∷ ps) h =
     record {
       depth = both_below (number_if (begins_place l.position f) l.depth) (deepest ps) limits.depth d r.depth;
       refs = both_below (number_if (begins_place l.position f) (suc l.moment.places)) (most_places ps) limits.refs p r.refs;
-      array = length_to f limits.array (lengths_in ps) (and_right place array h2) r.array;
+      array = length_to l.position f limits.array (lengths_in ps) (and_right place array h2) r.array;
       handles =
           both_below (number_if (assigns_handle l.position f) (suc (length l.moment.table)))
           (most_handles ps) limits.handles t r.handles;
@@ -129,7 +147,7 @@ observed_passes limits (piece l f ∷ ps) h =
     let t =
     max_below (number_if (assigns_handle l.position f) (suc (length l.moment.table)))
     (most_handles ps) limits.handles h.handles in
-    let a = length_from f limits.array (lengths_in ps) h.array in
+    let a = length_from l.position f limits.array (lengths_in ps) h.array in
     let n = name_from l.position f limits.passes (names_in ps) h.names in (
       and_both (place && array && handle) name
           (and_both (place && array) handle

@@ -4,8 +4,7 @@ use Rattle.jser_reading.proofs.Vocabulary.{ContentTrees, WellFormed, fields_of}
 use Rattle.jser_grammar.specs.Counts.{epoch_handles}
 use Rattle.jser_reading.specs.GateLimits.{GateLimits, Each, IsWithin, Limited}
 use Rattle.jser_reading.proofs.Observed.{IsObserved, observed, observed_passes}
-use Rattle.jser_reading.proofs.NamesObserved.{names_observed}
-use Rattle.jser_reading.proofs.ArraysObserved.{arrays_observed}
+use Rattle.jser_reading.proofs.GatheredObserved.{lengths_observed, names_observed}
 use Rattle.jser_reading.proofs.PlacesObserved.{depth_observed, places_observed}
 use Rattle.jser_reading.proofs.HandlesObserved.{greatest, handles_observed}
 
@@ -27,7 +26,7 @@ within limits list w o =
     let ot = o.handles in (
       omega arith,
       omega arith,
-      subst (λ ns. Each (λ n. n ≤ limits.array) ns) (arrays_observed list w) o.array,
+      subst (λ ns. Each (λ n. n ≤ limits.array) ns) (lengths_observed list w) o.array,
       each_below (epoch_handles list) limits.handles (omega arith),
       subst (λ ns. Each (λ n. IsTrue (limits.passes n)) ns) (names_observed list w) o.names,
     )
@@ -41,7 +40,7 @@ without limits list w (d, p, a, t, n) =
     record {
       depth = omega arith;
       refs = omega arith;
-      array = subst (λ ns. Each (λ n. n ≤ limits.array) ns) (sym (arrays_observed list w)) a;
+      array = subst (λ ns. Each (λ n. n ≤ limits.array) ns) (sym (lengths_observed list w)) a;
       handles = omega arith;
       names = subst (λ ns. Each (λ n. IsTrue (limits.passes n)) ns) (sym (names_observed list w)) n;
     }

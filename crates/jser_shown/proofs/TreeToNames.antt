@@ -10,7 +10,7 @@ use Rattle.jser_shown.specs.Cues.{SectionPart, data_part, external_part, note_pa
 use Rattle.jser_shown.specs.Telling.{begin}
 use Rattle.jser_shown.specs.Naming.{named}
 use Rattle.jser_shown.specs.Laws.{Named}
-use Rattle.jser_grammar.specs.CheckedNames.{names_in_value, names_in_desc, names_in_class, names_in_body, names_in_values, names_in_sections, names_in_notes, names_in_contents}
+use Rattle.jser_grammar.specs.InOrder.{gathered_in_value, gathered_in_desc, gathered_in_class, gathered_in_body, gathered_in_values, gathered_in_sections, gathered_in_notes, gathered_in_contents}
 use Rattle.jser_shown.proofs.CueLemmas.{owner_cues, desc_begin, object_names_count}
 use Rattle.jser_shown.proofs.KnownLemmas.{codes_in, layers_of, entries, classes_at-known_desc, external-known, then_entry, then_fields, then_value, then_class, then_values, then_notes, then_contents, then_chain}
 
@@ -471,6 +471,32 @@ names_of_top N (content_and reset cs) m e T q h = (names_of_top N cs (emptied m)
 names_of_top N (content_and (content v) cs) m e T q h =
     names_of_value N v 1 m e 0 T (top_cue ∷ []) (cut_top (past_value m v) cs []) q h.0
     ∙ (names_of_top (from_value N v) cs (past_value m v) e (known_value T v) (then_value v T m.table q) h.1)
+
+-- the names in a tree
+
+abbrev names_in_value : ValueTree → List (List ℕ)
+names_in_value v = gathered_in_value (λ elements. []) (λ names. names) v
+
+abbrev names_in_desc : DescTree → List (List ℕ)
+names_in_desc d = gathered_in_desc (λ elements. []) (λ names. names) d
+
+abbrev names_in_class : ClassPlaceTree → List (List ℕ)
+names_in_class c = gathered_in_class (λ elements. []) (λ names. names) c
+
+abbrev names_in_body : BodyTree → List (List ℕ)
+names_in_body b = gathered_in_body (λ elements. []) (λ names. names) b
+
+abbrev names_in_values : ValueTrees → List (List ℕ)
+names_in_values vs = gathered_in_values (λ elements. []) (λ names. names) vs
+
+abbrev names_in_sections : SectionTrees → List (List ℕ)
+names_in_sections ss = gathered_in_sections (λ elements. []) (λ names. names) ss
+
+abbrev names_in_notes : NotesTree → List (List ℕ)
+names_in_notes n = gathered_in_notes (λ elements. []) (λ names. names) n
+
+abbrev names_in_contents : ContentTrees → List (List ℕ)
+names_in_contents cs = gathered_in_contents (λ elements. []) (λ names. names) cs
 
 -- the names of a tree behind others
 

@@ -2,7 +2,8 @@
 use Rattle.std.proofs.Common.{ℕ, ◌<◌, ◌≤◌, List, [], ◌∷◌, ◌++◌, length, arith, length-append}
 use Rattle.jser_grammar.proofs.Vocabulary.{big_bytes, PrimCode, byte_code, char_code, double_code, float_code, int_code, long_code, short_code, boolean_code, PrimTree, ValueTree, null, back, string, descriptor, class_object, array, enum_constant, object, DescTree, plain, proxy, ClassPlaceTree, no_class, back_class, new_class, BodyTree, raw_body, value_body, ValueTrees, no_values, value_and, section, SectionTrees, no_sections, section_and, NotesTree, no_notes, annotation, block, reset, content, ContentTrees, no_contents, content_and, value_count}
 use Rattle.jser_grammar.specs.Spelling.{utf, text_place_spelling, fields_spelling, interfaces_spelling, prim_spelling, prims_spelling, block_head, value_spelling, desc_spelling, class_spelling, body_spelling, values_spelling, sections_spelling, notes_spelling, annotation_spelling, contents_spelling}
-use Rattle.jser_grammar.specs.Counts.{array_length, arrays_in_value, arrays_in_desc, arrays_in_class, arrays_in_body, arrays_in_values, arrays_in_sections, arrays_in_notes, arrays_in_contents}
+use Rattle.jser_grammar.specs.Counts.{array_length}
+use Rattle.jser_grammar.specs.InOrder.{gathered_in_value, gathered_in_desc, gathered_in_class, gathered_in_body, gathered_in_values, gathered_in_sections, gathered_in_notes, gathered_in_contents}
 use Rattle.jser_reading.specs.GateLimits.{Each}
 use Rattle.jser_trees.proofs.ValuesBuilt.{some_bytes}
 
@@ -34,6 +35,32 @@ few_values (value_and v vs) = omega (arith, length-append (value_spelling v) (va
 few_elements : (b : BodyTree) → array_length b ≤ length (body_spelling b)
 few_elements (raw_body ps) = omega (arith, length-append (big_bytes 4 (length ps)) (prims_spelling ps), few_prims ps)
 few_elements (value_body vs) = omega (arith, length-append (big_bytes 4 (value_count vs)) (values_spelling vs), few_values vs)
+
+-- the array lengths in a tree
+
+abbrev arrays_in_value : ValueTree → List ℕ
+arrays_in_value v = gathered_in_value (λ elements. array_length elements ∷ []) (λ names. []) v
+
+abbrev arrays_in_desc : DescTree → List ℕ
+arrays_in_desc d = gathered_in_desc (λ elements. array_length elements ∷ []) (λ names. []) d
+
+abbrev arrays_in_class : ClassPlaceTree → List ℕ
+arrays_in_class c = gathered_in_class (λ elements. array_length elements ∷ []) (λ names. []) c
+
+abbrev arrays_in_body : BodyTree → List ℕ
+arrays_in_body b = gathered_in_body (λ elements. array_length elements ∷ []) (λ names. []) b
+
+abbrev arrays_in_values : ValueTrees → List ℕ
+arrays_in_values vs = gathered_in_values (λ elements. array_length elements ∷ []) (λ names. []) vs
+
+abbrev arrays_in_sections : SectionTrees → List ℕ
+arrays_in_sections ss = gathered_in_sections (λ elements. array_length elements ∷ []) (λ names. []) ss
+
+abbrev arrays_in_notes : NotesTree → List ℕ
+arrays_in_notes n = gathered_in_notes (λ elements. array_length elements ∷ []) (λ names. []) n
+
+abbrev arrays_in_contents : ContentTrees → List ℕ
+arrays_in_contents cs = gathered_in_contents (λ elements. array_length elements ∷ []) (λ names. []) cs
 
 mutual
   arrays_value : (v : ValueTree) (most : ℕ) → length (value_spelling v) ≤ most → Below most (arrays_in_value v)

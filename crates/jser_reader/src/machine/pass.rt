@@ -3,7 +3,7 @@
 ghost use Rattle.std.specs.Prelude.{◌≡◌, ◌<◌, length};
 ghost use Rattle.jser_reader.specs.Passes.{Passes, HasPassed, CanPass, IsQuiet};
 ghost use Rattle.jser_reader.specs.Takes.{IsOne};
-ghost use Rattle.jser_verdict.specs.Gates.{Gate as ToldGate};
+ghost use Rattle.jser_verdict.specs.Gates.{Gate as ToldGate, IsGate};
 
 use crate::gate::Gate;
 use crate::machine::Machine;
@@ -56,19 +56,13 @@ impl Machine {
 
     /// Takes a tag, which comes next.
     #[inline(always)]
-    pub(super) fn pass_tag<G: Gate>(
-        &mut self,
-        gate: &G,
-        tally: &mut Tally,
-        piece: &[u8],
-    ) -> Option<usize>
+    pub(super) fn pass_tag(&mut self, tally: &mut Tally, piece: &[u8]) -> Option<usize>
         requires can { CanPass self.old piece.now }
         requires some { 0 < length piece.now }
         requires one { IsOne self.old.phase }
-        ensures passes { Passes (G.told gate.now) piece.now result self.old tally.old self.new tally.new }
+        ensures passes { (gate : ToldGate) → IsGate gate → Passes gate piece.now result self.old tally.old self.new tally.new }
         ensures progress { HasPassed piece.now result }
     {
-        let _ = gate;
         let start = self.mark();
         match self.take_one(piece) {
             Taken::Ended(used) => {
@@ -152,7 +146,7 @@ impl Machine {
             return self.pass_to_limit(gate, tally, piece);
         }
         match self.phase {
-            Phase::Value | Phase::Top | Phase::Note => self.pass_value(gate, tally, piece),
+            Phase::Value | Phase::Top | Phase::Note => self.pass_value(tally, piece),
             Phase::Prims => self.pass_prims(piece),
             _ => {
                 if self.phase.is_quiet() {

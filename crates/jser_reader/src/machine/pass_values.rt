@@ -7,9 +7,9 @@ ghost use Rattle.jser_reader.specs.Tags.{told_tag};
 ghost use Rattle.jser_reader.specs.Wholes.{IsPlace, tag_of_owner};
 ghost use Rattle.jser_grammar.specs.Wire.{TC_BLOCKDATA, TC_REFERENCE, TC_STRING};
 ghost use Rattle.jser_reading.specs.FieldBytes.{tag_byte};
+ghost use Rattle.jser_verdict.specs.Gates.{Gate as ToldGate, IsGate};
 
 use crate::frame::Owner;
-use crate::gate::Gate;
 use crate::machine::Machine;
 use crate::machine::wholes::reference_after;
 use crate::tally::Tally;
@@ -20,62 +20,51 @@ use jser_grammar::wire::{
 impl Machine {
     /// Takes a reference; where it is not whole in the piece, or something is wrong with it, its tag alone.
     #[inline(always)]
-    fn pass_reference<G: Gate>(
-        &mut self,
-        gate: &G,
-        tally: &mut Tally,
-        piece: &[u8],
-    ) -> Option<usize>
+    fn pass_reference(&mut self, tally: &mut Tally, piece: &[u8]) -> Option<usize>
         requires can { CanPass self.old piece.now }
         requires place { IsPlace self.old.phase }
         requires tag { TC_REFERENCE ≡ get_or piece.now 0 0 }
         requires some { 0 < length piece.now }
-        ensures passes { Passes (G.told gate.now) piece.now result self.old tally.old self.new tally.new }
+        ensures passes { (gate : ToldGate) → IsGate gate → Passes gate piece.now result self.old tally.old self.new tally.new }
         ensures progress { HasPassed piece.now result }
     {
         if self.whole_reference(tally, piece) {
             return Some(5);
         }
-        self.pass_tag_alone(gate, tally, piece)
+        self.pass_tag_alone(tally, piece)
     }
 
     /// Takes a string; where it is not whole in the piece, or something is wrong with it, its tag alone.
     #[inline(never)]
-    fn pass_string<G: Gate>(&mut self, gate: &G, tally: &mut Tally, piece: &[u8]) -> Option<usize>
+    fn pass_string(&mut self, tally: &mut Tally, piece: &[u8]) -> Option<usize>
         requires can { CanPass self.old piece.now }
         requires place { IsPlace self.old.phase }
         requires tag { TC_STRING ≡ get_or piece.now 0 0 }
         requires some { 0 < length piece.now }
-        ensures passes { Passes (G.told gate.now) piece.now result self.old tally.old self.new tally.new }
+        ensures passes { (gate : ToldGate) → IsGate gate → Passes gate piece.now result self.old tally.old self.new tally.new }
         ensures progress { HasPassed piece.now result }
     {
         match self.whole_string(tally, piece) {
             Some(used) => Some(used),
-            None => self.pass_tag_alone(gate, tally, piece),
+            None => self.pass_tag_alone(tally, piece),
         }
     }
 
     /// Takes the tag of what has a class, and its class where that is a reference which is whole in the piece.
     #[inline(never)]
-    fn pass_owner<G: Gate>(
-        &mut self,
-        gate: &G,
-        tally: &mut Tally,
-        piece: &[u8],
-        owner: Owner,
-    ) -> Option<usize>
+    fn pass_owner(&mut self, tally: &mut Tally, piece: &[u8], owner: Owner) -> Option<usize>
         requires can { CanPass self.old piece.now }
         requires place { IsPlace self.old.phase }
         requires tag { tag_byte (told_tag (tag_of_owner owner)) ≡ get_or piece.now 0 0 }
         requires some { 0 < length piece.now }
-        ensures passes { Passes (G.told gate.now) piece.now result self.old tally.old self.new tally.new }
+        ensures passes { (gate : ToldGate) → IsGate gate → Passes gate piece.now result self.old tally.old self.new tally.new }
         ensures progress { HasPassed piece.now result }
     {
         let Some(n) = reference_after(piece) else {
-            return self.pass_tag_alone(gate, tally, piece);
+            return self.pass_tag_alone(tally, piece);
         };
         if !self.has_place() {
-            return self.pass_tag_alone(gate, tally, piece);
+            return self.pass_tag_alone(tally, piece);
         }
         if self.whole_owner(tally, piece, owner, n) {
             Some(6)
@@ -86,60 +75,50 @@ impl Machine {
 
     /// Takes a block; where it is not whole in the piece, or may not stand there, its tag alone.
     #[inline(never)]
-    fn pass_block<G: Gate>(&mut self, gate: &G, tally: &mut Tally, piece: &[u8]) -> Option<usize>
+    fn pass_block(&mut self, tally: &mut Tally, piece: &[u8]) -> Option<usize>
         requires can { CanPass self.old piece.now }
         requires place { IsPlace self.old.phase }
         requires tag { TC_BLOCKDATA ≡ get_or piece.now 0 0 }
         requires some { 0 < length piece.now }
-        ensures passes { Passes (G.told gate.now) piece.now result self.old tally.old self.new tally.new }
+        ensures passes { (gate : ToldGate) → IsGate gate → Passes gate piece.now result self.old tally.old self.new tally.new }
         ensures progress { HasPassed piece.now result }
     {
         match self.whole_block(tally, piece) {
             Some(used) => Some(used),
-            None => self.pass_tag_alone(gate, tally, piece),
+            None => self.pass_tag_alone(tally, piece),
         }
     }
 
     /// Takes a tag alone.
     #[inline(never)]
-    fn pass_tag_alone<G: Gate>(
-        &mut self,
-        gate: &G,
-        tally: &mut Tally,
-        piece: &[u8],
-    ) -> Option<usize>
+    fn pass_tag_alone(&mut self, tally: &mut Tally, piece: &[u8]) -> Option<usize>
         requires can { CanPass self.old piece.now }
         requires some { 0 < length piece.now }
         requires one { IsOne self.old.phase }
-        ensures passes { Passes (G.told gate.now) piece.now result self.old tally.old self.new tally.new }
+        ensures passes { (gate : ToldGate) → IsGate gate → Passes gate piece.now result self.old tally.old self.new tally.new }
         ensures progress { HasPassed piece.now result }
     {
-        self.pass_tag(gate, tally, piece)
+        self.pass_tag(tally, piece)
     }
 
     /// Takes the tag of a content or a value, and where it is a common one what comes after it.
     #[inline(always)]
-    pub(super) fn pass_value<G: Gate>(
-        &mut self,
-        gate: &G,
-        tally: &mut Tally,
-        piece: &[u8],
-    ) -> Option<usize>
+    pub(super) fn pass_value(&mut self, tally: &mut Tally, piece: &[u8]) -> Option<usize>
         requires can { CanPass self.old piece.now }
         requires some { 0 < length piece.now }
         requires place { IsPlace self.old.phase }
-        ensures passes { Passes (G.told gate.now) piece.now result self.old tally.old self.new tally.new }
+        ensures passes { (gate : ToldGate) → IsGate gate → Passes gate piece.now result self.old tally.old self.new tally.new }
         ensures progress { HasPassed piece.now result }
     {
         match piece[0] {
-            TC_REFERENCE => self.pass_reference(gate, tally, piece),
-            TC_STRING => self.pass_string(gate, tally, piece),
-            TC_OBJECT => self.pass_owner(gate, tally, piece, Owner::Object),
-            TC_ARRAY => self.pass_owner(gate, tally, piece, Owner::Array),
-            TC_ENUM => self.pass_owner(gate, tally, piece, Owner::EnumConst),
-            TC_CLASS => self.pass_owner(gate, tally, piece, Owner::ClassObject),
-            TC_BLOCKDATA => self.pass_block(gate, tally, piece),
-            _ => self.pass_tag_alone(gate, tally, piece),
+            TC_REFERENCE => self.pass_reference(tally, piece),
+            TC_STRING => self.pass_string(tally, piece),
+            TC_OBJECT => self.pass_owner(tally, piece, Owner::Object),
+            TC_ARRAY => self.pass_owner(tally, piece, Owner::Array),
+            TC_ENUM => self.pass_owner(tally, piece, Owner::EnumConst),
+            TC_CLASS => self.pass_owner(tally, piece, Owner::ClassObject),
+            TC_BLOCKDATA => self.pass_block(tally, piece),
+            _ => self.pass_tag_alone(tally, piece),
         }
     }
 }
