@@ -6,7 +6,7 @@ use Rattle.jser_shown.specs.Nodes.{place_after}
 use Rattle.jser_shown.specs.Cues.{Teller}
 use Rattle.jser_shown.specs.Telling.{settled, goes, begin_telling}
 use Rattle.jser_shown.specs.Indexing.{Index, begin_index, settle_index, index_in}
-use Rattle.jser_shown.specs.Collecting.{Collection, begin_collection, settle_collection, collect}
+use Rattle.jser_shown.specs.Collecting.{begin_collection, settle_collection, collect}
 use Rattle.jser_shown.specs.Naming.{name_in}
 use Rattle.jser_shown.specs.Fronts.{teller_at, index_after, collection_after, names_after}
 use Rattle.jser_walk.specs.Steps.{due, steps_left}

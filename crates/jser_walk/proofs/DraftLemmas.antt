@@ -1,5 +1,5 @@
 -- The fields of the descriptor that is going by, the last one first.
-use Rattle.std.proofs.Common.{◌≡◌, ℕ, List, [], ◌∷◌, ◌++◌, reverse, map, refl, ap, sym, ◌∙◌, append-nil}
+use Rattle.std.proofs.Common.{◌≡◌, List, [], ◌∷◌, ◌++◌, reverse, refl, ap, sym, ◌∙◌, append-nil}
 use Rattle.std.proofs.lemmas.List.{map-append, reverse-append}
 use Rattle.jser_shown.specs.Known.{NamedField as ToldField}
 use Rattle.jser_shown.specs.Cues.{fields_done}

@@ -1,5 +1,5 @@
 -- The next layer of a chain that an object holds anything of, by a walk up the chain.
-use Rattle.std.proofs.Common.{◌≡◌, ℕ, suc, ◌+◌, ◌-◌, ◌<◌, ◌≤◌, Bool, true, false, cond, List, [], ◌∷◌, ◌++◌, length, take, drop, count_by, slice_get, Some, refl, ap, sym, ◌∙◌, inl, inr, arith, append_assoc}
+use Rattle.std.proofs.Common.{◌≡◌, ℕ, ◌+◌, ◌-◌, ◌<◌, ◌≤◌, Bool, true, false, cond, List, [], ◌∷◌, ◌++◌, length, take, drop, count_by, slice_get, Some, refl, ap, sym, ◌∙◌, inl, inr, arith, append_assoc}
 use Rattle.std.proofs.lemmas.Bool.{cases_lt}
 use Rattle.std.proofs.lemmas.Option.{get_or_from_slice_get, slice_get_within}
 use Rattle.std.proofs.lemmas.List.{take_at, drop_at, length_push, take-take, take-append-le, drop-append-le, take-append-drop, drop_all, drop_more}
@@ -7,7 +7,7 @@ use Rattle.std.proofs.lemmas.List.Sums.{sum_by-append, sum_by-cons}
 use Rattle.jser_walk.specs.declared.chains.Chain.{Chain}
 use Rattle.jser_walk.specs.declared.chains.Own.{Own}
 use Rattle.jser_walk.specs.declared.chains.Counted.TheVariants as counted
-use Rattle.jser_walk.specs.Chains.{chain_in, chain_above, front_of, is_filled_own, from_filled_own, IsFront, IsTold, IsHighest}
+use Rattle.jser_walk.specs.Chains.{chain_in, chain_above, is_filled_own, from_filled_own, IsTold, IsHighest}
 use Rattle.jser_walk.proofs.ChainLemmas.{front_of-ends, above_length, split_at}
 
 count-append : (xs ys : List Own) → count_by is_filled_own (xs ++ ys) ≡ count_by is_filled_own xs + count_by is_filled_own ys

@@ -1,12 +1,11 @@
 -- The frames of a stack, and their cues, where the table gets more layers and chains.
-use Rattle.std.proofs.Common.{◌≡◌, ℕ, ◌+◌, ◌<◌, ◌≤◌, List, [], ◌∷◌, ◌++◌, length, Option, Some, None, refl, ap, sym, ◌∙◌, subst, arith}
+use Rattle.std.proofs.Common.{◌≡◌, ℕ, ◌≤◌, List, [], ◌∷◌, ◌++◌, length, refl, ap, sym, ◌∙◌, subst, arith}
 use Rattle.std.proofs.lemmas.List.{get_or_append_left, get_or_push, length_push}
 use Rattle.jser_shown.specs.Known.{NamedLayer, proxy_layer, own_class_of}
-use Rattle.jser_shown.specs.Cues.{Cue, external_part, note_part, note_cue, parts_cue, super_cue, super_handle_cue, close_cue, rest_of_desc}
+use Rattle.jser_shown.specs.Cues.{external_part, note_part, parts_cue, super_cue, super_handle_cue, close_cue}
 use Rattle.jser_walk.specs.declared.frame.Frame.{Frame}
 use Rattle.jser_walk.specs.declared.frame.Frame.TheVariants as frame
-use Rattle.jser_walk.specs.Tables.{layer_in, layers_in}
-use Rattle.jser_walk.specs.Frames.{parts_from, cue_of, cues_of, FrameFits, FramesFit, tail_of, IsTop}
+use Rattle.jser_walk.specs.Frames.{parts_from, cue_of, cues_of, FrameFits, FramesFit, tail_of}
 
 -- a frame still fits where there are more
 

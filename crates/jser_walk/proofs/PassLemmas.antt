@@ -1,9 +1,9 @@
 -- Steps that need no field, by the frame on top.
-use Rattle.std.proofs.Common.{◌≡◌, ℕ, suc, ◌+◌, ◌<◌, Bool, true, false, List, [], ◌∷◌, ◌++◌, length, slice_set, Option, Some, None, refl, ap, sym, ◌∙◌, subst, arith}
+use Rattle.std.proofs.Common.{◌≡◌, ℕ, suc, ◌+◌, Bool, true, false, List, [], ◌∷◌, ◌++◌, length, slice_set, Option, Some, None, ap, sym, ◌∙◌, subst, arith}
 use Rattle.jser_shown.specs.Known.{NamedLayer, Known, known_class, classes_at, own_class_of, is_external_class, is_external_chain}
 use Rattle.jser_shown.specs.Shown.{field_named}
 use Rattle.jser_shown.specs.Owners.{OwnerNode}
-use Rattle.jser_shown.specs.Cues.{SectionPart, data_part, raw_part, value_part, note_part, note_cue, parts_cue, Cue, teller, object_parts}
+use Rattle.jser_shown.specs.Cues.{SectionPart, raw_part, value_part, note_part, note_cue, parts_cue, teller, object_parts}
 use Rattle.jser_walk.specs.declared.frame.Frame.{Frame}
 use Rattle.jser_walk.specs.declared.frame.Frame.TheVariants as frame
 use Rattle.jser_walk.specs.declared.frame.Stage.{Stage}

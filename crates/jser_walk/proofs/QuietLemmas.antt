@@ -1,8 +1,8 @@
 -- Steps of one who says nothing: first lines of sections that follow each other are one step.
-use Rattle.std.proofs.Common.{◌≡◌, ℕ, zero, suc, ◌+◌, ◌<◌, ◌≤◌, Bool, true, false, List, [], ◌∷◌, drop, Option, Some, None, is_some, refl, ap, sym, ◌∙◌, inl, inr, true≢false, subst, arith}
+use Rattle.std.proofs.Common.{◌≡◌, ℕ, ◌≤◌, Bool, true, false, List, [], ◌∷◌, drop, Option, None, is_some, refl, ap, sym, ◌∙◌, inl, inr, true≢false, subst, arith}
 use Rattle.std.proofs.lemmas.Bool.{cases_Bool}
 use Rattle.jser_grammar.specs.Codes.{prim_code_of}
-use Rattle.jser_shown.specs.Known.{NamedField, NamedLayer, class_layer, proxy_layer, Known, prim_names, object_names, fields_in, has_notes}
+use Rattle.jser_shown.specs.Known.{NamedField, NamedLayer, Known, prim_names, object_names, fields_in, has_notes}
 use Rattle.jser_shown.specs.Shown.{field_named}
 use Rattle.jser_shown.specs.Owners.{OwnerNode}
 use Rattle.jser_shown.specs.Cues.{SectionPart, data_part, external_part, raw_part, value_part, note_part, parts_cue, Cue, Teller, teller, raw_parts, value_parts, note_if, section_parts}
@@ -13,11 +13,11 @@ use Rattle.jser_walk.specs.declared.frame.Frame.{Frame}
 use Rattle.jser_walk.specs.declared.frame.Frame.TheVariants as frame
 use Rattle.jser_walk.specs.declared.frame.Stage.{Stage}
 use Rattle.jser_walk.specs.declared.frame.Stage.TheVariants as stage
-use Rattle.jser_walk.specs.Steps.{Due, due, due_in, due_part, pass_in, pass_part, past_lines, quiet_part, quiet_at, quiet_in, pass_quietly, part_steps, steps_left}
+use Rattle.jser_walk.specs.Steps.{due_in, due_part, pass_in, pass_part, past_lines, quiet_part, quiet_in, part_steps}
 use Rattle.jser_walk.specs.Layers.{holds_any, is_filled, from_filled}
 use Rattle.jser_walk.specs.Tables.{layers_in}
 use Rattle.jser_walk.specs.Views.{IsSilent}
-use Rattle.jser_walk.specs.Frames.{parts_at, parts_from, cue_of, cues_of, tail_of, BeginsSection}
+use Rattle.jser_walk.specs.Frames.{parts_at, parts_from, cues_of, tail_of, BeginsSection}
 use Rattle.jser_walk.proofs.PassLemmas.{part_first, sections_passed, raw_passed, value_passed}
 
 -- behind first lines nothing else is said, kept or wanted than before them

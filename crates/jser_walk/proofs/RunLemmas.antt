@@ -1,10 +1,10 @@
 -- Runs of classes, each the parent of the next: where a run starts, and which of its classes has a layer of the chain.
-use Rattle.std.proofs.Common.{◌≡◌, ℕ, ◌+◌, ◌-◌, ◌<◌, ◌≤◌, List, [], ◌∷◌, length, take, Some, refl, sym, ◌∙◌, inl, inr, arith}
+use Rattle.std.proofs.Common.{◌≡◌, ℕ, ◌+◌, ◌-◌, ◌<◌, ◌≤◌, List, length, Some, refl, sym, ◌∙◌, inl, inr, arith}
 use Rattle.std.proofs.lemmas.List.{length-take}
 use Rattle.jser_walk.specs.declared.chains.Chain.{Chain}
 use Rattle.jser_walk.specs.declared.chains.Own.{Own}
 use Rattle.jser_walk.specs.declared.chains.Counted.TheVariants as counted
-use Rattle.jser_walk.specs.Chains.{chain_in, chains_of, front_of, RunsUnder, IsTold, IsHighest}
+use Rattle.jser_walk.specs.Chains.{chain_in, chains_of, RunsUnder, IsTold, IsHighest}
 use Rattle.jser_walk.proofs.ChainLemmas.{length_chains_of}
 
 pub runs_alone : (cs : List Chain) (number run : ℕ) → run ≡ length cs → RunsUnder (chains_of cs) (Some number) run

@@ -1,12 +1,9 @@
 -- Fields are seen as what they are.
-use Rattle.std.proofs.Common.{◌≡◌, ℕ, ◌+◌, ◌-◌, ◌<◌, true, false, Option, Some, None, option_map, refl, ap, sym, ◌∙◌, subst, arith}
-use Rattle.jser_reading.specs.Labels.{null_tag, reference_tag, class_desc_tag, object_tag, string_tag, array_tag, class_tag, long_string_tag, proxy_desc_tag, enum_tag, StreamField, header_field, tag_field, block_tag_field, end_tag_field, reset_tag_field, handle_field, suid_field, flags_field, field_count_field, interface_count_field, array_length_field, code_field, text_field, block_length_field, prims_field, bytes_field}
-use Rattle.jser_shown.specs.Telling.{SeenField, seen_handle}
+use Rattle.std.proofs.Common.{◌≡◌, ℕ, true, false, Option, Some, None, option_map, refl, ◌∙◌}
+use Rattle.jser_reading.specs.Labels.{null_tag, reference_tag, class_desc_tag, object_tag, string_tag, array_tag, class_tag, long_string_tag, proxy_desc_tag, enum_tag, StreamField, tag_field, block_tag_field, end_tag_field, reset_tag_field}
 use Rattle.jser_shown.specs.Telling.{seen as seen_of}
-use Rattle.jser_walk.specs.declared.field.Field.{Field}
 use Rattle.jser_walk.specs.declared.field.Field.TheVariants as field
 use Rattle.jser_walk.specs.declared.seen.Seen.{Seen}
-use Rattle.jser_walk.specs.declared.seen.Seen.TheVariants as seen
 use Rattle.jser_walk.specs.Given.{IsOf}
 use Rattle.jser_walk.specs.Seen.{told_seen, Sees, tag_seen}
 

@@ -1,10 +1,10 @@
 -- The table of handles by its fields.
-use Rattle.std.proofs.Common.{◌≡◌, ℕ, zero, suc, ◌+◌, ◌-◌, ◌<◌, ◌≤◌, ◌^◌, List, [], ◌∷◌, ◌++◌, length, map, set, take, slice_get, slice_index_or, get_or, Option, Some, None, drop, option_map, refl, ap, sym, ◌∙◌, subst, inl, inr, arith, All}
+use Rattle.std.proofs.Common.{◌≡◌, ℕ, ◌<◌, ◌≤◌, List, [], ◌∷◌, ◌++◌, length, set, slice_get, slice_index_or, Option, Some, None, drop, option_map, refl, ap, sym, ◌∙◌, subst, inl, inr, arith, All}
 use Rattle.std.proofs.lemmas.Bool.{cases_Bool}
-use Rattle.std.proofs.lemmas.Option.{slice_get-map, get_or_from_slice_get, slice_get_within, slice_get-get_or}
-use Rattle.std.proofs.lemmas.List.{get_or_append_left, get_or_push, map-set, map-append, length-set, length_push, length-map, get_or-map, set_past, drop-map}
+use Rattle.std.proofs.lemmas.Option.{slice_get-map, get_or_from_slice_get, slice_get_within}
+use Rattle.std.proofs.lemmas.List.{get_or_append_left, get_or_push, map-set, map-append, length_push, length-map, get_or-map, set_past, drop-map}
 use Rattle.std.proofs.lemmas.List.Elements.{All-set, All-head, All-tail, All-weaker, All-drop, All-push}
-use Rattle.jser_shown.specs.Known.{NamedLayer, proxy_layer, KnownEntry, known_class, Known, classes_in, classes_at, own_class_of}
+use Rattle.jser_shown.specs.Known.{NamedLayer, proxy_layer, KnownEntry, known_class, classes_in, classes_at, own_class_of}
 use Rattle.jser_walk.specs.declared.entry.Entry.{Entry}
 use Rattle.jser_walk.specs.declared.entry.Entry.TheVariants as entry
 use Rattle.jser_walk.specs.declared.layer.Layer.{Layer}

@@ -1,11 +1,11 @@
 -- Fields by the frame on top.
-use Rattle.std.proofs.Common.{◌≡◌, ℕ, suc, ◌+◌, ◌<◌, List, [], ◌∷◌, ◌++◌, length, slice_set, Option, Some, None, refl, ap, sym, ◌∙◌, subst, arith}
+use Rattle.std.proofs.Common.{◌≡◌, ℕ, suc, List, [], ◌∷◌, ◌++◌, length, slice_set, Option, Some, None, refl, ap, sym, ◌∙◌, arith}
 use Rattle.jser_reading.specs.Labels.{Tag, null_tag}
 use Rattle.jser_shown.specs.Known.{NamedLayer, Known, known_class}
 use Rattle.jser_shown.specs.Shown.{field_named}
 use Rattle.jser_shown.specs.Owners.{OwnerNode}
 use Rattle.jser_shown.specs.Cues.{SectionPart, data_part, raw_part, value_part, note_part, top_cue, note_cue, elements_cue, parts_cue, Cue, teller}
-use Rattle.jser_shown.specs.Telling.{SeenField, seen_tag, seen_bytes, begin, goes_at, goes_in, parts_goes, raw_goes, value_goes}
+use Rattle.jser_shown.specs.Telling.{SeenField, seen_tag, seen_bytes, begin, goes_at, goes_in, parts_goes}
 use Rattle.jser_walk.specs.declared.frame.Frame.{Frame}
 use Rattle.jser_walk.specs.declared.frame.Frame.TheVariants as frame
 use Rattle.jser_walk.specs.declared.frame.Stage.{Stage}

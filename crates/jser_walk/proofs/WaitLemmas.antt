@@ -1,11 +1,11 @@
 -- What is due, and what a field is wanted for, by the first part of sections and by the frame on top.
-use Rattle.std.proofs.Common.{◌≡◌, ℕ, List, [], ◌∷◌, Option, Some, None, refl, ap, sym, ◌∙◌}
+use Rattle.std.proofs.Common.{◌≡◌, ℕ, List, [], ◌∷◌, Option, Some, None, ap, sym, ◌∙◌}
 use Rattle.jser_shown.specs.Known.{NamedLayer}
-use Rattle.jser_shown.specs.Shown.{ValueName, field_named}
-use Rattle.jser_shown.specs.Cues.{SectionPart, data_part, raw_part, value_part, note_part}
+use Rattle.jser_shown.specs.Shown.{field_named}
+use Rattle.jser_shown.specs.Cues.{SectionPart, raw_part, value_part, note_part}
 use Rattle.jser_walk.specs.declared.frame.Frame.{Frame}
 use Rattle.jser_walk.specs.Steps.{section_due, quiet_due, due_part, due_at, due_in}
-use Rattle.jser_walk.specs.Prompts.{Prompt, raw_prompt, value_prompt, no_prompt, part_prompt, prompt_at, prompt_in}
+use Rattle.jser_walk.specs.Prompts.{raw_prompt, value_prompt, no_prompt, part_prompt, prompt_at, prompt_in}
 use Rattle.jser_walk.specs.Frames.{cue_of, cues_of, tail_of, BeginsSection}
 
 pub due_section : (L : ℕ) (parts others : List SectionPart) (name : Option (List ℕ)) → BeginsSection parts name others → Some (section_due L name) ≡ due_part L parts

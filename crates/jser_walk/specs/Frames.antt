@@ -1,6 +1,5 @@
 -- What the walk keeps on its stack, in few bytes, and the cues for which that stands.
-use Rattle.std.specs.Prelude.{ℕ, ◌≡◌, ◌<◌, suc, List, [], ◌∷◌, length, drop, reverse, Option, Some, None}
-use Rattle.jser_reading.specs.Roles.{Owner as ToldOwner}
+use Rattle.std.specs.Prelude.{ℕ, ◌≡◌, ◌<◌, suc, List, [], ◌∷◌, drop, reverse, Option, Some, None}
 use Rattle.jser_reading.specs.Labels.{Tag as ToldTag}
 use Rattle.jser_shown.specs.Owners.{OwnerNode}
 use Rattle.jser_shown.specs.Telling.{SeenField, begin, goes_in}

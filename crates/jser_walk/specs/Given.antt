@@ -1,6 +1,6 @@
 -- What the calls of a walk are given, and what it stands for: the fields of a stream as a reader lends them, the owners
 -- of class places, and the nodes that an earlier walk found for them.
-use Rattle.std.specs.Prelude.{ℕ, ◌≡◌, ◌+◌, true, false, List, [], ◌∷◌, map}
+use Rattle.std.specs.Prelude.{◌≡◌, ◌+◌, true, false, List, map}
 use Rattle.jser_grammar.specs.Spelling.{prims_spelling}
 use Rattle.jser_grammar.specs.Wire.{TC_BLOCKDATA, TC_ENDBLOCKDATA, TC_RESET, TC_BLOCKDATALONG, BASE_WIRE_HANDLE}
 use Rattle.jser_reading.specs.Roles.{object_owner, array_owner, enum_owner, class_owner}

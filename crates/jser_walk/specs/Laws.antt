@@ -1,5 +1,5 @@
 -- What the steps and prompts of a walk have to do with the teller.
-use Rattle.std.specs.Prelude.{ℕ, suc, ◌≡◌, ◌<◌, List, length, Option, Some, None}
+use Rattle.std.specs.Prelude.{ℕ, suc, ◌≡◌, ◌<◌, List, length, Some, None}
 use Rattle.jser_reading.specs.Labels.{StreamField}
 use Rattle.jser_shown.specs.Cues.{Teller}
 use Rattle.jser_shown.specs.Telling.{settled, settle_says, says, seen, first_owner}

@@ -1,14 +1,13 @@
 -- A teller settles step by step. A step does what the first cue asks where no field belongs to it, and `due` tells
 -- what that is: what is said, and what is kept by the side.
-use Rattle.std.specs.Prelude.{ℕ, zero, suc, ◌≡◌, true, false, List, [], ◌∷◌, ◌++◌, length, slice_set, codes, Option, Some, None}
+use Rattle.std.specs.Prelude.{ℕ, zero, suc, true, false, List, [], ◌∷◌, ◌++◌, slice_set, codes, Option, Some, None}
 use Rattle.jser_reading.specs.Roles.{Owner, object_owner, array_owner, enum_owner, class_owner}
 use Rattle.jser_shown.specs.Known.{NamedLayer, class_layer, proxy_layer, known_other, known_class, Known, classes_at, with_entry, is_external_chain}
 use Rattle.jser_shown.specs.Words.{end_line, begin_line, quoted}
 use Rattle.jser_shown.specs.Owners.{OwnerNode, owner_node}
 use Rattle.jser_shown.specs.Cues.{SectionPart, data_part, external_part, raw_part, value_part, note_part, Cue, text_place_cue, note_cue, name_cue, length_cue, elements_cue, parts_cue, made_cue, close_cue, fields_cue, type_cue, interfaces_cue, Teller, teller, object_parts, fields_done, rest_of_desc}
-use Rattle.jser_shown.specs.Telling.{settled, settle_says}
-use Rattle.jser_shown.specs.Indexing.{Index, settle_index, kind_of_owner, made}
-use Rattle.jser_shown.specs.Collecting.{Collection, settle_collection, filled}
+use Rattle.jser_shown.specs.Indexing.{Index, kind_of_owner, made}
+use Rattle.jser_shown.specs.Collecting.{Collection, filled}
 
 -- What the first cue asks where no field belongs to it: the first line of a section, with the name of its class (none:
 -- a proxy); the word before the type of a field, or the end of the line where there is no type; the handle of an

@@ -1,11 +1,10 @@
 -- What contracts see of the table of handles, and how its fields stand for that.
-use Rattle.std.specs.Prelude.{ℕ, ◌≡◌, ◌<◌, List, [], ◌∷◌, ◌++◌, length, map, All, slice_index_or, Option, Some, None}
-use Rattle.jser_shown.specs.Known.{NamedLayer, proxy_layer, KnownEntry, known_text, known_other, known_pending, known_class, Known, classes_at, own_class_of}
+use Rattle.std.specs.Prelude.{ℕ, ◌≡◌, ◌<◌, List, [], length, map, All, slice_index_or, Option, Some, None}
+use Rattle.jser_shown.specs.Known.{NamedLayer, proxy_layer, KnownEntry, known_text, known_other, known_pending, known_class, Known, classes_at}
 use Rattle.jser_walk.specs.declared.entry.Entry.{Entry}
 use Rattle.jser_walk.specs.declared.entry.Entry.TheVariants as entry
-use Rattle.jser_walk.specs.declared.layer.Layer.{Layer}
 use Rattle.jser_walk.specs.declared.chains.Own.{Own}
-use Rattle.jser_walk.specs.Layers.{told_layer, is_filled}
+use Rattle.jser_walk.specs.Layers.{is_filled}
 
 -- what is known of the handles of the epoch; the layers of its classes, in the order in which their fields ended; the
 -- chains of the classes whose descriptors have ended, in this order

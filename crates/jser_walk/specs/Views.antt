@@ -1,7 +1,7 @@
 -- What the answers of a walk stand for.
 use Rattle.std.specs.Prelude.{ℕ, ◌≡◌, Bool, true, false, List, [], ◌∷◌, map, Option, Some, None}
 use Rattle.std.specs.Borrow.{Bor}
-use Rattle.jser_shown.specs.Known.{Known, known_text}
+use Rattle.jser_shown.specs.Known.{known_text}
 use Rattle.jser_shown.specs.Shown.{field_named}
 use Rattle.jser_shown.specs.Cues.{Teller, teller, header_cue, top_cue}
 use Rattle.jser_walk.specs.declared.owner.OwnerNode.{OwnerNode}

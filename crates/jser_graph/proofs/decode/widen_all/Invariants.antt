@@ -1,4 +1,4 @@
-use Rattle.std.proofs.Common.{◌≡◌, ℕ, ◌<◌, true, length, take, get_or}
+use Rattle.std.proofs.Common.{◌≡◌, ℕ, ◌<◌, true, take, get_or}
 use Rattle.jser_graph.proofs.decode.widen_all.Given as goal
 
 abbrev pub invariant-loop-place : goal.invariant-loop-place

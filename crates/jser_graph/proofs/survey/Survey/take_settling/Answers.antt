@@ -1,4 +1,4 @@
-use Rattle.std.proofs.Common.{rules, refl}
+use Rattle.std.proofs.Common.{refl}
 use Rattle.jser_graph.proofs.SurveyLemmas.{steps_taken}
 use Rattle.jser_graph.proofs.survey.Survey.take_settling.Goals as goal
 

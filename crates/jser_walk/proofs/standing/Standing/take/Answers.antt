@@ -1,6 +1,6 @@
 use Rattle.std.proofs.Common.{ap, sym, ◌∙◌, ◌∷◌}
 use Rattle.jser_shown.specs.Cues.{Teller}
-use Rattle.jser_shown.specs.Telling.{SeenField, goes_in}
+use Rattle.jser_shown.specs.Telling.{goes_in}
 use Rattle.jser_walk.specs.declared.seen.Seen.TheVariants as seen
 use Rattle.jser_walk.specs.Given.{told_nodes}
 use Rattle.jser_walk.specs.Frames.{cues_of, tail_of}
