@@ -1,5 +1,5 @@
 -- Fields taken one by one.
-use Rattle.std.proofs.Common.{◌≡◌, ℕ, List, [], ◌∷◌, ◌++◌, refl, ap}
+use Rattle.std.proofs.Common.{◌≡◌, ℕ, List, [], ◌∷◌, ◌++◌, length, refl, ap}
 use Rattle.jser_reading.specs.Labels.{StreamField, Label, Piece, piece}
 use Rattle.jser_shown.specs.Cues.{Teller}
 use Rattle.jser_shown.specs.Telling.{settled, settle_says, says, goes}
@@ -7,7 +7,8 @@ use Rattle.jser_shown.specs.Indexing.{Index, settle_index, index_in}
 use Rattle.jser_shown.specs.Collecting.{Collection, settle_collection, collect}
 use Rattle.jser_shown.specs.Naming.{name_in}
 use Rattle.jser_shown.specs.Fronts.{teller_at, said, index_after, collection_after, names_after}
-use Rattle.jser_shown.specs.FrontLaws.{TellsFronts, IndexesFronts, CollectsFronts, NamesFronts, OneMore}
+use Rattle.jser_shown.specs.Finding.{find}
+use Rattle.jser_shown.specs.FrontLaws.{TellsFronts, IndexesFronts, CollectsFronts, NamesFronts, OneMore, FindsFronts}
 
 pub tells_fronts_law : TellsFronts
 tells_fronts_law s [] rest = refl
@@ -70,3 +71,7 @@ one_more_law s front label field = (
   λ x. collection_step s front label field x,
   λ names. names_step s front label field names,
 )
+
+pub finds_fronts_law : FindsFronts
+finds_fronts_law x [] rest = refl
+finds_fronts_law x (piece label field ∷ front) rest = finds_fronts_law (find (length label.moment.table) field x) front rest

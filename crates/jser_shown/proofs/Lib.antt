@@ -9,3 +9,7 @@ pub mod TreeToOwners
 pub mod TreeToNames
 pub mod Fronts
 pub mod CountLemmas
+pub mod FindingLemmas
+pub mod FindingParts
+pub mod TreeToFinding
+pub mod FindingRows

@@ -186,7 +186,7 @@ indexes_raw : (ps : List PrimTree) (c : PrimCode) (d : ℕ) (m : Moment) (e L : 
 indexes_raw [] c d m e L T gs p B N D rest = elements_done rest e L 0 T gs p B N D
 indexes_raw (x ∷ ps) c d m e L T gs p B N D rest = refl
 
-prim_place : (p : ℕ) (x : PrimTree) (ps : List PrimTree)
+pub prim_place : (p : ℕ) (x : PrimTree) (ps : List PrimTree)
     → place_after (place_after p (prims_spelling (x ∷ []))) (prims_spelling ps) ≡ place_after p (prims_spelling (x ∷ ps))
 prim_place p x ps =
     ap (λ z. place_after z (prims_spelling ps)) (after_both p (prim_spelling x) []) ∙ sym (after_both p (prim_spelling x) (prims_spelling ps))
@@ -251,7 +251,7 @@ by_class true false E S chain e L T gs p B N D a b A q h f g = absurd (true≢fa
 by_class false true E S chain e L T gs p B N D a b A q h f g = absurd (true≢false (sym q))
 
 -- the place after a plain descriptor
-plain_place : (p : ℕ) (name : List ℕ) (suid flags : ℕ) (fields : List FieldTree) (notes : ContentTrees) (parent : ClassPlaceTree)
+pub plain_place : (p : ℕ) (name : List ℕ) (suid flags : ℕ) (fields : List FieldTree) (notes : ContentTrees) (parent : ClassPlaceTree)
     → place_after p (desc_spelling (plain name suid flags fields notes parent))
     ≡ place_after (place_after (place_after (place_after (place_after (suc p) (utf name)) (big_bytes 8 suid ++ (flags ∷ big_bytes 2 (length fields))))
     (fields_spelling fields)) (annotation_spelling notes)) (class_spelling parent)

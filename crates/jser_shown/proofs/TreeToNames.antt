@@ -5,7 +5,7 @@ use Rattle.jser_grammar.proofs.Bools.{both_ways, untrue}
 use Rattle.jser_reading.proofs.TreeToMachine.{not_object}
 use Rattle.jser_reading.proofs.Vocabulary.{TextPlaceTree, new_text, back_text, FieldTree, PrimTree, ValueTree, null, back, string, descriptor, class_object, array, enum_constant, object, DescTree, plain, proxy, ClassPlaceTree, no_class, back_class, new_class, BodyTree, raw_body, value_body, ValueTrees, no_values, value_and, section, SectionTrees, no_sections, section_and, NotesTree, no_notes, annotation, block, reset, content, ContentTrees, no_contents, content_and, value_count}
 use Rattle.jser_reading.proofs.Vocabulary.{has_write_method, text_entry, other_entry, pending_entry, PrimCode, prim_code_of, is_object_code, with_code, primitive_codes, chain_of_class, WellFormedType, WellFormedFields, ArePrims, elements_of, is_external, WellFormedValue, WellFormedDesc, WellFormedClass, WellFormedSuperclass, WellFormedBody, WellFormedValues, WellFormedExternal, WellFormedSections, WellFormedNotesIf, WellFormedNotes, WellFormedContents, Owner, object_owner, array_owner, enum_owner, class_owner, ChainOwner, Role, own_class, superclass, owner_of, is_strict_above, Moment, beginning, tick, assign, emptied, past_type, past_fields, past_value, past_class, past_values, past_notes, past_contents, tag_field, text_field, array_length_field, block_length_field, class_place_at, superclass_place_at, text_place_at, string_at, array_length_at, block_length_at, Piece, piece, at, tag_of_string, tag_of_desc, tag_of, cut_text_place, cut_type, cut_fields, cut_interfaces, cut_bytes, cut_raw, cut_prims, cut_value, cut_desc, cut_class, cut_superclass, cut_body, cut_values, cut_external, cut_sections, cut_notes, cut_annotation, cut_top}
-use Rattle.jser_shown.specs.Known.{NamedField, NamedLayer, class_layer, proxy_layer, known_text, known_other, known_pending, known_class, Known, classes_at, with_entry, named_fields, known_text_place, known_type, known_fields, known_value, known_desc, known_class_place, known_body, known_values, known_sections, known_notes, known_contents, classes_of, last_epoch, last_known, prim_names, object_names, own_class_of, is_external_chain}
+use Rattle.jser_shown.specs.Known.{NamedField, NamedLayer, class_layer, proxy_layer, known_text, known_other, known_pending, known_class, Known, classes_at, with_entry, named_fields, known_text_place, known_type, known_fields, known_value, known_desc, known_class_place, known_body, known_values, known_sections, known_notes, known_contents, classes_of, prim_names, object_names, own_class_of, is_external_chain}
 use Rattle.jser_shown.specs.Cues.{SectionPart, data_part, external_part, note_part, Cue, top_cue, text_place_cue, block_length_cue, note_cue, name_cue, length_cue, elements_cue, parts_cue, class_cue, made_cue, super_cue, close_cue, fields_cue, type_cue, interfaces_cue, Teller, teller, raw_parts, value_parts, note_if, section_parts, object_parts, fields_done, rest_of_desc}
 use Rattle.jser_shown.specs.Telling.{begin}
 use Rattle.jser_shown.specs.Naming.{named}
@@ -20,12 +20,12 @@ names_along N s pieces = named s N pieces
 
 -- those of a tree are added
 
-abbrev from_interfaces : List (List ℕ) → List (List ℕ) → List (List ℕ)
+abbrev pub from_interfaces : List (List ℕ) → List (List ℕ) → List (List ℕ)
 from_interfaces N [] = N
 from_interfaces N (name ∷ names) = from_interfaces (N ++ (name ∷ [])) names
 
 abbrev mutual
-  from_value : List (List ℕ) → ValueTree → List (List ℕ)
+  pub from_value : List (List ℕ) → ValueTree → List (List ℕ)
   from_value N null = N
   from_value N (back n) = N
   from_value N (string t) = N
@@ -35,32 +35,32 @@ abbrev mutual
   from_value N (enum_constant c t) = from_class N c
   from_value N (object c ss) = from_sections (from_class N c) ss
 
-  from_desc : List (List ℕ) → DescTree → List (List ℕ)
+  pub from_desc : List (List ℕ) → DescTree → List (List ℕ)
   from_desc N (plain name suid flags fields notes parent) = from_class (from_contents (N ++ (name ∷ [])) notes) parent
   from_desc N (proxy interfaces notes parent) = from_class (from_contents (from_interfaces N interfaces) notes) parent
 
-  from_class : List (List ℕ) → ClassPlaceTree → List (List ℕ)
+  pub from_class : List (List ℕ) → ClassPlaceTree → List (List ℕ)
   from_class N no_class = N
   from_class N (back_class n) = N
   from_class N (new_class d) = from_desc N d
 
-  from_body : List (List ℕ) → BodyTree → List (List ℕ)
+  pub from_body : List (List ℕ) → BodyTree → List (List ℕ)
   from_body N (raw_body ps) = N
   from_body N (value_body vs) = from_values N vs
 
-  from_values : List (List ℕ) → ValueTrees → List (List ℕ)
+  pub from_values : List (List ℕ) → ValueTrees → List (List ℕ)
   from_values N no_values = N
   from_values N (value_and v vs) = from_values (from_value N v) vs
 
-  from_sections : List (List ℕ) → SectionTrees → List (List ℕ)
+  pub from_sections : List (List ℕ) → SectionTrees → List (List ℕ)
   from_sections N no_sections = N
   from_sections N (section_and (section ps vs n) ss) = from_sections (from_notes (from_values N vs) n) ss
 
-  from_notes : List (List ℕ) → NotesTree → List (List ℕ)
+  pub from_notes : List (List ℕ) → NotesTree → List (List ℕ)
   from_notes N no_notes = N
   from_notes N (annotation cs) = from_contents N cs
 
-  from_contents : List (List ℕ) → ContentTrees → List (List ℕ)
+  pub from_contents : List (List ℕ) → ContentTrees → List (List ℕ)
   from_contents N no_contents = N
   from_contents N (content_and (block long bytes) cs) = from_contents N cs
   from_contents N (content_and reset cs) = from_contents N cs
@@ -545,7 +545,7 @@ mutual
   behind_notes no_notes N = sym (append-nil N)
   behind_notes (annotation cs) N = behind_contents cs N
 
-  behind_contents : (cs : ContentTrees) (N : List (List ℕ)) → from_contents N cs ≡ N ++ names_in_contents cs
+  pub behind_contents : (cs : ContentTrees) (N : List (List ℕ)) → from_contents N cs ≡ N ++ names_in_contents cs
   behind_contents no_contents N = sym (append-nil N)
   behind_contents (content_and (block long bytes) cs) N = behind_contents cs N
   behind_contents (content_and reset cs) N = behind_contents cs N

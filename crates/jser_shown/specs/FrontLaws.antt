@@ -6,6 +6,7 @@ use Rattle.jser_shown.specs.Telling.{settled, settle_says, says, goes, tell}
 use Rattle.jser_shown.specs.Indexing.{Index, settle_index, index_in, indexed}
 use Rattle.jser_shown.specs.Collecting.{Collection, settle_collection, collect, collected}
 use Rattle.jser_shown.specs.Naming.{name_in, named}
+use Rattle.jser_shown.specs.Finding.{Finding, found}
 use Rattle.jser_shown.specs.Fronts.{teller_at, said, index_after, collection_after, names_after}
 
 abbrev pub TellsFronts : Type 0
@@ -36,3 +37,7 @@ OneMore = (s : Teller) (front : List Piece) (label : Label) (field : StreamField
     ≡ collect (settled now).known field (settle_collection now.known now.cues (collection_after s x front)))
     × ((names : List (List ℕ)) → names_after s names all
     ≡ name_in (settled now).cues field (names_after s names front))
+
+-- What is found along some first fields, and then along the others, is what is found along all.
+abbrev pub FindsFronts : Type 0
+FindsFronts = (x : Finding) (front rest : List Piece) → found x (front ++ rest) ≡ found (found x front) rest

@@ -15,6 +15,7 @@ use Rattle.jser_shown.specs.Cues.{top_cue, teller}
 use Rattle.jser_shown.specs.Telling.{tell, begin_telling, teller_after}
 use Rattle.jser_shown.specs.Indexing.{indexed, begin_index, nodes_in}
 use Rattle.jser_shown.specs.Naming.{named}
+use Rattle.jser_shown.specs.Finding.{begin_finding, found, finished, nodes_found}
 use Rattle.jser_shown.specs.Collecting.{collection, collected, begin_collection}
 
 -- It says the list's text of show.
@@ -41,6 +42,12 @@ Collected = (list : ContentTrees) → WellFormed list →
 -- The names that are taken along the fields are the checked names of the list.
 abbrev pub Named : Type 0
 Named = (list : ContentTrees) → WellFormed list → named (begin_telling []) [] (fields_of list) ≡ checked_names list
+
+-- What is found along the fields of a list are its nodes, its owners and its checked names.
+abbrev pub Found : Type 0
+Found = (list : ContentTrees) → WellFormed list →
+    let x = finished (found begin_finding (fields_of list)) in
+    (nodes_found x ≡ nodes_of list) × (x.owners ≡ owners_of list) × (x.names ≡ checked_names list)
 
 -- A place is a number of bytes.
 abbrev pub PlacesAreCounted : Type 0

@@ -13,3 +13,4 @@ pub mod Naming
 pub mod Fronts
 pub mod Laws
 pub mod FrontLaws
+pub mod Finding

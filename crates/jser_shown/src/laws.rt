@@ -2,8 +2,8 @@
 //! function, so that the check insists on its proof; the statements are in `specs/`, as `Laws` and
 //! `FrontLaws`.
 
-ghost use Rattle.jser_shown.specs.FrontLaws.{TellsFronts, IndexesFronts, CollectsFronts, NamesFronts, OneMore};
-ghost use Rattle.jser_shown.specs.Laws.{Told, EndsThere, Indexed, Collected, Named, PlacesAreCounted, Counted};
+ghost use Rattle.jser_shown.specs.FrontLaws.{TellsFronts, IndexesFronts, CollectsFronts, NamesFronts, OneMore, FindsFronts};
+ghost use Rattle.jser_shown.specs.Laws.{Told, EndsThere, Indexed, Collected, Named, Found, PlacesAreCounted, Counted};
 
 /// Along the fields of a list that obeys the format the teller says the list's text of `show`.
 pub fn told()
@@ -32,6 +32,12 @@ pub fn named()
     ensures { Named }
 {}
 
+/// What is found along these fields, each told how many handles are assigned before it, are the nodes, the owners and
+/// the checked names of the list. No teller is needed.
+pub fn found()
+    ensures { Found }
+{}
+
 /// The place after some bytes is so many bytes further on as they are.
 pub fn places_are_counted()
     ensures { PlacesAreCounted }
@@ -56,6 +62,11 @@ pub fn collects_fronts()
 /// So are the names that are taken.
 pub fn names_fronts()
     ensures { NamesFronts }
+{}
+
+/// So is what is found.
+pub fn finds_fronts()
+    ensures { FindsFronts }
 {}
 
 /// One field more is one step, from a teller that has settled.
