@@ -1,5 +1,5 @@
 -- Calls that do not run out of memory, and how many frames are open.
-use Rattle.std.proofs.Common.{◌≡◌, ℕ, ◌+◌, ◌<◌, ◌≤◌, ◌^◌, true, false, List, [], ◌∷◌, ◌++◌, length, take, Result, Ok, Err, refl, sym, ◌∙◌, subst, arith, length-append, length-take-le, inl, inr}
+use Rattle.std.proofs.Common.{◌≡◌, ℕ, ◌+◌, ◌<◌, ◌≤◌, ◌^◌, true, false, List, [], ◌∷◌, ◌++◌, length, take, Result, Ok, Err, refl, sym, ◌∙◌, subst, ap, arith, length-append, length-take-le, inl, inr}
 use Rattle.jser_grammar.specs.Parts.{IsBytes}
 use Rattle.jser_reading.specs.Labels.{Position, string_at, class_name_at, field_name_at, interface_name_at, block_length_at, raw_at, bytes_at, Label, Piece}
 use Rattle.jser_reading.specs.FieldBytes.{joined}
@@ -25,8 +25,9 @@ use Rattle.jser_reader.specs.Walks.{StandsAt, Stands, StopTold, Takes, Keeps}
 use Rattle.jser_reader.specs.Takes.{TakenCases, TakesFromFor}
 use Rattle.jser_reader.specs.States.{IsWithin, AnswersStop, exceeded}
 use Rattle.jser_reader.specs.ItemsTold.{StandsIn}
-use Rattle.jser_reader.specs.Bounds.{FramesAreBounded, MemoryFree}
+use Rattle.jser_reader.specs.Bounds.{FramesAreBounded, AreAssigned, MemoryFree}
 use Rattle.jser_reader.proofs.DepthLemmas.{frames_fit}
+use Rattle.jser_reader.proofs.MarkLemmas.{moment_is}
 use Rattle.jser_reader.proofs.PlaceDepths.{depth_within}
 use Rattle.jser_reader.proofs.JoinLemmas.{kept_none}
 use Rattle.jser_reader.proofs.ReaderLemmas.{front_of_front, field_goes_on, take_whole}
@@ -61,6 +62,19 @@ frames_are_bounded gate frames r tally e = λ front cut st.
       subst (λ n. FitsDepth n (label_of s).depth) (sym e) (frames_fit gate r s cut (stands_in gate front cut r tally st)),
       subst (λ fs. (label_of (settled (left begin_state fs))).depth ≤ gate.depth + 1) st.fields_are (depth_within gate (joined front ++ cut) r taken),
     )
+
+-- ---- handles
+
+pub are_assigned : (gate : Gate) (handles : ℕ) (r : Seen) (tally : Tally) → handles ≡ length r.table.entries → AreAssigned gate handles r tally
+unfolding AreAssigned
+are_assigned gate handles r tally e = λ front cut label st next.
+    let s : State = settled (left begin_state front) in
+    ap (λ l. length l.moment.table) (label_next front label next)
+    ∙ (ap length (moment_in s) ∙ (ap (λ m. length m.table) (moment_is gate r s cut (stands_in gate front cut r tally st)) ∙ sym e))
+  where
+    moment_in : (s : State) → (label_of s).moment.table ≡ s.0.table
+    moment_in (m, []) = refl
+    moment_in (m, goal ∷ goals) = refl
 
 -- ---- where memory may run out
 

@@ -1,6 +1,6 @@
--- What a reader's calls say of its stack and of memory, by the label of the field that is open or comes next, which whole
+-- What a reader's calls say of its stack, of handles and of memory, by the label of the field that is open or comes next, which whole
 -- streams alone tell.
-use Rattle.std.specs.Prelude.{ℕ, ◌≢◌, ◌+◌, ◌≤◌, List, ◌++◌, Result, Err}
+use Rattle.std.specs.Prelude.{ℕ, ◌≡◌, ◌≢◌, ◌+◌, ◌≤◌, List, ◌++◌, length, Result, Err}
 use Rattle.jser_reading.specs.Labels.{Label, Piece}
 use Rattle.jser_reading.specs.ComesNext.{ComesNext}
 use Rattle.jser_verdict.specs.Gates.{Gate}
@@ -19,6 +19,11 @@ unfoldable pub FramesAreBounded : Gate → (frames : ℕ) → Seen → Tally →
 FramesAreBounded gate frames r tally =
     (front : List Piece) (cut : List ℕ) → StandsIn gate front cut r tally
     → (label : Label) × ComesNext front label × FitsDepth frames label.depth × (label.depth ≤ gate.depth + 1)
+
+-- So many handles of the epoch are assigned before the field that is open or comes next.
+unfoldable pub AreAssigned : Gate → (handles : ℕ) → Seen → Tally → Type 0
+AreAssigned gate handles r tally =
+    (front : List Piece) (cut : List ℕ) (label : Label) → StandsIn gate front cut r tally → ComesNext front label → length label.moment.table ≡ handles
 
 -- A call that is given a piece, in a field with this label of which these bytes were taken before, does not run out of
 -- memory: where nothing of the field is kept; and where the piece ends inside the field, which is no checked name.

@@ -1,7 +1,7 @@
 //! The reader: a stream in pieces of any sizes, field by field.
 ghost use Rattle.std.specs.Prelude.{◌≡◌, ◌+◌, ◌<◌, ◌≤◌, [], length, take, IfOk};
 ghost use Rattle.jser_reader.specs.ReaderStates.{IsItem, HasProgress, StandsFor, NextTells, SkipTells, StaysStopped, FinishTells};
-ghost use Rattle.jser_reader.specs.Bounds.{FramesAreBounded, MemoryFree, SkipMemoryFree};
+ghost use Rattle.jser_reader.specs.Bounds.{FramesAreBounded, AreAssigned, MemoryFree, SkipMemoryFree};
 ghost use Rattle.jser_reader.specs.ItemsMade.{MakesStep};
 ghost use Rattle.jser_reader.specs.ItemsTold.{StandsIn, TellsItems, TellsFields};
 ghost use Rattle.jser_reader.specs.States.{IsWithin};
@@ -188,5 +188,13 @@ impl<G: Gate> Reader<G> {
         ensures layers { length self.now.machine.layers ≤ result + 1 }
     {
         self.machine.depth() as u64
+    }
+
+    /// How many handles of the epoch are assigned before the field that is open or comes next.
+    #[inline(always)]
+    pub fn epoch_handles(&self) -> u32
+        ensures { AreAssigned (G.told self.now.gate) result self.now.machine self.now.tally }
+    {
+        self.machine.handles()
     }
 }

@@ -127,6 +127,14 @@ impl Machine {
         }
     }
 
+    /// How many handles of the epoch are assigned.
+    #[inline(always)]
+    pub(crate) fn handles(&self) -> u32
+        ensures { result ≡ length self.now.table.entries }
+    {
+        self.table.count()
+    }
+
     /// Whether the stream may end: the next field is a tag at the top.
     pub(crate) fn is_at_top(&self) -> bool
         ensures top { result ≡ true → self.now.phase ≡ Phase.Top }
