@@ -6,19 +6,22 @@ use jser_filter::{Filter, FilterCause, FilterFault, Modules, ModulesCause, Modul
 use jser_prim::units_of;
 use std::test::Fail;
 
+/// Names, and whether the filter of the test below admits them.
+const ADMITTED: [(&str, bool); 6] = [
+    ("java.util.ArrayList", true),
+    ("com.x.Y", false),
+    ("other.Z", true),
+    ("[Lcom.x.Y;", false),
+    ("[I", true),
+    ("[V", false),
+];
+
 #[test]
 fn admitted_names(rt: HostRuntime) -> Result<(), Fail> {
-    let alloc = rt.alloc();
-    let filter = Filter::parse(alloc, "java.util.*;!com.**")?;
-    for (name, want) in [
-        ("java.util.ArrayList", true),
-        ("com.x.Y", false),
-        ("other.Z", true),
-        ("[Lcom.x.Y;", false),
-        ("[I", true),
-        ("[V", false),
-    ] {
-        assert_eq!(rt; admits(&filter, &units_of(alloc, name)?), want, "{name}");
+    let filter = Filter::parse(rt.alloc(), "java.util.*;!com.**")?;
+    for (name, want) in ADMITTED {
+        let units = units_of(rt.alloc(), name)?;
+        assert_eq!(rt; admits(&filter, &units), want, "{name}");
     }
     Ok(())
 }
@@ -43,7 +46,7 @@ fn verdicts_of_texts(rt: HostRuntime) -> Result<(), Fail> {
 }
 
 #[test]
-fn loaded_settings(rt: HostRuntime) -> Result<(), Fail> {
+fn faulty_settings(rt: HostRuntime) {
     let alloc = rt.alloc();
     let fault = FilterFault {
         pattern: 1,
@@ -59,15 +62,19 @@ fn loaded_settings(rt: HostRuntime) -> Result<(), Fail> {
     assert!(rt;
         matches!(load(alloc, "a", "b"), Err(SettingsFault::Modules(told)) if told == fault)
     );
+}
+
+#[test]
+fn loaded_settings(rt: HostRuntime) {
+    let alloc = rt.alloc();
     let Ok(filter) = load(alloc, "!shop/a.*;maxdepth=20", "a=shop") else {
-        return Ok(());
+        return;
     };
     assert_eq!(rt; depth_limit(&filter, 1000), 20);
     assert_eq!(rt; depth_limit(&filter, 10), 10);
     let name = [0x61, 0x2E, 0x42];
     assert!(rt; !admits(&filter, &name));
     assert!(rt; admits(&forget_modules(alloc, filter), &name));
-    Ok(())
 }
 
 #[test]
@@ -81,7 +88,7 @@ fn modules_of_packages(rt: HostRuntime) -> Result<(), Fail> {
 }
 
 #[test]
-fn faulty_texts(rt: HostRuntime) -> Result<(), Fail> {
+fn faulty_filter(rt: HostRuntime) -> Result<(), Fail> {
     let alloc = rt.alloc();
     let Some(fault) = faulty_piece(alloc, "a;maxdepth=x") else {
         return Ok(());
@@ -91,6 +98,12 @@ fn faulty_texts(rt: HostRuntime) -> Result<(), Fail> {
         "filter pattern 1: BadLimit"
     );
     assert!(rt; faulty_piece(alloc, "a;b").is_none());
+    Ok(())
+}
+
+#[test]
+fn faulty_table(rt: HostRuntime) -> Result<(), Fail> {
+    let alloc = rt.alloc();
     assert_eq!(rt; sound_lines(alloc, "a=b\nc=d\na=e"), Some(2));
     let fault = ModulesFault {
         line: 2,

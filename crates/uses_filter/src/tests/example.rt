@@ -15,6 +15,8 @@ fn allows(filter: &Filter, name: &[u16]) -> bool {
 }
 // end
 
+use std::alloc::{AllocError, Global};
+use std::process::Abort;
 use std::test::Fail;
 
 #[test]
@@ -27,7 +29,15 @@ fn a_filter_with_modules(rt: HostRuntime) -> Result<(), Fail> {
     let table = Modules::parse(alloc, "java.util=java.base")?;
     let filter = filter.with_modules(table);
     // end
-    assert!(rt; !allows(&filter, &units_of(alloc, "java.lang.Runtime")?));
-    assert!(rt; allows(&filter, &units_of(alloc, "[[I")?));
+    judges_in_module(&rt, alloc, &filter)?;
+    Ok(())
+}
+
+/// What the filter of the example says of a name outside of the module, and of an array of no class.
+fn judges_in_module(rt: &impl Abort, alloc: Global, filter: &Filter) -> Result<(), AllocError> {
+    let runtime = units_of(alloc, "java.lang.Runtime")?;
+    assert!(rt; !allows(filter, &runtime));
+    let ints = units_of(alloc, "[[I")?;
+    assert!(rt; allows(filter, &ints));
     Ok(())
 }

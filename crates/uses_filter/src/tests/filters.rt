@@ -4,7 +4,7 @@ use jser_filter::{
 };
 use jser_prim::units_of;
 use jser_table::{Element, element_of};
-use std::alloc::{AllocError, Global};
+use std::alloc::{AllocError, AllocGlobal, Global};
 use std::process::Abort;
 use std::test::Fail;
 
@@ -40,6 +40,18 @@ fn verdict_of(
     }
 }
 
+/// A filter's text, a name, and what that text says of it.
+type Row = (&'static str, &'static str, Verdict);
+
+/// Compares what texts say of names.
+fn compare(rt: &(impl Abort + AllocGlobal), rows: &[Row]) -> Result<(), Fail> {
+    for (text, name, verdict) in rows {
+        let found = verdict_of(rt, rt.alloc(), text, name)?;
+        assert_eq!(rt; found, *verdict, "{text} on {name}");
+    }
+    Ok(())
+}
+
 /// The limits of a text.
 fn limits_of(alloc: Global, text: &str) -> Result<Limits, FilterFault> {
     Ok(Filter::parse(alloc, text)?.limits())
@@ -59,96 +71,109 @@ const NO_LIMITS: Limits = Limits {
 
 #[test]
 fn filter_texts(rt: HostRuntime) -> Result<(), Fail> {
-    let alloc = rt.alloc();
     let text = "a.*;!a.**;maxrefs=3;maxrefs=9";
-    assert_eq!(rt;
-        limits_of(alloc, text)?,
-        Limits {
-            refs: Some(9),
-            ..NO_LIMITS
-        }
-    );
-    for (name, verdict) in [
-        ("a.B", Verdict::Allowed(0)),
-        ("a.b.C", Verdict::Rejected(1)),
-        ("b.C", Verdict::Undecided),
-    ] {
-        assert_eq!(rt; verdict_of(&rt, alloc, text, name)?, verdict, "{name}");
-    }
-    assert!(rt; Filter::parse(alloc, "m/x").is_ok());
-    assert_eq!(rt; limits_of(alloc, "")?, NO_LIMITS);
-    assert_eq!(rt; verdict_of(&rt, alloc, "", "a")?, Verdict::Undecided);
+    compare(
+        &rt,
+        &[
+            (text, "a.B", Verdict::Allowed(0)),
+            (text, "a.b.C", Verdict::Rejected(1)),
+            (text, "b.C", Verdict::Undecided),
+            ("", "a", Verdict::Undecided),
+        ],
+    )?;
+    assert!(rt; Filter::parse(rt.alloc(), "m/x").is_ok());
     Ok(())
 }
 
+/// Faulty texts of filters, each with the number of its first faulty piece and what is wrong with that.
+const FILTER_FAULTS: [(&str, usize, FilterCause); 26] = [
+    ("maxdepth=-1", 0, FilterCause::BadLimit),
+    ("maxdepth= 5", 0, FilterCause::BadLimit),
+    (".*", 0, FilterCause::PackageMissing),
+    ("!", 0, FilterCause::NameMissing),
+    ("m/", 0, FilterCause::NameMissing),
+    ("/x", 0, FilterCause::ModuleMissing),
+    ("max=1", 0, FilterCause::UnknownLimit),
+    ("a;;max=1", 2, FilterCause::UnknownLimit),
+    ("maxdepth=", 0, FilterCause::BadLimit),
+    ("maxdepth=9223372036854775808", 0, FilterCause::BadLimit),
+    ("maxrefs=1 ", 0, FilterCause::BadLimit),
+    ("!maxdepth=3", 0, FilterCause::UnknownLimit),
+    ("a=b=c", 0, FilterCause::UnknownLimit),
+    ("!.**", 0, FilterCause::PackageMissing),
+    ("m/.*", 0, FilterCause::PackageMissing),
+    ("/", 0, FilterCause::ModuleMissing),
+    ("!/x", 0, FilterCause::ModuleMissing),
+    ("!m/", 0, FilterCause::NameMissing),
+    ("maxbytes=+", 0, FilterCause::BadLimit),
+    ("maxbytes=-", 0, FilterCause::BadLimit),
+    ("maxarray=1x", 0, FilterCause::BadLimit),
+    ("maxarray=18446744073709551616", 0, FilterCause::BadLimit),
+    ("Maxdepth=1", 0, FilterCause::UnknownLimit),
+    ("=", 0, FilterCause::UnknownLimit),
+    ("a;!;max=1", 1, FilterCause::NameMissing),
+    (";;;/", 3, FilterCause::ModuleMissing),
+];
+
 #[test]
 fn filter_faults(rt: HostRuntime) {
-    let alloc = rt.alloc();
-    for (text, pattern, cause) in [
-        ("maxdepth=-1", 0, FilterCause::BadLimit),
-        ("maxdepth= 5", 0, FilterCause::BadLimit),
-        (".*", 0, FilterCause::PackageMissing),
-        ("!", 0, FilterCause::NameMissing),
-        ("m/", 0, FilterCause::NameMissing),
-        ("/x", 0, FilterCause::ModuleMissing),
-        ("max=1", 0, FilterCause::UnknownLimit),
-        ("a;;max=1", 2, FilterCause::UnknownLimit),
-        ("maxdepth=", 0, FilterCause::BadLimit),
-        ("maxdepth=9223372036854775808", 0, FilterCause::BadLimit),
-        ("maxrefs=1 ", 0, FilterCause::BadLimit),
-        ("!maxdepth=3", 0, FilterCause::UnknownLimit),
-        ("a=b=c", 0, FilterCause::UnknownLimit),
-        ("!.**", 0, FilterCause::PackageMissing),
-        ("m/.*", 0, FilterCause::PackageMissing),
-        ("/", 0, FilterCause::ModuleMissing),
-        ("!/x", 0, FilterCause::ModuleMissing),
-        ("!m/", 0, FilterCause::NameMissing),
-        ("maxbytes=+", 0, FilterCause::BadLimit),
-        ("maxbytes=-", 0, FilterCause::BadLimit),
-        ("maxarray=1x", 0, FilterCause::BadLimit),
-        ("maxarray=18446744073709551616", 0, FilterCause::BadLimit),
-        ("Maxdepth=1", 0, FilterCause::UnknownLimit),
-        ("=", 0, FilterCause::UnknownLimit),
-        ("a;!;max=1", 1, FilterCause::NameMissing),
-        (";;;/", 3, FilterCause::ModuleMissing),
-    ] {
-        assert_eq!(rt;
-            fault_of(alloc, text),
-            Some(FilterFault { pattern, cause }),
-            "{text}"
-        );
+    for (text, pattern, cause) in FILTER_FAULTS {
+        let fault = FilterFault { pattern, cause };
+        assert_eq!(rt; fault_of(rt.alloc(), text), Some(fault), "{text}");
     }
 }
 
+/// The limits of texts.
+const LIMITS: [(&str, Limits); 3] = [
+    ("", NO_LIMITS),
+    (
+        "a.*;!a.**;maxrefs=3;maxrefs=9",
+        Limits {
+            depth: None,
+            refs: Some(9),
+            bytes: None,
+            array: None,
+        },
+    ),
+    (
+        "maxbytes=1;maxarray=2;x;maxdepth=3;maxrefs=4",
+        Limits {
+            depth: Some(3),
+            refs: Some(4),
+            bytes: Some(1),
+            array: Some(2),
+        },
+    ),
+];
+
+#[test]
+fn filter_limits(rt: HostRuntime) -> Result<(), Fail> {
+    for (text, limits) in LIMITS {
+        assert_eq!(rt; limits_of(rt.alloc(), text)?, limits, "{text}");
+    }
+    Ok(())
+}
+
+/// Texts with a limit of depth and no other.
+const DEPTHS: [(&str, u64); 7] = [
+    ("maxdepth=-0", 0),
+    ("maxdepth=-000", 0),
+    ("maxdepth=+0", 0),
+    ("maxdepth=9223372036854775807", 9_223_372_036_854_775_807),
+    ("maxdepth=+3", 3),
+    ("maxdepth=0000000000000000000000012", 12),
+    ("maxdepth=5;maxdepth=4", 4),
+];
+
 #[test]
 fn filter_good_limits(rt: HostRuntime) -> Result<(), Fail> {
-    let alloc = rt.alloc();
-    for (text, depth) in [
-        ("maxdepth=-0", 0),
-        ("maxdepth=-000", 0),
-        ("maxdepth=+0", 0),
-        ("maxdepth=9223372036854775807", 9_223_372_036_854_775_807),
-        ("maxdepth=+3", 3),
-        ("maxdepth=0000000000000000000000012", 12),
-        ("maxdepth=5;maxdepth=4", 4),
-    ] {
-        assert_eq!(rt;
-            limits_of(alloc, text)?,
-            Limits {
-                depth: Some(depth),
-                ..NO_LIMITS
-            },
-            "{text}"
-        );
+    for (text, depth) in DEPTHS {
+        let limits = Limits {
+            depth: Some(depth),
+            ..NO_LIMITS
+        };
+        assert_eq!(rt; limits_of(rt.alloc(), text)?, limits, "{text}");
     }
-    let all = "maxbytes=1;maxarray=2;x;maxdepth=3;maxrefs=4";
-    let wanted = Limits {
-        depth: Some(3),
-        refs: Some(4),
-        bytes: Some(1),
-        array: Some(2),
-    };
-    assert_eq!(rt; limits_of(alloc, all)?, wanted);
     Ok(())
 }
 
@@ -157,75 +182,99 @@ fn modules_fault_of(alloc: Global, text: &str) -> Option<ModulesFault> {
     Modules::parse(alloc, text).err()
 }
 
+/// Faulty tables of modules, each with the number of its first faulty line and what is wrong with that.
+const MODULES_FAULTS: [(&str, usize, ModulesCause); 8] = [
+    ("a", 0, ModulesCause::BadLine),
+    ("=b", 0, ModulesCause::BadLine),
+    ("a=b=c", 0, ModulesCause::BadLine),
+    ("a=", 0, ModulesCause::BadLine),
+    ("a=b\n\na=c", 2, ModulesCause::PackageTwice),
+    ("a=b\na=b", 1, ModulesCause::PackageTwice),
+    ("a=b\na=", 1, ModulesCause::BadLine),
+    ("\n\n\n=", 3, ModulesCause::BadLine),
+];
+
 #[test]
-fn modules_tables(rt: HostRuntime) -> Result<(), Fail> {
-    let alloc = rt.alloc();
-    for (text, line, cause) in [
-        ("a", 0, ModulesCause::BadLine),
-        ("=b", 0, ModulesCause::BadLine),
-        ("a=b=c", 0, ModulesCause::BadLine),
-        ("a=", 0, ModulesCause::BadLine),
-        ("a=b\n\na=c", 2, ModulesCause::PackageTwice),
-        ("a=b\na=b", 1, ModulesCause::PackageTwice),
-        ("a=b\na=", 1, ModulesCause::BadLine),
-        ("\n\n\n=", 3, ModulesCause::BadLine),
-    ] {
-        assert_eq!(rt;
-            modules_fault_of(alloc, text),
-            Some(ModulesFault { line, cause }),
-            "{text}"
-        );
+fn modules_faults(rt: HostRuntime) {
+    for (text, line, cause) in MODULES_FAULTS {
+        let fault = ModulesFault { line, cause };
+        assert_eq!(rt; modules_fault_of(rt.alloc(), text), Some(fault), "{text}");
     }
-    let empty = Modules::parse(alloc, "")?;
-    let java = units_of(alloc, "java.util")?;
-    assert!(rt; empty.get(&java).is_none());
-    assert!(rt; Modules::none(alloc).get(&java).is_none());
-    let table = Modules::parse(alloc, "java.util=java.base\n\n app =shop\r")?;
-    assert_eq!(rt;
-        table.get(&java),
-        Some(units_of(alloc, "java.base")?.as_slice())
-    );
-    assert!(rt; table.get(&units_of(alloc, "app")?).is_none());
-    assert_eq!(rt;
-        table.get(&units_of(alloc, " app ")?),
-        Some(units_of(alloc, "shop\r")?.as_slice())
-    );
+}
+
+/// A package has this module in a table, or none.
+fn compare_module(
+    rt: &impl Abort,
+    alloc: Global,
+    table: &Modules,
+    package: &str,
+    module: Option<&str>,
+) -> Result<(), AllocError> {
+    let units_of_package = units_of(alloc, package)?;
+    let found = table.get(&units_of_package);
+    match module {
+        Some(module) => {
+            let wanted = units_of(alloc, module)?;
+            assert_eq!(rt; found, Some(wanted.as_slice()), "{package}");
+        }
+        None => assert!(rt; found.is_none(), "{package}"),
+    }
     Ok(())
 }
 
 #[test]
+fn modules_tables(rt: HostRuntime) -> Result<(), Fail> {
+    let alloc = rt.alloc();
+    compare_module(&rt, alloc, &Modules::none(alloc), "java.util", None)?;
+    let text = "java.util=java.base\n\n app =shop\r";
+    for (text, package, module) in [
+        ("", "java.util", None),
+        (text, "java.util", Some("java.base")),
+        (text, "app", None),
+        (text, " app ", Some("shop\r")),
+    ] {
+        let table = Modules::parse(alloc, text)?;
+        compare_module(&rt, alloc, &table, package, module)?;
+    }
+    Ok(())
+}
+
+/// What texts say of names, with the table of modules below.
+const WITH_MODULES: [Row; 8] = [
+    (
+        "java.base/java.util.*;!*",
+        "java.util.ArrayList",
+        Verdict::Allowed(0),
+    ),
+    (
+        "java.base/java.util.*;!*",
+        "java.lang.String",
+        Verdict::Rejected(1),
+    ),
+    ("java.base/*;!*", "E", Verdict::Rejected(1)),
+    (
+        "!java.base/*;*",
+        "java.util.ArrayList",
+        Verdict::Rejected(0),
+    ),
+    (
+        "!java.base/*;*",
+        "java.util.concurrent.Phaser",
+        Verdict::Allowed(1),
+    ),
+    ("shop/app.Cart", "app.Cart", Verdict::Allowed(0)),
+    ("shop/Cart", "app.Cart", Verdict::Undecided),
+    (
+        "java.base/java.util.*",
+        "[Ljava.util.List;",
+        Verdict::Allowed(0),
+    ),
+];
+
+#[test]
 fn filters_with_modules(rt: HostRuntime) -> Result<(), Fail> {
     let alloc = rt.alloc();
-    for (text, name, verdict) in [
-        (
-            "java.base/java.util.*;!*",
-            "java.util.ArrayList",
-            Verdict::Allowed(0),
-        ),
-        (
-            "java.base/java.util.*;!*",
-            "java.lang.String",
-            Verdict::Rejected(1),
-        ),
-        ("java.base/*;!*", "E", Verdict::Rejected(1)),
-        (
-            "!java.base/*;*",
-            "java.util.ArrayList",
-            Verdict::Rejected(0),
-        ),
-        (
-            "!java.base/*;*",
-            "java.util.concurrent.Phaser",
-            Verdict::Allowed(1),
-        ),
-        ("shop/app.Cart", "app.Cart", Verdict::Allowed(0)),
-        ("shop/Cart", "app.Cart", Verdict::Undecided),
-        (
-            "java.base/java.util.*",
-            "[Ljava.util.List;",
-            Verdict::Allowed(0),
-        ),
-    ] {
+    for (text, name, verdict) in WITH_MODULES {
         let table = Modules::parse(alloc, "java.util=java.base\napp=shop")?;
         let name = units_of(alloc, name)?;
         let bare = Filter::parse(alloc, text)?;

@@ -1,4 +1,6 @@
 //! Each caller on a worked case.
+ghost use Rattle.std.specs.Prelude.{slice_get, IsTrue, IfOk};
+ghost use Rattle.jser_table.specs.Entries.{is_closed};
 
 use crate::classes::{Layout, can_be_read, holds_nothing, is_serial, layout_of, own_layer};
 use crate::data::{first_size, has_annotation};
@@ -26,10 +28,17 @@ fn order(alloc: Global, flags: u8) -> Result<Layer, AllocError> {
     })
 }
 
+/// A table that holds one class, whose objects have an annotation.
+fn orders(alloc: Global) -> Result<Table, Fail>
+    ensures { IfOk result (λ table. IsTrue (is_closed (slice_get table.entries 0))) }
+{
+    let layer = order(alloc, 0x03)?;
+    Ok(with_class(alloc, 1, layer)?)
+}
+
 #[test]
-fn handles(rt: HostRuntime) -> Result<(), Fail> {
-    let alloc = rt.alloc();
-    let mut table = Table::new(alloc, 2);
+fn handles(rt: HostRuntime) {
+    let mut table = Table::new(rt.alloc(), 2);
     assert!(rt; is_new(&table));
     assert_eq!(rt; assign_again(&mut table, Kind::Text), Ok(0));
     assert_eq!(rt;
@@ -40,15 +49,18 @@ fn handles(rt: HostRuntime) -> Result<(), Fail> {
     assert!(rt; names_text(&table, 0) && names_open_class(&table, 1) && !is_assigned(&table, 2));
     assert_eq!(rt; next_epoch(&mut table, Kind::Other), Ok(0));
     assert!(rt; !is_new(&table));
-    let line = log_line(alloc, TableFault::Full)?;
+}
+
+#[test]
+fn a_log_line(rt: HostRuntime) -> Result<(), Fail> {
+    let line = log_line(rt.alloc(), TableFault::Full)?;
     assert_eq!(rt; line.as_str(), "the table of handles is full");
     Ok(())
 }
 
 #[test]
 fn a_class(rt: HostRuntime) -> Result<(), Fail> {
-    let alloc = rt.alloc();
-    let table = with_class(alloc, 1, order(alloc, 0x03)?)?;
+    let table = orders(rt.alloc())?;
     assert!(rt; names_class(&table, 0));
     assert_eq!(rt; class_fit(&table, 0, Purpose::Object), Some(Fit::Fits));
     assert_eq!(rt; class_fit(&table, 0, Purpose::Array), Some(Fit::WrongClass));
@@ -62,8 +74,7 @@ fn a_class(rt: HostRuntime) -> Result<(), Fail> {
 
 #[test]
 fn its_data(rt: HostRuntime) -> Result<(), Fail> {
-    let alloc = rt.alloc();
-    let table = with_class(alloc, 1, order(alloc, 0x03)?)?;
+    let table = orders(rt.alloc())?;
     let Class::Closed(chain) = table.class_at(0) else {
         return Ok(());
     };
@@ -88,7 +99,13 @@ fn a_layer(rt: HostRuntime) -> Result<(), Fail> {
     assert!(rt; !loses_fields(&layer));
     assert!(rt; loses_fields(&order(alloc, 0x00)?));
     assert!(rt; writes_blocks(&order(alloc, 0x0C)?));
-    assert_eq!(rt; first_code(&layer.codes), Some(b'I'));
+    Ok(())
+}
+
+#[test]
+fn its_codes(rt: HostRuntime) -> Result<(), Fail> {
+    let alloc = rt.alloc();
+    assert_eq!(rt; first_code(&order(alloc, 0x12)?.codes), Some(b'I'));
     let codes = through_codes(vec![in alloc; b'J', b'[']?);
     assert_eq!(rt; codes.as_slice(), [b'J', b'['].as_slice());
     assert!(rt; is_raw(b'J') && !is_raw(b'['));

@@ -6,7 +6,7 @@ use jser_table::{
     BodyKind, Codes, Element, Entry, Fit, Kind, Layer, LayerKind, Purpose, Table, TableFault,
     element_of, layer_kind_of,
 };
-use std::alloc::{AllocError, Global};
+use std::alloc::{AllocError, AllocGlobal, Global};
 use std::process::Abort;
 use std::test::Fail;
 
@@ -51,14 +51,16 @@ fn try_close(table: &mut Table, number: u32, layer: Layer, parent: Option<u32>) 
     true
 }
 
-/// Adds a closed entry, and gives its number.
-fn add_closed(
-    rt: &impl Abort,
+/// Adds a class with no fields, and gives its number.
+fn add_class(
+    rt: &(impl Abort + AllocGlobal),
     table: &mut Table,
-    layer: Layer,
+    kind: LayerKind,
+    flags: u8,
     parent: Option<u32>,
-) -> Result<u32, TableFault> {
+) -> Result<u32, Fail> {
     let number = table.assign(Kind::Pending)?;
+    let layer = make_layer(rt.alloc(), kind, flags, &[])?;
     assert!(rt; try_close(table, number, layer, parent));
     Ok(number)
 }
@@ -76,27 +78,45 @@ fn layers_at(table: &Table, number: u32) -> Option<usize> {
     is_closed(table, number).then(|| table.layers(number))
 }
 
+/// A table that is full: it has a text and a class whose superclass has not been read.
+fn full_table(rt: &(impl Abort + AllocGlobal)) -> Table {
+    let mut table = Table::new(rt.alloc(), 2);
+    for (kind, answer) in [
+        (Kind::Text, Ok(0)),
+        (Kind::Pending, Ok(1)),
+        (Kind::Other, Err(TableFault::Full)),
+    ] {
+        assert_eq!(rt; table.assign(kind), answer, "{kind:?}");
+    }
+    table
+}
+
 #[test]
-fn table_full_and_close_reset(rt: HostRuntime) -> Result<(), Fail> {
-    let alloc = rt.alloc();
-    let mut table = Table::new(alloc, 2);
-    assert_eq!(rt; table.assign(Kind::Text), Ok(0));
-    assert_eq!(rt; table.assign(Kind::Pending), Ok(1));
-    assert_eq!(rt; table.assign(Kind::Other), Err(TableFault::Full));
+fn table_full(rt: HostRuntime) {
+    let table = full_table(&rt);
     assert_eq!(rt; table.count(), 2);
     assert!(rt; matches!(table.get(0), Some(Entry::Text)));
     assert!(rt; matches!(table.get(1), Some(Entry::Pending)));
+}
 
-    let layer = make_layer(alloc, LayerKind::Other, 0x02, &[INT])?;
+#[test]
+fn table_full_and_close(rt: HostRuntime) -> Result<(), Fail> {
+    let mut table = full_table(&rt);
+    let layer = make_layer(rt.alloc(), LayerKind::Other, 0x02, &[INT])?;
     assert!(rt; try_close(&mut table, 1, layer, None));
     assert_eq!(rt; layers_at(&table, 1), Some(1));
     assert!(rt; matches!(table.get(1), Some(Entry::Closed(_))));
     assert!(rt; table.get(2).is_none());
+    is_new_when_reset(&rt, &mut table);
+    Ok(())
+}
+
+/// A reset leaves no entry, and the next handle is number 0 again.
+fn is_new_when_reset(rt: &impl Abort, table: &mut Table) {
     table.reset();
     assert_eq!(rt; table.count(), 0);
     assert_eq!(rt; table.assign(Kind::Other), Ok(0));
     assert!(rt; matches!(table.get(0), Some(Entry::Other)));
-    Ok(())
 }
 
 #[test]
@@ -109,59 +129,48 @@ fn a_pending_entry_is_no_parent(rt: HostRuntime) -> Result<(), Fail> {
     Ok(())
 }
 
-#[test]
-fn fit_object_flags(rt: HostRuntime) -> Result<(), Fail> {
-    let alloc = rt.alloc();
-    let mut table = Table::new(alloc, 9);
-    for (flags, fit) in [
-        (0x02, Fit::Fits),
-        (0x00, Fit::NotSerializable),
-        (0x04, Fit::ExternalRaw),
-        (0x0C, Fit::Fits),
-    ] {
-        let layer = make_layer(alloc, LayerKind::Other, flags, &[])?;
-        let number = add_closed(&rt, &mut table, layer, None)?;
-        assert_eq!(rt;
-            fit_at(&table, number, Purpose::Object),
-            Some(fit),
-            "flags {flags}"
-        );
-    }
-    let layer = make_layer(alloc, LayerKind::Proxy, 0, &[])?;
-    let proxy = add_closed(&rt, &mut table, layer, None)?;
-    assert_eq!(rt; fit_at(&table, proxy, Purpose::Object), Some(Fit::Fits));
-    Ok(())
-}
+const INTS: LayerKind = LayerKind::Array(BodyKind::Prim(INT));
+
+/// Classes with no superclass: the kind, the flags, a purpose, and how the class fits it.
+const FITS: [(LayerKind, u8, Purpose, Fit); 12] = [
+    (LayerKind::Other, 0x02, Purpose::Object, Fit::Fits),
+    (
+        LayerKind::Other,
+        0x00,
+        Purpose::Object,
+        Fit::NotSerializable,
+    ),
+    (LayerKind::Other, 0x04, Purpose::Object, Fit::ExternalRaw),
+    (LayerKind::Other, 0x0C, Purpose::Object, Fit::Fits),
+    (LayerKind::Proxy, 0x00, Purpose::Object, Fit::Fits),
+    (INTS, 0x04, Purpose::Object, Fit::WrongClass),
+    (LayerKind::Other, 0x02, Purpose::Array, Fit::WrongClass),
+    (LayerKind::Other, 0x02, Purpose::EnumConst, Fit::WrongClass),
+    (LayerKind::Proxy, 0x00, Purpose::Array, Fit::WrongClass),
+    (LayerKind::Proxy, 0x10, Purpose::EnumConst, Fit::WrongClass),
+    (INTS, 0x02, Purpose::Array, Fit::Fits),
+    (LayerKind::Other, 0x12, Purpose::EnumConst, Fit::Fits),
+];
 
 #[test]
-fn fit_wrong_class(rt: HostRuntime) -> Result<(), Fail> {
-    let alloc = rt.alloc();
-    let mut table = Table::new(alloc, 9);
-    let ints = LayerKind::Array(BodyKind::Prim(INT));
-    for (kind, flags, purpose, fit) in [
-        (ints, 0x04, Purpose::Object, Fit::WrongClass),
-        (LayerKind::Other, 0x02, Purpose::Array, Fit::WrongClass),
-        (LayerKind::Other, 0x02, Purpose::EnumConst, Fit::WrongClass),
-        (LayerKind::Proxy, 0x00, Purpose::Array, Fit::WrongClass),
-        (LayerKind::Proxy, 0x10, Purpose::EnumConst, Fit::WrongClass),
-        (ints, 0x02, Purpose::Array, Fit::Fits),
-        (LayerKind::Other, 0x12, Purpose::EnumConst, Fit::Fits),
-    ] {
-        let layer = make_layer(alloc, kind, flags, &[])?;
-        let number = add_closed(&rt, &mut table, layer, None)?;
-        assert_eq!(rt; fit_at(&table, number, purpose), Some(fit), "flags {flags}");
+fn fit_of_one_class(rt: HostRuntime) -> Result<(), Fail> {
+    let mut table = Table::new(rt.alloc(), 12);
+    for (kind, flags, purpose, fit) in FITS {
+        let number = add_class(&rt, &mut table, kind, flags, None)?;
+        assert_eq!(rt;
+            fit_at(&table, number, purpose),
+            Some(fit),
+            "{kind:?} with flags {flags} as {purpose:?}"
+        );
     }
     Ok(())
 }
 
 #[test]
 fn fit_parent_not_serial(rt: HostRuntime) -> Result<(), Fail> {
-    let alloc = rt.alloc();
-    let mut table = Table::new(alloc, 9);
-    let external = make_layer(alloc, LayerKind::Other, 0x0C, &[])?;
-    let parent = add_closed(&rt, &mut table, external, None)?;
-    let own = make_layer(alloc, LayerKind::Other, 0x02, &[])?;
-    let number = add_closed(&rt, &mut table, own, Some(parent))?;
+    let mut table = Table::new(rt.alloc(), 9);
+    let parent = add_class(&rt, &mut table, LayerKind::Other, 0x0C, None)?;
+    let number = add_class(&rt, &mut table, LayerKind::Other, 0x02, Some(parent))?;
     assert_eq!(rt;
         fit_at(&table, number, Purpose::Object),
         Some(Fit::NotSerializable)
@@ -172,74 +181,69 @@ fn fit_parent_not_serial(rt: HostRuntime) -> Result<(), Fail> {
 }
 
 /// The units of an ASCII text.
-fn units(alloc: Global, text: &[u8]) -> Result<Vec<u16>, AllocError> {
-    text.iter().map(|byte| u16::from(*byte)).collect(alloc)
+fn units(alloc: Global, text: &str) -> Result<Vec<u16>, AllocError> {
+    text.as_bytes()
+        .iter()
+        .map(|byte| u16::from(*byte))
+        .collect(alloc)
 }
 
 #[test]
 fn element_names(rt: HostRuntime) -> Result<(), Fail> {
-    let alloc = rt.alloc();
     for (name, element) in [
-        (b"[[Lx.Y;".as_slice(), b"x.Y".as_slice()),
-        (b"[L;".as_slice(), b"".as_slice()),
-        (b"I".as_slice(), b"I".as_slice()),
-        (b"[Lint;".as_slice(), b"int".as_slice()),
-        (b"[L[I;;".as_slice(), b"[I;".as_slice()),
-        (b"".as_slice(), b"".as_slice()),
-        (b"integer".as_slice(), b"integer".as_slice()),
+        ("[[Lx.Y;", "x.Y"),
+        ("[L;", ""),
+        ("I", "I"),
+        ("[Lint;", "int"),
+        ("[L[I;;", "[I;"),
+        ("", ""),
+        ("integer", "integer"),
     ] {
-        let name = units(alloc, name)?;
-        let wanted = units(alloc, element)?;
-        let Element::Name(found) = element_of(&name) else {
-            return Err("no name".into());
-        };
-        assert_eq!(rt; found, wanted.as_slice());
+        let units_of_name = units(rt.alloc(), name)?;
+        let wanted = units(rt.alloc(), element)?;
+        assert_eq!(rt;
+            element_of(&units_of_name),
+            Element::Name(&wanted),
+            "{name}"
+        );
     }
+    Ok(())
+}
+
+#[test]
+fn primitive_elements(rt: HostRuntime) -> Result<(), Fail> {
     for name in [
-        b"boolean".as_slice(),
-        b"byte".as_slice(),
-        b"char".as_slice(),
-        b"double".as_slice(),
-        b"float".as_slice(),
-        b"int".as_slice(),
-        b"long".as_slice(),
-        b"short".as_slice(),
-        b"void".as_slice(),
-        b"[I".as_slice(),
-        b"[[Z".as_slice(),
+        "boolean", "byte", "char", "double", "float", "int", "long", "short", "void", "[I", "[[Z",
     ] {
-        let name = units(alloc, name)?;
-        assert!(rt; matches!(element_of(&name), Element::Primitive));
+        let element = units(rt.alloc(), name)?;
+        assert_eq!(rt; element_of(&element), Element::Primitive, "{name}");
     }
-    for name in [
-        b"[".as_slice(),
-        b"[V".as_slice(),
-        b"[II".as_slice(),
-        b"[Lx".as_slice(),
-        b"[x;".as_slice(),
-        b"[[".as_slice(),
-    ] {
-        let name = units(alloc, name)?;
-        assert!(rt; matches!(element_of(&name), Element::Malformed));
-        assert_eq!(rt; layer_kind_of(&name), None);
+    Ok(())
+}
+
+#[test]
+fn malformed_names(rt: HostRuntime) -> Result<(), Fail> {
+    for name in ["[", "[V", "[II", "[Lx", "[x;", "[["] {
+        let malformed = units(rt.alloc(), name)?;
+        assert_eq!(rt; element_of(&malformed), Element::Malformed, "{name}");
+        assert_eq!(rt; layer_kind_of(&malformed), None, "{name}");
     }
     Ok(())
 }
 
 #[test]
 fn layer_kinds(rt: HostRuntime) -> Result<(), Fail> {
-    let alloc = rt.alloc();
     for (name, kind) in [
-        (b"[I".as_slice(), LayerKind::Array(BodyKind::Prim(INT))),
-        (b"[[I".as_slice(), LayerKind::Array(BodyKind::Values)),
-        (b"[Lx;".as_slice(), LayerKind::Array(BodyKind::Values)),
-        (b"[[Lx;".as_slice(), LayerKind::Array(BodyKind::Values)),
-        (b"int".as_slice(), LayerKind::Other),
-        (b"x.Y".as_slice(), LayerKind::Other),
-        (b"".as_slice(), LayerKind::Other),
+        ("[I", INTS),
+        ("[[I", LayerKind::Array(BodyKind::Values)),
+        ("[Lx;", LayerKind::Array(BodyKind::Values)),
+        ("[[Lx;", LayerKind::Array(BodyKind::Values)),
+        ("int", LayerKind::Other),
+        ("x.Y", LayerKind::Other),
+        ("", LayerKind::Other),
     ] {
-        let name = units(alloc, name)?;
-        assert_eq!(rt; layer_kind_of(&name), Some(kind));
+        let units_of_name = units(rt.alloc(), name)?;
+        assert_eq!(rt; layer_kind_of(&units_of_name), Some(kind), "{name}");
     }
     Ok(())
 }

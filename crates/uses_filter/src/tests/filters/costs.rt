@@ -3,8 +3,10 @@ use super::judge;
 use jser_filter::{Filter, Modules, Verdict};
 use jser_prim::units_of;
 use std::alloc::{AllocError, Global};
+use std::io;
+use std::process::Abort;
 use std::test::Fail;
-use std::time::Instant;
+use std::time::{Clock, Instant};
 
 const NAMES: u32 = 2000;
 
@@ -33,19 +35,30 @@ fn many_lines(alloc: Global) -> Result<String, AllocError> {
     Ok(text)
 }
 
+/// The nanoseconds of a call of `judge` for these two names, the last one of the filter and one that it lacks.
+fn cost_of_judge(
+    rt: &(impl Abort + Clock),
+    filter: &Filter,
+    last: &[u16],
+    lacking: &[u16],
+) -> io::Result<u128> {
+    let start = Instant::now(rt)?;
+    for _ in 0..CALLS {
+        assert!(rt; judge(filter, last) == Some(Verdict::Allowed(1999)));
+        assert!(rt; judge(filter, lacking) == Some(Verdict::Rejected(2000)));
+    }
+    let spent = start.elapsed(rt)?.as_nanos();
+    Ok(spent / (2 * u128::from(CALLS)))
+}
+
 #[test]
 fn cost_of_many_exact_names(rt: HostRuntime) -> Result<(), Fail> {
     let alloc = rt.alloc();
+    let last = units_of(alloc, "com.example.shop.model.Item1999")?;
+    let lacking = units_of(alloc, "com.example.shop.model.Item2000")?;
     let text = exact_names(alloc)?;
     let filter = Filter::parse(alloc, &text)?;
-    let last = units_of(alloc, "com.example.shop.model.Item1999")?;
-    let none = units_of(alloc, "com.example.shop.model.Item2000")?;
-    let start = Instant::now(&rt)?;
-    for _ in 0..CALLS {
-        assert!(rt; judge(&filter, &last) == Some(Verdict::Allowed(1999)));
-        assert!(rt; judge(&filter, &none) == Some(Verdict::Rejected(2000)));
-    }
-    let spent = start.elapsed(&rt)?.as_nanos() / (2 * u128::from(CALLS));
+    let spent = cost_of_judge(&rt, &filter, &last, &lacking)?;
     eprintln!(rt; "judge among {NAMES} exact names: {spent} ns a call")?;
     Ok(())
 }

@@ -10,12 +10,11 @@ const PIECES: &str = "a.B;c.*;d.**;e*;m/f.G;maxdepth=3;;!h.I";
 /// Of these lines the second is empty.
 const LINES: &str = "a=b\n\nc=d\ne=f";
 
-/// A refused allocation is reported at its piece or line, before the faulty one; otherwise the right fault is.
+/// A refused allocation is reported at its piece, before the faulty one; otherwise the right fault is.
 #[test]
 fn out_of_memory_or_the_fault(rt: HostRuntime) {
-    let alloc = rt.alloc();
     for (text, faulty) in [("a;b;max=1", 2), ("a;b;m/c.*;!d*;max=1", 4), ("max=1", 0)] {
-        match fault_of(alloc, text) {
+        match fault_of(rt.alloc(), text) {
             Some(FilterFault { pattern, cause }) if cause == FilterCause::OutOfMemory => {
                 assert!(rt; pattern < faulty || pattern == 0, "{text}");
             }
@@ -28,8 +27,13 @@ fn out_of_memory_or_the_fault(rt: HostRuntime) {
             }
         }
     }
+}
+
+/// The same of a table of modules, at its lines.
+#[test]
+fn out_of_memory_or_the_faulty_line(rt: HostRuntime) {
     for (text, faulty) in [("a=b\na=c", 1), ("a=b\nc=d\n\ne=f\na=g", 4)] {
-        match modules_fault_of(alloc, text) {
+        match modules_fault_of(rt.alloc(), text) {
             Some(ModulesFault { line, cause }) if cause == ModulesCause::OutOfMemory => {
                 assert!(rt; line < faulty, "{text}");
             }

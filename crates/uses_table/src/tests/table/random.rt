@@ -1,12 +1,14 @@
 //! Random runs against a plain list of chains, and what a hostile chain costs.
-ghost use Rattle.std.specs.Prelude.{◌<◌};
+ghost use Rattle.std.specs.Prelude.{◌<◌, ◌≡◌, length, slice_get, IsTrue};
+ghost use Rattle.jser_table.specs.Entries.{is_closed, chain_at};
 
 use super::{is_closed, is_pending, make_layer, try_close};
-use jser_table::{Entry, Kind, LayerKind, Table};
-use std::alloc::{AllocError, Global};
+use jser_table::{Entry, Kind, LayerKind, Table, TableFault};
+use std::alloc::{AllocError, AllocGlobal, Global};
+use std::io;
 use std::process::Abort;
 use std::test::Fail;
-use std::time::Instant;
+use std::time::{Clock, Instant};
 
 /// A linear congruential generator (Knuth's MMIX), so that each run is the same.
 #[derive(Drop)]
@@ -80,12 +82,17 @@ fn chain_under(
     Ok(chain)
 }
 
-/// A closed entry that is chosen at random, if the choice falls on one.
-fn random_parent(random: &mut Random, expected: &[Expected]) -> Option<usize> {
+/// The number of an entry that is chosen at random, if there is one.
+fn random_number(random: &mut Random, expected: &[Expected]) -> Option<usize> {
     if expected.is_empty() {
         return None;
     }
-    let choice = random.below(expected.len() as u64) as usize;
+    Some(random.below(expected.len() as u64) as usize)
+}
+
+/// A closed entry that is chosen at random, if the choice falls on one.
+fn random_parent(random: &mut Random, expected: &[Expected]) -> Option<usize> {
+    let choice = random_number(random, expected)?;
     matches!(expected.get(choice), Some(Expected::Closed(_))).then_some(choice)
 }
 
@@ -93,23 +100,28 @@ fn random_parent(random: &mut Random, expected: &[Expected]) -> Option<usize> {
 fn compare_chain(rt: &impl Abort, table: &Table, number: u32, chain: &[Mark]) {
     assert!(rt; is_closed(table, number));
     assert_eq!(rt; table.layers(number), chain.len());
-    assert_eq!(rt;
-        table.all_serial(number),
-        chain.iter().all(|mark| mark.is_serial())
-    );
+    let all_serial = chain.iter().all(|mark| mark.is_serial());
+    assert_eq!(rt; table.all_serial(number), all_serial);
     let mut next = None;
     for (index, mark) in chain.iter().enumerate().rev() {
         if mark.is_filled() {
             next = Some(index);
         }
         assert_eq!(rt; table.next_filled(number, index), next);
-        assert!(rt; index < table.layers(number));
-        let layer = table.layer(number, index);
-        assert_eq!(rt; layer.flags, mark.flags);
-        assert_eq!(rt; layer.codes.as_slice().len(), mark.codes);
+        compare_layer(rt, table, number, index, *mark);
     }
     assert_eq!(rt; table.next_filled(number, chain.len()), None);
     assert_eq!(rt; table.next_filled(number, usize::MAX), None);
+}
+
+/// Compares one layer of a closed entry.
+fn compare_layer(rt: &impl Abort, table: &Table, number: u32, index: usize, mark: Mark)
+    requires { IsTrue (is_closed (slice_get table.now.entries number)) }
+{
+    assert!(rt; index < table.layers(number));
+    let layer = table.layer(number, index);
+    assert_eq!(rt; layer.flags, mark.flags);
+    assert_eq!(rt; layer.codes.as_slice().len(), mark.codes);
 }
 
 /// Compares an entry with what the model says of it.
@@ -151,32 +163,115 @@ fn close_both(
     Ok(())
 }
 
+/// Assigns a handle in the table and in the model, each of which has room for so many.
+fn assign_both(
+    rt: &impl Abort,
+    table: &mut Table,
+    expected: &mut Vec<Expected>,
+    room: usize,
+    kind: Kind,
+) -> Result<(), Fail> {
+    let number = expected.len();
+    let answer = table.assign(kind);
+    if number == room {
+        assert_eq!(rt; answer, Err(TableFault::Full));
+        return Ok(());
+    }
+    assert_eq!(rt; answer, Ok(u32::try_from(number)?));
+    expected.push(match kind {
+        Kind::Text => Expected::Text,
+        Kind::Other => Expected::Other,
+        Kind::Pending => Expected::Pending,
+    })?;
+    Ok(())
+}
+
+/// Adds a random layer to the table and to the model, mostly under the last one.
+fn add_both(
+    rt: &(impl Abort + AllocGlobal),
+    random: &mut Random,
+    table: &mut Table,
+    expected: &mut Vec<Expected>,
+) -> Result<(), Fail> {
+    let number = expected.len();
+    assign_both(rt, table, expected, 3000, Kind::Pending)?;
+    let parent = match random.below(16) {
+        0 => random_parent(random, expected.as_slice()),
+        _ => number.checked_sub(1),
+    };
+    let mark = random_mark(random);
+    close_both(rt, rt.alloc(), table, expected, number, mark, parent)
+}
+
 #[test]
 fn long_random_chains(rt: HostRuntime) -> Result<(), Fail> {
     let mut random = Random(7);
     let mut table = Table::new(rt.alloc(), 3000);
     let mut expected = Vec::new(rt.alloc());
-    for number in 0..2400usize {
-        assert_eq!(rt; table.assign(Kind::Pending), Ok(u32::try_from(number)?));
-        expected.push(Expected::Pending)?;
-        let parent = match random.below(16) {
-            0 => random_parent(&mut random, expected.as_slice()),
-            _ => number.checked_sub(1),
-        };
-        let mark = random_mark(&mut random);
-        close_both(
-            &rt,
-            rt.alloc(),
-            &mut table,
-            &mut expected,
-            number,
-            mark,
-            parent,
-        )?;
+    for _ in 0..2400 {
+        add_both(&rt, &mut random, &mut table, &mut expected)?;
     }
     for (number, entry) in expected.iter().enumerate() {
         if number % 97 == 0 || number >= 2390 {
             compare_entry(&rt, &table, u32::try_from(number)?, entry);
+        }
+    }
+    Ok(())
+}
+
+/// How many handles there may be at once in the test below.
+const ROOM: usize = 200;
+
+/// Closes an entry that is chosen at random, where it is pending.
+fn close_any(
+    rt: &(impl Abort + AllocGlobal),
+    random: &mut Random,
+    table: &mut Table,
+    expected: &mut Vec<Expected>,
+) -> Result<(), Fail> {
+    let Some(number) = random_number(random, expected.as_slice()) else {
+        return Ok(());
+    };
+    if !matches!(expected.get(number), Some(Expected::Pending)) {
+        return Ok(());
+    }
+    let parent = random_parent(random, expected.as_slice());
+    let mark = random_mark(random);
+    close_both(rt, rt.alloc(), table, expected, number, mark, parent)
+}
+
+/// Does one thing that is chosen at random, to the table and to the model.
+fn operate(
+    rt: &(impl Abort + AllocGlobal),
+    random: &mut Random,
+    table: &mut Table,
+    expected: &mut Vec<Expected>,
+) -> Result<(), Fail> {
+    let kind = match random.below(8) {
+        0 | 1 if expected.len() == ROOM && random.below(4) == 0 => {
+            table.reset();
+            expected.clear();
+            return Ok(());
+        }
+        0 => Kind::Text,
+        1 => Kind::Other,
+        2..=4 => Kind::Pending,
+        _ => return close_any(rt, random, table, expected),
+    };
+    assign_both(rt, table, expected, ROOM, kind)
+}
+
+/// Compares an entry that is chosen at random.
+fn compare_any(
+    rt: &impl Abort,
+    random: &mut Random,
+    table: &Table,
+    expected: &[Expected],
+) -> Result<(), Fail> {
+    assert_eq!(rt; table.count() as usize, expected.len());
+    if let Some(number) = random_number(random, expected) {
+        if let Some(entry) = expected.get(number) {
+            compare_entry(rt, table, u32::try_from(number)?, entry);
         }
     }
     Ok(())
@@ -188,55 +283,8 @@ fn random_operations(rt: HostRuntime) -> Result<(), Fail> {
     let mut table = Table::new(rt.alloc(), 200);
     let mut expected: Vec<Expected> = Vec::new(rt.alloc());
     for _ in 0..3000 {
-        let full = expected.len() == 200;
-        match random.below(8) {
-            0 | 1 if full && random.below(4) == 0 => {
-                table.reset();
-                expected.clear();
-            }
-            0 => {
-                assert_eq!(rt; table.assign(Kind::Text).is_ok(), !full);
-                if !full {
-                    expected.push(Expected::Text)?;
-                }
-            }
-            1 => {
-                assert_eq!(rt; table.assign(Kind::Other).is_ok(), !full);
-                if !full {
-                    expected.push(Expected::Other)?;
-                }
-            }
-            2..=4 => {
-                assert_eq!(rt; table.assign(Kind::Pending).is_ok(), !full);
-                if !full {
-                    expected.push(Expected::Pending)?;
-                }
-            }
-            _ if !expected.is_empty() => {
-                let number = random.below(expected.len() as u64) as usize;
-                if matches!(expected.get(number), Some(Expected::Pending)) {
-                    let parent = random_parent(&mut random, expected.as_slice());
-                    let mark = random_mark(&mut random);
-                    close_both(
-                        &rt,
-                        rt.alloc(),
-                        &mut table,
-                        &mut expected,
-                        number,
-                        mark,
-                        parent,
-                    )?;
-                }
-            }
-            _ => (),
-        }
-        assert_eq!(rt; table.count() as usize, expected.len());
-        if !expected.is_empty() {
-            let number = random.below(expected.len() as u64) as usize;
-            if let Some(entry) = expected.get(number) {
-                compare_entry(&rt, &table, u32::try_from(number)?, entry);
-            }
-        }
+        operate(&rt, &mut random, &mut table, &mut expected)?;
+        compare_any(&rt, &mut random, &table, expected.as_slice())?;
     }
     Ok(())
 }
@@ -256,36 +304,64 @@ fn empty_chain(
     Ok(())
 }
 
+/// How often a call is made whose cost is told.
+const CALLS: u32 = 1_000_000;
+
+/// The nanoseconds of a call of `layer`, at layers chosen at random.
+fn cost_of_layer(
+    rt: &(impl Abort + Clock),
+    random: &mut Random,
+    table: &Table,
+    own: u32,
+    layers: u32,
+) -> io::Result<u128>
+    requires closed { IsTrue (is_closed (slice_get table.now.entries own)) }
+    requires layers { length (chain_at table.now.entries own) ≡ layers }
+    requires not_empty { 0 < layers }
+{
+    let start = Instant::now(rt)?;
+    let mut flags: u64 = 0;
+    for _ in 0..CALLS {
+        let index = random.below(u64::from(layers)) as usize;
+        flags = flags.wrapping_add(u64::from(table.layer(own, index).flags));
+    }
+    let spent = start.elapsed(rt)?;
+    assert_eq!(rt; flags, 2 * u64::from(CALLS));
+    Ok(spent.as_nanos() / u128::from(CALLS))
+}
+
+/// The nanoseconds of a call of `next_filled`, at layers chosen at random.
+fn cost_of_next_filled(
+    rt: &(impl Abort + Clock),
+    random: &mut Random,
+    table: &Table,
+    own: u32,
+    layers: u32,
+) -> io::Result<u128>
+    requires closed { IsTrue (is_closed (slice_get table.now.entries own)) }
+    requires not_empty { 0 < layers }
+{
+    let start = Instant::now(rt)?;
+    for _ in 0..CALLS {
+        let index = random.below(u64::from(layers)) as usize;
+        assert!(rt; table.next_filled(own, index).is_none());
+    }
+    let spent = start.elapsed(rt)?;
+    Ok(spent.as_nanos() / u128::from(CALLS))
+}
+
 /// What a chain of 60,000 empty classes costs: the times go to standard error.
 #[test]
 fn cost_of_a_long_chain(rt: HostRuntime) -> Result<(), Fail> {
     const CLASSES: u32 = 60_000;
-    const CALLS: u32 = 1_000_000;
     let mut table = Table::new(rt.alloc(), CLASSES);
     empty_chain(&rt, rt.alloc(), &mut table, CLASSES)?;
     let own = CLASSES - 1;
     assert!(rt; is_closed(&table, own));
     assert_eq!(rt; table.layers(own), CLASSES as usize);
     let mut random = Random(3);
-
-    let start = Instant::now(&rt)?;
-    let mut flags: u64 = 0;
-    for _ in 0..CALLS {
-        let index = random.below(u64::from(CLASSES)) as usize;
-        flags = flags.wrapping_add(u64::from(table.layer(own, index).flags));
-    }
-    let layers = start.elapsed(&rt)?;
-    assert_eq!(rt; flags, 2 * u64::from(CALLS));
-
-    let start = Instant::now(&rt)?;
-    for _ in 0..CALLS {
-        let index = random.below(u64::from(CLASSES)) as usize;
-        assert!(rt; table.next_filled(own, index).is_none());
-    }
-    let filled = start.elapsed(&rt)?;
-    let (layers, filled) = (layers.as_nanos(), filled.as_nanos());
-    let calls = u128::from(CALLS);
-    let (layer, next) = (layers / calls, filled / calls);
+    let layer = cost_of_layer(&rt, &mut random, &table, own, CLASSES)?;
+    let next = cost_of_next_filled(&rt, &mut random, &table, own, CLASSES)?;
     eprintln!(rt; "layer: {layer} ns a call; next_filled: {next} ns a call")?;
     Ok(())
 }

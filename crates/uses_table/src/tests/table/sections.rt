@@ -6,7 +6,7 @@ ghost use Rattle.jser_table.specs.Sections.{HasSection, IsOn, layer_of, HoldsFor
 use super::random::Random;
 use super::{make_layer, try_close};
 use jser_table::{BodyKind, Class, Fit, Kind, LayerKind, Purpose, SectionNumber, Sections, Table};
-use std::alloc::Global;
+use std::alloc::{AllocGlobal, Global};
 use std::process::Abort;
 use std::test::Fail;
 
@@ -112,10 +112,17 @@ fn compare_section(rt: &impl Abort, table: &Table, number: SectionNumber, class:
     requires { HasSection table.now.chains number }
 {
     let section = table.section(number);
-    let sizes = class.fields.sizes();
-    assert_eq!(rt; section.prims as usize, sizes.len());
     assert_eq!(rt; section.values, class.fields.values());
     assert_eq!(rt; section.is_annotated, class.flags & 0x01 != 0);
+    compare_raw_values(rt, table, number, class.fields.sizes());
+}
+
+/// Compares the raw values of a section with these sizes.
+fn compare_raw_values(rt: &impl Abort, table: &Table, number: SectionNumber, sizes: &[u8])
+    requires { HasSection table.now.chains number }
+{
+    let section = table.section(number);
+    assert_eq!(rt; section.prims as usize, sizes.len());
     let mut raw_bytes = 0u64;
     for pos in 0..section.prims {
         let size = table.prim_size(number, pos);
@@ -186,40 +193,52 @@ fn full_class(parent: Option<usize>) -> Plain {
     }
 }
 
-#[test]
-fn sections_of_a_long_chain(rt: HostRuntime) -> Result<(), Fail> {
+/// Closes 100,000 classes, each under the one that stands so many numbers before it, and compares the sections of some.
+fn compare_full_classes(
+    rt: &(impl Abort + AllocGlobal),
+    step: usize,
+    compared: &[usize],
+) -> Result<(), Fail> {
     let mut table = Table::new(rt.alloc(), 100_000);
     let mut classes = Vec::new(rt.alloc());
     for number in 0..100_000usize {
-        add(
-            &rt,
-            rt.alloc(),
-            &mut table,
-            &mut classes,
-            full_class(number.checked_sub(1)),
-        )?;
+        let class = full_class(number.checked_sub(step));
+        add(rt, rt.alloc(), &mut table, &mut classes, class)?;
     }
-    for number in [0, 1, 50_000, 99_999] {
-        compare_sections(&rt, rt.alloc(), &table, &classes, number)?;
+    for number in compared {
+        compare_sections(rt, rt.alloc(), &table, &classes, *number)?;
     }
     Ok(())
 }
 
 #[test]
+fn sections_of_a_long_chain(rt: HostRuntime) -> Result<(), Fail> {
+    compare_full_classes(&rt, 1, &[0, 1, 50_000, 99_999])
+}
+
+#[test]
 fn sections_of_chains_closed_by_turns(rt: HostRuntime) -> Result<(), Fail> {
-    let mut table = Table::new(rt.alloc(), 100_000);
+    compare_full_classes(&rt, 3, &[0, 2, 49_999, 99_998, 99_999])
+}
+
+/// Closes up to 60 classes, each under one before it or under none, and compares the sections of all.
+fn compare_random_classes(
+    rt: &(impl Abort + AllocGlobal),
+    random: &mut Random,
+    table: &mut Table,
+) -> Result<(), Fail> {
     let mut classes = Vec::new(rt.alloc());
-    for number in 0..100_000usize {
-        add(
-            &rt,
-            rt.alloc(),
-            &mut table,
-            &mut classes,
-            full_class(number.checked_sub(3)),
-        )?;
+    for number in 0..(1 + random.below(60)) as usize {
+        let parent = match random.below(4) {
+            0 if number > 0 => Some(random.below(number as u64) as usize),
+            1 => None,
+            _ => number.checked_sub(1),
+        };
+        let class = random_class(random, parent);
+        add(rt, rt.alloc(), table, &mut classes, class)?;
     }
-    for number in [0, 2, 49_999, 99_998, 99_999] {
-        compare_sections(&rt, rt.alloc(), &table, &classes, number)?;
+    for number in 0..classes.len() {
+        compare_sections(rt, rt.alloc(), table, &classes, number)?;
     }
     Ok(())
 }
@@ -229,43 +248,44 @@ fn sections_of_random_chains(rt: HostRuntime) -> Result<(), Fail> {
     let mut random = Random(23);
     let mut table = Table::new(rt.alloc(), 1000);
     for round in 0..300u32 {
-        let mut classes = Vec::new(rt.alloc());
-        for number in 0..(1 + random.below(60)) as usize {
-            let parent = match random.below(4) {
-                0 if number > 0 => Some(random.below(number as u64) as usize),
-                1 => None,
-                _ => number.checked_sub(1),
-            };
-            let class = random_class(&mut random, parent);
-            add(&rt, rt.alloc(), &mut table, &mut classes, class)?;
-        }
-        for number in 0..classes.len() {
-            compare_sections(&rt, rt.alloc(), &table, &classes, number)?;
-        }
+        compare_random_classes(&rt, &mut random, &mut table)?;
         table.reset();
         assert_eq!(rt; table.count(), 0, "round {round}");
     }
     Ok(())
 }
 
+/// A table with a text, an object, and a class whose superclass has not been read.
+fn three_entries(alloc: Global) -> Result<Table, Fail> {
+    let mut table = Table::new(alloc, 9);
+    for kind in [Kind::Text, Kind::Other, Kind::Pending] {
+        table.assign(kind)?;
+    }
+    Ok(table)
+}
+
 /// What a number names, as a class.
 #[test]
 fn class_at(rt: HostRuntime) -> Result<(), Fail> {
-    let mut table = Table::new(rt.alloc(), 9);
-    table.assign(Kind::Text)?;
-    table.assign(Kind::Other)?;
-    table.assign(Kind::Pending)?;
-    assert_eq!(rt; table.class_at(0), Class::NoClass);
-    assert_eq!(rt; table.class_at(1), Class::NoClass);
-    assert_eq!(rt; table.class_at(2), Class::Open);
-    assert_eq!(rt; table.class_at(3), Class::NotThere);
-    assert_eq!(rt; table.class_at(u32::MAX), Class::NotThere);
-    let layer = make_layer(
-        rt.alloc(),
-        LayerKind::Array(BodyKind::Prim(b'D')),
-        0x06,
-        &[],
-    )?;
+    let table = three_entries(rt.alloc())?;
+    for (number, class) in [
+        (0, Class::NoClass),
+        (1, Class::NoClass),
+        (2, Class::Open),
+        (3, Class::NotThere),
+        (u32::MAX, Class::NotThere),
+    ] {
+        assert_eq!(rt; table.class_at(number), class, "number {number}");
+    }
+    Ok(())
+}
+
+/// Doubles, of a class that is externalizable too.
+#[test]
+fn class_of_an_array(rt: HostRuntime) -> Result<(), Fail> {
+    let mut table = three_entries(rt.alloc())?;
+    let doubles = LayerKind::Array(BodyKind::Prim(b'D'));
+    let layer = make_layer(rt.alloc(), doubles, 0x06, &[])?;
     assert!(rt; try_close(&mut table, 2, layer, None));
     let Class::Closed(chain) = table.class_at(2) else {
         return Err("no closed class".into());
