@@ -280,6 +280,7 @@ moves gate front cut given taken rest lent used r tally b some is size split h =
         let bytes : bytes_of e.field ≡ cut ++ taken = e.spelled ∙ ap (λ t. cut ++ t) (sym is) in
         inl (record {
           label = h.label;
+          comes = h.comes;
           told = e.field;
           ends = field_ends front cut taken lent h.label e.field b h.comes e.accepted bytes (subst (λ n. 0 < n) (sym size) some) l;
           bytes = bytes;

@@ -1,27 +1,28 @@
 -- What a first walk has found, as a graph.
 use Rattle.std.proofs.Common.{◌≡◌, ℕ, List, ◌∙◌, ap, Ok, Err}
-use Rattle.jser_shown.specs.Indexing.{Index, nodes_in}
+use Rattle.jser_shown.specs.Finding.{Finding}
+use Rattle.jser_shown.specs.Nodes.{Node as ToldNode}
 use Rattle.jser_shown.specs.Owners.{OwnerNode as ToldOwner}
 use Rattle.jser_reader.specs.declared.Stop.{Stop}
 use Rattle.jser_reader.specs.declared.Stop.TheVariants as stop
 use Rattle.jser_reader.specs.declared.Totals.{Totals}
-use Rattle.jser_graph.specs.declared.survey.Survey.{Survey}
+use Rattle.jser_graph.specs.Listed.{Listed, all_lists}
 use Rattle.jser_graph.specs.Reading.{IsRefused, Surveys}
 use Rattle.jser_graph.specs.Graphs.{StandsForSome, IfRefused}
 
-pub stands_for : (bytes copy : List ℕ) (survey : Survey) (totals : Totals) (nodes : Index) (owners : List ToldOwner) (names : List (List ℕ))
-    → Surveys bytes (Ok (record { survey = survey; totals = totals })) → copy ≡ bytes → nodes ≡ survey.nodes → owners ≡ survey.owners.owners
+pub stands_for : (bytes copy : List ℕ) (survey : Finding) (totals : Totals) (nodes : Listed ToldNode) (owners : List ToldOwner) (names : List (List ℕ))
+    → Surveys bytes (Ok (record { survey = survey; totals = totals })) → copy ≡ bytes → nodes ≡ record { ended = survey.ended; last = survey.nodes } → owners ≡ survey.owners
     → names ≡ survey.names
-    → StandsForSome bytes (record { bytes = copy; nodes = nodes_in nodes; names = names; owners = owners; totals = totals })
+    → StandsForSome bytes (record { bytes = copy; nodes = all_lists nodes; names = names; owners = owners; totals = totals })
 unfolding Surveys
 stands_for bytes copy survey totals nodes owners names h c n o m = (
   h.0,
   record {
     bytes_are = c;
     passes = h.1.passes;
-    nodes_are = ap nodes_in n ∙ h.1.nodes;
+    nodes_are = ap all_lists n ∙ h.1.nodes;
     names_are = m ∙ h.1.names;
-    owners_are = o ∙ ap (λ x. x.owners) h.1.owners;
+    owners_are = o ∙ h.1.owners;
     totals_are = h.1.totals_are;
   },
 )

@@ -186,6 +186,11 @@ pub open_is : {T : Type 0} (ends : List ℕ) (items : List T) → AreEnds 0 ends
 open_is ends items h =
     open_lies 0 ends items (from_none ends items h) ∙ (let e : start_of 0 ends (length ends) - 0 ≡ start_of 0 ends (length ends) = omega arith in ap (λ n. drop n items) e)
 
+pub length_open : {T : Type 0} (ends : List ℕ) (items : List T) → AreEnds 0 ends (length items)
+    → length items - start_of 0 ends (length ends) ≡ length (open_of 0 ends items)
+length_open ends items h =
+    sym (ap length (open_is ends items h) ∙ length-drop (start_of 0 ends (length ends)) items)
+
 pub list_is : {T : Type 0} (ends : List ℕ) (items : List T) (k end : ℕ) → AreEnds 0 ends (length items) → slice_get ends k ≡ Some end
     → slice_get (ended_of 0 ends items) k ≡ Some (take (end - start_of 0 ends k) (drop (start_of 0 ends k) items))
 list_is ends items k end h e =

@@ -71,7 +71,7 @@ pub does_say : (bytes rest : List ℕ) (lent : Item) (start walk next : Teller) 
     → ((told : StreamField) → Ends lent told → Says b c e f (λ k. says_next walk told k)) → ((told : StreamField) → Ends lent told → next ≡ goes (settled walk) told)
     → (IsLength lent → Says b c e f (λ k. k) × (next ≡ walk)) → Does bytes rest lent (HasSaid start a b d e walk) (HasSaid start a c d f next)
 does_say bytes rest lent start walk next a b c d e f more says_it goes_on same = record {
-  ended = λ front label told ends size h.
+  ended = λ front label told comes ends size h.
       says_one start walk next front label told a b c d e f more h (says_it told ends) (goes_on told ends);
   same = λ l front h. record {
     walk_is = (same l).1 ∙ h.walk_is;

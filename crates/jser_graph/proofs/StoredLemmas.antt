@@ -1,16 +1,20 @@
 -- Nodes as they are kept: one node more, one text more.
-use Rattle.std.proofs.Common.{◌≡◌, ℕ, zero, suc, ◌<◌, ◌≤◌, List, [], ◌∷◌, ◌++◌, length, map, reverse, slice_get, Some, Result, Ok, Err, OnOk, OnErr, refl, sym, ◌∙◌, ap, ap₂, subst, arith, length-append}
+use Rattle.std.proofs.Common.{◌≡◌, ℕ, zero, suc, ◌<◌, ◌≤◌, List, [], ◌∷◌, ◌++◌, length, map, slice_get, Some, None, Result, Ok, Err, OnOk, OnErr, refl, sym, ◌∙◌, ap, ap₂, subst, arith, length-append}
 use Rattle.std.specs.List.{All}
-use Rattle.std.proofs.lemmas.List.{map_push, reverse-append}
+use Rattle.std.proofs.lemmas.List.{map_push}
 use Rattle.std.proofs.lemmas.List.Elements.{All-weaker, All-push, All-head, All-tail}
 use Rattle.std.specs.declared.alloc.AllocError.{AllocError}
-use Rattle.jser_shown.specs.Nodes.{text_node, with_text}
-use Rattle.jser_shown.specs.Indexing.{Index, index, make_text}
-use Rattle.jser_graph.specs.Listed.{Listed}
+use Rattle.jser_reading.specs.Labels.{StreamField}
+use Rattle.jser_shown.specs.Nodes.{text_node}
+use Rattle.jser_shown.specs.Nodes.{Node as ToldNode}
+use Rattle.jser_shown.specs.Finding.{units_made}
+use Rattle.jser_graph.specs.Listed.{Listed, with_last}
 use Rattle.jser_graph.specs.declared.node.Detail.{Detail}
 use Rattle.jser_graph.specs.declared.node.Detail.TheVariants as detail
+use Rattle.jser_graph.specs.declared.node.NodeKind.{NodeKind}
+use Rattle.jser_graph.specs.declared.node.NodeKind.TheVariants as kind
 use Rattle.jser_graph.specs.declared.node.StoredNode.{StoredNode}
-use Rattle.jser_graph.specs.StoredNodes.{text_or_none, units_in, told_node, HasText, IsAmong}
+use Rattle.jser_graph.specs.StoredNodes.{told_kind, text_or_none, units_in, told_node, HasText, IsAmong}
 
 -- one node more
 
@@ -88,31 +92,45 @@ text_pushed (Err e) texts more units tag number old pushed m n last ended err h 
       subst (λ l. All (All (IsAmong (length more))) l.ended) (sym err) (all_among_more (length texts) (length more) old.ended le h.1),
     )
 
-pub text_made : (texts more : List (List ℕ)) (units : List ℕ) (tag number p : ℕ) (begun popped : List ℕ) (old pushed : Listed StoredNode)
-    → more ≡ texts ++ (units ∷ []) → number ≡ length texts → begun ≡ popped ++ (tag ∷ [])
-    → pushed.last ≡ old.last ++ (record { tag_byte = tag; detail = detail.Text number } ∷ []) → pushed.ended ≡ old.ended
+pub text_made : (r : Result (Unit {0}) AllocError) (now : Listed ToldNode) (texts more : List (List ℕ)) (units : List ℕ) (tag number : ℕ) (old pushed : Listed StoredNode)
+    → now ≡ record { ended = map (map (told_node texts)) old.ended; last = map (told_node texts) old.last }
+    → more ≡ texts ++ (units ∷ []) → number ≡ length texts
+    → OnOk r (pushed.last ≡ old.last ++ (record { tag_byte = tag; detail = detail.Text number } ∷ [])) → OnOk r (pushed.ended ≡ old.ended)
     → All (IsAmong (length texts)) old.last × All (All (IsAmong (length texts))) old.ended
-    → index p (reverse popped) (map (told_node more) pushed.last) (map (map (told_node more)) pushed.ended)
-    ≡ make_text units p (reverse begun) (map (told_node texts) old.last) (map (map (told_node texts)) old.ended)
-text_made texts more units tag number p begun popped old pushed m n b last ended h =
+    → OnOk r (record { ended = map (map (told_node more)) pushed.ended; last = map (told_node more) pushed.last }
+    ≡ with_last now (record { kind = text_node; place = tag; units = Some units }))
+text_made (Ok u) now texts more units tag number old pushed v m n last ended h =
     let node : StoredNode = record { tag_byte = tag; detail = detail.Text number } in
-    let nodes : map (told_node more) pushed.last ≡ with_text (map (told_node texts) old.last) tag units =
+    let told : ToldNode = record { kind = text_node; place = tag; units = Some units } in
+    let nodes : map (told_node more) pushed.last ≡ map (told_node texts) old.last ++ (told ∷ []) =
     ap (map (told_node more)) last ∙ map_push (told_node more) old.last node
     ∙ ap₂ (λ xs y. xs ++ (y ∷ [])) (ap (λ t. map (told_node t) old.last) m ∙ same_nodes texts (units ∷ []) old.last h.0)
     (ap (λ u. record { kind = text_node; place = tag; units = u }) (ap₂ (λ t k. units_in t (detail.Text k)) m n ∙ new_units texts units)) in
     let lists : map (map (told_node more)) pushed.ended ≡ map (map (told_node texts)) old.ended =
     ap (map (map (told_node more))) ended ∙ ap (λ t. map (map (told_node t)) old.ended) m ∙ same_ended texts (units ∷ []) old.ended h.1 in
-    ap₂ (λ xs ys. index p (reverse popped) xs ys) nodes lists
-    ∙ ap (λ xs. make_text units p xs (map (told_node texts) old.last) (map (map (told_node texts)) old.ended)) (sym (ap reverse b ∙ reverse-append popped (tag ∷ [])))
+    ap₂ (λ xs ys. record { ended = xs; last = ys }) lists nodes ∙ ap (λ x. with_last x told) (sym v)
+text_made (Err e) now texts more units tag number old pushed v m n last ended h = tt
 
-pub text_returned : (r : Result (Unit {0}) AllocError) (now : Index) (texts more : List (List ℕ)) (units : List ℕ) (tag number p : ℕ) (begun popped : List ℕ)
-    (old pushed : Listed StoredNode) → now ≡ index p (reverse begun) (map (told_node texts) old.last) (map (map (told_node texts)) old.ended)
-    → more ≡ texts ++ (units ∷ []) → number ≡ length texts → begun ≡ popped ++ (tag ∷ [])
-    → OnOk r (pushed.last ≡ old.last ++ (record { tag_byte = tag; detail = detail.Text number } ∷ [])) → OnOk r (pushed.ended ≡ old.ended)
-    → All (IsAmong (length texts)) old.last × All (All (IsAmong (length texts))) old.ended
-    → OnOk r (index p (reverse popped) (map (told_node more) pushed.last) (map (map (told_node more)) pushed.ended)
-    ≡ make_text units now.place now.begun now.nodes now.ended)
-text_returned (Ok u) now texts more units tag number p begun popped old pushed v m n b last ended h =
-    text_made texts more units tag number p begun popped old pushed m n b last ended h
-    ∙ ap (λ x. make_text units x.place x.begun x.nodes x.ended) (sym v)
-text_returned (Err e) now texts more units tag number p begun popped old pushed v m n b last ended h = tt
+-- what was kept is told
+
+pub length_told : (texts : List (List ℕ)) (nodes : List StoredNode) → length (map (told_node texts) nodes) ≡ length nodes
+length_told texts [] = refl
+length_told texts (node ∷ nodes) = ap (λ n. suc n) (length_told texts nodes)
+
+pub told_push : (texts : List (List ℕ)) (nodes : List StoredNode) (node : StoredNode)
+    → map (told_node texts) (nodes ++ (node ∷ [])) ≡ map (told_node texts) nodes ++ (told_node texts node ∷ [])
+told_push texts nodes node = map_push (told_node texts) nodes node
+
+pub told_end : (texts : List (List ℕ)) (ended : List (List StoredNode)) (nodes : List StoredNode)
+    → map (map (told_node texts)) (ended ++ (nodes ∷ [])) ≡ map (map (told_node texts)) ended ++ (map (told_node texts) nodes ∷ [])
+told_end texts ended nodes = map_push (map (told_node texts)) ended nodes
+
+-- a node that is no string has no units
+pub no_units : (k : NodeKind) (told : StreamField) → (k ≡ kind.Text → ⊥) → units_made (told_kind k) told ≡ None
+no_units kind.Text told other = absurd (other refl)
+no_units kind.PlainDesc told other = refl
+no_units kind.ProxyDesc told other = refl
+no_units kind.ClassObject told other = refl
+no_units kind.Array told other = refl
+no_units kind.EnumConst told other = refl
+no_units kind.Object told other = refl

@@ -3,6 +3,7 @@ use Rattle.std.proofs.Common.{◌≡◌, ◌⊎◌, inl, inr, ℕ, ◌+◌, ◌<
 use Rattle.std.proofs.lemmas.List.{length-take-le}
 use Rattle.jser_reading.specs.Labels.{StreamField, Label, Piece, piece}
 use Rattle.jser_reading.specs.FieldBytes.{bytes_of, joined}
+use Rattle.jser_reading.specs.ComesNext.{ComesNext}
 use Rattle.jser_verdict.specs.Gates.{Gate}
 use Rattle.jser_reader.specs.Gates.{open_gate}
 use Rattle.jser_reader.specs.declared.Item.{Item}
@@ -28,6 +29,16 @@ whole bytes (b ∷ rest) front cut split n = absurd (omega arith)
 pub begins : (bytes : List ℕ) (r : Seen) (tally : Tally) (P : List Piece → Type 0) → StandsIn open_gate [] [] r tally → P [] → GoesAlong open_gate bytes bytes r tally P
 begins bytes r tally P st h =
     record { front = []; cut = []; split = refl; stands = st; where_it_is = inl (inl refl, h) }
+
+-- what holds of the fields so far, and besides it
+pub along_with : (bytes rest : List ℕ) (r : Seen) (tally : Tally) (P Q : List Piece → Type 0) → GoesAlong open_gate bytes rest r tally P
+    → ((front : List Piece) (cut : List ℕ) → StandsIn open_gate front cut r tally → P front → Q front) → GoesAlong open_gate bytes rest r tally Q
+along_with bytes rest r tally P Q h f =
+    record { front = h.front; cut = h.cut; split = h.split; stands = h.stands; where_it_is = goes h.where_it_is }
+  where
+    goes : Where open_gate P h.front h.cut rest → Where open_gate Q h.front h.cut rest
+    goes (inl (b, at)) = inl (b, f h.front h.cut h.stands at)
+    goes (inr s) = inr s
 
 -- ---- more is wanted
 
@@ -59,6 +70,7 @@ joined_one (piece l f ∷ front) label told =
 pub record EndsField (bytes rest : List ℕ) (lent : Item) (r : Seen) (tally : Tally) (P : List Piece → Type 0) : Type 0 where
   pub front : List Piece
   pub label : Label
+  pub comes : ComesNext front label
   pub told : StreamField
   pub ends : Ends lent told
   pub size : length (joined front) + length (bytes_of told) + length rest ≡ length bytes
@@ -90,6 +102,7 @@ field_taken bytes rest taken cut front lent r tally P split before f =
     record {
       front = front;
       label = f.label;
+      comes = f.comes;
       told = f.told;
       ends = f.ends;
       size = omega arith;
@@ -158,7 +171,7 @@ turns bytes given taken rest lent used r tally new after P h t some le is split 
 
 -- What is done with an item: what held of the fields before it, and what holds of those after it.
 pub record Does (bytes rest : List ℕ) (lent : Item) (P Q : List Piece → Type 0) : Type 0 where
-  pub ended : (front : List Piece) (label : Label) (told : StreamField) → Ends lent told
+  pub ended : (front : List Piece) (label : Label) (told : StreamField) → ComesNext front label → Ends lent told
       → length (joined front) + length (bytes_of told) + length rest ≡ length bytes → P front → Q (front ++ (piece label told ∷ []))
   pub same : IsLength lent → (front : List Piece) → P front → Q front
 
@@ -169,7 +182,7 @@ takes_item bytes rest lent r tally P Q (inl e) does = record {
   cut = [];
   split = e.split;
   stands = e.stands;
-  where_it_is = inl (inl refl, does.ended e.front e.label e.told e.ends e.size e.before);
+  where_it_is = inl (inl refl, does.ended e.front e.label e.told e.comes e.ends e.size e.before);
 }
 takes_item bytes rest lent r tally P Q (inr o) does = record {
   front = o.front;

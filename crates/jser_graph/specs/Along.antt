@@ -86,6 +86,7 @@ pub record IsStuck (gate : Gate) (front : List Piece) (cut rest : List ℕ) : Ty
 -- a field has ended with the item
 pub record FieldTaken (gate : Gate) (front : List Piece) (cut taken : List ℕ) (lent : Item) (r : Seen) (tally : Tally) : Type 0 where
   pub label : Label
+  pub comes : ComesNext front label
   pub told : StreamField
   pub ends : Ends lent told
   pub bytes : bytes_of told ≡ cut ++ taken

@@ -1,5 +1,5 @@
 -- What contracts see of a graph, and the list of contents for which it stands.
-use Rattle.std.specs.Prelude.{ℕ, ◌≡◌, ◌-◌, ◌++◌, nat_lt, if◌then◌else◌, List, [], ◌∷◌, slice_get, Option, Some, None}
+use Rattle.std.specs.Prelude.{ℕ, ◌≡◌, ◌-◌, nat_lt, if◌then◌else◌, List, slice_get, Option, Some, None}
 use Rattle.jser_grammar.specs.Trees.{ContentTrees}
 use Rattle.jser_grammar.specs.CheckedNames.{checked_names}
 use Rattle.jser_grammar.specs.Wire.{BASE_WIRE_HANDLE}
@@ -17,7 +17,7 @@ use Rattle.jser_reader.specs.Tallies.{AreTotals}
 use Rattle.jser_graph.specs.declared.node.Node.{Node}
 use Rattle.jser_graph.specs.declared.node.StoredNode.{StoredNode}
 use Rattle.jser_graph.specs.StoredNodes.{told_kind}
-use Rattle.jser_graph.specs.Listed.{Listed}
+use Rattle.jser_graph.specs.Listed.{Listed, all_lists}
 
 -- the bytes of the stream, the nodes of each epoch in the order of their handles, the checked names in the order of the
 -- stream; the owners in the order of their tags; the counts
@@ -60,7 +60,7 @@ abbrev pub node_at : List Nodes → (epoch handle : ℕ) → Option ToldNode
 node_at lists epoch handle = if nat_lt handle BASE_WIRE_HANDLE then None else node_in lists epoch (handle - BASE_WIRE_HANDLE)
 
 abbrev pub stored_in : Listed StoredNode → (epoch number : ℕ) → Option StoredNode
-stored_in lists epoch number = in_list (slice_get (lists.ended ++ (lists.last ∷ [])) epoch) number
+stored_in lists epoch number = in_list (slice_get (all_lists lists) epoch) number
 
 -- a node, as it is told
 abbrev pub IsNode : Option ToldNode → Option Node → Type 0

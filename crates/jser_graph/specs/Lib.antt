@@ -1,7 +1,5 @@
 pub mod Listed
 pub mod StoredNodes
-pub mod Indexing
-pub mod Collecting
 pub mod Decoding
 pub mod Along
 pub mod Surveying

@@ -1,6 +1,6 @@
 -- Lists that are laid flat: their items one after another, and the number of items before the end of each list.
 use denote.Bor.{Bor}
-use Rattle.std.specs.Prelude.{ℕ, ◌≡◌, ◌-◌, ◌≤◌, List, [], ◌∷◌, zero, suc, take, drop, Option, Some, None}
+use Rattle.std.specs.Prelude.{ℕ, ◌≡◌, ◌-◌, ◌≤◌, List, [], ◌∷◌, ◌++◌, zero, suc, take, drop, Option, Some, None}
 
 -- lists that have ended, and one that is open
 pub record Listed (T : Type 0) : Type 0 where
@@ -33,3 +33,15 @@ abbrev pub IsList : {T : Type 0} → Option (List T) → Option (Bor (List T)) �
 IsList None None = Unit {0}
 IsList (Some list) (Some part) = part.now ≡ list
 IsList _ _ = ⊥
+
+-- all of them
+abbrev pub all_lists : {T : Type 0} → Listed T → List (List T)
+all_lists lists = lists.ended ++ (lists.last ∷ [])
+
+-- the open list has one item more
+abbrev pub with_last : {T : Type 0} → Listed T → T → Listed T
+with_last lists item = record { ended = lists.ended; last = lists.last ++ (item ∷ []) }
+
+-- the open list ends
+abbrev pub ended_last : {T : Type 0} → Listed T → Listed T
+ended_last lists = record { ended = all_lists lists; last = [] }

@@ -1,11 +1,10 @@
 -- The first walk along the bytes of a stream: where it stands, and what it has found at the end.
-use Rattle.std.specs.Prelude.{ℕ, ◌≡◌, ◌⊎◌, ◌≤◌, List, [], length, take, Result, Ok, Err}
+use Rattle.std.specs.Prelude.{ℕ, ◌≡◌, ◌⊎◌, ◌≤◌, List, length, take, Result, Ok, Err}
 use Rattle.jser_grammar.specs.Trees.{ContentTrees}
 use Rattle.jser_grammar.specs.CheckedNames.{checked_names}
 use Rattle.jser_shown.specs.Nodes.{nodes_of}
 use Rattle.jser_shown.specs.Owners.{owners_of}
-use Rattle.jser_shown.specs.Indexing.{nodes_in}
-use Rattle.jser_shown.specs.Collecting.{collection}
+use Rattle.jser_shown.specs.Finding.{Finding, nodes_found}
 use Rattle.jser_verdict.specs.Passing.{Passes}
 use Rattle.jser_reader.specs.Gates.{open_gate}
 use Rattle.jser_reader.specs.declared.Refusal.{Refusal}
@@ -17,20 +16,19 @@ use Rattle.jser_reader.specs.Readers.{Seen}
 use Rattle.jser_reader.specs.Streams.{AreRefused, AreTruncated}
 use Rattle.jser_reader.specs.Tallies.{AreTotals}
 use Rattle.jser_graph.specs.declared.read.Found.{Found}
-use Rattle.jser_graph.specs.declared.survey.Survey.{Survey}
 use Rattle.jser_graph.specs.Along.{GoesAlong}
 use Rattle.jser_graph.specs.Surveying.{IsAt}
 
 -- so far along the bytes, with a survey of the fields
-abbrev pub SurveysAlong : (bytes rest : List ℕ) → Seen → Tally → Survey → Type 0
+abbrev pub SurveysAlong : (bytes rest : List ℕ) → Seen → Tally → Finding → Type 0
 SurveysAlong bytes rest r tally survey = GoesAlong open_gate bytes rest r tally (λ front. IsAt front survey)
 
 -- The bytes are a stream of this list that passes, and what was found is that of the list.
-pub record IsOfList (bytes : List ℕ) (survey : Survey) (totals : Totals) (list : ContentTrees) : Type 0 where
+pub record IsOfList (bytes : List ℕ) (survey : Finding) (totals : Totals) (list : ContentTrees) : Type 0 where
   pub passes : Passes open_gate bytes list
   pub totals_are : AreTotals bytes list totals
-  pub nodes : nodes_in survey.nodes ≡ nodes_of list
-  pub owners : survey.owners ≡ collection [] (owners_of list)
+  pub nodes : nodes_found survey ≡ nodes_of list
+  pub owners : survey.owners ≡ owners_of list
   pub names : survey.names ≡ checked_names list
 
 -- The first bytes, whatever comes after them, or all of them are refused, with their first fault.
@@ -41,7 +39,7 @@ pub record FrontRefused (bytes : List ℕ) (refusal : Refusal) : Type 0 where
 abbrev pub IsRefused : List ℕ → Refusal → Type 0
 IsRefused bytes refusal = FrontRefused bytes refusal ⊎ AreTruncated open_gate bytes refusal
 
-unfoldable pub Walks : List ℕ → Survey → Result Totals Stop → Type 0
+unfoldable pub Walks : List ℕ → Finding → Result Totals Stop → Type 0
 Walks bytes survey (Ok totals) = (list : ContentTrees) × IsOfList bytes survey totals list
 Walks bytes survey (Err (stop.Refused refusal)) = IsRefused bytes refusal
 Walks bytes survey (Err stop.OutOfMemory) = Unit {0}

@@ -29,15 +29,15 @@ pub struct Graph {
 }
 
 impl Model for Graph {
-    ghost use Rattle.jser_shown.specs.Indexing.{nodes_in};
     ghost use Rattle.jser_walk.specs.Given.{told_nodes};
     ghost use Rattle.jser_graph.specs.Graphs.{GraphView};
+    ghost use Rattle.jser_graph.specs.Listed.{all_lists};
 
     ghost Value = { GraphView };
 
     ghost view = { λ a. record {
       bytes = a.bytes.items;
-      nodes = nodes_in a.nodes;
+      nodes = all_lists a.nodes;
       names = a.names;
       owners = told_nodes a.owners.items;
       totals = a.totals;

@@ -2,6 +2,7 @@
 //! and the bytes as they were read.
 #![tactic(auto)]
 
+mod begun;
 mod decode;
 mod graph;
 mod lists;

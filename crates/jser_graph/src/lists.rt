@@ -71,6 +71,15 @@ impl<T: Drop> Lists<T> {
         self.ends.len()
     }
 
+    /// How many items the open list has.
+    #[tactic(auto, using(crate::proofs::ListedLemmas::last_within, crate::proofs::ListedLemmas::length_open))]
+    #[inline(always)]
+    pub(crate) fn last_count(&self) -> usize
+        ensures { result ≡ length self.now.last }
+    {
+        self.items.len() - start_at(&self.ends, self.ends.len())
+    }
+
     /// The list with this number, counted from 0, if it has ended.
     #[tactic(auto, using(crate::proofs::ListedLemmas::list_begins, crate::proofs::ListedLemmas::list_ends, crate::proofs::ListedLemmas::is_list, crate::proofs::ListedLemmas::is_none))]
     pub(crate) fn get(&self, number: usize) -> Option<&[T]>

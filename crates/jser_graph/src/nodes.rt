@@ -1,51 +1,39 @@
-//! The nodes of a stream, as they are made along its fields.
-ghost use Rattle.std.specs.Prelude.{◌≡◌, OnOk};
-ghost use Rattle.jser_reading.specs.FieldBytes.{bytes_of, tag_byte};
-ghost use Rattle.jser_reading.specs.Labels.{StreamField, Tag};
-ghost use Rattle.jser_shown.specs.Nodes.{place_after};
-ghost use Rattle.jser_shown.specs.Indexing.{made, make_text, begin_index, nodes_in};
+//! The nodes of a stream, by their handles.
+ghost use Rattle.std.specs.Prelude.{◌≡◌, [], None, Some, length, OnOk};
+ghost use Rattle.jser_reading.specs.Labels.{StreamField};
+ghost use Rattle.jser_shown.specs.Finding.{node_made};
+ghost use Rattle.jser_shown.specs.Nodes.{text_node};
 ghost use Rattle.jser_walk.specs.Given.{IsOf};
 ghost use Rattle.jser_graph.specs.StoredNodes.{told_kind};
-ghost use Rattle.jser_graph.specs.Indexing.{begun_by, index_by};
 ghost use Rattle.jser_graph.specs.Graphs.{IsNode, node_in, stored_in, text_of};
-ghost use Rattle.jser_graph.specs.Listed.{IsList};
+ghost use Rattle.jser_graph.specs.Listed.{IsList, all_lists, ended_last, with_last};
+ghost use Rattle.jser_graph.specs.Surveying.{told_begun};
 
+use crate::begun::Begun;
 use crate::lists::Lists;
 use crate::node::{Detail, Node, NodeKind, StoredNode};
 use crate::texts::Texts;
-use jser_grammar::wire::{
-    TC_BLOCKDATA, TC_BLOCKDATALONG, TC_ENDBLOCKDATA, TC_NULL, TC_PROXYCLASSDESC, TC_REFERENCE,
-    TC_RESET,
-};
 use jser_walk::Field;
 use std::alloc::{AllocError, Global};
 use std::marker::Model;
 
-/// The nodes so far, epoch by epoch, with the tags whose nodes are still to be made.
+/// The nodes so far, epoch by epoch, in the order of their handles.
 #[derive(Drop)]
 pub(crate) struct Nodes {
-    /// The place of the next field.
-    place: u64,
-    /// The places of the tags whose nodes are not made yet, the last one last.
-    begun: Vec<u64>,
     nodes: Lists<StoredNode>,
     texts: Texts,
 }
 
 impl Model for Nodes {
-    ghost use Rattle.std.specs.Prelude.{map, reverse, length};
-    ghost use Rattle.jser_shown.specs.Indexing.{Index};
-    ghost use Rattle.jser_graph.specs.StoredNodes.{told_node, IsAmong};
+    ghost use Rattle.std.specs.Prelude.{length, map};
     ghost use Rattle.std.specs.List.{All};
+    ghost use Rattle.jser_shown.specs.Nodes.{Node as ToldNode};
+    ghost use Rattle.jser_graph.specs.Listed.{Listed};
+    ghost use Rattle.jser_graph.specs.StoredNodes.{told_node, IsAmong};
 
-    ghost Value = { Index };
+    ghost Value = { Listed ToldNode };
 
-    ghost view = { λ a. record {
-      place = a.place;
-      begun = reverse a.begun.items;
-      nodes = map (told_node a.texts) a.nodes.last;
-      ended = map (map (told_node a.texts)) a.nodes.ended;
-    } };
+    ghost view = { λ a. record { ended = map (map (told_node a.texts)) a.nodes.ended; last = map (told_node a.texts) a.nodes.last } };
 
     ghost invariant = { λ a. All (IsAmong (length a.texts)) a.nodes.last × All (All (IsAmong (length a.texts))) a.nodes.ended };
 }
@@ -53,40 +41,55 @@ impl Model for Nodes {
 impl Nodes {
     /// No nodes. Takes no memory.
     pub(crate) fn new(alloc: Global) -> Nodes
-        ensures { result ≡ begin_index }
+        ensures { result ≡ record { ended = []; last = [] } }
     {
         Nodes {
-            place: 0,
-            begun: Vec::new(alloc),
             nodes: Lists::new(alloc),
             texts: Texts::new(alloc),
         }
     }
 
-    /// Makes the node of the last tag that has none yet.
-    #[tactic(auto, using(crate::proofs::StoredLemmas::among_push))]
+    /// How many nodes the last epoch has.
+    #[tactic(auto, using(crate::proofs::StoredLemmas::length_told))]
     #[inline(always)]
-    pub(crate) fn make(&mut self, kind: NodeKind) -> Result<(), AllocError>
-        ensures { OnOk result (self.new ≡ made (told_kind kind) self.old) }
+    pub(crate) fn count(&self) -> usize
+        ensures { result ≡ length self.now.last }
     {
-        match self.begun.pop() {
-            None => Ok(()),
-            Some(tag_byte) => self.nodes.push(StoredNode {
-                tag_byte,
-                detail: Detail::Other(kind),
-            }),
+        self.nodes.last_count()
+    }
+
+    /// Adds the node of a tag, which is made at this field.
+    #[tactic(auto, using(crate::proofs::StoredLemmas::no_units))]
+    #[inline(always)]
+    pub(crate) fn make(&mut self, begun: Begun, field: Field<'_>) -> Result<(), AllocError>
+        ensures { OnOk result ((told : StreamField) → IsOf field.entry told → self.new ≡ with_last self.old (node_made (told_begun begun) told)) }
+    {
+        match begun.kind {
+            NodeKind::Text => match field {
+                Field::Text(units) => self.push_text(units, begun.tag_byte),
+                _ => self.push(begun),
+            },
+            _ => self.push(begun),
         }
     }
 
-    /// Makes the node of the last tag that has none yet, which is that of a string.
-    #[tactic(auto, using(crate::proofs::StoredLemmas::among_push, crate::proofs::StoredLemmas::among_more, crate::proofs::StoredLemmas::all_among_more, crate::proofs::StoredLemmas::same_nodes, crate::proofs::StoredLemmas::same_ended, crate::proofs::StoredLemmas::new_units))]
+    /// Adds a node that has no text.
+    #[tactic(auto, using(crate::proofs::StoredLemmas::among_push, crate::proofs::StoredLemmas::told_push))]
     #[inline(always)]
-    fn make_text(&mut self, units: &[u16]) -> Result<(), AllocError>
-        ensures { OnOk result (self.new ≡ make_text units.now self.old.place self.old.begun self.old.nodes self.old.ended) }
+    fn push(&mut self, begun: Begun) -> Result<(), AllocError>
+        ensures { OnOk result (self.new ≡ with_last self.old (record { kind = told_kind begun.kind; place = begun.tag_byte; units = None })) }
     {
-        let Some(tag_byte) = self.begun.pop() else {
-            return Ok(());
-        };
+        self.nodes.push(StoredNode {
+            tag_byte: begun.tag_byte,
+            detail: Detail::Other(begun.kind),
+        })
+    }
+
+    /// Adds the node of a string.
+    #[inline(always)]
+    fn push_text(&mut self, units: &[u16], tag_byte: u64) -> Result<(), AllocError>
+        ensures { OnOk result (self.new ≡ with_last self.old (record { kind = text_node; place = tag_byte; units = Some units.now })) }
+    {
         let number = self.texts.count();
         self.texts.add(units)?;
         self.nodes.push(StoredNode {
@@ -95,54 +98,18 @@ impl Nodes {
         })
     }
 
-    /// Begins the node of a tag.
-    #[tactic(auto, using(crate::proofs::StoredLemmas::among_push))]
-    #[inline(always)]
-    fn begin(&mut self, tag: u8) -> Result<(), AllocError>
-        ensures { OnOk result ((told : Tag) → tag ≡ tag_byte told → self.new ≡ begun_by told self.old) }
+    /// Begins the next epoch.
+    #[tactic(auto, using(crate::proofs::StoredLemmas::among_end, crate::proofs::StoredLemmas::told_end))]
+    pub(crate) fn end(&mut self) -> Result<(), AllocError>
+        ensures { OnOk result (self.new ≡ ended_last self.old) }
     {
-        match tag {
-            TC_NULL | TC_REFERENCE => Ok(()),
-            TC_PROXYCLASSDESC => self.nodes.push(StoredNode {
-                tag_byte: self.place,
-                detail: Detail::Other(NodeKind::ProxyDesc),
-            }),
-            _ => match self.begun.push(self.place) {
-                Ok(()) => Ok(()),
-                Err(_) => Err(AllocError),
-            },
-        }
-    }
-
-    /// Goes past a field, which ends at this place. `is_string` where it is the text of a string.
-    #[tactic(auto, using(crate::proofs::StoredLemmas::among_end))]
-    #[inline(always)]
-    pub(crate) fn take(
-        &mut self,
-        field: Field<'_>,
-        is_string: bool,
-        end: u64,
-    ) -> Result<(), AllocError>
-        ensures taken { OnOk result ((told : StreamField) → IsOf field.entry told → place_after self.old.place (bytes_of told) ≡ end
-            → self.new ≡ index_by is_string told self.old) }
-        ensures place { OnOk result (self.new.place ≡ end) }
-    {
-        match field {
-            Field::Tag(TC_RESET) => self.nodes.end()?,
-            Field::Tag(TC_BLOCKDATA | TC_BLOCKDATALONG | TC_ENDBLOCKDATA) => (),
-            Field::Tag(tag) => self.begin(tag)?,
-            Field::Suid(_) => self.make(NodeKind::PlainDesc)?,
-            Field::Text(units) if is_string => self.make_text(units)?,
-            _ => (),
-        }
-        self.place = end;
-        Ok(())
+        self.nodes.end()
     }
 
     /// The node with this number of an epoch, if there is one.
     #[tactic(auto, using(crate::proofs::NodeLemmas::node_is))]
     pub(crate) fn node(&self, epoch: usize, number: usize) -> Option<Node>
-        ensures { IsNode (node_in (nodes_in self.now) epoch number) result }
+        ensures { IsNode (node_in (all_lists self.now) epoch number) result }
     {
         let stored = stored(&self.nodes, epoch, number)?;
         Some(stored.node())
@@ -151,7 +118,7 @@ impl Nodes {
     /// The units of the string with this number of an epoch, if there is one.
     #[tactic(auto, using(crate::proofs::NodeLemmas::text_is))]
     pub(crate) fn text(&self, epoch: usize, number: usize) -> Option<&[u16]>
-        ensures { IsList (text_of (node_in (nodes_in self.now) epoch number)) result }
+        ensures { IsList (text_of (node_in (all_lists self.now) epoch number)) result }
     {
         let stored = stored(&self.nodes, epoch, number)?;
         match stored.detail {

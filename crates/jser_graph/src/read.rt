@@ -1,27 +1,25 @@
 //! The first walk along the bytes of a stream.
-ghost use Rattle.jser_graph.specs.Surveying.{Begins};
+ghost use Rattle.std.specs.Prelude.{◌≡◌};
+ghost use Rattle.jser_shown.specs.Finding.{begin_finding};
 ghost use Rattle.jser_graph.specs.Along.{BeginsAt};
 ghost use Rattle.jser_graph.specs.Reading.{Walks, Surveys};
 
 use crate::survey::Survey;
 use jser_reader::{OpenGate, Reader, Step, Stop, Totals};
 use jser_reading::laws::one_reading;
-use jser_shown::laws::{
-    collected, collects_fronts, indexed, indexes_fronts, named, names_fronts, one_more,
-    places_are_counted,
-};
+use jser_shown::laws::{finds_fronts, found, places_are_counted};
 use std::alloc::Global;
 
 /// What a first walk along a stream finds, and its counts.
 #[derive(Drop)]
-pub(crate) struct Found<'a> {
-    pub(crate) survey: Survey<'a>,
+pub(crate) struct Found {
+    pub(crate) survey: Survey,
     pub(crate) totals: Totals,
 }
 
 /// Goes along the bytes, if they are a stream.
 #[tactic(auto, using(crate::proofs::ReadLemmas::found_ok, crate::proofs::ReadLemmas::found_err))]
-pub(crate) fn survey<'a>(alloc: Global, bytes: &[u8]) -> Result<Found<'a>, Stop>
+pub(crate) fn survey(alloc: Global, bytes: &[u8]) -> Result<Found, Stop>
     ensures { Surveys bytes.now result }
 {
     let mut reader = Reader::new(alloc, OpenGate);
@@ -36,39 +34,35 @@ pub(crate) fn survey<'a>(alloc: Global, bytes: &[u8]) -> Result<Found<'a>, Stop>
 /// Goes along the bytes with a new reader, and lets the survey go along their fields.
 fn walk_along(
     reader: &mut Reader<OpenGate>,
-    survey: &mut Survey<'_>,
+    survey: &mut Survey,
     units: &mut Vec<u16>,
     bytes: &[u8],
 ) -> Result<Totals, Stop>
     requires reader { BeginsAt reader.old }
-    requires survey { Begins survey.old }
+    requires survey { survey.old ≡ begin_finding }
     ensures { Walks bytes.now survey.new result }
 {
     one_reading();
-    indexed();
-    collected();
-    indexes_fronts();
-    collects_fronts();
-    named();
-    names_fronts();
+    found();
+    finds_fronts();
+    places_are_counted();
     let mut rest = bytes;
     'items: while !rest.is_empty() {
-        one_more();
-        places_are_counted();
+        let assigned = reader.epoch_handles();
         match reader.next(rest) {
             Err(stop) => return Err(stop),
             Ok(Step::More) => rest = &[],
             Ok(Step::Item { item, used }) => {
                 let (_, after) = rest.split_at(used);
                 let end = (bytes.len() - after.len()) as u64;
-                match survey.item(item, units, end) {
+                match survey.item(item, units, assigned, end) {
                     Ok(()) => rest = after,
                     Err(_) => return Err(Stop::OutOfMemory),
                 }
             }
         }
     }
-    match survey.settle() {
+    match survey.finish() {
         Ok(()) => reader.finish(),
         Err(_) => Err(Stop::OutOfMemory),
     }

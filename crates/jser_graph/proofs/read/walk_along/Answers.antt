@@ -4,7 +4,7 @@ use Rattle.jser_reader.specs.ItemsTold.{TellsItems}
 use Rattle.jser_reader.specs.ReaderStates.{HasProgress}
 use Rattle.jser_graph.specs.Surveying.{IsAt}
 use Rattle.jser_graph.proofs.TurnLemmas.{wants_more, turns, takes_item}
-use Rattle.jser_graph.proofs.ReadLemmas.{memory_out, next_stops, finish_walks, does, took, laws_of}
+use Rattle.jser_graph.proofs.ReadLemmas.{memory_out, next_stops, finish_walks, meets, Meets, does, took, laws_of}
 use Rattle.jser_graph.proofs.read.walk_along.Goals as goal
 
 pub returns-in-Err : goal.returns-in-Err
@@ -21,28 +21,28 @@ items-preserved-in-Ok-More c =
 
 pub items-preserved : goal.items-preserved
 items-preserved c =
+    let met = meets c.args.bytes.now c.items.rest.now c.items.reader.machine c.items.reader.tally c.items.survey c.epoch_handles-assigned.result
+    c.items.invariant c.epoch_handles-assigned.ensures in
     takes_item c.args.bytes.now c.split_at.result.1.now c.in-Ok-Item.item c.next.new.self.machine c.next.new.self.tally
-    (λ front. IsAt front c.items.survey) (λ front. IsAt front c.item.new.self)
+    (Meets c.items.survey c.epoch_handles-assigned.result) (λ front. IsAt front c.item.new.self)
     (turns c.args.bytes.now c.items.rest.now c.split_at.result.0.now c.split_at.result.1.now c.in-Ok-Item.item c.in-Ok-Item.used
-    c.items.reader.machine c.items.reader.tally c.next.new.self.machine c.next.new.self.tally (λ front. IsAt front c.items.survey) c.items.invariant
+    c.items.reader.machine c.items.reader.tally c.next.new.self.machine c.next.new.self.tally (Meets c.items.survey c.epoch_handles-assigned.result) met
     (subst (λ s. TellsItems open_gate c.items.rest.now (Ok s) c.items.reader.machine c.items.reader.tally c.next.new.self.machine c.next.new.self.tally)
     c.in-Ok-Item.field-0-is c.in-Ok-Item.ensures.items)
     (subst (HasProgress c.items.rest.now) c.in-Ok-Item.field-0-is c.in-Ok-Item.ensures.progress).0
     (subst (HasProgress c.items.rest.now) c.in-Ok-Item.field-0-is c.in-Ok-Item.ensures.progress).1
     (search rules) (search rules))
-    (does c.args.bytes.now c.split_at.result.1.now c.in-Ok-Item.item _ c.items.survey c.item.new.self c.one_more.ensures c.places_are_counted.ensures refl
-    (took c.in-Ok-Item.item _ c.items.survey c.item.new.self c.in-Ok.ensures.steps c.in-Ok.ensures.same c.in-Ok.ensures.place))
+    (does c.args.bytes.now c.split_at.result.1.now c.in-Ok-Item.item _ _ c.items.survey c.item.new.self c.finds_fronts.ensures c.places_are_counted.ensures refl
+    (took c.in-Ok-Item.item _ _ c.items.survey c.item.new.self c.in-Ok.ensures.finds c.in-Ok.ensures.same c.in-Ok.ensures.place))
 
 pub returns-in-Err-item : goal.returns-in-Err-item
 returns-in-Err-item c = memory_out c.args.bytes.now c.item.new.self
 
-pub returns-in-Ok-settle : goal.returns-in-Ok-settle
-returns-in-Ok-settle c =
-    finish_walks c.args.bytes.now c.items.rest.now c.finish.result c.items.reader.machine c.items.reader.tally c.finish.new.self.machine c.items.survey
-    c.settle.new.self
-    (laws_of c.one_reading.ensures c.indexed.ensures c.collected.ensures c.indexes_fronts.ensures c.collects_fronts.ensures c.named.ensures
-    c.names_fronts.ensures)
-    c.items.invariant (search rules) c.in-Ok-settle.ensures c.finish.ensures.tells c.finish.ensures.fields
+pub returns-in-Ok-finish : goal.returns-in-Ok-finish
+returns-in-Ok-finish c =
+    finish_walks c.args.bytes.now c.items.rest.now c.finish-in-Ok-finish.result c.items.reader.machine c.items.reader.tally c.finish-in-Ok-finish.new.self.machine c.items.survey
+    c.finish.new.self (laws_of c.one_reading.ensures c.found.ensures) c.items.invariant (search rules) c.in-Ok-finish.ensures c.finish-in-Ok-finish.ensures.tells
+    c.finish-in-Ok-finish.ensures.fields
 
-pub returns-in-Err-settle : goal.returns-in-Err-settle
-returns-in-Err-settle c = memory_out c.args.bytes.now c.settle.new.self
+pub returns-in-Err-finish : goal.returns-in-Err-finish
+returns-in-Err-finish c = memory_out c.args.bytes.now c.finish.new.self
