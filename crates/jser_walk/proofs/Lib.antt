@@ -8,7 +8,6 @@ pub mod SeenLemmas
 pub mod FrameLemmas
 pub mod WaitLemmas
 pub mod PassLemmas
-pub mod QuietLemmas
 pub mod TakeLemmas
 pub mod DraftLemmas
 pub mod WalkLemmas

@@ -13,10 +13,7 @@ use Rattle.jser_walk.specs.declared.frame.Stage.TheVariants as stage
 use Rattle.jser_walk.specs.declared.part.Part.{Part}
 use Rattle.jser_walk.specs.declared.part.Part.TheVariants as part
 use Rattle.jser_walk.specs.declared.part.NextPart.{NextPart}
-use Rattle.jser_walk.specs.declared.part.PartTaken.{PartTaken}
-use Rattle.jser_walk.specs.declared.part.PartTaken.TheVariants as taken
-use Rattle.jser_walk.specs.Steps.{layer_name, due_in}
-use Rattle.jser_walk.specs.Seen.{told_tag}
+use Rattle.jser_walk.specs.Steps.{layer_name}
 use Rattle.jser_walk.specs.Given.{told_owner}
 use Rattle.jser_walk.specs.Views.{view_name}
 use Rattle.jser_walk.specs.Tables.{layer_in, layers_in}
@@ -122,11 +119,3 @@ TakesPart layers chains level old new field None =
 TakesPart layers chains level old new field (Some tag) =
     (e : ℕ) (known : Known) (os : List OwnerNode)
     → goes_in e known os (cues_of layers chains old) field ≡ begin e (suc level) known os tag (cues_of layers chains new)
-
--- The same, where the part is the field's; else all stays as it is.
-abbrev pub TriesPart : List NamedLayer → List (List NamedLayer) → (level : ℕ) → (old new : List Frame) → SeenField → PartTaken → Type 0
-TriesPart layers chains level old new field taken.Nothing = new ≡ old
-TriesPart layers chains level old new field taken.Raw =
-    (due_in (cues_of layers chains old) ≡ None) × TakesPart layers chains level old new field None
-TriesPart layers chains level old new field (taken.Value tag) =
-    (due_in (cues_of layers chains old) ≡ None) × TakesPart layers chains level old new field (Some (told_tag tag))

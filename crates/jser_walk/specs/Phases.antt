@@ -1,5 +1,5 @@
 -- What comes before the frames of a walk.
-use Rattle.std.specs.Prelude.{ℕ, ◌≡◌, true, false, List, ◌∷◌, reverse, Option, Some, None}
+use Rattle.std.specs.Prelude.{ℕ, ◌≡◌, true, false, List, ◌∷◌, reverse}
 use Rattle.jser_shown.specs.Known.{NamedField as ToldField}
 use Rattle.jser_shown.specs.Cues.{Cue, header_cue, handle_cue, string_cue, text_place_cue, block_length_cue, block_cue, name_cue, length_cue, class_cue, class_handle_cue, class_name_cue, suid_cue, flags_cue, field_count_cue, fields_cue, field_name_cue, type_cue, interface_count_cue, interfaces_cue, Teller, teller}
 use Rattle.jser_walk.specs.declared.phase.Over.{Over}
@@ -9,7 +9,6 @@ use Rattle.jser_walk.specs.declared.phase.Phase.TheVariants as phase
 use Rattle.jser_walk.specs.declared.layer.NamedField.{NamedField}
 use Rattle.jser_walk.specs.Given.{told_owner}
 use Rattle.jser_walk.specs.Layers.{told_fields}
-use Rattle.jser_walk.specs.Steps.{due}
 
 abbrev pub over_fields : Over → List Cue → List Cue
 over_fields over.Nothing cues = cues
@@ -50,11 +49,6 @@ in_phase phase name done s = teller s.epoch s.known s.owners (phase_cues phase n
 -- whatever the name and the fields are
 abbrev pub StandsIn : Phase → (now whole : Teller) → Type 0
 StandsIn phase now whole = (name : List ℕ) (done : List ToldField) → whole ≡ in_phase phase name done now
-
--- A field was taken where nothing was due; else all stays as it is.
-abbrev pub TriesIn : Option Phase → (old new whole : Teller) → Type 0
-TriesIn None old new whole = new ≡ old
-TriesIn (Some phase) old new whole = (due old ≡ None) × StandsIn phase new whole
 
 -- the fields of a descriptor, the last one first
 abbrev pub done_of : List NamedField → List ToldField

@@ -1,12 +1,9 @@
 -- What the first cue of a settled teller wants, in the few words that are needed to say and keep what its field is.
 -- `L` is the level of the line that it begins; a line in a section is one level deeper than the section's.
-use Rattle.std.specs.Prelude.{ℕ, suc, true, false, List, [], ◌∷◌, codes}
-use Rattle.jser_reading.specs.Labels.{StreamField}
+use Rattle.std.specs.Prelude.{ℕ, suc, List, [], ◌∷◌, codes}
 use Rattle.jser_shown.specs.Owners.{OwnerNode}
 use Rattle.jser_shown.specs.Shown.{ValueName}
 use Rattle.jser_shown.specs.Cues.{SectionPart, raw_part, value_part, Cue, header_cue, top_cue, handle_cue, string_cue, text_place_cue, block_length_cue, block_cue, note_cue, name_cue, length_cue, elements_cue, parts_cue, class_cue, class_handle_cue, super_cue, super_handle_cue, class_name_cue, suid_cue, flags_cue, field_count_cue, fields_cue, field_name_cue, interface_count_cue, interfaces_cue, Teller}
-use Rattle.jser_shown.specs.Indexing.{Index, index_field}
-use Rattle.jser_shown.specs.Naming.{name_seen}
 use Rattle.jser_shown.specs.Telling.{SeenField, header_says, top_says, note_says, handle_says, string_says, text_place_says, block_length_says, block_says, worded_says, named_says, elements_says, raw_says, name_says, suid_says, flags_says, code_says, interface_says}
 
 pub data Prompt : Type 0 where
@@ -91,14 +88,3 @@ prompt_says (field_prompt L) e n o field k = code_says L field k
 prompt_says field_name_prompt e n o field k = name_says field k
 prompt_says (interface_prompt L) e n o field k = interface_says L field k
 prompt_says _ e n o field k = k
-
--- what a field does there to the index
-abbrev pub prompt_index : Prompt → StreamField → Index → Index
-prompt_index string_prompt field x = index_field true field x
-prompt_index _ field x = index_field false field x
-
--- and to the checked names
-abbrev pub prompt_names : Prompt → SeenField → List (List ℕ) → List (List ℕ)
-prompt_names class_name_prompt field names = name_seen field names
-prompt_names (interface_prompt L) field names = name_seen field names
-prompt_names _ field names = names

@@ -1,13 +1,11 @@
 -- A teller settles step by step. A step does what the first cue asks where no field belongs to it, and `due` tells
--- what that is: what is said, and what is kept by the side.
+-- what that is and what is said.
 use Rattle.std.specs.Prelude.{ℕ, zero, suc, true, false, List, [], ◌∷◌, ◌++◌, slice_set, codes, Option, Some, None}
 use Rattle.jser_reading.specs.Roles.{Owner, object_owner, array_owner, enum_owner, class_owner}
 use Rattle.jser_shown.specs.Known.{NamedLayer, class_layer, proxy_layer, known_other, known_class, Known, classes_at, with_entry, is_external_chain}
 use Rattle.jser_shown.specs.Words.{end_line, begin_line, quoted}
-use Rattle.jser_shown.specs.Owners.{OwnerNode, owner_node}
+use Rattle.jser_shown.specs.Owners.{OwnerNode}
 use Rattle.jser_shown.specs.Cues.{SectionPart, data_part, external_part, raw_part, value_part, note_part, Cue, text_place_cue, note_cue, name_cue, length_cue, elements_cue, parts_cue, made_cue, close_cue, fields_cue, type_cue, interfaces_cue, Teller, teller, object_parts, fields_done, rest_of_desc}
-use Rattle.jser_shown.specs.Indexing.{Index, kind_of_owner, made}
-use Rattle.jser_shown.specs.Collecting.{Collection, filled}
 
 -- What the first cue asks where no field belongs to it: the first line of a section, with the name of its class (none:
 -- a proxy); the word before the type of a field, or the end of the line where there is no type; the handle of an
@@ -101,32 +99,6 @@ pass_in (cue ∷ cues) e T os = pass_at cue e T os cues
 abbrev pub pass : Teller → Teller
 pass s = pass_in s.cues s.epoch s.known s.owners
 
--- The same for one who says nothing: first lines of sections that follow each other are one step.
-
--- the parts behind the first lines with which they begin
-abbrev pub past_lines : List SectionPart → List SectionPart
-past_lines [] = []
-past_lines (data_part l ∷ parts) = past_lines parts
-past_lines (external_part l ∷ parts) = external_part l ∷ parts
-past_lines (raw_part name ∷ parts) = raw_part name ∷ parts
-past_lines (value_part name ∷ parts) = value_part name ∷ parts
-past_lines (note_part ∷ parts) = note_part ∷ parts
-
-abbrev pub quiet_part : ℕ → List SectionPart → ℕ → Known → List OwnerNode → List Cue → Teller
-quiet_part L (data_part l ∷ parts) e T os cues = teller e T os (parts_cue L (past_lines parts) ∷ cues)
-quiet_part L parts e T os cues = pass_part L parts e T os cues
-
-abbrev pub quiet_at : Cue → ℕ → Known → List OwnerNode → List Cue → Teller
-quiet_at (parts_cue L parts) e T os cues = quiet_part L parts e T os cues
-quiet_at cue e T os cues = pass_at cue e T os cues
-
-abbrev pub quiet_in : List Cue → ℕ → Known → List OwnerNode → Teller
-quiet_in [] e T os = teller e T os []
-quiet_in (cue ∷ cues) e T os = quiet_at cue e T os cues
-
-abbrev pub pass_quietly : Teller → Teller
-pass_quietly s = quiet_in s.cues s.epoch s.known s.owners
-
 -- What a step says before `k`, what follows.
 
 abbrev pub section_line : (word : List ℕ) → (name : Option (List ℕ)) → List ℕ → List ℕ
@@ -141,32 +113,6 @@ due_says (Some type_word_due) k = codes " type " ++ k
 due_says (Some line_end_due) k = end_line k
 due_says (Some (made_due owner)) k = k
 due_says (Some quiet_due) k = k
-
--- what it does to the index, and to the owners that are collected; `n` is how many handles are known
-
-abbrev pub due_index : Option Due → Index → Index
-due_index None x = x
-due_index (Some (section_due L name)) x = x
-due_index (Some (external_due L name)) x = x
-due_index (Some type_word_due) x = x
-due_index (Some line_end_due) x = x
-due_index (Some (made_due owner)) x = made (kind_of_owner owner) x
-due_index (Some quiet_due) x = x
-
-abbrev pub made_collection : Owner → ℕ → Collection → Collection
-made_collection object_owner n x = filled (owner_node n 0) x
-made_collection array_owner n x = x
-made_collection enum_owner n x = filled (owner_node n 0) x
-made_collection class_owner n x = filled (owner_node n 0) x
-
-abbrev pub due_collection : ℕ → Option Due → Collection → Collection
-due_collection n None x = x
-due_collection n (Some (section_due L name)) x = x
-due_collection n (Some (external_due L name)) x = x
-due_collection n (Some type_word_due) x = x
-due_collection n (Some line_end_due) x = x
-due_collection n (Some (made_due owner)) x = made_collection owner n x
-due_collection n (Some quiet_due) x = x
 
 -- how many steps a teller takes until it has settled
 

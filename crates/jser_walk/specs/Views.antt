@@ -1,5 +1,5 @@
 -- What the answers of a walk stand for.
-use Rattle.std.specs.Prelude.{ℕ, ◌≡◌, Bool, true, false, List, [], ◌∷◌, map, Option, Some, None}
+use Rattle.std.specs.Prelude.{ℕ, List, [], ◌∷◌, map, Option, Some, None}
 use Rattle.std.specs.Borrow.{Bor}
 use Rattle.jser_shown.specs.Known.{known_text}
 use Rattle.jser_shown.specs.Shown.{field_named}
@@ -7,14 +7,11 @@ use Rattle.jser_shown.specs.Cues.{Teller, teller, header_cue, top_cue}
 use Rattle.jser_walk.specs.declared.owner.OwnerNode.{OwnerNode}
 use Rattle.jser_walk.specs.declared.due.Due.{Due}
 use Rattle.jser_walk.specs.declared.due.Due.TheVariants as due
-use Rattle.jser_walk.specs.declared.due.Passed.{Passed}
-use Rattle.jser_walk.specs.declared.due.Passed.TheVariants as passed
 use Rattle.jser_walk.specs.declared.prompt.Prompt.{Prompt}
 use Rattle.jser_walk.specs.declared.prompt.Prompt.TheVariants as prompt
 use Rattle.jser_walk.specs.Given.{told_owner, told_nodes}
 use Rattle.jser_walk.specs.Steps.{section_due, external_due, type_word_due, line_end_due, made_due, quiet_due}
 use Rattle.jser_walk.specs.Steps.{Due as ToldDue}
-use Rattle.jser_walk.specs.Steps.{due as due_of}
 use Rattle.jser_walk.specs.Prompts.{header_prompt, top_prompt, handle_prompt, string_prompt, type_text_prompt, block_length_prompt, block_prompt, note_prompt, enum_name_prompt, array_length_prompt, elements_prompt, raw_prompt, value_prompt, class_prompt, super_prompt, class_name_prompt, suid_prompt, flags_prompt, field_count_prompt, field_prompt, field_name_prompt, interface_count_prompt, interface_prompt, no_prompt}
 use Rattle.jser_walk.specs.Prompts.{Prompt as ToldPrompt}
 
@@ -38,22 +35,6 @@ told_due due.Quiet = quiet_due
 abbrev pub view_due : Option Due → Option ToldDue
 view_due None = None
 view_due (Some due) = Some (told_due due)
-
--- something is due, and it is not the handle of an owner
-abbrev pub IsSilent : Option ToldDue → Type 0
-IsSilent None = ⊥
-IsSilent (Some (section_due L name)) = Unit {0}
-IsSilent (Some (external_due L name)) = Unit {0}
-IsSilent (Some type_word_due) = Unit {0}
-IsSilent (Some line_end_due) = Unit {0}
-IsSilent (Some (made_due owner)) = ⊥
-IsSilent (Some quiet_due) = Unit {0}
-
--- the step went past this
-abbrev pub IsPassed : Passed → Option ToldDue → Type 0
-IsPassed passed.Nothing told = told ≡ None
-IsPassed (passed.Made owner) told = told ≡ Some (made_due (told_owner owner))
-IsPassed passed.Silent told = IsSilent told
 
 abbrev pub view_prompt : Prompt → ToldPrompt
 view_prompt prompt.Header = header_prompt
@@ -80,8 +61,3 @@ view_prompt prompt.FieldName = field_name_prompt
 view_prompt prompt.InterfaceCount = interface_count_prompt
 view_prompt (prompt.Interface level) = interface_prompt level
 view_prompt prompt.Due = no_prompt
-
--- where nothing was due the field was taken, and else the walk stays
-abbrev pub Tries : Bool → (old new : Teller) → Type 0
-Tries true old new = due_of old ≡ None
-Tries false old new = new ≡ old

@@ -28,14 +28,3 @@ pub enum Due<'w> {
     /// Something that is neither said nor kept: a list, a section or a class has ended.
     Quiet,
 }
-
-/// What a step of one who says nothing went past.
-#[derive(Clone, Copy, PartialEq, Eq, Debug)]
-pub enum Passed {
-    /// Nothing: the walk waits for a field.
-    Nothing,
-    /// The end of the class place of this owner, which got the next handle.
-    Made(Owner),
-    /// Something that is not kept.
-    Silent,
-}

@@ -19,7 +19,7 @@ mod standing;
 mod table;
 mod walk;
 
-pub use due::{Due, Passed};
+pub use due::Due;
 pub use field::Field;
 pub use owner::{Owner, OwnerNode};
 pub use prompt::Prompt;

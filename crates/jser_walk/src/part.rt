@@ -23,17 +23,6 @@ pub(crate) enum Part<'t> {
     End,
 }
 
-/// What of the sections of an object a field was.
-#[derive(Clone, Copy)]
-pub(crate) enum PartTaken {
-    /// Nothing: its part has not come.
-    Nothing,
-    /// A raw value.
-    Raw,
-    /// The tag of a value.
-    Value(Tag),
-}
-
 /// A part, and where the others begin.
 #[derive(Clone, Copy)]
 pub(crate) struct NextPart<'t> {

@@ -1,11 +1,11 @@
 //! The walk: where it stands, and its steps.
-ghost use Rattle.std.specs.Prelude.{◌≡◌, ◌∷◌, [], true, length, Some, None, OnOk, IfOk};
+ghost use Rattle.std.specs.Prelude.{◌≡◌, ◌∷◌, [], length, Some, None, OnOk};
 ghost use Rattle.jser_reading.specs.Labels.{StreamField};
 ghost use Rattle.jser_shown.specs.Telling.{begin_telling, goes, first_owner};
 ghost use Rattle.jser_walk.specs.Given.{IsOf, told_node, told_nodes};
 ghost use Rattle.jser_walk.specs.Steps.{due, pass};
 ghost use Rattle.jser_walk.specs.Prompts.{prompt_of};
-ghost use Rattle.jser_walk.specs.Views.{view_due, view_prompt, Tries};
+ghost use Rattle.jser_walk.specs.Views.{view_due, view_prompt};
 
 mod passing;
 mod taking;
@@ -147,38 +147,6 @@ impl<'a> Walk<'a> {
         match see(field) {
             Some(seen) => self.take_seen(seen),
             None => Ok(()),
-        }
-    }
-
-    /// Goes past a field where nothing is due before it. The answer is false where something is, or where the field is not
-    /// the one that is waited for; the walk then stays.
-    ///
-    /// # Errors
-    ///
-    /// Where memory runs out.
-    #[tactic(auto, using(crate::proofs::WalkLemmas::goes_seen))]
-    #[inline(always)]
-    pub fn try_take(&mut self, field: Field<'_>) -> Result<bool, AllocError>
-        ensures tries { IfOk result (λ taken. Tries taken self.old self.new) }
-        ensures goes { IfOk result (λ taken. taken ≡ true → (told : StreamField) → IsOf field.entry told → self.new ≡ goes self.old told) }
-    {
-        match self.phase {
-            Phase::Frames => match see(field) {
-                Some(seen) => match self.standing.try_take(seen)? {
-                    Some(phase) => {
-                        self.phase = phase;
-                        Ok(true)
-                    }
-                    None => Ok(false),
-                },
-                None => Ok(false),
-            },
-            Phase::Fields { .. } => Ok(false),
-            Phase::Interfaces { .. } => Ok(false),
-            _ => {
-                self.take(field)?;
-                Ok(true)
-            }
         }
     }
 }

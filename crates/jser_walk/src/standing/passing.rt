@@ -4,12 +4,10 @@ ghost use Rattle.jser_shown.specs.Known.{Known, classes_at, is_external_chain};
 ghost use Rattle.jser_shown.specs.Owners.{OwnerNode as ToldNode};
 ghost use Rattle.jser_shown.specs.Cues.{teller, parts_cue, made_cue, object_parts};
 ghost use Rattle.jser_walk.specs.Given.{told_owner};
-ghost use Rattle.jser_walk.specs.Steps.{due, due_in, pass, pass_in, pass_quietly, quiet_in};
-ghost use Rattle.jser_walk.specs.Views.{IsPassed, IsSilent};
+ghost use Rattle.jser_walk.specs.Steps.{pass, pass_in};
 ghost use Rattle.jser_walk.specs.Frames.{cue_of, cues_of, tail_of, FrameFits, FramesFit, FirstIs};
 ghost use Rattle.jser_walk.specs.Phases.{StandsIn};
 
-use crate::due::Passed;
 use crate::frame::{Frame, Stage};
 use crate::owner::Owner;
 use crate::part::{Part, next_part};
@@ -86,68 +84,6 @@ fn pass_sections(
     }
 }
 
-/// The same for one who says nothing, and what it went past: first lines of sections that follow each other are one step.
-#[tactic(auto, using(crate::proofs::QuietLemmas::lines_passed, crate::proofs::QuietLemmas::notes_quiet, crate::proofs::QuietLemmas::end_popped, crate::proofs::QuietLemmas::raw_quiet, crate::proofs::QuietLemmas::value_quiet, crate::proofs::QuietLemmas::section_silent, crate::proofs::QuietLemmas::notes_silent, crate::proofs::QuietLemmas::end_silent, crate::proofs::QuietLemmas::raw_waits, crate::proofs::QuietLemmas::value_waits))]
-#[inline(always)]
-fn pass_sections_quietly(
-    table: &Table,
-    frames: &mut Stack,
-    level: u64,
-    chain: u32,
-    index: usize,
-    stage: Stage,
-) -> Result<Passed, AllocError>
-    requires chain_in { chain < length table.now.chains }
-    requires fit { FramesFit (length table.now.layers) (length table.now.chains) frames.old }
-    requires top { frames.old ≡ Frame.Sections level chain index stage ∷ tail_of frames.old }
-    ensures fit { FramesFit (length table.now.layers) (length table.now.chains) frames.new }
-    ensures was { IfOk result (λ passed. IsPassed passed (due_in (cues_of table.now.layers table.now.chains frames.old))) }
-    ensures passes { OnOk result ((e : ℕ) (known : Known) (os : List ToldNode) → teller e known os (cues_of table.now.layers table.now.chains frames.new) ≡ quiet_in (cues_of table.now.layers table.now.chains frames.old) e known os) }
-{
-    let next = next_part(table, chain, index, stage);
-    match next.part {
-        Part::Raw(_) => Ok(Passed::Nothing),
-        Part::Value(_) => Ok(Passed::Nothing),
-        Part::Section(_) => {
-            let filled = table.next_filled(chain, next.index);
-            frames.set_top(Frame::Sections {
-                level,
-                chain,
-                index: filled,
-                stage: Stage::Raw(0),
-            });
-            Ok(Passed::Silent)
-        }
-        Part::Notes => {
-            pass_sections(table, frames, level, chain, index, stage)?;
-            Ok(Passed::Silent)
-        }
-        Part::End => {
-            frames.pop();
-            Ok(Passed::Silent)
-        }
-    }
-}
-
-/// A step of one who says nothing: what comes before the frames then, and what it went past.
-#[derive(Clone, Copy)]
-pub(crate) struct QuietStep {
-    pub(crate) phase: Phase,
-    pub(crate) passed: Passed,
-}
-
-/// A step where the walk waits for a field.
-const WAITS: QuietStep = QuietStep {
-    phase: Phase::Frames,
-    passed: Passed::Nothing,
-};
-
-/// A step past something that is not kept.
-const SILENT: QuietStep = QuietStep {
-    phase: Phase::Frames,
-    passed: Passed::Silent,
-};
-
 impl<'a> Standing<'a> {
     /// Does what is due; nothing where nothing is.
     ///
@@ -204,86 +140,6 @@ impl<'a> Standing<'a> {
             None => (),
         }
         Ok(Phase::Frames)
-    }
-
-    /// The same for one who says nothing, and what it went past: first lines of sections that follow each other are one
-    /// step.
-    ///
-    /// # Errors
-    ///
-    /// Where memory runs out.
-    #[tactic(auto, using(crate::proofs::FrameLemmas::top_fits, crate::proofs::WaitLemmas::due_first))]
-    #[inline(always)]
-    pub(crate) fn pass_quietly(&mut self) -> Result<QuietStep, AllocError>
-        ensures was { IfOk result (λ step. IsPassed step.passed (due self.old)) }
-        ensures passes { IfOk result (λ step. StandsIn step.phase self.new (pass_quietly self.old)) }
-    {
-        match self.frames.top() {
-            Some(
-                Frame::Sections {
-                    level,
-                    chain,
-                    index,
-                    stage,
-                },
-            ) => {
-                let passed = pass_sections_quietly(
-                    &self.table,
-                    &mut self.frames,
-                    level,
-                    chain,
-                    index,
-                    stage,
-                )?;
-                Ok(QuietStep {
-                    phase: Phase::Frames,
-                    passed,
-                })
-            }
-            Some(
-                Frame::Made {
-                    owner,
-                    level,
-                    number,
-                },
-            ) => {
-                let phase = self.make(owner, level, number)?;
-                Ok(QuietStep {
-                    phase,
-                    passed: Passed::Made(owner),
-                })
-            }
-            Some(Frame::Elements { left, .. }) => {
-                if left == 0 {
-                    self.frames.pop();
-                    Ok(SILENT)
-                } else {
-                    Ok(WAITS)
-                }
-            }
-            Some(Frame::External { .. }) => self.pass_silently(),
-            Some(Frame::ExternalNotes { .. }) => self.pass_silently(),
-            Some(Frame::End { .. }) => self.pass_silently(),
-            Some(Frame::Close { .. }) => self.pass_silently(),
-            Some(Frame::Notes { .. }) => Ok(WAITS),
-            Some(Frame::Super { .. }) => Ok(WAITS),
-            Some(Frame::SuperHandle { .. }) => Ok(WAITS),
-            None => Ok(WAITS),
-        }
-    }
-
-    /// Does what is due, which is not kept.
-    #[inline(never)]
-    fn pass_silently(&mut self) -> Result<QuietStep, AllocError>
-        requires { IsSilent (due self.old) }
-        ensures was { IfOk result (λ step. IsPassed step.passed (due self.old)) }
-        ensures passes { IfOk result (λ step. StandsIn step.phase self.new (pass self.old)) }
-    {
-        let phase = self.pass()?;
-        Ok(QuietStep {
-            phase,
-            passed: Passed::Silent,
-        })
     }
 
     /// An owner gets its handle, and what stands behind it comes in the place of the frame on top.

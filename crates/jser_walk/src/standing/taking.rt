@@ -2,13 +2,12 @@
 ghost use Rattle.std.specs.Prelude.{◌≡◌, ◌∷◌, ◌+◌, ◌<◌, [], length, option_map, None, OnOk, IfOk};
 ghost use Rattle.jser_shown.specs.Cues.{teller, top_cue, note_cue, elements_cue};
 ghost use Rattle.jser_shown.specs.Telling.{goes_in};
-ghost use Rattle.jser_walk.specs.Steps.{due};
-ghost use Rattle.jser_walk.specs.Frames.{FramesFit, FirstIs, TakesPart, TriesPart, tail_of};
+ghost use Rattle.jser_walk.specs.Frames.{FramesFit, FirstIs, TakesPart, tail_of};
 ghost use Rattle.jser_walk.specs.Seen.{told_seen, told_tag};
-ghost use Rattle.jser_walk.specs.Phases.{StandsIn, TriesIn};
+ghost use Rattle.jser_walk.specs.Phases.{StandsIn};
 
 use crate::frame::{Frame, Stage};
-use crate::part::{Part, PartTaken, next_part};
+use crate::part::{Part, next_part};
 use crate::phase::{Head, Phase};
 use crate::seen::{Seen, Tag};
 use crate::stack::Stack;
@@ -62,119 +61,7 @@ fn take_part(
     }
 }
 
-/// The same where the first part is the field's; else nothing is done.
-#[tactic(auto, using(crate::proofs::TakeLemmas::raw_taken, crate::proofs::TakeLemmas::value_taken, crate::proofs::QuietLemmas::raw_waits, crate::proofs::QuietLemmas::value_waits))]
-#[inline(always)]
-fn try_part(
-    table: &Table,
-    frames: &mut Stack,
-    level: u64,
-    chain: u32,
-    index: usize,
-    stage: Stage,
-    seen: Seen<'_>,
-) -> PartTaken
-    requires chain_in { chain < length table.now.chains }
-    requires fit { FramesFit (length table.now.layers) (length table.now.chains) frames.old }
-    requires top { frames.old ≡ Frame.Sections level chain index stage ∷ tail_of frames.old }
-    ensures fit { FramesFit (length table.now.layers) (length table.now.chains) frames.new }
-    ensures tries { TriesPart table.now.layers table.now.chains level frames.old frames.new (told_seen seen.entry) result }
-{
-    let next = next_part(table, chain, index, stage);
-    let others = Frame::Sections {
-        level,
-        chain,
-        index: next.index,
-        stage: next.stage,
-    };
-    match next.part {
-        Part::Raw(_) => {
-            let Seen::Bytes(_) = seen else {
-                return PartTaken::Nothing;
-            };
-            frames.set_top(others);
-            PartTaken::Raw
-        }
-        Part::Value(_) => {
-            let Seen::Tag(tag) = seen else {
-                return PartTaken::Nothing;
-            };
-            frames.set_top(others);
-            PartTaken::Value(tag)
-        }
-        Part::Section(_) => PartTaken::Nothing,
-        Part::Notes => PartTaken::Nothing,
-        Part::End => PartTaken::Nothing,
-    }
-}
-
 impl<'a> Standing<'a> {
-    /// Goes past a field where nothing is due; else nothing is done, and the answer is None.
-    ///
-    /// # Errors
-    ///
-    /// Where memory runs out.
-    #[tactic(auto, using(crate::proofs::TakeLemmas::goes_first, crate::proofs::FrameLemmas::top_fits, crate::proofs::WaitLemmas::due_first))]
-    #[inline(never)]
-    pub(crate) fn try_take(&mut self, seen: Seen<'_>) -> Result<Option<Phase>, AllocError>
-        ensures { IfOk result (λ phase. TriesIn phase self.old self.new (goes_in self.old.epoch self.old.known self.old.owners self.old.cues (told_seen seen.entry))) }
-    {
-        match self.frames.top() {
-            Some(
-                Frame::Sections {
-                    level,
-                    chain,
-                    index,
-                    stage,
-                },
-            ) => {
-                let part = try_part(
-                    &self.table,
-                    &mut self.frames,
-                    level,
-                    chain,
-                    index,
-                    stage,
-                    seen,
-                );
-                match part {
-                    PartTaken::Raw => Ok(Some(Phase::Frames)),
-                    PartTaken::Value(tag) => {
-                        let phase = self.begin(deeper(level)?, tag)?;
-                        Ok(Some(phase))
-                    }
-                    PartTaken::Nothing => Ok(None),
-                }
-            }
-            Some(Frame::Elements { left, .. }) => {
-                if left == 0 {
-                    Ok(None)
-                } else {
-                    self.take_waiting(seen)
-                }
-            }
-            Some(Frame::Notes { .. }) => self.take_waiting(seen),
-            Some(Frame::Super { .. }) => self.take_waiting(seen),
-            Some(Frame::SuperHandle { .. }) => self.take_waiting(seen),
-            None => self.take_waiting(seen),
-            Some(Frame::External { .. }) => Ok(None),
-            Some(Frame::ExternalNotes { .. }) => Ok(None),
-            Some(Frame::End { .. }) => Ok(None),
-            Some(Frame::Made { .. }) => Ok(None),
-            Some(Frame::Close { .. }) => Ok(None),
-        }
-    }
-
-    /// Goes past a field that is waited for.
-    #[inline(always)]
-    fn take_waiting(&mut self, seen: Seen<'_>) -> Result<Option<Phase>, AllocError>
-        requires { due self.old ≡ None }
-        ensures { IfOk result (λ phase. TriesIn phase self.old self.new (goes_in self.old.epoch self.old.known self.old.owners self.old.cues (told_seen seen.entry))) }
-    {
-        let phase = self.take(seen)?;
-        Ok(Some(phase))
-    }
-
     /// Goes past a field.
     ///
     /// # Errors
