@@ -79,8 +79,8 @@ impl Graph {
         })
     }
 
-    /// What a handle names, as it is written in the stream; the first handle of an epoch is 0x7E0000, and each reset
-    /// begins the next epoch, counted from 0. `None` where the epoch has no such handle.
+    /// What a handle names, as it is written in the stream; the first handle of an epoch is `BASE_WIRE_HANDLE`, and each
+    /// reset begins the next epoch, counted from 0. `None` where the epoch has no such handle.
     pub fn node(&self, epoch: u64, handle: u32) -> Option<Node>
         ensures { IsNode (node_at self.now.nodes epoch handle) result }
     {

@@ -10,7 +10,7 @@ pub enum Item<'p> {
     Header,
     /// A tag.
     Tag(u8),
-    /// The handle of a reference, as it is written: 0x7E0000 and the number of the entry.
+    /// The handle of a reference, as it is written: `BASE_WIRE_HANDLE` and the number of the entry.
     Handle(u32),
     /// The length of a text in bytes. The text follows in parts; one of no bytes has none.
     TextLength(u64),

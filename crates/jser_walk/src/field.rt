@@ -7,7 +7,7 @@ pub enum Field<'f> {
     Header,
     /// A tag: of a value, of a block, or `TC_ENDBLOCKDATA` or `TC_RESET`.
     Tag(u8),
-    /// The handle of a reference, as it is written: 0x7E0000 and the number of the entry.
+    /// The handle of a reference, as it is written: `BASE_WIRE_HANDLE` and the number of the entry.
     Handle(u32),
     /// The serial version UID of a descriptor.
     Suid(u64),
