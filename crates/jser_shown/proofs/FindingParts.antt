@@ -10,8 +10,8 @@ use Rattle.jser_reading.proofs.Vocabulary.{tag_of_string, cut_text_place, cut_ty
 use Rattle.jser_reading.specs.FieldBytes.{bytes_of}
 use Rattle.jser_shown.specs.Nodes.{text_node, with_text, place_after, nodes_text, nodes_type, nodes_fields}
 use Rattle.jser_shown.specs.Finding.{Finding, moved, found}
-use Rattle.jser_shown.proofs.TreeToIndex.{after_both, after_three, prim_place}
-use Rattle.jser_shown.proofs.TreeToNames.{from_interfaces}
+use Rattle.jser_shown.proofs.PlaceLemmas.{after_both, after_three, prim_place}
+use Rattle.jser_shown.proofs.NameLemmas.{from_interfaces}
 use Rattle.jser_shown.proofs.FindingLemmas.{Findings, findings, named, Near, Goes, Leads, below_added, both_added, near_self, step, step_exact, step_late, leads_same, goes_same, goes}
 
 -- y, behind a part

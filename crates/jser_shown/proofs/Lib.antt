@@ -4,9 +4,9 @@ pub mod CueLemmas
 pub mod RawLemmas
 pub mod TreeToText
 pub mod TreeToEnd
-pub mod TreeToIndex
-pub mod TreeToOwners
-pub mod TreeToNames
+pub mod PlaceLemmas
+pub mod OwnerLemmas
+pub mod NameLemmas
 pub mod Fronts
 pub mod CountLemmas
 pub mod FindingLemmas

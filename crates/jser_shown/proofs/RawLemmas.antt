@@ -1,8 +1,7 @@
 -- The lines of raw values by their bytes alone are those by the values.
-use Rattle.std.proofs.Common.{◌≡◌, ℕ, suc, ◌+◌, ◌*◌, ◌/◌, List, [], ◌∷◌, ◌++◌, length, take, drop, refl, sym, ap, ◌∙◌, arith, append-nil}
+use Rattle.std.proofs.Common.{◌≡◌, ℕ, suc, ◌*◌, ◌/◌, List, [], ◌∷◌, ◌++◌, length, drop, refl, ap, ◌∙◌, arith, append-nil}
 use Rattle.std.proofs.Math.Nat.{mul-div_cancel_left}
 use Rattle.std.proofs.lemmas.List.{take_at, drop_at}
-use Rattle.jser_prim.specs.Bytes.{big_bytes}
 use Rattle.jser_prim.proofs.NumberLemmas.{length-big_bytes}
 use Rattle.jser_grammar.specs.Codes.{PrimCode, size_of}
 use Rattle.jser_grammar.specs.Trees.{PrimTree}

@@ -18,9 +18,9 @@ use Rattle.jser_shown.specs.Owners.{OwnerNode, owner_node, owners_in_value, owne
 use Rattle.jser_shown.specs.Finding.{Begun, Finding, moved, found}
 use Rattle.jser_shown.specs.Laws.{Found}
 use Rattle.jser_shown.proofs.KnownLemmas.{entries, length-entries, then_entry, then_fields, then_value, then_class, then_values, then_notes, then_contents}
-use Rattle.jser_shown.proofs.TreeToIndex.{after_both, after_three, after_four, plain_place}
-use Rattle.jser_shown.proofs.TreeToOwners.{fill_blank, joined, filled_joined, owners_before_value, owners_before_class, owners_before_annotation, section_joined}
-use Rattle.jser_shown.proofs.TreeToNames.{from_value, from_desc, from_class, from_body, from_values, from_sections, from_notes, from_contents, behind_contents}
+use Rattle.jser_shown.proofs.PlaceLemmas.{after_both, after_three, after_four, plain_place}
+use Rattle.jser_shown.proofs.OwnerLemmas.{fill_blank, joined, filled_joined, owners_before_value, owners_before_class, owners_before_annotation, section_joined}
+use Rattle.jser_shown.proofs.NameLemmas.{from_value, from_desc, from_class, from_body, from_values, from_sections, from_notes, from_contents, behind_contents}
 use Rattle.jser_shown.proofs.FindingLemmas.{Findings, findings, named, Near, Goes, Leads, below_added, both_added, near_self, step, step_exact, step_late, made_owner, late_owner, near_end, leads_same, goes_same, goes, goes_closed}
 use Rattle.jser_shown.proofs.FindingParts.{text_found, fields_found, interfaces_found, leads_new_text, leads_text, leads_fields, goes_interfaces, leads_block, leads_prims, leads_raw}
 

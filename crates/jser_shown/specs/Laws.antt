@@ -1,5 +1,5 @@
--- What the teller says along the fields of a list that obeys the format, where it is after them, and what is kept by its
--- side; and the text of list as it is counted.
+-- What the teller says along the fields of a list that obeys the format, and where it is after them; what is found along
+-- them; and the text of list as it is counted.
 use Rattle.std.specs.Prelude.{ℕ, ◌≡◌, ◌+◌, List, [], ◌∷◌, length}
 use Rattle.jser_grammar.specs.Trees.{ContentTrees}
 use Rattle.jser_grammar.specs.CheckedNames.{checked_names}
@@ -13,10 +13,7 @@ use Rattle.jser_shown.specs.Nodes.{place_after, nodes_of}
 use Rattle.jser_shown.specs.Owners.{owners_of}
 use Rattle.jser_shown.specs.Cues.{top_cue, teller}
 use Rattle.jser_shown.specs.Telling.{tell, begin_telling, teller_after}
-use Rattle.jser_shown.specs.Indexing.{indexed, begin_index, nodes_in}
-use Rattle.jser_shown.specs.Naming.{named}
 use Rattle.jser_shown.specs.Finding.{begin_finding, found, finished, nodes_found}
-use Rattle.jser_shown.specs.Collecting.{collection, collected, begin_collection}
 
 -- It says the list's text of show.
 abbrev pub Told : Type 0
@@ -27,21 +24,6 @@ abbrev pub EndsThere : Type 0
 EndsThere = (list : ContentTrees) → WellFormed list →
     teller_after (begin_telling (owners_of list)) (fields_of list)
     ≡ teller (last_epoch 0 list) (last_known [] list) [] (top_cue ∷ [])
-
--- The index that is kept along the fields has the nodes of the list. (Nothing is known beforehand: the teller is given
--- no owners.)
-abbrev pub Indexed : Type 0
-Indexed = (list : ContentTrees) → WellFormed list →
-    nodes_in (indexed (begin_telling []) begin_index (fields_of list)) ≡ nodes_of list
-
--- The owners that are collected along the fields are those of the list, which a second teller is given.
-abbrev pub Collected : Type 0
-Collected = (list : ContentTrees) → WellFormed list →
-    collected (begin_telling []) begin_collection (fields_of list) ≡ collection [] (owners_of list)
-
--- The names that are taken along the fields are the checked names of the list.
-abbrev pub Named : Type 0
-Named = (list : ContentTrees) → WellFormed list → named (begin_telling []) [] (fields_of list) ≡ checked_names list
 
 -- What is found along the fields of a list are its nodes, its owners and its checked names.
 abbrev pub Found : Type 0

@@ -7,9 +7,6 @@ pub mod Nodes
 pub mod Owners
 pub mod Cues
 pub mod Telling
-pub mod Indexing
-pub mod Collecting
-pub mod Naming
 pub mod Fronts
 pub mod Laws
 pub mod FrontLaws

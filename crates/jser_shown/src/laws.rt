@@ -2,8 +2,8 @@
 //! function, so that the check insists on its proof; the statements are in `specs/`, as `Laws` and
 //! `FrontLaws`.
 
-ghost use Rattle.jser_shown.specs.FrontLaws.{TellsFronts, IndexesFronts, CollectsFronts, NamesFronts, OneMore, FindsFronts};
-ghost use Rattle.jser_shown.specs.Laws.{Told, EndsThere, Indexed, Collected, Named, Found, PlacesAreCounted, Counted};
+ghost use Rattle.jser_shown.specs.FrontLaws.{TellsFronts, OneMore, FindsFronts};
+ghost use Rattle.jser_shown.specs.Laws.{Told, EndsThere, Found, PlacesAreCounted, Counted};
 
 /// Along the fields of a list that obeys the format the teller says the list's text of `show`.
 pub fn told()
@@ -14,22 +14,6 @@ pub fn told()
 /// it was given.
 pub fn ends_there()
     ensures { EndsThere }
-{}
-
-/// The index that is kept along these fields has the nodes of the list: of each epoch the kinds, the places of the
-/// tags and the units of strings, in the order of the handles.
-pub fn indexed()
-    ensures { Indexed }
-{}
-
-/// The owners that are collected along these fields are those of the list, which a second teller is given.
-pub fn collected()
-    ensures { Collected }
-{}
-
-/// The names of classes and interfaces that are taken along these fields are the checked names of the list.
-pub fn named()
-    ensures { Named }
 {}
 
 /// What is found along these fields, each told how many handles are assigned before it, are the nodes, the owners and
@@ -49,22 +33,7 @@ pub fn tells_fronts()
     ensures { TellsFronts }
 {}
 
-/// So is what the index has.
-pub fn indexes_fronts()
-    ensures { IndexesFronts }
-{}
-
-/// So are the owners that are collected.
-pub fn collects_fronts()
-    ensures { CollectsFronts }
-{}
-
-/// So are the names that are taken.
-pub fn names_fronts()
-    ensures { NamesFronts }
-{}
-
-/// So is what is found.
+/// What is found may be found field by field too.
 pub fn finds_fronts()
     ensures { FindsFronts }
 {}
