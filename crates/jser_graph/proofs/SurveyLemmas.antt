@@ -1,18 +1,22 @@
 -- A first walk goes past one field.
+use denote.Bor.{Bor}
 use Rattle.std.proofs.Common.{◌≡◌, ℕ, ◌<◌, ◌≤◌, Bool, true, false, if◌then◌else◌, nat_lt, List, [], ◌∷◌, ◌++◌, length, map, reverse, slice_set, Option, Some, None, option_map, refl, sym, ◌∙◌, ap, ap₂}
 use Rattle.std.proofs.lemmas.Bool.{le-ltb, lt-ltb}
 use Rattle.std.proofs.lemmas.List.{map_push, reverse-append}
 use Rattle.jser_reading.specs.FieldBytes.{bytes_of}
-use Rattle.jser_reading.specs.Labels.{Tag, StreamField, tag_field, reset_tag_field, interface_count_field, code_field, text_field}
+use Rattle.jser_reading.specs.Labels.{Tag, StreamField, tag_field, reset_tag_field, handle_field, interface_count_field, array_length_field, code_field, text_field, prims_field, bytes_field}
 use Rattle.jser_shown.specs.Nodes.{place_after}
+use Rattle.jser_shown.specs.Nodes.{text_node, array_node}
 use Rattle.jser_shown.specs.Nodes.{NodeKind as ToldKind}
 use Rattle.jser_shown.specs.Owners.{owner_node}
-use Rattle.jser_shown.specs.Finding.{Finding, is_owner_kind, elements_made, node_made, make_begun, begin_kind, kind_begun, begun_by, take_field, take_name, moved, find}
+use Rattle.jser_shown.specs.Finding.{Finding, is_owner_kind, units_made, elements_made, node_made, make_begun, begin_kind, kind_begun, begun_by, take_field, take_name, moved, find}
 use Rattle.jser_shown.specs.Finding.{Begun as ToldBegun}
 use Rattle.jser_graph.specs.declared.begun.Begun.{Begun}
 use Rattle.jser_graph.specs.declared.node.NodeKind.{NodeKind}
 use Rattle.jser_graph.specs.StoredNodes.{told_kind}
-use Rattle.jser_graph.specs.Surveying.{told_begun}
+use Rattle.jser_walk.specs.declared.Field.TheVariants as lent
+use Rattle.jser_walk.specs.Given.{IsOf}
+use Rattle.jser_graph.specs.Surveying.{told_begun, IsPlain, IsQuiet}
 
 -- ---- the tags whose nodes are not made yet
 
@@ -53,6 +57,41 @@ made_other field items popped b now new e begun other is =
       nodes = now.nodes ++ (node_made (told_begun b) field ∷ []);
       owners = if t then slice_set now.owners b.position (owner_node (length now.nodes) (elements_made (told_kind b.kind) field)) else now.owners;
     }) other)
+
+-- at a field of which it gets nothing
+
+no_units : (kind : ToldKind) (field : StreamField) → IsPlain field → units_made kind field ≡ None
+no_units text_node (text_field long units) plain = absurd plain
+no_units text_node _ plain = refl
+no_units _ field plain = refl
+
+no_elements : (kind : ToldKind) (field : StreamField) → IsPlain field → elements_made kind field ≡ 0
+no_elements array_node (array_length_field n) plain = absurd plain
+no_elements array_node _ plain = refl
+no_elements _ field plain = refl
+
+no_length : (kind : ToldKind) → elements_made kind (array_length_field 0) ≡ 0
+no_length array_node = refl
+no_length _ = refl
+
+length_units : (kind : ToldKind) → units_made kind (array_length_field 0) ≡ None
+length_units text_node = refl
+length_units _ = refl
+
+plain_begun : (field : StreamField) (begun : List ToldBegun) (now : Finding) → IsPlain field
+    → make_begun (array_length_field 0) begun now ≡ make_begun field begun now
+plain_begun field [] now plain = refl
+plain_begun field (b ∷ begun) now plain =
+    ap₂ (λ u n. record now {
+      begun = begun;
+      nodes = now.nodes ++ (record { kind = b.kind; place = b.place; units = u } ∷ []);
+      owners = if is_owner_kind b.kind then slice_set now.owners b.position (owner_node (length now.nodes) n) else now.owners;
+    })
+    (length_units b.kind ∙ sym (no_units b.kind field plain)) (no_length b.kind ∙ sym (no_elements b.kind field plain))
+
+pub made_plain : (told : StreamField) (now new : Finding) → IsPlain told
+    → ((other : StreamField) → IsOf (lent.ArrayLength 0) other → new ≡ make_begun other now.begun now) → new ≡ make_begun told now.begun now
+made_plain told now new plain made = made (array_length_field 0) refl ∙ plain_begun told now.begun now plain
 
 -- ---- a tag
 
@@ -157,3 +196,53 @@ finds_unmade field assigned end now named taken new le is_named is_taken is at =
     is ∙ ap {A = Finding} (λ x. record x { place = end }) (is_taken ∙ ap (take_field field) is_named)
     ∙ ends_at field end now (take_name false field now) at (place_of_name field now)
     ∙ sym (found_by field assigned now false (le-ltb (length now.nodes) assigned le))
+
+-- a tag is no text
+
+pub tag_plain : (tag : ℕ) (told : StreamField) → IsOf (lent.Tag tag) told → IsPlain told
+tag_plain tag (text_field long units) is = absurd is
+tag_plain tag (array_length_field n) is = absurd is
+tag_plain tag _ is = tt
+
+pub tag_no_name : (tag : ℕ) (told : StreamField) (now : Finding) → IsOf (lent.Tag tag) told → now ≡ take_name false told now
+tag_no_name tag (text_field long units) now is = absurd is
+tag_no_name tag _ now is = refl
+
+-- a field with which nothing begins
+
+pub quiet_plain : (told : StreamField) → IsQuiet told → IsPlain told
+quiet_plain (handle_field n) quiet = tt
+quiet_plain (prims_field ps) quiet = tt
+quiet_plain (bytes_field bytes) quiet = tt
+quiet_plain _ quiet = absurd quiet
+
+pub handle_quiet : (handle : ℕ) (told : StreamField) → IsOf (lent.Handle handle) told → IsQuiet told
+handle_quiet handle (handle_field n) is = tt
+handle_quiet handle _ is = absurd is
+
+pub raw_quiet : (bytes : Bor (List ℕ)) (told : StreamField) → IsOf (lent.Raw bytes) told → IsQuiet told
+raw_quiet bytes (prims_field ps) is = tt
+raw_quiet bytes (bytes_field told) is = tt
+raw_quiet bytes _ is = absurd is
+
+quiet_name : (told : StreamField) (now : Finding) → IsQuiet told → now ≡ take_name false told now
+quiet_name (handle_field n) now quiet = refl
+quiet_name (prims_field ps) now quiet = refl
+quiet_name (bytes_field bytes) now quiet = refl
+quiet_name _ now quiet = absurd quiet
+
+quiet_taken : (told : StreamField) (now : Finding) → IsQuiet told → now ≡ take_field told now
+quiet_taken (handle_field n) now quiet = refl
+quiet_taken (prims_field ps) now quiet = refl
+quiet_taken (bytes_field bytes) now quiet = refl
+quiet_taken _ now quiet = absurd quiet
+
+pub passes_made : (told : StreamField) (assigned end : ℕ) (now made new : Finding) → IsQuiet told → length now.nodes < assigned
+    → made ≡ make_begun told now.begun now → new ≡ record made { place = end } → place_after now.place (bytes_of told) ≡ end → new ≡ find assigned told now
+passes_made told assigned end now made new quiet less is_made is at =
+    finds_made told assigned end now made made new less is_made (quiet_taken told made quiet) is at
+
+pub passes_unmade : (told : StreamField) (assigned end : ℕ) (now new : Finding) → IsQuiet told → assigned ≤ length now.nodes
+    → new ≡ record now { place = end } → place_after now.place (bytes_of told) ≡ end → new ≡ find assigned told now
+passes_unmade told assigned end now new quiet le is at =
+    finds_unmade told assigned end now now now new le (quiet_name told now quiet) (quiet_taken told now quiet) is at

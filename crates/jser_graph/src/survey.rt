@@ -1,11 +1,12 @@
 //! A first walk along the fields of a stream, which finds its nodes, owners and checked names.
-ghost use Rattle.std.specs.Prelude.{◌≡◌, false, OnOk, IfOk};
+ghost use Rattle.std.specs.Prelude.{◌≡◌, ◌<◌, ◌≤◌, true, false, length, OnOk, IfOk};
 ghost use Rattle.jser_reading.specs.FieldBytes.{bytes_of, tag_byte};
 ghost use Rattle.jser_reading.specs.Labels.{StreamField, Tag};
 ghost use Rattle.jser_shown.specs.Finding.{begin_finding, begun_by, find, finished, make_begun, take_field, take_name};
 ghost use Rattle.jser_shown.specs.Nodes.{place_after};
 ghost use Rattle.jser_walk.specs.Given.{IsOf, told_nodes};
-ghost use Rattle.jser_graph.specs.Along.{Ends, IsLength};
+ghost use Rattle.jser_graph.specs.Along.{Ends, IsLength, PartIs};
+ghost use Rattle.jser_graph.specs.Surveying.{IsPlain, IsQuiet};
 ghost use Rattle.jser_graph.specs.Listed.{all_lists};
 
 use crate::begun::{Begun, elements_made, is_owner, kind_begun};
@@ -152,6 +153,56 @@ impl Survey {
         Ok(())
     }
 
+    /// Whether a node is to be made before the next field, since so many handles are assigned.
+    #[inline(always)]
+    fn is_due(&self, assigned: u32) -> bool
+        ensures due { result ≡ true → length self.now.nodes < assigned }
+        ensures made { result ≡ false → assigned ≤ length self.now.nodes }
+    {
+        self.nodes.count() < assigned as usize
+    }
+
+    /// Makes the node of the last tag that has none yet, at a field that is neither a text nor the length of an array.
+    #[tactic(auto, using(crate::proofs::SurveyLemmas::made_plain))]
+    #[inline(never)]
+    fn make_plain(&mut self) -> Result<(), AllocError>
+        ensures { OnOk result ((told : StreamField) → IsPlain told → self.new ≡ make_begun told self.old.begun self.old) }
+    {
+        self.make(Field::ArrayLength(0))
+    }
+
+    /// Goes past a tag.
+    #[tactic(auto, using(crate::proofs::SurveyLemmas::finds_made, crate::proofs::SurveyLemmas::finds_unmade, crate::proofs::SurveyLemmas::tag_plain, crate::proofs::SurveyLemmas::tag_no_name))]
+    #[inline(always)]
+    fn tag(&mut self, tag: u8, assigned: u32, end: u64) -> Result<(), AllocError>
+        ensures finds { OnOk result ((told : StreamField) → IsOf (Field.Tag tag) told → place_after self.old.place (bytes_of told) ≡ end
+            → self.new ≡ find assigned told self.old) }
+        ensures place { OnOk result (self.new.place ≡ end) }
+    {
+        if self.is_due(assigned) {
+            self.make_plain()?;
+        }
+        self.take(Field::Tag(tag))?;
+        self.place = end;
+        Ok(())
+    }
+
+    /// Goes past a field with which nothing begins, and of which nothing is kept but where it ends: a handle, raw values or
+    /// the bytes of a block.
+    #[tactic(auto, using(crate::proofs::SurveyLemmas::passes_made, crate::proofs::SurveyLemmas::passes_unmade, crate::proofs::SurveyLemmas::quiet_plain))]
+    #[inline(always)]
+    fn pass(&mut self, assigned: u32, end: u64) -> Result<(), AllocError>
+        ensures finds { OnOk result ((told : StreamField) → IsQuiet told → place_after self.old.place (bytes_of told) ≡ end
+            → self.new ≡ find assigned told self.old) }
+        ensures place { OnOk result (self.new.place ≡ end) }
+    {
+        if self.is_due(assigned) {
+            self.make_plain()?;
+        }
+        self.place = end;
+        Ok(())
+    }
+
     /// Goes past a field, which ends at this place of the stream; before it so many handles of the epoch were assigned.
     #[tactic(auto, using(crate::proofs::SurveyLemmas::finds_made, crate::proofs::SurveyLemmas::finds_unmade))]
     #[inline(always)]
@@ -160,7 +211,7 @@ impl Survey {
             → self.new ≡ find assigned told self.old) }
         ensures place { OnOk result (self.new.place ≡ end) }
     {
-        if self.nodes.count() < assigned as usize {
+        if self.is_due(assigned) {
             self.make(field)?;
         } else {
             self.take_name(field)?;
@@ -170,9 +221,9 @@ impl Survey {
         Ok(())
     }
 
-    /// Goes past an item, which ends at this place of the stream. `units` is room for those of a text.
-    #[inline(always)]
-    pub(crate) fn item(
+    /// Goes past an item that is seldom met.
+    #[inline(never)]
+    fn rare(
         &mut self,
         item: Item<'_>,
         units: &mut Vec<u16>,
@@ -186,12 +237,50 @@ impl Survey {
     {
         match part_of(item) {
             Part::Field(field) => self.field(field, assigned, end),
-            Part::Text(bytes) => {
-                let text = decode(bytes, units)?;
-                self.field(Field::Text(text), assigned, end)?;
-                Ok(())
-            }
+            Part::Text(bytes) => self.text(bytes, units, assigned, end),
             Part::Length => Ok(()),
+        }
+    }
+
+    /// Goes past a text, of which these are all bytes. `units` is room for its units.
+    #[inline(never)]
+    fn text(
+        &mut self,
+        bytes: &[u8],
+        units: &mut Vec<u16>,
+        assigned: u32,
+        end: u64,
+    ) -> Result<(), AllocError>
+        ensures finds { OnOk result ((told : StreamField) → PartIs (Part.Text bytes) told → place_after self.old.place (bytes_of told) ≡ end
+            → self.new ≡ find assigned told self.old) }
+        ensures place { OnOk result (self.new.place ≡ end) }
+    {
+        let text = decode(bytes, units)?;
+        self.field(Field::Text(text), assigned, end)?;
+        Ok(())
+    }
+
+    /// Goes past an item, which ends at this place of the stream. `units` is room for those of a text.
+    #[tactic(auto, using(crate::proofs::SurveyLemmas::handle_quiet, crate::proofs::SurveyLemmas::raw_quiet))]
+    #[inline(always)]
+    pub(crate) fn item(
+        &mut self,
+        item: Item<'_>,
+        units: &mut Vec<u16>,
+        assigned: u32,
+        end: u64,
+    ) -> Result<(), AllocError>
+        ensures finds { OnOk result ((told : StreamField) → Ends item.entry told → place_after self.old.place (bytes_of told) ≡ end
+            → self.new ≡ find assigned told self.old) }
+        ensures same { OnOk result (IsLength item.entry → self.new ≡ self.old) }
+        ensures place { OnOk result ((told : StreamField) → Ends item.entry told → self.new.place ≡ end) }
+    {
+        match item {
+            Item::Tag(tag) => self.tag(tag, assigned, end),
+            Item::Handle(_) => self.pass(assigned, end),
+            Item::RawPart(_) => self.pass(assigned, end),
+            Item::TextPart(bytes) => self.text(bytes, units, assigned, end),
+            item => self.rare(item, units, assigned, end),
         }
     }
 

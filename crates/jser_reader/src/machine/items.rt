@@ -10,71 +10,76 @@ use crate::phase::Phase;
 use arrayvec::ArrayVec;
 use jser_prim::{read_u16, read_u32, read_u64};
 
+/// The byte of a field of one byte.
+#[inline(always)]
+fn byte_of(bytes: &[u8]) -> u8
+    ensures { length bytes.now ≡ 1 → result ≡ number_of bytes.now }
+{
+    match bytes {
+        [byte] => *byte,
+        _ => 0,
+    }
+}
+
+/// The number in the bytes of a field of two.
+#[tactic(auto, using(crate::proofs::ItemLemmas::number_of_two))]
+#[inline(always)]
+fn short_of(bytes: &[u8]) -> u16
+    ensures { length bytes.now ≡ 2 → result ≡ number_of bytes.now }
+{
+    if bytes.len() != 2 {
+        return 0;
+    }
+    read_u16(bytes)
+}
+
+/// The number in the bytes of a field of four.
+#[tactic(auto, using(crate::proofs::ItemLemmas::number_of_four))]
+#[inline(always)]
+fn word_of(bytes: &[u8]) -> u32
+    ensures { length bytes.now ≡ 4 → result ≡ number_of bytes.now }
+{
+    if bytes.len() != 4 {
+        return 0;
+    }
+    read_u32(bytes)
+}
+
+/// The number in the bytes of a field of eight.
+#[tactic(auto, using(crate::proofs::ItemLemmas::number_of_eight))]
+#[inline(always)]
+fn long_of(bytes: &[u8]) -> u64
+    ensures { length bytes.now ≡ 8 → result ≡ number_of bytes.now }
+{
+    if bytes.len() != 8 {
+        return 0;
+    }
+    read_u64(bytes)
+}
+
 /// The item that a whole field is whose bytes these are: the header, a tag or a number.
-#[tactic(auto, using(crate::proofs::ItemLemmas::of_one, crate::proofs::ItemLemmas::of_two, crate::proofs::ItemLemmas::of_four, crate::proofs::ItemLemmas::of_eight, crate::proofs::ItemLemmas::of_none))]
+///
+/// The field tells the item, and so how many bytes it has; a caller that asks which item it is need not ask again.
 #[inline(always)]
 fn whole_item<'p>(field: Phase, bytes: &[u8]) -> Item<'p>
     ensures { length bytes.now ≡ size_of_phase field → result ≡ number_item field (number_of bytes.now) }
 {
-    match bytes.len() {
-        1 => byte_item(field, bytes[0]),
-        2 => short_item(field, read_u16(bytes)),
-        4 => word_item(field, read_u32(bytes)),
-        8 => long_item(field, read_u64(bytes)),
+    match field {
+        Phase::Top | Phase::Note | Phase::Value => Item::Tag(byte_of(bytes)),
+        Phase::ClassTag | Phase::SuperTag | Phase::TextTag => Item::Tag(byte_of(bytes)),
+        Phase::BackHandle | Phase::ClassHandle => Item::Handle(word_of(bytes)),
+        Phase::SuperHandle | Phase::TextHandle => Item::Handle(word_of(bytes)),
+        Phase::Length2 => Item::TextLength(u64::from(short_of(bytes))),
+        Phase::Length8 => Item::TextLength(long_of(bytes)),
+        Phase::Suid => Item::Suid(long_of(bytes)),
+        Phase::Flags => Item::Flags(byte_of(bytes)),
+        Phase::FieldCount => Item::FieldCount(short_of(bytes)),
+        Phase::TypeCode => Item::TypeCode(byte_of(bytes)),
+        Phase::InterfaceCount => Item::InterfaceCount(word_of(bytes)),
+        Phase::ArrayLength => Item::ArrayLength(word_of(bytes)),
+        Phase::BlockLength1 => Item::BlockLength(u32::from(byte_of(bytes))),
+        Phase::BlockLength4 => Item::BlockLength(word_of(bytes)),
         _ => Item::Header,
-    }
-}
-
-/// The item of a field of one byte.
-#[tactic(auto, using(crate::proofs::ItemLemmas::other_byte))]
-#[inline(always)]
-fn byte_item<'p>(field: Phase, n: u8) -> Item<'p>
-    ensures { size_of_phase field ≡ 1 → result ≡ number_item field n }
-{
-    match field {
-        Phase::Flags => Item::Flags(n),
-        Phase::TypeCode => Item::TypeCode(n),
-        Phase::BlockLength1 => Item::BlockLength(u32::from(n)),
-        _ => Item::Tag(n),
-    }
-}
-
-/// The item of a number of two bytes.
-#[tactic(auto, using(crate::proofs::ItemLemmas::other_short))]
-#[inline(always)]
-fn short_item<'p>(field: Phase, n: u16) -> Item<'p>
-    ensures { size_of_phase field ≡ 2 → result ≡ number_item field n }
-{
-    match field {
-        Phase::Length2 => Item::TextLength(u64::from(n)),
-        _ => Item::FieldCount(n),
-    }
-}
-
-/// The item of a field of four bytes.
-#[tactic(auto, using(crate::proofs::ItemLemmas::other_word))]
-#[inline(always)]
-fn word_item<'p>(field: Phase, n: u32) -> Item<'p>
-    ensures { size_of_phase field ≡ 4 → result ≡ number_item field n }
-{
-    match field {
-        Phase::Header => Item::Header,
-        Phase::InterfaceCount => Item::InterfaceCount(n),
-        Phase::ArrayLength => Item::ArrayLength(n),
-        Phase::BlockLength4 => Item::BlockLength(n),
-        _ => Item::Handle(n),
-    }
-}
-
-/// The item of a number of eight bytes.
-#[tactic(auto, using(crate::proofs::ItemLemmas::other_long))]
-#[inline(always)]
-fn long_item<'p>(field: Phase, n: u64) -> Item<'p>
-    ensures { size_of_phase field ≡ 8 → result ≡ number_item field n }
-{
-    match field {
-        Phase::Length8 => Item::TextLength(n),
-        _ => Item::Suid(n),
     }
 }
 
@@ -82,13 +87,21 @@ fn long_item<'p>(field: Phase, n: u64) -> Item<'p>
 pub(crate) type Kept = ArrayVec<u8, 8>;
 
 /// The bytes that were kept, and others after them, where there are no more than eight.
-#[inline(never)]
 fn joined(kept: Kept, part: &[u8]) -> Kept
     ensures { length (kept.items ++ part.now) ≤ 8 → result.items ≡ kept.items ++ part.now }
 {
     let mut whole = kept;
     let _ = whole.try_extend_from_slice(part);
     whole
+}
+
+/// The item of a field that was cut, of which these bytes were kept, and this part taken now.
+#[inline(never)]
+fn cut_item<'p>(field: Phase, kept: Kept, part: &[u8]) -> Item<'p>
+    ensures { length (kept.items ++ part.now) ≤ 8 → length (kept.items ++ part.now) ≡ size_of_phase field → result ≡ number_item field (number_of (kept.items ++ part.now)) }
+{
+    let whole = joined(kept, part);
+    whole_item(field, whole.as_slice())
 }
 
 /// The item of a field, of which these bytes were kept, and this part taken now.
@@ -104,8 +117,7 @@ pub(crate) fn item_of<'p>(field: Phase, kept: Kept, part: &'p [u8]) -> Item<'p>
             if kept.is_empty() {
                 return whole_item(field, part);
             }
-            let whole = joined(kept, part);
-            whole_item(field, whole.as_slice())
+            cut_item(field, kept, part)
         }
     }
 }
