@@ -11,9 +11,9 @@ use jser_filter::{Filter, Modules, Verdict};
 use jser_prim::units_of;
 use jser_table::{Element, element_of};
 use std::alloc::{AllocError, Global};
-use std::env;
 use std::rt::Clock;
 use std::time::Instant;
+use std::{env, fmt};
 
 /// A form of pattern: what stands before the number of a pattern, and what after it.
 #[derive(Clone, Copy)]
@@ -80,28 +80,54 @@ const NAMES: [&str; 3] = [
 const MODULES: &str = "org.sample.shop=shop";
 
 fn main(rt: HostRuntime) -> Result<()> {
-    let asked = env::args(&rt)?.nth(1);
-    let calls = match &asked {
-        Some(text) => u32::from(text.parse::<u16>()?) * 1000,
-        None => 1,
+    let Some(text) = env::args(&rt)?.nth(1) else {
+        return try_all(&rt, rt.alloc());
     };
+    let calls = u32::from(text.parse::<u16>()?) * 1000;
     for form in FORMS {
         for count in COUNTS {
-            if asked.is_none() && count > 10 {
-                break;
-            }
-            let filter = filter_with(rt.alloc(), form, count)?;
-            let [short, middle, long] = NAMES;
-            let short = cost(&rt, rt.alloc(), &filter, short, calls)?;
-            let middle = cost(&rt, rt.alloc(), &filter, middle, calls)?;
-            let long = cost(&rt, rt.alloc(), &filter, long, calls)?;
-            if asked.is_some() {
-                let name = form.name;
-                println!(rt; "{count} of {name}: {short}, {middle}, {long} ns")?;
-            }
+            let costs = measure(&rt, rt.alloc(), form, count, calls)?;
+            let name = form.name;
+            println!(rt; "{count} of {name}: {costs} ns")?;
         }
     }
     Ok(())
+}
+
+/// Judges each name a thousand times by 1 and by 10 patterns of each form.
+fn try_all(rt: &impl Clock, alloc: Global) -> Result<()> {
+    for form in FORMS {
+        for count in [1, 10] {
+            measure(rt, alloc, form, count, 1000)?;
+        }
+    }
+    Ok(())
+}
+
+/// Nanoseconds that it takes to judge each of the names.
+#[derive(Clone, Copy)]
+struct Costs([u64; 3]);
+
+impl fmt::Display for Costs {
+    fn fmt<W: fmt::Write>(&self, f: &mut fmt::Formatter<W>) -> fmt::Result {
+        let [short, middle, long] = self.0;
+        write!(f, "{short}, {middle}, {long}")
+    }
+}
+
+/// What it takes to judge each of the names by so many patterns of this form.
+fn measure(rt: &impl Clock, alloc: Global, form: Form, count: u32, calls: u32) -> Result<Costs> {
+    let filter = filter_with(alloc, form, count)?;
+    measure_by(rt, alloc, &filter, calls)
+}
+
+/// What it takes to judge each of the names by this filter.
+fn measure_by(rt: &impl Clock, alloc: Global, filter: &Filter, calls: u32) -> Result<Costs> {
+    let mut costs = [0; 3];
+    for (place, name) in costs.iter_mut().zip(NAMES) {
+        *place = cost(rt, alloc, filter, name, calls)?;
+    }
+    Ok(Costs(costs))
 }
 
 /// A filter of so many patterns of this form, none of which matches a name of `NAMES`.
