@@ -163,7 +163,6 @@ impl Survey {
     }
 
     /// Makes the node of the last tag that has none yet, at a field that is neither a text nor the length of an array.
-    #[tactic(auto, using(crate::proofs::SurveyLemmas::made_plain))]
     #[inline(never)]
     fn make_plain(&mut self) -> Result<(), AllocError>
         ensures { OnOk result ((told : StreamField) → IsPlain told → self.new ≡ make_begun told self.old.begun self.old) }
@@ -243,7 +242,8 @@ impl Survey {
     }
 
     /// Goes past a text, of which these are all bytes. `units` is room for its units.
-    #[inline(never)]
+    #[tactic(auto, using(crate::proofs::PartLemmas::decoded))]
+    #[inline(always)]
     fn text(
         &mut self,
         bytes: &[u8],
@@ -251,7 +251,7 @@ impl Survey {
         assigned: u32,
         end: u64,
     ) -> Result<(), AllocError>
-        ensures finds { OnOk result ((told : StreamField) → PartIs (Part.Text bytes) told → place_after self.old.place (bytes_of told) ≡ end
+        ensures finds { OnOk result ((told : StreamField) → PartIs (Part.Text bytes.entry) told → place_after self.old.place (bytes_of told) ≡ end
             → self.new ≡ find assigned told self.old) }
         ensures place { OnOk result (self.new.place ≡ end) }
     {
@@ -280,6 +280,7 @@ impl Survey {
             Item::Handle(_) => self.pass(assigned, end),
             Item::RawPart(_) => self.pass(assigned, end),
             Item::TextPart(bytes) => self.text(bytes, units, assigned, end),
+            Item::TextLength(length) if length > 0 => Ok(()),
             item => self.rare(item, units, assigned, end),
         }
     }
