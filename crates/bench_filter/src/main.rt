@@ -94,11 +94,11 @@ fn main(rt: HostRuntime) -> Result<()> {
     Ok(())
 }
 
-/// Judges each name a thousand times by 1 and by 10 patterns of each form.
+/// Judges each name once, by 1 and by 10 patterns of each form.
 fn try_all(rt: &impl Clock, alloc: Global) -> Result<()> {
     for form in FORMS {
         for count in [1, 10] {
-            measure(rt, alloc, form, count, 1000)?;
+            measure(rt, alloc, form, count, 1)?;
         }
     }
     Ok(())
