@@ -52,3 +52,4 @@ pub mod ItemLaws
 pub mod SkipMemory
 pub mod PassLemmas
 pub mod WholeLemmas
+pub mod RawLemmas

@@ -31,3 +31,4 @@ pub mod ItemsMade
 pub mod ItemsTold
 pub mod FieldLaws
 pub mod Gates
+pub mod RawRuns

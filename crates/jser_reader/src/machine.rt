@@ -25,6 +25,7 @@ mod owners;
 mod parts;
 mod pass;
 mod pass_values;
+mod raws;
 mod states;
 mod superclasses;
 mod supers;

@@ -96,7 +96,7 @@ impl Machine {
         ensures passes { (gate : ToldGate) (tally : Tally) → Passes gate piece.now result self.old tally self.new tally }
         ensures progress { HasPassed piece.now result }
     {
-        let mut used = match self.whole_raw(piece) {
+        let mut used = match self.whole_raws(piece) {
             None => return self.pass_prim(piece),
             Some(first) => first,
         };
@@ -105,7 +105,7 @@ impl Machine {
             if self.phase != Phase::Prims || !self.has_room(rest) {
                 return Some(used);
             }
-            match self.whole_raw(rest) {
+            match self.whole_raws(rest) {
                 None => return Some(used),
                 Some(more) => used += more,
             }
