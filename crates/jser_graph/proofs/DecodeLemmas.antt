@@ -97,7 +97,7 @@ take_whole (b ∷ bytes) (suc n) le = ap (λ xs. b ∷ xs) (take_whole bytes n (
 
 -- where each byte is below 0x80, the bytes are the units
 
-abbrev Below : List ℕ → Type 0
+abbrev pub Below : List ℕ → Type 0
 Below bytes = (k : ℕ) → k < length bytes → slice_index_or bytes k 0 < 0x80
 
 head_below : (bytes others : List ℕ) (b : ℕ) → bytes ≡ b ∷ others → Below bytes → b < 0x80
@@ -106,7 +106,7 @@ head_below bytes others b e h = let all : Below (b ∷ others) = subst Below e h
 tail_below : (bytes others : List ℕ) (b : ℕ) → bytes ≡ b ∷ others → Below bytes → Below others
 tail_below bytes others b e h = λ k less. let all : Below (b ∷ others) = subst Below e h in all (suc k) (omega arith)
 
-narrow_units : (told bytes : List ℕ) → IsUnits told → modified_utf8 told ≡ bytes → Below bytes → bytes ≡ told
+pub narrow_units : (told bytes : List ℕ) → IsUnits told → modified_utf8 told ≡ bytes → Below bytes → bytes ≡ told
 narrow_units [] bytes are e below = sym e
 narrow_units (u ∷ us) bytes are e below = elim (form_of u (units_head u us are)) [
   | inl one ↦

@@ -13,3 +13,4 @@ pub mod ShownLemmas
 pub mod NodeLemmas
 pub mod GraphLemmas
 pub mod OutputLemmas
+pub mod PlainLemmas

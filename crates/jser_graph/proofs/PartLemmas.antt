@@ -10,7 +10,7 @@ use Rattle.jser_walk.specs.declared.Field.TheVariants as field
 use Rattle.jser_walk.specs.Given.{IsOf}
 use Rattle.jser_graph.specs.declared.part.Part.{Part}
 use Rattle.jser_graph.specs.declared.part.Part.TheVariants as part
-use Rattle.jser_graph.specs.Along.{Ends, IsPartOf, PartIs}
+use Rattle.jser_graph.specs.Along.{Ends, IsPartOf, IsTextOf, PartIs}
 
 -- ---- a text
 
@@ -43,7 +43,7 @@ part_text (item.TextLength zero) bytes (text_field long units) i e =
 part_text (item.TextLength (suc n)) bytes told i e = absurd i
 part_text _ bytes told i e = absurd e
 
-pub decoded : (told : StreamField) (bytes units : Bor (List ℕ)) → PartIs (part.Text bytes) told
+pub decoded : (told : StreamField) (bytes units : Bor (List ℕ)) → IsTextOf bytes.now told
     → ((us : List ℕ) → IsUnits us → modified_utf8 us ≡ bytes.now → units.now ≡ us) → IsOf (field.Text units) told
 decoded (text_field long us) bytes units p d = d us p.0 p.1
 decoded _ bytes units p d = absurd p

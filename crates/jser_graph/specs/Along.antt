@@ -60,10 +60,15 @@ IsPartOf (item.TextLength zero) (part.Text bytes) = bytes.now ≡ []
 IsPartOf (item.TextLength (suc n)) part.Length = Unit {0}
 IsPartOf (item.TextLength n) p = ⊥
 
+-- the field is a text that is spelled by these bytes
+abbrev pub IsTextOf : List ℕ → StreamField → Type 0
+IsTextOf bytes (text_field long units) = IsUnits units × (modified_utf8 units ≡ bytes)
+IsTextOf bytes told = ⊥
+
 -- the part is this field
 abbrev pub PartIs : Part → StreamField → Type 0
 PartIs (part.Field f) told = IsOf f told
-PartIs (part.Text bytes) (text_field long units) = IsUnits units × (modified_utf8 units ≡ bytes.now)
+PartIs (part.Text bytes) told = IsTextOf bytes.now told
 PartIs _ told = ⊥
 
 -- the length of a text was taken, and its bytes come next

@@ -4,7 +4,7 @@ ghost use Rattle.jser_reading.specs.Labels.{StreamField};
 ghost use Rattle.jser_shown.specs.Telling.{begin_telling, goes, settled};
 ghost use Rattle.jser_words.specs.Passing.{says_next};
 ghost use Rattle.jser_words.specs.Says.{BeginsTo, SaysTo};
-ghost use Rattle.jser_graph.specs.Along.{BeginsAt, Ends, IsLength};
+ghost use Rattle.jser_graph.specs.Along.{BeginsAt, Ends, IsLength, IsTextOf};
 ghost use Rattle.jser_graph.specs.Showing.{CountsText, WroteText, WroteFront, KeptSink, HasFailedIf, PutsTextTo, PutsFrontTo};
 
 use crate::decode::decode;
@@ -15,7 +15,7 @@ use jser_prim::{Outbox, Sink};
 use jser_reader::{Item, OpenGate, Reader, Step};
 use jser_shown::laws::{one_more, tells_fronts, told};
 use jser_walk::{Field, Walk};
-use jser_words::{say_all_due, say_next};
+use jser_words::{say_all_due, say_next, say_plain_string};
 use std::alloc::{AllocError, Global};
 
 impl Graph {
@@ -134,10 +134,53 @@ fn say_item<W: Sink>(
 {
     match part_of(item) {
         Part::Field(field) => say_next(outbox, sink, walk, field),
-        Part::Text(bytes) => {
-            let text = decode(bytes, units)?;
-            say_next(outbox, sink, walk, Field::Text(text))
-        }
+        Part::Text(bytes) => say_text(outbox, sink, walk, units, bytes),
         Part::Length => Ok(()),
     }
+}
+
+/// Says a text from its bytes, with all that is due before it. The bytes of most strings stand for themselves.
+///
+/// # Errors
+///
+/// Where memory runs out. What was said before is a beginning of that.
+fn say_text<W: Sink>(
+    outbox: &mut Outbox,
+    sink: &mut W,
+    walk: &mut Walk<'_>,
+    units: &mut Vec<u16>,
+    bytes: &[u8],
+) -> Result<(), AllocError>
+    ensures said { OnOk result ((told : StreamField) → IsTextOf bytes.now told
+        → SaysTo W.gone_out W.has_failed outbox.old outbox.new sink.old sink.new (λ k. says_next walk.old told k)) }
+    ensures goes { OnOk result ((told : StreamField) → IsTextOf bytes.now told → walk.new ≡ goes (settled walk.old) told) }
+    ensures front { OnErr result ((told : StreamField) → IsTextOf bytes.now told
+        → BeginsTo W.gone_out W.has_failed outbox.old outbox.new sink.old sink.new (λ k. says_next walk.old told k)) }
+{
+    if say_plain_string(outbox, sink, walk, bytes) {
+        return Ok(());
+    }
+    say_units(outbox, sink, walk, units, bytes)
+}
+
+/// Says a text by its units, with all that is due before it.
+///
+/// # Errors
+///
+/// Where memory runs out. What was said before is a beginning of that.
+fn say_units<W: Sink>(
+    outbox: &mut Outbox,
+    sink: &mut W,
+    walk: &mut Walk<'_>,
+    units: &mut Vec<u16>,
+    bytes: &[u8],
+) -> Result<(), AllocError>
+    ensures said { OnOk result ((told : StreamField) → IsTextOf bytes.now told
+        → SaysTo W.gone_out W.has_failed outbox.old outbox.new sink.old sink.new (λ k. says_next walk.old told k)) }
+    ensures goes { OnOk result ((told : StreamField) → IsTextOf bytes.now told → walk.new ≡ goes (settled walk.old) told) }
+    ensures front { OnErr result ((told : StreamField) → IsTextOf bytes.now told
+        → BeginsTo W.gone_out W.has_failed outbox.old outbox.new sink.old sink.new (λ k. says_next walk.old told k)) }
+{
+    let text = decode(bytes, units)?;
+    say_next(outbox, sink, walk, Field::Text(text))
 }

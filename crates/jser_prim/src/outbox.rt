@@ -59,7 +59,8 @@ impl Outbox {
     }
 
     /// Puts bytes after those that wait. Where they do not fit, what waits goes out to the sink first.
-    #[tactic(auto, using(crate::proofs::OutgoingLemmas::puts_stopped, crate::proofs::OutgoingLemmas::puts_gathered, crate::proofs::OutgoingLemmas::puts_behind))]
+    #[tactic(auto, using(crate::proofs::OutgoingLemmas::puts_stopped, crate::proofs::OutgoingLemmas::puts_gathered))]
+    #[inline(always)]
     pub fn put<W: Sink>(&mut self, sink: &mut W, bytes: &[u8])
         ensures { PutsTo W.gone_out W.has_failed self.old self.new sink.old sink.new bytes.now }
     {
@@ -69,6 +70,15 @@ impl Outbox {
         if self.gather(bytes) {
             return;
         }
+        self.put_behind(sink, bytes);
+    }
+
+    /// Puts bytes where all that waits goes out first.
+    #[tactic(auto, using(crate::proofs::OutgoingLemmas::puts_behind))]
+    #[inline(never)]
+    fn put_behind<W: Sink>(&mut self, sink: &mut W, bytes: &[u8])
+        ensures { PutsTo W.gone_out W.has_failed self.old self.new sink.old sink.new bytes.now }
+    {
         self.flush(sink);
         self.pass(sink, bytes);
     }
@@ -118,6 +128,7 @@ impl Outbox {
     }
 
     /// Lets bytes wait after those that do, where they fit.
+    #[inline(always)]
     fn gather(&mut self, bytes: &[u8]) -> bool
         ensures { MatchBool result (self.new ≡ record self.old { waiting = self.old.waiting ++ bytes.now }) (self.new ≡ self.old) }
     {

@@ -1,10 +1,10 @@
 //! The walk: where it stands, and its steps.
-ghost use Rattle.std.specs.Prelude.{◌≡◌, ◌∷◌, [], length, Some, None, OnOk};
-ghost use Rattle.jser_reading.specs.Labels.{StreamField};
+ghost use Rattle.std.specs.Prelude.{◌≡◌, ℕ, List, Bool, true, false, ◌∷◌, [], length, Some, None, OnOk};
+ghost use Rattle.jser_reading.specs.Labels.{StreamField, text_field};
 ghost use Rattle.jser_shown.specs.Telling.{begin_telling, goes, first_owner};
 ghost use Rattle.jser_walk.specs.Given.{IsOf, told_node, told_nodes};
 ghost use Rattle.jser_walk.specs.Steps.{due, pass};
-ghost use Rattle.jser_walk.specs.Prompts.{prompt_of};
+ghost use Rattle.jser_walk.specs.Prompts.{prompt_of, string_prompt};
 ghost use Rattle.jser_walk.specs.Views.{view_due, view_prompt};
 
 mod passing;
@@ -131,6 +131,22 @@ impl<'a> Walk<'a> {
             Phase::FieldName { .. } => Prompt::FieldName,
             Phase::InterfaceCount { .. } => Prompt::InterfaceCount,
             Phase::Interfaces { head, .. } => Prompt::Interface { level: head.level },
+        }
+    }
+
+    /// Goes past the units of a string, whatever these are, where they are waited for. False where something else is.
+    #[inline(always)]
+    pub fn pass_string(&mut self) -> bool
+        ensures waited { result ≡ true → prompt_of self.old ≡ string_prompt }
+        ensures goes { result ≡ true → (long : Bool) → (units : List ℕ) → self.new ≡ goes self.old (text_field long units) }
+        ensures kept { result ≡ false → self.new ≡ self.old }
+    {
+        match self.phase {
+            Phase::Text => {
+                self.phase = Phase::Frames;
+                true
+            }
+            _ => false,
         }
     }
 

@@ -25,7 +25,7 @@ cue-says (parts_cue L (value_part name ∷ parts)) e n o field k = refl
 cue-says (parts_cue L (part ∷ parts)) e n o field k = refl
 cue-says cue e n o field k = refl
 
-in-cues-says : (cues : List Cue) (e n : ℕ) (o : OwnerNode) (field : SeenField) (k : List ℕ) →
+pub in-cues-says : (cues : List Cue) (e n : ℕ) (o : OwnerNode) (field : SeenField) (k : List ℕ) →
     says_in e n o cues field k ≡ prompt_says (prompt_in cues) e n o field k
 in-cues-says [] e n o field k = refl
 in-cues-says (cue ∷ cues) e n o field k = cue-says cue e n o field k

@@ -5,3 +5,4 @@ pub mod SilentLemmas
 pub mod FieldLemmas
 pub mod DueLemmas
 pub mod StepLemmas
+pub mod PlainLemmas

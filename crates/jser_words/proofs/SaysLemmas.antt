@@ -1,13 +1,15 @@
 -- Texts that are said one after another.
-use Rattle.std.proofs.Common.{◌≡◌, ℕ, ◌+◌, ◌<◌, List, [], ◌∷◌, ◌++◌, refl, sym, ap, subst, ◌∙◌, append_assoc, take, length, get_or}
-use Rattle.std.proofs.lemmas.List.{take_more, flat_map_more}
+use Rattle.std.proofs.Common.{◌≡◌, ℕ, zero, suc, ◌+◌, ◌<◌, ◌≤◌, List, [], ◌∷◌, ◌++◌, refl, sym, ap, subst, ◌∙◌, append_assoc, take, drop, length, get_or, arith}
+use Rattle.std.proofs.lemmas.Grind.{flat_map-append}
+use Rattle.std.proofs.lemmas.List.{take_more, flat_map_more, take-append-drop, append-nil}
 use Rattle.std.specs.List.{flat_map}
+use Rattle.std.specs.Fmt.{decimal, digits}
 use Rattle.std.specs.Prelude.{codes}
 use Rattle.hex.specs.Hex.{encode_lower}
 use Rattle.jser_prim.specs.Bytes.{big_bytes}
 use Rattle.jser_prim.specs.Outgoing.{Outgoing, SinkState, Puts}
 use Rattle.jser_prim.proofs.OutgoingLemmas.{puts_none, puts_both}
-use Rattle.jser_shown.specs.Words.{quoted, quoted_unit}
+use Rattle.jser_shown.specs.Words.{quoted, quoted_unit, without_zeros}
 use Rattle.jser_words.specs.Says.{Saying, Says}
 
 pub says_none : (a : Outgoing) (d : SinkState) (all : List ℕ → List ℕ) → Saying a a d d all all
@@ -51,22 +53,72 @@ pub says_five : (a b c d e f : Outgoing) (p q r s t u : SinkState) (v w x y z : 
 says_five a b c d e f p q r s t u v w x y z g h i j l =
     says_both a b f p q u v (λ k. w (x (y (z k)))) g (says_four b c d e f q r s t u w x y z h i j l)
 
--- a unit more
-pub puts_unit : (a b c : Outgoing) (d e f : SinkState) (units : List ℕ) (i unit : ℕ) → Puts a b d e (flat_map quoted_unit (take i units)) → i < length units → unit ≡ get_or units i 0
-    → Puts b c e f (quoted_unit unit) → Puts a c d f (flat_map quoted_unit (take (i + 1) units))
-puts_unit a b c d e f units i unit so inside is more =
-    subst (Puts a c d f) (ap (λ u. flat_map quoted_unit (take i units) ++ quoted_unit u) is ∙ flat_map_more quoted_unit [] (take i units) (get_or units i 0) ∙ ap (flat_map quoted_unit) (sym (take_more units i 0 inside)))
-    (puts_both a b c d e f (flat_map quoted_unit (take i units)) (quoted_unit unit) so more)
+-- some units of a quoted text, and those that follow
+pub says_units : (a b : Outgoing) (d e : SinkState) (units run after : List ℕ) (n : ℕ) → Says a b d e (λ k. run ++ k) → run ≡ flat_map quoted_unit (take n units)
+    → after ≡ drop n units → Saying a b d e (λ k. flat_map quoted_unit units ++ k) (λ k. flat_map quoted_unit after ++ k)
+says_units a b d e units run after n h front rest = record {
+  bytes = h.bytes;
+  puts = h.puts;
+  is = λ k. ap (λ u. flat_map quoted_unit u ++ k) (sym (take-append-drop n units))
+      ∙ ap (λ x. x ++ k) (flat_map-append quoted_unit (take n units) (drop n units))
+      ∙ append_assoc (flat_map quoted_unit (take n units)) (flat_map quoted_unit (drop n units)) k
+      ∙ ap (λ x. x ++ (flat_map quoted_unit (drop n units) ++ k)) (sym front)
+      ∙ ap (λ u. run ++ (flat_map quoted_unit u ++ k)) (sym rest)
+      ∙ h.is (flat_map quoted_unit after ++ k);
+}
+
+-- no units are left
+pub says_no_units : (a b : Outgoing) (d e : SinkState) (all : List ℕ → List ℕ) (left : List ℕ) → Saying a b d e all (λ k. flat_map quoted_unit left ++ k) → left ≡ []
+    → Says a b d e all
+says_no_units a b d e all left h none = record { bytes = h.bytes; puts = h.puts; is = λ k. h.is k ∙ ap (λ u. h.bytes ++ (flat_map quoted_unit u ++ k)) none }
+
+-- the units so far that stand for themselves
+pub run_within : (run units : List ℕ) (i : ℕ) → length run ≡ i → i < length units → length run ≤ length units
+run_within run units i many inside = omega (arith, many, inside)
+
+pub run_front : (run units : List ℕ) (i : ℕ) → length run ≡ i → run ≡ flat_map quoted_unit (take i units) → run ≡ flat_map quoted_unit (take (length run) units)
+run_front run units i many plain = plain ∙ ap (λ n. flat_map quoted_unit (take n units)) (sym many)
+
+one-unit : (units : List ℕ) → 0 < length units → flat_map quoted_unit (take 1 units) ≡ quoted_unit (get_or units 0 0)
+one-unit [] some = absurd (omega (arith, some))
+one-unit (u ∷ us) some = append-nil (quoted_unit u)
+
+-- one unit, and those that follow
+pub says_unit : (a b : Outgoing) (d e : SinkState) (units after : List ℕ) (unit : ℕ) → Puts a b d e (quoted_unit unit) → 0 < length units → unit ≡ get_or units 0 0
+    → after ≡ drop 1 units → Saying a b d e (λ k. flat_map quoted_unit units ++ k) (λ k. flat_map quoted_unit after ++ k)
+says_unit a b d e units after unit h some is rest =
+    says_units a b d e units (quoted_unit unit) after 1 (says_bytes a b d e (quoted_unit unit) h) (ap quoted_unit is ∙ sym (one-unit units some)) rest
+
+-- a unit more that stands for itself
+pub plain_more : (units run : List ℕ) (i unit : ℕ) → run ≡ flat_map quoted_unit (take i units) → i < length units → unit ≡ get_or units i 0
+    → quoted_unit unit ≡ unit ∷ [] → run ++ (unit ∷ []) ≡ flat_map quoted_unit (take (i + 1) units)
+plain_more units run i unit so inside is plain =
+    ap (λ r. r ++ (unit ∷ [])) so
+    ∙ ap (λ u. flat_map quoted_unit (take i units) ++ u) (sym plain ∙ ap quoted_unit is)
+    ∙ flat_map_more quoted_unit [] (take i units) (get_or units i 0) ∙ ap (flat_map quoted_unit) (sym (take_more units i 0 inside))
 
 -- a unit by its number
 pub puts_escaped : (a b c : Outgoing) (d e f : SinkState) (digits hex : List ℕ) → Puts a b d e (0x5C ∷ 0x75 ∷ []) → Puts b c e f digits
     → digits ≡ hex → Puts a c d f (0x5C ∷ 0x75 ∷ hex)
 puts_escaped a b c d e f digits hex h g is = puts_both a b c d e f (0x5C ∷ 0x75 ∷ []) hex h (subst (λ t. Puts b c e f t) is g)
 
-pub says_quoted : (a b c g : Outgoing) (d e f h : SinkState) (units : List ℕ) → Says a b d e (λ k. 0x22 ∷ k) → Puts b c e f (flat_map quoted_unit units)
+pub says_quoted : (a b c g : Outgoing) (d e f h : SinkState) (units : List ℕ) → Says a b d e (λ k. 0x22 ∷ k) → Says b c e f (λ k. flat_map quoted_unit units ++ k)
     → Says c g f h (λ k. 0x22 ∷ k) → Says a g d h (λ k. quoted units k)
 says_quoted a b c g d e f h units x y z =
-    says_three a b c g d e f h (λ k. 0x22 ∷ k) (λ k. flat_map quoted_unit units ++ k) (λ k. 0x22 ∷ k) x (says_bytes b c e f (flat_map quoted_unit units) y) z
+    says_three a b c g d e f h (λ k. 0x22 ∷ k) (λ k. flat_map quoted_unit units ++ k) (λ k. 0x22 ∷ k) x y z
+
+-- the first epoch
+pub says_first_epoch : (a b : Outgoing) (d e : SinkState) (epoch : ℕ) → epoch ≡ 0 → Says a b d e (λ k. codes "#0." ++ k)
+    → Says a b d e (λ k. 0x23 ∷ (decimal epoch ++ (0x2E ∷ k)))
+unfolding digits
+says_first_epoch a b d e epoch is h =
+    says_same a b d e (λ k. codes "#0." ++ k) (λ k. 0x23 ∷ (decimal epoch ++ (0x2E ∷ k))) (λ k. ap (λ n. 0x23 ∷ (decimal n ++ (0x2E ∷ k))) is) h
+
+-- digits behind two zeros
+pub says_significant : (a b : Outgoing) (d e : SinkState) (digits rest : List ℕ) → digits ≡ 0x30 ∷ 0x30 ∷ rest → without_zeros rest ≡ rest → Says a b d e (λ k. rest ++ k)
+    → Says a b d e (λ k. without_zeros digits ++ k)
+says_significant a b d e digits rest is same h =
+    says_same a b d e (λ k. rest ++ k) (λ k. without_zeros digits ++ k) (λ k. ap (λ t. without_zeros t ++ k) is ∙ ap (λ t. t ++ k) same) h
 
 pub says_suid : (a b c : Outgoing) (d e f : SinkState) (bytes : List ℕ) (n : ℕ) → Says a b d e (λ k. codes " suid " ++ k)
     → Says b c e f (λ k. encode_lower bytes ++ k) → bytes ≡ big_bytes 8 n

@@ -3,3 +3,4 @@ pub mod TagWords
 pub mod FieldWords
 pub mod DueWords
 pub mod Passing
+pub mod Plain

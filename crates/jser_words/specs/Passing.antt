@@ -1,9 +1,26 @@
 -- What is done of what is due, and what is said of a field with it.
-use Rattle.std.specs.Prelude.{ℕ, List, ◌≡◌, Bool, true, false, Some, None}
+use Rattle.std.specs.Prelude.{ℕ, zero, suc, List, length, ◌≡◌, Bool, true, false, Some, None}
 use Rattle.jser_shown.specs.Cues.{Teller}
 use Rattle.jser_reading.specs.Labels.{StreamField}
-use Rattle.jser_shown.specs.Telling.{says, settle_says, settled}
+use Rattle.jser_shown.specs.Telling.{says, settle_says, settled, first_owner}
+use Rattle.jser_walk.specs.Given.{told_node}
+use Rattle.jser_walk.specs.Prompts.{Prompt, no_prompt, elements_prompt, field_prompt, interface_prompt}
 use Rattle.jser_walk.specs.Steps.{Due, due, pass}
+use Rattle.jser_words.specs.declared.tag.Place.{Place}
+
+-- where this is the prompt, a field is waited for and nothing is due; elements, fields and interfaces may have ended
+abbrev pub waits : Prompt → Bool
+waits no_prompt = false
+waits (elements_prompt L i zero) = false
+waits (elements_prompt L i (suc left)) = true
+waits (field_prompt L) = false
+waits (interface_prompt L) = false
+waits p = true
+
+-- what the words of a tag need of a teller
+abbrev pub PlaceIs : Place → Teller → Type 0
+PlaceIs place s =
+    (place.epoch ≡ s.epoch) × (place.next ≡ length s.known) × (told_node place.owner ≡ first_owner s.owners)
 
 -- something was due and is done; or nothing was
 abbrev pub Passed : (more : Bool) → Teller → Teller → Type 0

@@ -18,6 +18,11 @@ abbrev pub SaysTo : {S : Type 0} → (S → Option (List ℕ)) → (S → Bool) 
 SaysTo gone_out has_failed old new before after text =
     Says old new (sink_state (gone_out before) (has_failed before)) (sink_state (gone_out after) (has_failed after)) text
 
+-- Some of a text was said, and this is left.
+abbrev pub SayingTo : {S : Type 0} → (S → Option (List ℕ)) → (S → Bool) → Outgoing → Outgoing → S → S → (all left : List ℕ → List ℕ) → Type 0
+SayingTo gone_out has_failed old new before after all left =
+    Saying old new (sink_state (gone_out before) (has_failed before)) (sink_state (gone_out after) (has_failed after)) all left
+
 -- A beginning of a text was said.
 pub record Begins (old new : Outgoing) (before after : SinkState) (all : List ℕ → List ℕ) : Type 0 where
   pub left : List ℕ → List ℕ

@@ -25,6 +25,7 @@ pub fn say_due<W: Sink>(outbox: &mut Outbox, sink: &mut W, due: Due<'_>)
 }
 
 /// Says the first line of a section, of a class with this name or of a proxy.
+#[inline(always)]
 fn say_section<W: Sink>(
     outbox: &mut Outbox,
     sink: &mut W,
@@ -41,6 +42,7 @@ fn say_section<W: Sink>(
 }
 
 /// Says the first line of the section of a class.
+#[inline(always)]
 fn say_class_section<W: Sink>(
     outbox: &mut Outbox,
     sink: &mut W,

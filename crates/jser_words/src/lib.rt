@@ -6,6 +6,7 @@ mod due;
 mod field;
 mod line;
 mod number;
+mod plain;
 mod quote;
 mod tag;
 mod tagged;
@@ -15,6 +16,7 @@ mod value;
 pub use due::say_due;
 pub use line::say;
 pub use number::say_decimal;
+pub use plain::say_plain_string;
 pub use quote::say_quoted;
 pub use telling::{say_all_due, say_field, say_next};
 

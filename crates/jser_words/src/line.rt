@@ -10,6 +10,7 @@ const LEVELS: usize = 32;
 
 /// Says these bytes.
 #[tactic(auto, using(crate::proofs::SaysLemmas::says_bytes))]
+#[inline(always)]
 pub fn say<W: Sink>(outbox: &mut Outbox, sink: &mut W, words: &[u8])
     ensures { SaysTo W.gone_out W.has_failed outbox.old outbox.new sink.old sink.new (λ k. words.now ++ k) }
 {
@@ -17,7 +18,31 @@ pub fn say<W: Sink>(outbox: &mut Outbox, sink: &mut W, words: &[u8])
 }
 
 /// Says the beginning of a line of this level: two spaces for each.
+#[inline(always)]
 pub(crate) fn say_line_start<W: Sink>(outbox: &mut Outbox, sink: &mut W, level: u64)
+    ensures { SaysTo W.gone_out W.has_failed outbox.old outbox.new sink.old sink.new (λ k. begin_line level k) }
+{
+    match level {
+        0 => {}
+        1 => say(outbox, sink, b"  "),
+        2 => say(outbox, sink, b"    "),
+        3 => say(outbox, sink, b"      "),
+        _ => say_many_levels(outbox, sink, level),
+    }
+}
+
+/// Says the beginning of a line that is one level deeper than this one.
+#[inline(always)]
+pub(crate) fn say_deeper_line_start<W: Sink>(outbox: &mut Outbox, sink: &mut W, level: u64)
+    ensures { SaysTo W.gone_out W.has_failed outbox.old outbox.new sink.old sink.new (λ k. begin_line (suc level) k) }
+{
+    say(outbox, sink, b"  ");
+    say_line_start(outbox, sink, level);
+}
+
+/// Says the beginning of a line of any level, in runs of spaces.
+#[inline(never)]
+fn say_many_levels<W: Sink>(outbox: &mut Outbox, sink: &mut W, level: u64)
     ensures { SaysTo W.gone_out W.has_failed outbox.old outbox.new sink.old sink.new (λ k. begin_line level k) }
 {
     let mut left = level;
@@ -26,14 +51,6 @@ pub(crate) fn say_line_start<W: Sink>(outbox: &mut Outbox, sink: &mut W, level: 
         left -= LEVELS as u64;
     }
     say_levels(outbox, sink, left as usize);
-}
-
-/// Says the beginning of a line that is one level deeper than this one.
-pub(crate) fn say_deeper_line_start<W: Sink>(outbox: &mut Outbox, sink: &mut W, level: u64)
-    ensures { SaysTo W.gone_out W.has_failed outbox.old outbox.new sink.old sink.new (λ k. begin_line (suc level) k) }
-{
-    say(outbox, sink, b"  ");
-    say_line_start(outbox, sink, level);
 }
 
 /// Says the spaces of a few levels.

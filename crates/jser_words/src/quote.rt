@@ -1,15 +1,19 @@
 //! Quoted texts.
-ghost use Rattle.std.specs.Prelude.{◌∷◌};
+ghost use Rattle.std.specs.Prelude.{◌≡◌, ◌<◌, ◌≤◌, ◌∷◌, ◌++◌, [], true, length, take};
 ghost use Rattle.std.specs.List.{flat_map};
 ghost use Rattle.hex.specs.Hex.{encode_lower};
 ghost use Rattle.jser_prim.specs.Bytes.{big_bytes};
 ghost use Rattle.jser_prim.specs.Outgoing.{PutsTo};
 ghost use Rattle.jser_shown.specs.Words.{end_line, quoted, quoted_unit};
-ghost use Rattle.jser_words.specs.Says.{SaysTo};
+ghost use Rattle.jser_words.specs.Says.{SaysTo, SayingTo};
 
 use crate::line::say;
+use arrayvec::ArrayVec;
 use byteorder::{BigEndian, ByteOrder};
 use jser_prim::{Outbox, Sink};
+
+/// How many units are put in one piece at most.
+const RUN: usize = 32;
 
 /// Says a quoted text: units from 0020 to 007E stand for themselves, but for `\"` and `\\`, and any other unit is `\u`
 /// and four digits.
@@ -17,7 +21,7 @@ pub fn say_quoted<W: Sink>(outbox: &mut Outbox, sink: &mut W, units: &[u16])
     ensures { SaysTo W.gone_out W.has_failed outbox.old outbox.new sink.old sink.new (λ k. quoted units.now k) }
 {
     say(outbox, sink, b"\"");
-    put_units(outbox, sink, units);
+    say_units(outbox, sink, units);
     say(outbox, sink, b"\"");
 }
 
@@ -29,14 +33,69 @@ pub(crate) fn say_quoted_line<W: Sink>(outbox: &mut Outbox, sink: &mut W, units:
     say(outbox, sink, b"\n");
 }
 
-/// Puts the units of a quoted text.
-#[tactic(auto, using(jser_prim::proofs::OutgoingLemmas::puts_none, crate::proofs::SaysLemmas::puts_unit))]
-fn put_units<W: Sink>(outbox: &mut Outbox, sink: &mut W, units: &[u16])
-    ensures { PutsTo W.gone_out W.has_failed outbox.old outbox.new sink.old sink.new (flat_map quoted_unit units.now) }
+/// Says the units of a quoted text.
+#[tactic(auto, using(crate::proofs::SaysLemmas::says_none, crate::proofs::SaysLemmas::says_no_units))]
+fn say_units<W: Sink>(outbox: &mut Outbox, sink: &mut W, units: &[u16])
+    ensures { SaysTo W.gone_out W.has_failed outbox.old outbox.new sink.old sink.new (λ k. flat_map quoted_unit units.now ++ k) }
 {
-    for unit in units {
-        put_unit(outbox, sink, *unit);
+    let mut rest = units;
+    'runs: while !rest.is_empty() {
+        rest = say_run(outbox, sink, rest);
     }
+}
+
+/// Says the first units of a quoted text: as many as stand for themselves, up to a few, or one that does not. The answer
+/// is what is left.
+#[inline(always)]
+fn say_run<'u, W: Sink>(outbox: &mut Outbox, sink: &mut W, units: &'u [u16]) -> &'u [u16]
+    requires { 0 < length units.now }
+    ensures said { SayingTo W.gone_out W.has_failed outbox.old outbox.new sink.old sink.new (λ k. flat_map quoted_unit units.now ++ k) (λ k. flat_map quoted_unit result.now ++ k) }
+    ensures less { length result.now < length units.now }
+{
+    let run = plain_run(units);
+    if run.is_empty() {
+        return say_first(outbox, sink, units);
+    }
+    let (_, after) = units.split_at(run.len());
+    say(outbox, sink, run.as_slice());
+    after
+}
+
+/// Says the first unit of a quoted text. The answer is what is left.
+#[tactic(auto, using(crate::proofs::SaysLemmas::says_unit))]
+fn say_first<'u, W: Sink>(outbox: &mut Outbox, sink: &mut W, units: &'u [u16]) -> &'u [u16]
+    requires { 0 < length units.now }
+    ensures said { SayingTo W.gone_out W.has_failed outbox.old outbox.new sink.old sink.new (λ k. flat_map quoted_unit units.now ++ k) (λ k. flat_map quoted_unit result.now ++ k) }
+    ensures less { length result.now < length units.now }
+{
+    let (front, after) = units.split_at(1);
+    put_unit(outbox, sink, front[0]);
+    after
+}
+
+/// The units at the front that stand for themselves, up to a few.
+#[tactic(auto, using(crate::proofs::SaysLemmas::plain_more, crate::proofs::SaysLemmas::run_within, crate::proofs::SaysLemmas::run_front))]
+#[inline(always)]
+fn plain_run(units: &[u16]) -> ArrayVec<u8, RUN>
+    ensures within { length result.items ≤ length units.now }
+    ensures plain { result.items ≡ flat_map quoted_unit (take (length result.items) units.now) }
+{
+    let mut run = ArrayVec::new();
+    for unit in units {
+        if run.is_full() || !is_plain(*unit) {
+            return run;
+        }
+        run.push(*unit as u8);
+    }
+    run
+}
+
+/// Whether a unit stands for itself.
+#[inline(always)]
+pub(crate) fn is_plain(unit: u16) -> bool
+    ensures { result ≡ true → (quoted_unit unit ≡ unit ∷ []) × (unit < 0x80) }
+{
+    unit != 0x22 && unit != 0x5C && 0x20 <= unit && unit <= 0x7E
 }
 
 /// Puts a unit of a quoted text.

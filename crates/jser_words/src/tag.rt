@@ -40,6 +40,7 @@ pub(crate) fn say_value_tag<W: Sink>(outbox: &mut Outbox, sink: &mut W, place: P
 }
 
 /// Says a word, the mark of the next handle, and what is behind it.
+#[inline(always)]
 fn say_next<W: Sink>(outbox: &mut Outbox, sink: &mut W, place: Place, word: &[u8], behind: &[u8])
     ensures { SaysTo W.gone_out W.has_failed outbox.old outbox.new sink.old sink.new (λ k. marked_text word.now place.epoch place.next behind.now k) }
 {
@@ -49,6 +50,7 @@ fn say_next<W: Sink>(outbox: &mut Outbox, sink: &mut W, place: Place, word: &[u8
 }
 
 /// Says a word, the mark of the owner, and what is behind it.
+#[inline(always)]
 fn say_owner<W: Sink>(outbox: &mut Outbox, sink: &mut W, place: Place, word: &[u8], behind: &[u8])
     ensures { SaysTo W.gone_out W.has_failed outbox.old outbox.new sink.old sink.new (λ k. marked_text word.now place.epoch place.owner.number behind.now k) }
 {

@@ -13,6 +13,7 @@ use jser_prim::{Outbox, Sink};
 use jser_walk::Tag;
 
 /// Says a tag whose line begins with a word.
+#[inline(always)]
 pub(crate) fn say_worded_tag<W: Sink>(
     outbox: &mut Outbox,
     sink: &mut W,

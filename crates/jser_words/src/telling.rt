@@ -1,17 +1,18 @@
 //! The fields of a stream, said one after another along a walk.
-ghost use Rattle.std.specs.Prelude.{◌≡◌, OnOk, OnErr, IfOk};
+ghost use Rattle.std.specs.Prelude.{◌≡◌, true, false, None, OnOk, OnErr, IfOk};
 ghost use Rattle.jser_reading.specs.Labels.{StreamField};
 ghost use Rattle.jser_shown.specs.Telling.{goes, says, settle_says, settled};
 ghost use Rattle.jser_walk.specs.Given.{IsOf};
 ghost use Rattle.jser_walk.specs.Steps.{due, due_says};
-ghost use Rattle.jser_words.specs.Passing.{Passed, says_next};
+ghost use Rattle.jser_walk.specs.Views.{view_prompt};
+ghost use Rattle.jser_words.specs.Passing.{Passed, PlaceIs, says_next, waits};
 ghost use Rattle.jser_words.specs.Says.{BeginsTo, SaysTo};
 
 use crate::due::say_due;
 use crate::field::say_wanted;
 use crate::tag::Place;
 use jser_prim::{Outbox, Sink};
-use jser_walk::{Field, Walk, see};
+use jser_walk::{Field, Prompt, Walk, see};
 use std::alloc::AllocError;
 
 /// Says a field where a walk has settled: what its teller says.
@@ -22,12 +23,19 @@ pub fn say_field<W: Sink>(outbox: &mut Outbox, sink: &mut W, walk: &Walk<'_>, fi
     let Some(seen) = see(field) else {
         return;
     };
-    let place = Place {
+    say_wanted(outbox, sink, place_of(walk), walk.prompt(), seen);
+}
+
+/// What the words of a tag need of the walk.
+#[inline(always)]
+fn place_of(walk: &Walk<'_>) -> Place
+    ensures { PlaceIs result walk.now }
+{
+    Place {
         epoch: walk.epoch(),
         next: walk.count() as u64,
         owner: walk.first_owner(),
-    };
-    say_wanted(outbox, sink, place, walk.prompt(), seen);
+    }
 }
 
 /// Says all that is due before the next field, and settles the walk.
@@ -71,7 +79,72 @@ fn say_one_due<W: Sink>(
 /// # Errors
 ///
 /// Where memory runs out in the walk. What was said before is a beginning of that.
+#[tactic(auto, using(crate::proofs::StepLemmas::goes_waited))]
 pub fn say_next<W: Sink>(
+    outbox: &mut Outbox,
+    sink: &mut W,
+    walk: &mut Walk<'_>,
+    field: Field<'_>,
+) -> Result<(), AllocError>
+    ensures said { OnOk result ((told : StreamField) → IsOf field.entry told
+        → SaysTo W.gone_out W.has_failed outbox.old outbox.new sink.old sink.new (λ k. says_next walk.old told k)) }
+    ensures goes { OnOk result ((told : StreamField) → IsOf field.entry told → walk.new ≡ goes (settled walk.old) told) }
+    ensures front { OnErr result ((told : StreamField) → IsOf field.entry told
+        → BeginsTo W.gone_out W.has_failed outbox.old outbox.new sink.old sink.new (λ k. says_next walk.old told k)) }
+{
+    if say_if_waited(outbox, sink, walk, field) {
+        return walk.take(field);
+    }
+    say_behind_dues(outbox, sink, walk, field)
+}
+
+/// Says a field where the prompt alone tells that nothing is due before it. False where something may be due, or the
+/// field is none of a stream; then nothing is said.
+#[tactic(auto, using(crate::proofs::StepLemmas::waited_none))]
+#[inline(always)]
+fn say_if_waited<W: Sink>(
+    outbox: &mut Outbox,
+    sink: &mut W,
+    walk: &Walk<'_>,
+    field: Field<'_>,
+) -> bool
+    ensures said { result ≡ true → (told : StreamField) → IsOf field.entry told
+        → SaysTo W.gone_out W.has_failed outbox.old outbox.new sink.old sink.new (λ k. says walk.now told k) }
+    ensures none { result ≡ true → due walk.now ≡ None }
+    ensures same { result ≡ false → (outbox.new ≡ outbox.old) × (sink.new ≡ sink.old) }
+{
+    let Some(seen) = see(field) else {
+        return false;
+    };
+    let prompt = walk.prompt();
+    if !waits(prompt) {
+        return false;
+    }
+    say_wanted(outbox, sink, place_of(walk), prompt, seen);
+    true
+}
+
+/// Whether a field is waited for wherever this is the prompt, and nothing is due.
+#[inline(always)]
+fn waits(prompt: Prompt<'_>) -> bool
+    ensures { result ≡ waits (view_prompt prompt.entry) }
+{
+    match prompt {
+        Prompt::Due => false,
+        Prompt::Elements { left, .. } => left > 0,
+        Prompt::TypeCode { .. } => false,
+        Prompt::Interface { .. } => false,
+        _ => true,
+    }
+}
+
+/// Says all that is due before a field, and then the field, and goes past it, whatever the prompt is.
+///
+/// # Errors
+///
+/// Where memory runs out in the walk. What was said before is a beginning of that.
+#[inline(never)]
+fn say_behind_dues<W: Sink>(
     outbox: &mut Outbox,
     sink: &mut W,
     walk: &mut Walk<'_>,

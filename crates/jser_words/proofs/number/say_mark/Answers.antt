@@ -1,5 +1,5 @@
-use Rattle.jser_words.proofs.SaysLemmas.{says_four}
+use Rattle.jser_words.proofs.SaysLemmas.{says_both}
 use Rattle.jser_words.proofs.number.say_mark.Goals as goal
 
 pub returns : goal.returns
-returns g c = says_four _ _ _ _ _ _ _ _ _ _ _ _ _ _ c.say.ensures c.say_decimal.ensures c.say-2.ensures c.say_handle.ensures
+returns g c = says_both _ _ _ _ _ _ _ _ c.say_epoch.ensures c.say_handle.ensures

@@ -4,4 +4,4 @@ use Rattle.jser_words.proofs.telling.say_field.Goals as goal
 pub returns : goal.returns
 returns g c =
     λ told is. says_told _ _ _ _ _ _ _ c.args.walk.now told c.say_wanted.ensures (seen_as _ _ told (c.see.ensures told is) c.in-Some.is)
-    c.epoch.ensures c.count.ensures c.first_owner.ensures c.prompt.ensures
+    c.place_of.ensures.0 c.place_of.ensures.1 c.place_of.ensures.2 c.prompt.ensures

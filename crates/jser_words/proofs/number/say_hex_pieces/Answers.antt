@@ -1,7 +1,7 @@
 use Rattle.std.proofs.Common.{rules}
 use Rattle.jser_words.proofs.LineLemmas.{says_piece}
 use Rattle.jser_words.proofs.SaysLemmas.{says_on}
-use Rattle.jser_words.proofs.number.say_hex.Goals as goal
+use Rattle.jser_words.proofs.number.say_hex_pieces.Goals as goal
 
 pub pieces-preserved : goal.pieces-preserved
 pieces-preserved g c = says_piece _ _ _ _ _ _ _ _ _ _ 64 c.pieces.invariant c.say_hex_piece.ensures (search rules) (search rules)

@@ -1,7 +1,7 @@
 use Rattle.jser_prim.specs.Outgoing.{sink_state}
 use Rattle.jser_shown.specs.Words.{begin_line}
 use Rattle.jser_words.specs.Says.{Saying}
-use Rattle.jser_words.proofs.line.say_line_start.Given as goal
+use Rattle.jser_words.proofs.line.say_many_levels.Given as goal
 
 abbrev pub invariant-runs : goal.invariant-runs
 invariant-runs g l =

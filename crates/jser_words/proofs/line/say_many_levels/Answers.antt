@@ -1,7 +1,7 @@
 use Rattle.std.proofs.Common.{rules, refl}
 use Rattle.jser_words.proofs.LineLemmas.{says_run}
 use Rattle.jser_words.proofs.SaysLemmas.{says_on}
-use Rattle.jser_words.proofs.line.say_line_start.Goals as goal
+use Rattle.jser_words.proofs.line.say_many_levels.Goals as goal
 
 pub runs-preserved : goal.runs-preserved
 runs-preserved g c = says_run _ _ _ _ _ _ _ _ _ _ c.runs.invariant c.say_levels.ensures (search rules) refl

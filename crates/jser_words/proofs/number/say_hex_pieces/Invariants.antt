@@ -2,7 +2,7 @@ use Rattle.std.proofs.Common.{◌++◌, length}
 use Rattle.hex.specs.Hex.{encode_lower}
 use Rattle.jser_prim.specs.Outgoing.{sink_state}
 use Rattle.jser_words.specs.Says.{Saying}
-use Rattle.jser_words.proofs.number.say_hex.Given as goal
+use Rattle.jser_words.proofs.number.say_hex_pieces.Given as goal
 
 abbrev pub invariant-pieces : goal.invariant-pieces
 invariant-pieces g l =

@@ -1,0 +1,62 @@
+//! Strings whose bytes stand for themselves.
+ghost use Rattle.std.specs.Prelude.{◌≡◌, Bool, true, false};
+ghost use Rattle.jser_reading.specs.Labels.{text_field};
+ghost use Rattle.jser_shown.specs.Telling.{goes, settled};
+ghost use Rattle.jser_shown.specs.Words.{end_line, quoted};
+ghost use Rattle.jser_words.specs.Passing.{says_next};
+ghost use Rattle.jser_words.specs.Plain.{ArePlain, IsAscii};
+ghost use Rattle.jser_words.specs.Says.{SaysTo};
+
+use crate::line::say;
+use crate::quote::is_plain;
+use jser_prim::{Outbox, Sink};
+use jser_walk::Walk;
+
+/// Says the text of a string, and the end of its line, and goes past it, where the walk waits for a string and each of
+/// these bytes is a unit that stands for itself. Nothing is done where that is not so, and the answer is false.
+#[inline(always)]
+pub fn say_plain_string<W: Sink>(
+    outbox: &mut Outbox,
+    sink: &mut W,
+    walk: &mut Walk<'_>,
+    bytes: &[u8],
+) -> bool
+    ensures said { result ≡ true → (long : Bool)
+        → SaysTo W.gone_out W.has_failed outbox.old outbox.new sink.old sink.new (λ k. says_next walk.old (text_field long bytes.now) k) }
+    ensures goes { result ≡ true → (long : Bool) → walk.new ≡ goes (settled walk.old) (text_field long bytes.now) }
+    ensures ascii { result ≡ true → IsAscii bytes.now }
+    ensures same { result ≡ false → (outbox.new ≡ outbox.old) × (sink.new ≡ sink.old) × (walk.new ≡ walk.old) }
+{
+    if !are_plain(bytes) {
+        return false;
+    }
+    if !walk.pass_string() {
+        return false;
+    }
+    say_plain_line(outbox, sink, bytes);
+    true
+}
+
+/// Says bytes that stand for themselves as a quoted text, and the end of its line.
+#[inline(always)]
+fn say_plain_line<W: Sink>(outbox: &mut Outbox, sink: &mut W, bytes: &[u8])
+    requires { ArePlain bytes.now }
+    ensures { SaysTo W.gone_out W.has_failed outbox.old outbox.new sink.old sink.new (λ k. quoted bytes.now (end_line k)) }
+{
+    say(outbox, sink, b"\"");
+    say(outbox, sink, bytes);
+    say(outbox, sink, b"\"\n");
+}
+
+/// Whether each of the bytes is a unit that stands for itself.
+#[tactic(auto, using(crate::proofs::PlainLemmas::quoted_more, crate::proofs::PlainLemmas::ascii_more, crate::proofs::PlainLemmas::plain_all))]
+fn are_plain(bytes: &[u8]) -> bool
+    ensures { result ≡ true → ArePlain bytes.now }
+{
+    for byte in bytes {
+        if !is_plain(u16::from(*byte)) {
+            return false;
+        }
+    }
+    true
+}
