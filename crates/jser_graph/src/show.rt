@@ -22,7 +22,8 @@ impl Graph {
     /// Writes the text of `show`, and returns its length, which is exact up to 2^64 - 1 and stays there.
     ///
     /// The bytes are gone along a second time. It takes memory for the table of handles of an epoch with the names of
-    /// classes and fields, for the stack of what is open, and for the units of the longest text.
+    /// classes and fields, for the stack of what is open, and for the units of the longest text, but for strings of units
+    /// that all stand for themselves.
     ///
     /// # Errors
     ///

@@ -1,27 +1,27 @@
 -- Raw values one after another: the machines between them are named here alone, and no code makes them.
-use Rattle.std.proofs.Common.{◌≡◌, ℕ, zero, suc, ◌+◌, ◌-◌, ◌^◌, ◌<◌, ◌≤◌, Bool, true, false, nat_lt, ◌&&◌, IsTrue, List, [], ◌∷◌, length, drop, slice_get, Option, Some, None, option_map, refl, sym, ◌∙◌, ap, ap₂, subst, arith}
+use Rattle.std.proofs.Common.{◌≡◌, ℕ, zero, suc, ◌+◌, ◌-◌, ◌<◌, ◌≤◌, Bool, true, false, nat_lt, ◌&&◌, IsTrue, List, [], ◌∷◌, length, drop, slice_get, Some, option_map, refl, sym, ◌∙◌, ap, ap₂, subst, arith}
 use Rattle.std.specs.List.{list_all}
 use Rattle.std.proofs.lemmas.List.{length-drop}
 use Rattle.jser_table.specs.declared.layer.Layer.{Layer}
 use Rattle.jser_table.specs.declared.section.Section.{Section}
 use Rattle.jser_table.specs.Chains.{has_write_method}
-use Rattle.jser_table.specs.Codes.{PrimCode, size_of, primitive_codes, object_count, raw_size}
+use Rattle.jser_table.specs.Codes.{PrimCode, size_of, primitive_codes, raw_size}
 use Rattle.jser_table.specs.Entries.{TableEntry}
 use Rattle.jser_table.specs.Sections.{HasSection, layer_of, under, IsOn, IsNext, HoldsFor}
 use Rattle.jser_grammar.specs.Parts.{IsBytes}
-use Rattle.jser_reading.specs.Goals.{Part, State, raw_part, prim_parts, value_parts, annotation_if, section_parts}
+use Rattle.jser_reading.specs.Goals.{Part, State, prim_parts, value_parts, annotation_if, section_parts}
 use Rattle.jser_verdict.specs.Gates.{Gate}
 use Rattle.jser_reader.specs.declared.frame.Frame.{Frame}
 use Rattle.jser_reader.specs.declared.frame.Frame.TheVariants as frame
 use Rattle.jser_reader.specs.declared.machine.raws.RawsEnd.{RawsEnd}
 use Rattle.jser_reader.specs.declared.phase.Phase.TheVariants as phase
 use Rattle.jser_reader.specs.declared.tally.Tally.{Tally}
-use Rattle.jser_reader.specs.Frames.{frame_goals, rest_of_section}
+use Rattle.jser_reader.specs.Frames.{frame_goals}
 use Rattle.jser_reader.specs.Fitting.{FrameFits, HasParts, AllFit, LayersFit}
 use Rattle.jser_reader.specs.Handlers.{Comes, moved}
 use Rattle.jser_reader.specs.Passes.{Passes, CanPass}
 use Rattle.jser_reader.specs.RawRuns.{Leads, parts_after, EndsRaws}
-use Rattle.jser_reader.specs.Readers.{Seen, moment_of, Ready}
+use Rattle.jser_reader.specs.Readers.{Seen, Ready}
 use Rattle.jser_reader.specs.Stacks.{tail_of}
 use Rattle.jser_reader.specs.Steps.{before_parts, after_value}
 use Rattle.jser_reader.specs.Takes.{counted_on, farther}

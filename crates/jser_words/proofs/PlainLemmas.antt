@@ -5,11 +5,11 @@ use Rattle.std.specs.List.{flat_map}
 use Rattle.std.proofs.lemmas.List.{take_more, flat_map_more}
 use Rattle.std.proofs.lemmas.Bool.Decides.{nat_tests}
 use Rattle.jser_prim.specs.Outgoing.{Outgoing, SinkState}
-use Rattle.jser_reading.specs.Labels.{StreamField, text_field}
+use Rattle.jser_reading.specs.Labels.{text_field}
 use Rattle.jser_shown.specs.Cues.{Teller}
-use Rattle.jser_shown.specs.Telling.{says, seen, seen_text, first_owner, goes, settled}
+use Rattle.jser_shown.specs.Telling.{says, seen_text, first_owner, goes, settled}
 use Rattle.jser_shown.specs.Words.{end_line, quoted, quoted_unit}
-use Rattle.jser_walk.specs.Prompts.{Prompt, prompt_of, prompt_says, string_prompt}
+use Rattle.jser_walk.specs.Prompts.{prompt_of, prompt_says, string_prompt}
 use Rattle.jser_words.specs.Passing.{says_next, waits}
 use Rattle.jser_words.specs.Plain.{ArePlain}
 use Rattle.jser_words.specs.Says.{Says}
