@@ -19,8 +19,6 @@ mod list;
 mod settings;
 mod show;
 mod status;
-#[cfg(test)]
-mod tests;
 mod whole;
 
 use job::{Job, run};

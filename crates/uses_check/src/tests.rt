@@ -28,6 +28,11 @@ const STRICT: Options = Options { strict: true };
 const LINKED_PAIR: &str = "ACED0005 73 72 0004 \"List\" 69C88A154016AE68 02 0002 49 0005 \"value\"
     4C 0004 \"next\" 74 0006 \"LList;\" 78 70 00000011 73 71007E0000 00000013 70 71007E0003";
 
+/// `LINKED_PAIR`, and a byte that is no tag.
+const LINKED_PAIR_TAIL: &str =
+    "ACED0005 73 72 0004 \"List\" 69C88A154016AE68 02 0002 49 0005 \"value\"
+    4C 0004 \"next\" 74 0006 \"LList;\" 78 70 00000011 73 71007E0000 00000013 70 71007E0003 78";
+
 /// A string, NULL and a reference to the string.
 const ABC_NULL_REF: &str = "ACED0005 74 0003 \"abc\" 70 71007E0000";
 
@@ -49,6 +54,20 @@ const RESET_EPOCHS: &str = "ACED0005 74 0001 \"a\" 79 74 0001 \"b\" 71007E0000";
 /// An `ArrayList` that holds the string `a`.
 const ARRAY_LIST: &str = "ACED0005 73 72 0013 \"java.util.ArrayList\" 7881D21D99C7619D 03 0001
     49 0004 \"size\" 78 70 00000001 77 04 00000001 74 0001 \"a\" 78";
+
+/// What a row wants of both checks: the counts of a stream (bytes, contents, places, depth and handles), or why bytes are
+/// refused, and the two places.
+type Wanted = Result<[u64; 5], (Reason, u64, u64)>;
+
+/// The answer that a row wants.
+fn wanted_answer(wanted: Wanted) -> Result<Report, Stop> {
+    match wanted {
+        Ok([bytes, contents, refs, depth, handles]) => {
+            Ok(report(bytes, contents, refs, depth, handles))
+        }
+        Err((reason, from_byte, to_byte)) => Err(refused(reason, from_byte, to_byte)),
+    }
+}
 
 /// The value of a hexadecimal digit.
 fn digit_of(byte: u8) -> Option<u8> {
@@ -115,42 +134,33 @@ fn answer_in_pieces(
 /// Both checks answer this: of a slice, and of a source that returns all at once, one byte and three bytes a call.
 fn assert_answer(
     rt: &(impl Abort + AllocGlobal),
+    name: &str,
     bytes: &[u8],
     filter: &Filter,
     options: Options,
     answer: Result<Report, Stop>,
 ) {
-    assert_eq!(rt; check_bytes(rt.alloc(), bytes, filter, options), answer);
+    let found = check_bytes(rt.alloc(), bytes, filter, options);
+    assert_eq!(rt; found, answer, "{name}");
     let answer = answer.map_err(CheckFault::Stop);
     let whole = check_reader(rt.alloc(), &mut FromRead::new(bytes), filter, options);
-    assert_eq!(rt; whole, answer);
+    assert_eq!(rt; whole, answer, "{name}");
     for most in [1, 3] {
         let pieced = answer_in_pieces(rt.alloc(), bytes, most, filter, options);
-        assert_eq!(rt; pieced, answer, "{most} bytes a call");
+        assert_eq!(rt; pieced, answer, "{name}: {most} bytes a call");
     }
 }
 
-/// The stream is accepted under the empty filter, with these counts.
-fn assert_accepted(
+/// Both checks of the written stream under this filter answer what the row wants.
+fn assert_row(
     rt: &(impl Abort + AllocGlobal),
+    name: &str,
     text: &str,
-    counts: Report,
-) -> Result<(), Fail> {
-    let filter = Filter::parse(rt.alloc(), "")?;
-    assert_answer(rt, &stream(rt.alloc(), text)?, &filter, LAX, Ok(counts));
-    Ok(())
-}
-
-/// The bytes are refused under the empty filter, for this reason.
-fn assert_refused(
-    rt: &(impl Abort + AllocGlobal),
-    text: &str,
-    reason: Reason,
-    from_byte: u64,
-    to_byte: u64,
-) -> Result<(), Fail> {
-    let filter = Filter::parse(rt.alloc(), "")?;
-    let answer = Err(refused(reason, from_byte, to_byte));
-    assert_answer(rt, &stream(rt.alloc(), text)?, &filter, LAX, answer);
+    filter: &Filter,
+    options: Options,
+    wanted: Wanted,
+) -> Result<(), AllocError> {
+    let bytes = stream(rt.alloc(), text)?;
+    assert_answer(rt, name, &bytes, filter, options, wanted_answer(wanted));
     Ok(())
 }

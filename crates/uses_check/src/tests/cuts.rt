@@ -2,7 +2,7 @@
 
 use crate::tests::{
     ABC_NULL_REF, ARRAY_LIST, ENUM_CONSTANT, INT_ARRAY, LAX, LINKED_PAIR, PROXY, RESET_EPOCHS,
-    answer_in_pieces, assert_answer, refused, report, stream,
+    Wanted, answer_in_pieces, assert_answer, stream, wanted_answer,
 };
 use jser_check::{CheckFault, Reason, Refusal, Report, Stop, check_bytes};
 use jser_filter::Filter;
@@ -21,6 +21,16 @@ fn is_cut_at(answer: Result<Report, Stop>, cut: usize) -> bool {
     }
 }
 
+/// Each beginning of the bytes of this text is a stream, or Truncated at its end.
+fn assert_cuts(rt: &(impl Abort + AllocGlobal), filter: &Filter, text: &str, bytes: &[u8]) {
+    for cut in 0..bytes.len() {
+        let (front, _) = bytes.split_at(cut);
+        let answer = check_bytes(rt.alloc(), front, filter, LAX);
+        assert!(rt; is_cut_at(answer, cut), "{text} cut after {cut} bytes");
+        assert_answer(rt, text, front, filter, LAX, answer);
+    }
+}
+
 #[test]
 fn cuts(rt: HostRuntime) -> Result<(), Fail> {
     let filter = Filter::parse(rt.alloc(), "")?;
@@ -33,32 +43,29 @@ fn cuts(rt: HostRuntime) -> Result<(), Fail> {
         RESET_EPOCHS,
         ARRAY_LIST,
     ] {
-        let bytes = stream(rt.alloc(), text)?;
-        for cut in 0..bytes.len() {
-            let (front, _) = bytes.as_slice().split_at(cut);
-            let answer = check_bytes(rt.alloc(), front, &filter, LAX);
-            assert!(rt; is_cut_at(answer, cut), "cut after {cut} bytes");
-            assert_answer(&rt, front, &filter, LAX, answer);
-        }
+        assert_cuts(&rt, &filter, text, &stream(rt.alloc(), text)?);
     }
     Ok(())
 }
 
-/// Where the linked pair may end, and where its fields are cut.
+/// The row `linked-pair-cuts`: where the linked pair may end, and where its fields are cut.
+const LINKED_PAIR_CUTS: [(usize, Wanted); 6] = [
+    (3, Err((Reason::Truncated, 0, 3))),
+    (4, Ok([4, 0, 0, 0, 0])),
+    (10, Err((Reason::Truncated, 6, 10))),
+    (64, Ok([64, 1, 4, 3, 4])),
+    (65, Err((Reason::Truncated, 65, 65))),
+    (68, Err((Reason::Truncated, 65, 68))),
+];
+
 #[test]
 fn linked_pair_cuts(rt: HostRuntime) -> Result<(), Fail> {
     let bytes = stream(rt.alloc(), LINKED_PAIR)?;
     let filter = Filter::parse(rt.alloc(), "")?;
-    for (cut, answer) in [
-        (3, Err(refused(Reason::Truncated, 0, 3))),
-        (4, Ok(report(4, 0, 0, 0, 0))),
-        (10, Err(refused(Reason::Truncated, 6, 10))),
-        (64, Ok(report(64, 1, 4, 3, 4))),
-        (65, Err(refused(Reason::Truncated, 65, 65))),
-        (68, Err(refused(Reason::Truncated, 65, 68))),
-    ] {
+    for (cut, wanted) in LINKED_PAIR_CUTS {
         let (front, _) = bytes.as_slice().split_at(bytes.len().min(cut));
-        assert_answer(&rt, front, &filter, LAX, answer);
+        let answer = wanted_answer(wanted);
+        assert_answer(&rt, "linked-pair-cuts", front, &filter, LAX, answer);
     }
     Ok(())
 }

@@ -1,13 +1,12 @@
 //! The worked streams under filters, tables of modules and limits.
 
 use crate::tests::{
-    ARRAY_LIST, ENUM_CONSTANT, INT_ARRAY, LAX, LINKED_PAIR, PROXY, STRICT, assert_answer, refused,
-    report, stream,
+    ARRAY_LIST, ENUM_CONSTANT, INT_ARRAY, LAX, LINKED_PAIR, PROXY, STRICT, Wanted, assert_row,
 };
-use jser_check::{FilterGate, Options, Reason, Report, Stop};
+use jser_check::{FilterGate, Options, Reason};
 use jser_filter::{Filter, Modules};
 use jser_reader::{Answer, Gate};
-use std::alloc::AllocGlobal;
+use std::alloc::{AllocGlobal, Global};
 use std::process::Abort;
 use std::test::Fail;
 
@@ -17,117 +16,250 @@ const ARRAYS_OF_ARRAYS: &str = "ACED0005 75 72 0007 \"[[Lx.Y;\"";
 /// A descriptor of the class `A`.
 const CLASS_A: &str = "ACED0005 72 0001 \"A\" 0000000000000001 02 0000 78 70";
 
-/// Both checks of the stream under the filter of this text answer this.
-fn assert_under(
-    rt: &(impl Abort + AllocGlobal),
-    text: &str,
-    stream_text: &str,
-    options: Options,
-    answer: Result<Report, Stop>,
-) -> Result<(), Fail> {
-    let filter = Filter::parse(rt.alloc(), text)?;
-    let bytes = stream(rt.alloc(), stream_text)?;
-    assert_answer(rt, &bytes, &filter, options, answer);
-    Ok(())
-}
+const REJECTED: Wanted = Err((Reason::ClassRejected, 6, 27));
 
-#[test]
-fn names(rt: HostRuntime) -> Result<(), Fail> {
-    let passes = Ok(report(62, 1, 3, 2, 3));
-    assert_under(&rt, "java.util.*;!*", ARRAY_LIST, LAX, passes)?;
-    let rejects = Err(refused(Reason::ClassRejected, 6, 27));
-    assert_under(&rt, "!java.**", ARRAY_LIST, LAX, rejects)?;
-    let rejects = Err(refused(Reason::ClassRejected, 6, 9));
-    assert_under(&rt, "java.lang.Enum;!*", ENUM_CONSTANT, LAX, rejects)?;
-    let rejects = Err(refused(Reason::ClassRejected, 10, 13));
-    assert_under(&rt, "!I", PROXY, LAX, rejects)
-}
+/// The name of a row, the text of the filter, the stream, whether the check is strict, and what is wanted.
+type Row = (&'static str, &'static str, &'static str, Options, Wanted);
 
-#[test]
-fn undecided_name(rt: HostRuntime) -> Result<(), Fail> {
-    let passes = Ok(report(21, 1, 2, 2, 1));
-    assert_under(&rt, "B", CLASS_A, LAX, passes)?;
-    assert_under(&rt, "A", CLASS_A, STRICT, passes)?;
-    let unmatched = Err(refused(Reason::ClassUnmatched, 5, 8));
-    assert_under(&rt, "B", CLASS_A, STRICT, unmatched)
-}
+/// Names under patterns.
+const NAMES: [Row; 7] = [
+    (
+        "array-list, allowed",
+        "java.util.*;!*",
+        ARRAY_LIST,
+        LAX,
+        Ok([62, 1, 3, 2, 3]),
+    ),
+    (
+        "array-list, rejected",
+        "!java.**",
+        ARRAY_LIST,
+        LAX,
+        REJECTED,
+    ),
+    (
+        "enum-constant, rejected",
+        "java.lang.Enum;!*",
+        ENUM_CONSTANT,
+        LAX,
+        Err((Reason::ClassRejected, 6, 9)),
+    ),
+    (
+        "proxy, rejected",
+        "!I",
+        PROXY,
+        LAX,
+        Err((Reason::ClassRejected, 10, 13)),
+    ),
+    ("undecided-name", "B", CLASS_A, LAX, Ok([21, 1, 2, 2, 1])),
+    (
+        "undecided-name, the same name",
+        "A",
+        CLASS_A,
+        STRICT,
+        Ok([21, 1, 2, 2, 1]),
+    ),
+    (
+        "undecided-name, strict",
+        "B",
+        CLASS_A,
+        STRICT,
+        Err((Reason::ClassUnmatched, 5, 8)),
+    ),
+];
 
 /// An array is judged by its elements, and an array of primitives by no pattern, strict or not.
-#[test]
-fn elements(rt: HostRuntime) -> Result<(), Fail> {
-    let rejects = Err(refused(Reason::ClassRejected, 6, 15));
-    assert_under(&rt, "!x.*;*", ARRAYS_OF_ARRAYS, LAX, rejects)?;
-    let ends = Err(refused(Reason::Truncated, 15, 15));
-    assert_under(&rt, "x.*;!*", ARRAYS_OF_ARRAYS, STRICT, ends)?;
-    let passes = Ok(report(35, 1, 2, 2, 2));
-    assert_under(&rt, "!*", INT_ARRAY, LAX, passes)?;
-    assert_under(&rt, "!*", INT_ARRAY, STRICT, passes)
+const ELEMENTS: [Row; 4] = [
+    (
+        "elements, rejected",
+        "!x.*;*",
+        ARRAYS_OF_ARRAYS,
+        LAX,
+        Err((Reason::ClassRejected, 6, 15)),
+    ),
+    (
+        "elements, allowed",
+        "x.*;!*",
+        ARRAYS_OF_ARRAYS,
+        STRICT,
+        Err((Reason::Truncated, 15, 15)),
+    ),
+    (
+        "int-array, no class",
+        "!*",
+        INT_ARRAY,
+        LAX,
+        Ok([35, 1, 2, 2, 2]),
+    ),
+    (
+        "int-array, no class, strict",
+        "!*",
+        INT_ARRAY,
+        STRICT,
+        Ok([35, 1, 2, 2, 2]),
+    ),
+];
+
+const LIMITS: [Row; 5] = [
+    (
+        "linked-pair, maxdepth",
+        "maxdepth=2",
+        LINKED_PAIR,
+        LAX,
+        Err((Reason::DepthExceeded, 63, 64)),
+    ),
+    (
+        "linked-pair, maxrefs",
+        "maxrefs=4",
+        LINKED_PAIR,
+        LAX,
+        Err((Reason::RefsExceeded, 64, 65)),
+    ),
+    (
+        "linked-pair-tail, maxbytes",
+        "maxbytes=68",
+        LINKED_PAIR,
+        LAX,
+        Err((Reason::BytesExceeded, 65, 69)),
+    ),
+    (
+        "int-array, maxarray",
+        "maxarray=1",
+        INT_ARRAY,
+        LAX,
+        Err((Reason::ArrayExceeded, 23, 27)),
+    ),
+    (
+        "linked-pair, the greatest limits",
+        "maxdepth=3;maxrefs=5;maxbytes=69;maxarray=0",
+        LINKED_PAIR,
+        LAX,
+        Ok([69, 2, 5, 3, 4]),
+    ),
+];
+
+/// With no table of modules, a pattern of a module matches nothing.
+const WITHOUT_MODULES: [Row; 1] = [(
+    "module-without-table",
+    "java.base/java.util.*;!*",
+    ARRAY_LIST,
+    LAX,
+    REJECTED,
+)];
+
+/// With the table of modules below.
+const WITH_MODULES: [Row; 4] = [
+    (
+        "module-allows",
+        "java.base/java.util.*;!*",
+        ARRAY_LIST,
+        LAX,
+        Ok([62, 1, 3, 2, 3]),
+    ),
+    (
+        "module-rejects",
+        "!java.base/*;*",
+        ARRAY_LIST,
+        LAX,
+        REJECTED,
+    ),
+    (
+        "module-no-package",
+        "java.base/*;!*",
+        ENUM_CONSTANT,
+        LAX,
+        Err((Reason::ClassRejected, 6, 9)),
+    ),
+    (
+        "module-rejects, another package",
+        "!java.base/*;*",
+        LINKED_PAIR,
+        LAX,
+        Ok([69, 2, 5, 3, 4]),
+    ),
+];
+
+/// The filter of a text, with a table of modules if there is one.
+fn filter_with(alloc: Global, text: &str, modules: Option<&str>) -> Result<Filter, Fail> {
+    let filter = Filter::parse(alloc, text)?;
+    match modules {
+        Some(modules) => Ok(filter.with_modules(Modules::parse(alloc, modules)?)),
+        None => Ok(filter),
+    }
 }
 
-#[test]
-fn limits(rt: HostRuntime) -> Result<(), Fail> {
-    let deep = Err(refused(Reason::DepthExceeded, 63, 64));
-    assert_under(&rt, "maxdepth=2", LINKED_PAIR, LAX, deep)?;
-    let many = Err(refused(Reason::RefsExceeded, 64, 65));
-    assert_under(&rt, "maxrefs=4", LINKED_PAIR, LAX, many)?;
-    let long = Err(refused(Reason::BytesExceeded, 65, 69));
-    assert_under(&rt, "maxbytes=68", LINKED_PAIR, LAX, long)?;
-    let large = Err(refused(Reason::ArrayExceeded, 23, 27));
-    assert_under(&rt, "maxarray=1", INT_ARRAY, LAX, large)?;
-    let passes = Ok(report(69, 2, 5, 3, 4));
-    let greatest = "maxdepth=3;maxrefs=5;maxbytes=69;maxarray=0";
-    assert_under(&rt, greatest, LINKED_PAIR, LAX, passes)
-}
-
-/// Both checks of the stream under this filter with this table of modules answer this.
-fn assert_with_modules(
+/// Both checks answer to each row what it wants, with the table of modules of this text, if there is one.
+fn assert_rows(
     rt: &(impl Abort + AllocGlobal),
-    text: &str,
-    stream_text: &str,
-    answer: Result<Report, Stop>,
+    modules: Option<&str>,
+    rows: &[Row],
 ) -> Result<(), Fail> {
-    let table = Modules::parse(rt.alloc(), "java.util=java.base\napp=shop")?;
-    let filter = Filter::parse(rt.alloc(), text)?.with_modules(table);
-    let bytes = stream(rt.alloc(), stream_text)?;
-    assert_answer(rt, &bytes, &filter, LAX, answer);
+    for (name, text, stream, options, wanted) in rows {
+        let filter = filter_with(rt.alloc(), text, modules)?;
+        assert_row(rt, name, stream, &filter, *options, *wanted)?;
+    }
     Ok(())
 }
 
 #[test]
-fn modules(rt: HostRuntime) -> Result<(), Fail> {
-    let allows = "java.base/java.util.*;!*";
-    let passes = Ok(report(62, 1, 3, 2, 3));
-    assert_with_modules(&rt, allows, ARRAY_LIST, passes)?;
-    let rejects = Err(refused(Reason::ClassRejected, 6, 27));
-    assert_under(&rt, allows, ARRAY_LIST, LAX, rejects)?;
-    assert_with_modules(&rt, "!java.base/*;*", ARRAY_LIST, rejects)?;
-    let rejects = Err(refused(Reason::ClassRejected, 6, 9));
-    assert_with_modules(&rt, "java.base/*;!*", ENUM_CONSTANT, rejects)?;
-    let passes = Ok(report(69, 2, 5, 3, 4));
-    assert_with_modules(&rt, "!java.base/*;*", LINKED_PAIR, passes)
+fn rows_under_filters(rt: HostRuntime) -> Result<(), Fail> {
+    assert_rows(&rt, None, &NAMES)?;
+    assert_rows(&rt, None, &ELEMENTS)?;
+    assert_rows(&rt, None, &LIMITS)?;
+    assert_rows(&rt, None, &WITHOUT_MODULES)?;
+    assert_rows(&rt, Some("java.util=java.base\napp=shop"), &WITH_MODULES)
+}
+
+/// The limits of the gate of a filter: on bytes, depth, places and elements.
+fn assert_limits(
+    rt: &(impl Abort + AllocGlobal),
+    text: &str,
+    [bytes, depth, refs, array]: [u64; 4],
+) -> Result<(), Fail> {
+    let filter = Filter::parse(rt.alloc(), text)?;
+    let gate = FilterGate::new(&filter, LAX);
+    let found = [
+        gate.max_bytes(),
+        u64::from(gate.max_depth()),
+        gate.max_refs(),
+        u64::from(gate.max_array()),
+    ];
+    assert_eq!(rt; found, [bytes, depth, refs, array], "{text}");
+    assert_eq!(rt; gate.max_handles(), 2_139_226_112, "{text}");
+    Ok(())
+}
+
+/// A filter, and its limits as a gate.
+const GATES: [(&str, [u64; 4]); 2] = [
+    ("", [1 << 40, 65_535, (1 << 63) - 1, 0x7FFF_FFFF]),
+    (
+        "a;!b;maxdepth=70000;maxbytes=3;maxrefs=4;maxarray=5",
+        [3, 65_535, 4, 5],
+    ),
+];
+
+#[test]
+fn gate_limits(rt: HostRuntime) -> Result<(), Fail> {
+    for (text, limits) in GATES {
+        assert_limits(&rt, text, limits)?;
+    }
+    Ok(())
 }
 
 #[test]
-fn gate(rt: HostRuntime) -> Result<(), Fail> {
-    let alloc = rt.alloc();
-    let filter = Filter::parse(alloc, "")?;
-    let gate = FilterGate::new(&filter, LAX);
-    assert_eq!(rt; gate.max_bytes(), 1 << 40);
-    assert_eq!(rt; gate.max_depth(), 65_535);
-    assert_eq!(rt; gate.max_refs(), (1 << 63) - 1);
-    assert_eq!(rt; gate.max_array(), 0x7FFF_FFFF);
-    assert_eq!(rt; gate.max_handles(), 2_139_226_112);
-    let text = "a;!b;maxdepth=70000;maxbytes=3;maxrefs=4;maxarray=5";
-    let filter = Filter::parse(alloc, text)?;
-    let gate = FilterGate::new(&filter, STRICT);
-    assert_eq!(rt; gate.max_bytes(), 3);
-    assert_eq!(rt; gate.max_depth(), 65_535);
-    assert_eq!(rt; gate.max_refs(), 4);
-    assert_eq!(rt; gate.max_array(), 5);
-    assert_eq!(rt; gate.name(&[0x61]), Answer::Pass);
-    assert_eq!(rt; gate.name(&[0x62]), Answer::Rejected);
-    assert_eq!(rt; gate.name(&[0x63]), Answer::Unmatched);
-    let gate = FilterGate::new(&filter, LAX);
-    assert_eq!(rt; gate.name(&[0x63]), Answer::Pass);
+fn gate_names(rt: HostRuntime) -> Result<(), Fail> {
+    let filter = Filter::parse(
+        rt.alloc(),
+        "a;!b;maxdepth=70000;maxbytes=3;maxrefs=4;maxarray=5",
+    )?;
+    for (unit, options, answer) in [
+        (0x61, STRICT, Answer::Pass),
+        (0x62, STRICT, Answer::Rejected),
+        (0x63, STRICT, Answer::Unmatched),
+        (0x63, LAX, Answer::Pass),
+    ] {
+        let gate = FilterGate::new(&filter, options);
+        assert_eq!(rt; gate.name(&[unit]), answer, "{unit}");
+    }
     Ok(())
 }
