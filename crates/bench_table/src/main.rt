@@ -50,30 +50,44 @@ const SHAPES: [Shape; 6] = [
 
 fn main(rt: HostRuntime) -> Result<()> {
     let asked = env::args(&rt)?.nth(1);
-    let thousands = match &asked {
-        Some(text) => text.parse::<u16>()?,
-        None => 1,
-    };
-    let calls = u32::from(thousands) * 1000;
-    let texts = time_texts(&rt, rt.alloc(), calls)?;
-    if asked.is_some() {
-        println!(rt; "assign of a text: {texts}")?;
+    match &asked {
+        Some(text) => print_costs(&rt, u32::from(text.parse::<u16>()?) * 1000),
+        None => make_calls(&rt, rt.alloc(), 1000),
     }
+}
+
+/// Makes so many calls of each, and prints nothing.
+fn make_calls(rt: &impl Clock, alloc: Global, calls: u32) -> Result<()> {
+    time_texts(rt, alloc, calls)?;
     for shape in SHAPES {
-        let costs = measure(&rt, rt.alloc(), shape, calls)?;
-        if asked.is_some() {
-            let Shape { classes, step } = shape;
-            let Costs {
-                class,
-                first,
-                section,
-                layer,
-            } = costs;
-            println!(rt;
-                "{classes} classes, one in {step} filled: a class {class}, its sections {first}, the next section {section}, by layers {layer}"
-            )?;
-        }
+        measure(rt, alloc, shape, calls)?;
     }
+    Ok(())
+}
+
+/// Makes so many calls of each, and prints what they cost.
+fn print_costs(rt: &HostRuntime, calls: u32) -> Result<()> {
+    let texts = time_texts(rt, rt.alloc(), calls)?;
+    println!(rt; "assign of a text: {texts}")?;
+    for shape in SHAPES {
+        let costs = measure(rt, rt.alloc(), shape, calls)?;
+        print_shape(rt, shape, costs)?;
+    }
+    Ok(())
+}
+
+/// Prints what the calls cost on a chain of this shape.
+fn print_shape(rt: &HostRuntime, shape: Shape, costs: Costs) -> Result<()> {
+    let Shape { classes, step } = shape;
+    let Costs {
+        class,
+        first,
+        section,
+        layer,
+    } = costs;
+    println!(rt;
+        "{classes} classes, one in {step} filled: a class {class}, its sections {first}, the next section {section}, by layers {layer}"
+    )?;
     Ok(())
 }
 
@@ -93,10 +107,21 @@ struct Costs {
 /// Measures all calls on a chain of this shape.
 fn measure(rt: &impl Clock, alloc: Global, shape: Shape, calls: u32) -> Result<Costs> {
     let mut table = Table::new(alloc, 10_000);
-    let class = time_classes(rt, alloc, &mut table, shape, calls)?;
-    let first = time_first(rt, &table, shape, calls)?;
-    let section = time_sections(rt, &table, shape, calls)?;
-    let layer = time_layers(rt, &table, shape, calls)?;
+    measure_in(rt, alloc, &mut table, shape, calls)
+}
+
+/// The same, in this table.
+fn measure_in(
+    rt: &impl Clock,
+    alloc: Global,
+    table: &mut Table,
+    shape: Shape,
+    calls: u32,
+) -> Result<Costs> {
+    let class = time_classes(rt, alloc, table, shape, calls)?;
+    let first = time_first(rt, table, shape, calls)?;
+    let section = time_sections(rt, table, shape, calls)?;
+    let layer = time_layers(rt, table, shape, calls)?;
     Ok(Costs {
         class,
         first,
@@ -111,9 +136,14 @@ fn tenths_each(rt: &impl Clock, start: Instant, calls: u64) -> Result<u64> {
     Ok(nanos.saturating_mul(10) / calls.max(1))
 }
 
-/// Assigns so many texts.
+/// Assigns so many texts in a new table.
 fn time_texts(rt: &impl Clock, alloc: Global, calls: u32) -> Result<u64> {
     let mut table = Table::new(alloc, calls);
+    time_texts_in(rt, &mut table, calls)
+}
+
+/// Assigns so many texts.
+fn time_texts_in(rt: &impl Clock, table: &mut Table, calls: u32) -> Result<u64> {
     let start = Instant::now(rt)?;
     for _ in 0..calls {
         table.assign(Kind::Text)?;
