@@ -7,6 +7,7 @@ mod page;
 mod ways;
 
 use anyhow::{Result, bail};
+use jser_graph::Graph;
 use std::alloc::Global;
 use std::fs::read;
 use std::rt::Clock;
@@ -19,18 +20,28 @@ fn main(rt: HostRuntime) -> Result<()> {
         bail!("which file?");
     };
     let stream = read(&rt, file.as_str())?;
-    let Some(asked) = env::args(&rt)?.nth(2) else {
-        for (name, way) in WAYS {
-            let speed = best(&rt, rt.alloc(), &stream, way)?;
-            println!(rt; "{name}: {speed}")?;
-        }
-        return Ok(());
-    };
+    let asked = env::args(&rt)?.nth(2);
+    match &asked {
+        Some(way) => read_once(rt.alloc(), &stream, way.as_str()),
+        None => print_speeds(&rt, &stream),
+    }
+}
+
+/// Prints how fast the stream is read in each way.
+fn print_speeds(rt: &HostRuntime, stream: &[u8]) -> Result<()> {
     for (name, way) in WAYS {
-        if name == asked.as_str() {
-            let graph = prepare(rt.alloc(), &stream, way)?;
-            let _ = run(rt.alloc(), &stream, graph.as_ref(), way)?;
-            return Ok(());
+        let speed = best(rt, rt.alloc(), stream, way)?;
+        println!(rt; "{name}: {speed}")?;
+    }
+    Ok(())
+}
+
+/// Reads the stream once in the way of this name.
+fn read_once(alloc: Global, stream: &[u8], asked: &str) -> Result<()> {
+    for (name, way) in WAYS {
+        if name == asked {
+            let graph = prepare(alloc, stream, way)?;
+            return run(alloc, stream, graph.as_ref(), way).map(|_| ());
         }
     }
     bail!("no such way: {asked}")
@@ -52,10 +63,21 @@ impl fmt::Display for Speed {
 /// The best of three speeds.
 fn best(rt: &impl Clock, alloc: Global, stream: &[u8], way: Way) -> Result<Speed> {
     let graph = prepare(alloc, stream, way)?;
+    best_with(rt, alloc, stream, graph.as_ref(), way)
+}
+
+/// The same, with the graph of the stream where this way begins with one.
+fn best_with(
+    rt: &impl Clock,
+    alloc: Global,
+    stream: &[u8],
+    graph: Option<&Graph>,
+    way: Way,
+) -> Result<Speed> {
     let mut best = None;
     for _ in 0..3u8 {
         let start = Instant::now(rt)?;
-        let count = run(alloc, stream, graph.as_ref(), way)?;
+        let count = run(alloc, stream, graph, way)?;
         let micros = u64::try_from(start.elapsed(rt)?.as_micros())?;
         best = best.max(count.map(|count| count / micros.max(1)));
     }

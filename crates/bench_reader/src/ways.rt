@@ -87,20 +87,30 @@ fn write_text(alloc: Global, graph: Option<&Graph>) -> Result<Option<u64>> {
 /// Reads a stream piece by piece.
 fn read_pieces(alloc: Global, stream: &[u8]) -> Result<(), Stop> {
     let mut reader = Reader::new(alloc, OpenGate);
+    skip_pieces(&mut reader, stream)?;
+    reader.finish().map(|_| ())
+}
+
+/// Takes the pieces of a stream, each as one.
+fn skip_pieces(reader: &mut Reader<OpenGate>, stream: &[u8]) -> Result<(), Stop> {
     for piece in stream.chunks(PIECE) {
         reader.skip(piece)?;
     }
-    reader.finish()?;
     Ok(())
 }
 
 /// Reads a stream item by item.
 fn read_items(alloc: Global, stream: &[u8]) -> Result<(), Stop> {
     let mut reader = Reader::new(alloc, OpenGate);
+    take_pieces(&mut reader, stream)?;
+    reader.finish().map(|_| ())
+}
+
+/// Takes the pieces of a stream, each item by item.
+fn take_pieces(reader: &mut Reader<OpenGate>, stream: &[u8]) -> Result<(), Stop> {
     for piece in stream.chunks(PIECE) {
-        take_items(&mut reader, piece)?;
+        take_items(reader, piece)?;
     }
-    reader.finish()?;
     Ok(())
 }
 

@@ -19,6 +19,3 @@ pub use number::say_decimal;
 pub use plain::say_plain_string;
 pub use quote::say_quoted;
 pub use telling::{say_all_due, say_field, say_next};
-
-#[cfg(test)]
-mod tests;

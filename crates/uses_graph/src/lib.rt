@@ -1,5 +1,5 @@
-//! The tests of `jser_graph`: what the graphs of worked streams name, hand out and show. They use nothing but the public
-//! calls, and the library is not proved a second time for them.
+//! The tests of `jser_graph` and of `jser_words`: what the graphs of worked streams name, hand out and show, and the words of
+//! the texts. They use nothing but the public calls, and the libraries are not proved a second time for them.
 #![tactic(auto)]
 
 #[cfg(test)]

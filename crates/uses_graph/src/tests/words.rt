@@ -1,4 +1,4 @@
-//! The example of the README of `jser_words`.
+//! The words of `jser_words`, and the example of its README.
 
 // README: jser_words
 use jser_prim::{Outbox, Sink};
@@ -20,17 +20,34 @@ fn say_fields<W: Sink>(
 }
 // end
 
+mod fields;
+mod single;
+mod streams;
+
+use jser_walk::OwnerNode;
+use std::alloc::AllocGlobal;
+use std::process::Abort;
 use std::test::Fail;
 use test_support::Page;
 
+/// The fields are said as this text, with these owners, to a sink that takes a byte a call.
+fn assert_said(
+    rt: &(impl Abort + AllocGlobal),
+    owners: &[OwnerNode],
+    fields: &[Field<'_>],
+    text: &[u8],
+) -> Result<(), Fail> {
+    let mut page = Page::new(rt.alloc(), 1, 4096);
+    let mut outbox = Outbox::new();
+    let mut walk = Walk::new(rt.alloc(), owners);
+    say_fields(&mut outbox, &mut page, &mut walk, fields)?;
+    outbox.flush(&mut page);
+    assert!(rt; page.bytes.as_slice() == text);
+    Ok(())
+}
+
 #[test]
 fn null_in_words(rt: HostRuntime) -> Result<(), Fail> {
-    let mut page = Page::new(rt.alloc(), 4096, 4096);
-    let mut outbox = Outbox::new();
-    let mut walk = Walk::new(rt.alloc(), &[]);
     let fields = [Field::Header, Field::Tag(0x70)];
-    say_fields(&mut outbox, &mut page, &mut walk, &fields)?;
-    outbox.flush(&mut page);
-    assert!(rt; page.bytes.as_slice() == b"stream version 5\nnull\n".as_slice());
-    Ok(())
+    assert_said(&rt, &[], &fields, b"stream version 5\nnull\n")
 }

@@ -1,10 +1,7 @@
 //! Worked streams, from their fields alone: a walk knows what each is for.
 
-use super::page::Page;
-use crate::{say_all_due, say_next};
-use jser_prim::Outbox;
-use jser_walk::{Field, OwnerNode, Walk};
-use std::process::Abort;
+use super::assert_said;
+use jser_walk::{Field, OwnerNode};
 use std::test::Fail;
 
 /// `List`
@@ -22,19 +19,6 @@ const ARRAY_LIST: [u16; 19] = [
 ];
 /// `size`
 const SIZE: [u16; 4] = [0x73, 0x69, 0x7A, 0x65];
-
-/// The text of these fields, with these owners.
-fn shown(rt: HostRuntime, owners: &[OwnerNode], fields: &[Field<'_>]) -> Result<Vec<u8>, Fail> {
-    let mut page = Page::new(rt.alloc(), 4096);
-    let mut outbox = Outbox::new();
-    let mut walk = Walk::new(rt.alloc(), owners);
-    for field in fields {
-        say_next(&mut outbox, &mut page, &mut walk, *field)?;
-    }
-    say_all_due(&mut outbox, &mut page, &mut walk)?;
-    outbox.flush(&mut page);
-    Ok(page.bytes)
-}
 
 #[test]
 fn linked_pair(rt: HostRuntime) -> Result<(), Fail> {
@@ -88,9 +72,7 @@ object #0.7e0002
         \"next\" = null
 ref #0.7e0003
 ";
-    let text = shown(rt, &owners, &fields)?;
-    assert_eq!(rt; text.as_slice(), want.as_slice());
-    Ok(())
+    assert_said(&rt, &owners, &fields, want)
 }
 
 #[test]
@@ -129,9 +111,7 @@ object #0.7e0001
     note block 4: 00000001
     note text #0.7e0002 \"a\"
 ";
-    let text = shown(rt, &owners, &fields)?;
-    assert_eq!(rt; text.as_slice(), want.as_slice());
-    Ok(())
+    assert_said(&rt, &owners, &fields, want)
 }
 
 #[test]
@@ -160,9 +140,7 @@ array #0.7e0001 length 2
   [0] 00000001
   [1] ffffffff
 ";
-    let text = shown(rt, &owners, &fields)?;
-    assert_eq!(rt; text.as_slice(), want.as_slice());
-    Ok(())
+    assert_said(&rt, &owners, &fields, want)
 }
 
 #[test]
@@ -183,7 +161,5 @@ reset
 text #1.7e0000 \"b\"
 ref #1.7e0000
 ";
-    let text = shown(rt, &[], &fields)?;
-    assert_eq!(rt; text.as_slice(), want.as_slice());
-    Ok(())
+    assert_said(&rt, &[], &fields, want)
 }
