@@ -4,6 +4,8 @@ use crate::settings::{SettingsFault, depth_limit, forget_modules, is_in_module, 
 use crate::texts::{faulty_piece, filter_line, modules_line, sound_lines};
 use jser_filter::{Filter, FilterCause, FilterFault, Modules, ModulesCause, ModulesFault, Verdict};
 use jser_prim::units_of;
+use std::alloc::{AllocError, Global};
+use std::process::Abort;
 use std::test::Fail;
 
 /// Names, and whether the filter of the test below admits them.
@@ -16,12 +18,24 @@ const ADMITTED: [(&str, bool); 6] = [
     ("[V", false),
 ];
 
+/// The filter admits the name, or not.
+fn assert_admits(
+    rt: &impl Abort,
+    alloc: Global,
+    filter: &Filter,
+    name: &str,
+    want: bool,
+) -> Result<(), AllocError> {
+    let units = units_of(alloc, name)?;
+    assert!(rt; admits(filter, &units) == want, "{name}");
+    Ok(())
+}
+
 #[test]
 fn admitted_names(rt: HostRuntime) -> Result<(), Fail> {
     let filter = Filter::parse(rt.alloc(), "java.util.*;!com.**")?;
     for (name, want) in ADMITTED {
-        let units = units_of(rt.alloc(), name)?;
-        assert_eq!(rt; admits(&filter, &units), want, "{name}");
+        assert_admits(&rt, rt.alloc(), &filter, name, want)?;
     }
     Ok(())
 }
@@ -77,13 +91,30 @@ fn loaded_settings(rt: HostRuntime) {
     assert!(rt; admits(&forget_modules(alloc, filter), &name));
 }
 
+/// The package of this one letter is in the module, or not.
+fn assert_in_module(
+    rt: &impl Abort,
+    alloc: Global,
+    table: &Modules,
+    package: u16,
+    module: &str,
+    want: bool,
+) -> Result<(), AllocError> {
+    let units = units_of(alloc, module)?;
+    assert!(rt; is_in_module(table, &[package], &units) == want, "{module}");
+    Ok(())
+}
+
 #[test]
 fn modules_of_packages(rt: HostRuntime) -> Result<(), Fail> {
-    let alloc = rt.alloc();
-    let table = Modules::parse(alloc, "a=shop\nb=till")?;
-    assert!(rt; is_in_module(&table, &[0x61], &units_of(alloc, "shop")?));
-    assert!(rt; !is_in_module(&table, &[0x61], &units_of(alloc, "till")?));
-    assert!(rt; !is_in_module(&table, &[0x63], &units_of(alloc, "till")?));
+    let table = Modules::parse(rt.alloc(), "a=shop\nb=till")?;
+    for (package, module, want) in [
+        (0x61, "shop", true),
+        (0x61, "till", false),
+        (0x63, "till", false),
+    ] {
+        assert_in_module(&rt, rt.alloc(), &table, package, module, want)?;
+    }
     Ok(())
 }
 

@@ -271,16 +271,33 @@ const WITH_MODULES: [Row; 8] = [
     ),
 ];
 
+/// The filter of a text, with the table of modules of the rows above.
+fn filter_with_modules(alloc: Global, text: &str) -> Result<Filter, Fail> {
+    let filter = Filter::parse(alloc, text)?;
+    let table = Modules::parse(alloc, "java.util=java.base\napp=shop")?;
+    Ok(filter.with_modules(table))
+}
+
+/// What the text says of the name with the table, and that it does not allow it without.
+fn compare_with_modules(
+    rt: &impl Abort,
+    alloc: Global,
+    text: &str,
+    name: &[u16],
+    verdict: Verdict,
+) -> Result<(), Fail> {
+    let bare = Filter::parse(alloc, text)?;
+    assert!(rt; judge(&bare, name) != Some(Verdict::Allowed(0)), "{text}");
+    let filter = filter_with_modules(alloc, text)?;
+    assert_eq!(rt; judge(&filter, name), Some(verdict), "{text}");
+    Ok(())
+}
+
 #[test]
 fn filters_with_modules(rt: HostRuntime) -> Result<(), Fail> {
-    let alloc = rt.alloc();
     for (text, name, verdict) in WITH_MODULES {
-        let table = Modules::parse(alloc, "java.util=java.base\napp=shop")?;
-        let name = units_of(alloc, name)?;
-        let bare = Filter::parse(alloc, text)?;
-        assert_ne!(rt; judge(&bare, &name), Some(Verdict::Allowed(0)), "{text}");
-        let filter = bare.with_modules(table);
-        assert_eq!(rt; judge(&filter, &name), Some(verdict), "{text}");
+        let name = units_of(rt.alloc(), name)?;
+        compare_with_modules(&rt, rt.alloc(), text, &name, verdict)?;
     }
     Ok(())
 }

@@ -17,6 +17,7 @@ use jser_table::{
     BodyKind, Class, Codes, Fit, Kind, Layer, LayerKind, Purpose, Sections, Table, TableFault,
 };
 use std::alloc::{AllocError, Global};
+use std::process::Abort;
 use std::test::Fail;
 
 /// A class with an int and a reference.
@@ -58,68 +59,102 @@ fn a_log_line(rt: HostRuntime) -> Result<(), Fail> {
     Ok(())
 }
 
+/// What the callers say of the class that `orders` closes.
+fn compare_class(rt: &impl Abort, table: &Table)
+    requires { IsTrue (is_closed (slice_get table.now.entries 0)) }
+{
+    assert!(rt; names_class(table, 0));
+    assert!(rt; can_be_read(table, 0) && is_serial(table, 0));
+    assert!(rt; !holds_nothing(table, 0) && own_layer(table, 0).is_some());
+}
+
+/// For what that class fits, and another number.
+fn compare_fits(rt: &impl Abort, table: &Table) {
+    for (number, purpose, fit) in [
+        (0, Purpose::Object, Some(Fit::Fits)),
+        (0, Purpose::Array, Some(Fit::WrongClass)),
+        (1, Purpose::Object, None),
+    ] {
+        assert_eq!(rt; class_fit(table, number, purpose), fit, "{number}");
+    }
+}
+
 #[test]
 fn a_class(rt: HostRuntime) -> Result<(), Fail> {
     let table = orders(rt.alloc())?;
-    assert!(rt; names_class(&table, 0));
-    assert_eq!(rt; class_fit(&table, 0, Purpose::Object), Some(Fit::Fits));
-    assert_eq!(rt; class_fit(&table, 0, Purpose::Array), Some(Fit::WrongClass));
-    assert_eq!(rt; class_fit(&table, 1, Purpose::Object), None);
-    assert!(rt; can_be_read(&table, 0));
-    assert!(rt; is_serial(&table, 0));
-    assert!(rt; !holds_nothing(&table, 0));
-    assert!(rt; own_layer(&table, 0).is_some());
+    compare_class(&rt, &table);
+    compare_fits(&rt, &table);
     Ok(())
+}
+
+/// What stands behind that class in a stream.
+fn compare_data(rt: &impl Abort, table: &Table) {
+    let Class::Closed(chain) = table.class_at(0) else {
+        return;
+    };
+    assert_eq!(rt; layout_of(table, chain), Layout::Values);
+    assert!(rt; has_annotation(table, chain));
+    let sections = table.sections(chain);
+    assert!(rt; sections.is_some());
+    if let Some(Sections { first, last: _ }) = sections {
+        assert_eq!(rt; first_size(table, first), Some(4));
+    }
 }
 
 #[test]
 fn its_data(rt: HostRuntime) -> Result<(), Fail> {
     let table = orders(rt.alloc())?;
-    let Class::Closed(chain) = table.class_at(0) else {
-        return Ok(());
-    };
-    assert_eq!(rt; layout_of(&table, chain), Layout::Values);
-    assert!(rt; has_annotation(&table, chain));
-    let sections = table.sections(chain);
-    assert!(rt; sections.is_some());
-    let Some(Sections { first, last: _ }) = sections else {
-        return Ok(());
-    };
-    assert_eq!(rt; first_size(&table, first), Some(4));
+    compare_data(&rt, &table);
     Ok(())
+}
+
+/// Whether a layer is that of an enum, holds fields alone, writes blocks, and loses fields.
+fn compare_flags(rt: &impl Abort, layer: &Layer, wanted: [bool; 4]) {
+    let found = [
+        is_serial_enum(layer),
+        holds_fields_alone(layer),
+        writes_blocks(layer),
+        loses_fields(layer),
+    ];
+    assert_eq!(rt; found, wanted);
 }
 
 #[test]
 fn a_layer(rt: HostRuntime) -> Result<(), Fail> {
-    let alloc = rt.alloc();
-    let layer = order(alloc, 0x12)?;
-    assert!(rt; is_serial_enum(&layer));
-    assert!(rt; holds_fields_alone(&layer));
-    assert!(rt; !writes_blocks(&layer));
-    assert!(rt; !loses_fields(&layer));
-    assert!(rt; loses_fields(&order(alloc, 0x00)?));
-    assert!(rt; writes_blocks(&order(alloc, 0x0C)?));
+    for (flags, wanted) in [
+        (0x12, [true, true, false, false]),
+        (0x00, [false, true, false, true]),
+        (0x0C, [false, true, true, true]),
+    ] {
+        compare_flags(&rt, &order(rt.alloc(), flags)?, wanted);
+    }
     Ok(())
 }
 
 #[test]
 fn its_codes(rt: HostRuntime) -> Result<(), Fail> {
-    let alloc = rt.alloc();
-    assert_eq!(rt; first_code(&order(alloc, 0x12)?.codes), Some(b'I'));
-    let codes = through_codes(vec![in alloc; b'J', b'[']?);
-    assert_eq!(rt; codes.as_slice(), [b'J', b'['].as_slice());
+    let layer = order(rt.alloc(), 0x12)?;
+    assert_eq!(rt; first_code(&layer.codes), Some(b'I'));
     assert!(rt; is_raw(b'J') && !is_raw(b'['));
     Ok(())
 }
 
 #[test]
+fn codes_given_back(rt: HostRuntime) -> Result<(), Fail> {
+    let codes = through_codes(vec![in rt.alloc(); b'J', b'[']?);
+    assert!(rt; codes.as_slice() == [b'J', b'['].as_slice());
+    Ok(())
+}
+
+#[test]
 fn class_names(rt: HostRuntime) {
-    assert!(rt; is_name(&[0x5B, 0x49]) && !is_name(&[0x5B, 0x56]));
-    assert_eq!(rt;
-        kind_of(&[0x5B, 0x49]),
-        LayerKind::Array(BodyKind::Prim(b'I'))
-    );
-    assert_eq!(rt; kind_of(&[0x5B, 0x56]), LayerKind::Other);
+    for (name, is, kind) in [
+        ([0x5B, 0x49], true, LayerKind::Array(BodyKind::Prim(b'I'))),
+        ([0x5B, 0x56], false, LayerKind::Other),
+    ] {
+        assert!(rt; is_name(&name) == is);
+        assert_eq!(rt; kind_of(&name), kind);
+    }
     assert_eq!(rt; kind_of_judged(&[0x41]), LayerKind::Other);
     assert!(rt; !is_string(&[0x41]));
 }

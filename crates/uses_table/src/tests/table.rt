@@ -99,14 +99,19 @@ fn table_full(rt: HostRuntime) {
     assert!(rt; matches!(table.get(1), Some(Entry::Pending)));
 }
 
-#[test]
-fn table_full_and_close(rt: HostRuntime) -> Result<(), Fail> {
-    let mut table = full_table(&rt);
-    let layer = make_layer(rt.alloc(), LayerKind::Other, 0x02, &[INT])?;
-    assert!(rt; try_close(&mut table, 1, layer, None));
-    assert_eq!(rt; layers_at(&table, 1), Some(1));
+/// Closes the class of a full table.
+fn close_in_full(rt: &impl Abort, table: &mut Table, layer: Layer) {
+    assert!(rt; try_close(table, 1, layer, None));
+    assert_eq!(rt; layers_at(table, 1), Some(1));
     assert!(rt; matches!(table.get(1), Some(Entry::Closed(_))));
     assert!(rt; table.get(2).is_none());
+}
+
+#[test]
+fn table_full_and_close(rt: HostRuntime) -> Result<(), Fail> {
+    let layer = make_layer(rt.alloc(), LayerKind::Other, 0x02, &[INT])?;
+    let mut table = full_table(&rt);
+    close_in_full(&rt, &mut table, layer);
     is_new_when_reset(&rt, &mut table);
     Ok(())
 }
@@ -119,14 +124,18 @@ fn is_new_when_reset(rt: &impl Abort, table: &mut Table) {
     assert!(rt; matches!(table.get(0), Some(Entry::Other)));
 }
 
+/// An entry whose class is open is no parent of its own.
+fn pending_is_no_parent(rt: &impl Abort, table: &mut Table, layer: Layer) -> Result<(), Fail> {
+    let number = table.assign(Kind::Pending)?;
+    assert!(rt; !try_close(table, number, layer, Some(number)));
+    Ok(())
+}
+
 #[test]
 fn a_pending_entry_is_no_parent(rt: HostRuntime) -> Result<(), Fail> {
-    let alloc = rt.alloc();
-    let mut table = Table::new(alloc, 9);
-    let number = table.assign(Kind::Pending)?;
-    let layer = make_layer(alloc, LayerKind::Other, 0x02, &[])?;
-    assert!(rt; !try_close(&mut table, number, layer, Some(number)));
-    Ok(())
+    let layer = make_layer(rt.alloc(), LayerKind::Other, 0x02, &[])?;
+    let mut table = Table::new(rt.alloc(), 9);
+    pending_is_no_parent(&rt, &mut table, layer)
 }
 
 const INTS: LayerKind = LayerKind::Array(BodyKind::Prim(INT));
@@ -152,13 +161,12 @@ const FITS: [(LayerKind, u8, Purpose, Fit); 12] = [
     (LayerKind::Other, 0x12, Purpose::EnumConst, Fit::Fits),
 ];
 
-#[test]
-fn fit_of_one_class(rt: HostRuntime) -> Result<(), Fail> {
-    let mut table = Table::new(rt.alloc(), 12);
+/// Adds each class to the table, and compares how it fits.
+fn compare_fits(rt: &(impl Abort + AllocGlobal), table: &mut Table) -> Result<(), Fail> {
     for (kind, flags, purpose, fit) in FITS {
-        let number = add_class(&rt, &mut table, kind, flags, None)?;
+        let number = add_class(rt, table, kind, flags, None)?;
         assert_eq!(rt;
-            fit_at(&table, number, purpose),
+            fit_at(table, number, purpose),
             Some(fit),
             "{kind:?} with flags {flags} as {purpose:?}"
         );
@@ -167,16 +175,25 @@ fn fit_of_one_class(rt: HostRuntime) -> Result<(), Fail> {
 }
 
 #[test]
+fn fit_of_one_class(rt: HostRuntime) -> Result<(), Fail> {
+    let mut table = Table::new(rt.alloc(), 12);
+    compare_fits(&rt, &mut table)
+}
+
+/// A serializable class over one that is not.
+fn add_over_external(rt: &(impl Abort + AllocGlobal), table: &mut Table) -> Result<u32, Fail> {
+    let parent = add_class(rt, table, LayerKind::Other, 0x0C, None)?;
+    add_class(rt, table, LayerKind::Other, 0x02, Some(parent))
+}
+
+#[test]
 fn fit_parent_not_serial(rt: HostRuntime) -> Result<(), Fail> {
     let mut table = Table::new(rt.alloc(), 9);
-    let parent = add_class(&rt, &mut table, LayerKind::Other, 0x0C, None)?;
-    let number = add_class(&rt, &mut table, LayerKind::Other, 0x02, Some(parent))?;
-    assert_eq!(rt;
-        fit_at(&table, number, Purpose::Object),
-        Some(Fit::NotSerializable)
-    );
-    assert_eq!(rt; all_serial_at(&table, number), Some(false));
-    assert_eq!(rt; layers_at(&table, number), Some(2));
+    let number = add_over_external(&rt, &mut table)?;
+    let fit = fit_at(&table, number, Purpose::Object);
+    assert!(rt; fit == Some(Fit::NotSerializable), "{fit:?}");
+    assert!(rt; all_serial_at(&table, number) == Some(false));
+    assert!(rt; layers_at(&table, number) == Some(2));
     Ok(())
 }
 
@@ -257,24 +274,27 @@ fn kind_of(number: u32) -> Kind {
     }
 }
 
+/// Assigns the handle with this number; where its growth is refused the table is as it was, and it is assigned again.
+fn assign_again(rt: &impl Abort, table: &mut Table, number: u32) {
+    let mut answer = table.assign(kind_of(number));
+    if answer == Err(TableFault::OutOfMemory) {
+        assert!(rt; table.count() == number);
+        answer = table.assign(kind_of(number));
+    }
+    assert_eq!(rt; answer, Ok(number));
+}
+
 /// Run with each allocation refused in turn: a refused growth leaves the table as it was, and the next
 /// call succeeds.
 #[test]
 fn a_refused_growth_changes_nothing(rt: HostRuntime) {
     let mut table = Table::new(rt.alloc(), 200);
     for number in 0..200u32 {
-        let mut answer = table.assign(kind_of(number));
-        if answer == Err(TableFault::OutOfMemory) {
-            assert_eq!(rt; table.count(), number);
-            answer = table.assign(kind_of(number));
-        }
-        assert_eq!(rt; answer, Ok(number));
+        assign_again(&rt, &mut table, number);
     }
     for number in 0..200u32 {
-        assert_eq!(rt;
-            is_pending(&table, number),
-            kind_of(number) == Kind::Pending
-        );
+        let wanted = kind_of(number) == Kind::Pending;
+        assert!(rt; is_pending(&table, number) == wanted, "{number}");
     }
     assert_eq!(rt; table.assign(Kind::Text), Err(TableFault::Full));
 }

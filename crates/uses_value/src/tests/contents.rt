@@ -6,7 +6,7 @@ use crate::tests::trees::{
     plain, proxy, reset_epochs, superclass_first,
 };
 use jser_value::{Body, ClassPlace, Content, Contents, Desc, Value, ValueCause, ValueFault};
-use std::alloc::{AllocError, Global};
+use std::alloc::{AllocError, AllocGlobal, Global};
 use std::process::Abort;
 use std::test::Fail;
 
@@ -94,23 +94,29 @@ fn assert_answer(
     }
 }
 
+/// The list of the row of this name is accepted.
+fn assert_accepted(
+    rt: &(impl Abort + AllocGlobal),
+    name: &str,
+    list: Build,
+) -> Result<(), AllocError> {
+    let list = list?;
+    assert!(rt; Contents::new(rt.alloc(), list).is_ok(), "{name}");
+    Ok(())
+}
+
 #[test]
 fn worked_streams_are_accepted(rt: HostRuntime) -> Result<(), Fail> {
     let alloc = rt.alloc();
-    let lists = vec![in alloc;
-        abc_null_ref(alloc)?,
-        linked_pair(alloc)?,
-        int_array(alloc)?,
-        enum_constant(alloc)?,
-        proxy(alloc)?,
-        reset_epochs(alloc)?,
-        external_over_serial(alloc)?,
-        array_list(alloc)?,
-        superclass_first(alloc)?,
-    ]?;
-    for (number, list) in lists.into_iter().enumerate() {
-        assert!(rt; Contents::new(alloc, list).is_ok(), "list {number}");
-    }
+    assert_accepted(&rt, "abc-null-ref", abc_null_ref(alloc))?;
+    assert_accepted(&rt, "linked-pair", linked_pair(alloc))?;
+    assert_accepted(&rt, "int-array", int_array(alloc))?;
+    assert_accepted(&rt, "enum-constant", enum_constant(alloc))?;
+    assert_accepted(&rt, "proxy", proxy(alloc))?;
+    assert_accepted(&rt, "reset-epochs", reset_epochs(alloc))?;
+    assert_accepted(&rt, "external-over-serial", external_over_serial(alloc))?;
+    assert_accepted(&rt, "array-list", array_list(alloc))?;
+    assert_accepted(&rt, "superclass-first", superclass_first(alloc))?;
     Ok(())
 }
 
@@ -122,35 +128,49 @@ fn tree_empty(rt: HostRuntime) {
 
 #[test]
 fn tree_nest_999(rt: HostRuntime) -> Result<(), Fail> {
-    let alloc = rt.alloc();
-    assert!(rt; Contents::new(alloc, nest(alloc, 999, Value::Null)?).is_ok());
+    let list = nest(rt.alloc(), 999, Value::Null);
+    assert_accepted(&rt, "tree-nest-999", list)?;
+    Ok(())
+}
+
+/// The list is refused for this cause, or for want of memory, and handed back.
+fn assert_refused(
+    rt: &(impl Abort + AllocGlobal),
+    list: Build,
+    same: Build,
+    cause: ValueCause,
+) -> Result<(), AllocError> {
+    let same = same?;
+    assert_answer(rt, rt.alloc(), list?, &same, Some(cause));
     Ok(())
 }
 
 #[test]
 fn tree_nest_1000(rt: HostRuntime) -> Result<(), Fail> {
-    let alloc = rt.alloc();
-    let list = nest(alloc, 1000, Value::Null)?;
-    let same = nest(alloc, 1000, Value::Null)?;
-    assert_answer(&rt, alloc, list, &same, Some(ValueCause::TooDeep));
+    let list = nest(rt.alloc(), 1000, Value::Null);
+    let same = nest(rt.alloc(), 1000, Value::Null);
+    assert_refused(&rt, list, same, ValueCause::TooDeep)?;
     Ok(())
 }
 
 #[test]
 fn tree_deep_and_wrong(rt: HostRuntime) -> Result<(), Fail> {
-    let alloc = rt.alloc();
-    let list = nest(alloc, 1000, Value::Back(5000))?;
-    let same = nest(alloc, 1000, Value::Back(5000))?;
-    assert_answer(&rt, alloc, list, &same, Some(ValueCause::TooDeep));
+    let list = nest(rt.alloc(), 1000, Value::Back(5000));
+    let same = nest(rt.alloc(), 1000, Value::Back(5000));
+    assert_refused(&rt, list, same, ValueCause::TooDeep)?;
     Ok(())
+}
+
+/// A reference to a handle that is not assigned.
+fn reference_alone(alloc: Global) -> Build {
+    Ok(vec![in alloc; Content::Value(Value::Back(0))]?)
 }
 
 #[test]
 fn tree_not_right_reference(rt: HostRuntime) -> Result<(), Fail> {
-    let alloc = rt.alloc();
-    let list = vec![in alloc; Content::Value(Value::Back(0))]?;
-    let same = vec![in alloc; Content::Value(Value::Back(0))]?;
-    assert_answer(&rt, alloc, list, &same, Some(ValueCause::NotRight));
+    let list = reference_alone(rt.alloc());
+    let same = reference_alone(rt.alloc());
+    assert_refused(&rt, list, same, ValueCause::NotRight)?;
     Ok(())
 }
 
@@ -169,15 +189,9 @@ fn reset_inside(alloc: Global) -> Build {
 
 #[test]
 fn tree_not_right_reset(rt: HostRuntime) -> Result<(), Fail> {
-    let alloc = rt.alloc();
-    let same = reset_inside(alloc)?;
-    assert_answer(
-        &rt,
-        alloc,
-        reset_inside(alloc)?,
-        &same,
-        Some(ValueCause::NotRight),
-    );
+    let list = reset_inside(rt.alloc());
+    let same = reset_inside(rt.alloc());
+    assert_refused(&rt, list, same, ValueCause::NotRight)?;
     Ok(())
 }
 

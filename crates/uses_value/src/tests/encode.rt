@@ -96,20 +96,37 @@ fn write_fails_anywhere(rt: HostRuntime) -> Result<(), Fail> {
     Ok(())
 }
 
-/// Small parts go out together, and a long block as it is.
+/// The contents go out as so many bytes, in so many calls.
+fn goes_out_in(
+    rt: &(impl Abort + AllocGlobal),
+    contents: &Contents,
+    bytes: u64,
+    calls: usize,
+) -> Result<(), EncodeFault> {
+    let mut page = Page::new(rt.alloc(), 10_000, 10_000);
+    let count = encode(contents, &mut page)?;
+    assert!(rt; count == bytes && page.calls == calls);
+    Ok(())
+}
+
+/// A block of 5,000 bytes.
+fn long_block(alloc: Global) -> Build {
+    let bytes = vec![in alloc; 7u8; 5000]?;
+    Ok(vec![in alloc; Content::Block { long: true, bytes }]?)
+}
+
+/// Small parts go out together.
 #[test]
 fn sensible_pieces(rt: HostRuntime) -> Result<(), Fail> {
     let contents = contents_of(rt.alloc(), trees::linked_pair(rt.alloc()))?;
-    let mut page = Page::new(rt.alloc(), 1000, 1000);
-    encode(&contents, &mut page)?;
-    assert_eq!(rt; page.calls, 1);
-    let block = Content::Block {
-        long: true,
-        bytes: vec![in rt.alloc(); 7u8; 5000]?,
-    };
-    let contents = contents_of(rt.alloc(), Ok(vec![in rt.alloc(); block]?))?;
-    let mut page = Page::new(rt.alloc(), 10_000, 10_000);
-    assert_eq!(rt; encode(&contents, &mut page)?, 5009);
-    assert_eq!(rt; page.calls, 2);
+    goes_out_in(&rt, &contents, 69, 1)?;
+    Ok(())
+}
+
+/// A long block goes out as it is.
+#[test]
+fn long_block_as_it_is(rt: HostRuntime) -> Result<(), Fail> {
+    let contents = contents_of(rt.alloc(), long_block(rt.alloc()))?;
+    goes_out_in(&rt, &contents, 5009, 2)?;
     Ok(())
 }

@@ -51,28 +51,48 @@ fn cost_of_judge(
     Ok(spent / (2 * u128::from(CALLS)))
 }
 
-#[test]
-fn cost_of_many_exact_names(rt: HostRuntime) -> Result<(), Fail> {
-    let alloc = rt.alloc();
+/// The filter of many exact names.
+fn filter_of_names(alloc: Global) -> Result<Filter, Fail> {
+    let text = exact_names(alloc)?;
+    Ok(Filter::parse(alloc, &text)?)
+}
+
+/// The nanoseconds of a call for the last of those names and for one that is lacking.
+fn cost_for_names(rt: &(impl Abort + Clock), alloc: Global, filter: &Filter) -> Result<u128, Fail> {
     let last = units_of(alloc, "com.example.shop.model.Item1999")?;
     let lacking = units_of(alloc, "com.example.shop.model.Item2000")?;
-    let text = exact_names(alloc)?;
-    let filter = Filter::parse(alloc, &text)?;
-    let spent = cost_of_judge(&rt, &filter, &last, &lacking)?;
+    Ok(cost_of_judge(rt, filter, &last, &lacking)?)
+}
+
+#[test]
+fn cost_of_many_exact_names(rt: HostRuntime) -> Result<(), Fail> {
+    let filter = filter_of_names(rt.alloc())?;
+    let spent = cost_for_names(&rt, rt.alloc(), &filter)?;
     eprintln!(rt; "judge among {NAMES} exact names: {spent} ns a call")?;
+    Ok(())
+}
+
+/// The table of this text, and the milliseconds in which it was read.
+fn timed_table(rt: &impl Clock, alloc: Global, text: &str) -> Result<(Modules, u128), Fail> {
+    let start = Instant::now(rt)?;
+    let table = Modules::parse(alloc, text)?;
+    let spent = start.elapsed(rt)?.as_millis();
+    Ok((table, spent))
+}
+
+/// The table has its last line.
+fn assert_last_line(rt: &impl Abort, alloc: Global, table: &Modules) -> Result<(), AllocError> {
+    let package = units_of(alloc, "com.example.part49999")?;
+    let module = units_of(alloc, "shop49999")?;
+    assert!(rt; table.get(&package) == Some(module.as_slice()));
     Ok(())
 }
 
 #[test]
 fn cost_of_a_long_table(rt: HostRuntime) -> Result<(), Fail> {
-    let alloc = rt.alloc();
-    let text = many_lines(alloc)?;
-    let start = Instant::now(&rt)?;
-    let table = Modules::parse(alloc, &text)?;
-    let spent = start.elapsed(&rt)?.as_millis();
-    let package = units_of(alloc, "com.example.part49999")?;
-    let module = units_of(alloc, "shop49999")?;
-    assert_eq!(rt; table.get(&package), Some(module.as_slice()));
+    let text = many_lines(rt.alloc())?;
+    let (table, spent) = timed_table(&rt, rt.alloc(), &text)?;
+    assert_last_line(&rt, rt.alloc(), &table)?;
     eprintln!(rt; "a table of {LINES} lines: read in {spent} ms")?;
     Ok(())
 }

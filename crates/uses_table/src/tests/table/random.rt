@@ -144,6 +144,12 @@ fn close_both(
     mark: Mark,
     parent: Option<usize>,
 ) -> Result<(), Fail> {
+    let own = u32::try_from(number)?;
+    let above = match parent {
+        None => None,
+        Some(parent) => Some(u32::try_from(parent)?),
+    };
+    let chain = chain_under(alloc, expected.as_slice(), parent, mark)?;
     let codes = [b'L'; 2];
     let layer = make_layer(
         alloc,
@@ -151,12 +157,7 @@ fn close_both(
         mark.flags,
         &codes[..mark.codes.min(2)],
     )?;
-    let chain = chain_under(alloc, expected.as_slice(), parent, mark)?;
-    let parent = match parent {
-        None => None,
-        Some(parent) => Some(u32::try_from(parent)?),
-    };
-    assert!(rt; try_close(table, u32::try_from(number)?, layer, parent));
+    assert!(rt; try_close(table, own, layer, above));
     if let Some(entry) = expected.get_mut(number) {
         *entry = Expected::Closed(chain);
     }

@@ -80,11 +80,11 @@ fn add(
     class: Plain,
 ) -> Result<(), Fail> {
     let number = table.assign(Kind::Pending)?;
-    let layer = make_layer(alloc, LayerKind::Other, class.flags, class.fields.codes())?;
     let parent = match class.parent {
         None => None,
         Some(parent) => Some(u32::try_from(parent)?),
     };
+    let layer = make_layer(alloc, LayerKind::Other, class.flags, class.fields.codes())?;
     assert!(rt; try_close(table, number, layer, parent));
     classes.push(class)?;
     Ok(())
