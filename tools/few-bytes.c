@@ -29,7 +29,7 @@ static size_t allowed(int device, size_t count) {
     return room < most ? room : most;
 }
 
-static ssize_t pass(long call, int device, const void *bytes, size_t count) {
+static ssize_t pass(long call, int device, void *bytes, size_t count) {
     ssize_t passed;
     if (device < 0 || device >= DEVICES || count == 0) {
         return syscall(call, device, bytes, count);
@@ -49,5 +49,5 @@ ssize_t read(int device, void *bytes, size_t count) {
 }
 
 ssize_t write(int device, const void *bytes, size_t count) {
-    return pass(SYS_write, device, bytes, count);
+    return pass(SYS_write, device, (void *)bytes, count);
 }

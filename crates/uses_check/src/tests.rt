@@ -72,8 +72,8 @@ fn wanted_answer(wanted: Wanted) -> Result<Report, Stop> {
 /// The value of a hexadecimal digit.
 fn digit_of(byte: u8) -> Option<u8> {
     match byte {
-        b'0'..=b'9' => Some(byte - b'0'),
-        b'A'..=b'F' => Some(byte - b'A' + 10),
+        b'0'..=b'9' => byte.checked_sub(b'0'),
+        b'A'..=b'F' => byte.checked_sub(b'A' - 10),
         _ => None,
     }
 }

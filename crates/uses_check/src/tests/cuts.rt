@@ -132,14 +132,23 @@ fn assert_replaced(
     Ok(())
 }
 
+/// Each byte of the stream, replaced by each byte.
+fn assert_each_replaced(
+    rt: &(impl Abort + AllocGlobal),
+    filter: &Filter,
+    bytes: &[u8],
+) -> Result<(), Fail> {
+    for at in 0..bytes.len() {
+        assert_replaced(rt, filter, bytes, at)?;
+    }
+    Ok(())
+}
+
 #[test]
 fn replaced_bytes(rt: HostRuntime) -> Result<(), Fail> {
     let filter = Filter::parse(rt.alloc(), "")?;
     for text in [LINKED_PAIR, ENUM_CONSTANT, ARRAY_LIST] {
-        let bytes = stream(rt.alloc(), text)?;
-        for at in 0..bytes.len() {
-            assert_replaced(&rt, &filter, &bytes, at)?;
-        }
+        assert_each_replaced(&rt, &filter, &stream(rt.alloc(), text)?)?;
     }
     Ok(())
 }

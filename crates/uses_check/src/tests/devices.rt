@@ -13,26 +13,26 @@ use test_support::Pieces;
 /// to there.
 fn assert_failing(
     rt: &(impl Abort + AllocGlobal),
+    filter: &Filter,
     bytes: &[u8],
     most: usize,
     answer: Result<Report, CheckFault>,
-) -> Result<(), Fail> {
-    let filter = Filter::parse(rt.alloc(), "")?;
+) {
     let mut source = Pieces::failing(bytes, most);
-    let found = check_reader(rt.alloc(), &mut source, &filter, LAX);
+    let found = check_reader(rt.alloc(), &mut source, filter, LAX);
     assert_eq!(rt; found, answer);
-    assert_eq!(rt; source.failed(), found == Err(CheckFault::ReadFault));
-    Ok(())
+    assert!(rt; source.failed() == (found == Err(CheckFault::ReadFault)));
 }
 
 /// A read that fails after any number of bytes is told, and never taken for the end.
 #[test]
 fn read_fails_anywhere(rt: HostRuntime) -> Result<(), Fail> {
+    let filter = Filter::parse(rt.alloc(), "")?;
     let bytes = stream(rt.alloc(), LINKED_PAIR)?;
     for count in 0..70 {
         for most in [1, 1000] {
             let (front, _) = bytes.as_slice().split_at(count.min(bytes.len()));
-            assert_failing(&rt, front, most, Err(CheckFault::ReadFault))?;
+            assert_failing(&rt, &filter, front, most, Err(CheckFault::ReadFault));
         }
     }
     Ok(())
@@ -41,11 +41,13 @@ fn read_fails_anywhere(rt: HostRuntime) -> Result<(), Fail> {
 /// A refusal that the bytes before a failed read decide is told in place of the failure.
 #[test]
 fn read_fails_after_refusal(rt: HostRuntime) -> Result<(), Fail> {
+    let filter = Filter::parse(rt.alloc(), "")?;
     let bytes = stream(rt.alloc(), LINKED_PAIR_TAIL)?;
     let (front, _) = bytes.as_slice().split_at(bytes.len().min(69));
-    assert_failing(&rt, front, 7, Err(CheckFault::ReadFault))?;
+    assert_failing(&rt, &filter, front, 7, Err(CheckFault::ReadFault));
     let answer = Err(CheckFault::Stop(refused(Reason::BadTag, 69, 70)));
-    assert_failing(&rt, &bytes, 7, answer)
+    assert_failing(&rt, &filter, &bytes, 7, answer);
+    Ok(())
 }
 
 /// `LINKED_PAIR_TAIL`, and 200,000 zeros.
@@ -57,18 +59,20 @@ fn tail_and_zeros(alloc: Global) -> Result<Vec<u8>, AllocError> {
     Ok(bytes)
 }
 
+/// The bytes are refused at their 70th, and few of those after it are taken.
+fn assert_tail_is_left(rt: &(impl Abort + AllocGlobal), filter: &Filter, bytes: &[u8]) {
+    let mut source = Pieces::new(bytes, bytes.len());
+    let found = check_reader(rt.alloc(), &mut source, filter, LAX);
+    let answer = Err(CheckFault::Stop(refused(Reason::BadTag, 69, 70)));
+    assert_eq!(rt; found, answer);
+    let taken = bytes.len().saturating_sub(source.left());
+    assert!(rt; taken <= 65_605, "{taken} bytes");
+}
+
 /// After a refusal nothing is read but the rest of the read that has the deciding byte.
 #[test]
 fn tail_then_zeros(rt: HostRuntime) -> Result<(), Fail> {
     let filter = Filter::parse(rt.alloc(), "")?;
-    let bytes = tail_and_zeros(rt.alloc())?;
-    let mut source = Pieces::new(&bytes, bytes.len());
-    let found = check_reader(rt.alloc(), &mut source, &filter, LAX);
-    assert_eq!(rt;
-        found,
-        Err(CheckFault::Stop(refused(Reason::BadTag, 69, 70)))
-    );
-    let taken = bytes.len().saturating_sub(source.left());
-    assert!(rt; taken <= 65_605, "{taken} bytes");
+    assert_tail_is_left(&rt, &filter, &tail_and_zeros(rt.alloc())?);
     Ok(())
 }

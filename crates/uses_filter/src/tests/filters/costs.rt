@@ -3,6 +3,7 @@ use super::judge;
 use jser_filter::{Filter, Modules, Verdict};
 use jser_prim::units_of;
 use std::alloc::{AllocError, Global};
+use std::fmt::Write;
 use std::io;
 use std::process::Abort;
 use std::test::Fail;
@@ -14,23 +15,33 @@ const LINES: u32 = 50_000;
 
 const CALLS: u32 = 200_000;
 
+/// Appends an exact name and the end of its piece.
+fn push_name(text: &mut String, number: u32) -> Result<(), AllocError> {
+    write!(text, "com.example.shop.model.Item{number};")?;
+    Ok(())
+}
+
 /// A filter's text of many exact names, and `!*` at its end.
 fn exact_names(alloc: Global) -> Result<String, AllocError> {
     let mut text = String::new(alloc);
     for number in 0..NAMES {
-        let name = format!(in alloc; "com.example.shop.model.Item{number};")?;
-        text.push_str(&name)?;
+        push_name(&mut text, number)?;
     }
     text.push_str("!*")?;
     Ok(text)
+}
+
+/// Appends a line for one package.
+fn push_line(text: &mut String, number: u32) -> Result<(), AllocError> {
+    write!(text, "com.example.part{number}=shop{number}\n")?;
+    Ok(())
 }
 
 /// A table with many lines.
 fn many_lines(alloc: Global) -> Result<String, AllocError> {
     let mut text = String::new(alloc);
     for number in 0..LINES {
-        let line = format!(in alloc; "com.example.part{number}=shop{number}\n")?;
-        text.push_str(&line)?;
+        push_line(&mut text, number)?;
     }
     Ok(text)
 }
