@@ -62,11 +62,17 @@ type Wanted = Result<[u64; 5], (Reason, u64, u64)>;
 /// The answer that a row wants.
 fn wanted_answer(wanted: Wanted) -> Result<Report, Stop> {
     match wanted {
-        Ok([bytes, contents, refs, depth, handles]) => {
-            Ok(report(bytes, contents, refs, depth, handles))
-        }
-        Err((reason, from_byte, to_byte)) => Err(refused(reason, from_byte, to_byte)),
+        Ok(counts) => Ok(counted(counts)),
+        Err(fault) => Err(refused_at(fault)),
     }
+}
+
+fn counted([bytes, contents, refs, depth, handles]: [u64; 5]) -> Report {
+    report(bytes, contents, refs, depth, handles)
+}
+
+fn refused_at((reason, from_byte, to_byte): (Reason, u64, u64)) -> Stop {
+    refused(reason, from_byte, to_byte)
 }
 
 /// The value of a hexadecimal digit.
