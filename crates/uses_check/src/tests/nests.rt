@@ -1,22 +1,12 @@
 //! Arrays inside arrays, as deep as the cap allows and one deeper.
 
-use crate::tests::{LAX, answer_in_pieces, refused, report, stream};
+use crate::tests::{LAX, answer_in_pieces, refused, report};
 use jser_check::{CheckFault, Reason, Report, Stop, check_bytes};
 use jser_filter::Filter;
-use std::alloc::{AllocError, AllocGlobal, Global};
+use std::alloc::AllocGlobal;
 use std::process::Abort;
 use std::test::Fail;
-
-/// So many arrays of the class `[LA;`, one inside the other.
-fn nest(alloc: Global, arrays: usize) -> Result<Vec<u8>, AllocError> {
-    let head = "ACED0005 75 72 0004 \"[LA;\" 0000000000000001 02 0000 78 70 00000001";
-    let mut bytes = stream(alloc, head)?;
-    for _ in 1..arrays {
-        bytes.extend_from_slice(b"\x75\x71\x00\x7E\x00\x00\x00\x00\x00\x01")?;
-    }
-    bytes.push(0x70)?;
-    Ok(bytes)
-}
+use test_support::streams::nest;
 
 /// Both checks answer this to so many arrays.
 fn assert_nest(
