@@ -53,3 +53,5 @@ pub mod SkipMemory
 pub mod PassLemmas
 pub mod WholeLemmas
 pub mod RawLemmas
+pub mod RunItems
+pub mod RunLemmas

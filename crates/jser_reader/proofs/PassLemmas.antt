@@ -56,7 +56,7 @@ joined_takes piece rest used k le e =
     take_more (take used piece) rest k ∙ ap (λ n. take (n + k) (take used piece ++ rest)) (length-take-le used piece le) ∙ ap (take (used + k)) (sym e)
 
 -- to stand for fields is to stand for their bytes
-for_bytes : (gate : Gate) (front : List Piece) (cut : List ℕ) (r : Seen) (tally : Tally) → StandsIn gate front cut r tally → StandsFor gate (joined front ++ cut) r tally
+pub for_bytes : (gate : Gate) (front : List Piece) (cut : List ℕ) (r : Seen) (tally : Tally) → StandsIn gate front cut r tally → StandsFor gate (joined front ++ cut) r tally
 unfolding StandsFor
 for_bytes gate front cut r tally st = (st.counted, st.within)
 

@@ -45,7 +45,7 @@ bytes_after zero xs h = h
 bytes_after (suc n) [] h = refl
 bytes_after (suc n) (x ∷ xs) h = bytes_after n xs (bytes_tail x xs h)
 
-can_after : (piece : List ℕ) (n : ℕ) (r m : Seen) → CanPass r piece → 0 < n → n ≤ length piece → m.meter.at ≡ r.meter.at + n
+pub can_after : (piece : List ℕ) (n : ℕ) (r m : Seen) → CanPass r piece → 0 < length piece → n ≤ length piece → m.meter.at ≡ r.meter.at + n
     → m.meter.limits.bytes ≡ r.meter.limits.bytes → CanPass m (drop n piece)
 can_after piece n r m can some le ea el =
     let k = length-drop n piece in
@@ -142,7 +142,7 @@ leads_raw piece count r last section pos values c cs can some enough e h = recor
         meter = comes.meter ∙ twice_moved r count (size_of c);
         max = comes.max;
       } in
-      let can_m : CanPass m rest = can_after piece count r m can some (omega arith) refl refl in
+      let can_m : CanPass m rest = can_after piece count r m can (omega arith) (omega arith) refl refl in
       then_passes gate piece rest count (size_of c) r m new tally tally tally first
       (raw_passes gate (size_of c) rest m (farther m (size_of c)) new tally can_m refl refl s (omega arith) refl end) refl;
 }

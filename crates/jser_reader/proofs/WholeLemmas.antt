@@ -66,7 +66,7 @@ tag_taken phase.Value t r m i e h =
     takes_value (tag_byte (told_tag t)) true r (farther r 1) m (value_value t (tag_byte (told_tag t)) true (farther r 1) m refl h) refl e
 tag_taken _ t r m i e h = absurd i
 
-tag_passes : (gate : Gate) (t : ValueTag) (piece : List ℕ) (r m : Seen) (before after : Tally) → IsGate gate → CanPass r piece → IsPlace r.phase
+pub tag_passes : (gate : Gate) (t : ValueTag) (piece : List ℕ) (r m : Seen) (before after : Tally) → IsGate gate → CanPass r piece → IsPlace r.phase
     → 0 < length piece → tag_byte (told_tag t) ≡ get_or piece 0 0
     → Tells (place_reason (farther r 1) (told_tag t)) (after_tag (farther r 1) (told_tag t)) true (farther r 1) m
     → CountsField r m before after → Passes gate piece (Some 1) r before m after

@@ -32,3 +32,4 @@ pub mod ItemsTold
 pub mod FieldLaws
 pub mod Gates
 pub mod RawRuns
+pub mod Runs

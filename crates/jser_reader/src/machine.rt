@@ -26,6 +26,8 @@ mod parts;
 mod pass;
 mod pass_values;
 mod raws;
+mod run_items;
+mod runs;
 mod states;
 mod superclasses;
 mod supers;

@@ -4,6 +4,7 @@ ghost use Rattle.std.specs.Prelude.{◌≡◌, ◌<◌, get_or, length};
 ghost use Rattle.jser_reader.specs.Passes.{Passes, HasPassed, CanPass};
 ghost use Rattle.jser_reader.specs.Takes.{IsOne};
 ghost use Rattle.jser_reader.specs.Tags.{told_tag};
+ghost use Rattle.jser_reader.specs.Runs.{HasRoom};
 ghost use Rattle.jser_reader.specs.Wholes.{IsPlace, tag_of_owner};
 ghost use Rattle.jser_grammar.specs.Wire.{TC_BLOCKDATA, TC_REFERENCE, TC_STRING};
 ghost use Rattle.jser_reading.specs.FieldBytes.{tag_byte};
@@ -101,9 +102,43 @@ impl Machine {
         self.pass_tag(tally, piece)
     }
 
-    /// Takes the tag of a content or a value, and where it is a common one what comes after it.
+    /// Takes contents or values that have no class: as many as may be a run, or one alone.
     #[inline(always)]
-    pub(super) fn pass_value(&mut self, tally: &mut Tally, piece: &[u8]) -> Option<usize>
+    fn pass_plain(&mut self, tally: &mut Tally, piece: &[u8]) -> Option<usize>
+        requires can { CanPass self.old piece.now }
+        requires some { 0 < length piece.now }
+        requires place { IsPlace self.old.phase }
+        ensures passes { (gate : ToldGate) → IsGate gate → Passes gate piece.now result self.old tally.old self.new tally.new }
+        ensures progress { HasPassed piece.now result }
+    {
+        let room = self.run_room();
+        if room > 0 {
+            return self.pass_run(tally, piece, room);
+        }
+        self.pass_alone(tally, piece)
+    }
+
+    /// Takes as many contents or values as may be a run; where none is at the front of the piece, one alone.
+    #[inline(never)]
+    fn pass_run(&mut self, tally: &mut Tally, piece: &[u8], room: u64) -> Option<usize>
+        requires can { CanPass self.old piece.now }
+        requires some { 0 < length piece.now }
+        requires place { IsPlace self.old.phase }
+        requires room { HasRoom self.old room }
+        requires any { 0 < room }
+        ensures passes { (gate : ToldGate) → IsGate gate → Passes gate piece.now result self.old tally.old self.new tally.new }
+        ensures progress { HasPassed piece.now result }
+    {
+        let used = self.take_run(tally, piece, room);
+        if used == 0 {
+            return self.pass_alone(tally, piece);
+        }
+        Some(used)
+    }
+
+    /// Takes a content or a value that has no class: its tag, and where it is a common one what comes after it.
+    #[inline(always)]
+    fn pass_alone(&mut self, tally: &mut Tally, piece: &[u8]) -> Option<usize>
         requires can { CanPass self.old piece.now }
         requires some { 0 < length piece.now }
         requires place { IsPlace self.old.phase }
@@ -113,12 +148,26 @@ impl Machine {
         match piece[0] {
             TC_REFERENCE => self.pass_reference(tally, piece),
             TC_STRING => self.pass_string(tally, piece),
+            TC_BLOCKDATA => self.pass_block(tally, piece),
+            _ => self.pass_tag_alone(tally, piece),
+        }
+    }
+
+    /// Takes a content or a value, or several; or the beginning of one that has a class.
+    #[inline(always)]
+    pub(super) fn pass_value(&mut self, tally: &mut Tally, piece: &[u8]) -> Option<usize>
+        requires can { CanPass self.old piece.now }
+        requires some { 0 < length piece.now }
+        requires place { IsPlace self.old.phase }
+        ensures passes { (gate : ToldGate) → IsGate gate → Passes gate piece.now result self.old tally.old self.new tally.new }
+        ensures progress { HasPassed piece.now result }
+    {
+        match piece[0] {
             TC_OBJECT => self.pass_owner(tally, piece, Owner::Object),
             TC_ARRAY => self.pass_owner(tally, piece, Owner::Array),
             TC_ENUM => self.pass_owner(tally, piece, Owner::EnumConst),
             TC_CLASS => self.pass_owner(tally, piece, Owner::ClassObject),
-            TC_BLOCKDATA => self.pass_block(tally, piece),
-            _ => self.pass_tag_alone(tally, piece),
+            _ => self.pass_plain(tally, piece),
         }
     }
 }

@@ -19,7 +19,7 @@ use jser_table::Kind;
 
 /// The number in the four bytes after a tag, where all of them are there.
 #[inline(always)]
-fn number_after(piece: &[u8]) -> Option<u32>
+pub(super) fn number_after(piece: &[u8]) -> Option<u32>
     ensures { IfSome result (λ n. HasNumber piece.now n) }
 {
     if piece.len() < 5 {
@@ -88,7 +88,7 @@ impl Machine {
     /// Assigns the handle of a new string; or does nothing.
     #[tactic(auto, using(crate::proofs::EntryLemmas::fits_entry, crate::proofs::WholeLemmas::assigns_text, crate::proofs::WholeLemmas::assigns_nothing))]
     #[inline(always)]
-    fn assign_text(&mut self) -> bool
+    pub(super) fn assign_text(&mut self) -> bool
         ensures { AssignsText result self.old self.new }
     {
         self.table.assign(Kind::Text).is_ok()
