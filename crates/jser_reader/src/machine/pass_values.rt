@@ -15,7 +15,7 @@ use crate::machine::Machine;
 use crate::machine::wholes::reference_after;
 use crate::tally::Tally;
 use jser_grammar::wire::{
-    TC_ARRAY, TC_BLOCKDATA, TC_CLASS, TC_ENUM, TC_OBJECT, TC_REFERENCE, TC_STRING,
+    TC_ARRAY, TC_BLOCKDATA, TC_CLASS, TC_ENUM, TC_NULL, TC_OBJECT, TC_REFERENCE, TC_STRING,
 };
 
 impl Machine {
@@ -167,7 +167,8 @@ impl Machine {
             TC_ARRAY => self.pass_owner(tally, piece, Owner::Array),
             TC_ENUM => self.pass_owner(tally, piece, Owner::EnumConst),
             TC_CLASS => self.pass_owner(tally, piece, Owner::ClassObject),
-            _ => self.pass_plain(tally, piece),
+            TC_REFERENCE | TC_STRING | TC_NULL | TC_BLOCKDATA => self.pass_plain(tally, piece),
+            _ => self.pass_tag_alone(tally, piece),
         }
     }
 }

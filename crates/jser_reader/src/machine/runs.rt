@@ -28,18 +28,30 @@ impl Machine {
     pub(super) fn run_room(&self) -> u64
         ensures { HasRoom self.now result }
     {
+        let places = match self.frames.top() {
+            Some(Frame::Fields { .. }) => return 0,
+            Some(Frame::Elements { left }) => {
+                if self.phase != Phase::Value {
+                    return 0;
+                }
+                u64::from(left)
+            }
+            Some(Frame::Notes { .. } | Frame::ExternalNotes | Frame::Descriptor { .. }) => {
+                if self.phase != Phase::Note {
+                    return 0;
+                }
+                u64::MAX
+            }
+            None => {
+                if self.phase != Phase::Top {
+                    return 0;
+                }
+                u64::MAX
+            }
+        };
         if self.frames.len() >= self.limits.depth as usize {
             return 0;
         }
-        let places = match (self.phase, self.frames.top()) {
-            (Phase::Top, None) => u64::MAX,
-            (Phase::Value, Some(Frame::Elements { left })) => u64::from(left),
-            (
-                Phase::Note,
-                Some(Frame::Notes { .. } | Frame::ExternalNotes | Frame::Descriptor { .. }),
-            ) => u64::MAX,
-            _ => 0,
-        };
         places.min(self.limits.refs.saturating_sub(self.refs))
     }
 
