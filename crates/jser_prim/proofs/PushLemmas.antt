@@ -1,15 +1,16 @@
 -- Pushes of many bytes, made of pushes of few.
-use Rattle.std.proofs.Common.{◌≡◌, ℕ, ◌+◌, ◌-◌, ◌<◌, ◌≤◌, List, [], ◌∷◌, ◌++◌, length, take, drop, get_or, refl, arith, sym, ap, subst, ◌∙◌, true, false, append_assoc}
+use Rattle.std.proofs.Common.{◌≡◌, ℕ, suc, ◌+◌, ◌-◌, ◌<◌, ◌≤◌, List, [], ◌∷◌, ◌++◌, length, take, drop, get_or, refl, arith, sym, ap, subst, ◌∙◌, true, false, append_assoc}
 use Rattle.std.proofs.lemmas.List.{append-nil, get_or-drop, length-append, length-drop, length-take-le, take_more, take-append-drop, take-append-le, nil_from_length}
 use Rattle.std.proofs.Math.Seq.{take-append-add}
-use Rattle.jser_prim.specs.ModifiedUtf8.{modified_utf8}
+use Rattle.jser_prim.specs.ModifiedUtf8.{modified_utf8, IsUnits}
 use Rattle.jser_prim.specs.Pushes.{Pushes, PushesFront, PushesTo}
 use Rattle.jser_prim.specs.Texts.{BeginsText, Scan, HasAccepted, HasAcceptedAfter}
-use Rattle.jser_prim.specs.WholeUnits.{AreUnitsSpelled}
+use Rattle.jser_prim.specs.WholeUnits.{AreUnitsSpelled, IsAsciiBetween}
 use Rattle.jser_prim.specs.Places.{cut_at, is_fault}
 use Rattle.jser_prim.specs.declared.place.Place.{Place}
 use Rattle.jser_prim.specs.declared.place.Place.TheVariants as place
-use Rattle.jser_prim.proofs.TextLemmas.{begins_longer, modified_utf8-append, units-append}
+use Rattle.jser_prim.proofs.Units.{spelling_one}
+use Rattle.jser_prim.proofs.TextLemmas.{begins_longer, modified_utf8-append, units-append, units_cons}
 use Rattle.jser_prim.proofs.ScanLemmas.{empty_cut}
 
 -- it has accepted these units and no more
@@ -81,34 +82,59 @@ pushes_stop old new xs ys count stops pushes =
       refuses = pushes.refuses;
     }
 
+-- the bytes of these units were accepted, where no unit is cut
+units_accepted : (len : ℕ) (before units more bytes : List ℕ) (old : Scan) → HasAccepted len before units old → old.cut ≡ [] → length bytes ≤ old.left
+    → IsUnits more → modified_utf8 more ≡ bytes
+    → HasAccepted len (before ++ bytes) (units ++ more) (record { left = old.left - length bytes; cut = []; has_failed = false })
+units_accepted len before units more bytes old accepted none fits are_more spelled =
+    let text : modified_utf8 (units ++ more) ≡ before ++ bytes =
+    modified_utf8-append units more ∙ ap (λ xs. modified_utf8 units ++ xs) spelled
+    ∙ ap (λ xs. xs ++ bytes) (sym (append-nil (modified_utf8 units)) ∙ ap (λ cut. modified_utf8 units ++ cut) (sym none) ∙ sym accepted.spelled) in
+    let long : length (before ++ bytes) + (old.left - length bytes) ≡ len = omega (arith, length-append before bytes, accepted.counted) in
+    let are = units-append units more accepted.are_units are_more in
+    record {
+      begins = begins_longer len (units ++ more) (before ++ bytes) [] are (text ∙ sym (append-nil (before ++ bytes))) (omega arith);
+      spelled = sym text ∙ sym (append-nil (modified_utf8 (units ++ more)));
+      are_units = are;
+      is_cut = empty_cut;
+      counted = long;
+      going = refl;
+    }
+
 -- whole units, where no unit is cut
 pub pushes_units : (old : Scan) (bytes : List ℕ) → old.cut ≡ [] → old.has_failed ≡ false → length bytes ≤ old.left → AreUnitsSpelled bytes
     → Pushes old bytes (length bytes) (record { left = old.left - length bytes; cut = []; has_failed = false })
 pushes_units old bytes none going fits spells = record {
   within = omega arith;
   all = λ _ len before units accepted.
-      let text : modified_utf8 (units ++ spells.units) ≡ before ++ bytes =
-      modified_utf8-append units spells.units ∙ ap (λ xs. modified_utf8 units ++ xs) spells.spelled
-      ∙ ap (λ xs. xs ++ bytes) (sym (append-nil (modified_utf8 units)) ∙ ap (λ cut. modified_utf8 units ++ cut) (sym none) ∙ sym accepted.spelled) in
-      let long : length (before ++ bytes) + (old.left - length bytes) ≡ len = omega (arith, length-append before bytes, accepted.counted) in
-      let are = units-append units spells.units accepted.are_units spells.are_units in
-      record {
-        more = spells.units;
-        accepted = record {
-          begins = begins_longer len (units ++ spells.units) (before ++ bytes) [] are (text ∙ sym (append-nil (before ++ bytes))) (omega arith);
-          spelled = sym text ∙ sym (append-nil (modified_utf8 (units ++ spells.units)));
-          are_units = are;
-          is_cut = empty_cut;
-          counted = long;
-          going = refl;
-        };
-      };
+      record { more = spells.units; accepted = units_accepted len before units spells.units bytes old accepted none fits spells.are_units spells.spelled };
   fault = λ some. absurd (omega arith);
   failed = λ some. absurd (omega arith);
   left = omega arith;
   stays = λ failed. absurd cc;
   refuses = λ failed. absurd cc;
 }
+
+-- plain ASCII spells itself
+plain_spelled : (bytes : List ℕ) → ((k : ℕ) → k < length bytes → (1 ≤ get_or bytes k 0) × (get_or bytes k 0 < 0x80)) → IsUnits bytes × (modified_utf8 bytes ≡ bytes)
+plain_spelled [] ascii = (refl, refl)
+plain_spelled (b ∷ bytes) ascii =
+    let first = ascii 0 (omega arith) in
+    let rest = plain_spelled bytes (λ k inside. ascii (suc k) (omega arith)) in
+    let low = first.1 in (
+      units_cons b bytes (omega arith) rest.0,
+      ap (λ xs. xs ++ modified_utf8 bytes) (spelling_one b first.0 first.1) ∙ ap (λ xs. b ∷ xs) rest.1,
+    )
+
+-- plain ASCII, where no unit is cut: its bytes are the next units
+pub pushes_plain : (left count : ℕ) (at : Place) (bytes : List ℕ) → at ≡ place.First → length bytes ≤ left → length bytes ≤ count
+    → IsAsciiBetween bytes 0 count → (len : ℕ) (before units : List ℕ) → HasAccepted len before units (record { left = left; cut = cut_at at; has_failed = is_fault at })
+    → HasAccepted len (before ++ bytes) (units ++ bytes) (record { left = left - length bytes; cut = cut_at at; has_failed = is_fault at })
+pushes_plain left count at bytes is fits all ascii len before units =
+    let plain = plain_spelled bytes (λ k inside. ascii k (omega arith) (omega arith)) in
+    let P : Place → Type 0 = λ p. HasAccepted len before units (record { left = left; cut = cut_at p; has_failed = is_fault p })
+    → HasAccepted len (before ++ bytes) (units ++ bytes) (record { left = left - length bytes; cut = cut_at p; has_failed = is_fault p }) in
+    subst P (sym is) (λ accepted. units_accepted len before units bytes bytes (record { left = left; cut = []; has_failed = false }) accepted refl fits plain.0 plain.1)
 
 -- one byte that is accepted, and one that is not, by the clauses of `push`
 pub pushes_one : (old new : Scan) (byte : ℕ) (units_of_byte : List ℕ) → new.left + 1 ≡ old.left → (old.has_failed ≡ true → ⊥)

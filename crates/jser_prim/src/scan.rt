@@ -8,6 +8,7 @@ ghost use Rattle.jser_prim.specs.ModifiedUtf8.{modified_utf8};
 ghost use Rattle.jser_prim.specs.Pushes.{PushesFront, PushesTo};
 ghost use Rattle.jser_prim.specs.Texts.{BeginsText, FaultsAfter, HasAccepted, HasAcceptedAfter};
 
+use crate::lanes::ascii_len;
 use crate::place::{Place, Taken};
 use crate::runs::spelled_len;
 use std::marker::Model;
@@ -147,6 +148,26 @@ impl TextScan {
             }
         }
         Ok(())
+    }
+
+    /// Takes the next bytes of the text where no unit is cut and each of them is a unit of one byte, 0x0001 to 0x007F: they
+    /// are the next units. Else it does nothing, and answers false.
+    #[inline(always)]
+    pub fn push_plain(&mut self, bytes: &[u8]) -> bool
+        requires { length bytes.now ≤ self.old.left }
+        ensures units { IsTrue result → (len : ℕ) (before units : List ℕ) → HasAccepted len before units self.old
+            → HasAccepted len (before ++ bytes.now) (units ++ bytes.now) self.new }
+        ensures left { IsTrue result → self.new.left + length bytes.now ≡ self.old.left }
+        ensures nothing { result ≡ false → self.new ≡ self.old }
+    {
+        let Place::First = self.place else {
+            return false;
+        };
+        if ascii_len(bytes) < bytes.len() {
+            return false;
+        }
+        self.left -= bytes.len() as u64;
+        true
     }
 
     /// Pushes some of the bytes, at least one where there are any, and returns how many.

@@ -46,14 +46,14 @@ no_room unit b old new h eb = rw eb h
 abbrev pub scanned_on : Seen → ℕ → Scan → Seen
 scanned_on r k scan = record { meter = counted_on r.meter k; phase = r.phase; frames = r.frames; layers = r.layers; table = r.table; refs = r.refs; owner = r.owner; elements = r.elements; header = r.header; text = r.text; left = r.left; scan = scan; name = r.name }
 
--- a unit more, if there is one
-abbrev scanned_unit : Seen → Scan → Option ℕ → Seen
-scanned_unit r scan unit = with_unit (scanned_on r 1 scan) unit
+-- so many bytes were counted, and scanned, and these units were kept
+abbrev pub named_on : Seen → ℕ → Scan → List ℕ → Seen
+named_on r k scan units = record { meter = counted_on r.meter k; phase = r.phase; frames = r.frames; layers = r.layers; table = r.table; refs = r.refs; owner = r.owner; elements = r.elements; header = r.header; text = r.text; left = r.left; scan = scan; name = r.name ++ units }
 
-unit_scanned : (b : ℕ) (unit : Option ℕ) (old new : Seen) (scan : Scan) → new ≡ scanned_unit old scan unit
-    → ((len : ℕ) (bytes units : List ℕ) → HasAccepted len bytes units old.scan → HasAccepted len (bytes ++ (b ∷ [])) (units ++ option_to_list unit) scan)
-    → scan.left + 1 ≡ old.scan.left → Scanned (b ∷ []) old new
-unit_scanned b unit old new scan e push left = record {
+units_scanned : (part added : List ℕ) (old new : Seen) (scan : Scan) → new ≡ named_on old (length part) scan added
+    → ((len : ℕ) (bytes units : List ℕ) → HasAccepted len bytes units old.scan → HasAccepted len (bytes ++ part) (units ++ added) scan)
+    → scan.left + length part ≡ old.scan.left → Scanned part old new
+units_scanned part added old new scan e push left = record {
   phase_is = ap (λ r. r.phase) e;
   counts = record {
     at = ap (λ r. r.meter.at) e;
@@ -68,16 +68,21 @@ unit_scanned b unit old new scan e push left = record {
     header = ap (λ r. r.header) e;
     text = ap (λ r. r.text) e;
   };
-  left = ap (λ r. r.scan.left + 1) e ∙ left;
+  left = ap (λ r. r.scan.left + length part) e ∙ left;
   reads =
       λ len before units h. record {
-        more = option_to_list unit;
+        more = added;
         read = record {
-          accepted = subst (λ s. HasAccepted len (before ++ (b ∷ [])) (units ++ option_to_list unit) s) (sym (ap (λ r. r.scan) e)) (push len before units h.accepted);
-          kept = λ checked. ap (λ r. r.name) e ∙ ap (λ name. name ++ option_to_list unit) (h.kept (sym (ap (λ r. is_checked r.text) e) ∙ checked));
+          accepted = subst (λ s. HasAccepted len (before ++ part) (units ++ added) s) (sym (ap (λ r. r.scan) e)) (push len before units h.accepted);
+          kept = λ checked. ap (λ r. r.name) e ∙ ap (λ name. name ++ added) (h.kept (sym (ap (λ r. is_checked r.text) e) ∙ checked));
         };
       };
 }
+
+unit_scanned : (b : ℕ) (unit : Option ℕ) (old new : Seen) (scan : Scan) → new ≡ named_on old 1 scan (option_to_list unit)
+    → ((len : ℕ) (bytes units : List ℕ) → HasAccepted len bytes units old.scan → HasAccepted len (bytes ++ (b ∷ [])) (units ++ option_to_list unit) scan)
+    → scan.left + 1 ≡ old.scan.left → Scanned (b ∷ []) old new
+unit_scanned b unit old new scan e push left = units_scanned (b ∷ []) (option_to_list unit) old new scan e push left
 
 pub name_goes_on : (b : ℕ) (unit : Option ℕ) (scan : Scan) (found : Bool) (old mid new : Seen) → KeepsUnit unit found mid new → mid ≡ scanned_on old 1 mid.scan
     → ((len : ℕ) (bytes units : List ℕ) → HasAccepted len bytes units scan → HasAccepted len (bytes ++ (b ∷ [])) (units ++ option_to_list unit) mid.scan)
@@ -166,6 +171,23 @@ one_more part i b false old mid new p q ef e = absurd (cc)
 pub all_scanned : (part : List ℕ) (i : ℕ) (result : Option ℕ) (old new : Seen) → Scanned (take i part) old new → length part ≤ i → result ≡ None → Scans part result old new
 unfolding Scans
 all_scanned part i result old new p all er = rw er (subst (λ xs. Scanned xs old new) (take_all i part all) p)
+
+-- ---- units of one byte each
+
+-- so many bytes were counted, and scanned, and the name is this
+abbrev pub renamed_on : Seen → ℕ → Scan → List ℕ → Seen
+renamed_on r k scan name = record { meter = counted_on r.meter k; phase = r.phase; frames = r.frames; layers = r.layers; table = r.table; refs = r.refs; owner = r.owner; elements = r.elements; header = r.header; text = r.text; left = r.left; scan = scan; name = name }
+
+pub units_kept : (part : List ℕ) (scan : Scan) (old new : Seen) → new ≡ renamed_on old (length part) new.scan new.name → new.name ≡ old.name ++ part
+    → ((len : ℕ) (before units : List ℕ) → HasAccepted len before units scan → HasAccepted len (before ++ part) (units ++ part) new.scan)
+    → new.scan.left + length part ≡ scan.left → scan ≡ old.scan → Scanned part old new
+units_kept part scan old new e en push left es =
+    units_scanned part part old new new.scan (e ∙ ap (renamed_on old (length part) new.scan) en)
+    (λ len before units a. push len before units (subst (HasAccepted len before units) (sym es) a)) (left ∙ ap (λ k. k.left) es)
+
+pub units_scan : (part : List ℕ) (result : Option ℕ) (old new : Seen) → Scanned part old new → result ≡ None → Scans part result old new
+unfolding Scans
+units_scan part result old new h er = rw er h
 
 -- a byte with which no text goes on, after others
 

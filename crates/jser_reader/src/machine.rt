@@ -24,6 +24,7 @@ mod numbers;
 mod owners;
 mod parts;
 mod pass;
+mod pass_descriptors;
 mod pass_values;
 mod raws;
 mod run_items;

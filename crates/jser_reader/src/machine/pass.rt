@@ -115,7 +115,7 @@ impl Machine {
 
     /// Takes bytes of the field that is open, whichever it is, where no count changes with it.
     #[inline(always)]
-    fn pass_quiet<G: Gate>(&mut self, gate: &G, piece: &[u8]) -> Option<usize>
+    pub(super) fn pass_quiet<G: Gate>(&mut self, gate: &G, piece: &[u8]) -> Option<usize>
         requires can { CanPass self.old piece.now }
         requires some { 0 < length piece.now }
         requires quiet { IsQuiet self.old.phase }
@@ -148,6 +148,9 @@ impl Machine {
         match self.phase {
             Phase::Value | Phase::Top | Phase::Note => self.pass_value(tally, piece),
             Phase::Prims => self.pass_prims(piece),
+            Phase::TypeCode | Phase::Length2 | Phase::Text | Phase::Suid => {
+                self.pass_quiets(gate, piece)
+            }
             _ => {
                 if self.phase.is_quiet() {
                     return self.pass_quiet(gate, piece);

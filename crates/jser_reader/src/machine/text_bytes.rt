@@ -1,9 +1,9 @@
 //! The bytes of a text: they are scanned, counted, and forgotten, but for the units of a checked name. A text is
 //! refused at the first byte with which no text of its length goes on.
-ghost use Rattle.std.specs.Prelude.{◌≡◌, ◌+◌, ◌<◌, ◌≤◌, ◌^◌, length, true, false};
+ghost use Rattle.std.specs.Prelude.{◌≡◌, ◌+◌, ◌<◌, ◌≤◌, ◌^◌, ◌++◌, length, true, false, None, vec_len, vec_capacity};
 ghost use Rattle.jser_reader.specs.Readers.{is_checked};
 ghost use Rattle.jser_reader.specs.Takes.{TakesFromFor};
-ghost use Rattle.jser_reader.specs.TextTakes.{KeepsUnit, ScansByte, Scans};
+ghost use Rattle.jser_reader.specs.TextTakes.{KeepsUnit, ScansByte, Scanned, Scans};
 
 use crate::gate::Gate;
 use crate::machine::Machine;
@@ -16,6 +16,16 @@ fn is_checked(text: TextFor) -> bool
     ensures { result ≡ is_checked text }
 {
     matches!(text, TextFor::ClassName | TextFor::InterfaceName)
+}
+
+/// Adds units of one byte each, where there is room for them.
+fn add_units(name: &mut Vec<u16>, bytes: &[u8])
+    requires { vec_len name.old + length bytes.now ≤ vec_capacity name.old }
+    ensures { name.new.items ≡ name.old.items ++ bytes.now }
+{
+    'bytes: for byte in bytes {
+        name.push_reserved(u16::from(*byte));
+    }
 }
 
 impl Machine {
@@ -65,6 +75,40 @@ impl Machine {
         None
     }
 
+    /// Scans these bytes of a checked name, where each of them is a unit of one byte and there is memory for them; else it
+    /// does nothing, and answers false.
+    fn scan_units(&mut self, part: &[u8]) -> bool
+        requires checked { is_checked self.old.text ≡ true }
+        requires within { length part.now ≤ self.old.scan.left }
+        requires room { self.old.meter.at + length part.now < 2 ^ 64 }
+        ensures scanned { result ≡ true → Scanned part.now self.old self.new }
+        ensures nothing { result ≡ false → self.new ≡ self.old }
+    {
+        if self.name.reserve(part.len()).is_err() || !self.scan.push_plain(part) {
+            return false;
+        }
+        add_units(&mut self.name, part);
+        self.at += part.len() as u64;
+        true
+    }
+
+    /// Scans these bytes of a text whose units are not kept, where each of them is a unit of one byte; else it does
+    /// nothing, and answers false.
+    #[inline(always)]
+    fn scan_ascii(&mut self, part: &[u8]) -> bool
+        requires plain { is_checked self.old.text ≡ false }
+        requires within { length part.now ≤ self.old.scan.left }
+        requires room { self.old.meter.at + length part.now < 2 ^ 64 }
+        ensures scanned { result ≡ true → Scans part.now None self.old self.new }
+        ensures nothing { result ≡ false → self.new ≡ self.old }
+    {
+        if !self.scan.push_plain(part) {
+            return false;
+        }
+        self.at += part.len() as u64;
+        true
+    }
+
     /// Scans these bytes of a text whose units are not kept: all of them, or up to the one at which the machine stops.
     #[tactic(auto, using(crate::proofs::TextScanLemmas::plain_scanned, crate::proofs::TextScanLemmas::plain_fault))]
     fn scan_plain(&mut self, part: &[u8]) -> Option<usize>
@@ -88,16 +132,19 @@ impl Machine {
     }
 
     /// Scans the next bytes of the open text, and counts them: all of them, or up to the one at which the machine stops.
+    #[tactic(auto, using(crate::proofs::TextScanLemmas::units_scan))]
     fn scan_part(&mut self, part: &[u8]) -> Option<usize>
         requires within { length part.now ≤ self.old.scan.left }
         requires room { self.old.meter.at + length part.now < 2 ^ 64 }
         ensures { Scans part.now result self.old self.new }
     {
-        if is_checked(self.text) {
-            self.scan_name(part)
-        } else {
-            self.scan_plain(part)
+        if !is_checked(self.text) {
+            return self.scan_plain(part);
         }
+        if self.scan_units(part) {
+            return None;
+        }
+        self.scan_name(part)
     }
 
     /// Takes bytes of the open text: as many as are left of it, or all of the piece.
@@ -118,6 +165,30 @@ impl Machine {
             return Taken::Part(piece.len());
         }
         let goes_on = self.text_ended(gate);
+        Taken::after(used.max(1), goes_on)
+    }
+
+    /// The same; where the units of the text are not kept and each byte is one, that is found in line.
+    #[tactic(auto, using(crate::proofs::TextScanLemmas::text_stays_open, crate::proofs::TextScanLemmas::text_ends))]
+    #[inline(always)]
+    pub(super) fn take_text_in_line<G: Gate>(&mut self, gate: &G, piece: &[u8]) -> Taken
+        requires phase { self.old.phase ≡ Phase.Text }
+        requires some { 0 < length piece.now }
+        requires room { self.old.meter.at + length piece.now < 2 ^ 64 }
+        ensures { TakesFromFor (G.told gate.now) result piece.now self.old self.new }
+    {
+        if is_checked(self.text) {
+            return self.take_text(gate, piece);
+        }
+        let used = self.scan.left().min(piece.len() as u64) as usize;
+        let (part, _) = piece.split_at(used);
+        if !self.scan_ascii(part) {
+            return self.take_text(gate, piece);
+        }
+        if self.scan.left() > 0 {
+            return Taken::Part(piece.len());
+        }
+        let goes_on = self.text_done_in_line(gate);
         Taken::after(used.max(1), goes_on)
     }
 }

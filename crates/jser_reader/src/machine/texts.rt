@@ -20,6 +20,7 @@ use jser_table::Entry;
 impl Machine {
     /// A value's tag in a text place.
     #[tactic(auto, using(crate::proofs::TextLemmas::text_reference, crate::proofs::TextLemmas::short_text, crate::proofs::TextLemmas::long_text, crate::proofs::TextLemmas::no_text_value))]
+    #[inline(always)]
     fn text_value(&mut self, tag: ValueTag) -> bool
         ensures { IsForm self.old.text true → IsInside self.old.text self.old.frames
             → Tells (text_tag_reason self.old (tag_byte (told_tag tag))) (after_text_tag self.old (tag_from (tag_byte (told_tag tag)))) result self.old self.new }
@@ -39,8 +40,17 @@ impl Machine {
     }
 
     /// A tag in a text place.
-    #[tactic(auto, using(crate::proofs::TextLemmas::no_text_tag, crate::proofs::TextLemmas::text_value_tag, crate::proofs::TextLemmas::text_block, crate::proofs::TextLemmas::text_other))]
     pub(super) fn text_tag(&mut self, byte: u8) -> bool
+        ensures { IsForm self.old.text true → IsInside self.old.text self.old.frames
+            → Tells (text_tag_reason self.old byte) (after_text_tag self.old (tag_from byte)) result self.old self.new }
+    {
+        self.text_tag_in_line(byte)
+    }
+
+    /// The same; what comes after it is found in line.
+    #[tactic(auto, using(crate::proofs::TextLemmas::no_text_tag, crate::proofs::TextLemmas::text_value_tag, crate::proofs::TextLemmas::text_block, crate::proofs::TextLemmas::text_other))]
+    #[inline(always)]
+    pub(super) fn text_tag_in_line(&mut self, byte: u8) -> bool
         ensures { IsForm self.old.text true → IsInside self.old.text self.old.frames
             → Tells (text_tag_reason self.old byte) (after_text_tag self.old (tag_from byte)) result self.old self.new }
     {
@@ -103,10 +113,18 @@ impl Machine {
         self.text_done(gate)
     }
 
-    /// The text has ended whose bytes are being read, and all of them have been counted.
+    /// The same, of a text that is no string.
     #[inline(never)]
-    #[tactic(auto, using(crate::proofs::TextLemmas::value_ends, crate::proofs::TextLemmas::type_ends, crate::proofs::TextLemmas::object_field_named, crate::proofs::TextLemmas::field_named, crate::proofs::TextLemmas::class_name_ends, crate::proofs::TextLemmas::interface_name_ends))]
     pub(super) fn text_done<G: Gate>(&mut self, gate: &G) -> bool
+        ensures { (units : List ℕ) → EndsText self.old units → TellsSurely (text_reason (G.told gate.now) self.old units) (after_text self.old units) result self.old self.new }
+    {
+        self.text_done_in_line(gate)
+    }
+
+    /// The same; what comes after it is found in line.
+    #[inline(always)]
+    #[tactic(auto, using(crate::proofs::TextLemmas::value_ends, crate::proofs::TextLemmas::type_ends, crate::proofs::TextLemmas::object_field_named, crate::proofs::TextLemmas::field_named, crate::proofs::TextLemmas::class_name_ends, crate::proofs::TextLemmas::interface_name_ends))]
+    pub(super) fn text_done_in_line<G: Gate>(&mut self, gate: &G) -> bool
         ensures { (units : List ℕ) → EndsText self.old units → TellsSurely (text_reason (G.told gate.now) self.old units) (after_text self.old units) result self.old self.new }
     {
         match self.text {
