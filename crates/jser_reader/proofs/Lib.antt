@@ -52,4 +52,5 @@ pub mod ItemLaws
 pub mod SkipMemory
 pub mod PassLemmas
 pub mod WholeLemmas
+pub mod LentLemmas
 pub mod RawLemmas
