@@ -4,7 +4,6 @@ use Rattle.jser_prim.specs.Bytes.{big_bytes}
 use Rattle.jser_reading.specs.FieldsFromBytes.{number_of}
 use Rattle.jser_reading.proofs.Decoding.{number_2, number_4, number_8}
 use Rattle.jser_reader.specs.declared.item.Item.{Item}
-use Rattle.jser_reader.specs.declared.item.Item.TheVariants as item
 use Rattle.jser_reader.specs.declared.item.Step.TheVariants as step
 use Rattle.jser_reader.specs.declared.phase.Phase.{Phase}
 use Rattle.jser_reader.specs.declared.phase.Phase.TheVariants as phase

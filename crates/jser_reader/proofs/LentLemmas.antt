@@ -1,9 +1,9 @@
 -- A value that is lent at once: its items, one after another.
-use Rattle.std.proofs.Common.{◌≡◌, ℕ, zero, suc, ◌+◌, ◌-◌, ◌^◌, ◌<◌, ◌≤◌, Bool, true, false, List, [], ◌∷◌, ◌++◌, length, get_or, take, drop, Some, None, Ok, Err, refl, sym, ◌∙◌, ap, subst, arith, length-append}
+use Rattle.std.proofs.Common.{◌≡◌, ℕ, suc, ◌+◌, ◌-◌, ◌^◌, ◌<◌, ◌≤◌, Bool, true, false, List, [], ◌∷◌, ◌++◌, length, get_or, take, drop, Some, None, Ok, Err, refl, sym, ◌∙◌, ap, subst, arith, length-append}
 use Rattle.std.proofs.lemmas.List.{length-drop, length-take-le}
 use Rattle.jser_prim.specs.Bytes.{big_bytes}
 use Rattle.jser_table.specs.Entries.{text_entry}
-use Rattle.jser_reading.specs.Labels.{Label, Piece, reference_tag, string_tag}
+use Rattle.jser_reading.specs.Labels.{Piece}
 use Rattle.jser_reading.specs.FieldBytes.{tag_byte, joined}
 use Rattle.jser_reading.specs.FieldsFromBytes.{number_of}
 use Rattle.jser_reading.specs.Goals.{State, settled}
@@ -29,7 +29,7 @@ use Rattle.jser_reader.specs.Readers.{Seen}
 use Rattle.jser_reader.specs.Steps.{after_value}
 use Rattle.jser_reader.specs.Handlers.{Comes, Tells, added, place_reason, after_tag}
 use Rattle.jser_reader.specs.Walks.{Takes, open_in, cut_in, open_phase, cut_of}
-use Rattle.jser_reader.specs.Takes.{counted_on, farther, TakenCases, TakesFromFor}
+use Rattle.jser_reader.specs.Takes.{farther, TakesFromFor}
 use Rattle.jser_reader.specs.Tallies.{mark_of, tally_after}
 use Rattle.jser_reader.specs.Items.{items_at}
 use Rattle.jser_reader.specs.ItemsMade.{MakesItem, MakesStep}
@@ -38,7 +38,7 @@ use Rattle.jser_reader.specs.Passes.{HaltCases, PassTells, Passes, IsQuiet, CanP
 use Rattle.jser_reader.specs.ReaderStates.{HasRefused, IsSpent, NextCases, NextTells}
 use Rattle.jser_reader.specs.States.{AnswersStop, stop_after}
 use Rattle.jser_reader.specs.Wholes.{IsPlace, HasPlace, HasNumber, HasText, HasReference, tag_of_owner, placed, AssignsText}
-use Rattle.jser_reader.specs.WholesTold.{TellsReference, TextEnds, TellsText, TellsString, TellsOwner, OwnerCases}
+use Rattle.jser_reader.specs.WholesTold.{TellsReference, TellsText, TellsString, OwnerCases}
 use Rattle.jser_reader.proofs.NumberLemmas.{right_handle}
 use Rattle.jser_reader.proofs.TakeLemmas.{counts_bytes, one_taken, takes_back_handle, takes_class_handle}
 use Rattle.jser_reader.proofs.CutLemmas.{four_taken}
