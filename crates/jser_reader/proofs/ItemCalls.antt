@@ -51,7 +51,7 @@ stands_in gate bytes front cut r tally c ef ec le =
     (λ c ef ec le. record { counted = c; fields_are = ef; cut_is = ec; within = le }) c ef ec le
 
 -- where the machine stands then
-machine_stands : (gate : Gate) (front : List Piece) (cut : List ℕ) (r : Seen) (tally : Tally) → StandsIn gate front cut r tally
+pub machine_stands : (gate : Gate) (front : List Piece) (cut : List ℕ) (r : Seen) (tally : Tally) → StandsIn gate front cut r tally
     → Stands gate r (settled (left begin_state front)) cut
 machine_stands gate front cut r tally h =
     subst (λ c. Stands gate r (settled (left begin_state front)) c) h.cut_is
@@ -61,14 +61,14 @@ machine_stands gate front cut r tally h =
 label_after : List Piece → Label
 label_after front = label_of (settled (left begin_state front))
 
-comes_next : (gate : Gate) (front : List Piece) (cut : List ℕ) (r : Seen) (tally : Tally) → StandsIn gate front cut r tally
+pub comes_next : (gate : Gate) (front : List Piece) (cut : List ℕ) (r : Seen) (tally : Tally) → StandsIn gate front cut r tally
     → ComesNext front (label_of (settled (left begin_state front)))
 comes_next gate front cut r tally h =
     (next_law front (label_of (settled (left begin_state front)))).1 (subst (Runs begin_state) h.fields_are h.counted.taken.runs, refl)
 
 -- ---- a field ends, or goes on
 
-field_ended : (gate : Gate) (given front : List ℕ) (n : ℕ) (old new : Seen) (before after : Tally) (fields : List Piece) (cut : List ℕ)
+pub field_ended : (gate : Gate) (given front : List ℕ) (n : ℕ) (old new : Seen) (before after : Tally) (fields : List Piece) (cut : List ℕ)
     → StandsIn gate fields cut old before → IsWithin old given front → n ≤ length front → IsBytes given → Takes gate (take n front) true old new
     → after ≡ tally_after (mark_of old) (mark_of new) before
     → FieldEnds gate fields (label_of (settled (left begin_state fields))) (cut ++ take n given) new after
@@ -121,7 +121,7 @@ made p kept old given front used count lent ep ek et h =
     subst (λ xs. MakesItem (open_phase old) (cut_of old) xs lent) et
     (subst (λ c. MakesItem (open_phase old) c (take used front) lent) ek (subst (λ q. MakesItem q kept (take used front) lent) ep h))
 
-lends_end : (gate : Gate) (given front : List ℕ) (used : ℕ) (lent : Item) (old new : Seen) (before after : Tally) (fields : List Piece) (cut : List ℕ)
+pub lends_end : (gate : Gate) (given front : List ℕ) (used : ℕ) (lent : Item) (old new : Seen) (before after : Tally) (fields : List Piece) (cut : List ℕ)
     → StandsIn gate fields cut old before → IsWithin old given front → used ≤ length front → IsBytes given → Takes gate (take used front) true old new
     → IsWholeLength (open_phase old) (cut_of old ++ take used front)
     → after ≡ tally_after (mark_of old) (mark_of new) before → MakesItem (open_phase old) (cut_of old) (take used given) lent

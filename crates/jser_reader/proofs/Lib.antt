@@ -52,6 +52,7 @@ pub mod ItemLaws
 pub mod SkipMemory
 pub mod PassLemmas
 pub mod WholeLemmas
+pub mod LentLemmas
 pub mod RawLemmas
 pub mod RunItems
 pub mod RunLemmas

@@ -208,7 +208,7 @@ quiet_place phase.Prims r s cut field q h = of_state s _ field h.is refl
 quiet_place phase.Bytes r s cut field q h = of_state s _ field h.is refl
 quiet_place _ r s cut field q h = absurd q
 
-quiet_refs : (gate : Gate) (old new : Seen) (bytes taken : List ℕ) → Takes gate taken true old new → IsBytes taken → HasTaken gate bytes old → IsQuiet old.phase
+pub quiet_refs : (gate : Gate) (old new : Seen) (bytes taken : List ℕ) → Takes gate taken true old new → IsBytes taken → HasTaken gate bytes old → IsQuiet old.phase
     → new.refs ≡ old.refs
 unfolding Takes took_stands
 quiet_refs gate old new bytes taken t hb st q =
@@ -219,7 +219,7 @@ quiet_refs gate old new bytes taken t hb st q =
     ∙ ap (λ b. one_more_if b (count_of begins_place st.fields)) (quiet_place old.phase old s st.cut x.field q st.stands.stands)
     ∙ sym (places_are gate bytes old st)
 
-quiet_top : (p : Phase) → IsQuiet p → is_top p ≡ false
+pub quiet_top : (p : Phase) → IsQuiet p → is_top p ≡ false
 quiet_top phase.Top q = absurd q
 quiet_top _ q = refl
 
@@ -230,7 +230,7 @@ same_tally : (tally : Tally) (contents earlier depth : ℕ) → contents ≡ tal
     → tally_of contents earlier depth ≡ tally
 same_tally tally contents earlier depth ec ee ed = rw ec (rw ee (rw ed refl))
 
-quiet_tally : (old new : Mark) (tally : Tally) → old.at_top ≡ false → new.refs ≡ old.refs → tally_after old new tally ≡ tally
+pub quiet_tally : (old new : Mark) (tally : Tally) → old.at_top ≡ false → new.refs ≡ old.refs → tally_after old new tally ≡ tally
 quiet_tally old new tally et er =
     let none : nat_lt old.refs new.refs ≡ false = grind (arith, nat_tests) in
     let n : tally.earlier + 0 ≡ tally.earlier = omega arith in

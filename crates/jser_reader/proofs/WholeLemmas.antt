@@ -55,7 +55,7 @@ place_is_one phase.Note i = tt
 place_is_one phase.Value i = tt
 place_is_one _ i = absurd i
 
-tag_taken : (p : Phase) (t : ValueTag) (r m : Seen) → IsPlace p → r.phase ≡ p
+pub tag_taken : (p : Phase) (t : ValueTag) (r m : Seen) → IsPlace p → r.phase ≡ p
     → Tells (place_reason (farther r 1) (told_tag t)) (after_tag (farther r 1) (told_tag t)) true (farther r 1) m
     → TakesByte (tag_byte (told_tag t)) true r m
 tag_taken phase.Top t r m i e h =
@@ -85,7 +85,7 @@ bytes_rest (x ∷ xs) h = go (nat_lt x 0x100) h
     go true h = h
     go false h = absurd (cc)
 
-rest_can : (piece : List ℕ) (r m : Seen) → CanPass r piece → 0 < length piece → m.meter.at ≡ r.meter.at + 1
+pub rest_can : (piece : List ℕ) (r m : Seen) → CanPass r piece → 0 < length piece → m.meter.at ≡ r.meter.at + 1
     → m.meter.limits.bytes ≡ r.meter.limits.bytes → CanPass m (drop 1 piece)
 rest_can piece r m can some ea el =
     let n = length-drop 1 piece in
@@ -106,13 +106,13 @@ rest_can piece r m can some ea el =
 abbrev pub CountsMarks : Mark → Mark → (before after : Tally) → Type 0
 CountsMarks m k before after = before.contents + 1 < 2 ^ 64 → before.earlier + m.entries < 2 ^ 64 → after ≡ tally_after m k before
 
-of_marks : (m k n l : Mark) (before after : Tally) → m ≡ n → k ≡ l → CountsMarks m k before after → CountsMarks n l before after
+pub of_marks : (m k n l : Mark) (before after : Tally) → m ≡ n → k ≡ l → CountsMarks m k before after → CountsMarks n l before after
 of_marks m k n l before after em ek h = subst (λ x. CountsMarks x l before after) em (subst (λ x. CountsMarks m x before after) ek h)
 
 -- ---- a value ends
 
 -- that of a machine that was as far, and has the same
-same_end : (m k new : Seen) → Comes m new (after_value m) → moved k.meter ≡ moved m.meter → k.frames ≡ m.frames → k.layers ≡ m.layers
+pub same_end : (m k new : Seen) → Comes m new (after_value m) → moved k.meter ≡ moved m.meter → k.frames ≡ m.frames → k.layers ≡ m.layers
     → k.table ≡ m.table → k.refs ≡ m.refs → Comes k new (after_value k)
 same_end m k new h em ef ey et er = record {
   ready = subst (Ready new) (sym (same_value m k ef ey et er)) h.ready;
@@ -121,7 +121,7 @@ same_end m k new h em ef ey et er = record {
 }
 
 -- its bytes are counted at once, or after those of the tag
-same_meter : (r : Seen) (n : ℕ) → moved (counted_on (moved (counted_on r.meter 1)) n) ≡ moved (counted_on r.meter (n + 1))
+pub same_meter : (r : Seen) (n : ℕ) → moved (counted_on (moved (counted_on r.meter 1)) n) ≡ moved (counted_on r.meter (n + 1))
 same_meter r n =
     let e : (r.meter.at + 1) + n ≡ r.meter.at + (n + 1) = omega arith in
     ap (λ k. record { at = k; from = k; limits = r.meter.limits; stop = r.meter.stop; cut_phase = r.meter.cut_phase; kept = r.meter.kept }) e
@@ -129,7 +129,7 @@ same_meter r n =
 -- ---- a reference
 
 -- after its tag
-abbrev begun_reference : Seen → Seen
+abbrev pub begun_reference : Seen → Seen
 begun_reference r = record {
   meter = moved (counted_on r.meter 1);
   phase = phase.BackHandle;
@@ -146,7 +146,7 @@ begun_reference r = record {
   name = r.name;
 }
 
-reference_begins : (r : Seen) → HasPlace r
+pub reference_begins : (r : Seen) → HasPlace r
     → Tells (place_reason (farther r 1) reference_tag) (after_tag (farther r 1) reference_tag) true (farther r 1) (begun_reference r)
 reference_begins r h =
     let deep = h.shallow in
@@ -183,7 +183,7 @@ reference_passes gate n piece old far new m1 m2 before after g can i first h sma
 -- ---- the beginning of what has a class
 
 -- after its tag
-abbrev begun_owner : Owner → Seen → Seen
+abbrev pub begun_owner : Owner → Seen → Seen
 begun_owner o r = record {
   meter = moved (counted_on r.meter 1);
   phase = phase.ClassTag;
@@ -219,7 +219,7 @@ owner_counted owner.ClassObject r =
     (record { phase_is = refl; frames = refl; layers = refl; table = refl; refs = refl; owner_is = refl; chain_is = refl; header_is = refl; text_is = refl; left = refl; meter = refl })
     refl
 
-owner_begins : (o : Owner) (r : Seen) → HasPlace r
+pub owner_begins : (o : Owner) (r : Seen) → HasPlace r
     → Tells (place_reason (farther r 1) (told_tag (tag_of_owner o))) (after_tag (farther r 1) (told_tag (tag_of_owner o))) true (farther r 1) (begun_owner o r)
 owner_begins o r h =
     let deep = h.shallow in
@@ -228,7 +228,7 @@ owner_begins o r h =
     (λ over. absurd (omega arith)) (λ over. absurd (omega arith))
 
 -- after the tag of the reference that is its class
-abbrev at_class : Seen → Seen
+abbrev pub at_class : Seen → Seen
 at_class r = record {
   meter = moved (counted_on r.meter 1);
   phase = phase.ClassHandle;
@@ -245,7 +245,7 @@ at_class r = record {
   name = r.name;
 }
 
-class_tag_taken : (r : Seen) → r.phase ≡ phase.ClassTag → TakesByte 0x71 true r (at_class r)
+pub class_tag_taken : (r : Seen) → r.phase ≡ phase.ClassTag → TakesByte 0x71 true r (at_class r)
 class_tag_taken r ep =
     takes_class_tag 0x71 true r (farther r 1) (at_class r)
     (value_tag value.Reference 0x71 true (farther r 1) (at_class r) refl
@@ -272,7 +272,7 @@ with_class o r = record {
   name = r.name;
 }
 
-same_class : (o : Owner) (r : Seen) → with_class o r ≡ farther (at_class (begun_owner o r)) 4
+pub same_class : (o : Owner) (r : Seen) → with_class o r ≡ farther (at_class (begun_owner o r)) 4
 same_class o r =
     let e : r.meter.at + 2 ≡ r.meter.at + 1 + 1 = omega arith in
     ap (λ k. record {
@@ -292,7 +292,7 @@ same_class o r =
     }) e
 
 -- what is told of the handle of a class
-abbrev TellsClass : ℕ → Bool → (mid new : Seen) → Type 0
+abbrev pub TellsClass : ℕ → Bool → (mid new : Seen) → Type 0
 TellsClass n found mid new =
     Tells (class_handle_reason (plain_gate mid) (label_at (class_handle_at (goal_owner mid.owner)) (suc (length mid.frames)) mid) (goal_owner mid.owner) n)
     (owner_state mid (chain_at mid.table.entries (n - 0x7E0000))) found mid new
@@ -316,12 +316,12 @@ then_all gate piece rest used k all true old mid new before between after h g e 
     subst (λ u. Passes gate piece (Some u) old before new after) ea (then_passes gate piece rest used k old mid new before between after h g e)
 then_all gate piece rest used k all false old mid new before between after h g e ea = then_halts gate piece rest used old mid new before between after h g e
 
-second_is : (piece : List ℕ) (b : ℕ) → b ≡ get_or piece 1 0 → b ≡ get_or (drop 1 piece) 0 0
+pub second_is : (piece : List ℕ) (b : ℕ) → b ≡ get_or piece 1 0 → b ≡ get_or (drop 1 piece) 0 0
 second_is [] b e = e
 second_is (x ∷ []) b e = e
 second_is (x ∷ y ∷ piece) b e = e
 
-two_on : (piece : List ℕ) → drop 2 piece ≡ drop 1 (drop 1 piece)
+pub two_on : (piece : List ℕ) → drop 2 piece ≡ drop 1 (drop 1 piece)
 two_on [] = refl
 two_on (x ∷ []) = refl
 two_on (x ∷ y ∷ piece) = refl
@@ -356,7 +356,7 @@ owner_passes gate o n found piece old mid new m1 m2 before after g can i first h
 -- ---- a string
 
 -- after its tag
-abbrev begun_string : Seen → Seen
+abbrev pub begun_string : Seen → Seen
 begun_string r = record {
   meter = moved (counted_on r.meter 1);
   phase = phase.Length2;
@@ -377,7 +377,7 @@ assigned_text : (r : Seen) → is_full r ≡ false → Assigns text_entry (Some 
 unfolding Assigns
 assigned_text r full = (refl, full, refl)
 
-string_begins : (r : Seen) → HasPlace r → is_full r ≡ false
+pub string_begins : (r : Seen) → HasPlace r → is_full r ≡ false
     → Tells (place_reason (farther r 1) string_tag) (after_tag (farther r 1) string_tag) true (farther r 1) (begun_string r)
 string_begins r h full =
     let deep = h.shallow in

@@ -29,6 +29,7 @@ pub mod Streams
 pub mod Items
 pub mod ItemsMade
 pub mod ItemsTold
+pub mod WholesTold
 pub mod FieldLaws
 pub mod Gates
 pub mod RawRuns

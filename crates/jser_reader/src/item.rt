@@ -48,6 +48,23 @@ pub enum Step<'p> {
     More,
 }
 
+/// A value of several fields, lent at once.
+#[derive(Clone, Copy, PartialEq, Eq, Hash, Debug)]
+pub enum Whole<'p> {
+    /// A reference: its tag, and its handle as it is written. They are five bytes.
+    Reference(u32),
+    /// A string: its tag, its length in two bytes, and these bytes of its text, in modified UTF-8.
+    String(&'p [u8]),
+    /// The beginning of an object, an array, an enum constant or a class object whose class is a reference: its tag, the
+    /// tag of the reference, and the handle of the class as it is written. They are six bytes.
+    Owner {
+        /// The tag.
+        tag: u8,
+        /// The handle.
+        class: u32,
+    },
+}
+
 /// What a stream holds that was read to its end.
 #[derive(Clone, Copy, PartialEq, Eq, Hash, Debug)]
 pub struct Totals {

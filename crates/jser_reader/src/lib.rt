@@ -18,6 +18,6 @@ mod tag;
 mod tally;
 
 pub use gate::{Answer, Gate, OpenGate};
-pub use item::{Item, Step, Totals};
+pub use item::{Item, Step, Totals, Whole};
 pub use reader::Reader;
 pub use refusal::{Reason, Refusal, Stop};

@@ -45,7 +45,7 @@ pub(crate) mod taken;
 mod text_bytes;
 mod texts;
 mod values;
-mod wholes;
+pub(crate) mod wholes;
 
 /// The limits that a gate sets, but for the handles of an epoch, which the table keeps.
 #[derive(Clone, Copy)]

@@ -5,11 +5,13 @@ ghost use Rattle.jser_reader.specs.Bounds.{FramesAreBounded, AreAssigned, Memory
 ghost use Rattle.jser_reader.specs.ItemsMade.{MakesStep};
 ghost use Rattle.jser_reader.specs.ItemsTold.{StandsIn, TellsItems, TellsFields};
 ghost use Rattle.jser_reader.specs.States.{IsWithin};
+ghost use Rattle.jser_reader.specs.WholesTold.{WholeCases};
 
 use crate::gate::Gate;
-use crate::item::{Step, Totals};
+use crate::item::{Step, Totals, Whole};
 use crate::machine::items::{Kept, item_of};
 use crate::machine::taken::Taken;
+use crate::machine::wholes::lent::Lent;
 use crate::machine::{Limits, Machine};
 use crate::phase::Phase;
 use crate::refusal::Stop;
@@ -133,6 +135,28 @@ impl<G: Gate> Reader<G> {
         self.step(piece, front)
     }
 
+    /// A value that is lent at once, where it comes next and all these bytes are at the front of the piece: a reference, a
+    /// string of less than 64 KiB, or the beginning of what has a class, where that is a reference. It is taken in one step,
+    /// as if `next` lent its items one after another.
+    ///
+    /// `None` where something else comes next, or not all bytes of it are there; and for references and strings also where
+    /// they are refused or memory runs out. Nothing is done then, and `next` says what comes.
+    ///
+    /// # Errors
+    ///
+    /// As `next`, where a class is refused or memory runs out. A reader that has stopped answers `None`.
+    #[inline(always)]
+    pub fn next_whole<'p>(&mut self, piece: &'p [u8]) -> Result<Option<Whole<'p>>, Stop>
+        ensures tells { WholeCases (G.told self.old.gate) piece.now result self.old.machine self.old.tally self.new.machine self.new.tally }
+        ensures gate { self.new.gate ≡ self.old.gate }
+    {
+        match self.machine.lend_whole(&mut self.tally, piece) {
+            Lent::Value(whole) => Ok(Some(whole)),
+            Lent::Nothing => Ok(None),
+            Lent::Stopped => Err(self.machine.answer()),
+        }
+    }
+
     /// Takes the whole piece: as `next` called on it, and on what is left of it, until it answers `More`.
     ///
     /// # Errors
@@ -193,7 +217,8 @@ impl<G: Gate> Reader<G> {
     /// How many handles of the epoch are assigned before the field that is open or comes next.
     #[inline(always)]
     pub fn epoch_handles(&self) -> u32
-        ensures { AreAssigned (G.told self.now.gate) result self.now.machine self.now.tally }
+        ensures is { result ≡ length self.now.machine.table.entries }
+        ensures assigned { AreAssigned (G.told self.now.gate) result self.now.machine self.now.tally }
     {
         self.machine.handles()
     }

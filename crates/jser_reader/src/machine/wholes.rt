@@ -9,6 +9,8 @@ ghost use Rattle.jser_reader.specs.Passes.{Passes, CanPass};
 ghost use Rattle.jser_reader.specs.Tags.{told_tag};
 ghost use Rattle.jser_reader.specs.Wholes.{IsPlace, HasPlace, HasNumber, HasText, HasReference, AssignsText, placed, tag_of_owner, all_or_none};
 
+pub(crate) mod lent;
+
 use crate::frame::Owner;
 use crate::machine::Machine;
 use crate::phase::Phase;
