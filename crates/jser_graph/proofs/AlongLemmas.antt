@@ -113,7 +113,7 @@ long_in (text_items long) = long
 long_in _ = false
 
 -- a text of this form, which obeys the format
-record TextTold (told : StreamField) (long : Bool) : Type 0 where
+pub record TextTold (told : StreamField) (long : Bool) : Type 0 where
   units : List ℕ
   is_text : IsText long units
   is : told ≡ text_field long units
@@ -123,7 +123,7 @@ text_of at long units e t =
     let same = ap long_in e in
     record { units = units; is_text = subst (λ l. IsText l units) same t; is = ap (λ l. text_field l units) same }
 
-text_told : (p : Position) (m : Moment) (told : StreamField) (long : Bool) → AcceptsAt p m told → items_at p ≡ text_items long → TextTold told long
+pub text_told : (p : Position) (m : Moment) (told : StreamField) (long : Bool) → AcceptsAt p m told → items_at p ≡ text_items long → TextTold told long
 text_told (string_at false) m (text_field false units) long a e = text_of false long units e a
 text_told (string_at true) m (text_field true units) long a e = text_of true long units e a
 text_told (class_name_at role) m (text_field false units) long a e = text_of false long units e a.0.0
@@ -153,7 +153,7 @@ text_told (raw_at c n) m told long a e = absurd (subst IsTexts (sym e) tt)
 text_told (bytes_at n) m told long a e = absurd (subst IsTexts (sym e) tt)
 text_told _ m told long a e = absurd a
 
-same_rest : (xs zs ys ws : List ℕ) → xs ++ ys ≡ zs ++ ws → length xs ≡ length zs → ys ≡ ws
+pub same_rest : (xs zs ys ws : List ℕ) → xs ++ ys ≡ zs ++ ws → length xs ≡ length zs → ys ≡ ws
 same_rest [] [] ys ws e n = e
 same_rest [] (z ∷ zs) ys ws e n = absurd (omega arith)
 same_rest (x ∷ xs) [] ys ws e n = absurd (omega arith)
@@ -162,7 +162,7 @@ same_rest (x ∷ xs) (z ∷ zs) ys ws e n = same_rest xs zs ys ws (tails e) (ome
     tails : {x y : ℕ} {xs ys : List ℕ} → x ∷ xs ≡ y ∷ ys → xs ≡ ys
     tails e = cc
 
-text_bytes : (told : StreamField) (long : Bool) → TextTold told long
+pub text_bytes : (told : StreamField) (long : Bool) → TextTold told long
     → (units : List ℕ) × IsText long units × (told ≡ text_field long units)
     × (bytes_of told ≡ big_bytes (head_size long) (length (modified_utf8 units)) ++ modified_utf8 units)
 text_bytes told false t = (t.units, t.is_text, t.is, ap bytes_of t.is)

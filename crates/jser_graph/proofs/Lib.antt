@@ -7,6 +7,7 @@ pub mod PartLemmas
 pub mod SurveyLemmas
 pub mod TurnLemmas
 pub mod ReadLemmas
+pub mod WholeLemmas
 pub mod PassLemmas
 pub mod ShowLemmas
 pub mod ShownLemmas

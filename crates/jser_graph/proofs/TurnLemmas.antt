@@ -89,7 +89,7 @@ pub record LeavesOpen (bytes rest : List ℕ) (lent : Item) (r : Seen) (tally : 
 abbrev pub Turn : (bytes rest : List ℕ) → Item → Seen → Tally → (P : List Piece → Type 0) → Type 0
 Turn bytes rest lent r tally P = EndsField bytes rest lent r tally P ⊎ LeavesOpen bytes rest lent r tally P
 
-field_taken : (bytes rest taken cut : List ℕ) (front : List Piece) (lent : Item) (r : Seen) (tally : Tally) (P : List Piece → Type 0)
+pub field_taken : (bytes rest taken cut : List ℕ) (front : List Piece) (lent : Item) (r : Seen) (tally : Tally) (P : List Piece → Type 0)
     → bytes ≡ (joined front ++ cut) ++ (taken ++ rest) → P front → FieldTaken open_gate front cut taken lent r tally → EndsField bytes rest lent r tally P
 field_taken bytes rest taken cut front lent r tally P split before f =
     let joins : joined (front ++ (piece f.label f.told ∷ [])) ≡ joined front ++ (cut ++ taken) =

@@ -1,5 +1,5 @@
 -- Going along the items that a reader lends of a slice of bytes: which fields they end, and where the reader stands.
-use Rattle.std.specs.Prelude.{ℕ, zero, suc, ◌≡◌, ◌≢◌, ◌⊎◌, ◌<◌, Bool, List, [], ◌∷◌, ◌++◌, length}
+use Rattle.std.specs.Prelude.{ℕ, zero, suc, ◌+◌, ◌≡◌, ◌≢◌, ◌⊎◌, ◌<◌, Bool, List, [], ◌∷◌, ◌++◌, length}
 use Rattle.jser_prim.specs.ModifiedUtf8.{IsUnits, modified_utf8}
 use Rattle.jser_reading.specs.Labels.{StreamField, text_field, Label, Piece, piece}
 use Rattle.jser_reading.specs.FieldBytes.{bytes_of, joined}
@@ -8,6 +8,8 @@ use Rattle.jser_reading.specs.ComesNext.{ComesNext}
 use Rattle.jser_verdict.specs.Gates.{Gate}
 use Rattle.jser_reader.specs.declared.Item.{Item}
 use Rattle.jser_reader.specs.declared.Item.TheVariants as item
+use Rattle.jser_reader.specs.declared.Whole.{Whole}
+use Rattle.jser_reader.specs.declared.Whole.TheVariants as whole
 use Rattle.jser_reader.specs.declared.tally.Tally.{Tally}
 use Rattle.jser_reader.specs.Readers.{Seen}
 use Rattle.jser_reader.specs.Items.{items_at, text_items}
@@ -122,3 +124,9 @@ pub record GoesAlong (gate : Gate) (bytes rest : List ℕ) (r : Seen) (tally : T
 -- a reader under the open gate that has taken nothing
 abbrev pub BeginsAt : Reading OpenGate → Type 0
 BeginsAt reader = StandsIn open_gate [] [] reader.machine reader.tally
+
+-- how many bytes a value has that is lent at once
+abbrev pub whole_size : Whole → ℕ
+whole_size (whole.Reference handle) = 5
+whole_size (whole.String text) = length text.now + 3
+whole_size (whole.Owner tag class) = 6

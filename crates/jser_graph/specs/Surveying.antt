@@ -1,10 +1,17 @@
 -- A first walk along the fields of a stream, as code makes it.
-use Rattle.std.specs.Prelude.{◌≡◌, List, length}
-use Rattle.jser_reading.specs.FieldBytes.{joined}
+use Rattle.std.specs.Prelude.{ℕ, ◌≡◌, ◌+◌, ◌-◌, List, length}
+use Rattle.jser_grammar.specs.Wire.{TC_REFERENCE, TC_STRING}
+use Rattle.jser_reading.specs.FieldBytes.{bytes_of, joined}
 use Rattle.jser_reading.specs.Labels.{StreamField, handle_field, array_length_field, text_field, prims_field, bytes_field, Piece}
-use Rattle.jser_shown.specs.Finding.{Finding, begin_finding, found}
+use Rattle.jser_shown.specs.Nodes.{place_after}
+use Rattle.jser_shown.specs.Finding.{Finding, begin_finding, find, found}
 use Rattle.jser_shown.specs.Finding.{Begun as ToldBegun}
 use Rattle.jser_graph.specs.declared.begun.Begun.{Begun}
+use Rattle.jser_reader.specs.declared.Whole.{Whole}
+use Rattle.jser_reader.specs.declared.Whole.TheVariants as whole
+use Rattle.jser_walk.specs.declared.Field.TheVariants as lent
+use Rattle.jser_walk.specs.Given.{IsOf}
+use Rattle.jser_graph.specs.Along.{IsTextOf}
 use Rattle.jser_graph.specs.StoredNodes.{told_kind}
 
 -- a tag whose node is not made yet
@@ -28,3 +35,28 @@ IsQuiet field = ⊥
 pub record IsAt (front : List Piece) (now : Finding) : Type 0 where
   pub found_are : now ≡ found begin_finding front
   pub place : now.place ≡ length (joined front)
+
+-- it went past a field of this kind, which ends at this place, and before which so many handles of the epoch were assigned
+pub record GoesPast (is : StreamField → Type 0) (assigned end : ℕ) (old new : Finding) : Type 0 where
+  pub finds : (told : StreamField) → is told → place_after old.place (bytes_of told) ≡ end → new ≡ find assigned told old
+  pub place : new.place ≡ end
+
+-- it went past two fields, one after another
+pub record GoesPastBoth (one other : StreamField → Type 0) (assigned next middle end : ℕ) (old new : Finding) : Type 0 where
+  pub between : Finding
+  pub first : GoesPast one assigned middle old between
+  pub second : GoesPast other next end between new
+
+-- it went past the tag of what has a class, and the reference that is its class
+pub record GoesPastOwner (tag class assigned end : ℕ) (old new : Finding) : Type 0 where
+  pub within : Finding
+  pub own : GoesPast (IsOf (lent.Tag tag)) assigned (end - 5) old within
+  pub class_is : GoesPastBoth (IsOf (lent.Tag TC_REFERENCE)) (IsOf (lent.Handle class)) assigned assigned (end - 4) end within new
+
+-- it went past the fields of a value that is lent at once
+abbrev pub GoesPastWhole : Whole → (assigned end : ℕ) → (old new : Finding) → Type 0
+GoesPastWhole (whole.Reference handle) assigned end old new =
+    GoesPastBoth (IsOf (lent.Tag TC_REFERENCE)) (IsOf (lent.Handle handle)) assigned assigned (end - 4) end old new
+GoesPastWhole (whole.String text) assigned end old new =
+    GoesPastBoth (IsOf (lent.Tag TC_STRING)) (IsTextOf text.now) assigned (assigned + 1) (end - (2 + length text.now)) end old new
+GoesPastWhole (whole.Owner tag class) assigned end old new = GoesPastOwner tag class assigned end old new

@@ -1,11 +1,11 @@
 //! The first walk along the bytes of a stream.
 ghost use Rattle.std.specs.Prelude.{◌≡◌};
 ghost use Rattle.jser_shown.specs.Finding.{begin_finding};
-ghost use Rattle.jser_graph.specs.Along.{BeginsAt};
+ghost use Rattle.jser_graph.specs.Along.{BeginsAt, whole_size};
 ghost use Rattle.jser_graph.specs.Reading.{Walks, Surveys};
 
 use crate::survey::Survey;
-use jser_reader::{OpenGate, Reader, Step, Stop, Totals};
+use jser_reader::{OpenGate, Reader, Step, Stop, Totals, Whole};
 use jser_reading::laws::one_reading;
 use jser_shown::laws::{finds_fronts, found, places_are_counted};
 use std::alloc::Global;
@@ -31,6 +31,18 @@ pub(crate) fn survey(alloc: Global, bytes: &[u8]) -> Result<Found, Stop>
     }
 }
 
+/// How many bytes a value has that is lent at once.
+#[inline(always)]
+fn size_of(whole: Whole<'_>) -> usize
+    ensures { result ≡ whole_size whole.entry }
+{
+    match whole {
+        Whole::Reference(_) => 5,
+        Whole::String(text) => text.len() + 3,
+        Whole::Owner { .. } => 6,
+    }
+}
+
 /// Goes along the bytes with a new reader, and lets the survey go along their fields.
 fn walk_along(
     reader: &mut Reader<OpenGate>,
@@ -48,18 +60,29 @@ fn walk_along(
     places_are_counted();
     let mut rest = bytes;
     'items: while !rest.is_empty() {
-        let assigned = reader.epoch_handles();
-        match reader.next(rest) {
+        let assigned = reader.epoch_handles() as usize;
+        match reader.next_whole(rest) {
             Err(stop) => return Err(stop),
-            Ok(Step::More) => rest = &[],
-            Ok(Step::Item { item, used }) => {
-                let (_, after) = rest.split_at(used);
+            Ok(Some(whole)) => {
+                let (_, after) = rest.split_at(size_of(whole));
                 let end = (bytes.len() - after.len()) as u64;
-                match survey.item(item, units, assigned, end) {
+                match survey.whole(whole, units, assigned, end) {
                     Ok(()) => rest = after,
                     Err(_) => return Err(Stop::OutOfMemory),
                 }
             }
+            Ok(None) => match reader.next(rest) {
+                Err(stop) => return Err(stop),
+                Ok(Step::More) => rest = &[],
+                Ok(Step::Item { item, used }) => {
+                    let (_, after) = rest.split_at(used);
+                    let end = (bytes.len() - after.len()) as u64;
+                    match survey.item(item, units, assigned, end) {
+                        Ok(()) => rest = after,
+                        Err(_) => return Err(Stop::OutOfMemory),
+                    }
+                }
+            },
         }
     }
     match survey.finish() {

@@ -1,12 +1,12 @@
 //! A first walk along the fields of a stream, which finds its nodes, owners and checked names.
-ghost use Rattle.std.specs.Prelude.{◌≡◌, ◌<◌, ◌≤◌, true, false, length, OnOk, IfOk};
+ghost use Rattle.std.specs.Prelude.{◌≡◌, ◌<◌, ◌≤◌, ◌^◌, true, false, length, OnOk, IfOk};
 ghost use Rattle.jser_reading.specs.FieldBytes.{bytes_of, tag_byte};
 ghost use Rattle.jser_reading.specs.Labels.{StreamField, Tag};
 ghost use Rattle.jser_shown.specs.Finding.{begin_finding, begun_by, find, finished, make_begun, take_field, take_name};
 ghost use Rattle.jser_shown.specs.Nodes.{place_after};
 ghost use Rattle.jser_walk.specs.Given.{IsOf, told_nodes};
 ghost use Rattle.jser_graph.specs.Along.{Ends, IsLength, PartIs};
-ghost use Rattle.jser_graph.specs.Surveying.{IsPlain, IsQuiet};
+ghost use Rattle.jser_graph.specs.Surveying.{IsPlain, IsQuiet, GoesPastWhole};
 ghost use Rattle.jser_graph.specs.Listed.{all_lists};
 
 use crate::begun::{Begun, elements_made, is_owner, kind_begun};
@@ -15,8 +15,10 @@ use crate::nodes::Nodes;
 use crate::owners::Owners;
 use crate::part::{Part, part_of};
 use crate::texts::Texts;
-use jser_grammar::wire::{TC_BLOCKDATA, TC_BLOCKDATALONG, TC_ENDBLOCKDATA, TC_RESET};
-use jser_reader::Item;
+use jser_grammar::wire::{
+    TC_BLOCKDATA, TC_BLOCKDATALONG, TC_ENDBLOCKDATA, TC_REFERENCE, TC_RESET, TC_STRING,
+};
+use jser_reader::{Item, Whole};
 use jser_walk::{Field, OwnerNode};
 use std::alloc::{AllocError, Global};
 use std::marker::Model;
@@ -155,11 +157,11 @@ impl Survey {
 
     /// Whether a node is to be made before the next field, since so many handles are assigned.
     #[inline(always)]
-    fn is_due(&self, assigned: u32) -> bool
+    fn is_due(&self, assigned: usize) -> bool
         ensures due { result ≡ true → length self.now.nodes < assigned }
         ensures made { result ≡ false → assigned ≤ length self.now.nodes }
     {
-        self.nodes.count() < assigned as usize
+        self.nodes.count() < assigned
     }
 
     /// Makes the node of the last tag that has none yet, at a field that is neither a text nor the length of an array.
@@ -173,7 +175,7 @@ impl Survey {
     /// Goes past a tag.
     #[tactic(auto, using(crate::proofs::SurveyLemmas::finds_made, crate::proofs::SurveyLemmas::finds_unmade, crate::proofs::SurveyLemmas::tag_plain, crate::proofs::SurveyLemmas::tag_no_name))]
     #[inline(always)]
-    fn tag(&mut self, tag: u8, assigned: u32, end: u64) -> Result<(), AllocError>
+    fn tag(&mut self, tag: u8, assigned: usize, end: u64) -> Result<(), AllocError>
         ensures finds { OnOk result ((told : StreamField) → IsOf (Field.Tag tag) told → place_after self.old.place (bytes_of told) ≡ end
             → self.new ≡ find assigned told self.old) }
         ensures place { OnOk result (self.new.place ≡ end) }
@@ -190,7 +192,7 @@ impl Survey {
     /// the bytes of a block.
     #[tactic(auto, using(crate::proofs::SurveyLemmas::passes_made, crate::proofs::SurveyLemmas::passes_unmade, crate::proofs::SurveyLemmas::quiet_plain))]
     #[inline(always)]
-    fn pass(&mut self, assigned: u32, end: u64) -> Result<(), AllocError>
+    fn pass(&mut self, assigned: usize, end: u64) -> Result<(), AllocError>
         ensures finds { OnOk result ((told : StreamField) → IsQuiet told → place_after self.old.place (bytes_of told) ≡ end
             → self.new ≡ find assigned told self.old) }
         ensures place { OnOk result (self.new.place ≡ end) }
@@ -205,7 +207,7 @@ impl Survey {
     /// Goes past a field, which ends at this place of the stream; before it so many handles of the epoch were assigned.
     #[tactic(auto, using(crate::proofs::SurveyLemmas::finds_made, crate::proofs::SurveyLemmas::finds_unmade))]
     #[inline(always)]
-    fn field(&mut self, field: Field<'_>, assigned: u32, end: u64) -> Result<(), AllocError>
+    fn field(&mut self, field: Field<'_>, assigned: usize, end: u64) -> Result<(), AllocError>
         ensures finds { OnOk result ((told : StreamField) → IsOf field.entry told → place_after self.old.place (bytes_of told) ≡ end
             → self.new ≡ find assigned told self.old) }
         ensures place { OnOk result (self.new.place ≡ end) }
@@ -226,7 +228,7 @@ impl Survey {
         &mut self,
         item: Item<'_>,
         units: &mut Vec<u16>,
-        assigned: u32,
+        assigned: usize,
         end: u64,
     ) -> Result<(), AllocError>
         ensures finds { OnOk result ((told : StreamField) → Ends item.entry told → place_after self.old.place (bytes_of told) ≡ end
@@ -248,7 +250,7 @@ impl Survey {
         &mut self,
         bytes: &[u8],
         units: &mut Vec<u16>,
-        assigned: u32,
+        assigned: usize,
         end: u64,
     ) -> Result<(), AllocError>
         ensures finds { OnOk result ((told : StreamField) → PartIs (Part.Text bytes.entry) told → place_after self.old.place (bytes_of told) ≡ end
@@ -267,7 +269,7 @@ impl Survey {
         &mut self,
         item: Item<'_>,
         units: &mut Vec<u16>,
-        assigned: u32,
+        assigned: usize,
         end: u64,
     ) -> Result<(), AllocError>
         ensures finds { OnOk result ((told : StreamField) → Ends item.entry told → place_after self.old.place (bytes_of told) ≡ end
@@ -283,6 +285,67 @@ impl Survey {
             Item::TextLength(length) if length > 0 => Ok(()),
             item => self.rare(item, units, assigned, end),
         }
+    }
+
+    /// Goes past a value that is lent at once, and ends at this place of the stream; before it so many handles of the epoch
+    /// were assigned. `units` is room for those of a text.
+    #[inline(always)]
+    pub(crate) fn whole(
+        &mut self,
+        whole: Whole<'_>,
+        units: &mut Vec<u16>,
+        assigned: usize,
+        end: u64,
+    ) -> Result<(), AllocError>
+        requires { assigned < 2 ^ 32 }
+        ensures { OnOk result (GoesPastWhole whole.entry assigned end self.old self.new) }
+    {
+        match whole {
+            Whole::Reference(handle) => self.reference(handle, assigned, end),
+            Whole::String(text) => self.string(text, units, assigned, end),
+            Whole::Owner { tag, class } => self.owner(tag, class, assigned, end),
+        }
+    }
+
+    /// Goes past a reference.
+    #[tactic(auto, using(crate::proofs::WholeLemmas::past_reference))]
+    #[inline(always)]
+    fn reference(&mut self, handle: u32, assigned: usize, end: u64) -> Result<(), AllocError>
+        ensures { OnOk result (GoesPastWhole (Whole.Reference handle) assigned end self.old self.new) }
+    {
+        let _ = handle;
+        self.tag(TC_REFERENCE, assigned, end.saturating_sub(4))?;
+        self.pass(assigned, end)
+    }
+
+    /// Goes past the tag of what has a class, and the reference that is its class.
+    #[tactic(auto, using(crate::proofs::WholeLemmas::past_owner))]
+    #[inline(always)]
+    fn owner(&mut self, tag: u8, class: u32, assigned: usize, end: u64) -> Result<(), AllocError>
+        ensures { OnOk result (GoesPastWhole (Whole.Owner tag class) assigned end self.old self.new) }
+    {
+        self.tag(tag, assigned, end.saturating_sub(5))?;
+        self.reference(class, assigned, end)
+    }
+
+    /// Goes past a string.
+    #[inline(always)]
+    fn string(
+        &mut self,
+        text: &[u8],
+        units: &mut Vec<u16>,
+        assigned: usize,
+        end: u64,
+    ) -> Result<(), AllocError>
+        requires { assigned < 2 ^ 32 }
+        ensures { OnOk result (GoesPastWhole (Whole.String text.entry) assigned end self.old self.new) }
+    {
+        self.tag(
+            TC_STRING,
+            assigned,
+            end.saturating_sub(text.len() as u64 + 2),
+        )?;
+        self.text(text, units, assigned + 1, end)
     }
 
     /// The end of the stream: the last node is made, if it is not.
