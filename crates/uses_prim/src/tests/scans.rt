@@ -230,3 +230,12 @@ fn a_fault_in_a_slice_stays(rt: HostRuntime) {
     assert!(rt; !scan.is_done());
     assert_eq!(rt; push(&rt, &mut scan, b'c'), Err(TextFault));
 }
+
+/// A slice of plain ASCII is taken at once, and one with another byte is not.
+#[test]
+fn plain_slices(rt: HostRuntime) {
+    let mut scan = TextScan::new(4);
+    assert!(rt; scan.push_plain(b"ab"));
+    assert!(rt; !scan.push_plain(b"a\0"));
+    assert_eq!(rt; scan.left(), 2);
+}

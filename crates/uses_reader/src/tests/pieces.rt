@@ -1,7 +1,7 @@
 //! Items, states and cut streams, piece by piece.
 
 use crate::tests::{answer_of, totals};
-use jser_reader::{Item, OpenGate, Reader, Reason, Refusal, Step, Stop};
+use jser_reader::{Item, OpenGate, Reader, Reason, Refusal, Step, Stop, Whole};
 use std::alloc::Global;
 use std::process::Abort;
 use std::test::Fail;
@@ -85,4 +85,17 @@ fn linked_pair_cuts(rt: HostRuntime) {
     for cut in 0..69 {
         assert_cut(&rt, rt.alloc(), cut);
     }
+}
+
+/// A string, and a reference to it, are lent at once where they are whole in the piece; half a reference is not.
+#[test]
+fn whole_values(rt: HostRuntime) {
+    let mut reader = Reader::new(rt.alloc(), OpenGate);
+    assert_eq!(rt; reader.skip(&[0xAC, 0xED, 0x00, 0x05]), Ok(()));
+    let text = reader.next_whole(&[0x74, 0x00, 0x01, 0x61]);
+    assert_eq!(rt; text, Ok(Some(Whole::String(&[0x61]))));
+    let half = reader.next_whole(&[0x71, 0x00, 0x7E]);
+    assert_eq!(rt; half, Ok(None));
+    let back = reader.next_whole(&[0x71, 0x00, 0x7E, 0x00, 0x00]);
+    assert_eq!(rt; back, Ok(Some(Whole::Reference(0x7E_0000))));
 }

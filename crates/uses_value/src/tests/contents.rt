@@ -133,7 +133,7 @@ fn tree_nest_999(rt: HostRuntime) -> Result<(), Fail> {
     Ok(())
 }
 
-/// The list is refused for this cause, or for want of memory, and handed back.
+/// The list is refused for this cause and handed back, or memory runs out.
 fn assert_refused(
     rt: &(impl Abort + AllocGlobal),
     list: Build,
