@@ -10,6 +10,7 @@ pub mod ReadLemmas
 pub mod WholeLemmas
 pub mod PassLemmas
 pub mod ShowLemmas
+pub mod SaidLemmas
 pub mod ShownLemmas
 pub mod NodeLemmas
 pub mod GraphLemmas

@@ -1,5 +1,6 @@
 -- Going along the items that a reader lends of a slice of bytes: which fields they end, and where the reader stands.
 use Rattle.std.specs.Prelude.{ℕ, zero, suc, ◌+◌, ◌≡◌, ◌≢◌, ◌⊎◌, ◌<◌, Bool, List, [], ◌∷◌, ◌++◌, length}
+use Rattle.jser_grammar.specs.Wire.{TC_REFERENCE, TC_STRING}
 use Rattle.jser_prim.specs.ModifiedUtf8.{IsUnits, modified_utf8}
 use Rattle.jser_reading.specs.Labels.{StreamField, text_field, Label, Piece, piece}
 use Rattle.jser_reading.specs.FieldBytes.{bytes_of, joined}
@@ -130,3 +131,9 @@ abbrev pub whole_size : Whole → ℕ
 whole_size (whole.Reference handle) = 5
 whole_size (whole.String text) = length text.now + 3
 whole_size (whole.Owner tag class) = 6
+
+-- its items
+abbrev pub items_of : Whole → List Item
+items_of (whole.Reference handle) = item.Tag TC_REFERENCE ∷ item.Handle handle ∷ []
+items_of (whole.String text) = item.Tag TC_STRING ∷ item.TextPart text ∷ []
+items_of (whole.Owner tag class) = item.Tag tag ∷ item.Tag TC_REFERENCE ∷ item.Handle class ∷ []

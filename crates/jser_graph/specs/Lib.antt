@@ -6,4 +6,5 @@ pub mod Surveying
 pub mod Reading
 pub mod Graphs
 pub mod Outputs
+pub mod SaidItems
 pub mod Showing

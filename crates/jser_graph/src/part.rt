@@ -1,7 +1,8 @@
 //! What a reader lends of a stream that it is given in one piece: fields, or the bytes of texts.
-ghost use Rattle.jser_graph.specs.Along.{IsPartOf};
+ghost use Rattle.std.specs.Prelude.{◌≡◌};
+ghost use Rattle.jser_graph.specs.Along.{IsPartOf, whole_size};
 
-use jser_reader::Item;
+use jser_reader::{Item, Whole};
 use jser_walk::Field;
 
 /// A field, or what leads to one.
@@ -35,5 +36,17 @@ pub(crate) fn part_of(item: Item<'_>) -> Part<'_>
         Item::ArrayLength(length) => Part::Field(Field::ArrayLength(length)),
         Item::BlockLength(length) => Part::Field(Field::BlockLength(length)),
         Item::RawPart(bytes) => Part::Field(Field::Raw(bytes)),
+    }
+}
+
+/// How many bytes a value has that is lent at once.
+#[inline(always)]
+pub(crate) fn size_of(whole: Whole<'_>) -> usize
+    ensures { result ≡ whole_size whole.entry }
+{
+    match whole {
+        Whole::Reference(_) => 5,
+        Whole::String(text) => text.len() + 3,
+        Whole::Owner { .. } => 6,
     }
 }

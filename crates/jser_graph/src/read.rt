@@ -1,11 +1,12 @@
 //! The first walk along the bytes of a stream.
 ghost use Rattle.std.specs.Prelude.{◌≡◌};
 ghost use Rattle.jser_shown.specs.Finding.{begin_finding};
-ghost use Rattle.jser_graph.specs.Along.{BeginsAt, whole_size};
+ghost use Rattle.jser_graph.specs.Along.{BeginsAt};
 ghost use Rattle.jser_graph.specs.Reading.{Walks, Surveys};
 
+use crate::part::size_of;
 use crate::survey::Survey;
-use jser_reader::{OpenGate, Reader, Step, Stop, Totals, Whole};
+use jser_reader::{OpenGate, Reader, Step, Stop, Totals};
 use jser_reading::laws::one_reading;
 use jser_shown::laws::{finds_fronts, found, places_are_counted};
 use std::alloc::Global;
@@ -28,18 +29,6 @@ pub(crate) fn survey(alloc: Global, bytes: &[u8]) -> Result<Found, Stop>
     match walk_along(&mut reader, &mut survey, &mut units, bytes) {
         Ok(totals) => Ok(Found { survey, totals }),
         Err(stop) => Err(stop),
-    }
-}
-
-/// How many bytes a value has that is lent at once.
-#[inline(always)]
-fn size_of(whole: Whole<'_>) -> usize
-    ensures { result ≡ whole_size whole.entry }
-{
-    match whole {
-        Whole::Reference(_) => 5,
-        Whole::String(text) => text.len() + 3,
-        Whole::Owner { .. } => 6,
     }
 }
 

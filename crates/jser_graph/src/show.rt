@@ -2,20 +2,23 @@
 ghost use Rattle.std.specs.Prelude.{◌≡◌, OnOk, OnErr, IfOk, IfErr};
 ghost use Rattle.jser_reading.specs.Labels.{StreamField};
 ghost use Rattle.jser_shown.specs.Telling.{begin_telling, goes, settled};
+ghost use Rattle.jser_walk.specs.Given.{IsOf};
 ghost use Rattle.jser_words.specs.Passing.{says_next};
 ghost use Rattle.jser_words.specs.Says.{BeginsTo, SaysTo};
-ghost use Rattle.jser_graph.specs.Along.{BeginsAt, Ends, IsLength, IsTextOf};
+ghost use Rattle.jser_graph.specs.Along.{BeginsAt, Ends, IsLength, IsTextOf, items_of};
 ghost use Rattle.jser_graph.specs.Showing.{CountsText, WroteText, WroteFront, KeptSink, HasFailedIf, PutsTextTo, PutsFrontTo};
+ghost use Rattle.jser_graph.specs.SaidItems.{SaysItemsTo, BeginsItemsTo};
 
 use crate::decode::decode;
 use crate::graph::Graph;
 use crate::output::GraphFault;
-use crate::part::{Part, part_of};
+use crate::part::{Part, part_of, size_of};
+use jser_grammar::wire::{TC_REFERENCE, TC_STRING};
 use jser_prim::{Outbox, Sink};
-use jser_reader::{Item, OpenGate, Reader, Step};
+use jser_reader::{Item, OpenGate, Reader, Step, Whole};
 use jser_shown::laws::{one_more, tells_fronts, told};
 use jser_walk::{Field, Walk};
-use jser_words::{say_all_due, say_next, say_plain_string};
+use jser_words::{say_all_due, say_next, say_plain_handle, say_plain_string};
 use std::alloc::{AllocError, Global};
 
 impl Graph {
@@ -98,15 +101,23 @@ fn say_along<W: Sink>(
         if outbox.has_failed() {
             return Ok(());
         }
-        match reader.next(rest) {
-            // The bytes were accepted before, by a reader like this one, so nothing is refused here.
+        // The bytes were accepted before, by a reader like this one, so nothing is refused here.
+        match reader.next_whole(rest) {
             Err(_) => return Err(AllocError),
-            Ok(Step::More) => rest = &[],
-            Ok(Step::Item { item, used }) => {
-                let (_, after) = rest.split_at(used);
-                say_item(outbox, sink, walk, units, item)?;
+            Ok(Some(whole)) => {
+                let (_, after) = rest.split_at(size_of(whole));
+                say_whole(outbox, sink, walk, units, whole)?;
                 rest = after;
             }
+            Ok(None) => match reader.next(rest) {
+                Err(_) => return Err(AllocError),
+                Ok(Step::More) => rest = &[],
+                Ok(Step::Item { item, used }) => {
+                    let (_, after) = rest.split_at(used);
+                    say_item(outbox, sink, walk, units, item)?;
+                    rest = after;
+                }
+            },
         }
     }
     say_all_due(outbox, sink, walk)
@@ -138,6 +149,97 @@ fn say_item<W: Sink>(
         Part::Text(bytes) => say_text(outbox, sink, walk, units, bytes),
         Part::Length => Ok(()),
     }
+}
+
+/// Says the fields of a value that is lent at once, each with all that is due before it.
+///
+/// # Errors
+///
+/// Where memory runs out. What was said before is a beginning of that.
+#[inline(always)]
+fn say_whole<W: Sink>(
+    outbox: &mut Outbox,
+    sink: &mut W,
+    walk: &mut Walk<'_>,
+    units: &mut Vec<u16>,
+    whole: Whole<'_>,
+) -> Result<(), AllocError>
+    ensures said { OnOk result (SaysItemsTo W.gone_out W.has_failed (items_of whole.entry) outbox.old outbox.new sink.old sink.new walk.old walk.new) }
+    ensures front { OnErr result (BeginsItemsTo W.gone_out W.has_failed (items_of whole.entry) outbox.old outbox.new sink.old sink.new walk.old) }
+{
+    match whole {
+        Whole::Reference(handle) => say_reference(outbox, sink, walk, handle),
+        Whole::String(text) => say_string(outbox, sink, walk, units, text),
+        Whole::Owner { tag, class } => say_owner(outbox, sink, walk, tag, class),
+    }
+}
+
+/// Says a reference.
+fn say_reference<W: Sink>(
+    outbox: &mut Outbox,
+    sink: &mut W,
+    walk: &mut Walk<'_>,
+    handle: u32,
+) -> Result<(), AllocError>
+    ensures said { OnOk result (SaysItemsTo W.gone_out W.has_failed (items_of (Whole.Reference handle)) outbox.old outbox.new sink.old sink.new walk.old walk.new) }
+    ensures front { OnErr result (BeginsItemsTo W.gone_out W.has_failed (items_of (Whole.Reference handle)) outbox.old outbox.new sink.old sink.new walk.old) }
+{
+    say_next(outbox, sink, walk, Field::Tag(TC_REFERENCE))?;
+    say_handle(outbox, sink, walk, handle)
+}
+
+/// Says the handle of a reference, with all that is due before it. Of most handles nothing is made.
+///
+/// # Errors
+///
+/// Where memory runs out. What was said before is a beginning of that.
+#[inline(always)]
+fn say_handle<W: Sink>(
+    outbox: &mut Outbox,
+    sink: &mut W,
+    walk: &mut Walk<'_>,
+    handle: u32,
+) -> Result<(), AllocError>
+    ensures said { OnOk result ((told : StreamField) → IsOf (Field.Handle handle) told
+        → SaysTo W.gone_out W.has_failed outbox.old outbox.new sink.old sink.new (λ k. says_next walk.old told k)) }
+    ensures goes { OnOk result ((told : StreamField) → IsOf (Field.Handle handle) told → walk.new ≡ goes (settled walk.old) told) }
+    ensures front { OnErr result ((told : StreamField) → IsOf (Field.Handle handle) told
+        → BeginsTo W.gone_out W.has_failed outbox.old outbox.new sink.old sink.new (λ k. says_next walk.old told k)) }
+{
+    if say_plain_handle(outbox, sink, walk, handle) {
+        return Ok(());
+    }
+    say_next(outbox, sink, walk, Field::Handle(handle))
+}
+
+/// Says a string.
+fn say_string<W: Sink>(
+    outbox: &mut Outbox,
+    sink: &mut W,
+    walk: &mut Walk<'_>,
+    units: &mut Vec<u16>,
+    text: &[u8],
+) -> Result<(), AllocError>
+    ensures said { OnOk result (SaysItemsTo W.gone_out W.has_failed (items_of (Whole.String text.entry)) outbox.old outbox.new sink.old sink.new walk.old walk.new) }
+    ensures front { OnErr result (BeginsItemsTo W.gone_out W.has_failed (items_of (Whole.String text.entry)) outbox.old outbox.new sink.old sink.new walk.old) }
+{
+    say_next(outbox, sink, walk, Field::Tag(TC_STRING))?;
+    say_text(outbox, sink, walk, units, text)
+}
+
+/// Says the tag of what has a class, and the reference that is its class.
+fn say_owner<W: Sink>(
+    outbox: &mut Outbox,
+    sink: &mut W,
+    walk: &mut Walk<'_>,
+    tag: u8,
+    class: u32,
+) -> Result<(), AllocError>
+    ensures said { OnOk result (SaysItemsTo W.gone_out W.has_failed (items_of (Whole.Owner tag class)) outbox.old outbox.new sink.old sink.new walk.old walk.new) }
+    ensures front { OnErr result (BeginsItemsTo W.gone_out W.has_failed (items_of (Whole.Owner tag class)) outbox.old outbox.new sink.old sink.new walk.old) }
+{
+    say_next(outbox, sink, walk, Field::Tag(tag))?;
+    say_reference(outbox, sink, walk, class)
 }
 
 /// Says a text from its bytes, with all that is due before it. The bytes of most strings stand for themselves.

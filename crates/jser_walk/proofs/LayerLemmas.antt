@@ -13,7 +13,7 @@ field_told fields i f inside is = get_or-map told_field fields i f no_field insi
 pub code_at : (fields : List NamedField) (i : ℕ) (f : NamedField) (b : Bool) → i < length fields → f ≡ slice_index_or fields i f → b ≡ is_some (prim_code_of f.code) → b ≡ is_raw_at (told_fields fields) i
 code_at fields i f b inside is primitive = primitive ∙ ap (λ (g : ToldField). is_some (prim_code_of g.code)) (sym (field_told fields i f inside is))
 
-pub name_at : (fields : List NamedField) (i : ℕ) (f : NamedField) (name : List ℕ) → i < length fields → f ≡ slice_index_or fields i f → name ≡ f.name.items → name ≡ (field_at (told_fields fields) i).name
+pub name_at : (fields : List NamedField) (i : ℕ) (f : NamedField) (name : List ℕ) → i < length fields → f ≡ slice_index_or fields i f → name ≡ f.name → name ≡ (field_at (told_fields fields) i).name
 name_at fields i f name inside is same = same ∙ ap (λ (g : ToldField). g.name) (sym (field_told fields i f inside is))
 
 -- over fields as they are told

@@ -1,3 +1,4 @@
+pub mod NameLemmas
 pub mod ChainLemmas
 pub mod FilledLemmas
 pub mod RunLemmas

@@ -8,13 +8,13 @@ use Rattle.jser_walk.specs.declared.layer.Layer.TheVariants as layer
 use Rattle.jser_walk.specs.declared.layer.NamedField.{NamedField}
 
 abbrev pub told_field : NamedField → ToldField
-told_field f = record { code = f.code; name = f.name.items }
+told_field f = record { code = f.code; name = f.name }
 
 abbrev pub told_fields : List NamedField → List ToldField
 told_fields fields = map told_field fields
 
 abbrev pub told_layer : Layer → NamedLayer
-told_layer (layer.Class name flags fields) = class_layer name.items flags (told_fields fields.items)
+told_layer (layer.Class name flags fields) = class_layer name flags (told_fields fields.items)
 told_layer layer.Proxy = proxy_layer
 
 abbrev pub told_layers : List Layer → List NamedLayer

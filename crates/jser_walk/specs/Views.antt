@@ -15,10 +15,6 @@ use Rattle.jser_walk.specs.Steps.{Due as ToldDue}
 use Rattle.jser_walk.specs.Prompts.{header_prompt, top_prompt, handle_prompt, string_prompt, type_text_prompt, block_length_prompt, block_prompt, note_prompt, enum_name_prompt, array_length_prompt, elements_prompt, raw_prompt, value_prompt, class_prompt, super_prompt, class_name_prompt, suid_prompt, flags_prompt, field_count_prompt, field_prompt, field_name_prompt, interface_count_prompt, interface_prompt, no_prompt}
 use Rattle.jser_walk.specs.Prompts.{Prompt as ToldPrompt}
 
--- a stand-in until the walk has its parts
-abbrev pub view_walk : ℕ → List OwnerNode → List ℕ → Teller
-view_walk e os xs = teller e (map (λ x. known_text) xs) (told_nodes os) (header_cue ∷ top_cue ∷ [])
-
 -- a name, where there is one
 abbrev pub view_name : Option (Bor (List ℕ)) → Option (List ℕ)
 view_name None = None

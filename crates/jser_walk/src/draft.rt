@@ -5,6 +5,7 @@ ghost use Rattle.jser_shown.specs.Cues.{fields_done};
 ghost use Rattle.jser_walk.specs.Layers.{told_layer};
 
 use crate::layer::{Layer, NamedField};
+use crate::name::Name;
 use std::alloc::{AllocError, Global};
 use std::marker::Model;
 use std::mem;
@@ -13,7 +14,7 @@ use std::mem;
 #[derive(Drop)]
 pub(crate) struct Draft {
     alloc: Global,
-    name: Vec<u16>,
+    name: Name,
     fields: Vec<NamedField>,
 }
 
@@ -22,7 +23,7 @@ impl Model for Draft {
 
     ghost Value = { DraftView };
 
-    ghost view = { λ a. record { name = a.name.items; done = done_of a.fields.items } };
+    ghost view = { λ a. record { name = a.name; done = done_of a.fields.items } };
 }
 
 impl Draft {
@@ -33,7 +34,7 @@ impl Draft {
     {
         Draft {
             alloc,
-            name: Vec::new(alloc),
+            name: Name::empty(alloc),
             fields: Vec::new(alloc),
         }
     }
@@ -42,7 +43,7 @@ impl Draft {
     pub(crate) fn begin(&mut self, name: &[u16]) -> Result<(), AllocError>
         ensures name { OnOk result (self.new.name ≡ name.now) }
     {
-        self.name = name.to_vec(self.alloc)?;
+        self.name = Name::new(self.alloc, name)?;
         Ok(())
     }
 
@@ -60,7 +61,7 @@ impl Draft {
         ensures name { OnOk result (self.new.name ≡ self.old.name) }
         ensures done { OnOk result (self.new.done ≡ record { code = code; name = name.now } ∷ self.old.done) }
     {
-        let name = name.to_vec(self.alloc)?;
+        let name = Name::new(self.alloc, name)?;
         self.fields.push(NamedField { code, name })?;
         Ok(())
     }
@@ -70,7 +71,7 @@ impl Draft {
     pub(crate) fn finish(&mut self, flags: u8) -> Layer
         ensures { told_layer result ≡ class_layer self.old.name flags (fields_done self.old.done []) }
     {
-        let name = mem::replace(&mut self.name, Vec::new(self.alloc));
+        let name = mem::replace(&mut self.name, Name::empty(self.alloc));
         let fields = mem::replace(&mut self.fields, Vec::new(self.alloc));
         Layer::Class {
             name,

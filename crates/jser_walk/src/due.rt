@@ -1,23 +1,24 @@
 //! What is due between two fields.
 
+use crate::name::Name;
 use crate::owner::Owner;
 
 /// What a walk comes to where no field belongs to it.
-#[derive(Clone, Copy, PartialEq, Eq, Debug)]
+#[derive(Clone, Copy)]
 pub enum Due<'w> {
     /// The section of a class of an object begins.
     Section {
         /// The level of its line.
         level: u64,
         /// The name of the class; None for a proxy.
-        name: Option<&'w [u16]>,
+        name: Option<&'w Name>,
     },
     /// The one section of an externalizable object begins.
     External {
         /// The level of its line.
         level: u64,
         /// The name of the class.
-        name: Option<&'w [u16]>,
+        name: Option<&'w Name>,
     },
     /// The type of a field comes next.
     TypeWord,

@@ -6,6 +6,7 @@ ghost use Rattle.jser_walk.specs.Steps.{layer_name};
 ghost use Rattle.jser_walk.specs.Layers.{told_layer, told_fields, is_filled, field_at, is_raw_at, NextRaw, NextValue};
 ghost use Rattle.jser_walk.specs.Views.{view_name};
 
+use crate::name::Name;
 use jser_table::flags::{SC_EXTERNALIZABLE, SC_WRITE_METHOD};
 
 /// A field of a class.
@@ -13,8 +14,8 @@ use jser_table::flags::{SC_EXTERNALIZABLE, SC_WRITE_METHOD};
 pub(crate) struct NamedField {
     /// The type code.
     pub(crate) code: u8,
-    /// The UTF-16 units of its name.
-    pub(crate) name: Vec<u16>,
+    /// Its name.
+    pub(crate) name: Name,
 }
 
 /// A class of a chain.
@@ -22,8 +23,8 @@ pub(crate) struct NamedField {
 pub(crate) enum Layer {
     /// A plain class.
     Class {
-        /// The UTF-16 units of its name.
-        name: Vec<u16>,
+        /// Its name.
+        name: Name,
         /// The flags of its descriptor.
         flags: u8,
         /// Its fields, in the order of the descriptor.
@@ -36,11 +37,11 @@ pub(crate) enum Layer {
 impl Layer {
     /// The name; None for a proxy.
     #[inline(always)]
-    pub(crate) fn name(&self) -> Option<&[u16]>
+    pub(crate) fn name(&self) -> Option<&Name>
         ensures { view_name result ≡ layer_name (told_layer self.now) }
     {
         match self {
-            Layer::Class { name, .. } => Some(name.as_slice()),
+            Layer::Class { name, .. } => Some(name),
             Layer::Proxy => None,
         }
     }
@@ -119,11 +120,11 @@ fn is_raw(fields: &[NamedField], place: usize) -> bool
 /// The name of the field at this place.
 #[tactic(auto, using(crate::proofs::LayerLemmas::name_at))]
 #[inline(always)]
-pub(crate) fn name_of(fields: &[NamedField], place: usize) -> &[u16]
+pub(crate) fn name_of(fields: &[NamedField], place: usize) -> &Name
     requires { place < length fields.now }
     ensures { result.now ≡ (field_at (told_fields fields.now) place).name }
 {
-    fields[place].name.as_slice()
+    &fields[place].name
 }
 
 /// The place of the next field of a primitive type, at `from` or after it.

@@ -9,6 +9,7 @@ mod field;
 mod frame;
 pub mod laws;
 mod layer;
+mod name;
 mod owner;
 mod part;
 mod phase;
@@ -21,6 +22,7 @@ mod walk;
 
 pub use due::Due;
 pub use field::Field;
+pub use name::{Name, quoted_unit};
 pub use owner::{Owner, OwnerNode};
 pub use prompt::Prompt;
 pub use seen::{Seen, Tag, see};

@@ -5,6 +5,7 @@ ghost use Rattle.jser_walk.specs.Frames.{IsNextPart, LeadsToFields};
 
 use crate::frame::Stage;
 use crate::layer::{Layer, name_of, next_raw, next_value};
+use crate::name::Name;
 use crate::seen::Tag;
 use crate::table::Table;
 
@@ -12,11 +13,11 @@ use crate::table::Table;
 #[derive(Clone, Copy)]
 pub(crate) enum Part<'t> {
     /// The first line of the section of a class with this name; None for a proxy.
-    Section(Option<&'t [u16]>),
+    Section(Option<&'t Name>),
     /// The raw value of the field with this name.
-    Raw(&'t [u16]),
+    Raw(&'t Name),
     /// The value of the field with this name.
-    Value(&'t [u16]),
+    Value(&'t Name),
     /// The annotation of a section.
     Notes,
     /// None: all sections have ended.

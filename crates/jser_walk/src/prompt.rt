@@ -1,7 +1,9 @@
 //! What the next field is wanted for.
 
+use crate::name::Name;
+
 /// What the next field is wanted for, with what is needed to say it. `level` is the level of the line that begins there.
-#[derive(Clone, Copy, PartialEq, Eq, Debug)]
+#[derive(Clone, Copy)]
 pub enum Prompt<'w> {
     /// The header.
     Header,
@@ -26,9 +28,9 @@ pub enum Prompt<'w> {
     /// All raw elements of an array, or its next element.
     Elements { level: u64, index: u32, left: u32 },
     /// A raw value in a section of this level; its line is one level deeper.
-    RawField { level: u64, name: &'w [u16] },
+    RawField { level: u64, name: &'w Name },
     /// A value in a section of this level; its line is one level deeper.
-    ValueField { level: u64, name: &'w [u16] },
+    ValueField { level: u64, name: &'w Name },
     /// A class place.
     Class { level: u64 },
     /// A superclass place.

@@ -1,10 +1,11 @@
 //! The walk: where it stands, and its steps.
 ghost use Rattle.std.specs.Prelude.{◌≡◌, ℕ, List, Bool, true, false, ◌∷◌, [], length, Some, None, OnOk};
-ghost use Rattle.jser_reading.specs.Labels.{StreamField, text_field};
+ghost use Rattle.jser_reading.specs.Labels.{StreamField, handle_field, text_field};
 ghost use Rattle.jser_shown.specs.Telling.{begin_telling, goes, first_owner};
 ghost use Rattle.jser_walk.specs.Given.{IsOf, told_node, told_nodes};
+ghost use Rattle.jser_walk.specs.Seen.{Sees};
 ghost use Rattle.jser_walk.specs.Steps.{due, pass};
-ghost use Rattle.jser_walk.specs.Prompts.{prompt_of, string_prompt};
+ghost use Rattle.jser_walk.specs.Prompts.{handle_prompt, prompt_of, string_prompt};
 ghost use Rattle.jser_walk.specs.Views.{view_due, view_prompt};
 
 mod passing;
@@ -16,7 +17,7 @@ use crate::field::Field;
 use crate::owner::OwnerNode;
 use crate::phase::{Over, Phase};
 use crate::prompt::Prompt;
-use crate::seen::see;
+use crate::seen::{Seen, see};
 use crate::standing::Standing;
 use std::alloc::{AllocError, Global};
 use std::marker::Model;
@@ -150,12 +151,41 @@ impl<'a> Walk<'a> {
         }
     }
 
-    /// Goes past a field.
+    /// Goes past the handle of a reference, whichever it is, where it is waited for and nothing is made of it. False where
+    /// something else is.
+    #[inline(always)]
+    pub fn pass_handle(&mut self) -> bool
+        ensures waited { result ≡ true → prompt_of self.old ≡ handle_prompt }
+        ensures goes { result ≡ true → (number : ℕ) → self.new ≡ goes self.old (handle_field number) }
+        ensures kept { result ≡ false → self.new ≡ self.old }
+    {
+        match self.phase {
+            Phase::Handle => {
+                self.phase = Phase::Frames;
+                true
+            }
+            _ => false,
+        }
+    }
+
+    /// Goes past what is seen of a field.
     ///
     /// # Errors
     ///
     /// Where memory runs out.
     #[tactic(auto, using(crate::proofs::WalkLemmas::goes_seen))]
+    #[inline(always)]
+    pub fn take_seen(&mut self, seen: Seen<'_>) -> Result<(), AllocError>
+        ensures { OnOk result ((told : StreamField) → Sees (Some seen.entry) told → self.new ≡ goes self.old told) }
+    {
+        self.go_past(seen)
+    }
+
+    /// Goes past a field.
+    ///
+    /// # Errors
+    ///
+    /// Where memory runs out.
     #[inline(always)]
     pub fn take(&mut self, field: Field<'_>) -> Result<(), AllocError>
         ensures { OnOk result ((told : StreamField) → IsOf field.entry told → self.new ≡ goes self.old told) }

@@ -5,16 +5,18 @@ use Rattle.std.specs.List.{flat_map}
 use Rattle.std.proofs.lemmas.List.{take_more, flat_map_more}
 use Rattle.std.proofs.lemmas.Bool.Decides.{nat_tests}
 use Rattle.jser_prim.specs.Outgoing.{Outgoing, SinkState}
-use Rattle.jser_reading.specs.Labels.{text_field}
+use Rattle.jser_reading.specs.Labels.{StreamField, handle_field, text_field}
 use Rattle.jser_shown.specs.Cues.{Teller}
-use Rattle.jser_shown.specs.Telling.{says, seen_text, first_owner, goes, settled}
-use Rattle.jser_shown.specs.Words.{end_line, quoted, quoted_unit}
-use Rattle.jser_walk.specs.Prompts.{prompt_of, prompt_says, string_prompt}
+use Rattle.jser_shown.specs.Telling.{says, seen, seen_handle, seen_text, handle_says, first_owner, goes, settled}
+use Rattle.jser_shown.specs.Words.{end_line, mark, quoted, quoted_unit}
+use Rattle.jser_walk.specs.declared.Field.TheVariants as lent
+use Rattle.jser_walk.specs.Given.{IsOf}
+use Rattle.jser_walk.specs.Prompts.{prompt_of, prompt_says, handle_prompt, string_prompt}
 use Rattle.jser_words.specs.Passing.{says_next, waits}
 use Rattle.jser_words.specs.Plain.{ArePlain}
 use Rattle.jser_words.specs.Says.{Says}
 use Rattle.jser_words.proofs.FieldLemmas.{in-cues-says}
-use Rattle.jser_words.proofs.SaysLemmas.{says_same, says_three}
+use Rattle.jser_words.proofs.SaysLemmas.{says_name, says_same}
 use Rattle.jser_words.proofs.StepLemmas.{none_due, says_waited, goes_waited}
 
 -- a byte more
@@ -64,6 +66,19 @@ goes_string s t long bytes wants is = goes_waited s t (text_field long bytes) (n
 
 pub says_plain_line : (a b c g : Outgoing) (d e f h : SinkState) (bytes : List ℕ) → flat_map quoted_unit bytes ≡ bytes → Says a b d e (λ k. 0x22 ∷ k)
     → Says b c e f (λ k. bytes ++ k) → Says c g f h (λ k. 0x22 ∷ (0x0A ∷ k)) → Says a g d h (λ k. quoted bytes (end_line k))
-says_plain_line a b c g d e f h bytes plain x y z =
-    says_same a g d h (λ k. 0x22 ∷ (bytes ++ (0x22 ∷ (0x0A ∷ k)))) (λ k. quoted bytes (end_line k)) (λ k. ap (λ t. 0x22 ∷ (t ++ (0x22 ∷ (0x0A ∷ k)))) plain)
-    (says_three a b c g d e f h (λ k. 0x22 ∷ k) (λ k. bytes ++ k) (λ k. 0x22 ∷ (0x0A ∷ k)) x y z)
+says_plain_line a b c g d e f h bytes plain x y z = says_name a b c g d e f h bytes bytes (0x0A ∷ []) (sym plain) x y z
+
+-- the handle of a reference of which nothing is made
+pub says_handle : (a b : Outgoing) (d e : SinkState) (s : Teller) (epoch number : ℕ) (told : StreamField) → prompt_of s ≡ handle_prompt → epoch ≡ s.epoch
+    → seen_handle number ≡ seen told → Says a b d e (λ k. mark epoch number (end_line k)) → Says a b d e (λ k. says_next s told k)
+says_handle a b d e s epoch number told wants same is h =
+    says_waited a b d e s told (none_due s (ap waits wants))
+    (says_same a b d e (λ k. mark epoch number (end_line k)) (λ k. says s told k)
+    (λ k. in-cues-says s.cues s.epoch (length s.known) (first_owner s.owners) (seen told) k
+    ∙ ap (λ x. prompt_says x s.epoch (length s.known) (first_owner s.owners) (seen told) k) wants
+    ∙ ap (λ x. handle_says s.epoch x k) (sym is) ∙ ap (λ x. handle_says x (seen_handle number) k) (sym same)) h)
+
+pub goes_handle : (s t : Teller) (handle : ℕ) (told : StreamField) → prompt_of s ≡ handle_prompt → IsOf (lent.Handle handle) told
+    → ((n : ℕ) → t ≡ goes s (handle_field n)) → t ≡ goes (settled s) told
+goes_handle s t handle (handle_field n) wants is goes_on = goes_waited s t (handle_field n) (none_due s (ap waits wants)) (goes_on n)
+goes_handle s t handle _ wants is goes_on = absurd is

@@ -97,15 +97,17 @@ plain_more units run i unit so inside is plain =
     ∙ ap (λ u. flat_map quoted_unit (take i units) ++ u) (sym plain ∙ ap quoted_unit is)
     ∙ flat_map_more quoted_unit [] (take i units) (get_or units i 0) ∙ ap (flat_map quoted_unit) (sym (take_more units i 0 inside))
 
--- a unit by its number
-pub puts_escaped : (a b c : Outgoing) (d e f : SinkState) (digits hex : List ℕ) → Puts a b d e (0x5C ∷ 0x75 ∷ []) → Puts b c e f digits
-    → digits ≡ hex → Puts a c d f (0x5C ∷ 0x75 ∷ hex)
-puts_escaped a b c d e f digits hex h g is = puts_both a b c d e f (0x5C ∷ 0x75 ∷ []) hex h (subst (λ t. Puts b c e f t) is g)
-
 pub says_quoted : (a b c g : Outgoing) (d e f h : SinkState) (units : List ℕ) → Says a b d e (λ k. 0x22 ∷ k) → Says b c e f (λ k. flat_map quoted_unit units ++ k)
     → Says c g f h (λ k. 0x22 ∷ k) → Says a g d h (λ k. quoted units k)
 says_quoted a b c g d e f h units x y z =
     says_three a b c g d e f h (λ k. 0x22 ∷ k) (λ k. flat_map quoted_unit units ++ k) (λ k. 0x22 ∷ k) x y z
+
+-- a text of which the units are known as they are quoted
+pub says_name : (a b c g : Outgoing) (d e f h : SinkState) (units bytes behind : List ℕ) → bytes ≡ flat_map quoted_unit units → Says a b d e (λ k. 0x22 ∷ k)
+    → Says b c e f (λ k. bytes ++ k) → Says c g f h (λ k. 0x22 ∷ (behind ++ k)) → Says a g d h (λ k. quoted units (behind ++ k))
+says_name a b c g d e f h units bytes behind is x y z =
+    says_same a g d h (λ k. 0x22 ∷ (bytes ++ (0x22 ∷ (behind ++ k)))) (λ k. quoted units (behind ++ k)) (λ k. ap (λ t. 0x22 ∷ (t ++ (0x22 ∷ (behind ++ k)))) (sym is))
+    (says_three a b c g d e f h (λ k. 0x22 ∷ k) (λ k. bytes ++ k) (λ k. 0x22 ∷ (behind ++ k)) x y z)
 
 -- the first epoch
 pub says_first_epoch : (a b : Outgoing) (d e : SinkState) (epoch : ℕ) → epoch ≡ 0 → Says a b d e (λ k. codes "#0." ++ k)

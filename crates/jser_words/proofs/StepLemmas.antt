@@ -72,6 +72,14 @@ pub on_ok_any : {T E P : Type 0} (r : Result T E) → P → OnOk r P
 on_ok_any (Ok x) p = p
 on_ok_any (Err e) p = tt
 
+pub ok_by : {T E P Q : Type 0} (r : Result T E) → OnOk r P → (P → Q) → OnOk r Q
+ok_by (Ok x) p f = f p
+ok_by (Err e) p f = tt
+
+pub err_by : {T E P Q : Type 0} (r : Result T E) → OnErr r P → (P → Q) → OnErr r Q
+err_by (Ok x) p f = tt
+err_by (Err e) p f = f p
+
 -- a field, where all is said that was due before it
 pub says_then : (a b c : Outgoing) (d e f : SinkState) (s t : Teller) (told : StreamField) → Says a b d e (λ k. settle_says s.known s.cues k)
     → t ≡ settled s → Says b c e f (λ k. says t told k) → Says a c d f (λ k. says_next s told k)

@@ -6,9 +6,9 @@ ghost use Rattle.jser_words.specs.DueWords.{section_words};
 ghost use Rattle.jser_words.specs.Says.{SaysTo};
 
 use crate::line::{say, say_line_start};
-use crate::quote::say_quoted_line;
+use crate::quote::say_name_line;
 use jser_prim::{Outbox, Sink};
-use jser_walk::Due;
+use jser_walk::{Due, Name};
 
 /// Says what is due between two fields: the first line of a section, the word before a type, or the end of a line.
 pub fn say_due<W: Sink>(outbox: &mut Outbox, sink: &mut W, due: Due<'_>)
@@ -31,7 +31,7 @@ fn say_section<W: Sink>(
     sink: &mut W,
     level: u64,
     word: &[u8],
-    name: Option<&[u16]>,
+    name: Option<&Name>,
 )
     ensures { SaysTo W.gone_out W.has_failed outbox.old outbox.new sink.old sink.new (λ k. section_words level word.now (view_name name.entry) k) }
 {
@@ -48,13 +48,13 @@ fn say_class_section<W: Sink>(
     sink: &mut W,
     level: u64,
     word: &[u8],
-    name: &[u16],
+    name: &Name,
 )
     ensures { SaysTo W.gone_out W.has_failed outbox.old outbox.new sink.old sink.new (λ k. section_words level word.now (Some name.now) k) }
 {
     say_line_start(outbox, sink, level);
     say(outbox, sink, word);
-    say_quoted_line(outbox, sink, name);
+    say_name_line(outbox, sink, name);
 }
 
 /// Says the first line of the section of a proxy.

@@ -15,6 +15,7 @@ use jser_prim::{Outbox, Sink};
 use jser_walk::{Prompt, Seen, Tag};
 
 /// Says a field, for what it is wanted.
+#[inline(always)]
 pub(crate) fn say_wanted<W: Sink>(
     outbox: &mut Outbox,
     sink: &mut W,

@@ -16,6 +16,6 @@ mod value;
 pub use due::say_due;
 pub use line::say;
 pub use number::say_decimal;
-pub use plain::say_plain_string;
+pub use plain::{say_plain_handle, say_plain_string};
 pub use quote::say_quoted;
 pub use telling::{say_all_due, say_field, say_next};

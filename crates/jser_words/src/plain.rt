@@ -1,16 +1,18 @@
-//! Strings whose bytes stand for themselves.
+//! Strings whose bytes stand for themselves, and the handles of references.
 ghost use Rattle.std.specs.Prelude.{◌≡◌, Bool, true, false};
-ghost use Rattle.jser_reading.specs.Labels.{text_field};
+ghost use Rattle.jser_reading.specs.Labels.{StreamField, text_field};
 ghost use Rattle.jser_shown.specs.Telling.{goes, settled};
 ghost use Rattle.jser_shown.specs.Words.{end_line, quoted};
+ghost use Rattle.jser_walk.specs.Given.{IsOf};
 ghost use Rattle.jser_words.specs.Passing.{says_next};
 ghost use Rattle.jser_words.specs.Plain.{ArePlain, IsAscii};
 ghost use Rattle.jser_words.specs.Says.{SaysTo};
 
 use crate::line::say;
+use crate::number::say_mark_line;
 use crate::quote::is_plain;
 use jser_prim::{Outbox, Sink};
-use jser_walk::Walk;
+use jser_walk::{Field, Seen, Walk, see};
 
 /// Says the text of a string, and the end of its line, and goes past it, where the walk waits for a string and each of
 /// these bytes is a unit that stands for itself. Nothing is done where that is not so, and the answer is false.
@@ -34,6 +36,31 @@ pub fn say_plain_string<W: Sink>(
         return false;
     }
     say_plain_line(outbox, sink, bytes);
+    true
+}
+
+/// Says the handle of a reference, and the end of its line, and goes past it, where the walk waits for a handle of which
+/// nothing is made. Nothing is done where that is not so, and the answer is false.
+#[inline(always)]
+pub fn say_plain_handle<W: Sink>(
+    outbox: &mut Outbox,
+    sink: &mut W,
+    walk: &mut Walk<'_>,
+    handle: u32,
+) -> bool
+    ensures said { result ≡ true → (told : StreamField) → IsOf (Field.Handle handle) told
+        → SaysTo W.gone_out W.has_failed outbox.old outbox.new sink.old sink.new (λ k. says_next walk.old told k) }
+    ensures goes { result ≡ true → (told : StreamField) → IsOf (Field.Handle handle) told → walk.new ≡ goes (settled walk.old) told }
+    ensures same { result ≡ false → (outbox.new ≡ outbox.old) × (sink.new ≡ sink.old) × (walk.new ≡ walk.old) }
+{
+    let Some(Seen::Handle(number)) = see(Field::Handle(handle)) else {
+        return false;
+    };
+    let epoch = walk.epoch();
+    if !walk.pass_handle() {
+        return false;
+    }
+    say_mark_line(outbox, sink, epoch, number as u64);
     true
 }
 

@@ -1,16 +1,14 @@
 //! Quoted texts.
 ghost use Rattle.std.specs.Prelude.{◌≡◌, ◌<◌, ◌≤◌, ◌∷◌, ◌++◌, [], true, length, take};
 ghost use Rattle.std.specs.List.{flat_map};
-ghost use Rattle.hex.specs.Hex.{encode_lower};
-ghost use Rattle.jser_prim.specs.Bytes.{big_bytes};
 ghost use Rattle.jser_prim.specs.Outgoing.{PutsTo};
 ghost use Rattle.jser_shown.specs.Words.{end_line, quoted, quoted_unit};
 ghost use Rattle.jser_words.specs.Says.{SaysTo, SayingTo};
 
 use crate::line::say;
 use arrayvec::ArrayVec;
-use byteorder::{BigEndian, ByteOrder};
 use jser_prim::{Outbox, Sink};
+use jser_walk::{Name, quoted_unit};
 
 /// How many units are put in one piece at most.
 const RUN: usize = 32;
@@ -31,6 +29,16 @@ pub(crate) fn say_quoted_line<W: Sink>(outbox: &mut Outbox, sink: &mut W, units:
 {
     say_quoted(outbox, sink, units);
     say(outbox, sink, b"\n");
+}
+
+/// Says a name as a quoted text, and the end of its line.
+#[inline(always)]
+pub(crate) fn say_name_line<W: Sink>(outbox: &mut Outbox, sink: &mut W, name: &Name)
+    ensures { SaysTo W.gone_out W.has_failed outbox.old outbox.new sink.old sink.new (λ k. quoted name.now (end_line k)) }
+{
+    say(outbox, sink, b"\"");
+    say(outbox, sink, name.quoted());
+    say(outbox, sink, b"\"\n");
 }
 
 /// Says the units of a quoted text.
@@ -102,25 +110,5 @@ pub(crate) fn is_plain(unit: u16) -> bool
 fn put_unit<W: Sink>(outbox: &mut Outbox, sink: &mut W, unit: u16)
     ensures { PutsTo W.gone_out W.has_failed outbox.old outbox.new sink.old sink.new (quoted_unit unit) }
 {
-    match unit {
-        0x22 => outbox.put(sink, b"\\\""),
-        0x5C => outbox.put(sink, b"\\\\"),
-        0x20..=0x7E => outbox.put(sink, &[unit as u8]),
-        _ => put_escaped(outbox, sink, unit),
-    }
-}
-
-/// Puts a unit by its number.
-fn put_escaped<W: Sink>(outbox: &mut Outbox, sink: &mut W, unit: u16)
-    ensures { PutsTo W.gone_out W.has_failed outbox.old outbox.new sink.old sink.new (0x5C ∷ 0x75 ∷ encode_lower (big_bytes 2 unit)) }
-{
-    let mut bytes = [0; 2];
-    BigEndian::write_u16(&mut bytes, unit);
-    let mut digits = [0; 4];
-    match hex::encode_to_slice(bytes.as_slice(), &mut digits) {
-        Ok(()) => {}
-        Err(_) => unreachable!(),
-    }
-    outbox.put(sink, b"\\u");
-    outbox.put(sink, &digits);
+    outbox.put(sink, quoted_unit(unit).as_slice());
 }

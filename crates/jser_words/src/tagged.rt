@@ -10,7 +10,7 @@ use crate::line::{say, say_deeper_line_start, say_line_start};
 use crate::tag::{Place, say_block_word, say_value_tag};
 use crate::value::{say_element_index, say_field_name};
 use jser_prim::{Outbox, Sink};
-use jser_walk::Tag;
+use jser_walk::{Name, Tag};
 
 /// Says a tag whose line begins with a word.
 #[inline(always)]
@@ -51,7 +51,7 @@ pub(crate) fn say_field_tag<W: Sink>(
     sink: &mut W,
     place: Place,
     level: u64,
-    name: &[u16],
+    name: &Name,
     tag: Tag,
 )
     ensures { SaysTo W.gone_out W.has_failed outbox.old outbox.new sink.old sink.new (λ k. begin_line (suc level) (name_text (field_named name.now) (tag_words place (told_tag tag) k))) }

@@ -1,8 +1,9 @@
 //! The fields of a stream, said one after another along a walk.
-ghost use Rattle.std.specs.Prelude.{◌≡◌, true, false, None, OnOk, OnErr, IfOk};
+ghost use Rattle.std.specs.Prelude.{◌≡◌, true, false, None, Some, OnOk, OnErr, IfOk};
 ghost use Rattle.jser_reading.specs.Labels.{StreamField};
 ghost use Rattle.jser_shown.specs.Telling.{goes, says, settle_says, settled};
 ghost use Rattle.jser_walk.specs.Given.{IsOf};
+ghost use Rattle.jser_walk.specs.Seen.{Sees};
 ghost use Rattle.jser_walk.specs.Steps.{due, due_says};
 ghost use Rattle.jser_walk.specs.Views.{view_prompt};
 ghost use Rattle.jser_words.specs.Passing.{Passed, PlaceIs, says_next, waits};
@@ -12,7 +13,7 @@ use crate::due::say_due;
 use crate::field::say_wanted;
 use crate::tag::Place;
 use jser_prim::{Outbox, Sink};
-use jser_walk::{Field, Prompt, Walk, see};
+use jser_walk::{Field, Prompt, Seen, Walk, see};
 use std::alloc::AllocError;
 
 /// Says a field where a walk has settled: what its teller says.
@@ -23,6 +24,14 @@ pub fn say_field<W: Sink>(outbox: &mut Outbox, sink: &mut W, walk: &Walk<'_>, fi
     let Some(seen) = see(field) else {
         return;
     };
+    say_settled(outbox, sink, walk, seen);
+}
+
+/// The same of what is seen of the field.
+fn say_settled<W: Sink>(outbox: &mut Outbox, sink: &mut W, walk: &Walk<'_>, seen: Seen<'_>)
+    ensures { (told : StreamField) → Sees (Some seen.entry) told
+        → SaysTo W.gone_out W.has_failed outbox.old outbox.new sink.old sink.new (λ k. says walk.now told k) }
+{
     say_wanted(outbox, sink, place_of(walk), walk.prompt(), seen);
 }
 
@@ -79,7 +88,7 @@ fn say_one_due<W: Sink>(
 /// # Errors
 ///
 /// Where memory runs out in the walk. What was said before is a beginning of that.
-#[tactic(auto, using(crate::proofs::StepLemmas::goes_waited))]
+#[inline(always)]
 pub fn say_next<W: Sink>(
     outbox: &mut Outbox,
     sink: &mut W,
@@ -92,30 +101,48 @@ pub fn say_next<W: Sink>(
     ensures front { OnErr result ((told : StreamField) → IsOf field.entry told
         → BeginsTo W.gone_out W.has_failed outbox.old outbox.new sink.old sink.new (λ k. says_next walk.old told k)) }
 {
-    if say_if_waited(outbox, sink, walk, field) {
-        return walk.take(field);
+    match see(field) {
+        Some(seen) => say_seen(outbox, sink, walk, seen),
+        None => Ok(()),
     }
-    say_behind_dues(outbox, sink, walk, field)
 }
 
-/// Says a field where the prompt alone tells that nothing is due before it. False where something may be due, or the
-/// field is none of a stream; then nothing is said.
+/// The same of what is seen of the field.
+#[tactic(auto, using(crate::proofs::StepLemmas::goes_waited))]
+#[inline(always)]
+fn say_seen<W: Sink>(
+    outbox: &mut Outbox,
+    sink: &mut W,
+    walk: &mut Walk<'_>,
+    seen: Seen<'_>,
+) -> Result<(), AllocError>
+    ensures said { OnOk result ((told : StreamField) → Sees (Some seen.entry) told
+        → SaysTo W.gone_out W.has_failed outbox.old outbox.new sink.old sink.new (λ k. says_next walk.old told k)) }
+    ensures goes { OnOk result ((told : StreamField) → Sees (Some seen.entry) told → walk.new ≡ goes (settled walk.old) told) }
+    ensures front { OnErr result ((told : StreamField) → Sees (Some seen.entry) told
+        → BeginsTo W.gone_out W.has_failed outbox.old outbox.new sink.old sink.new (λ k. says_next walk.old told k)) }
+{
+    if say_if_waited(outbox, sink, walk, seen) {
+        return walk.take_seen(seen);
+    }
+    say_behind_dues(outbox, sink, walk, seen)
+}
+
+/// Says a field where the prompt alone tells that nothing is due before it. False where something may be due; then nothing
+/// is said.
 #[tactic(auto, using(crate::proofs::StepLemmas::waited_none))]
 #[inline(always)]
 fn say_if_waited<W: Sink>(
     outbox: &mut Outbox,
     sink: &mut W,
     walk: &Walk<'_>,
-    field: Field<'_>,
+    seen: Seen<'_>,
 ) -> bool
-    ensures said { result ≡ true → (told : StreamField) → IsOf field.entry told
+    ensures said { result ≡ true → (told : StreamField) → Sees (Some seen.entry) told
         → SaysTo W.gone_out W.has_failed outbox.old outbox.new sink.old sink.new (λ k. says walk.now told k) }
     ensures none { result ≡ true → due walk.now ≡ None }
     ensures same { result ≡ false → (outbox.new ≡ outbox.old) × (sink.new ≡ sink.old) }
 {
-    let Some(seen) = see(field) else {
-        return false;
-    };
     let prompt = walk.prompt();
     if !waits(prompt) {
         return false;
@@ -148,15 +175,15 @@ fn say_behind_dues<W: Sink>(
     outbox: &mut Outbox,
     sink: &mut W,
     walk: &mut Walk<'_>,
-    field: Field<'_>,
+    seen: Seen<'_>,
 ) -> Result<(), AllocError>
-    ensures said { OnOk result ((told : StreamField) → IsOf field.entry told
+    ensures said { OnOk result ((told : StreamField) → Sees (Some seen.entry) told
         → SaysTo W.gone_out W.has_failed outbox.old outbox.new sink.old sink.new (λ k. says_next walk.old told k)) }
-    ensures goes { OnOk result ((told : StreamField) → IsOf field.entry told → walk.new ≡ goes (settled walk.old) told) }
-    ensures front { OnErr result ((told : StreamField) → IsOf field.entry told
+    ensures goes { OnOk result ((told : StreamField) → Sees (Some seen.entry) told → walk.new ≡ goes (settled walk.old) told) }
+    ensures front { OnErr result ((told : StreamField) → Sees (Some seen.entry) told
         → BeginsTo W.gone_out W.has_failed outbox.old outbox.new sink.old sink.new (λ k. says_next walk.old told k)) }
 {
     say_all_due(outbox, sink, walk)?;
-    say_field(outbox, sink, walk, field);
-    walk.take(field)
+    say_settled(outbox, sink, walk, seen);
+    walk.take_seen(seen)
 }

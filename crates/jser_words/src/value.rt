@@ -8,15 +8,17 @@ ghost use Rattle.jser_words.specs.Says.{SaysTo};
 
 use crate::line::{say, say_deeper_line_start, say_line_start};
 use crate::number::{say_decimal, say_hex};
-use crate::quote::say_quoted;
 use jser_prim::{Outbox, Sink};
+use jser_walk::Name;
 
 /// Says the name of a field before its value, as `"next" = `.
-pub(crate) fn say_field_name<W: Sink>(outbox: &mut Outbox, sink: &mut W, name: &[u16])
+#[inline(always)]
+pub(crate) fn say_field_name<W: Sink>(outbox: &mut Outbox, sink: &mut W, name: &Name)
     ensures { SaysTo W.gone_out W.has_failed outbox.old outbox.new sink.old sink.new (λ k. name_text (field_named name.now) k) }
 {
-    say_quoted(outbox, sink, name);
-    say(outbox, sink, b" = ");
+    say(outbox, sink, b"\"");
+    say(outbox, sink, name.quoted());
+    say(outbox, sink, b"\" = ");
 }
 
 /// Says the index of an element before its value, as `[0] `.
@@ -41,7 +43,7 @@ pub(crate) fn say_raw_field<W: Sink>(
     outbox: &mut Outbox,
     sink: &mut W,
     level: u64,
-    name: &[u16],
+    name: &Name,
     bytes: &[u8],
 )
     ensures { SaysTo W.gone_out W.has_failed outbox.old outbox.new sink.old sink.new (λ k. raw_line (suc level) (field_named name.now) bytes.now k) }

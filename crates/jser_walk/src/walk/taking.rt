@@ -75,7 +75,7 @@ impl<'a> Walk<'a> {
     ///
     /// Where memory runs out.
     #[inline(never)]
-    pub(crate) fn take_seen(&mut self, seen: Seen<'_>) -> Result<(), AllocError>
+    pub(crate) fn go_past(&mut self, seen: Seen<'_>) -> Result<(), AllocError>
         ensures { OnOk result (self.new ≡ goes_in self.old.epoch self.old.known self.old.owners self.old.cues (told_seen seen.entry)) }
     {
         match self.phase {

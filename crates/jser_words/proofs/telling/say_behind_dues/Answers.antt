@@ -7,10 +7,10 @@ returns-in_err-say_all_due-clause-front g c =
 
 pub returns-clause-said : goal.returns-clause-said
 returns-clause-said g c =
-    on_ok_any c.take.result (λ told is. says_then _ _ _ _ _ _ c.args.walk.now c.say_all_due.new.walk told
-    c.in_ok-say_all_due.ensures.said c.in_ok-say_all_due.ensures.settled (c.say_field.ensures told is))
+    on_ok_any c.take_seen.result (λ told is. says_then _ _ _ _ _ _ c.args.walk.now c.say_all_due.new.walk told
+    c.in_ok-say_all_due.ensures.said c.in_ok-say_all_due.ensures.settled (c.say_settled.ensures told is))
 
 pub returns-clause-front : goal.returns-clause-front
 returns-clause-front g c =
-    on_err_any c.take.result (λ told is. begins_all _ _ _ _ _ (says_then _ _ _ _ _ _ c.args.walk.now c.say_all_due.new.walk told
-    c.in_ok-say_all_due.ensures.said c.in_ok-say_all_due.ensures.settled (c.say_field.ensures told is)))
+    on_err_any c.take_seen.result (λ told is. begins_all _ _ _ _ _ (says_then _ _ _ _ _ _ c.args.walk.now c.say_all_due.new.walk told
+    c.in_ok-say_all_due.ensures.said c.in_ok-say_all_due.ensures.settled (c.say_settled.ensures told is)))

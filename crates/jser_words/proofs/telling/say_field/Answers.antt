@@ -1,7 +1,6 @@
-use Rattle.jser_words.proofs.FieldLemmas.{says_told, seen_as}
+use Rattle.std.proofs.Common.{subst}
+use Rattle.jser_walk.specs.Seen.{Sees}
 use Rattle.jser_words.proofs.telling.say_field.Goals as goal
 
 pub returns : goal.returns
-returns g c =
-    λ told is. says_told _ _ _ _ _ _ _ c.args.walk.now told c.say_wanted.ensures (seen_as _ _ told (c.see.ensures told is) c.in-Some.is)
-    c.place_of.ensures.0 c.place_of.ensures.1 c.place_of.ensures.2 c.prompt.ensures
+returns g c = λ told is. c.say_settled.ensures told (subst (λ s. Sees s told) c.in-Some.is (c.see.ensures told is))

@@ -1,13 +1,16 @@
-use Rattle.std.proofs.Common.{rules}
-use Rattle.jser_words.proofs.StepLemmas.{says_waited, begins_all, on_ok_any, on_err_any}
+use Rattle.std.proofs.Common.{subst}
+use Rattle.jser_walk.specs.Seen.{Sees}
+use Rattle.jser_words.proofs.StepLemmas.{ok_by, err_by}
 use Rattle.jser_words.proofs.telling.say_next.Goals as goal
 
-pub returns-then-say_if_waited-clause-said : goal.returns-then-say_if_waited-clause-said
-returns-then-say_if_waited-clause-said g c =
-    on_ok_any c.take.result (λ told is. says_waited _ _ _ _ c.args.walk.now told (c.say_if_waited.ensures.none (search rules))
-    (c.say_if_waited.ensures.said (search rules) told is))
+pub returns-in-Some-clause-said : goal.returns-in-Some-clause-said
+returns-in-Some-clause-said g c =
+    ok_by c.say_seen.result c.say_seen.ensures.said (λ says told is. says told (subst (λ s. Sees s told) c.in-Some.is (c.see.ensures told is)))
 
-pub returns-then-say_if_waited-clause-front : goal.returns-then-say_if_waited-clause-front
-returns-then-say_if_waited-clause-front g c =
-    on_err_any c.take.result (λ told is. begins_all _ _ _ _ _ (says_waited _ _ _ _ c.args.walk.now told (c.say_if_waited.ensures.none (search rules))
-    (c.say_if_waited.ensures.said (search rules) told is)))
+pub returns-in-Some-clause-goes : goal.returns-in-Some-clause-goes
+returns-in-Some-clause-goes g c =
+    ok_by c.say_seen.result c.say_seen.ensures.goes (λ goes_on told is. goes_on told (subst (λ s. Sees s told) c.in-Some.is (c.see.ensures told is)))
+
+pub returns-in-Some-clause-front : goal.returns-in-Some-clause-front
+returns-in-Some-clause-front g c =
+    err_by c.say_seen.result c.say_seen.ensures.front (λ begins told is. begins told (subst (λ s. Sees s told) c.in-Some.is (c.see.ensures told is)))

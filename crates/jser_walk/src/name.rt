@@ -1,0 +1,120 @@
+//! Names of classes and fields, with what `show` writes for their units.
+ghost use Rattle.std.specs.Prelude.{◌≡◌, ◌≤◌, ◌∷◌, [], length, IfOk};
+ghost use Rattle.std.specs.List.{flat_map};
+ghost use Rattle.hex.specs.Hex.{encode_lower};
+ghost use Rattle.jser_prim.specs.Bytes.{big_bytes};
+ghost use Rattle.jser_shown.specs.Words.{quoted_unit};
+
+use arrayvec::ArrayVec;
+use byteorder::{BigEndian, ByteOrder};
+use std::alloc::{AllocError, Global};
+use std::marker::Model;
+
+/// How many bytes a unit has in a quoted text at most.
+const LONGEST: usize = 6;
+
+/// The name of a class or of a field. Contracts see its UTF-16 units; what these are in a quoted text is kept beside them,
+/// since the same name is written for each object.
+#[derive(Drop)]
+pub struct Name {
+    units: Vec<u16>,
+    quoted: Vec<u8>,
+}
+
+impl Model for Name {
+    ghost use Rattle.std.specs.Prelude.{List, ℕ};
+
+    ghost Value = { List ℕ };
+
+    ghost view = { λ a. a.units.items };
+
+    ghost use Rattle.std.specs.Prelude.{◌≡◌};
+    ghost use Rattle.std.specs.List.{flat_map};
+    ghost use Rattle.jser_shown.specs.Words.{quoted_unit};
+
+    ghost invariant = { λ a. a.quoted.items ≡ flat_map quoted_unit a.units.items };
+}
+
+impl Name {
+    /// A name of no units. Takes no memory.
+    pub(crate) fn empty(alloc: Global) -> Name
+        ensures { result ≡ [] }
+    {
+        Name {
+            units: Vec::new(alloc),
+            quoted: Vec::new(alloc),
+        }
+    }
+
+    /// The name of these units.
+    ///
+    /// # Errors
+    ///
+    /// Where memory runs out.
+    pub fn new(alloc: Global, units: &[u16]) -> Result<Name, AllocError>
+        ensures { IfOk result (λ name. name ≡ units.now) }
+    {
+        let quoted = quoted_units(alloc, units)?;
+        let units = units.to_vec(alloc)?;
+        Ok(Name { units, quoted })
+    }
+
+    /// What its units are in a quoted text, without the quotes.
+    #[inline(always)]
+    pub fn quoted(&self) -> &[u8]
+        ensures { result.now ≡ flat_map quoted_unit self.now }
+    {
+        self.quoted.as_slice()
+    }
+}
+
+/// What these units are in a quoted text, without the quotes.
+#[tactic(auto, using(crate::proofs::NameLemmas::quoted_more, crate::proofs::NameLemmas::quoted_all))]
+fn quoted_units(alloc: Global, units: &[u16]) -> Result<Vec<u8>, AllocError>
+    ensures { IfOk result (λ quoted. quoted.items ≡ flat_map quoted_unit units.now) }
+{
+    let mut quoted = Vec::new(alloc);
+    for unit in units {
+        quoted.extend_from_slice(quoted_unit(*unit).as_slice())?;
+    }
+    Ok(quoted)
+}
+
+/// What a unit is in a quoted text: units from 0020 to 007E stand for themselves, but for `\"` and `\\`, and any other
+/// unit is `\u` and four digits.
+pub fn quoted_unit(unit: u16) -> ArrayVec<u8, LONGEST>
+    ensures { result.items ≡ quoted_unit unit }
+{
+    match unit {
+        0x22 | 0x5C => text_of(&[b'\\', unit as u8]),
+        0x20..=0x7E => text_of(&[unit as u8]),
+        _ => numbered(unit),
+    }
+}
+
+/// A unit by its number.
+fn numbered(unit: u16) -> ArrayVec<u8, LONGEST>
+    ensures { result.items ≡ 0x5C ∷ 0x75 ∷ encode_lower (big_bytes 2 unit) }
+{
+    let mut bytes = [0; 2];
+    BigEndian::write_u16(&mut bytes, unit);
+    let mut digits = [0; 4];
+    match hex::encode_to_slice(bytes.as_slice(), &mut digits) {
+        Ok(()) => {}
+        Err(_) => unreachable!(),
+    }
+    text_of(&[b'\\', b'u', digits[0], digits[1], digits[2], digits[3]])
+}
+
+/// These bytes.
+fn text_of(bytes: &[u8]) -> ArrayVec<u8, LONGEST>
+    requires { length bytes.now ≤ 6 }
+    ensures { result.items ≡ bytes.now }
+{
+    let mut text = ArrayVec::new();
+    match text.try_extend_from_slice(bytes) {
+        Ok(()) => {}
+        Err(_) => unreachable!(),
+    }
+    text
+}
