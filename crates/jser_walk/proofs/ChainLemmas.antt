@@ -1,14 +1,13 @@
 -- Chains as they are kept: one more, fronts, what links lead to, and what is found at the end of a walk up.
-use Rattle.std.proofs.Common.{◌≡◌, ℕ, ◌+◌, ◌-◌, ◌<◌, ◌≤◌, ◌^◌, List, [], ◌∷◌, ◌++◌, length, take, drop, fold, cond, count_by, slice_get, Option, Some, None, refl, ap, sym, ◌∙◌, subst, inl, inr, arith, append_assoc, append-nil, length-append}
+use Rattle.std.proofs.Common.{◌≡◌, ℕ, ◌+◌, ◌-◌, ◌<◌, ◌≤◌, ◌^◌, List, [], ◌∷◌, ◌++◌, length, take, drop, fold, slice_get, Option, Some, None, refl, ap, sym, ◌∙◌, subst, inl, inr, arith, append_assoc, append-nil, length-append}
 use Rattle.std.proofs.lemmas.Bool.{cases_lt}
 use Rattle.std.proofs.lemmas.Option.{slice_get-get_or}
 use Rattle.std.proofs.lemmas.List.{get_or_append_left, get_or_push, get_or_at, take_at, drop_at, length_push}
-use Rattle.std.proofs.lemmas.List.Sums.{fold_push, sum_by-append, count_by-le-length}
+use Rattle.std.proofs.lemmas.List.Sums.{fold_push}
 use Rattle.jser_walk.specs.declared.chains.Chain.{Chain}
 use Rattle.jser_walk.specs.declared.chains.Links.{Links}
 use Rattle.jser_walk.specs.declared.chains.Own.{Own}
-use Rattle.jser_walk.specs.declared.chains.Counted.TheVariants as counted
-use Rattle.jser_walk.specs.Chains.{chain_in, IsFront, chain_of_parent, chain_above, with_chain, chains_of, front_of, is_filled_own, AreLinks, IsTold, AreTold, AreKept, LinksTo, LinkUnder, RunsUnder, IsRun, IsUnder, IsHighest}
+use Rattle.jser_walk.specs.Chains.{chain_in, IsFront, chain_of_parent, chain_above, with_chain, chains_of, front_of, AreLinks, IsTold, AreTold, AreKept, LinksTo, LinkUnder, RunsUnder, IsRun, IsUnder, IsHighest}
 
 -- fronts
 
@@ -80,8 +79,6 @@ IsTold-push chains chain place c inside told =
     record {
       own = same ∙ told.own ∙ ap (λ (front : List Own). front ++ c.own ∷ []) (sym above);
       layers = told.layers ∙ ap length (sym same);
-      filled = told.filled ∙ ap (count_by is_filled_own) (sym same);
-      fewer = told.fewer;
       within = told.within;
       run = IsRun-push chains chain place c.run inside told.run;
       links = AreLinks-push chains chain place c.links inside told.links;
@@ -160,8 +157,6 @@ IsTold-new chains parent own c under =
     record {
       own = here ∙ ap (λ (front : List Own). front ++ c.own ∷ []) (sym above);
       layers = under.layers ∙ ap length (is_chain ∙ sym here);
-      filled = under.filled ∙ ap (count_by is_filled_own) (is_chain ∙ sym here);
-      fewer = omega (arith, under.layers, under.filled, count_by-le-length is_filled_own (chain_of_parent chains parent ++ own ∷ []));
       within = under.within;
       run = IsRun-new chains parent own c under.run is_chain;
       links = links;
@@ -193,21 +188,17 @@ chains_push old new c parent own is under =
 
 -- a class that is made of a layer alone, or of a parent, a jump and a layer
 
-count_by_push : (chain : List Own) (own : Own) → count_by is_filled_own (chain ++ own ∷ []) ≡ count_by is_filled_own chain + cond own.is_filled 1 0
-count_by_push chain own = sum_by-append (λ x. cond (is_filled_own x) 1 0) chain (own ∷ []) ∙ omega arith
-
-pub under_none : (cs : List Chain) (parent : Option ℕ) (own : Own) (one run : ℕ) (c : Chain) → parent ≡ None → one ≡ cond own.is_filled 1 0 → run ≡ length cs → c ≡ record { own = own; links = None; layers = 1; filled = one; run = run } → IsUnder (chains_of cs) parent own c
-under_none cs parent own one run c is counts alone made = rw (is, made) (record {
+pub under_none : (cs : List Chain) (parent : Option ℕ) (own : Own) (run : ℕ) (c : Chain) → parent ≡ None → run ≡ length cs → c ≡ record { own = own; links = None; layers = 1; run = run } → IsUnder (chains_of cs) parent own c
+under_none cs parent own run c is alone made = rw (is, made) (record {
   own_is = refl;
   links = tt;
   layers = refl;
-  filled = omega (arith, counts, count_by_push [] own);
   within = omega arith;
   run = inl (alone ∙ sym (length_chains_of cs));
 })
 
-pub under_parent : (cs : List Chain) (parent : Option ℕ) (number jump : ℕ) (own : Own) (one run : ℕ) (above c : Chain) → IsTold (chains_of cs) number above → number < length cs → parent ≡ Some number → jump < length cs → IsFront (chain_in (chains_of cs) jump) (chain_in (chains_of cs) number) → one ≡ cond own.is_filled 1 0 → RunsUnder (chains_of cs) (Some number) run → c ≡ record { own = own; links = Some record { parent = number; jump = jump }; layers = above.layers + 1; filled = above.filled + one; run = run } → IsUnder (chains_of cs) parent own c
-under_parent cs parent number jump own one run above c at_parent inside is jump_in front counts runs made =
+pub under_parent : (cs : List Chain) (parent : Option ℕ) (number jump : ℕ) (own : Own) (run : ℕ) (above c : Chain) → IsTold (chains_of cs) number above → number < length cs → parent ≡ Some number → jump < length cs → IsFront (chain_in (chains_of cs) jump) (chain_in (chains_of cs) number) → RunsUnder (chains_of cs) (Some number) run → c ≡ record { own = own; links = Some record { parent = number; jump = jump }; layers = above.layers + 1; run = run } → IsUnder (chains_of cs) parent own c
+under_parent cs parent number jump own run above c at_parent inside is jump_in front runs made =
     let links : LinksTo (chains_of cs) number record { parent = number; jump = jump } =
     record { parent_is = refl; parent_in = rw (length_chains_of cs) inside; jump_in = rw (length_chains_of cs) jump_in; jump_front = front }
     in
@@ -215,7 +206,6 @@ under_parent cs parent number jump own one run above c at_parent inside is jump_
       own_is = refl;
       links = links;
       layers = ap (λ n. n + 1) at_parent.layers ∙ sym (length_push (chain_in (chains_of cs) number) own);
-      filled = omega (arith, counts, at_parent.filled, count_by_push (chain_in (chains_of cs) number) own);
       within = omega (arith, at_parent.within, length_chains_of cs);
       run = runs;
     })
@@ -234,7 +224,7 @@ front_of-ends front above own ends =
     rw short (ap (λ chain. take (length above) chain) ends ∙ take_at above (own ∷ []) (length above) refl)
 
 -- the class with as many superclasses stands behind so many layers
-pub above_length : (k : ℕ) (whole front above : List Own) (own : Own) → IsHighest counted.Layers k whole front → front ≡ above ++ own ∷ [] → length above ≡ k
+pub above_length : (k : ℕ) (whole front above : List Own) (own : Own) → IsHighest k whole front → front ≡ above ++ own ∷ [] → length above ≡ k
 above_length k whole front above own highest ends =
     let least : length (front_of front) ≤ k = highest.least in
     let long : length front ≡ length above + 1 = ap length ends ∙ length_push above own in
@@ -246,7 +236,7 @@ split_at whole front above own is_front ends =
     is_front.rest ∙ ap (λ f. f ++ drop (length front) whole) ends ∙ append_assoc above (own ∷ []) (drop (length front) whole)
 
 -- .. and has the layer at that index
-pub layer_found : (chains : List (List Own)) (place k : ℕ) (c : Chain) (whole : List Own) → IsTold chains place c → IsHighest counted.Layers k whole (chain_in chains place) → slice_get whole k ≡ Some c.own
+pub layer_found : (chains : List (List Own)) (place k : ℕ) (c : Chain) (whole : List Own) → IsTold chains place c → IsHighest k whole (chain_in chains place) → slice_get whole k ≡ Some c.own
 layer_found chains place k c whole told highest =
     let front : List Own = chain_in chains place in
     let above : List Own = chain_above chains c.links in

@@ -1,11 +1,11 @@
 -- The fields of a class by their places: the next one of a primitive type, and the next one of another.
-use Rattle.std.proofs.Common.{◌≡◌, ℕ, ◌+◌, ◌<◌, ◌≤◌, Bool, true, false, if◌then◌else◌, List, [], ◌∷◌, length, drop, slice_index_or, Some, None, is_some, ap, sym, ◌∙◌, arith}
+use Rattle.std.proofs.Common.{◌≡◌, ℕ, ◌+◌, ◌<◌, ◌≤◌, Bool, true, false, if◌then◌else◌, List, ◌∷◌, length, drop, slice_index_or, Some, None, is_some, ap, sym, ◌∙◌, arith}
 use Rattle.std.proofs.lemmas.List.{drop_more, drop_all, length-map, get_or-map}
 use Rattle.jser_grammar.specs.Codes.{prim_code_of}
-use Rattle.jser_shown.specs.Known.{NamedLayer, prim_names, object_names, fields_in, has_notes}
+use Rattle.jser_shown.specs.Known.{prim_names, object_names}
 use Rattle.jser_shown.specs.Known.{NamedField as ToldField}
 use Rattle.jser_walk.specs.declared.layer.NamedField.{NamedField}
-use Rattle.jser_walk.specs.Layers.{told_field, told_fields, holds_any, is_filled, no_field, field_at, is_raw_at, NextRaw, NextValue}
+use Rattle.jser_walk.specs.Layers.{told_field, told_fields, no_field, field_at, is_raw_at, NextRaw, NextValue}
 
 field_told : (fields : List NamedField) (i : ℕ) (f : NamedField) → i < length fields → f ≡ slice_index_or fields i f → field_at (told_fields fields) i ≡ told_field f
 field_told fields i f inside is = get_or-map told_field fields i f no_field inside ∙ ap told_field (sym is)
@@ -56,11 +56,3 @@ value_passed fields from i b inside same is holds =
 
 pub no_value : (fields : List NamedField) (from i : ℕ) → object_names (drop from (told_fields fields)) ≡ object_names (drop i (told_fields fields)) → length fields ≤ i → NextValue (told_fields fields) from None
 no_value fields from i same past = same ∙ ap object_names (drop_all i (told_fields fields) (omega (arith, length-map fields told_field)))
-
--- an object holds something of a class that has fields, or an annotation
-pub filled_by_notes : (l : NamedLayer) (fields : List NamedField) (b : Bool) → told_fields fields ≡ fields_in l → fields ≡ [] → b ≡ has_notes l → b ≡ is_filled l
-filled_by_notes l fields b told none noted =
-    noted ∙ ap (λ fs. holds_any fs (has_notes l)) (sym (ap told_fields none) ∙ told)
-
-pub filled_by_fields : (l : NamedLayer) (fields others : List NamedField) (f : NamedField) → told_fields fields ≡ fields_in l → fields ≡ f ∷ others → true ≡ is_filled l
-filled_by_fields l fields others f told some = ap (λ fs. holds_any fs (has_notes l)) (sym (ap told_fields some) ∙ told)

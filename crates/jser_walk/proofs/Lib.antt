@@ -1,6 +1,5 @@
 pub mod NameLemmas
 pub mod ChainLemmas
-pub mod FilledLemmas
 pub mod RunLemmas
 pub mod LayerLemmas
 pub mod TableLemmas

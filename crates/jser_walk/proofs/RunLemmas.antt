@@ -3,7 +3,6 @@ use Rattle.std.proofs.Common.{◌≡◌, ℕ, ◌+◌, ◌-◌, ◌<◌, ◌≤�
 use Rattle.std.proofs.lemmas.List.{length-take}
 use Rattle.jser_walk.specs.declared.chains.Chain.{Chain}
 use Rattle.jser_walk.specs.declared.chains.Own.{Own}
-use Rattle.jser_walk.specs.declared.chains.Counted.TheVariants as counted
 use Rattle.jser_walk.specs.Chains.{chain_in, chains_of, RunsUnder, IsTold, IsHighest}
 use Rattle.jser_walk.proofs.ChainLemmas.{length_chains_of}
 
@@ -18,7 +17,7 @@ runs_on cs number above told last = inr (record {
   is_run = told.run;
 })
 
-pub run_highest : (chains : List (List Own)) (start index place : ℕ) (c : Chain) → IsTold chains start c → index < length (chain_in chains start) → c.run ≤ place → place ≤ start → place + (c.layers - 1 - index) ≡ start → IsHighest counted.Layers index (chain_in chains start) (chain_in chains place)
+pub run_highest : (chains : List (List Own)) (start index place : ℕ) (c : Chain) → IsTold chains start c → index < length (chain_in chains start) → c.run ≤ place → place ≤ start → place + (c.layers - 1 - index) ≡ start → IsHighest index (chain_in chains start) (chain_in chains place)
 run_highest chains start index place c told inside high low back =
     let long : length (chain_in chains place) + (start - place) ≡ length (chain_in chains start) = told.run.long place high low in
     let layers : c.layers ≡ length (chain_in chains start) = told.layers in

@@ -1,16 +1,15 @@
 -- The table of handles by its fields.
-use Rattle.std.proofs.Common.{◌≡◌, ℕ, ◌<◌, ◌≤◌, List, [], ◌∷◌, ◌++◌, length, set, slice_get, slice_index_or, Option, Some, None, drop, option_map, refl, ap, sym, ◌∙◌, subst, inl, inr, arith, All}
-use Rattle.std.proofs.lemmas.Bool.{cases_Bool}
+use Rattle.std.proofs.Common.{◌≡◌, ℕ, ◌<◌, ◌≤◌, List, [], ◌∷◌, ◌++◌, length, set, slice_get, slice_index_or, Option, Some, None, option_map, refl, ap, sym, ◌∙◌, subst, arith, All}
 use Rattle.std.proofs.lemmas.Option.{slice_get-map, get_or_from_slice_get, slice_get_within}
-use Rattle.std.proofs.lemmas.List.{get_or_append_left, get_or_push, map-set, map-append, length_push, length-map, get_or-map, set_past, drop-map}
-use Rattle.std.proofs.lemmas.List.Elements.{All-set, All-head, All-tail, All-weaker, All-drop, All-push}
+use Rattle.std.proofs.lemmas.List.{get_or_append_left, get_or_push, map-set, map-append, length_push, length-map, get_or-map, set_past}
+use Rattle.std.proofs.lemmas.List.Elements.{All-set, All-head, All-tail, All-weaker, All-push}
 use Rattle.jser_shown.specs.Known.{NamedLayer, proxy_layer, KnownEntry, known_class, classes_in, classes_at, own_class_of}
 use Rattle.jser_walk.specs.declared.entry.Entry.{Entry}
 use Rattle.jser_walk.specs.declared.entry.Entry.TheVariants as entry
 use Rattle.jser_walk.specs.declared.layer.Layer.{Layer}
 use Rattle.jser_walk.specs.declared.chains.Own.{Own}
-use Rattle.jser_walk.specs.Chains.{chain_in, chain_of_parent, front_of, from_filled_own}
-use Rattle.jser_walk.specs.Layers.{told_layer, told_layers, is_filled, from_filled}
+use Rattle.jser_walk.specs.Chains.{chain_in, chain_of_parent, front_of}
+use Rattle.jser_walk.specs.Layers.{told_layer, told_layers}
 use Rattle.jser_walk.specs.Tables.{TableView, layer_in, layers_in, layers_above, IsChainOf, IsChainAbove, named_own, named_chain, named_chains, told_entry, told_entries, table_of, IsAmong, IsOwnOf, AreOf, IsSound}
 
 pub sound_none : (entries : List Entry) (layers : List Layer) (chains : List (List Own)) → entries ≡ [] → layers ≡ [] → chains ≡ [] → IsSound entries (told_layers layers) chains
@@ -34,7 +33,7 @@ named_chain-more : (layers : List NamedLayer) (l : NamedLayer) (chain : List Own
 named_chain-more layers l [] of = refl
 named_chain-more layers l (own ∷ chain) of =
     let known : IsOwnOf layers own = All-head (IsOwnOf layers) own chain of in
-    let first = layer_in-more layers l own.layer known.below in
+    let first = layer_in-more layers l own.layer known in
     let others = named_chain-more layers l chain (All-tail (IsOwnOf layers) own chain of) in
     cc
 
@@ -46,10 +45,7 @@ named_chains_more layers l (chain ∷ chains) of =
     cc
 
 own_of-more : (layers : List NamedLayer) (l : NamedLayer) (own : Own) → IsOwnOf layers own → IsOwnOf (layers ++ l ∷ []) own
-own_of-more layers l own of = record {
-  below = omega (arith, of.below, length_push layers l);
-  filled = of.filled ∙ ap is_filled (sym (layer_in-more layers l own.layer of.below));
-}
+own_of-more layers l own below = omega (arith, below, length_push layers l)
 
 pub are_of_more : (layers : List NamedLayer) (l : NamedLayer) (chains : List (List Own)) → All (AreOf layers) chains → All (AreOf (layers ++ l ∷ [])) chains
 are_of_more layers l chains of =
@@ -136,7 +132,7 @@ own_kept entries layers chains n own l view is sound inside ends read =
     let known : IsOwnOf (told_layers layers) own =
     last_of (told_layers layers) (front_of (chain_in chains n)) own (subst (AreOf (told_layers layers)) ends (sound.of n [] here))
     in
-    let below : own.layer < length layers = omega (arith, length-map layers told_layer, known.below) in
+    let below : own.layer < length layers = omega (arith, length-map layers told_layer, known) in
     ap (λ cs. own_class_of (layers_in cs n)) same
     ∙ own_named (told_layers layers) chains n own here ends
     ∙ get_or-map told_layer layers own.layer l proxy_layer below ∙ ap told_layer (sym read)
@@ -179,27 +175,6 @@ known_unclosed entries layers old new number own parent above view entry is soun
     ∙ told_more (named_chains layers old) made entries (among_named entries layers old sound)
     ∙ known ∙ sym (set_past view.known number entry (omega (arith, ap length known, length-map entries (told_entry (named_chains layers old)))))
 
--- from the first class on of which an object holds something
-
-from_filled-map : (layers : List NamedLayer) (chain : List Own) → AreOf layers chain → named_chain layers (from_filled_own chain) ≡ from_filled (named_chain layers chain)
-from_filled-map layers [] of = refl
-from_filled-map layers (own ∷ chain) of =
-    let known : IsOwnOf layers own = All-head (IsOwnOf layers) own chain of in
-    let others = from_filled-map layers chain (All-tail (IsOwnOf layers) own chain of) in
-    elim (cases_Bool own.is_filled) [
-      | inl holds ↦ rw (holds, sym known.filled ∙ holds) refl
-      | inr fails ↦ rw (fails, sym known.filled ∙ fails) others
-    ]
-
-pub filled_named : (layers : List NamedLayer) (chains : List (List Own)) (n from to : ℕ) → All (AreOf layers) chains → n < length chains → drop to (chain_in chains n) ≡ from_filled_own (drop from (chain_in chains n)) → drop to (layers_in (named_chains layers chains) n) ≡ from_filled (drop from (layers_in (named_chains layers chains) n))
-filled_named layers chains n from to of inside is =
-    let chain : List Own = chain_in chains n in
-    let known : AreOf layers chain = of n [] inside in
-    ap (drop to) (chain_named layers chains n inside) ∙ drop-map (named_own layers) to chain
-    ∙ ap (named_chain layers) is ∙ from_filled-map layers (drop from chain) (All-drop (IsOwnOf layers) from chain known)
-    ∙ ap from_filled (sym (drop-map (named_own layers) from chain))
-    ∙ ap (λ ls. from_filled (drop from ls)) (sym (chain_named layers chains n inside))
-
 -- one more chain
 
 among_more : (m n : ℕ) → m ≤ n → (e : Entry) → IsAmong m e → IsAmong n e
@@ -208,23 +183,17 @@ among_more m n more entry.Other among = tt
 among_more m n more entry.Pending among = tt
 among_more m n more (entry.Class k) among = omega (arith, among)
 
-own_of_layer : (layers : List Layer) (own : Own) (l : Layer) → own.layer < length layers → l ≡ slice_index_or layers own.layer l → own.is_filled ≡ is_filled (told_layer l) → IsOwnOf (told_layers layers) own
-own_of_layer layers own l inside read holds = record {
-  below = omega (arith, inside, length-map layers told_layer);
-  filled = holds ∙ ap is_filled (ap told_layer read ∙ sym (get_or-map told_layer layers own.layer l proxy_layer inside));
-}
-
 parent_of : (entries : List Entry) (layers : List NamedLayer) (chains : List (List Own)) (parent above : Option ℕ) (view : TableView) → table_of entries layers chains ≡ view → IsSound entries layers chains → IsChainAbove view parent above → AreOf layers (chain_of_parent chains above)
 parent_of entries layers chains parent None view is sound chain = λ i x inside. absurd (omega (arith, inside))
 parent_of entries layers chains parent (Some above) view is sound chain =
     sound.of above [] (omega (arith, chain.0, ap (λ (v : TableView). length v.chains) is, length_chains layers chains))
 
-pub sound_closed : (entries : List Entry) (layers : List Layer) (old new : List (List Own)) (own : Own) (l : Layer) (parent above : Option ℕ) (view : TableView) → table_of entries (told_layers layers) old ≡ view → IsSound entries (told_layers layers) old → IsChainAbove view parent above → own.layer < length view.layers → l ≡ slice_index_or layers own.layer l → own.is_filled ≡ is_filled (told_layer l) → new ≡ old ++ (chain_of_parent old above ++ own ∷ []) ∷ [] → IsSound entries (told_layers layers) new
-sound_closed entries layers old new own l parent above view is sound chain inside read holds added =
+pub sound_closed : (entries : List Entry) (layers : List Layer) (old new : List (List Own)) (own : Own) (parent above : Option ℕ) (view : TableView) → table_of entries (told_layers layers) old ≡ view → IsSound entries (told_layers layers) old → IsChainAbove view parent above → own.layer < length view.layers → new ≡ old ++ (chain_of_parent old above ++ own ∷ []) ∷ [] → IsSound entries (told_layers layers) new
+sound_closed entries layers old new own parent above view is sound chain inside added =
     let told : List NamedLayer = told_layers layers in
-    let own_inside : own.layer < length layers = omega (arith, inside, ap (λ (v : TableView). length v.layers) is, length-map layers told_layer) in
+    let own_inside : own.layer < length told = omega (arith, inside, ap (λ (v : TableView). length v.layers) is) in
     let last : AreOf told (chain_of_parent old above ++ own ∷ []) =
-    All-push (IsOwnOf told) (chain_of_parent old above) own (parent_of entries told old parent above view is sound chain) (own_of_layer layers own l own_inside read holds)
+    All-push (IsOwnOf told) (chain_of_parent old above) own (parent_of entries told old parent above view is sound chain) own_inside
     in
     rw added (record {
       among = All-weaker (IsAmong (length old)) (IsAmong (length (old ++ (chain_of_parent old above ++ own ∷ []) ∷ [])))

@@ -1,12 +1,10 @@
 -- Chains of classes, each told by the places of its layers, the highest superclass first; and the links by which they
 -- are kept. A superclass stands before its subclasses, so the chain of a class is that of its parent and then its own
 -- layer.
-use Rattle.std.specs.Prelude.{ℕ, ◌≡◌, ◌+◌, ◌-◌, ◌*◌, ◌^◌, ◌<◌, ◌≤◌, ◌⊎◌, List, [], ◌∷◌, ◌++◌, length, take, drop, fold, count_by, slice_get, slice_index_or, if◌then◌else◌, Bool, Option, Some, None}
+use Rattle.std.specs.Prelude.{ℕ, ◌≡◌, ◌+◌, ◌-◌, ◌*◌, ◌^◌, ◌<◌, ◌≤◌, ◌⊎◌, List, [], ◌∷◌, ◌++◌, length, take, drop, fold, slice_get, slice_index_or, Option, Some, None}
 use Rattle.jser_walk.specs.declared.chains.Chain.{Chain}
 use Rattle.jser_walk.specs.declared.chains.Links.{Links}
 use Rattle.jser_walk.specs.declared.chains.Own.{Own}
-use Rattle.jser_walk.specs.declared.chains.Counted.{Counted}
-use Rattle.jser_walk.specs.declared.chains.Counted.TheVariants as counted
 
 -- the chain with this number
 abbrev pub chain_in : List (List Own) → ℕ → List Own
@@ -37,25 +35,6 @@ chains_of kept = fold with_chain [] kept
 abbrev pub front_of : List Own → List Own
 front_of chain = take (length chain - 1) chain
 
--- an object holds something of this layer
-abbrev pub is_filled_own : Own → Bool
-is_filled_own own = own.is_filled
-
--- how many layers of a chain count
-abbrev pub count_of : Counted → List Own → ℕ
-count_of counted.Layers chain = length chain
-count_of counted.Filled chain = count_by is_filled_own chain
-
--- that number, as a class tells it
-abbrev pub told_count : Counted → Chain → ℕ
-told_count counted.Layers c = c.layers
-told_count counted.Filled c = c.filled
-
--- the layers of a chain from the first one on of which an object holds something
-abbrev pub from_filled_own : List Own → List Own
-from_filled_own [] = []
-from_filled_own (own ∷ owns) = if own.is_filled then own ∷ owns else from_filled_own owns
-
 -- both links lead to superclasses
 abbrev pub AreLinks : List (List Own) → ℕ → Option Links → Type 0
 AreLinks chains place None = Unit {0}
@@ -72,8 +51,6 @@ pub record IsRun (chains : List (List Own)) (run place : ℕ) : Type 0 where
 pub record IsTold (chains : List (List Own)) (place : ℕ) (c : Chain) : Type 0 where
   pub own : chain_in chains place ≡ chain_above chains c.links ++ c.own ∷ []
   pub layers : c.layers ≡ length (chain_in chains place)
-  pub filled : c.filled ≡ count_by is_filled_own (chain_in chains place)
-  pub fewer : c.filled ≤ c.layers
   pub within : c.layers ≤ place + 1
   pub links : AreLinks chains place c.links
   pub run : IsRun chains c.run place
@@ -115,22 +92,21 @@ pub record IsUnder (chains : List (List Own)) (parent : Option ℕ) (own : Own) 
   pub own_is : c.own ≡ own
   pub links : LinkUnder chains parent c.links
   pub layers : c.layers ≡ length (chain_of_parent chains parent ++ own ∷ [])
-  pub filled : c.filled ≡ count_by is_filled_own (chain_of_parent chains parent ++ own ∷ [])
   pub within : c.layers ≤ length chains + 1
   pub run : RunsUnder chains parent c.run
 
--- One link up from the class at this place, to one whose count is over the bound.
-pub record GoesUp (counted : Counted) (bound : ℕ) (chains : List (List Own)) (place higher : ℕ) : Type 0 where
+-- One link up from the class at this place, to one with more layers than the bound.
+pub record GoesUp (bound : ℕ) (chains : List (List Own)) (place higher : ℕ) : Type 0 where
   pub before : higher < place
   pub front : IsFront (chain_in chains higher) (chain_in chains place)
-  pub over : bound < count_of counted (chain_in chains higher)
+  pub over : bound < length (chain_in chains higher)
 
--- The highest superclass, or the class itself, whose count is over the bound: `front` is its chain, and `whole` that of
+-- The highest superclass, or the class itself, with more layers than the bound: `front` is its chain, and `whole` that of
 -- the class.
-pub record IsHighest (counted : Counted) (bound : ℕ) (whole front : List Own) : Type 0 where
+pub record IsHighest (bound : ℕ) (whole front : List Own) : Type 0 where
   pub is_front : IsFront front whole
-  pub over : bound < count_of counted front
-  pub least : count_of counted (front_of front) ≤ bound
+  pub over : bound < length front
+  pub least : length (front_of front) ≤ bound
 
 -- How far the links lead, so that a walk up a chain takes steps in the order of its logarithm: those of a skew-binary
 -- list. Where the jump of the parent, and the jump of the class to which that leads, are as long as each other, a class
@@ -144,9 +120,9 @@ JumpsFar kept parent jump =
     → jump ≡ far.jump
 
 -- a walk takes the jump wherever that does not lead too far
-abbrev pub TakesJump : List Chain → Counted → (bound place higher : ℕ) → Type 0
-TakesJump kept counted bound place higher =
+abbrev pub TakesJump : List Chain → (bound place higher : ℕ) → Type 0
+TakesJump kept bound place higher =
     (class above : Chain) (links : Links)
     → slice_get kept place ≡ Some class → class.links ≡ Some links
-    → slice_get kept links.jump ≡ Some above → bound < told_count counted above
+    → slice_get kept links.jump ≡ Some above → bound < above.layers
     → higher ≡ links.jump

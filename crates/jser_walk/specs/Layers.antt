@@ -1,7 +1,7 @@
 -- The classes of chains, and the fields of a class by their places.
-use Rattle.std.specs.Prelude.{ℕ, ◌≡◌, ◌+◌, ◌<◌, Bool, true, if◌then◌else◌, List, [], ◌∷◌, length, map, drop, slice_index_or, Option, Some, None, is_some}
+use Rattle.std.specs.Prelude.{ℕ, ◌≡◌, ◌+◌, ◌<◌, Bool, List, [], ◌∷◌, length, map, drop, slice_index_or, Option, Some, None, is_some}
 use Rattle.jser_grammar.specs.Codes.{prim_code_of}
-use Rattle.jser_shown.specs.Known.{NamedLayer, class_layer, proxy_layer, prim_names, object_names, fields_in, has_notes}
+use Rattle.jser_shown.specs.Known.{NamedLayer, class_layer, proxy_layer, prim_names, object_names}
 use Rattle.jser_shown.specs.Known.{NamedField as ToldField}
 use Rattle.jser_walk.specs.declared.layer.Layer.{Layer}
 use Rattle.jser_walk.specs.declared.layer.Layer.TheVariants as layer
@@ -19,20 +19,6 @@ told_layer layer.Proxy = proxy_layer
 
 abbrev pub told_layers : List Layer → List NamedLayer
 told_layers layers = map told_layer layers
-
--- an object holds something of a class with these fields, or of one with an annotation
-abbrev pub holds_any : List ToldField → (notes : Bool) → Bool
-holds_any [] notes = notes
-holds_any (f ∷ fields) notes = true
-
--- an object holds something of this class: the value of a field, or an annotation
-abbrev pub is_filled : NamedLayer → Bool
-is_filled l = holds_any (fields_in l) (has_notes l)
-
--- the classes of a chain from the first one on of which an object holds something
-abbrev pub from_filled : List NamedLayer → List NamedLayer
-from_filled [] = []
-from_filled (l ∷ layers) = if is_filled l then l ∷ layers else from_filled layers
 
 abbrev pub no_field : ToldField
 no_field = record { code = 0; name = [] }

@@ -4,7 +4,6 @@ use Rattle.jser_shown.specs.Known.{NamedLayer, proxy_layer, KnownEntry, known_te
 use Rattle.jser_walk.specs.declared.entry.Entry.{Entry}
 use Rattle.jser_walk.specs.declared.entry.Entry.TheVariants as entry
 use Rattle.jser_walk.specs.declared.chains.Own.{Own}
-use Rattle.jser_walk.specs.Layers.{is_filled}
 
 -- what is known of the handles of the epoch; the layers of its classes, in the order in which their fields ended; the
 -- chains of the classes whose descriptors have ended, in this order
@@ -70,10 +69,9 @@ IsAmong chains entry.Other = Unit {0}
 IsAmong chains entry.Pending = Unit {0}
 IsAmong chains (entry.Class n) = n < chains
 
--- what is told of a layer is told of the one with that number
-pub record IsOwnOf (layers : List NamedLayer) (own : Own) : Type 0 where
-  pub below : own.layer < length layers
-  pub filled : own.is_filled ≡ is_filled (layer_in layers own.layer)
+-- a layer has the number of one of these
+abbrev pub IsOwnOf : List NamedLayer → Own → Type 0
+IsOwnOf layers own = own.layer < length layers
 
 abbrev pub AreOf : List NamedLayer → List Own → Type 0
 AreOf layers chain = All (IsOwnOf layers) chain

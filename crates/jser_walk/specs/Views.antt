@@ -1,15 +1,12 @@
 -- What the answers of a walk stand for.
-use Rattle.std.specs.Prelude.{ℕ, List, [], ◌∷◌, map, Option, Some, None}
+use Rattle.std.specs.Prelude.{ℕ, List, Option, Some, None}
 use Rattle.std.specs.Borrow.{Bor}
-use Rattle.jser_shown.specs.Known.{known_text}
 use Rattle.jser_shown.specs.Shown.{field_named}
-use Rattle.jser_shown.specs.Cues.{Teller, teller, header_cue, top_cue}
-use Rattle.jser_walk.specs.declared.owner.OwnerNode.{OwnerNode}
 use Rattle.jser_walk.specs.declared.due.Due.{Due}
 use Rattle.jser_walk.specs.declared.due.Due.TheVariants as due
 use Rattle.jser_walk.specs.declared.prompt.Prompt.{Prompt}
 use Rattle.jser_walk.specs.declared.prompt.Prompt.TheVariants as prompt
-use Rattle.jser_walk.specs.Given.{told_owner, told_nodes}
+use Rattle.jser_walk.specs.Given.{told_owner}
 use Rattle.jser_walk.specs.Steps.{section_due, external_due, type_word_due, line_end_due, made_due, quiet_due}
 use Rattle.jser_walk.specs.Steps.{Due as ToldDue}
 use Rattle.jser_walk.specs.Prompts.{header_prompt, top_prompt, handle_prompt, string_prompt, type_text_prompt, block_length_prompt, block_prompt, note_prompt, enum_name_prompt, array_length_prompt, elements_prompt, raw_prompt, value_prompt, class_prompt, super_prompt, class_name_prompt, suid_prompt, flags_prompt, field_count_prompt, field_prompt, field_name_prompt, interface_count_prompt, interface_prompt, no_prompt}

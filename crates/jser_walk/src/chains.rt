@@ -2,9 +2,9 @@
 //!
 //! Each class keeps a link to its parent and one that jumps further up, so a chain takes no memory beyond its own
 //! layer, and any layer of it is found in a number of steps in the order of its logarithm.
-ghost use Rattle.std.specs.Prelude.{◌≡◌, ◌+◌, ◌<◌, ◌≤◌, ◌^◌, [], ◌∷◌, ◌++◌, length, take, drop, count_by, slice_get, Some, None, OnOk, OnErr, IfOk, IfSome, IfNone, ◌-◌, ◌*◌};
+ghost use Rattle.std.specs.Prelude.{◌≡◌, ◌+◌, ◌<◌, ◌≤◌, ◌^◌, [], ◌∷◌, ◌++◌, length, slice_get, Some, None, OnOk, OnErr, IfOk, IfSome, IfNone, ◌-◌, ◌*◌};
 ghost use Rattle.std.specs.Option.{ForSome};
-ghost use Rattle.jser_walk.specs.Chains.{chain_in, chain_of_parent, front_of, chains_of, is_filled_own, count_of, told_count, from_filled_own, IsFront, AreTold, IsTold, IsUnder, RunsUnder, IsHighest, GoesUp, JumpsFar, TakesJump};
+ghost use Rattle.jser_walk.specs.Chains.{chain_in, chain_of_parent, front_of, chains_of, IsFront, AreTold, IsTold, IsUnder, RunsUnder, IsHighest, GoesUp, JumpsFar, TakesJump};
 
 use std::alloc::{AllocError, Global};
 use std::marker::Model;
@@ -22,8 +22,6 @@ pub(crate) struct Links {
 pub(crate) struct Own {
     /// Its number.
     pub(crate) layer: u32,
-    /// Whether an object holds anything of it.
-    pub(crate) is_filled: bool,
 }
 
 /// A class.
@@ -34,17 +32,8 @@ pub(crate) struct Chain {
     links: Option<Links>,
     /// How many layers the chain has.
     layers: u32,
-    /// How many of them an object holds anything of.
-    filled: u32,
     /// The first class of its run: from there on to this one each class is the parent of the next.
     run: u32,
-}
-
-/// What a walk up a chain counts: all layers, or those that an object holds anything of.
-#[derive(Clone, Copy)]
-enum Counted {
-    Layers,
-    Filled,
 }
 
 /// Chains, each seen as the list of its layers, the highest superclass first.
@@ -114,17 +103,6 @@ impl Chains {
         layer_at(&self.kept, number as usize, index)
     }
 
-    /// The index of the first layer, at `from` or after it, that an object holds anything of; or one past the last,
-    /// where it holds nothing of them.
-    #[tactic(auto, using(crate::proofs::ChainLemmas::length_chains_of))]
-    #[inline(always)]
-    pub(crate) fn next_filled(&self, number: u32, from: usize) -> usize
-        requires { number < length self.now }
-        ensures { drop result (chain_in self.now number) ≡ from_filled_own (drop from (chain_in self.now number)) }
-    {
-        next_filled_at(&self.kept, number as usize, from)
-    }
-
     /// The class's own layer.
     #[tactic(auto, using(crate::proofs::ChainLemmas::length_chains_of, crate::proofs::ChainLemmas::own_told))]
     #[inline(always)]
@@ -144,18 +122,6 @@ impl Chains {
     }
 }
 
-impl Chain {
-    /// How many layers count.
-    fn count(&self, counted: Counted) -> usize
-        ensures { result ≡ told_count counted self.now }
-    {
-        match counted {
-            Counted::Layers => self.layers as usize,
-            Counted::Filled => self.filled as usize,
-        }
-    }
-}
-
 /// The class of this layer under this parent, if it has one.
 fn chain_under(kept: &[Chain], parent: Option<u32>, own: Own) -> Chain
     requires told { AreTold kept.now }
@@ -168,7 +134,6 @@ fn chain_under(kept: &[Chain], parent: Option<u32>, own: Own) -> Chain
             own,
             links: None,
             layers: 1,
-            filled: u32::from(own.is_filled),
             run: kept.len() as u32,
         };
     };
@@ -179,7 +144,6 @@ fn chain_under(kept: &[Chain], parent: Option<u32>, own: Own) -> Chain
         own,
         links: Some(Links { parent, jump }),
         layers: above.layers + 1,
-        filled: above.filled + u32::from(own.is_filled),
         run,
     }
 }
@@ -256,83 +220,45 @@ fn class_at(kept: &[Chain], start: usize, index: usize) -> usize
     requires start_in { start < length kept.now }
     requires index_in { index < length (chain_in (chains_of kept.now) start) }
     ensures inside { result < length kept.now }
-    ensures highest { IsHighest Counted.Layers index (chain_in (chains_of kept.now) start) (chain_in (chains_of kept.now) result) }
+    ensures highest { IsHighest index (chain_in (chains_of kept.now) start) (chain_in (chains_of kept.now) result) }
 {
     let class = chain_at(kept, start);
     let back = class.layers as usize - 1 - index;
     if back <= start - class.run as usize {
         return start - back;
     }
-    highest(kept, start, Counted::Layers, index)
+    highest(kept, start, index)
 }
 
-/// The index of the first layer, at `from` or after it, that an object holds anything of; or one past the last.
-#[tactic(auto, using(crate::proofs::FilledLemmas::past_all))]
-fn next_filled_at(kept: &[Chain], start: usize, from: usize) -> usize
-    requires told { AreTold kept.now }
-    requires start_in { start < length kept.now }
-    ensures { drop result (chain_in (chains_of kept.now) start) ≡ from_filled_own (drop from (chain_in (chains_of kept.now) start)) }
-{
-    let class = chain_at(kept, start);
-    let layers = class.count(Counted::Layers);
-    if from >= layers {
-        return layers;
-    }
-    if layer_at(kept, start, from).is_filled {
-        return from;
-    }
-    let before = filled_before(kept, start, from);
-    if class.count(Counted::Filled) <= before {
-        return layers;
-    }
-    let place = highest(kept, start, Counted::Filled, before);
-    chain_at(kept, place).count(Counted::Layers) - 1
-}
-
-/// Of how many of the layers before this index an object holds anything.
-#[tactic(auto, using(crate::proofs::FilledLemmas::count_before))]
-fn filled_before(kept: &[Chain], start: usize, index: usize) -> usize
-    requires told { AreTold kept.now }
-    requires start_in { start < length kept.now }
-    requires index_in { index < length (chain_in (chains_of kept.now) start) }
-    ensures { result ≡ count_by is_filled_own (take index (chain_in (chains_of kept.now) start)) }
-{
-    if index == 0 {
-        return 0;
-    }
-    let place = class_at(kept, start, index - 1);
-    chain_at(kept, place).count(Counted::Filled)
-}
-
-/// The highest class of the chain at `start`, itself included, whose count is over the bound.
+/// The highest class of the chain at `start`, itself included, that has more layers than this.
 #[inline(never)]
-fn highest(kept: &[Chain], start: usize, counted: Counted, bound: usize) -> usize
+fn highest(kept: &[Chain], start: usize, bound: usize) -> usize
     requires told { AreTold kept.now }
     requires start_in { start < length kept.now }
-    requires over { bound < count_of counted (chain_in (chains_of kept.now) start) }
+    requires over { bound < length (chain_in (chains_of kept.now) start) }
     ensures inside { result < length kept.now }
-    ensures highest { IsHighest counted bound (chain_in (chains_of kept.now) start) (chain_in (chains_of kept.now) result) }
+    ensures highest { IsHighest bound (chain_in (chains_of kept.now) start) (chain_in (chains_of kept.now) result) }
 {
     let mut place = start;
-    'walk: while let Some(higher) = step_up(kept, place, counted, bound) {
+    'walk: while let Some(higher) = step_up(kept, place, bound) {
         place = higher;
     }
     place
 }
 
-/// The superclass that the longest link leads to whose count is over the bound, if there is one.
-fn step_up(kept: &[Chain], place: usize, counted: Counted, bound: usize) -> Option<usize>
+/// The superclass that the longest link leads to with more layers than this, if there is one.
+fn step_up(kept: &[Chain], place: usize, bound: usize) -> Option<usize>
     requires told { AreTold kept.now }
     requires place_in { place < length kept.now }
-    ensures up { IfSome result (λ higher. GoesUp counted bound (chains_of kept.now) place higher) }
-    ensures top { IfNone result (count_of counted (front_of (chain_in (chains_of kept.now) place)) ≤ bound) }
-    ensures far { IfSome result (TakesJump kept.now counted bound place) }
+    ensures up { IfSome result (λ higher. GoesUp bound (chains_of kept.now) place higher) }
+    ensures top { IfNone result (length (front_of (chain_in (chains_of kept.now) place)) ≤ bound) }
+    ensures far { IfSome result (TakesJump kept.now bound place) }
 {
     let links = chain_at(kept, place).links?;
     let (jump, parent) = (links.jump as usize, links.parent as usize);
-    if chain_at(kept, jump).count(counted) > bound {
+    if chain_at(kept, jump).layers as usize > bound {
         Some(jump)
-    } else if chain_at(kept, parent).count(counted) > bound {
+    } else if chain_at(kept, parent).layers as usize > bound {
         Some(parent)
     } else {
         None

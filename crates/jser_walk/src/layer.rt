@@ -3,7 +3,7 @@ ghost use Rattle.std.specs.Prelude.{◌≡◌, ◌<◌, length, is_some, option_
 ghost use Rattle.jser_grammar.specs.Codes.{prim_code_of, is_object_code};
 ghost use Rattle.jser_shown.specs.Known.{fields_in, has_notes, is_external_class};
 ghost use Rattle.jser_walk.specs.Steps.{layer_name};
-ghost use Rattle.jser_walk.specs.Layers.{told_layer, told_fields, is_filled, field_at, is_raw_at, NextRaw, NextValue};
+ghost use Rattle.jser_walk.specs.Layers.{told_layer, told_fields, field_at, is_raw_at, NextRaw, NextValue};
 ghost use Rattle.jser_walk.specs.Views.{view_name};
 
 use crate::name::Name;
@@ -65,17 +65,6 @@ impl Layer {
         match self {
             Layer::Class { flags, .. } => flags & SC_WRITE_METHOD != 0,
             Layer::Proxy => false,
-        }
-    }
-
-    /// Whether an object holds anything of it: the value of a field, or an annotation.
-    #[tactic(auto, using(crate::proofs::LayerLemmas::filled_by_notes, crate::proofs::LayerLemmas::filled_by_fields))]
-    pub(crate) fn is_filled(&self) -> bool
-        ensures { result ≡ is_filled (told_layer self.now) }
-    {
-        match self.fields() {
-            [] => self.has_notes(),
-            [_, ..] => true,
         }
     }
 

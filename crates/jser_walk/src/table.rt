@@ -1,7 +1,7 @@
 //! The table of handles of an epoch, with the names of classes and fields.
-ghost use Rattle.std.specs.Prelude.{◌≡◌, ◌<◌, [], ◌∷◌, ◌++◌, length, drop, slice_get, slice_set, option_map, Some, OnOk, OnErr, IfOk};
+ghost use Rattle.std.specs.Prelude.{◌≡◌, ◌<◌, [], ◌∷◌, ◌++◌, length, slice_get, slice_set, option_map, Some, OnOk, OnErr, IfOk};
 ghost use Rattle.jser_shown.specs.Known.{known_text, known_other, known_pending, known_class, with_entry, own_class_of};
-ghost use Rattle.jser_walk.specs.Layers.{told_layer, from_filled};
+ghost use Rattle.jser_walk.specs.Layers.{told_layer};
 ghost use Rattle.jser_walk.specs.Tables.{layer_in, layers_in, layers_above, IsChainOf, IsChainAbove};
 
 use crate::chains::{Chains, Own};
@@ -129,8 +129,7 @@ impl Table {
         ensures kept { OnErr result (self.new.chains ≡ self.old.chains) }
     {
         let above = self.chain_above(parent);
-        let is_filled = self.layers[layer as usize].is_filled();
-        let chain = self.chains.add(Own { layer, is_filled }, above)?;
+        let chain = self.chains.add(Own { layer }, above)?;
         if number < self.entries.len() {
             self.entries[number] = Entry::Class(chain);
         }
@@ -178,17 +177,6 @@ impl Table {
     {
         let own = self.chains.layer(chain, index);
         &self.layers[own.layer as usize]
-    }
-
-    /// The index of the first layer, at `from` or after it, that an object holds anything of; or one past the last,
-    /// where it holds nothing of them.
-    #[tactic(auto, using(crate::proofs::TableLemmas::filled_named, crate::proofs::TableLemmas::length_chains))]
-    #[inline(always)]
-    pub(crate) fn next_filled(&self, chain: u32, from: usize) -> usize
-        requires { chain < length self.now.chains }
-        ensures { drop result (layers_in self.now.chains chain) ≡ from_filled (drop from (layers_in self.now.chains chain)) }
-    {
-        self.chains.next_filled(chain, from)
     }
 
     /// The class's own layer.

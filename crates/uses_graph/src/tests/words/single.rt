@@ -1,7 +1,7 @@
 //! Single words, with the numbers and units at their edges.
 
 use jser_prim::Outbox;
-use jser_walk::{Due, Field, Walk};
+use jser_walk::{Due, Field, Name, Walk};
 use jser_words::{say, say_decimal, say_due, say_field, say_next, say_quoted};
 use std::alloc::AllocGlobal;
 use std::process::Abort;
@@ -18,18 +18,25 @@ fn assert_due(rt: &(impl Abort + AllocGlobal), due: Due<'_>, text: &[u8]) {
 }
 
 #[test]
-fn dues(rt: HostRuntime) {
+fn dues(rt: HostRuntime) -> Result<(), Fail> {
+    let name = Name::new(rt.alloc(), &[0x22, 0x41, 0x5C, 0xE9])?;
+    assert_dues(&rt, &name);
+    Ok(())
+}
+
+/// What is due is this text, where it has a name, and where it has none.
+fn assert_dues(rt: &(impl Abort + AllocGlobal), name: &Name) {
     let section = Due::Section {
         level: 1,
         name: None,
     };
-    assert_due(&rt, section, b"  data proxy\n");
+    assert_due(rt, section, b"  data proxy\n");
     let external = Due::External {
         level: 0,
-        name: Some(&[0x41]),
+        name: Some(name),
     };
-    assert_due(&rt, external, b"external \"A\"\n");
-    assert_due(&rt, Due::Quiet, b"");
+    assert_due(rt, external, b"external \"\\\"A\\\\\\u00e9\"\n");
+    assert_due(rt, Due::Quiet, b"");
 }
 
 /// How many spaces a line of this level begins with, up to its first word.

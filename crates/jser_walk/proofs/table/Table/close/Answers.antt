@@ -15,11 +15,9 @@ returns-else-number-len-clause-known c =
 pub invariant_of-self-then-number-len : goal.invariant_of-self-then-number-len
 invariant_of-self-then-number-len c =
     sound_named _ _ _ _ _ _ _
-    (sound_closed _ _ _ _ _ _ _ _ _ c.self.view_is c.self.invariant c.chain_above-above.ensures c.requires c.index.ensures
-    c.is_filled-is_filled.ensures c.in_ok-chain.ensures.added)
+    (sound_closed _ _ _ _ _ _ _ _ c.self.view_is c.self.invariant c.chain_above-above.ensures c.requires c.in_ok-chain.ensures.added)
     c.in_ok-chain.ensures.added c.in_ok-chain.ensures.number
 
 pub invariant_of-self-else-number-len : goal.invariant_of-self-else-number-len
 invariant_of-self-else-number-len c =
-    sound_closed _ _ _ _ _ _ _ _ _ c.self.view_is c.self.invariant c.chain_above-above.ensures c.requires c.index.ensures
-    c.is_filled-is_filled.ensures c.in_ok-chain.ensures.added
+    sound_closed _ _ _ _ _ _ _ _ c.self.view_is c.self.invariant c.chain_above-above.ensures c.requires c.in_ok-chain.ensures.added
