@@ -1,6 +1,6 @@
 -- Values that are lent at once, said along the bytes of a stream.
 use denote.Bor.{Bor}
-use Rattle.std.proofs.Common.{◌≡◌, ◌⊎◌, inl, inr, ℕ, suc, ◌+◌, ◌<◌, ◌≤◌, List, [], ◌∷◌, ◌++◌, length, take, drop, Result, Ok, OnOk, OnErr, refl, sym, ◌∙◌, ap, arith}
+use Rattle.std.proofs.Common.{◌≡◌, inl, inr, ℕ, suc, ◌+◌, ◌<◌, ◌≤◌, List, ◌∷◌, ◌++◌, length, take, drop, Ok, refl, sym, ◌∙◌, ap, arith}
 use Rattle.std.proofs.lemmas.List.{length-drop, take-append-drop}
 use Rattle.jser_prim.specs.Outgoing.{Outgoing, SinkState}
 use Rattle.jser_reading.specs.Labels.{StreamField, text_field}
@@ -16,11 +16,11 @@ use Rattle.jser_reader.specs.declared.Whole.TheVariants as whole
 use Rattle.jser_reader.specs.declared.tally.Tally.{Tally}
 use Rattle.jser_reader.specs.ItemsTold.{TellsItems}
 use Rattle.jser_reader.specs.Readers.{Seen}
-use Rattle.jser_reader.specs.WholesTold.{TellsText, TellsWhole}
+use Rattle.jser_reader.specs.WholesTold.{TellsWhole}
 use Rattle.jser_words.specs.Passing.{says_next}
-use Rattle.jser_words.specs.Says.{Says, Begins}
-use Rattle.jser_graph.specs.Along.{Ends, IsLength, IsTextOf, GoesAlong, items_of, whole_size}
-use Rattle.jser_graph.specs.SaidItems.{SaysField, SaysFirst, BeginsField, SaysItems, BeginsItems}
+use Rattle.jser_words.specs.Says.{Says}
+use Rattle.jser_graph.specs.Along.{Ends, IsLength, IsTextOf, items_of, whole_size}
+use Rattle.jser_graph.specs.SaidItems.{SaysField, SaysItems, BeginsItems}
 use Rattle.jser_graph.specs.Showing.{PutsFront}
 use Rattle.jser_graph.proofs.TurnLemmas.{Turn, turns, takes_item}
 use Rattle.jser_graph.proofs.WholeLemmas.{text_turns, drop_on}

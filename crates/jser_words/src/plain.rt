@@ -80,10 +80,9 @@ fn say_plain_line<W: Sink>(outbox: &mut Outbox, sink: &mut W, bytes: &[u8])
 fn are_plain(bytes: &[u8]) -> bool
     ensures { result ≡ true → ArePlain bytes.now }
 {
+    let mut plain = true;
     for byte in bytes {
-        if !is_plain(u16::from(*byte)) {
-            return false;
-        }
+        plain &= is_plain(u16::from(*byte));
     }
-    true
+    plain
 }

@@ -5,7 +5,7 @@ use Rattle.jser_reader.specs.ReaderStates.{HasProgress}
 use Rattle.jser_reader.specs.WholesTold.{WholeCases}
 use Rattle.jser_graph.proofs.TurnLemmas.{wants_more, turns, takes_item}
 use Rattle.jser_graph.proofs.WholeLemmas.{nothing_done}
-use Rattle.jser_graph.proofs.ShowLemmas.{HasSaid, show_laws, does_say, says_stopped, says_front, item_front, says_all, due_front, ok_by, err_by, err_any}
+use Rattle.jser_graph.proofs.ShowLemmas.{show_laws, does_say, says_stopped, says_front, item_front, says_all, due_front, ok_by, err_by, err_any}
 use Rattle.jser_graph.proofs.SaidLemmas.{said_laws, said_whole, whole_front}
 use Rattle.jser_graph.proofs.show.say_along.Goals as goal
 
