@@ -6,6 +6,7 @@ pub mod AlongLemmas
 pub mod PartLemmas
 pub mod SurveyLemmas
 pub mod StringLemmas
+pub mod ReferenceLemmas
 pub mod TurnLemmas
 pub mod ReadLemmas
 pub mod WholeLemmas

@@ -121,10 +121,9 @@ impl Survey {
             tag_byte: self.place,
             position,
         };
-        match self.begun.push(begun) {
-            Ok(()) => Ok(()),
-            Err(_) => Err(AllocError),
-        }
+        self.begun.reserve(1)?;
+        self.begun.push_reserved(begun);
+        Ok(())
     }
 
     /// Goes past a field by itself, but for its place.
@@ -308,9 +307,23 @@ impl Survey {
     }
 
     /// Goes past a reference.
-    #[tactic(auto, using(crate::proofs::WholeLemmas::past_reference))]
+    #[tactic(auto, using(crate::proofs::ReferenceLemmas::reference_unmade))]
     #[inline(always)]
     fn reference(&mut self, handle: u32, assigned: usize, end: u64) -> Result<(), AllocError>
+        ensures { OnOk result (GoesPastWhole (Whole.Reference handle) assigned end self.old self.new) }
+    {
+        if self.is_due(assigned) {
+            return self.reference_due(handle, assigned, end);
+        }
+        self.is_name = true;
+        self.place = end;
+        Ok(())
+    }
+
+    /// Goes past the tag and the handle of a reference, one after the other.
+    #[tactic(auto, using(crate::proofs::WholeLemmas::past_reference))]
+    #[inline(never)]
+    fn reference_due(&mut self, handle: u32, assigned: usize, end: u64) -> Result<(), AllocError>
         ensures { OnOk result (GoesPastWhole (Whole.Reference handle) assigned end self.old self.new) }
     {
         let _ = handle;
