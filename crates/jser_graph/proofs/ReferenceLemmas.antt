@@ -1,5 +1,5 @@
 -- A reference that is lent at once, before which no node is due: nothing is found but that the next text is a name.
-use Rattle.std.proofs.Common.{◌≡◌, ℕ, ◌-◌, ◌≤◌, true, false, length, Option, Some, None, refl, sym, ap, arith}
+use Rattle.std.proofs.Common.{◌≡◌, ℕ, ◌-◌, ◌≤◌, true, false, length, None, refl, sym, ap, arith}
 use Rattle.jser_reading.specs.FieldBytes.{tag_byte}
 use Rattle.jser_reading.specs.Labels.{Tag, null_tag, reference_tag, class_desc_tag, object_tag, string_tag, array_tag, class_tag, long_string_tag, proxy_desc_tag, enum_tag, StreamField, tag_field, block_tag_field, end_tag_field, reset_tag_field}
 use Rattle.jser_shown.specs.Finding.{Finding, begin_kind, kind_begun, take_field}

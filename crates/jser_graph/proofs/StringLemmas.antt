@@ -1,10 +1,10 @@
 -- A string that is lent at once: its tag begins a node, which is made at its text.
-use Rattle.std.proofs.Common.{◌≡◌, ℕ, ◌+◌, ◌-◌, ◌<◌, ◌≤◌, true, false, List, [], ◌∷◌, ◌++◌, length, Option, Some, None, refl, sym, ◌∙◌, ap, subst, arith, length-append}
+use Rattle.std.proofs.Common.{◌≡◌, ℕ, ◌+◌, ◌-◌, ◌<◌, ◌≤◌, true, false, List, [], ◌∷◌, ◌++◌, length, Some, refl, ◌∙◌, ap, subst, arith, length-append}
 use Rattle.jser_prim.specs.ModifiedUtf8.{IsUnits, modified_utf8}
 use Rattle.jser_reading.specs.FieldBytes.{bytes_of, tag_byte}
 use Rattle.jser_reading.specs.Labels.{Tag, null_tag, reference_tag, class_desc_tag, object_tag, string_tag, array_tag, class_tag, long_string_tag, proxy_desc_tag, enum_tag, StreamField, tag_field, block_tag_field, end_tag_field, reset_tag_field, text_field}
 use Rattle.jser_shown.specs.Nodes.{Node, place_after, text_node}
-use Rattle.jser_shown.specs.Finding.{Finding, node_made, make_begun, begin_kind, kind_begun, begun_by, take_field, find}
+use Rattle.jser_shown.specs.Finding.{Finding, node_made, make_begun, begin_kind, kind_begun, take_field, find}
 use Rattle.jser_shown.specs.Finding.{Begun as ToldBegun}
 use Rattle.jser_walk.specs.declared.Field.TheVariants as lent
 use Rattle.jser_walk.specs.Given.{IsOf}

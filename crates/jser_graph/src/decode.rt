@@ -7,8 +7,18 @@ use jser_prim::TextScan;
 use std::alloc::AllocError;
 use std::simd::prelude::*;
 
+/// How many bytes are put together in a long text.
+const LANES: usize = 16;
+
+/// How many are put together where there are fewer.
+const HALF: usize = 8;
+
+/// How many are put together where there are fewer than that.
+const QUARTER: usize = 4;
+
 /// The UTF-16 units of a text in modified UTF-8, lent from `room`. Bytes that are no such text have others.
 #[tactic(auto, using(crate::proofs::DecodeLemmas::narrow_text))]
+#[inline(always)]
 pub(crate) fn decode<'r>(bytes: &[u8], room: &'r mut Vec<u16>) -> Result<&'r [u16], AllocError>
     ensures { IfOk result (λ units. (told : List ℕ) → IsUnits told → modified_utf8 told ≡ bytes.now → units.now ≡ told) }
 {
@@ -32,41 +42,41 @@ fn widen(bytes: &[u8], room: &mut Vec<u16>) -> Result<bool, AllocError>
     Ok(widen_all(bytes, room))
 }
 
-/// The same, where there is room. The last bytes are put with some that were put before, where they are too few for all
-/// lanes.
+/// The same, where there is room. The last bytes of a text, where they are too few for all lanes, are put with some that
+/// were put before.
 #[inline(always)]
 fn widen_all(bytes: &[u8], room: &mut [u16]) -> bool
     requires { length bytes.now ≤ length room.old }
     ensures { result ≡ true → AreNarrow bytes.now room.new }
 {
-    if bytes.len() >= 16 {
+    if bytes.len() >= LANES {
         return widen_loads(bytes, room);
     }
-    if bytes.len() >= 8 {
-        return widen_ends::<8>(bytes, room);
+    if bytes.len() >= HALF {
+        return widen_ends::<HALF>(bytes, room);
     }
-    if bytes.len() >= 4 {
-        return widen_ends::<4>(bytes, room);
+    if bytes.len() >= QUARTER {
+        return widen_ends::<QUARTER>(bytes, room);
     }
     widen_few(bytes, room)
 }
 
-/// The same of 16 bytes or more.
+/// The same of a long text.
 #[tactic(auto, using(crate::proofs::DecodeLemmas::none_widened, crate::proofs::DecodeLemmas::more_widened, crate::proofs::DecodeLemmas::all_widened))]
 #[inline(never)]
 fn widen_loads(bytes: &[u8], room: &mut [u16]) -> bool
-    requires some { 16 ≤ length bytes.now }
+    requires some { LANES ≤ length bytes.now }
     requires room { length bytes.now ≤ length room.old }
     ensures { result ≡ true → AreNarrow bytes.now room.new }
 {
     let mut at = 0;
-    'loads: while bytes.len() - at > 16 {
-        if !widen_lanes::<16>(bytes, room, at) {
+    'loads: while bytes.len() - at > LANES {
+        if !widen_lanes::<LANES>(bytes, room, at) {
             return false;
         }
-        at += 16;
+        at += LANES;
     }
-    widen_lanes::<16>(bytes, room, bytes.len() - 16)
+    widen_lanes::<LANES>(bytes, room, bytes.len() - LANES)
 }
 
 /// The same of as many bytes as there are lanes, or up to twice as many.
@@ -97,7 +107,7 @@ fn widen_lanes<const N: usize>(bytes: &[u8], room: &mut [u16], at: usize) -> boo
     lanes.simd_ge(Simd::splat(0x80)).to_bitmask() == 0
 }
 
-/// The same of less bytes than there are lanes.
+/// The same, byte by byte.
 #[inline(always)]
 fn widen_few(bytes: &[u8], room: &mut [u16]) -> bool
     requires { length bytes.now ≤ length room.old }

@@ -1,4 +1,4 @@
-use Rattle.std.proofs.Common.{◌≡◌, ◌<◌, ◌≤◌, ◌-◌, length}
+use Rattle.std.proofs.Common.{◌<◌, ◌≤◌, ◌-◌, length}
 use Rattle.jser_graph.specs.Decoding.{Widened}
 use Rattle.jser_graph.proofs.decode.widen_loads.Given as goal
 

@@ -1,4 +1,4 @@
-use Rattle.std.proofs.Common.{rules, ◌∙◌, subst, arith}
+use Rattle.std.proofs.Common.{rules, ◌∙◌, subst}
 use Rattle.std.proofs.lemmas.Result.{on_ok_weaker}
 use Rattle.jser_graph.specs.Surveying.{AddsString}
 use Rattle.jser_graph.proofs.StringLemmas.{string_made, string_unmade}
