@@ -5,6 +5,8 @@ pub mod OwnerLemmas
 pub mod AlongLemmas
 pub mod PartLemmas
 pub mod SurveyLemmas
+pub mod StringLemmas
+pub mod ReferenceLemmas
 pub mod TurnLemmas
 pub mod ReadLemmas
 pub mod WholeLemmas

@@ -1,9 +1,10 @@
 -- A first walk along the fields of a stream, as code makes it.
-use Rattle.std.specs.Prelude.{ℕ, ◌≡◌, ◌+◌, ◌-◌, List, length}
+use Rattle.std.specs.Prelude.{ℕ, ◌≡◌, ◌+◌, ◌-◌, List, [], ◌∷◌, ◌++◌, Some, true, length}
+use Rattle.jser_prim.specs.ModifiedUtf8.{IsUnits, modified_utf8}
 use Rattle.jser_grammar.specs.Wire.{TC_REFERENCE, TC_STRING}
 use Rattle.jser_reading.specs.FieldBytes.{bytes_of, joined}
 use Rattle.jser_reading.specs.Labels.{StreamField, handle_field, array_length_field, text_field, prims_field, bytes_field, Piece}
-use Rattle.jser_shown.specs.Nodes.{place_after}
+use Rattle.jser_shown.specs.Nodes.{place_after, text_node}
 use Rattle.jser_shown.specs.Finding.{Finding, begin_finding, find, found}
 use Rattle.jser_shown.specs.Finding.{Begun as ToldBegun}
 use Rattle.jser_graph.specs.declared.begun.Begun.{Begun}
@@ -46,6 +47,12 @@ pub record GoesPastBoth (one other : StreamField → Type 0) (assigned next midd
   pub between : Finding
   pub first : GoesPast one assigned middle old between
   pub second : GoesPast other next end between new
+
+-- the node of a string was made whose tag stands at the place, with the units that its bytes spell; it ends at this place
+pub record AddsString (text : List ℕ) (end : ℕ) (old new : Finding) : Type 0 where
+  pub units : List ℕ
+  pub spelled : (told : List ℕ) → IsUnits told → modified_utf8 told ≡ text → units ≡ told
+  pub is : new ≡ record old { nodes = old.nodes ++ (record { kind = text_node; place = old.place; units = Some units } ∷ []); is_name = true; place = end }
 
 -- it went past the tag of what has a class, and the reference that is its class
 pub record GoesPastOwner (tag class assigned end : ℕ) (old new : Finding) : Type 0 where

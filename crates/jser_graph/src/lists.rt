@@ -44,10 +44,9 @@ impl<T: Drop> Lists<T> {
         ensures ended { OnOk result (self.new.ended ≡ self.old.ended) }
         ensures unchanged { OnErr result (self.new ≡ self.old) }
     {
-        match self.items.push(item) {
-            Ok(()) => Ok(()),
-            Err(_) => Err(AllocError),
-        }
+        self.items.reserve(1)?;
+        self.items.push_reserved(item);
+        Ok(())
     }
 
     /// Ends the open list: the next one is open, and empty.
@@ -57,10 +56,9 @@ impl<T: Drop> Lists<T> {
         ensures ended { OnOk result (self.new.ended ≡ self.old.ended ++ self.old.last ∷ []) }
         ensures unchanged { OnErr result (self.new ≡ self.old) }
     {
-        match self.ends.push(self.items.len()) {
-            Ok(()) => Ok(()),
-            Err(_) => Err(AllocError),
-        }
+        self.ends.reserve(1)?;
+        self.ends.push_reserved(self.items.len());
+        Ok(())
     }
 
     /// How many lists have ended.
@@ -113,14 +111,9 @@ impl Lists<u16> {
         ensures last { OnOk result (self.new.last ≡ []) }
         ensures unchanged { OnErr result (self.new ≡ self.old) }
     {
-        let end = self.items.len() + list.len();
-        if self.ends.push(end).is_err() {
-            return Err(AllocError);
-        }
-        if self.items.extend_from_slice(list).is_err() {
-            let _ = self.ends.pop();
-            return Err(AllocError);
-        }
+        self.ends.reserve(1)?;
+        self.items.extend_from_slice(list)?;
+        self.ends.push_reserved(self.items.len());
         Ok(())
     }
 }

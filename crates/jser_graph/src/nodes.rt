@@ -87,7 +87,7 @@ impl Nodes {
 
     /// Adds the node of a string.
     #[inline(always)]
-    fn push_text(&mut self, units: &[u16], tag_byte: u64) -> Result<(), AllocError>
+    pub(crate) fn push_text(&mut self, units: &[u16], tag_byte: u64) -> Result<(), AllocError>
         ensures { OnOk result (self.new ≡ with_last self.old (record { kind = text_node; place = tag_byte; units = Some units.now })) }
     {
         let number = self.texts.count();

@@ -52,10 +52,9 @@ impl Owners {
             number: 0,
             elements: 0,
         };
-        match self.owners.push(blank) {
-            Ok(()) => Ok(()),
-            Err(_) => Err(AllocError),
-        }
+        self.owners.reserve(1)?;
+        self.owners.push_reserved(blank);
+        Ok(())
     }
 
     /// Fills in the one at this position, if there is one.

@@ -6,7 +6,7 @@ ghost use Rattle.jser_shown.specs.Finding.{begin_finding, begun_by, find, finish
 ghost use Rattle.jser_shown.specs.Nodes.{place_after};
 ghost use Rattle.jser_walk.specs.Given.{IsOf, told_nodes};
 ghost use Rattle.jser_graph.specs.Along.{Ends, IsLength, PartIs};
-ghost use Rattle.jser_graph.specs.Surveying.{IsPlain, IsQuiet, GoesPastWhole};
+ghost use Rattle.jser_graph.specs.Surveying.{AddsString, IsPlain, IsQuiet, GoesPastWhole};
 ghost use Rattle.jser_graph.specs.Listed.{all_lists};
 
 use crate::begun::{Begun, elements_made, is_owner, kind_begun};
@@ -121,10 +121,9 @@ impl Survey {
             tag_byte: self.place,
             position,
         };
-        match self.begun.push(begun) {
-            Ok(()) => Ok(()),
-            Err(_) => Err(AllocError),
-        }
+        self.begun.reserve(1)?;
+        self.begun.push_reserved(begun);
+        Ok(())
     }
 
     /// Goes past a field by itself, but for its place.
@@ -308,9 +307,23 @@ impl Survey {
     }
 
     /// Goes past a reference.
-    #[tactic(auto, using(crate::proofs::WholeLemmas::past_reference))]
+    #[tactic(auto, using(crate::proofs::ReferenceLemmas::reference_unmade))]
     #[inline(always)]
     fn reference(&mut self, handle: u32, assigned: usize, end: u64) -> Result<(), AllocError>
+        ensures { OnOk result (GoesPastWhole (Whole.Reference handle) assigned end self.old self.new) }
+    {
+        if self.is_due(assigned) {
+            return self.reference_due(handle, assigned, end);
+        }
+        self.is_name = true;
+        self.place = end;
+        Ok(())
+    }
+
+    /// Goes past the tag and the handle of a reference, one after the other.
+    #[tactic(auto, using(crate::proofs::WholeLemmas::past_reference))]
+    #[inline(never)]
+    fn reference_due(&mut self, handle: u32, assigned: usize, end: u64) -> Result<(), AllocError>
         ensures { OnOk result (GoesPastWhole (Whole.Reference handle) assigned end self.old self.new) }
     {
         let _ = handle;
@@ -328,9 +341,43 @@ impl Survey {
         self.reference(class, assigned, end)
     }
 
-    /// Goes past a string.
+    /// Goes past a string. Its node is made at its text, so it is made at once, and no tag has to wait for it.
     #[inline(always)]
     fn string(
+        &mut self,
+        text: &[u8],
+        units: &mut Vec<u16>,
+        assigned: usize,
+        end: u64,
+    ) -> Result<(), AllocError>
+        requires { assigned < 2 ^ 32 }
+        ensures { OnOk result (GoesPastWhole (Whole.String text.entry) assigned end self.old self.new) }
+    {
+        if self.nodes.count() > assigned {
+            return self.string_ahead(text, units, assigned, end);
+        }
+        if self.is_due(assigned) {
+            self.make_plain()?;
+        }
+        self.add_string(text, units, end)
+    }
+
+    /// Makes the node of a string whose tag comes next, and which ends at this place of the stream.
+    #[inline(always)]
+    fn add_string(&mut self, text: &[u8], units: &mut Vec<u16>, end: u64) -> Result<(), AllocError>
+        ensures { OnOk result (AddsString text.now end self.old self.new) }
+    {
+        let units = decode(text, units)?;
+        self.nodes.push_text(units, self.place)?;
+        self.is_name = true;
+        self.place = end;
+        Ok(())
+    }
+
+    /// Goes past the tag and the text of a string, one after the other.
+    #[cold]
+    #[inline(never)]
+    fn string_ahead(
         &mut self,
         text: &[u8],
         units: &mut Vec<u16>,

@@ -1,10 +1,18 @@
-use Rattle.std.proofs.Common.{arith}
-use Rattle.jser_graph.proofs.WholeLemmas.{past_string, ok_both}
+use Rattle.std.proofs.Common.{rules, ◌∙◌, subst}
+use Rattle.std.proofs.lemmas.Result.{on_ok_weaker}
+use Rattle.jser_graph.specs.Surveying.{AddsString}
+use Rattle.jser_graph.proofs.StringLemmas.{string_made, string_unmade}
 use Rattle.jser_graph.proofs.survey.Survey.string.Goals as goal
+use Rattle.jser_graph.proofs.survey.Survey.string.Goals.{then-is_due+in_ok-make_plain, else-is_due}
 
 pub returns : goal.returns
 returns c =
-    let e = c.saturating_sub.ensures in
-    ok_both c.text.result c.text.ensures.finds c.text.ensures.place
-    (λ finds place. past_string c.args.text.now c.args.assigned c.args.end c.saturating_sub.result c.args.self.now c.tag.new.self c.text.new.self (omega arith) c.in_ok-tag.ensures.finds
-    c.in_ok-tag.ensures.place finds place)
+    on_ok_weaker c.add_string.result (λ adds.
+    elim c.if-is_due.branch [
+      | then-is_due+in_ok-make_plain w ↦
+          string_made c.args.text.now c.args.assigned c.args.end c.args.self.now c.if-is_due.self c.add_string.new.self (c.is_due.ensures.due w.if-is_due.true)
+          (λ told plain. w.self-is ∙ w.in_ok-make_plain.ensures told plain) adds
+      | else-is_due w ↦
+          string_unmade c.args.text.now c.args.assigned c.args.end c.args.self.now c.add_string.new.self (c.is_due.ensures.made w.if-is_due.false) (search rules)
+          (subst (λ x. AddsString c.args.text.now c.args.end x c.add_string.new.self) w.self-is adds)
+    ]) c.add_string.ensures

@@ -1,5 +1,5 @@
 use Rattle.std.proofs.Common.{◌≡◌, ℕ, ◌<◌, true, take, get_or}
-use Rattle.jser_graph.proofs.decode.widen_all.Given as goal
+use Rattle.jser_graph.proofs.decode.widen_few.Given as goal
 
 abbrev pub invariant-loop-place : goal.invariant-loop-place
 invariant-loop-place l = record {
