@@ -3,9 +3,8 @@
 ghost use Rattle.std.specs.Prelude.{◌≡◌, ◌<◌, ◌≤◌, get_or, length, drop, Some, None, IfSome};
 ghost use Rattle.jser_reader.specs.Passes.{Passes, PassesOn, HasPassed, CanPass, IsQuiet};
 ghost use Rattle.jser_reader.specs.Cuts.{IsFour};
-ghost use Rattle.jser_reader.specs.Tags.{told_tag};
-ghost use Rattle.jser_reader.specs.Wholes.{IsPlace, tag_of_owner};
-ghost use Rattle.jser_reading.specs.FieldBytes.{tag_byte};
+ghost use Rattle.jser_reader.specs.Wholes.{IsPlace, HasPlace, HasReference};
+ghost use Rattle.jser_grammar.specs.Wire.{TC_ARRAY, TC_CLASS, TC_ENUM, TC_OBJECT};
 ghost use Rattle.jser_verdict.specs.Gates.{Gate as ToldGate, IsGate};
 
 use crate::frame::Owner;
@@ -86,8 +85,8 @@ impl Machine {
         self.take_place(piece).passed(piece.len())
     }
 
-    /// After so many bytes of a piece, where this number of four bytes comes next, takes bytes of it too; else nothing more.
-    /// It returns how many bytes were taken in all.
+    /// After so many bytes of a piece, where this number of four bytes comes next and is whole in the piece, takes it too;
+    /// else nothing more. It returns how many bytes were taken in all.
     #[inline(always)]
     fn then_four(&mut self, piece: &[u8], used: usize, next: Phase) -> Option<usize>
         requires used { HasPassed piece.now (Some used) }
@@ -97,7 +96,7 @@ impl Machine {
         ensures progress { HasPassed piece.now result }
     {
         let (_, rest) = piece.split_at(used);
-        if self.phase != next || rest.is_empty() || !self.has_room(rest) {
+        if self.phase != next || rest.len() < 4 || !self.has_room(rest) {
             return Some(used);
         }
         match self.pass_four(rest, next) {
@@ -137,37 +136,97 @@ impl Machine {
         self.then_four(piece, tag, Phase::TextHandle)
     }
 
-    /// Takes the tag of what has a class, and its class where that is a reference which is whole in the piece; and then the
-    /// length of an array, the name of an enum constant where that is a reference, or the raw values and the references with
-    /// which an object begins.
+    /// The handle of the class of what begins here, where that is a reference which is whole in the piece, and a place may
+    /// begin here.
+    #[inline(always)]
+    fn class_here(&self, piece: &[u8]) -> Option<u32>
+        ensures { IfSome result (λ n. HasReference piece.now n × HasPlace self.now) }
+    {
+        let Some(n) = reference_after(piece) else {
+            return None;
+        };
+        if !self.has_place() {
+            return None;
+        }
+        Some(n)
+    }
+
+    /// Takes the tag of an object, and its class where that is a reference which is whole in the piece, with the raw values
+    /// and the references that come after it.
     #[inline(never)]
-    pub(super) fn pass_owner(
-        &mut self,
-        tally: &mut Tally,
-        piece: &[u8],
-        owner: Owner,
-    ) -> Option<usize>
+    pub(super) fn pass_object(&mut self, tally: &mut Tally, piece: &[u8]) -> Option<usize>
         requires can { CanPass self.old piece.now }
         requires place { IsPlace self.old.phase }
-        requires tag { tag_byte (told_tag (tag_of_owner owner)) ≡ get_or piece.now 0 0 }
+        requires tag { TC_OBJECT ≡ get_or piece.now 0 0 }
         requires some { 0 < length piece.now }
         ensures passes { (gate : ToldGate) → IsGate gate → Passes gate piece.now result self.old tally.old self.new tally.new }
         ensures progress { HasPassed piece.now result }
     {
-        let Some(n) = reference_after(piece) else {
+        let Some(n) = self.class_here(piece) else {
             return self.pass_tag_alone(tally, piece);
         };
-        if !self.has_place() {
-            return self.pass_tag_alone(tally, piece);
-        }
-        if !self.whole_owner(tally, piece, owner, n) {
+        if !self.whole_owner(tally, piece, Owner::Object, n) {
             return None;
         }
-        match owner {
-            Owner::Object => Some(self.pass_fields(tally, piece, 6)),
-            Owner::Array => self.then_four(piece, 6, Phase::ArrayLength),
-            Owner::EnumConst => self.then_name(piece, 6),
-            Owner::ClassObject => Some(6),
+        Some(self.pass_fields(tally, piece, 6))
+    }
+
+    /// Takes the tag of an array, and its class where that is a reference which is whole in the piece, with its length.
+    #[inline(never)]
+    pub(super) fn pass_array(&mut self, tally: &mut Tally, piece: &[u8]) -> Option<usize>
+        requires can { CanPass self.old piece.now }
+        requires place { IsPlace self.old.phase }
+        requires tag { TC_ARRAY ≡ get_or piece.now 0 0 }
+        requires some { 0 < length piece.now }
+        ensures passes { (gate : ToldGate) → IsGate gate → Passes gate piece.now result self.old tally.old self.new tally.new }
+        ensures progress { HasPassed piece.now result }
+    {
+        let Some(n) = self.class_here(piece) else {
+            return self.pass_tag_alone(tally, piece);
+        };
+        if !self.whole_owner(tally, piece, Owner::Array, n) {
+            return None;
+        }
+        self.then_four(piece, 6, Phase::ArrayLength)
+    }
+
+    /// Takes the tag of an enum constant, and its class where that is a reference which is whole in the piece, with its name
+    /// where that is a reference too.
+    #[inline(never)]
+    pub(super) fn pass_constant(&mut self, tally: &mut Tally, piece: &[u8]) -> Option<usize>
+        requires can { CanPass self.old piece.now }
+        requires place { IsPlace self.old.phase }
+        requires tag { TC_ENUM ≡ get_or piece.now 0 0 }
+        requires some { 0 < length piece.now }
+        ensures passes { (gate : ToldGate) → IsGate gate → Passes gate piece.now result self.old tally.old self.new tally.new }
+        ensures progress { HasPassed piece.now result }
+    {
+        let Some(n) = self.class_here(piece) else {
+            return self.pass_tag_alone(tally, piece);
+        };
+        if !self.whole_owner(tally, piece, Owner::EnumConst, n) {
+            return None;
+        }
+        self.then_name(piece, 6)
+    }
+
+    /// Takes the tag of a class object, and its class where that is a reference which is whole in the piece.
+    #[inline(never)]
+    pub(super) fn pass_class_object(&mut self, tally: &mut Tally, piece: &[u8]) -> Option<usize>
+        requires can { CanPass self.old piece.now }
+        requires place { IsPlace self.old.phase }
+        requires tag { TC_CLASS ≡ get_or piece.now 0 0 }
+        requires some { 0 < length piece.now }
+        ensures passes { (gate : ToldGate) → IsGate gate → Passes gate piece.now result self.old tally.old self.new tally.new }
+        ensures progress { HasPassed piece.now result }
+    {
+        let Some(n) = self.class_here(piece) else {
+            return self.pass_tag_alone(tally, piece);
+        };
+        if self.whole_owner(tally, piece, Owner::ClassObject, n) {
+            Some(6)
+        } else {
+            None
         }
     }
 }

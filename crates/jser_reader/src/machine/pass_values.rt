@@ -8,7 +8,6 @@ ghost use Rattle.jser_reader.specs.Wholes.{IsPlace};
 ghost use Rattle.jser_grammar.specs.Wire.{TC_BLOCKDATA, TC_REFERENCE, TC_STRING};
 ghost use Rattle.jser_verdict.specs.Gates.{Gate as ToldGate, IsGate};
 
-use crate::frame::Owner;
 use crate::machine::Machine;
 use crate::tally::Tally;
 use jser_grammar::wire::{
@@ -137,10 +136,10 @@ impl Machine {
         ensures progress { HasPassed piece.now result }
     {
         match piece[0] {
-            TC_OBJECT => self.pass_owner(tally, piece, Owner::Object),
-            TC_ARRAY => self.pass_owner(tally, piece, Owner::Array),
-            TC_ENUM => self.pass_owner(tally, piece, Owner::EnumConst),
-            TC_CLASS => self.pass_owner(tally, piece, Owner::ClassObject),
+            TC_OBJECT => self.pass_object(tally, piece),
+            TC_ARRAY => self.pass_array(tally, piece),
+            TC_ENUM => self.pass_constant(tally, piece),
+            TC_CLASS => self.pass_class_object(tally, piece),
             TC_REFERENCE | TC_STRING | TC_NULL | TC_BLOCKDATA => self.pass_plain(tally, piece),
             _ => self.pass_tag_alone(tally, piece),
         }
