@@ -218,6 +218,6 @@ impl Machine {
         self.phase = Phase::ClassHandle;
         self.at += 4;
         tally.count(before, self.mark());
-        self.class_handle(n)
+        self.owner_handle(owner, n)
     }
 }
