@@ -15,8 +15,7 @@ use crate::tally::Tally;
 use jser_grammar::wire::TC_REFERENCE;
 
 impl Machine {
-    /// Takes raw values or a reference, where they come next and are whole in the piece, and returns how many bytes they
-    /// are; or does nothing.
+    /// Takes a reference, where a value comes next and it is whole in the piece; or does nothing.
     #[inline(always)]
     fn whole_field(&mut self, tally: &mut Tally, piece: &[u8]) -> Option<usize>
         requires can { CanPass self.old piece.now }
@@ -27,7 +26,6 @@ impl Machine {
         ensures nothing { result ≡ None → (self.new ≡ self.old) × (tally.new ≡ tally.old) }
     {
         match self.phase {
-            Phase::Prims => self.whole_raws(piece),
             Phase::Value => {
                 if piece[0] == TC_REFERENCE && self.whole_reference(tally, piece) {
                     return Some(5);
@@ -38,8 +36,8 @@ impl Machine {
         }
     }
 
-    /// After so many bytes of a piece, takes the raw values and the references that come next one after another, as long as
-    /// they are whole in the piece, and returns how many bytes were taken in all.
+    /// After so many bytes of a piece, takes the references that come next one after another, as long as they are values of
+    /// what is open and whole in the piece, and returns how many bytes were taken in all.
     #[inline(always)]
     fn pass_fields(&mut self, tally: &mut Tally, piece: &[u8], first: usize) -> usize
         requires used { HasPassed piece.now (Some first) }
@@ -56,6 +54,39 @@ impl Machine {
             }
         }
         used
+    }
+
+    /// After so many bytes of a piece, where raw values come next, takes as many of them as come one after another; else
+    /// nothing more. It returns how many bytes were taken in all.
+    #[inline(always)]
+    fn then_raws(&mut self, piece: &[u8], used: usize) -> Option<usize>
+        requires used { HasPassed piece.now (Some used) }
+        ensures passes { (tally : Tally) → PassesOn piece.now used result self.old tally self.new tally }
+        ensures progress { HasPassed piece.now result }
+    {
+        let (_, rest) = piece.split_at(used);
+        if self.phase != Phase::Prims || rest.is_empty() || !self.has_room(rest) {
+            return Some(used);
+        }
+        match self.pass_prims(rest) {
+            None => None,
+            Some(more) => Some(used + more),
+        }
+    }
+
+    /// After so many bytes of a piece, where a value comes next, takes the references that come one after another. It returns
+    /// how many bytes were taken in all.
+    #[inline(always)]
+    fn then_references(&mut self, tally: &mut Tally, piece: &[u8], used: usize) -> usize
+        requires used { HasPassed piece.now (Some used) }
+        ensures passes { PassesOn piece.now used (Some result) self.old tally.old self.new tally.new }
+        ensures progress { HasPassed piece.now (Some result) }
+    {
+        let (_, rest) = piece.split_at(used);
+        if self.phase != Phase::Value || !self.has_room(rest) {
+            return used;
+        }
+        self.pass_fields(tally, piece, used)
     }
 
     /// Takes bytes of this number of four bytes, which comes next.
@@ -168,7 +199,10 @@ impl Machine {
         if !self.whole_owner(tally, piece, Owner::Object, n) {
             return None;
         }
-        Some(self.pass_fields(tally, piece, 6))
+        match self.then_raws(piece, 6) {
+            None => None,
+            Some(raws) => Some(self.then_references(tally, piece, raws)),
+        }
     }
 
     /// Takes the tag of an array, and its class where that is a reference which is whole in the piece, with its length.

@@ -136,7 +136,7 @@ impl Machine {
 
     /// Takes raw values, as many as come one after another and are in the piece with all their bytes, and returns how
     /// many bytes they are; or does nothing.
-    #[inline(never)]
+    #[inline(always)]
     pub(super) fn whole_raws(&mut self, piece: &[u8]) -> Option<usize>
         requires can { CanPass self.old piece.now }
         requires phase { self.old.phase ≡ Phase.Prims }
