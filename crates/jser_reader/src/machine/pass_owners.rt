@@ -61,11 +61,12 @@ impl Machine {
     #[inline(always)]
     fn then_raws(&mut self, piece: &[u8], used: usize) -> Option<usize>
         requires used { HasPassed piece.now (Some used) }
+        requires can { CanPass self.old (drop used piece.now) }
         ensures passes { (tally : Tally) → PassesOn piece.now used result self.old tally self.new tally }
         ensures progress { HasPassed piece.now result }
     {
         let (_, rest) = piece.split_at(used);
-        if self.phase != Phase::Prims || rest.is_empty() || !self.has_room(rest) {
+        if self.phase != Phase::Prims || rest.is_empty() {
             return Some(used);
         }
         match self.pass_prims(rest) {

@@ -1,5 +1,10 @@
+use Rattle.std.proofs.Common.{sym, subst}
+use Rattle.jser_reader.specs.Passes.{CanPass}
 use Rattle.jser_reader.proofs.PassLemmas.{then_passes, then_halts}
 use Rattle.jser_reader.proofs.machine.Machine.then_raws.Goals as goal
+
+pub pass_prims-requires-clause-can : goal.pass_prims-requires-clause-can
+pass_prims-requires-clause-can c = subst (CanPass c.args.self.now) (sym c.split_at.ensures.back) c.requires.can
 
 pub returns-in-None-clause-passes : goal.returns-in-None-clause-passes
 returns-in-None-clause-passes c = λ tally gate is_gate old before h.
