@@ -143,16 +143,16 @@ owned o number chain b old mid new h eo k =
     from_old false k = record { phase = k.phase; stop = k.stop }
 
 pub object_owned : (number n : ℕ) (b : Bool) (old mid new : Seen) → Tells None (object_state mid (chain_in mid.table.chains n)) b mid new
-    → Assigns other_entry (Some number) old mid → mid.owner ≡ owner.Object
+    → Assigns other_entry (Some number) old mid → old.owner ≡ owner.Object
     → Tells (told_if (is_full old) handle_space None) (owner_state old (chain_in old.table.chains n)) b old new
 unfolding Assigns
 object_owned number n b old mid new k h eo =
     let same : object_state mid (chain_in mid.table.chains n) ≡ object_state (added old other_entry) (chain_in old.table.chains n) =
     ap (λ r. object_state r (chain_in r.table.chains n)) h.2 in
-    owned owner.Object number (chain_in old.table.chains n) b old mid new h (sym (ap (λ r. r.owner) h.2) ∙ eo) (subst (λ s. Tells None s b mid new) same k)
+    owned owner.Object number (chain_in old.table.chains n) b old mid new h eo (subst (λ s. Tells None s b mid new) same k)
 
 pub array_owned : (number n : ℕ) (b : Bool) (old mid new : Seen) → IsNext phase.ArrayLength mid.owner (option_map size_of (elements_of (chain_in mid.table.chains n))) mid.header mid.text mid new → b ≡ true
-    → Assigns other_entry (Some number) old mid → mid.owner ≡ owner.Array
+    → Assigns other_entry (Some number) old mid → old.owner ≡ owner.Array
     → Tells (told_if (is_full old) handle_space None) (owner_state old (chain_in old.table.chains n)) b old new
 unfolding Assigns Ready
 array_owned number n b old mid new k e h eo =
@@ -160,26 +160,26 @@ array_owned number n b old mid new k e h eo =
     let ready : Ready new (owner_state_at owner.Array old (chain_in old.table.chains n)) =
     rw (next_is phase.ArrayLength mid.owner (option_map size_of (elements_of (chain_in mid.table.chains n))) mid.header mid.text mid new k)
     (rw h.2 (record { elements = E; is = refl; size = refl })) in
-    owned owner.Array number (chain_in old.table.chains n) b old mid new h (sym (ap (λ r. r.owner) h.2) ∙ eo)
+    owned owner.Array number (chain_in old.table.chains n) b old mid new h eo
     (tells_next None (owner_state_at owner.Array old (chain_in old.table.chains n)) b mid new (record { ready = ready; meter = k.meter; max = ap (λ t. t.max) k.table }) e refl)
 
 pub constant_owned : (number : ℕ) (chain : List Layer) (b : Bool) (old mid new : Seen) → IsNext phase.TextTag mid.owner mid.elements mid.header text.Value mid new → b ≡ true
-    → Assigns other_entry (Some number) old mid → mid.owner ≡ owner.EnumConst
+    → Assigns other_entry (Some number) old mid → old.owner ≡ owner.EnumConst
     → Tells (told_if (is_full old) handle_space None) (owner_state old chain) b old new
 unfolding Assigns Ready
 constant_owned number chain b old mid new k e h eo =
     let ready : Ready new (owner_state_at owner.EnumConst old chain) =
     rw (next_is phase.TextTag mid.owner mid.elements mid.header text.Value mid new k) (rw h.2 (tt, tt, refl)) in
-    owned owner.EnumConst number chain b old mid new h (sym (ap (λ r. r.owner) h.2) ∙ eo)
+    owned owner.EnumConst number chain b old mid new h eo
     (tells_next None (owner_state_at owner.EnumConst old chain) b mid new (record { ready = ready; meter = k.meter; max = ap (λ t. t.max) k.table }) e refl)
 
 pub class_owned : (number : ℕ) (chain : List Layer) (b : Bool) (old mid new : Seen) → Comes mid new (after_value mid) → b ≡ true
-    → Assigns other_entry (Some number) old mid → mid.owner ≡ owner.ClassObject
+    → Assigns other_entry (Some number) old mid → old.owner ≡ owner.ClassObject
     → Tells (told_if (is_full old) handle_space None) (owner_state old chain) b old new
 unfolding Assigns after_value
 class_owned number chain b old mid new k e h eo =
     let same : after_value mid ≡ owner_state_at owner.ClassObject old chain = ap (λ r. settle (moment_of r) (goals_of r)) h.2 in
-    owned owner.ClassObject number chain b old mid new h (sym (ap (λ r. r.owner) h.2) ∙ eo)
+    owned owner.ClassObject number chain b old mid new h eo
     (tells_next None (owner_state_at owner.ClassObject old chain) b mid new (record { ready = subst (Ready new) same k.ready; meter = k.meter; max = k.max }) e refl)
 
 -- the state after a class depends on the stack, the table and the count of places alone

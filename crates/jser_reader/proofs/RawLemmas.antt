@@ -29,7 +29,7 @@ use Rattle.jser_reader.proofs.LayerLemmas.{layers_of_part, parts_are_some}
 use Rattle.jser_reader.proofs.PartLemmas.{fits_fields, fits_top}
 use Rattle.jser_reader.proofs.PassLemmas.{then_passes}
 use Rattle.jser_reader.proofs.ReaderLemmas.{take_whole}
-use Rattle.jser_reader.proofs.WholeLemmas.{raw_passes}
+use Rattle.jser_reader.proofs.WholeLemmas.{raw_passes, can_go_on}
 
 -- ---- what is left of a piece
 
@@ -280,6 +280,10 @@ raws_pass gate piece r far new end tally h ef comes =
       meter = x.meter;
       max = x.max;
     })
+
+pub raws_can : (piece : List ℕ) (r far new : Seen) (end : RawsEnd) → CanPass r piece → EndsRaws piece r end → far ≡ past_raws r end → Comes far new (after_value far)
+    → CanPass new (drop end.used piece)
+raws_can piece r far new end can h ef comes = can_go_on piece end.used r new can h.within (comes.meter ∙ ap (λ m. moved m.meter) ef)
 
 pub raws_some : (piece : List ℕ) (r : Seen) (end : RawsEnd) → EndsRaws piece r end → 0 < length r.frames
 raws_some piece r end h = parts_are_some r.frames h.parts

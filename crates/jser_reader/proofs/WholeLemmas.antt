@@ -1,5 +1,5 @@
 -- A value that is taken in one step: the machine that is after its tag is named here alone, and no code makes it.
-use Rattle.std.proofs.Common.{◌≡◌, ℕ, zero, suc, ◌+◌, ◌-◌, ◌^◌, ◌<◌, ◌≤◌, ◌↔◌, Bool, true, false, nat_lt, ◌&&◌, IsTrue, List, [], ◌∷◌, ◌++◌, length, get_or, take, drop, Some, refl, sym, ◌∙◌, ap, ap₂, subst, arith}
+use Rattle.std.proofs.Common.{◌≡◌, ℕ, zero, suc, ◌+◌, ◌-◌, ◌^◌, ◌<◌, ◌≤◌, ◌↔◌, Bool, true, false, nat_lt, ◌&&◌, IsTrue, List, [], ◌∷◌, ◌++◌, length, get_or, take, drop, Option, Some, None, refl, sym, ◌∙◌, ap, ap₂, subst, arith}
 use Rattle.std.specs.List.{list_all}
 use Rattle.std.proofs.lemmas.Bool.{lt-leb}
 use Rattle.std.proofs.lemmas.List.{length-drop, length-take-le, take-append-drop}
@@ -12,7 +12,9 @@ use Rattle.jser_grammar.specs.Parts.{IsBytes}
 use Rattle.jser_reading.specs.Labels.{reference_tag, string_tag, class_handle_at}
 use Rattle.jser_reading.specs.FieldBytes.{tag_byte}
 use Rattle.jser_verdict.specs.Gates.{Gate, IsGate}
+use Rattle.jser_verdict.specs.Reasons.{Reason as ToldReason}
 use Rattle.jser_verdict.specs.Verdicts.{class_handle_reason}
+use Rattle.jser_reading.specs.Goals.{State}
 use Rattle.jser_reader.specs.declared.frame.Owner.{Owner}
 use Rattle.jser_reader.specs.declared.frame.Owner.TheVariants as owner
 use Rattle.jser_reader.specs.declared.machine.taken.Taken.TheVariants as taken
@@ -101,6 +103,35 @@ rest_can piece r m can some ea el =
       };
       all_bytes = bytes_rest piece can.all_bytes;
     }
+
+bytes_on : (n : ℕ) (xs : List ℕ) → IsBytes xs → IsBytes (drop n xs)
+bytes_on zero xs h = h
+bytes_on (suc n) [] h = h
+bytes_on (suc n) (x ∷ xs) h = bytes_on n xs (bytes_rest (x ∷ xs) h)
+
+-- what is left of the piece after a value may be taken too
+pub can_go_on : (piece : List ℕ) (used : ℕ) (r new : Seen) → CanPass r piece → used ≤ length piece → new.meter ≡ moved (counted_on r.meter used)
+    → CanPass new (drop used piece)
+can_go_on piece used r new can le em =
+    let n = length-drop used piece in
+    let f = can.within.fits in
+    let room = can.within.room in
+    let at : new.meter.at ≡ r.meter.at + used = ap (λ m. m.at) em in
+    let limits : new.meter.limits.bytes ≡ r.meter.limits.bytes = ap (λ m. m.limits.bytes) em in
+    record {
+      within = record {
+        is_front = sym (take_whole (drop used piece));
+        short = omega arith;
+        fits = omega arith;
+        room = λ more. let enough = room (omega arith) in omega arith;
+        full = λ less. absurd (omega arith);
+      };
+      all_bytes = bytes_on used piece can.all_bytes;
+    }
+
+pub farther_goes_on : (piece : List ℕ) (used : ℕ) (r far new : Seen) → CanPass r piece → used ≤ length piece → far ≡ farther r used → Comes far new (after_value far)
+    → CanPass new (drop used piece)
+farther_goes_on piece used r far new can le ef h = can_go_on piece used r new can le (h.meter ∙ ap (λ m. moved m.meter) ef)
 
 -- what was counted, with the marks that were taken
 abbrev pub CountsMarks : Mark → Mark → (before after : Tally) → Type 0
@@ -352,6 +383,22 @@ owner_passes gate o n found piece old mid new m1 m2 before after g can i first h
     (subst (λ r. TellsClass n found r new) (em ∙ same_class o old) told) in
     then_all gate piece rest 1 5 6 found old m new before after after tag
     (then_all gate rest last 1 4 5 found m k new after after after class handle refl refl) refl refl
+
+-- what is left of the piece after the class may be taken too
+told_meter : (k : Option ToldReason) (s : State) (b : Bool) (old new : Seen) → Tells k s b old new → b ≡ true → new.meter ≡ moved old.meter
+unfolding Tells
+told_meter None s true old new h e = h.meter
+told_meter (Some k) s true old new h e = absurd h
+told_meter None s false old new h e = absurd (cc)
+told_meter (Some k) s false old new h e = absurd (cc)
+
+pub class_goes_on : (o : Owner) (n : ℕ) (found : Bool) (piece : List ℕ) (old mid new : Seen) → CanPass old piece → HasReference piece n → mid ≡ with_class o old
+    → TellsClass n found mid new → found ≡ true → CanPass new (drop 6 piece)
+class_goes_on o n found piece old mid new can h em told e =
+    let at : old.meter.at + 2 + 4 ≡ old.meter.at + 6 = omega arith in
+    can_go_on piece 6 old new can h.within
+    (told_meter _ _ found mid new told e ∙ ap (λ r. moved r.meter) em
+    ∙ ap (λ k. record { at = k; from = k; limits = old.meter.limits; stop = old.meter.stop; cut_phase = old.meter.cut_phase; kept = old.meter.kept }) at)
 
 -- ---- a string
 

@@ -3,7 +3,7 @@ use Rattle.std.specs.Prelude.{◌≡◌, ◌≢◌, ℕ, ◌<◌, ◌≤◌, Lis
 use Rattle.jser_grammar.specs.Parts.{IsBytes}
 use Rattle.jser_reading.specs.Labels.{Label, Piece}
 use Rattle.jser_reading.specs.ComesNext.{ComesNext}
-use Rattle.jser_verdict.specs.Gates.{Gate}
+use Rattle.jser_verdict.specs.Gates.{Gate, IsGate}
 use Rattle.jser_reader.specs.declared.machine.taken.Taken.{Taken}
 use Rattle.jser_reader.specs.declared.machine.taken.Taken.TheVariants as taken
 use Rattle.jser_reader.specs.declared.phase.Phase.{Phase}
@@ -47,6 +47,12 @@ PassInside gate piece result old before new after =
 pub record Passes (gate : Gate) (piece : List ℕ) (result : Option ℕ) (old : Seen) (before : Tally) (new : Seen) (after : Tally) : Type 0 where
   pub tells : PassTells gate piece result old before new after
   pub inside : PassInside gate piece result old before new after
+
+-- After a step that took so many bytes of the piece, another one took some more of it, or none, or stopped within it: with
+-- this result they are one step.
+abbrev pub PassesOn : (piece : List ℕ) (used : ℕ) → Option ℕ → Seen → Tally → Seen → Tally → Type 0
+PassesOn piece used result mid between new after =
+    (gate : Gate) → IsGate gate → (old : Seen) (before : Tally) → Passes gate piece (Some used) old before mid between → Passes gate piece result old before new after
 
 -- how much of a piece of this length was taken
 abbrev pub passed_of : Taken → ℕ → Option ℕ

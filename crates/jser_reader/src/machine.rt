@@ -25,6 +25,7 @@ mod owners;
 mod parts;
 mod pass;
 mod pass_descriptors;
+mod pass_owners;
 mod pass_values;
 mod raws;
 mod run_items;

@@ -45,9 +45,10 @@ impl Stack {
         ensures count { result ≡ length self.now }
         ensures few { result < 2 ^ 64 - 1 }
     {
+        let below = self.below.len();
         match self.top {
-            None => 0,
-            Some(_) => self.below.len() + 1,
+            None => below,
+            Some(_) => below + 1,
         }
     }
 

@@ -73,11 +73,13 @@ impl Machine {
     }
 
     /// Whether the class with this chain fits its owner, or the first thing that is wrong with it.
-    fn fit(&self, chain: ChainNumber) -> Option<Reason>
-        requires { chain < length self.now.table.chains }
+    #[inline(always)]
+    fn fit(&self, owner: Owner, chain: ChainNumber) -> Option<Reason>
+        requires chain { chain < length self.now.table.chains }
+        requires owner { self.now.owner ≡ owner }
         ensures { result ≡ fit_reason (fit_of_owner (goal_owner self.now.owner) (chain_in self.now.table.chains chain)) }
     {
-        let purpose = match self.owner {
+        let purpose = match owner {
             Owner::Object => Purpose::Object,
             Owner::Array => Purpose::Array,
             Owner::EnumConst => Purpose::EnumConst,
@@ -91,9 +93,11 @@ impl Machine {
         }
     }
 
-    /// The handle of a reference in a class place.
+    /// The handle of a reference that is the class of this owner. Where the caller names the owner, its arms alone are left.
     #[tactic(auto, using(crate::proofs::ClassLemmas::low_class, crate::proofs::ClassLemmas::no_such_class, crate::proofs::ClassLemmas::no_class, crate::proofs::ClassLemmas::open_class, crate::proofs::ClassLemmas::wrong_class_handle, crate::proofs::ClassLemmas::right_class))]
-    pub(super) fn class_handle(&mut self, n: u32) -> bool
+    #[inline(always)]
+    fn known_class_handle(&mut self, owner: Owner, n: u32) -> bool
+        requires owner { self.old.owner ≡ owner }
         ensures { Tells (class_handle_reason (plain_gate self.old) (label_at (class_handle_at (goal_owner self.old.owner)) (suc (length self.old.frames)) self.old) (goal_owner self.old.owner) n)
             (owner_state self.old (chain_at self.old.table.entries (n - BASE_WIRE_HANDLE))) result self.old self.new }
     {
@@ -104,10 +108,65 @@ impl Machine {
             Class::NotThere => self.refuse(Reason::NoSuchHandle),
             Class::NoClass => self.refuse(Reason::WrongKind),
             Class::Open => self.refuse(Reason::OpenDescriptor),
-            Class::Closed(chain) => match self.fit(chain) {
+            Class::Closed(chain) => match self.fit(owner, chain) {
                 Some(reason) => self.refuse(reason),
-                None => self.begin_owner(chain),
+                None => self.begin_known_owner(owner, chain),
             },
+        }
+    }
+
+    /// The handle of a reference in a class place.
+    #[inline(never)]
+    pub(super) fn class_handle(&mut self, n: u32) -> bool
+        ensures { Tells (class_handle_reason (plain_gate self.old) (label_at (class_handle_at (goal_owner self.old.owner)) (suc (length self.old.frames)) self.old) (goal_owner self.old.owner) n)
+            (owner_state self.old (chain_at self.old.table.entries (n - BASE_WIRE_HANDLE))) result self.old self.new }
+    {
+        let owner = self.owner;
+        self.known_class_handle(owner, n)
+    }
+
+    /// The handle of a reference that is the class of an object.
+    #[inline(never)]
+    fn object_handle(&mut self, n: u32) -> bool
+        requires owner { self.old.owner ≡ Owner.Object }
+        ensures { Tells (class_handle_reason (plain_gate self.old) (label_at (class_handle_at (goal_owner self.old.owner)) (suc (length self.old.frames)) self.old) (goal_owner self.old.owner) n)
+            (owner_state self.old (chain_at self.old.table.entries (n - BASE_WIRE_HANDLE))) result self.old self.new }
+    {
+        self.known_class_handle(Owner::Object, n)
+    }
+
+    /// The handle of a reference that is the class of an array.
+    #[inline(never)]
+    fn array_handle(&mut self, n: u32) -> bool
+        requires owner { self.old.owner ≡ Owner.Array }
+        ensures { Tells (class_handle_reason (plain_gate self.old) (label_at (class_handle_at (goal_owner self.old.owner)) (suc (length self.old.frames)) self.old) (goal_owner self.old.owner) n)
+            (owner_state self.old (chain_at self.old.table.entries (n - BASE_WIRE_HANDLE))) result self.old self.new }
+    {
+        self.known_class_handle(Owner::Array, n)
+    }
+
+    /// The handle of a reference that is the class of an enum constant.
+    #[inline(never)]
+    fn constant_handle(&mut self, n: u32) -> bool
+        requires owner { self.old.owner ≡ Owner.EnumConst }
+        ensures { Tells (class_handle_reason (plain_gate self.old) (label_at (class_handle_at (goal_owner self.old.owner)) (suc (length self.old.frames)) self.old) (goal_owner self.old.owner) n)
+            (owner_state self.old (chain_at self.old.table.entries (n - BASE_WIRE_HANDLE))) result self.old self.new }
+    {
+        self.known_class_handle(Owner::EnumConst, n)
+    }
+
+    /// The same, by a function for each owner.
+    #[inline(always)]
+    pub(super) fn owner_handle(&mut self, owner: Owner, n: u32) -> bool
+        requires owner { self.old.owner ≡ owner }
+        ensures { Tells (class_handle_reason (plain_gate self.old) (label_at (class_handle_at (goal_owner self.old.owner)) (suc (length self.old.frames)) self.old) (goal_owner self.old.owner) n)
+            (owner_state self.old (chain_at self.old.table.entries (n - BASE_WIRE_HANDLE))) result self.old self.new }
+    {
+        match owner {
+            Owner::Object => self.object_handle(n),
+            Owner::Array => self.array_handle(n),
+            Owner::EnumConst => self.constant_handle(n),
+            Owner::ClassObject => self.class_handle(n),
         }
     }
 }

@@ -80,20 +80,33 @@ impl Machine {
         self.begin_object(chain)
     }
 
-    /// The class has been read, and has this chain: its owner's handle is assigned.
+    /// The class of this owner has been read, and has this chain: the owner's handle is assigned. Where the caller names the
+    /// owner, its arm alone is left.
     #[tactic(auto, using(crate::proofs::OwnerLemmas::no_owner, crate::proofs::OwnerLemmas::object_owned, crate::proofs::OwnerLemmas::array_owned, crate::proofs::OwnerLemmas::constant_owned, crate::proofs::OwnerLemmas::class_owned))]
-    pub(super) fn begin_owner(&mut self, chain: ChainNumber) -> bool
-        requires { chain < length self.old.table.chains }
+    #[inline(always)]
+    pub(super) fn begin_known_owner(&mut self, owner: Owner, chain: ChainNumber) -> bool
+        requires chain { chain < length self.old.table.chains }
+        requires owner { self.old.owner ≡ owner }
         ensures { Tells (told_if (is_full self.old) handle_space None) (owner_state self.old (chain_in self.old.table.chains chain)) result self.old self.new }
     {
         if self.assign(Kind::Other).is_none() {
             return false;
         }
-        match self.owner {
+        match owner {
             Owner::Object => self.next_object(chain),
             Owner::Array => self.next_array(chain),
             Owner::EnumConst => self.next_constant(),
             Owner::ClassObject => self.ended(),
         }
+    }
+
+    /// The class has been read, and has this chain: its owner's handle is assigned.
+    #[inline(never)]
+    pub(super) fn begin_owner(&mut self, chain: ChainNumber) -> bool
+        requires { chain < length self.old.table.chains }
+        ensures { Tells (told_if (is_full self.old) handle_space None) (owner_state self.old (chain_in self.old.table.chains chain)) result self.old self.new }
+    {
+        let owner = self.owner;
+        self.begin_known_owner(owner, chain)
     }
 }

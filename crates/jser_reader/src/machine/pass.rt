@@ -89,7 +89,7 @@ impl Machine {
 
     /// Takes raw values, those that come after them in the same section, and those of further sections.
     #[inline(never)]
-    fn pass_prims(&mut self, piece: &[u8]) -> Option<usize>
+    pub(super) fn pass_prims(&mut self, piece: &[u8]) -> Option<usize>
         requires can { CanPass self.old piece.now }
         requires some { 0 < length piece.now }
         requires phase { self.old.phase ≡ Phase.Prims }

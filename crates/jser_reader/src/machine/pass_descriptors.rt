@@ -53,7 +53,7 @@ impl Machine {
     /// Takes the tag of a text place from a piece.
     #[tactic(auto, using(crate::proofs::TakeLemmas::one_taken))]
     #[inline(always)]
-    fn take_place(&mut self, piece: &[u8]) -> Taken
+    pub(super) fn take_place(&mut self, piece: &[u8]) -> Taken
         requires phase { self.old.phase ≡ Phase.TextTag }
         requires some { 0 < length piece.now }
         requires room { self.old.meter.at + length piece.now < 2 ^ 64 }

@@ -1,18 +1,14 @@
 //! Contents and values that are taken in one step: a reference with its handle, a string with its text, a block with its
-//! bytes, and the beginning of what has a class, where that is a reference.
+//! bytes.
 ghost use Rattle.std.specs.Prelude.{◌≡◌, ◌<◌, get_or, length};
 ghost use Rattle.jser_reader.specs.Passes.{Passes, HasPassed, CanPass};
 ghost use Rattle.jser_reader.specs.Takes.{IsOne};
-ghost use Rattle.jser_reader.specs.Tags.{told_tag};
 ghost use Rattle.jser_reader.specs.Runs.{HasRoom};
-ghost use Rattle.jser_reader.specs.Wholes.{IsPlace, tag_of_owner};
+ghost use Rattle.jser_reader.specs.Wholes.{IsPlace};
 ghost use Rattle.jser_grammar.specs.Wire.{TC_BLOCKDATA, TC_REFERENCE, TC_STRING};
-ghost use Rattle.jser_reading.specs.FieldBytes.{tag_byte};
 ghost use Rattle.jser_verdict.specs.Gates.{Gate as ToldGate, IsGate};
 
-use crate::frame::Owner;
 use crate::machine::Machine;
-use crate::machine::wholes::reference_after;
 use crate::tally::Tally;
 use jser_grammar::wire::{
     TC_ARRAY, TC_BLOCKDATA, TC_CLASS, TC_ENUM, TC_NULL, TC_OBJECT, TC_REFERENCE, TC_STRING,
@@ -51,29 +47,6 @@ impl Machine {
         }
     }
 
-    /// Takes the tag of what has a class, and its class where that is a reference which is whole in the piece.
-    #[inline(never)]
-    fn pass_owner(&mut self, tally: &mut Tally, piece: &[u8], owner: Owner) -> Option<usize>
-        requires can { CanPass self.old piece.now }
-        requires place { IsPlace self.old.phase }
-        requires tag { tag_byte (told_tag (tag_of_owner owner)) ≡ get_or piece.now 0 0 }
-        requires some { 0 < length piece.now }
-        ensures passes { (gate : ToldGate) → IsGate gate → Passes gate piece.now result self.old tally.old self.new tally.new }
-        ensures progress { HasPassed piece.now result }
-    {
-        let Some(n) = reference_after(piece) else {
-            return self.pass_tag_alone(tally, piece);
-        };
-        if !self.has_place() {
-            return self.pass_tag_alone(tally, piece);
-        }
-        if self.whole_owner(tally, piece, owner, n) {
-            Some(6)
-        } else {
-            None
-        }
-    }
-
     /// Takes a block; where it is not whole in the piece, or may not stand there, its tag alone.
     #[inline(never)]
     fn pass_block(&mut self, tally: &mut Tally, piece: &[u8]) -> Option<usize>
@@ -92,7 +65,7 @@ impl Machine {
 
     /// Takes a tag alone.
     #[inline(never)]
-    fn pass_tag_alone(&mut self, tally: &mut Tally, piece: &[u8]) -> Option<usize>
+    pub(super) fn pass_tag_alone(&mut self, tally: &mut Tally, piece: &[u8]) -> Option<usize>
         requires can { CanPass self.old piece.now }
         requires some { 0 < length piece.now }
         requires one { IsOne self.old.phase }
@@ -163,10 +136,10 @@ impl Machine {
         ensures progress { HasPassed piece.now result }
     {
         match piece[0] {
-            TC_OBJECT => self.pass_owner(tally, piece, Owner::Object),
-            TC_ARRAY => self.pass_owner(tally, piece, Owner::Array),
-            TC_ENUM => self.pass_owner(tally, piece, Owner::EnumConst),
-            TC_CLASS => self.pass_owner(tally, piece, Owner::ClassObject),
+            TC_OBJECT => self.pass_object(tally, piece),
+            TC_ARRAY => self.pass_array(tally, piece),
+            TC_ENUM => self.pass_constant(tally, piece),
+            TC_CLASS => self.pass_class_object(tally, piece),
             TC_REFERENCE | TC_STRING | TC_NULL | TC_BLOCKDATA => self.pass_plain(tally, piece),
             _ => self.pass_tag_alone(tally, piece),
         }

@@ -1,6 +1,6 @@
 //! Raw values one after another: all those of a section in one step, and those of the sections after it that have
 //! nothing else, where all their bytes are in the piece.
-ghost use Rattle.std.specs.Prelude.{◌≡◌, ◌∷◌, ◌<◌, ◌≤◌, length, IfSome, Some, None};
+ghost use Rattle.std.specs.Prelude.{◌≡◌, ◌∷◌, ◌<◌, ◌≤◌, length, drop, IfSome, Some, None};
 ghost use Rattle.jser_verdict.specs.Gates.{Gate as ToldGate};
 ghost use Rattle.jser_reader.specs.Passes.{Passes, CanPass};
 ghost use Rattle.jser_reader.specs.RawRuns.{EndsRaws};
@@ -119,7 +119,8 @@ impl Machine {
     fn take_raws(&mut self, piece: &[u8], end: RawsEnd)
         requires can { CanPass self.old piece.now }
         requires end { EndsRaws piece.now self.old end }
-        ensures { (gate : ToldGate) (tally : Tally) → Passes gate piece.now (Some end.used) self.old tally self.new tally }
+        ensures passes { (gate : ToldGate) (tally : Tally) → Passes gate piece.now (Some end.used) self.old tally self.new tally }
+        ensures can { CanPass self.new (drop end.used piece.now) }
     {
         let _ = piece;
         self.frames.set_top(Frame::Fields {
@@ -141,6 +142,7 @@ impl Machine {
         requires phase { self.old.phase ≡ Phase.Prims }
         ensures passes { IfSome result (λ used. (gate : ToldGate) (tally : Tally) → Passes gate piece.now (Some used) self.old tally self.new tally) }
         ensures within { IfSome result (λ used. (0 < used) × (used ≤ length piece.now)) }
+        ensures can { IfSome result (λ used. CanPass self.new (drop used piece.now)) }
         ensures nothing { result ≡ None → self.new ≡ self.old }
     {
         let Some(first) = self.raws_of_section(piece) else {

@@ -1,7 +1,7 @@
 //! Contents and values of which all bytes are in the piece: a reference with its handle, a string with its text, a block
 //! with its bytes, and the beginning of what has a class, where that is a reference. They are taken in one step, though
 //! each is several fields.
-ghost use Rattle.std.specs.Prelude.{◌≡◌, ◌+◌, ◌^◌, ◌<◌, ◌≤◌, true, false, get_or, length, Some, IfSome};
+ghost use Rattle.std.specs.Prelude.{◌≡◌, ◌+◌, ◌^◌, ◌<◌, ◌≤◌, true, false, get_or, length, drop, Some, IfSome};
 ghost use Rattle.jser_grammar.specs.Wire.{TC_BLOCKDATA, TC_REFERENCE, TC_STRING};
 ghost use Rattle.jser_reading.specs.FieldBytes.{tag_byte};
 ghost use Rattle.jser_verdict.specs.Gates.{Gate as ToldGate, IsGate};
@@ -104,6 +104,7 @@ impl Machine {
         requires tag { TC_REFERENCE ≡ get_or piece.now 0 0 }
         ensures passes { result ≡ true → (gate : ToldGate) → IsGate gate → Passes gate piece.now (Some 5) self.old tally.old self.new tally.new }
         ensures within { result ≡ true → 5 ≤ length piece.now }
+        ensures can { result ≡ true → CanPass self.new (drop 5 piece.now) }
         ensures nothing { result ≡ false → (self.new ≡ self.old) × (tally.new ≡ tally.old) }
     {
         let Some(n) = number_after(piece) else {
@@ -179,6 +180,7 @@ impl Machine {
         requires phase { self.old.phase ≡ Phase.Prims }
         ensures passes { IfSome result (λ used. (gate : ToldGate) (tally : Tally) → Passes gate piece.now (Some used) self.old tally self.new tally) }
         ensures within { IfSome result (λ used. (0 < used) × (used ≤ length piece.now)) }
+        ensures can { IfSome result (λ used. CanPass self.new (drop used piece.now)) }
         ensures nothing { result ≡ None → self.new ≡ self.old }
     {
         let count = self.left;
@@ -204,7 +206,8 @@ impl Machine {
         requires tag { tag_byte (told_tag (tag_of_owner owner)) ≡ get_or piece.now 0 0 }
         requires class { HasReference piece.now n }
         requires room { HasPlace self.old }
-        ensures { (gate : ToldGate) → IsGate gate → Passes gate piece.now (all_or_none result 6) self.old tally.old self.new tally.new }
+        ensures passes { (gate : ToldGate) → IsGate gate → Passes gate piece.now (all_or_none result 6) self.old tally.old self.new tally.new }
+        ensures can { result ≡ true → CanPass self.new (drop 6 piece.now) }
     {
         let _ = piece;
         let before = self.mark();
@@ -215,6 +218,6 @@ impl Machine {
         self.phase = Phase::ClassHandle;
         self.at += 4;
         tally.count(before, self.mark());
-        self.class_handle(n)
+        self.owner_handle(owner, n)
     }
 }

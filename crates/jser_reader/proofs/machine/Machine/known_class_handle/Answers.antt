@@ -1,6 +1,6 @@
 use Rattle.std.proofs.Common.{rules}
 use Rattle.jser_reader.proofs.ClassLemmas.{wrong_class_handle}
-use Rattle.jser_reader.proofs.machine.Machine.class_handle.Goals as goal
+use Rattle.jser_reader.proofs.machine.Machine.known_class_handle.Goals as goal
 
 pub returns-in-Some : goal.returns-in-Some
 returns-in-Some c =
