@@ -17,7 +17,7 @@ use jser_grammar::wire::TC_REFERENCE;
 impl Machine {
     /// Takes a reference, where a value comes next and it is whole in the piece; or does nothing.
     #[inline(always)]
-    fn whole_field(&mut self, tally: &mut Tally, piece: &[u8]) -> Option<usize>
+    fn next_reference(&mut self, tally: &mut Tally, piece: &[u8]) -> Option<usize>
         requires can { CanPass self.old piece.now }
         requires some { 0 < length piece.now }
         ensures passes { IfSome result (λ used. (gate : ToldGate) → IsGate gate → Passes gate piece.now (Some used) self.old tally.old self.new tally.new) }
@@ -39,7 +39,7 @@ impl Machine {
     /// After so many bytes of a piece, takes the references that come next one after another, as long as they are values of
     /// what is open and whole in the piece, and returns how many bytes were taken in all.
     #[inline(always)]
-    fn pass_fields(&mut self, tally: &mut Tally, piece: &[u8], first: usize) -> usize
+    fn pass_references(&mut self, tally: &mut Tally, piece: &[u8], first: usize) -> usize
         requires used { HasPassed piece.now (Some first) }
         requires can { CanPass self.old (drop first piece.now) }
         ensures passes { PassesOn piece.now first (Some result) self.old tally.old self.new tally.new }
@@ -48,7 +48,7 @@ impl Machine {
         let mut used = first;
         'fields: while used < piece.len() {
             let (_, rest) = piece.split_at(used);
-            match self.whole_field(tally, rest) {
+            match self.next_reference(tally, rest) {
                 None => return used,
                 Some(more) => used += more,
             }
@@ -87,7 +87,7 @@ impl Machine {
         if self.phase != Phase::Value || !self.has_room(rest) {
             return used;
         }
-        self.pass_fields(tally, piece, used)
+        self.pass_references(tally, piece, used)
     }
 
     /// Takes bytes of this number of four bytes, which comes next.

@@ -1,5 +1,5 @@
-use Rattle.std.proofs.Common.{rules, ◌<◌, ◌+◌, length, arith, subst}
-use Rattle.jser_reader.specs.Passes.{CanPass, IsQuiet}
+use Rattle.std.proofs.Common.{rules, ◌<◌, length, arith, subst}
+use Rattle.jser_reader.specs.Passes.{CanPass}
 use Rattle.jser_reader.proofs.PassLemmas.{pass_none, then_passes, then_halts}
 use Rattle.jser_reader.proofs.machine.Machine.pass_quiets.Goals as goal
 

@@ -1,6 +1,6 @@
 use Rattle.std.proofs.Common.{◌-◌, length, drop, Some}
 use Rattle.jser_reader.specs.Passes.{CanPass, HasPassed, PassesOn}
-use Rattle.jser_reader.proofs.machine.Machine.pass_fields.Given as goal
+use Rattle.jser_reader.proofs.machine.Machine.pass_references.Given as goal
 
 abbrev pub invariant-fields : goal.invariant-fields
 invariant-fields l = record {

@@ -2,7 +2,7 @@ use Rattle.std.proofs.Common.{◌∙◌, drop, ap, subst, arith}
 use Rattle.std.proofs.lemmas.List.{drop-drop}
 use Rattle.jser_reader.specs.Passes.{CanPass}
 use Rattle.jser_reader.proofs.PassLemmas.{then_passes}
-use Rattle.jser_reader.proofs.machine.Machine.pass_fields.Goals as goal
+use Rattle.jser_reader.proofs.machine.Machine.pass_references.Goals as goal
 
 pub fields-init : goal.fields-init
 fields-init c = record {
