@@ -18,25 +18,29 @@ fn assert_due(rt: &(impl Abort + AllocGlobal), due: Due<'_>, text: &[u8]) {
 }
 
 #[test]
-fn dues(rt: HostRuntime) -> Result<(), Fail> {
-    let name = Name::new(rt.alloc(), &[0x22, 0x41, 0x5C, 0xE9])?;
-    assert_dues(&rt, &name);
-    Ok(())
-}
-
-/// What is due is this text, where it has a name, and where it has none.
-fn assert_dues(rt: &(impl Abort + AllocGlobal), name: &Name) {
+fn dues(rt: HostRuntime) {
     let section = Due::Section {
         level: 1,
         name: None,
     };
-    assert_due(rt, section, b"  data proxy\n");
+    assert_due(&rt, section, b"  data proxy\n");
+    assert_due(&rt, Due::Quiet, b"");
+}
+
+/// The section of an externalizable object whose class has this name begins with this text.
+fn assert_external(rt: &(impl Abort + AllocGlobal), name: &Name, text: &[u8]) {
     let external = Due::External {
         level: 0,
         name: Some(name),
     };
-    assert_due(rt, external, b"external \"\\\"A\\\\\\u00e9\"\n");
-    assert_due(rt, Due::Quiet, b"");
+    assert_due(rt, external, text);
+}
+
+#[test]
+fn name_of_a_section(rt: HostRuntime) -> Result<(), Fail> {
+    let name = Name::new(rt.alloc(), &[0x22, 0x41, 0x5C, 0xE9])?;
+    assert_external(&rt, &name, b"external \"\\\"A\\\\\\u00e9\"\n");
+    Ok(())
 }
 
 /// How many spaces a line of this level begins with, up to its first word.
