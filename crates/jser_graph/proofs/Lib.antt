@@ -10,6 +10,7 @@ pub mod ReferenceLemmas
 pub mod TurnLemmas
 pub mod ReadLemmas
 pub mod WholeLemmas
+pub mod RawsLemmas
 pub mod PassLemmas
 pub mod ShowLemmas
 pub mod SaidLemmas

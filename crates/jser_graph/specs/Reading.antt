@@ -23,6 +23,11 @@ use Rattle.jser_graph.specs.Surveying.{IsAt}
 abbrev pub SurveysAlong : (bytes rest : List ℕ) → Seen → Tally → Finding → Type 0
 SurveysAlong bytes rest r tally survey = GoesAlong open_gate bytes rest r tally (λ front. IsAt front survey)
 
+-- from what comes next of the bytes it went on to this rest of them
+unfoldable pub SurveysOn : (bytes given rest : List ℕ) → Seen → Tally → Finding → Seen → Tally → Finding → Type 0
+SurveysOn bytes given rest old before survey new after now =
+    SurveysAlong bytes given old before survey → SurveysAlong bytes rest new after now
+
 -- The bytes are a stream of this list that passes, and what was found is that of the list.
 pub record IsOfList (bytes : List ℕ) (survey : Finding) (totals : Totals) (list : ContentTrees) : Type 0 where
   pub passes : Passes open_gate bytes list

@@ -1,5 +1,5 @@
 -- A first walk along the fields of a stream, as code makes it.
-use Rattle.std.specs.Prelude.{ℕ, ◌≡◌, ◌+◌, ◌-◌, List, [], ◌∷◌, ◌++◌, Some, true, length}
+use Rattle.std.specs.Prelude.{ℕ, ◌≡◌, ◌+◌, ◌-◌, ◌<◌, List, [], ◌∷◌, ◌++◌, Some, true, length}
 use Rattle.jser_prim.specs.ModifiedUtf8.{IsUnits, modified_utf8}
 use Rattle.jser_grammar.specs.Wire.{TC_REFERENCE, TC_STRING}
 use Rattle.jser_reading.specs.FieldBytes.{bytes_of, joined}
@@ -10,6 +10,7 @@ use Rattle.jser_shown.specs.Finding.{Begun as ToldBegun}
 use Rattle.jser_graph.specs.declared.begun.Begun.{Begun}
 use Rattle.jser_reader.specs.declared.Whole.{Whole}
 use Rattle.jser_reader.specs.declared.Whole.TheVariants as whole
+use Rattle.jser_reader.specs.RawsTold.{AreRaws}
 use Rattle.jser_walk.specs.declared.Field.TheVariants as lent
 use Rattle.jser_walk.specs.Given.{IsOf}
 use Rattle.jser_graph.specs.Along.{IsTextOf}
@@ -40,6 +41,11 @@ pub record IsAt (front : List Piece) (now : Finding) : Type 0 where
 -- it went past a field of this kind, which ends at this place, and before which so many handles of the epoch were assigned
 pub record GoesPast (is : StreamField → Type 0) (assigned end : ℕ) (old new : Finding) : Type 0 where
   pub finds : (told : StreamField) → is told → place_after old.place (bytes_of told) ≡ end → new ≡ find assigned told old
+  pub place : new.place ≡ end
+
+-- it went past raw values, which end at this place, and before which so many handles of the epoch were assigned
+pub record GoesPastRaws (assigned end : ℕ) (old new : Finding) : Type 0 where
+  pub finds : (raws : List Piece) → AreRaws assigned raws → 0 < length raws → place_after old.place (joined raws) ≡ end → new ≡ found old raws
   pub place : new.place ≡ end
 
 -- it went past two fields, one after another

@@ -1,15 +1,15 @@
 //! The first walk along the bytes of a stream.
-ghost use Rattle.std.specs.Prelude.{◌≡◌};
+ghost use Rattle.std.specs.Prelude.{◌≡◌, IfOk};
 ghost use Rattle.jser_shown.specs.Finding.{begin_finding};
 ghost use Rattle.jser_graph.specs.Along.{BeginsAt};
-ghost use Rattle.jser_graph.specs.Reading.{Walks, Surveys};
+ghost use Rattle.jser_graph.specs.Reading.{Walks, Surveys, SurveysOn};
 
 use crate::part::size_of;
 use crate::survey::Survey;
 use jser_reader::{OpenGate, Reader, Step, Stop, Totals};
 use jser_reading::laws::one_reading;
 use jser_shown::laws::{finds_fronts, found, places_are_counted};
-use std::alloc::Global;
+use std::alloc::{AllocError, Global};
 
 /// What a first walk along a stream finds, and its counts.
 #[derive(Drop)]
@@ -29,6 +29,33 @@ pub(crate) fn survey(alloc: Global, bytes: &[u8]) -> Result<Found, Stop>
     match walk_along(&mut reader, &mut survey, &mut units, bytes) {
         Ok(totals) => Ok(Found { survey, totals }),
         Err(stop) => Err(stop),
+    }
+}
+
+/// Goes past the raw values that come next of these bytes, if there are any, and returns what comes after them.
+#[inline(always)]
+fn pass_raws<'b>(
+    reader: &mut Reader<OpenGate>,
+    survey: &mut Survey,
+    bytes: &[u8],
+    given: &'b [u8],
+) -> Result<&'b [u8], AllocError>
+    ensures { IfOk result (λ rest. SurveysOn bytes.now given.now rest.now reader.old.machine reader.old.tally survey.old reader.new.machine reader.new.tally survey.new) }
+{
+    finds_fronts();
+    places_are_counted();
+    let assigned = reader.epoch_handles() as usize;
+    if !survey.is_close(assigned) {
+        return Ok(given);
+    }
+    match reader.skip_raws(given) {
+        None => Ok(given),
+        Some(used) => {
+            let (_, rest) = given.split_at(used);
+            let end = bytes.len().saturating_sub(rest.len()) as u64;
+            survey.pass(assigned, end)?;
+            Ok(rest)
+        }
     }
 }
 
@@ -56,7 +83,10 @@ fn walk_along(
                 let (_, after) = rest.split_at(size_of(whole));
                 let end = (bytes.len() - after.len()) as u64;
                 match survey.whole(whole, units, assigned, end) {
-                    Ok(()) => rest = after,
+                    Ok(()) => match pass_raws(reader, survey, bytes, after) {
+                        Ok(more) => rest = more,
+                        Err(_) => return Err(Stop::OutOfMemory),
+                    },
                     Err(_) => return Err(Stop::OutOfMemory),
                 }
             }

@@ -1,12 +1,12 @@
 //! A first walk along the fields of a stream, which finds its nodes, owners and checked names.
-ghost use Rattle.std.specs.Prelude.{◌≡◌, ◌<◌, ◌≤◌, ◌^◌, true, false, length, OnOk, IfOk};
+ghost use Rattle.std.specs.Prelude.{◌≡◌, ◌+◌, ◌<◌, ◌≤◌, ◌^◌, true, false, length, OnOk, IfOk};
 ghost use Rattle.jser_reading.specs.FieldBytes.{bytes_of, tag_byte};
 ghost use Rattle.jser_reading.specs.Labels.{StreamField, Tag};
 ghost use Rattle.jser_shown.specs.Finding.{begin_finding, begun_by, find, finished, make_begun, take_field, take_name};
 ghost use Rattle.jser_shown.specs.Nodes.{place_after};
 ghost use Rattle.jser_walk.specs.Given.{IsOf, told_nodes};
 ghost use Rattle.jser_graph.specs.Along.{Ends, IsLength, PartIs};
-ghost use Rattle.jser_graph.specs.Surveying.{AddsString, IsPlain, IsQuiet, GoesPastWhole};
+ghost use Rattle.jser_graph.specs.Surveying.{AddsString, IsPlain, IsQuiet, GoesPastRaws, GoesPastWhole};
 ghost use Rattle.jser_graph.specs.Listed.{all_lists};
 
 use crate::begun::{Begun, elements_made, is_owner, kind_begun};
@@ -187,13 +187,22 @@ impl Survey {
         Ok(())
     }
 
-    /// Goes past a field with which nothing begins, and of which nothing is kept but where it ends: a handle, raw values or
-    /// the bytes of a block.
-    #[tactic(auto, using(crate::proofs::SurveyLemmas::passes_made, crate::proofs::SurveyLemmas::passes_unmade, crate::proofs::SurveyLemmas::quiet_plain))]
+    /// Whether at most one node is to be made before the next field, since so many handles are assigned.
     #[inline(always)]
-    fn pass(&mut self, assigned: usize, end: u64) -> Result<(), AllocError>
+    pub(crate) fn is_close(&self, assigned: usize) -> bool
+        ensures { result ≡ true → assigned ≤ length self.now.nodes + 1 }
+    {
+        assigned.saturating_sub(1) <= self.nodes.count()
+    }
+
+    /// Goes past a field with which nothing begins, and of which nothing is kept but where it ends: a handle, raw values or
+    /// the bytes of a block. Where at most one node is to be made, raw values may be several fields.
+    #[tactic(auto, using(crate::proofs::SurveyLemmas::passes_made, crate::proofs::SurveyLemmas::passes_unmade, crate::proofs::SurveyLemmas::quiet_plain, crate::proofs::RawsLemmas::raws_made, crate::proofs::RawsLemmas::raws_unmade))]
+    #[inline(always)]
+    pub(crate) fn pass(&mut self, assigned: usize, end: u64) -> Result<(), AllocError>
         ensures finds { OnOk result ((told : StreamField) → IsQuiet told → place_after self.old.place (bytes_of told) ≡ end
             → self.new ≡ find assigned told self.old) }
+        ensures raws { OnOk result (assigned ≤ length self.old.nodes + 1 → GoesPastRaws assigned end self.old self.new) }
         ensures place { OnOk result (self.new.place ≡ end) }
     {
         if self.is_due(assigned) {

@@ -84,7 +84,7 @@ tag_tells gate t piece r m before after g can i some first h c =
 
 -- ---- a field with which no count changes
 
-same_tally : (gate : Gate) (used : ℕ) (given : List ℕ) (old new : Seen) (tally : Tally) (fields : List Piece) (cut : List ℕ) → StandsIn gate fields cut old tally
+pub same_tally : (gate : Gate) (used : ℕ) (given : List ℕ) (old new : Seen) (tally : Tally) (fields : List Piece) (cut : List ℕ) → StandsIn gate fields cut old tally
     → Takes gate (take used given) true old new → IsQuiet old.phase → CanPass old given → tally ≡ tally_after (mark_of old) (mark_of new) tally
 same_tally gate used given old new tally fields cut st t q can =
     sym (quiet_tally (mark_of old) (mark_of new) tally (quiet_top old.phase q)

@@ -53,6 +53,7 @@ pub mod SkipMemory
 pub mod PassLemmas
 pub mod WholeLemmas
 pub mod LentLemmas
+pub mod RawsToldLemmas
 pub mod RawLemmas
 pub mod RunItems
 pub mod RunLemmas

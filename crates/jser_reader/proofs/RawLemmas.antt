@@ -1,5 +1,5 @@
 -- Raw values one after another: the machines between them are named here alone, and no code makes them.
-use Rattle.std.proofs.Common.{◌≡◌, ℕ, zero, suc, ◌+◌, ◌-◌, ◌<◌, ◌≤◌, Bool, true, false, nat_lt, ◌&&◌, IsTrue, List, [], ◌∷◌, length, drop, slice_get, Some, option_map, refl, sym, ◌∙◌, ap, ap₂, subst, arith}
+use Rattle.std.proofs.Common.{◌≡◌, ℕ, zero, suc, ◌+◌, ◌-◌, ◌<◌, ◌≤◌, Bool, true, false, nat_lt, ◌&&◌, IsTrue, List, [], ◌∷◌, length, drop, slice_get, Option, Some, None, IfSome, option_map, refl, sym, ◌∙◌, ap, ap₂, subst, arith}
 use Rattle.std.specs.List.{list_all}
 use Rattle.std.proofs.lemmas.List.{length-drop}
 use Rattle.jser_table.specs.declared.layer.Layer.{Layer}
@@ -21,6 +21,7 @@ use Rattle.jser_reader.specs.Fitting.{FrameFits, HasParts, AllFit, LayersFit}
 use Rattle.jser_reader.specs.Handlers.{Comes, moved}
 use Rattle.jser_reader.specs.Passes.{Passes, CanPass}
 use Rattle.jser_reader.specs.RawRuns.{Leads, parts_after, EndsRaws}
+use Rattle.jser_reader.specs.RawsTold.{TellsRaws, RawsCases}
 use Rattle.jser_reader.specs.Readers.{Seen, Ready}
 use Rattle.jser_reader.specs.Stacks.{tail_of}
 use Rattle.jser_reader.specs.Steps.{before_parts, after_value}
@@ -28,6 +29,7 @@ use Rattle.jser_reader.specs.Takes.{counted_on, farther}
 use Rattle.jser_reader.proofs.LayerLemmas.{layers_of_part, parts_are_some}
 use Rattle.jser_reader.proofs.PartLemmas.{fits_fields, fits_top}
 use Rattle.jser_reader.proofs.PassLemmas.{then_passes}
+use Rattle.jser_reader.proofs.RawsToldLemmas.{one_raw, then_raws}
 use Rattle.jser_reader.proofs.ReaderLemmas.{take_whole}
 use Rattle.jser_reader.proofs.WholeLemmas.{raw_passes, can_go_on}
 
@@ -126,26 +128,42 @@ after_raw : (r : Seen) (count last section pos values size : ℕ) (cs : List Pri
 unfolding before_parts after_value
 after_raw r count last section pos values size cs e = ap (λ xs. state_with r last section values xs) (sym e)
 
+-- before the next raw value
+begins_raw : (r : Seen) (count last section pos values : ℕ) (c : PrimCode) (cs : List PrimCode) → drop (suc pos) (codes_of r section) ≡ cs
+    → Comes (farther r count) (at_raw r count last section (suc pos) values (size_of c)) (state_with r last section values (c ∷ cs))
+begins_raw r count last section pos values c cs e =
+    record { ready = raw_ready r count last section pos values c cs e; meter = refl; max = refl }
+
+-- and after it
+ends_raw : (r new : Seen) (count last section pos values : ℕ) (c : PrimCode) (cs : List PrimCode) → drop (suc pos) (codes_of r section) ≡ cs
+    → Comes (farther r (count + size_of c)) new (state_with r last section values cs)
+    → Comes (farther (at_raw r count last section (suc pos) values (size_of c)) (size_of c)) new (after_value (farther (at_raw r count last section (suc pos) values (size_of c)) (size_of c)))
+ends_raw r new count last section pos values c cs e comes = record {
+  ready = subst (Ready new) (after_raw r count last section (suc pos) values (size_of c) cs e) comes.ready;
+  meter = comes.meter ∙ twice_moved r count (size_of c);
+  max = comes.max;
+}
+
 leads_raw : (piece : List ℕ) (count : ℕ) (r : Seen) (last section pos values : ℕ) (c : PrimCode) (cs : List PrimCode) → CanPass r piece → 0 < count
     → count + size_of c ≤ length piece → drop (suc pos) (codes_of r section) ≡ cs
     → Leads piece count r (state_with r last section values (c ∷ cs)) → Leads piece (count + size_of c) r (state_with r last section values cs)
-leads_raw piece count r last section pos values c cs can some enough e h = record {
-  to = λ gate tally new comes.
-      let m : Seen = at_raw r count last section (suc pos) values (size_of c) in
-      let rest : List ℕ = drop count piece in
-      let n = length-drop count piece in
-      let s = size_some c in
-      let first : Passes gate piece (Some count) r tally m tally =
-      h.to gate tally m (record { ready = raw_ready r count last section pos values c cs e; meter = refl; max = refl }) in
-      let end : Comes (farther m (size_of c)) new (after_value (farther m (size_of c))) = record {
-        ready = subst (Ready new) (after_raw r count last section (suc pos) values (size_of c) cs e) comes.ready;
-        meter = comes.meter ∙ twice_moved r count (size_of c);
-        max = comes.max;
-      } in
-      let can_m : CanPass m rest = can_after piece count r m can (omega arith) (omega arith) refl refl in
-      then_passes gate piece rest count (size_of c) r m new tally tally tally first
-      (raw_passes gate (size_of c) rest m (farther m (size_of c)) new tally can_m refl refl s (omega arith) refl end) refl;
-}
+leads_raw piece count r last section pos values c cs can some enough e h =
+    let m : Seen = at_raw r count last section (suc pos) values (size_of c) in
+    let rest : List ℕ = drop count piece in
+    let n = length-drop count piece in
+    let s = size_some c in
+    let first = begins_raw r count last section pos values c cs e in
+    let can_m : CanPass m rest = can_after piece count r m can (omega arith) (omega arith) refl refl in
+    record {
+      to = λ gate tally new comes.
+          then_passes gate piece rest count (size_of c) r m new tally tally tally (h.to gate tally m first)
+          (raw_passes gate (size_of c) rest m (farther m (size_of c)) new tally can_m refl refl s (omega arith) refl
+          (ends_raw r new count last section pos values c cs e comes)) refl;
+      raws = λ gate tally new comes.
+          then_raws gate piece rest count (size_of c) r m new tally tally tally (h.raws gate tally m first)
+          (one_raw gate (size_of c) rest m (farther m (size_of c)) new tally can_m refl refl s (omega arith) refl
+          (ends_raw r new count last section pos values c cs e comes)) refl (omega arith) refl;
+    }
 
 -- ---- all that are left of a section
 
@@ -174,15 +192,19 @@ unfolding before_parts after_value
 raws_begin piece r last section prims values first used held can ep ef fits is code some eu enough =
     go (codes_of r section) refl
   where
+    -- its end
+    done : (new : Seen) → Comes (farther r r.left) new (state_with r last section values (drop 1 (codes_of r section)))
+        → Comes (farther r r.left) new (after_value (farther r r.left))
+    done new comes = record {
+      ready = subst (Ready new) (sym (ap (λ fs. after_value (record r { frames = fs })) ef)) comes.ready;
+      meter = comes.meter;
+      max = comes.max;
+    }
+
     start : Leads piece r.left r (state_with r last section values (drop 1 (codes_of r section)))
     start = record {
-      to = λ gate tally new comes.
-          raw_passes gate r.left piece r (farther r r.left) new tally can ep refl some (omega arith) refl
-          (record {
-            ready = subst (Ready new) (sym (ap (λ fs. after_value (record r { frames = fs })) ef)) comes.ready;
-            meter = comes.meter;
-            max = comes.max;
-          });
+      to = λ gate tally new comes. raw_passes gate r.left piece r (farther r r.left) new tally can ep refl some (omega arith) refl (done new comes);
+      raws = λ gate tally new comes. one_raw gate r.left piece r (farther r r.left) new tally can ep refl some (omega arith) refl (done new comes);
     }
 
     go : (codes : List PrimCode) → codes_of r section ≡ codes
@@ -269,17 +291,33 @@ past_raws r end = record {
   name = r.name;
 }
 
-pub raws_pass : (gate : Gate) (piece : List ℕ) (r far new : Seen) (end : RawsEnd) (tally : Tally) → EndsRaws piece r end
-    → far ≡ past_raws r end → Comes far new (after_value far) → Passes gate piece (Some end.used) r tally new tally
+past_comes : (piece : List ℕ) (r far new : Seen) (end : RawsEnd) → EndsRaws piece r end → far ≡ past_raws r end → Comes far new (after_value far)
+    → Comes (farther r end.used) new (before_parts r (tail_of r.frames) (parts_after r end.last end.section end.values))
 unfolding before_parts after_value
-raws_pass gate piece r far new end tally h ef comes =
+past_comes piece r far new end h ef comes =
     let x : Comes (past_raws r end) new (after_value (past_raws r end)) = subst (λ m. Comes m new (after_value m)) ef comes in
     let done : drop end.prims (codes_of r end.section) ≡ [] = none_dropped (codes_of r end.section) end.prims h.prims in
-    h.leads.to gate tally new (record {
+    record {
       ready = subst (Ready new) (ap (λ cs. state_with r end.last end.section end.values cs) done) x.ready;
       meter = x.meter;
       max = x.max;
-    })
+    }
+
+pub raws_pass : (gate : Gate) (piece : List ℕ) (r far new : Seen) (end : RawsEnd) (tally : Tally) → EndsRaws piece r end
+    → far ≡ past_raws r end → Comes far new (after_value far) → Passes gate piece (Some end.used) r tally new tally
+raws_pass gate piece r far new end tally h ef comes = h.leads.to gate tally new (past_comes piece r far new end h ef comes)
+
+pub raws_told : (gate : Gate) (piece : List ℕ) (r far new : Seen) (end : RawsEnd) (tally : Tally) → EndsRaws piece r end
+    → far ≡ past_raws r end → Comes far new (after_value far) → TellsRaws gate piece end.used r tally new tally
+raws_told gate piece r far new end tally h ef comes = h.leads.raws gate tally new (past_comes piece r far new end h ef comes)
+
+pub raws_cases : (gate : Gate) (tally : Tally) (piece : List ℕ) (result : Option ℕ) (old new : Seen)
+    → IfSome result (λ used. (gate : Gate) (tally : Tally) → Passes gate piece (Some used) old tally new tally)
+    → IfSome result (λ used. (gate : Gate) (tally : Tally) → TellsRaws gate piece used old tally new tally)
+    → IfSome result (λ used. (0 < used) × (used ≤ length piece)) → (result ≡ None → new ≡ old) → RawsCases gate piece result old tally new tally
+raws_cases gate tally piece None old new passes told within nothing = (nothing refl, refl)
+raws_cases gate tally piece (Some used) old new passes told within nothing =
+    (within.0, within.1, told gate tally, (passes gate tally).tells)
 
 pub raws_can : (piece : List ℕ) (r far new : Seen) (end : RawsEnd) → CanPass r piece → EndsRaws piece r end → far ≡ past_raws r end → Comes far new (after_value far)
     → CanPass new (drop end.used piece)

@@ -568,7 +568,7 @@ block_opens n r some ep =
     refl refl (λ none. absurd (omega arith)) refl refl refl refl refl)
     refl ep
 
-raw_is_whole : (n : ℕ) (piece : List ℕ) (r new : Seen) → 0 < n → n ≤ length piece → r.left ≡ n → Comes (farther r n) new (after_value (farther r n))
+pub raw_is_whole : (n : ℕ) (piece : List ℕ) (r new : Seen) → 0 < n → n ≤ length piece → r.left ≡ n → Comes (farther r n) new (after_value (farther r n))
     → TakesRaw (taken.Ended n) piece r new
 unfolding TakesRaw
 raw_is_whole n piece r new some enough e h = (some, enough, λ _. sym e, h)

@@ -33,4 +33,5 @@ pub mod WholesTold
 pub mod FieldLaws
 pub mod Gates
 pub mod RawRuns
+pub mod RawsTold
 pub mod Runs

@@ -11,14 +11,16 @@ use Rattle.jser_reader.specs.declared.tally.Tally.{Tally}
 use Rattle.jser_reader.specs.Fitting.{HasParts}
 use Rattle.jser_reader.specs.Handlers.{Comes}
 use Rattle.jser_reader.specs.Passes.{Passes}
+use Rattle.jser_reader.specs.RawsTold.{TellsRaws}
 use Rattle.jser_reader.specs.Readers.{Seen}
 use Rattle.jser_reader.specs.Stacks.{tail_of}
 use Rattle.jser_reader.specs.Steps.{before_parts}
 use Rattle.jser_reader.specs.Takes.{farther}
 
--- A machine that has counted so many bytes of the piece, and where this state comes next, has taken them.
+-- A machine that has counted so many bytes of the piece, and where this state comes next, has taken them, as raw values.
 pub record Leads (piece : List ℕ) (count : ℕ) (r : Seen) (s : State) : Type 0 where
   pub to : (gate : Gate) (tally : Tally) (new : Seen) → Comes (farther r count) new s → Passes gate piece (Some count) r tally new tally
+  pub raws : (gate : Gate) (tally : Tally) (new : Seen) → Comes (farther r count) new s → TellsRaws gate piece count r tally new tally
 
 -- what comes after the raw values of a section, of which so many values are to come
 abbrev pub parts_after : Seen → (last section values : ℕ) → List Part

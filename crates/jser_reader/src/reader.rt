@@ -5,6 +5,7 @@ ghost use Rattle.jser_reader.specs.Bounds.{FramesAreBounded, AreAssigned, Memory
 ghost use Rattle.jser_reader.specs.ItemsMade.{MakesStep};
 ghost use Rattle.jser_reader.specs.ItemsTold.{StandsIn, TellsItems, TellsFields};
 ghost use Rattle.jser_reader.specs.States.{IsWithin};
+ghost use Rattle.jser_reader.specs.RawsTold.{RawsCases};
 ghost use Rattle.jser_reader.specs.WholesTold.{WholeCases};
 
 use crate::gate::Gate;
@@ -155,6 +156,18 @@ impl<G: Gate> Reader<G> {
             Lent::Nothing => Ok(None),
             Lent::Stopped => Err(self.machine.answer()),
         }
+    }
+
+    /// Takes the raw values that come next, as many as come one after another and are at the front of the piece with all their
+    /// bytes, and returns how many bytes they are. They are taken as if `next` lent them one after another.
+    ///
+    /// `None` where no raw value comes next, or not all its bytes are there. Nothing is done then, and `next` says what comes.
+    #[inline(always)]
+    pub fn skip_raws(&mut self, piece: &[u8]) -> Option<usize>
+        ensures tells { RawsCases (G.told self.old.gate) piece.now result self.old.machine self.old.tally self.new.machine self.new.tally }
+        ensures gate { self.new.gate ≡ self.old.gate }
+    {
+        self.machine.skip_raws(piece)
     }
 
     /// Takes the whole piece: as `next` called on it, and on what is left of it, until it answers `More`.

@@ -4,6 +4,7 @@ ghost use Rattle.std.specs.Prelude.{◌≡◌, ◌∷◌, ◌<◌, ◌≤◌, le
 ghost use Rattle.jser_verdict.specs.Gates.{Gate as ToldGate};
 ghost use Rattle.jser_reader.specs.Passes.{Passes, CanPass};
 ghost use Rattle.jser_reader.specs.RawRuns.{EndsRaws};
+ghost use Rattle.jser_reader.specs.RawsTold.{TellsRaws, RawsCases};
 ghost use Rattle.jser_reader.specs.Stacks.{tail_of};
 
 use crate::frame::Frame;
@@ -114,12 +115,13 @@ impl Machine {
     }
 
     /// Takes the raw values up to there.
-    #[tactic(auto, using(crate::proofs::RawLemmas::raws_some, crate::proofs::RawLemmas::raws_fit, crate::proofs::RawLemmas::raws_pass))]
+    #[tactic(auto, using(crate::proofs::RawLemmas::raws_some, crate::proofs::RawLemmas::raws_fit, crate::proofs::RawLemmas::raws_pass, crate::proofs::RawLemmas::raws_told))]
     #[inline(always)]
     fn take_raws(&mut self, piece: &[u8], end: RawsEnd)
         requires can { CanPass self.old piece.now }
         requires end { EndsRaws piece.now self.old end }
         ensures passes { (gate : ToldGate) (tally : Tally) → Passes gate piece.now (Some end.used) self.old tally self.new tally }
+        ensures told { (gate : ToldGate) (tally : Tally) → TellsRaws gate piece.now end.used self.old tally self.new tally }
         ensures can { CanPass self.new (drop end.used piece.now) }
     {
         let _ = piece;
@@ -141,6 +143,7 @@ impl Machine {
         requires can { CanPass self.old piece.now }
         requires phase { self.old.phase ≡ Phase.Prims }
         ensures passes { IfSome result (λ used. (gate : ToldGate) (tally : Tally) → Passes gate piece.now (Some used) self.old tally self.new tally) }
+        ensures told { IfSome result (λ used. (gate : ToldGate) (tally : Tally) → TellsRaws gate piece.now used self.old tally self.new tally) }
         ensures within { IfSome result (λ used. (0 < used) × (used ≤ length piece.now)) }
         ensures can { IfSome result (λ used. CanPass self.new (drop used piece.now)) }
         ensures nothing { result ≡ None → self.new ≡ self.old }
@@ -152,5 +155,18 @@ impl Machine {
         let used = end.used;
         self.take_raws(piece, end);
         Some(used)
+    }
+
+    /// Takes raw values, where they come next: as many as come one after another and are in the piece with all their bytes.
+    /// It returns how many bytes they are; or it does nothing.
+    #[tactic(auto, using(crate::proofs::RawLemmas::raws_cases))]
+    #[inline(always)]
+    pub(crate) fn skip_raws(&mut self, piece: &[u8]) -> Option<usize>
+        ensures { (gate : ToldGate) (tally : Tally) → RawsCases gate piece.now result self.old tally self.new tally }
+    {
+        if self.phase != Phase::Prims || piece.is_empty() || !self.has_room(piece) {
+            return None;
+        }
+        self.whole_raws(piece)
     }
 }

@@ -6,6 +6,7 @@ ghost use Rattle.jser_grammar.specs.Wire.{TC_BLOCKDATA, TC_REFERENCE, TC_STRING}
 ghost use Rattle.jser_reading.specs.FieldBytes.{tag_byte};
 ghost use Rattle.jser_verdict.specs.Gates.{Gate as ToldGate, IsGate};
 ghost use Rattle.jser_reader.specs.Passes.{Passes, CanPass};
+ghost use Rattle.jser_reader.specs.RawsTold.{TellsRaws};
 ghost use Rattle.jser_reader.specs.Tags.{told_tag};
 ghost use Rattle.jser_reader.specs.Wholes.{IsPlace, HasPlace, HasNumber, HasText, HasReference, AssignsText, placed, tag_of_owner, all_or_none};
 
@@ -179,6 +180,7 @@ impl Machine {
         requires can { CanPass self.old piece.now }
         requires phase { self.old.phase ≡ Phase.Prims }
         ensures passes { IfSome result (λ used. (gate : ToldGate) (tally : Tally) → Passes gate piece.now (Some used) self.old tally self.new tally) }
+        ensures told { IfSome result (λ used. (gate : ToldGate) (tally : Tally) → TellsRaws gate piece.now used self.old tally self.new tally) }
         ensures within { IfSome result (λ used. (0 < used) × (used ≤ length piece.now)) }
         ensures can { IfSome result (λ used. CanPass self.new (drop used piece.now)) }
         ensures nothing { result ≡ None → self.new ≡ self.old }
