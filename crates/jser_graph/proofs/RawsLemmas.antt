@@ -1,7 +1,7 @@
 -- Raw values that are taken in one step, along the bytes of a stream: at most one node is made before the first of them, and
 -- none before the others.
 use Rattle.std.proofs.Common.{◌≡◌, ◌⊎◌, inl, inr, ℕ, zero, suc, ◌+◌, ◌-◌, ◌<◌, ◌≤◌, List, [], ◌∷◌, ◌++◌, length, take, drop, Option, Some, None, refl, sym, ◌∙◌, ap, subst, arith, append_assoc, append-nil, length-append}
-use Rattle.std.proofs.lemmas.List.{length-drop, length-take-le, take-append-drop}
+use Rattle.std.proofs.lemmas.List.{length-take-le, take-append-drop}
 use Rattle.jser_reading.specs.Labels.{StreamField, prims_field, Piece, piece}
 use Rattle.jser_reading.specs.FieldBytes.{bytes_of, joined}
 use Rattle.jser_reading.proofs.Walking.{joined-append}
@@ -55,8 +55,9 @@ find_raw assigned (piece label (prims_field ps) ∷ raws) x are none =
     ]
 find_raw assigned (piece label _ ∷ raws) x are none = absurd are.0
 
-pub raws_unmade : (assigned end : ℕ) (old new : Finding) → assigned ≤ length old.nodes → new ≡ record old { place = end } → GoesPastRaws assigned end old new
-raws_unmade assigned end old new le is = record {
+pub raws_unmade : (assigned end : ℕ) (old new : Finding) → assigned ≤ length old.nodes → new ≡ record old { place = end } → assigned ≤ length old.nodes + 1
+    → GoesPastRaws assigned end old new
+raws_unmade assigned end old new le is few = record {
   finds = λ raws are some at. is ∙ ap (λ p. record old { place = p }) (sym at) ∙ sym (find_raw assigned raws old are (inl le));
   place = ap (λ x. x.place) is;
 }

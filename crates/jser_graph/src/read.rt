@@ -1,5 +1,5 @@
 //! The first walk along the bytes of a stream.
-ghost use Rattle.std.specs.Prelude.{◌≡◌, IfOk};
+ghost use Rattle.std.specs.Prelude.{◌≡◌, ◌≤◌, length, IfOk};
 ghost use Rattle.jser_shown.specs.Finding.{begin_finding};
 ghost use Rattle.jser_graph.specs.Along.{BeginsAt};
 ghost use Rattle.jser_graph.specs.Reading.{Walks, Surveys, SurveysOn};
@@ -40,7 +40,8 @@ fn pass_raws<'b>(
     bytes: &[u8],
     given: &'b [u8],
 ) -> Result<&'b [u8], AllocError>
-    ensures { IfOk result (λ rest. SurveysOn bytes.now given.now rest.now reader.old.machine reader.old.tally survey.old reader.new.machine reader.new.tally survey.new) }
+    ensures within { IfOk result (λ rest. length rest.now ≤ length given.now) }
+    ensures surveys { IfOk result (λ rest. SurveysOn bytes.now given.now rest.now reader.old.machine reader.old.tally survey.old reader.new.machine reader.new.tally survey.new) }
 {
     finds_fronts();
     places_are_counted();

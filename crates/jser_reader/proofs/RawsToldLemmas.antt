@@ -1,10 +1,10 @@
 -- Raw values that are taken in one step, and lent none of: their fields, one after another.
-use Rattle.std.proofs.Common.{◌≡◌, ℕ, suc, ◌+◌, ◌<◌, ◌≤◌, List, [], ◌∷◌, ◌++◌, length, take, drop, Some, refl, sym, ◌∙◌, ap, ap₂, subst, arith, append_assoc, append-nil}
+use Rattle.std.proofs.Common.{◌≡◌, ℕ, suc, ◌+◌, ◌<◌, ◌≤◌, List, [], ◌∷◌, ◌++◌, length, take, drop, refl, sym, ◌∙◌, ap, ap₂, subst, arith, append_assoc, append-nil}
 use Rattle.std.proofs.lemmas.List.{take-append-drop}
 use Rattle.jser_table.specs.Codes.{PrimCode}
 use Rattle.jser_reading.specs.Moments.{Moment}
 use Rattle.jser_reading.specs.Labels.{StreamField, prims_field, Piece, piece, raw_at}
-use Rattle.jser_reading.specs.FieldBytes.{bytes_of, joined}
+use Rattle.jser_reading.specs.FieldBytes.{bytes_of}
 use Rattle.jser_reading.specs.Goals.{Part, raw_part, Goal, parts_goal, State, settled}
 use Rattle.jser_reading.specs.Accepts.{label_of, AcceptsAt, Accepts}
 use Rattle.jser_reading.specs.Machine.{begin_state, left}

@@ -3,6 +3,7 @@ use Rattle.jser_reader.specs.Gates.{open_gate}
 use Rattle.jser_reader.specs.ItemsTold.{TellsItems}
 use Rattle.jser_reader.specs.ReaderStates.{HasProgress}
 use Rattle.jser_reader.specs.WholesTold.{WholeCases}
+use Rattle.jser_graph.specs.Reading.{SurveysOn}
 use Rattle.jser_graph.specs.Surveying.{IsAt}
 use Rattle.jser_graph.proofs.TurnLemmas.{wants_more, turns, takes_item}
 use Rattle.jser_graph.proofs.ReadLemmas.{memory_out, next_stops, finish_walks, meets, Meets, does, took, laws_of}
@@ -14,14 +15,19 @@ returns-in-Err c =
     next_stops c.args.bytes.now c.items.rest.now c.in-Err.stop c.items.reader.machine c.items.reader.tally c.next_whole.new.self.machine c.next_whole.new.self.tally
     c.items.survey c.items.invariant c.in-Err.ensures.tells c.items.survey
 
-pub items-preserved-in-Ok : goal.items-preserved-in-Ok
-items-preserved-in-Ok c =
-    past_whole c.args.bytes.now c.items.rest.now c.split_at.result.1.now c.in-Ok-Some.whole c.epoch_handles-assigned.result _ c.items.reader.machine c.items.reader.tally
+pub items-preserved-in-Ok-pass_raws : goal.items-preserved-in-Ok-pass_raws
+unfolding SurveysOn
+items-preserved-in-Ok-pass_raws c =
+    c.in-Ok-pass_raws.ensures.surveys
+    (past_whole c.args.bytes.now c.items.rest.now c.split_at.result.1.now c.in-Ok-Some.whole c.epoch_handles-assigned.result _ c.items.reader.machine c.items.reader.tally
     c.next_whole.new.self.machine c.next_whole.new.self.tally c.items.survey c.whole.new.self c.finds_fronts.ensures c.places_are_counted.ensures c.items.invariant
     c.epoch_handles-assigned.ensures.is c.epoch_handles-assigned.ensures.assigned
     (subst (λ o. WholeCases open_gate c.items.rest.now (Ok o) c.items.reader.machine c.items.reader.tally c.next_whole.new.self.machine c.next_whole.new.self.tally)
     c.in-Ok-Some.field-0-is c.in-Ok-Some.ensures.tells)
-    (search rules) refl c.in-Ok.ensures
+    (search rules) refl c.in-Ok.ensures)
+
+pub returns-in-Err-pass_raws : goal.returns-in-Err-pass_raws
+returns-in-Err-pass_raws c = memory_out c.args.bytes.now c.pass_raws.new.survey
 
 pub returns-in-Err-whole : goal.returns-in-Err-whole
 returns-in-Err-whole c = memory_out c.args.bytes.now c.whole.new.self
