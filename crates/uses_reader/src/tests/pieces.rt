@@ -99,3 +99,21 @@ fn whole_values(rt: HostRuntime) {
     let back = reader.next_whole(&[0x71, 0x00, 0x7E, 0x00, 0x00]);
     assert_eq!(rt; back, Ok(Some(Whole::Reference(0x7E_0000))));
 }
+
+/// A stream up to the values of an object with a byte and an int.
+const TWO_RAW_VALUES: [u8; 31] = [
+    0xAC, 0xED, 0x00, 0x05, 0x73, 0x72, 0x00, 0x01, 0x41, 0x00, 0x00, 0x00, 0x00, 0x00, 0x00, 0x00,
+    0x01, 0x02, 0x00, 0x02, 0x42, 0x00, 0x01, 0x78, 0x49, 0x00, 0x01, 0x79, 0x78, 0x70, 0x05,
+];
+
+/// Raw values are skipped where they are whole in the piece: here the last bytes of one are not, and a null is none.
+#[test]
+fn raw_values(rt: HostRuntime) {
+    let mut reader = Reader::new(rt.alloc(), OpenGate);
+    let (class, byte) = TWO_RAW_VALUES.split_at(30);
+    assert_eq!(rt; reader.skip(class), Ok(()));
+    assert_eq!(rt; reader.skip_raws(byte), Some(1));
+    assert_eq!(rt; reader.skip_raws(&[0x00, 0x00, 0x00]), None);
+    assert_eq!(rt; reader.skip_raws(&[0x00, 0x00, 0x00, 0x07, 0x70]), Some(4));
+    assert_eq!(rt; reader.skip_raws(&[0x70]), None);
+}
