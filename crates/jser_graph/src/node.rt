@@ -1,6 +1,8 @@
 //! Nodes: what the handles of a stream name.
-ghost use Rattle.std.specs.Prelude.{◌≡◌};
+ghost use Rattle.std.specs.Prelude.{◌≡◌, IfOk};
 ghost use Rattle.jser_graph.specs.StoredNodes.{told_kind, kind_in};
+
+use std::alloc::AllocError;
 
 /// What a handle names.
 #[derive(Clone, Copy, PartialEq, Eq, Hash, Debug)]
@@ -34,7 +36,7 @@ pub struct Node {
 #[derive(Clone, Copy, PartialEq, Eq, Debug)]
 pub(crate) enum Detail {
     /// A string, by the number of its text.
-    Text(usize),
+    Text(u32),
     /// Any other node.
     Other(NodeKind),
 }
@@ -44,6 +46,15 @@ pub(crate) enum Detail {
 pub(crate) struct StoredNode {
     pub(crate) tag_byte: u64,
     pub(crate) detail: Detail,
+}
+
+/// The number of a handle or of the text of one, as nodes have it. The format has no handle that does not fit 32 bits, and a
+/// table of so many would take more memory than there is.
+#[inline(always)]
+pub(crate) fn small_number(number: usize) -> Result<u32, AllocError>
+    ensures { IfOk result (λ small. small ≡ number) }
+{
+    u32::try_from(number).map_err(|_| AllocError)
 }
 
 impl StoredNode {

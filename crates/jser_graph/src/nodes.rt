@@ -11,7 +11,7 @@ ghost use Rattle.jser_graph.specs.Surveying.{told_begun};
 
 use crate::begun::Begun;
 use crate::lists::Lists;
-use crate::node::{Detail, Node, NodeKind, StoredNode};
+use crate::node::{Detail, Node, NodeKind, StoredNode, small_number};
 use crate::texts::Texts;
 use jser_walk::Field;
 use std::alloc::{AllocError, Global};
@@ -90,7 +90,7 @@ impl Nodes {
     pub(crate) fn push_text(&mut self, units: &[u16], tag_byte: u64) -> Result<(), AllocError>
         ensures { OnOk result (self.new ≡ with_last self.old (record { kind = text_node; place = tag_byte; units = Some units.now })) }
     {
-        let number = self.texts.count();
+        let number = small_number(self.texts.count())?;
         self.texts.add(units)?;
         self.nodes.push(StoredNode {
             tag_byte,
@@ -122,7 +122,7 @@ impl Nodes {
     {
         let stored = stored(&self.nodes, epoch, number)?;
         match stored.detail {
-            Detail::Text(text) => Some(self.texts.get(text).unwrap_or(&[])),
+            Detail::Text(text) => Some(self.texts.get(text as usize).unwrap_or(&[])),
             Detail::Other(_) => None,
         }
     }

@@ -1,5 +1,5 @@
 //! A first walk along the fields of a stream, which finds its nodes, owners and checked names.
-ghost use Rattle.std.specs.Prelude.{◌≡◌, ◌+◌, ◌<◌, ◌≤◌, ◌^◌, true, false, length, OnOk, IfOk};
+ghost use Rattle.std.specs.Prelude.{◌≡◌, ◌+◌, ◌<◌, ◌≤◌, ◌^◌, true, false, length, OnOk};
 ghost use Rattle.jser_reading.specs.FieldBytes.{bytes_of, tag_byte};
 ghost use Rattle.jser_reading.specs.Labels.{StreamField, Tag};
 ghost use Rattle.jser_shown.specs.Finding.{begin_finding, begun_by, find, finished, make_begun, take_field, take_name};
@@ -11,6 +11,7 @@ ghost use Rattle.jser_graph.specs.Listed.{all_lists};
 
 use crate::begun::{Begun, elements_made, is_owner, kind_begun};
 use crate::decode::decode;
+use crate::node::small_number;
 use crate::nodes::Nodes;
 use crate::owners::Owners;
 use crate::part::{Part, part_of};
@@ -59,15 +60,6 @@ impl Model for Survey {
     } };
 }
 
-/// The number of a handle, as owners have it. The format has no handle that does not fit 32 bits, and a table of so many
-/// would take more memory than there is.
-#[inline(always)]
-fn handle_number(number: usize) -> Result<u32, AllocError>
-    ensures { IfOk result (λ small. small ≡ number) }
-{
-    u32::try_from(number).map_err(|_| AllocError)
-}
-
 impl Survey {
     /// Before the first field. Takes no memory.
     pub(crate) fn new(alloc: Global) -> Survey
@@ -92,7 +84,7 @@ impl Survey {
         let Some(begun) = self.begun.pop() else {
             return Ok(());
         };
-        let number = handle_number(self.nodes.count())?;
+        let number = small_number(self.nodes.count())?;
         self.nodes.make(begun, field)?;
         if is_owner(begun.kind) {
             let elements = elements_made(begun.kind, field);
