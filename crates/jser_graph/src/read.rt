@@ -6,7 +6,7 @@ ghost use Rattle.jser_graph.specs.Reading.{Walks, Surveys, SurveysOn};
 
 use crate::part::size_of;
 use crate::survey::Survey;
-use jser_reader::{OpenGate, Reader, Step, Stop, Totals};
+use jser_reader::{OpenGate, Reader, Step, Stop, Totals, Whole};
 use jser_reading::laws::one_reading;
 use jser_shown::laws::{finds_fronts, found, places_are_counted};
 use std::alloc::{AllocError, Global};
@@ -60,6 +60,26 @@ fn pass_raws<'b>(
     }
 }
 
+/// After a value that was lent at once, goes past the raw values that come next of these bytes, where it is the beginning of
+/// what may have some, and returns what comes after them.
+#[tactic(auto, using(crate::proofs::RawsLemmas::raws_not))]
+#[inline(always)]
+fn pass_behind<'b>(
+    reader: &mut Reader<OpenGate>,
+    survey: &mut Survey,
+    bytes: &[u8],
+    given: &'b [u8],
+    whole: Whole<'_>,
+) -> Result<&'b [u8], AllocError>
+    ensures within { IfOk result (λ rest. length rest.now ≤ length given.now) }
+    ensures surveys { IfOk result (λ rest. SurveysOn bytes.now given.now rest.now reader.old.machine reader.old.tally survey.old reader.new.machine reader.new.tally survey.new) }
+{
+    match whole {
+        Whole::Owner { .. } => pass_raws(reader, survey, bytes, given),
+        Whole::Reference(_) | Whole::String(_) => Ok(given),
+    }
+}
+
 /// Goes along the bytes with a new reader, and lets the survey go along their fields.
 fn walk_along(
     reader: &mut Reader<OpenGate>,
@@ -84,7 +104,7 @@ fn walk_along(
                 let (_, after) = rest.split_at(size_of(whole));
                 let end = (bytes.len() - after.len()) as u64;
                 match survey.whole(whole, units, assigned, end) {
-                    Ok(()) => match pass_raws(reader, survey, bytes, after) {
+                    Ok(()) => match pass_behind(reader, survey, bytes, after, whole) {
                         Ok(more) => rest = more,
                         Err(_) => return Err(Stop::OutOfMemory),
                     },

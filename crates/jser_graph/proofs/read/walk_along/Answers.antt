@@ -15,10 +15,10 @@ returns-in-Err c =
     next_stops c.args.bytes.now c.items.rest.now c.in-Err.stop c.items.reader.machine c.items.reader.tally c.next_whole.new.self.machine c.next_whole.new.self.tally
     c.items.survey c.items.invariant c.in-Err.ensures.tells c.items.survey
 
-pub items-preserved-in-Ok-pass_raws : goal.items-preserved-in-Ok-pass_raws
+pub items-preserved-in-Ok-pass_behind : goal.items-preserved-in-Ok-pass_behind
 unfolding SurveysOn
-items-preserved-in-Ok-pass_raws c =
-    c.in-Ok-pass_raws.ensures.surveys
+items-preserved-in-Ok-pass_behind c =
+    c.in-Ok-pass_behind.ensures.surveys
     (past_whole c.args.bytes.now c.items.rest.now c.split_at.result.1.now c.in-Ok-Some.whole c.epoch_handles-assigned.result _ c.items.reader.machine c.items.reader.tally
     c.next_whole.new.self.machine c.next_whole.new.self.tally c.items.survey c.whole.new.self c.finds_fronts.ensures c.places_are_counted.ensures c.items.invariant
     c.epoch_handles-assigned.ensures.is c.epoch_handles-assigned.ensures.assigned
@@ -26,8 +26,8 @@ items-preserved-in-Ok-pass_raws c =
     c.in-Ok-Some.field-0-is c.in-Ok-Some.ensures.tells)
     (search rules) refl c.in-Ok.ensures)
 
-pub returns-in-Err-pass_raws : goal.returns-in-Err-pass_raws
-returns-in-Err-pass_raws c = memory_out c.args.bytes.now c.pass_raws.new.survey
+pub returns-in-Err-pass_behind : goal.returns-in-Err-pass_behind
+returns-in-Err-pass_behind c = memory_out c.args.bytes.now c.pass_behind.new.survey
 
 pub returns-in-Err-whole : goal.returns-in-Err-whole
 returns-in-Err-whole c = memory_out c.args.bytes.now c.whole.new.self
