@@ -9,9 +9,14 @@ use Rattle.jser_shown.specs.Telling.{SeenField, seen_tag, seen_bytes, begin, goe
 use Rattle.jser_walk.specs.declared.frame.Frame.{Frame}
 use Rattle.jser_walk.specs.declared.frame.Frame.TheVariants as frame
 use Rattle.jser_walk.specs.declared.frame.Stage.{Stage}
+use Rattle.jser_walk.specs.declared.part.Part.{Part}
+use Rattle.jser_walk.specs.declared.part.Part.TheVariants as part
+use Rattle.jser_walk.specs.Prompts.{Prompt, raw_prompt, value_prompt, no_prompt, prompt_in}
+use Rattle.jser_walk.specs.Sections.{PassesPart}
 use Rattle.jser_walk.specs.Tables.{layer_in, layers_in}
-use Rattle.jser_walk.specs.Frames.{parts_from, cue_of, cues_of, tail_of, FramesFit, BeginsSection, others_of, TakesPart}
+use Rattle.jser_walk.specs.Frames.{parts_from, cue_of, cues_of, tail_of, FramesFit, BeginsSection, BeginsWith, others_of, TakesPart}
 use Rattle.jser_walk.proofs.PassLemmas.{close_cues}
+use Rattle.jser_walk.proofs.WaitLemmas.{raw_waited, value_waited, nothing_waited}
 
 pub goes_first : (layers : List NamedLayer) (chains : List (List NamedLayer)) (frames : List Frame) (f : Frame) (e : ℕ) (known : Known) (os : List OwnerNode) (field : SeenField) → frames ≡ f ∷ tail_of frames → goes_in e known os (cues_of layers chains frames) field ≡ goes_at e known os (cue_of layers chains f) (cues_of layers chains (tail_of frames)) field
 goes_first layers chains frames f e known os field is = ap (λ fs. goes_in e known os (cues_of layers chains fs) field) is
@@ -74,6 +79,36 @@ pub value_taken : (layers : List NamedLayer) (chains : List (List NamedLayer)) (
 value_taken layers chains old new level chain index index' s s' name tag top put is = λ e known os.
     part_goes layers chains old level chain index s _ e known os (seen_tag tag) top is
     ∙ sym (ap (λ fs. begin e (suc level) known os tag (cues_of layers chains fs)) put)
+
+-- the first part is passed
+
+part_absent : (layers : List NamedLayer) (chains : List (List NamedLayer)) (old new : List Frame) → prompt_in (cues_of layers chains old) ≡ no_prompt → PassesPart layers chains old new
+part_absent layers chains old new none = record {
+  raw = λ L name w. absurd (let no : no_prompt ≡ raw_prompt L name = sym none ∙ w in cc);
+  value = λ L name w. absurd (let no : no_prompt ≡ value_prompt L name = sym none ∙ w in cc);
+}
+
+abbrev level_in : Prompt → ℕ
+level_in (value_prompt L name) = L
+level_in p = 0
+
+pub part_passed : (layers : List NamedLayer) (chains : List (List NamedLayer)) (old new : List Frame) (level chain index index' : ℕ) (s s' : Stage) (p : Part) → old ≡ frame.Sections level chain index s ∷ tail_of old → new ≡ frame.Sections level chain index' s' ∷ tail_of old → BeginsWith (parts_from (layers_in chains chain) index s) p (parts_from (layers_in chains chain) index' s') → PassesPart layers chains old new
+part_passed layers chains old new level chain index index' s s' (part.Raw n) top put is = record {
+  raw = λ L name w bytes e known os. sym (raw_taken layers chains old new level chain index index' s s' n.now bytes top put is e known os);
+  value = λ L name w. absurd (let no : raw_prompt level (field_named n.now) ≡ value_prompt L name = sym (raw_waited layers chains old level chain index s n.now (parts_from (layers_in chains chain) index' s') top is) ∙ w in cc);
+}
+part_passed layers chains old new level chain index index' s s' (part.Value n) top put is = record {
+  raw = λ L name w. absurd (let no : value_prompt level (field_named n.now) ≡ raw_prompt L name = sym (value_waited layers chains old level chain index s n.now (parts_from (layers_in chains chain) index' s') top is) ∙ w in cc);
+  value = λ L name w tag e known os.
+      ap (λ l. begin e (suc l) known os tag (cues_of layers chains new)) (ap level_in (sym w ∙ value_waited layers chains old level chain index s n.now (parts_from (layers_in chains chain) index' s') top is))
+      ∙ sym (value_taken layers chains old new level chain index index' s s' n.now tag top put is e known os);
+}
+part_passed layers chains old new level chain index index' s s' (part.Section n) top put is =
+    part_absent layers chains old new (nothing_waited layers chains old level chain index s (data_part is.layer ∷ parts_from (layers_in chains chain) index' s') top is.parts_are refl)
+part_passed layers chains old new level chain index index' s s' part.Notes top put is =
+    part_absent layers chains old new (nothing_waited layers chains old level chain index s (note_part ∷ parts_from (layers_in chains chain) index' s') top is refl)
+part_passed layers chains old new level chain index index' s s' part.End top put is =
+    part_absent layers chains old new (nothing_waited layers chains old level chain index s [] top is refl)
 
 -- a class with no superclass ends
 

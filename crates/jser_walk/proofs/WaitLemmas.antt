@@ -4,9 +4,12 @@ use Rattle.jser_shown.specs.Known.{NamedLayer}
 use Rattle.jser_shown.specs.Shown.{field_named}
 use Rattle.jser_shown.specs.Cues.{SectionPart, raw_part, value_part, note_part}
 use Rattle.jser_walk.specs.declared.frame.Frame.{Frame}
+use Rattle.jser_walk.specs.declared.frame.Frame.TheVariants as frame
+use Rattle.jser_walk.specs.declared.frame.Stage.{Stage}
 use Rattle.jser_walk.specs.Steps.{section_due, quiet_due, due_part, due_at, due_in}
 use Rattle.jser_walk.specs.Prompts.{raw_prompt, value_prompt, no_prompt, part_prompt, prompt_at, prompt_in}
-use Rattle.jser_walk.specs.Frames.{cue_of, cues_of, tail_of, BeginsSection}
+use Rattle.jser_walk.specs.Tables.{layers_in}
+use Rattle.jser_walk.specs.Frames.{cue_of, cues_of, tail_of, parts_from, BeginsSection}
 
 pub due_section : (L : ℕ) (parts others : List SectionPart) (name : Option (List ℕ)) → BeginsSection parts name others → Some (section_due L name) ≡ due_part L parts
 due_section L parts others name begins =
@@ -46,3 +49,18 @@ due_first layers chains frames f is = ap (λ fs. due_in (cues_of layers chains f
 
 pub prompt_first : (layers : List NamedLayer) (chains : List (List NamedLayer)) (frames : List Frame) (f : Frame) → frames ≡ f ∷ tail_of frames → prompt_in (cues_of layers chains frames) ≡ prompt_at (cue_of layers chains f)
 prompt_first layers chains frames f is = ap (λ fs. prompt_in (cues_of layers chains fs)) is
+
+-- at the sections on top, by their first part
+
+part_waited : (layers : List NamedLayer) (chains : List (List NamedLayer)) (frames : List Frame) (level chain index : ℕ) (s : Stage) (parts : List SectionPart) → frames ≡ frame.Sections level chain index s ∷ tail_of frames → parts_from (layers_in chains chain) index s ≡ parts → prompt_in (cues_of layers chains frames) ≡ part_prompt level parts
+part_waited layers chains frames level chain index s parts top is =
+    prompt_first layers chains frames (frame.Sections level chain index s) top ∙ ap (part_prompt level) is
+
+pub raw_waited : (layers : List NamedLayer) (chains : List (List NamedLayer)) (frames : List Frame) (level chain index : ℕ) (s : Stage) (name : List ℕ) (others : List SectionPart) → frames ≡ frame.Sections level chain index s ∷ tail_of frames → parts_from (layers_in chains chain) index s ≡ raw_part (field_named name) ∷ others → prompt_in (cues_of layers chains frames) ≡ raw_prompt level (field_named name)
+raw_waited layers chains frames level chain index s name others top is = part_waited layers chains frames level chain index s (raw_part (field_named name) ∷ others) top is
+
+pub value_waited : (layers : List NamedLayer) (chains : List (List NamedLayer)) (frames : List Frame) (level chain index : ℕ) (s : Stage) (name : List ℕ) (others : List SectionPart) → frames ≡ frame.Sections level chain index s ∷ tail_of frames → parts_from (layers_in chains chain) index s ≡ value_part (field_named name) ∷ others → prompt_in (cues_of layers chains frames) ≡ value_prompt level (field_named name)
+value_waited layers chains frames level chain index s name others top is = part_waited layers chains frames level chain index s (value_part (field_named name) ∷ others) top is
+
+pub nothing_waited : (layers : List NamedLayer) (chains : List (List NamedLayer)) (frames : List Frame) (level chain index : ℕ) (s : Stage) (parts : List SectionPart) → frames ≡ frame.Sections level chain index s ∷ tail_of frames → parts_from (layers_in chains chain) index s ≡ parts → part_prompt level parts ≡ no_prompt → prompt_in (cues_of layers chains frames) ≡ no_prompt
+nothing_waited layers chains frames level chain index s parts top is none = part_waited layers chains frames level chain index s parts top is ∙ none

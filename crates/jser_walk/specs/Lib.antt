@@ -6,6 +6,7 @@ pub mod Chains
 pub mod Layers
 pub mod Tables
 pub mod Frames
+pub mod Sections
 pub mod Seen
 pub mod Phases
 pub mod Laws

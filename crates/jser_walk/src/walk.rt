@@ -9,6 +9,7 @@ ghost use Rattle.jser_walk.specs.Prompts.{handle_prompt, prompt_of, string_promp
 ghost use Rattle.jser_walk.specs.Views.{view_due, view_prompt};
 
 mod passing;
+mod sections;
 mod taking;
 
 use crate::draft::Draft;
@@ -83,6 +84,7 @@ impl<'a> Walk<'a> {
     }
 
     /// What is due where no field belongs to what comes next; None where the walk waits for a field.
+    #[inline(always)]
     pub fn due(&self) -> Option<Due<'_>>
         ensures { view_due result ≡ due self.now }
     {

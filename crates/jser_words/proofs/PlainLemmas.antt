@@ -1,22 +1,26 @@
--- Bytes that stand for themselves.
+-- Fields that are said at once, where a walk waits for them: strings whose bytes stand for themselves, handles, the raw
+-- values of fields, and references.
 use Rattle.std.proofs.Common.{◌≡◌, ℕ, ◌+◌, ◌<◌, List, [], ◌∷◌, ◌++◌, Bool, true, false, zero, suc, ◌≤◌, length, take, get_or, refl, sym, ap, ◌∙◌, arith}
-use Rattle.std.specs.Prelude.{nat_lt, slice_index}
+use Rattle.std.specs.Prelude.{nat_lt, slice_index, codes}
+use Rattle.std.specs.Borrow.{Bor}
 use Rattle.std.specs.List.{flat_map}
 use Rattle.std.proofs.lemmas.List.{take_more, flat_map_more}
 use Rattle.std.proofs.lemmas.Bool.Decides.{nat_tests}
 use Rattle.jser_prim.specs.Outgoing.{Outgoing, SinkState}
-use Rattle.jser_reading.specs.Labels.{StreamField, handle_field, text_field}
+use Rattle.jser_grammar.specs.Wire.{TC_REFERENCE}
+use Rattle.jser_reading.specs.Labels.{StreamField, tag_field, block_tag_field, end_tag_field, reset_tag_field, handle_field, text_field, prims_field, bytes_field, null_tag, reference_tag, class_desc_tag, object_tag, string_tag, array_tag, class_tag, long_string_tag, proxy_desc_tag, enum_tag}
 use Rattle.jser_shown.specs.Cues.{Teller}
-use Rattle.jser_shown.specs.Telling.{says, seen, seen_handle, seen_text, handle_says, first_owner, goes, settled}
-use Rattle.jser_shown.specs.Words.{end_line, mark, quoted, quoted_unit}
+use Rattle.jser_shown.specs.Telling.{says, seen, seen_tag, seen_handle, seen_text, seen_bytes, handle_says, raw_line, first_owner, goes, goes_in, settled}
+use Rattle.jser_shown.specs.Shown.{field_named, name_text}
+use Rattle.jser_shown.specs.Words.{begin_line, end_line, mark, quoted, quoted_unit}
 use Rattle.jser_walk.specs.declared.Field.TheVariants as lent
 use Rattle.jser_walk.specs.Given.{IsOf}
-use Rattle.jser_walk.specs.Prompts.{prompt_of, prompt_says, handle_prompt, string_prompt}
+use Rattle.jser_walk.specs.Prompts.{Prompt, prompt_of, prompt_says, handle_prompt, string_prompt, raw_prompt, value_prompt, class_prompt}
 use Rattle.jser_words.specs.Passing.{says_next, waits}
 use Rattle.jser_words.specs.Plain.{ArePlain}
 use Rattle.jser_words.specs.Says.{Says}
 use Rattle.jser_words.proofs.FieldLemmas.{in-cues-says}
-use Rattle.jser_words.proofs.SaysLemmas.{says_name, says_same}
+use Rattle.jser_words.proofs.SaysLemmas.{says_name, says_same, says_both}
 use Rattle.jser_words.proofs.StepLemmas.{none_due, says_waited, goes_waited}
 
 -- a byte more
@@ -82,3 +86,82 @@ pub goes_handle : (s t : Teller) (handle : ℕ) (told : StreamField) → prompt_
     → ((n : ℕ) → t ≡ goes s (handle_field n)) → t ≡ goes (settled s) told
 goes_handle s t handle (handle_field n) wants is goes_on = goes_waited s t (handle_field n) (none_due s (ap waits wants)) (goes_on n)
 goes_handle s t handle _ wants is goes_on = absurd is
+
+-- what a walk waits for, by its prompt
+
+pub says_seen : (a b : Outgoing) (d e : SinkState) (s : Teller) (p : Prompt) (told : StreamField) (text : List ℕ → List ℕ) → prompt_of s ≡ p → waits p ≡ true
+    → ((k : List ℕ) → prompt_says p s.epoch (length s.known) (first_owner s.owners) (seen told) k ≡ text k)
+    → Says a b d e text → Says a b d e (λ k. says_next s told k)
+says_seen a b d e s p told text wants waiting is h =
+    says_waited a b d e s told (none_due s (ap waits wants ∙ waiting))
+    (says_same a b d e text (λ k. says s told k)
+    (λ k. in-cues-says s.cues s.epoch (length s.known) (first_owner s.owners) (seen told) k
+    ∙ ap (λ x. prompt_says x s.epoch (length s.known) (first_owner s.owners) (seen told) k) wants ∙ is k) h)
+
+pub goes_seen : (s t : Teller) (p : Prompt) (sees told : StreamField) → prompt_of s ≡ p → waits p ≡ true → seen told ≡ seen sees → t ≡ goes s sees → t ≡ goes (settled s) told
+goes_seen s t p sees told wants waiting same is =
+    goes_waited s t told (none_due s (ap waits wants ∙ waiting)) (is ∙ ap (goes_in s.epoch s.known s.owners s.cues) (sym same))
+
+-- raw values are seen by their bytes
+pub raw_seen : (bytes : Bor (List ℕ)) (told : StreamField) → IsOf (lent.Raw bytes) told → seen told ≡ seen_bytes bytes.now
+raw_seen bytes (prims_field ps) is = ap seen_bytes (sym is)
+raw_seen bytes (bytes_field b) is = ap seen_bytes (sym is)
+raw_seen bytes _ is = absurd is
+
+-- the tag of a reference
+pub reference_seen : (told : StreamField) → IsOf (lent.Tag TC_REFERENCE) told → seen told ≡ seen_tag reference_tag
+reference_seen (tag_field reference_tag) is = refl
+reference_seen (tag_field null_tag) is = absurd (let no : 0x71 ≡ 0x70 = is in omega (arith, no))
+reference_seen (tag_field class_desc_tag) is = absurd (let no : 0x71 ≡ 0x72 = is in omega (arith, no))
+reference_seen (tag_field object_tag) is = absurd (let no : 0x71 ≡ 0x73 = is in omega (arith, no))
+reference_seen (tag_field string_tag) is = absurd (let no : 0x71 ≡ 0x74 = is in omega (arith, no))
+reference_seen (tag_field array_tag) is = absurd (let no : 0x71 ≡ 0x75 = is in omega (arith, no))
+reference_seen (tag_field class_tag) is = absurd (let no : 0x71 ≡ 0x76 = is in omega (arith, no))
+reference_seen (tag_field long_string_tag) is = absurd (let no : 0x71 ≡ 0x7C = is in omega (arith, no))
+reference_seen (tag_field proxy_desc_tag) is = absurd (let no : 0x71 ≡ 0x7D = is in omega (arith, no))
+reference_seen (tag_field enum_tag) is = absurd (let no : 0x71 ≡ 0x7E = is in omega (arith, no))
+reference_seen (block_tag_field false) is = absurd (let no : 0x71 ≡ 0x77 = is in omega (arith, no))
+reference_seen (block_tag_field true) is = absurd (let no : 0x71 ≡ 0x7A = is in omega (arith, no))
+reference_seen end_tag_field is = absurd (let no : 0x71 ≡ 0x78 = is in omega (arith, no))
+reference_seen reset_tag_field is = absurd (let no : 0x71 ≡ 0x79 = is in omega (arith, no))
+reference_seen _ is = absurd is
+
+-- the raw value of a field
+pub says_raw : (a b : Outgoing) (d e : SinkState) (s : Teller) (L : ℕ) (name : List ℕ) (bytes : Bor (List ℕ)) (told : StreamField) → prompt_of s ≡ raw_prompt L (field_named name)
+    → IsOf (lent.Raw bytes) told → Says a b d e (λ k. raw_line (suc L) (field_named name) bytes.now k) → Says a b d e (λ k. says_next s told k)
+says_raw a b d e s L name bytes told wants is h =
+    says_seen a b d e s (raw_prompt L (field_named name)) told (λ k. raw_line (suc L) (field_named name) bytes.now k) wants refl
+    (λ k. ap (λ x. prompt_says (raw_prompt L (field_named name)) s.epoch (length s.known) (first_owner s.owners) x k) (raw_seen bytes told is)) h
+
+pub goes_raw : (s t : Teller) (L : ℕ) (name : List ℕ) (bytes : Bor (List ℕ)) (told : StreamField) → prompt_of s ≡ raw_prompt L (field_named name)
+    → IsOf (lent.Raw bytes) told → ((b : List ℕ) → t ≡ goes s (bytes_field b)) → t ≡ goes (settled s) told
+goes_raw s t L name bytes told wants is goes_on =
+    goes_seen s t (raw_prompt L (field_named name)) (bytes_field bytes.now) told wants refl (raw_seen bytes told is) (goes_on bytes.now)
+
+-- a reference that is the value of a field
+pub says_reference : (a b c : Outgoing) (d e f : SinkState) (s : Teller) (L : ℕ) (name : List ℕ) (told : StreamField) → prompt_of s ≡ value_prompt L (field_named name)
+    → IsOf (lent.Tag TC_REFERENCE) told → Says a b d e (λ k. begin_line (suc L) (name_text (field_named name) k)) → Says b c e f (λ k. codes "ref " ++ k)
+    → Says a c d f (λ k. says_next s told k)
+says_reference a b c d e f s L name told wants is x y =
+    says_seen a c d f s (value_prompt L (field_named name)) told (λ k. begin_line (suc L) (name_text (field_named name) (codes "ref " ++ k))) wants refl
+    (λ k. ap (λ z. prompt_says (value_prompt L (field_named name)) s.epoch (length s.known) (first_owner s.owners) z k) (reference_seen told is))
+    (says_both a b c d e f (λ k. begin_line (suc L) (name_text (field_named name) k)) (λ k. codes "ref " ++ k) x y)
+
+pub goes_reference : (s t : Teller) (L : ℕ) (name : List ℕ) (told : StreamField) → prompt_of s ≡ value_prompt L (field_named name)
+    → IsOf (lent.Tag TC_REFERENCE) told → t ≡ goes s (tag_field reference_tag) → t ≡ goes (settled s) told
+goes_reference s t L name told wants is goes_on =
+    goes_seen s t (value_prompt L (field_named name)) (tag_field reference_tag) told wants refl (reference_seen told is) goes_on
+
+-- a reference that is the class of an owner
+pub says_class : (a b c : Outgoing) (d e f : SinkState) (s : Teller) (L : ℕ) (told : StreamField) → prompt_of s ≡ class_prompt L
+    → IsOf (lent.Tag TC_REFERENCE) told → Says a b d e (λ k. begin_line L k) → Says b c e f (λ k. codes "class ref " ++ k)
+    → Says a c d f (λ k. says_next s told k)
+says_class a b c d e f s L told wants is x y =
+    says_seen a c d f s (class_prompt L) told (λ k. begin_line L (codes "class ref " ++ k)) wants refl
+    (λ k. ap (λ z. prompt_says (class_prompt L) s.epoch (length s.known) (first_owner s.owners) z k) (reference_seen told is))
+    (says_both a b c d e f (λ k. begin_line L k) (λ k. codes "class ref " ++ k) x y)
+
+pub goes_class : (s t : Teller) (L : ℕ) (told : StreamField) → prompt_of s ≡ class_prompt L
+    → IsOf (lent.Tag TC_REFERENCE) told → t ≡ goes s (tag_field reference_tag) → t ≡ goes (settled s) told
+goes_class s t L told wants is goes_on =
+    goes_seen s t (class_prompt L) (tag_field reference_tag) told wants refl (reference_seen told is) goes_on

@@ -2,12 +2,14 @@
 use Rattle.std.proofs.Common.{◌≡◌, ℕ, zero, suc, ◌+◌, ◌-◌, ◌<◌, ◌≤◌, min, List, [], ◌∷◌, ◌++◌, sym, ap, ◌∙◌, take, drop, length, arith}
 use Rattle.std.proofs.lemmas.List.{take_min, drop_min}
 use Rattle.std.specs.Fmt.{decimal}
+use Rattle.std.specs.List.{flat_map}
 use Rattle.jser_prim.specs.Outgoing.{Outgoing, SinkState}
 use Rattle.jser_prim.proofs.OutgoingLemmas.{puts_none}
-use Rattle.jser_shown.specs.Shown.{element_at}
+use Rattle.jser_shown.specs.Words.{begin_line, quoted_unit}
+use Rattle.jser_shown.specs.Shown.{element_at, field_named, name_text}
 use Rattle.jser_shown.specs.Telling.{raw_line, raw_lines, raw_elements_lines, block_length_says, seen_block_length}
 use Rattle.jser_words.specs.Says.{Saying, Says}
-use Rattle.jser_words.proofs.SaysLemmas.{says_none, says_on, says_both, says_same}
+use Rattle.jser_words.proofs.SaysLemmas.{says_none, says_on, says_both, says_three, says_same}
 
 -- no element so far
 pub says_no_elements : (a : Outgoing) (d : SinkState) (L first size n : ℕ) (bytes : List ℕ) →
@@ -70,3 +72,11 @@ pub says_no_count : (a : Outgoing) (d : SinkState) (L first n : ℕ) (bytes : Li
 says_no_count a d L first n bytes is =
     says_same a a d d (λ k. k) (λ k. raw_elements_lines L first n bytes k) (λ k. ap (λ m. raw_elements_lines L first m bytes k) is)
     (says_none a d (λ k. k))
+
+-- the beginning of the line of a field
+pub says_field_start : (a b c g : Outgoing) (d e f h : SinkState) (L : ℕ) (units bytes : List ℕ) → bytes ≡ flat_map quoted_unit units → Says a b d e (λ k. begin_line (suc L) (0x22 ∷ k))
+    → Says b c e f (λ k. bytes ++ k) → Says c g f h (λ k. 0x22 ∷ 0x20 ∷ 0x3D ∷ 0x20 ∷ k) → Says a g d h (λ k. begin_line (suc L) (name_text (field_named units) k))
+says_field_start a b c g d e f h L units bytes is x y z =
+    says_same a g d h (λ k. begin_line (suc L) (0x22 ∷ (bytes ++ (0x22 ∷ 0x20 ∷ 0x3D ∷ 0x20 ∷ k)))) (λ k. begin_line (suc L) (name_text (field_named units) k))
+    (λ k. ap (λ t. begin_line (suc L) (0x22 ∷ (t ++ (0x22 ∷ 0x20 ∷ 0x3D ∷ 0x20 ∷ k)))) (sym is))
+    (says_three a b c g d e f h (λ k. begin_line (suc L) (0x22 ∷ k)) (λ k. bytes ++ k) (λ k. 0x22 ∷ 0x20 ∷ 0x3D ∷ 0x20 ∷ k) x y z)

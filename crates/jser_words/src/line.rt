@@ -1,5 +1,5 @@
 //! Words as they are, and the beginnings of lines.
-ghost use Rattle.std.specs.Prelude.{suc, ◌≤◌, ◌++◌};
+ghost use Rattle.std.specs.Prelude.{suc, ◌≤◌, ◌∷◌, ◌++◌};
 ghost use Rattle.jser_shown.specs.Words.{begin_line};
 ghost use Rattle.jser_words.specs.Says.{SaysTo};
 
@@ -31,13 +31,27 @@ pub(crate) fn say_line_start<W: Sink>(outbox: &mut Outbox, sink: &mut W, level: 
     }
 }
 
-/// Says the beginning of a line that is one level deeper than this one.
+/// Says the beginning of a line that is one level deeper than this one, and a quote.
 #[inline(always)]
-pub(crate) fn say_deeper_line_start<W: Sink>(outbox: &mut Outbox, sink: &mut W, level: u64)
-    ensures { SaysTo W.gone_out W.has_failed outbox.old outbox.new sink.old sink.new (λ k. begin_line (suc level) k) }
+pub(crate) fn say_deeper_quote<W: Sink>(outbox: &mut Outbox, sink: &mut W, level: u64)
+    ensures { SaysTo W.gone_out W.has_failed outbox.old outbox.new sink.old sink.new (λ k. begin_line (suc level) (0x22 ∷ k)) }
+{
+    match level {
+        0 => say(outbox, sink, b"  \""),
+        1 => say(outbox, sink, b"    \""),
+        2 => say(outbox, sink, b"      \""),
+        _ => say_far_quote(outbox, sink, level),
+    }
+}
+
+/// The same, whatever the level is.
+#[inline(never)]
+fn say_far_quote<W: Sink>(outbox: &mut Outbox, sink: &mut W, level: u64)
+    ensures { SaysTo W.gone_out W.has_failed outbox.old outbox.new sink.old sink.new (λ k. begin_line (suc level) (0x22 ∷ k)) }
 {
     say(outbox, sink, b"  ");
-    say_line_start(outbox, sink, level);
+    say_many_levels(outbox, sink, level);
+    say(outbox, sink, b"\"");
 }
 
 /// Says the beginning of a line of any level, in runs of spaces.

@@ -6,9 +6,9 @@ ghost use Rattle.jser_walk.specs.Seen.{told_tag};
 ghost use Rattle.jser_words.specs.Says.{SaysTo};
 ghost use Rattle.jser_words.specs.TagWords.{tag_words};
 
-use crate::line::{say, say_deeper_line_start, say_line_start};
+use crate::line::{say, say_line_start};
 use crate::tag::{Place, say_block_word, say_value_tag};
-use crate::value::{say_element_index, say_field_name};
+use crate::value::{say_element_index, say_field_start};
 use jser_prim::{Outbox, Sink};
 use jser_walk::{Name, Tag};
 
@@ -56,8 +56,7 @@ pub(crate) fn say_field_tag<W: Sink>(
 )
     ensures { SaysTo W.gone_out W.has_failed outbox.old outbox.new sink.old sink.new (λ k. begin_line (suc level) (name_text (field_named name.now) (tag_words place (told_tag tag) k))) }
 {
-    say_deeper_line_start(outbox, sink, level);
-    say_field_name(outbox, sink, name);
+    say_field_start(outbox, sink, level, name);
     say_value_tag(outbox, sink, place, tag);
 }
 

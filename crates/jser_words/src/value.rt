@@ -1,22 +1,27 @@
 //! Lines of values: what stands before a value, raw values, and the bytes of blocks.
 ghost use Rattle.std.specs.Prelude.{suc, ◌++◌, ◌∷◌};
 ghost use Rattle.hex.specs.Hex.{encode_lower};
-ghost use Rattle.jser_shown.specs.Words.{end_line};
+ghost use Rattle.jser_shown.specs.Words.{begin_line, end_line};
 ghost use Rattle.jser_shown.specs.Shown.{field_named, element_at, name_text};
 ghost use Rattle.jser_shown.specs.Telling.{raw_line, raw_lines, raw_elements_lines, block_length_says, seen_block_length};
 ghost use Rattle.jser_words.specs.Says.{SaysTo};
 
-use crate::line::{say, say_deeper_line_start, say_line_start};
+use crate::line::{say, say_deeper_quote, say_line_start};
 use crate::number::{say_decimal, say_hex};
 use jser_prim::{Outbox, Sink};
 use jser_walk::Name;
 
-/// Says the name of a field before its value, as `"next" = `.
+/// Says the beginning of the line of a field, in a section of this level, as `"next" = `.
 #[inline(always)]
-pub(crate) fn say_field_name<W: Sink>(outbox: &mut Outbox, sink: &mut W, name: &Name)
-    ensures { SaysTo W.gone_out W.has_failed outbox.old outbox.new sink.old sink.new (λ k. name_text (field_named name.now) k) }
+pub(crate) fn say_field_start<W: Sink>(
+    outbox: &mut Outbox,
+    sink: &mut W,
+    level: u64,
+    name: &Name,
+)
+    ensures { SaysTo W.gone_out W.has_failed outbox.old outbox.new sink.old sink.new (λ k. begin_line (suc level) (name_text (field_named name.now) k)) }
 {
-    say(outbox, sink, b"\"");
+    say_deeper_quote(outbox, sink, level);
     say(outbox, sink, name.quoted());
     say(outbox, sink, b"\" = ");
 }
@@ -48,8 +53,7 @@ pub(crate) fn say_raw_field<W: Sink>(
 )
     ensures { SaysTo W.gone_out W.has_failed outbox.old outbox.new sink.old sink.new (λ k. raw_line (suc level) (field_named name.now) bytes.now k) }
 {
-    say_deeper_line_start(outbox, sink, level);
-    say_field_name(outbox, sink, name);
+    say_field_start(outbox, sink, level, name);
     say_raw(outbox, sink, bytes);
 }
 

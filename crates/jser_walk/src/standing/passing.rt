@@ -43,6 +43,7 @@ fn sections(table: &Table, level: u64, number: usize) -> Frame
 
 /// A step in the sections of an object, which are on top.
 #[tactic(auto, using(crate::proofs::PassLemmas::section_passed, crate::proofs::PassLemmas::notes_passed, crate::proofs::PassLemmas::raw_passed, crate::proofs::PassLemmas::value_passed, crate::proofs::PassLemmas::sections_passed))]
+#[inline(always)]
 fn pass_sections(
     table: &Table,
     frames: &mut Stack,
@@ -91,6 +92,7 @@ impl<'a> Standing<'a> {
     ///
     /// Where memory runs out.
     #[tactic(auto, using(crate::proofs::PassLemmas::pass_first, crate::proofs::PassLemmas::close_fits, crate::proofs::PassLemmas::close_passed, crate::proofs::FrameLemmas::top_fits, crate::proofs::FrameLemmas::tail_fits))]
+    #[inline(always)]
     pub(crate) fn pass(&mut self) -> Result<Phase, AllocError>
         ensures { IfOk result (λ phase. StandsIn phase self.new (pass self.old)) }
     {

@@ -3,6 +3,7 @@ ghost use Rattle.std.specs.Prelude.{◌≡◌, ◌∷◌, ◌+◌, ◌<◌, [], 
 ghost use Rattle.jser_shown.specs.Cues.{teller, top_cue, note_cue, elements_cue};
 ghost use Rattle.jser_shown.specs.Telling.{goes_in};
 ghost use Rattle.jser_walk.specs.Frames.{FramesFit, FirstIs, TakesPart, tail_of};
+ghost use Rattle.jser_walk.specs.Sections.{PassesPart};
 ghost use Rattle.jser_walk.specs.Seen.{told_seen, told_tag};
 ghost use Rattle.jser_walk.specs.Phases.{StandsIn};
 
@@ -59,6 +60,32 @@ fn take_part(
         Part::Notes => None,
         Part::End => None,
     }
+}
+
+/// The first part of the sections on top is past.
+#[tactic(auto, using(crate::proofs::TakeLemmas::part_passed))]
+#[inline(always)]
+pub(crate) fn pass_part(
+    table: &Table,
+    frames: &mut Stack,
+    level: u64,
+    chain: u32,
+    index: usize,
+    stage: Stage,
+)
+    requires chain_in { chain < length table.now.chains }
+    requires fit { FramesFit (length table.now.layers) (length table.now.chains) frames.old }
+    requires top { frames.old ≡ Frame.Sections level chain index stage ∷ tail_of frames.old }
+    ensures fit { FramesFit (length table.now.layers) (length table.now.chains) frames.new }
+    ensures passes { PassesPart table.now.layers table.now.chains frames.old frames.new }
+{
+    let next = next_part(table, chain, index, stage);
+    frames.set_top(Frame::Sections {
+        level,
+        chain,
+        index: next.index,
+        stage: next.stage,
+    });
 }
 
 impl<'a> Standing<'a> {

@@ -15,6 +15,7 @@ use crate::standing::Standing;
 
 /// What is due at a part of sections of this level.
 #[tactic(auto, using(crate::proofs::WaitLemmas::due_section, crate::proofs::WaitLemmas::due_raw, crate::proofs::WaitLemmas::due_value, crate::proofs::WaitLemmas::due_notes, crate::proofs::WaitLemmas::due_over))]
+#[inline(always)]
 fn part_due(level: u64, part: Part<'_>) -> Option<Due<'_>>
     ensures { (parts others : List SectionPart) → BeginsWith parts part.entry others → view_due result ≡ due_part level parts }
 {
@@ -44,6 +45,7 @@ fn prompt_for_part(level: u64, part: Part<'_>) -> Prompt<'_>
 impl<'a> Standing<'a> {
     /// What is due where no field belongs to what comes next.
     #[tactic(auto, using(crate::proofs::WaitLemmas::due_first, crate::proofs::FrameLemmas::top_fits))]
+    #[inline(always)]
     pub(crate) fn due(&self) -> Option<Due<'_>>
         ensures { view_due result ≡ due self.now }
     {

@@ -13,6 +13,7 @@ impl<'a> Walk<'a> {
     /// # Errors
     ///
     /// Where memory runs out. The walk is of no use then.
+    #[inline(always)]
     pub fn pass(&mut self) -> Result<(), AllocError>
         ensures { OnOk result (self.new ≡ pass self.old) }
     {

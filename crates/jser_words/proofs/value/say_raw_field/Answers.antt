@@ -1,5 +1,5 @@
-use Rattle.jser_words.proofs.SaysLemmas.{says_three}
+use Rattle.jser_words.proofs.SaysLemmas.{says_both}
 use Rattle.jser_words.proofs.value.say_raw_field.Goals as goal
 
 pub returns : goal.returns
-returns g c = says_three _ _ _ _ _ _ _ _ _ _ _ c.say_deeper_line_start.ensures c.say_field_name.ensures c.say_raw.ensures
+returns g c = says_both _ _ _ _ _ _ _ _ c.say_field_start.ensures c.say_raw.ensures

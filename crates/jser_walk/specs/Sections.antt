@@ -1,0 +1,37 @@
+-- The fields of an object whose values are waited for, in the section of a class.
+use Rattle.std.specs.Prelude.{ℕ, ◌≡◌, suc, List, Option, Some, None}
+use Rattle.jser_reading.specs.Labels.{Tag as ToldTag}
+use Rattle.jser_shown.specs.Known.{Known, NamedLayer}
+use Rattle.jser_shown.specs.Owners.{OwnerNode}
+use Rattle.jser_shown.specs.Shown.{ValueName, field_named}
+use Rattle.jser_shown.specs.Cues.{Teller, teller}
+use Rattle.jser_shown.specs.Telling.{seen_bytes, seen_tag, begin, goes_in}
+use Rattle.jser_walk.specs.declared.frame.Frame.{Frame}
+use Rattle.jser_walk.specs.declared.section.SectionField.{SectionField}
+use Rattle.jser_walk.specs.Frames.{cues_of}
+use Rattle.jser_walk.specs.Prompts.{raw_prompt, value_prompt, class_prompt, prompt_in, prompt_of}
+
+-- the raw value of this field is waited for
+abbrev pub WaitsForRaw : Teller → Option SectionField → Type 0
+WaitsForRaw s None = Unit {0}
+WaitsForRaw s (Some field) = prompt_of s ≡ raw_prompt field.level (field_named field.name.now)
+
+-- the value of this field is waited for, which a tag begins
+abbrev pub WaitsForValue : Teller → Option SectionField → Type 0
+WaitsForValue s None = Unit {0}
+WaitsForValue s (Some field) = prompt_of s ≡ value_prompt field.level (field_named field.name.now)
+
+-- a class place is waited for, whose line has this level
+abbrev pub IsClassPlace : Teller → Option ℕ → Type 0
+IsClassPlace s None = Unit {0}
+IsClassPlace s (Some level) = prompt_of s ≡ class_prompt level
+
+-- From one stack to another the first part of the sections on top is passed: a raw value, whatever its bytes are, or a
+-- value with the tag that begins it.
+pub record PassesPart (layers : List NamedLayer) (chains : List (List NamedLayer)) (old new : List Frame) : Type 0 where
+  pub raw : (L : ℕ) (name : ValueName) → prompt_in (cues_of layers chains old) ≡ raw_prompt L name
+      → (bytes : List ℕ) (e : ℕ) (known : Known) (os : List OwnerNode)
+      → teller e known os (cues_of layers chains new) ≡ goes_in e known os (cues_of layers chains old) (seen_bytes bytes)
+  pub value : (L : ℕ) (name : ValueName) → prompt_in (cues_of layers chains old) ≡ value_prompt L name
+      → (tag : ToldTag) (e : ℕ) (known : Known) (os : List OwnerNode)
+      → begin e (suc L) known os tag (cues_of layers chains new) ≡ goes_in e known os (cues_of layers chains old) (seen_tag tag)
