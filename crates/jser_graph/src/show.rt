@@ -18,7 +18,10 @@ use jser_prim::{Outbox, Sink};
 use jser_reader::{Item, OpenGate, Reader, Step, Whole};
 use jser_shown::laws::{one_more, tells_fronts, told};
 use jser_walk::{Field, Walk};
-use jser_words::{say_all_due, say_next, say_plain_handle, say_plain_string};
+use jser_words::{
+    say_all_due, say_class_reference, say_next, say_plain_handle, say_plain_string, say_section_raw,
+    say_section_reference,
+};
 use std::alloc::{AllocError, Global};
 
 impl Graph {
@@ -145,10 +148,36 @@ fn say_item<W: Sink>(
     ensures length { OnErr result (IsLength item.entry → ⊥) }
 {
     match part_of(item) {
-        Part::Field(field) => say_next(outbox, sink, walk, field),
+        Part::Field(field) => say_field(outbox, sink, walk, field),
         Part::Text(bytes) => say_text(outbox, sink, walk, units, bytes),
         Part::Length => Ok(()),
     }
+}
+
+/// Says a field with all that is due before it. Most raw values are those of fields of objects.
+///
+/// # Errors
+///
+/// Where memory runs out. What was said before is a beginning of that.
+#[inline(always)]
+fn say_field<W: Sink>(
+    outbox: &mut Outbox,
+    sink: &mut W,
+    walk: &mut Walk<'_>,
+    field: Field<'_>,
+) -> Result<(), AllocError>
+    ensures said { OnOk result ((told : StreamField) → IsOf field.entry told
+        → SaysTo W.gone_out W.has_failed outbox.old outbox.new sink.old sink.new (λ k. says_next walk.old told k)) }
+    ensures goes { OnOk result ((told : StreamField) → IsOf field.entry told → walk.new ≡ goes (settled walk.old) told) }
+    ensures front { OnErr result ((told : StreamField) → IsOf field.entry told
+        → BeginsTo W.gone_out W.has_failed outbox.old outbox.new sink.old sink.new (λ k. says_next walk.old told k)) }
+{
+    if let Field::Raw(bytes) = field {
+        if say_section_raw(outbox, sink, walk, bytes) {
+            return Ok(());
+        }
+    }
+    say_next(outbox, sink, walk, field)
 }
 
 /// Says the fields of a value that is lent at once, each with all that is due before it.
@@ -184,8 +213,34 @@ fn say_reference<W: Sink>(
     ensures said { OnOk result (SaysItemsTo W.gone_out W.has_failed (items_of (Whole.Reference handle)) outbox.old outbox.new sink.old sink.new walk.old walk.new) }
     ensures front { OnErr result (BeginsItemsTo W.gone_out W.has_failed (items_of (Whole.Reference handle)) outbox.old outbox.new sink.old sink.new walk.old) }
 {
-    say_next(outbox, sink, walk, Field::Tag(TC_REFERENCE))?;
+    say_reference_tag(outbox, sink, walk)?;
     say_handle(outbox, sink, walk, handle)
+}
+
+/// Says the tag of a reference, with all that is due before it. Most references are classes and the values of fields.
+///
+/// # Errors
+///
+/// Where memory runs out. What was said before is a beginning of that.
+#[inline(always)]
+fn say_reference_tag<W: Sink>(
+    outbox: &mut Outbox,
+    sink: &mut W,
+    walk: &mut Walk<'_>,
+) -> Result<(), AllocError>
+    ensures said { OnOk result ((told : StreamField) → IsOf (Field.Tag TC_REFERENCE) told
+        → SaysTo W.gone_out W.has_failed outbox.old outbox.new sink.old sink.new (λ k. says_next walk.old told k)) }
+    ensures goes { OnOk result ((told : StreamField) → IsOf (Field.Tag TC_REFERENCE) told → walk.new ≡ goes (settled walk.old) told) }
+    ensures front { OnErr result ((told : StreamField) → IsOf (Field.Tag TC_REFERENCE) told
+        → BeginsTo W.gone_out W.has_failed outbox.old outbox.new sink.old sink.new (λ k. says_next walk.old told k)) }
+{
+    if say_section_reference(outbox, sink, walk) {
+        return Ok(());
+    }
+    if say_class_reference(outbox, sink, walk) {
+        return Ok(());
+    }
+    say_next(outbox, sink, walk, Field::Tag(TC_REFERENCE))
 }
 
 /// Says the handle of a reference, with all that is due before it. Of most handles nothing is made.
