@@ -19,6 +19,7 @@ mod descriptors;
 mod ends;
 mod fields;
 pub(crate) mod items;
+mod members;
 mod names;
 mod numbers;
 mod owners;
