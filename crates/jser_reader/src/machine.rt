@@ -25,6 +25,7 @@ mod numbers;
 mod owners;
 mod parts;
 mod pass;
+mod pass_classes;
 mod pass_descriptors;
 mod pass_owners;
 mod pass_values;

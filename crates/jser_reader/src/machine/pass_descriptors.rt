@@ -219,7 +219,7 @@ impl Machine {
     }
 
     /// Takes fields with which no count changes, as many as come one after another.
-    #[inline(never)]
+    #[inline(always)]
     pub(super) fn pass_quiets<G: Gate>(&mut self, gate: &G, piece: &[u8]) -> Option<usize>
         requires can { CanPass self.old piece.now }
         requires some { 0 < length piece.now }
