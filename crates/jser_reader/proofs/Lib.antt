@@ -52,6 +52,7 @@ pub mod ItemLaws
 pub mod SkipMemory
 pub mod PassLemmas
 pub mod WholeLemmas
+pub mod MemberLemmas
 pub mod LentLemmas
 pub mod RawsToldLemmas
 pub mod RawLemmas

@@ -23,6 +23,7 @@ pub mod FieldLists
 pub mod ReaderStates
 pub mod Passes
 pub mod Wholes
+pub mod Members
 pub mod Bounds
 pub mod States
 pub mod Streams

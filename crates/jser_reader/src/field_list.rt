@@ -64,6 +64,7 @@ impl FieldList {
     /// A field with this type code begins, where one was still to come.
     pub(crate) fn push(&mut self, code: u8, is_object: bool) -> Result<(), AllocError>
         ensures ok { 0 < self.old.left → OnOk result (self.new ≡ record { codes = self.old.codes ++ (code ∷ []); left = self.old.left - 1; has_object = self.old.has_object || is_object }) }
+        ensures err { OnErr result (self.new ≡ self.old) }
     {
         if self.left == 0 {
             return Ok(());

@@ -1,6 +1,6 @@
 //! The fields of a plain descriptor (Java Object Serialization Specification, section 6.4.1, fields), and the
 //! interfaces of a proxy descriptor (proxyClassDescInfo).
-ghost use Rattle.std.specs.Prelude.{◌≡◌, ◌<◌, ◌^◌, reverse, None, option_map};
+ghost use Rattle.std.specs.Prelude.{◌≡◌, true, ◌<◌, ◌^◌, reverse, None, option_map};
 ghost use Rattle.jser_table.specs.Codes.{is_object_code};
 ghost use Rattle.jser_table.specs.Names.{layer_kind};
 ghost use Rattle.jser_reading.specs.Goals.{read_layer};
@@ -9,7 +9,7 @@ ghost use Rattle.jser_reader.specs.Fitting.{HasDescriptor};
 ghost use Rattle.jser_reader.specs.Frames.{head_layer};
 ghost use Rattle.jser_reader.specs.Reasons.{named};
 ghost use Rattle.jser_reader.specs.Readers.{name_kind_of};
-ghost use Rattle.jser_reader.specs.Handlers.{Tells};
+ghost use Rattle.jser_reader.specs.Handlers.{Tells, moved};
 ghost use Rattle.jser_reader.specs.Descriptors.{SetsLayer, GoesOnFields, GoesOnInterfaces, after_field_count, after_code, after_interfaces};
 
 use crate::machine::Machine;
@@ -18,7 +18,7 @@ use crate::refusal::Reason;
 use jser_table::{Codes, Layer, LayerKind, size_of_code};
 
 /// Whether the type code is `L` or `[`: the field holds an object or an array.
-fn is_object_code(code: u8) -> bool
+pub(super) fn is_object_code(code: u8) -> bool
     ensures { result ≡ is_object_code code }
 {
     code == b'[' || code == b'L'
@@ -47,7 +47,9 @@ impl Machine {
     /// What comes after a field: the next one, or after the last one the annotation of the descriptor.
     #[tactic(auto, using(crate::proofs::FieldLemmas::next_field))]
     pub(super) fn fields_done(&mut self) -> bool
-        ensures { GoesOnFields result self.old self.new }
+        ensures goes { GoesOnFields result self.old self.new }
+        ensures result { result ≡ true }
+        ensures meter { self.new.meter ≡ moved self.old.meter }
     {
         if self.fields.left() > 0 {
             return self.done(Phase::TypeCode);
@@ -69,7 +71,8 @@ impl Machine {
     }
 
     /// What is wrong with the type code of a field.
-    fn code_fault(&self, code: u8) -> Option<Reason>
+    #[inline(always)]
+    pub(super) fn code_fault(&self, code: u8) -> Option<Reason>
         ensures { result ≡ option_map named (code_reason self.now.header.seen code) }
     {
         if is_object_code(code) {

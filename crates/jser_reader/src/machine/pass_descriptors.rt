@@ -185,6 +185,23 @@ impl Machine {
         self.go_on(gate, piece, tag, Phase::TextHandle)
     }
 
+    /// Takes fields of a descriptor, as many as are whole in the piece; where the next one is not, its type code alone, and
+    /// what mostly comes after it.
+    #[inline(always)]
+    fn pass_fields<G: Gate>(&mut self, gate: &G, piece: &[u8]) -> Option<usize>
+        requires can { CanPass self.old piece.now }
+        requires some { 0 < length piece.now }
+        requires phase { self.old.phase ≡ Phase.TypeCode }
+        ensures passes { (tally : Tally) → Passes (G.told gate.now) piece.now result self.old tally self.new tally }
+        ensures progress { HasPassed piece.now result }
+    {
+        let used = self.pass_members(piece);
+        if used > 0 {
+            return Some(used);
+        }
+        self.pass_member(gate, piece)
+    }
+
     /// Takes a field that is open, or comes next, with those that mostly come after it.
     #[inline(always)]
     fn pass_group<G: Gate>(&mut self, gate: &G, piece: &[u8]) -> Option<usize>
@@ -195,14 +212,14 @@ impl Machine {
         ensures progress { HasPassed piece.now result }
     {
         match self.phase {
-            Phase::TypeCode => self.pass_member(gate, piece),
+            Phase::TypeCode => self.pass_fields(gate, piece),
             Phase::Length2 => self.pass_text(gate, piece),
             _ => self.pass_quiet(gate, piece),
         }
     }
 
     /// Takes fields with which no count changes, as many as come one after another.
-    #[inline(never)]
+    #[inline(always)]
     pub(super) fn pass_quiets<G: Gate>(&mut self, gate: &G, piece: &[u8]) -> Option<usize>
         requires can { CanPass self.old piece.now }
         requires some { 0 < length piece.now }

@@ -82,7 +82,7 @@ fn first_set(mask: u64) -> usize
 /// over the end of the bytes, it says no.
 #[tactic(auto, using(crate::proofs::RunItems::plain_joined))]
 #[inline(always)]
-fn is_plain_between(bytes: &[u8], from: usize, to: usize) -> bool
+pub(super) fn is_plain_between(bytes: &[u8], from: usize, to: usize) -> bool
     requires order { from ≤ to }
     requires within { from ≤ length bytes.now }
     ensures ascii { IsTrue result → IsAsciiBetween bytes.now from to }

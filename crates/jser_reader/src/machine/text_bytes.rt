@@ -10,6 +10,13 @@ use crate::machine::Machine;
 use crate::machine::taken::Taken;
 use crate::phase::{Phase, TextFor};
 use crate::refusal::Reason;
+use std::simd::prelude::*;
+
+/// How many units of a name are kept together.
+const LANES: usize = 16;
+
+/// How many are kept together where there are fewer.
+const HALF: usize = 8;
 
 /// Whether a text is a name that is judged when it ends.
 fn is_checked(text: TextFor) -> bool
@@ -19,13 +26,58 @@ fn is_checked(text: TextFor) -> bool
 }
 
 /// Adds units of one byte each, where there is room for them.
-fn add_units(name: &mut Vec<u16>, bytes: &[u8])
+fn add_few(name: &mut Vec<u16>, bytes: &[u8])
     requires { vec_len name.old + length bytes.now ≤ vec_capacity name.old }
     ensures { name.new.items ≡ name.old.items ++ bytes.now }
 {
     'bytes: for byte in bytes {
         name.push_reserved(u16::from(*byte));
     }
+}
+
+/// The same of as many as there are lanes.
+#[inline(always)]
+fn add_lanes<const N: usize>(name: &mut Vec<u16>, bytes: &[u8])
+    requires few { N ≤ 64 }
+    requires all { length bytes.now ≡ N }
+    requires room { vec_len name.old + N ≤ vec_capacity name.old }
+    ensures added { name.new.items ≡ name.old.items ++ bytes.now }
+    ensures capacity { vec_capacity name.old ≤ vec_capacity name.new }
+{
+    let units = Simd::<u8, N>::from_slice(bytes).cast::<u16>();
+    match name.extend_from_slice(&units.to_array()) {
+        Ok(()) => (),
+        Err(_) => unreachable!(),
+    }
+}
+
+/// The same of fewer than twice as many.
+#[inline(always)]
+fn add_half(name: &mut Vec<u16>, bytes: &[u8])
+    requires { vec_len name.old + length bytes.now ≤ vec_capacity name.old }
+    ensures { name.new.items ≡ name.old.items ++ bytes.now }
+{
+    if bytes.len() < HALF {
+        add_few(name, bytes);
+        return;
+    }
+    let (front, rest) = bytes.split_at(HALF);
+    add_lanes::<HALF>(name, front);
+    add_few(name, rest);
+}
+
+/// Adds units of one byte each, many together, where there is room for them.
+fn add_units(name: &mut Vec<u16>, bytes: &[u8])
+    requires { vec_len name.old + length bytes.now ≤ vec_capacity name.old }
+    ensures { name.new.items ≡ name.old.items ++ bytes.now }
+{
+    let mut rest = bytes;
+    'loads: while rest.len() >= LANES {
+        let (front, others) = rest.split_at(LANES);
+        add_lanes::<LANES>(name, front);
+        rest = others;
+    }
+    add_half(name, rest);
 }
 
 impl Machine {

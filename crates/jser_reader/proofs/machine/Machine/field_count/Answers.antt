@@ -4,5 +4,5 @@ use Rattle.jser_reader.proofs.machine.Machine.field_count.Goals as goal
 
 pub returns : goal.returns
 returns c =
-    fields_begin c.args.n _ c.args.self.now _ _ c.fields_done.ensures
+    fields_begin c.args.n _ c.args.self.now _ _ c.fields_done.ensures.goes
     (search rules) (search rules) (search rules) (search rules) (search rules) (search rules) (search rules) (search rules) (search rules) (search rules)

@@ -1,8 +1,11 @@
-use Rattle.std.proofs.Common.{◌≡◌, ◌+◌, ◌-◌, ◌≤◌, ◌++◌, length, take, vec_len, vec_capacity}
+use Rattle.std.proofs.Common.{◌≡◌, ◌+◌, ◌≤◌, ◌++◌, length, vec_len, vec_capacity}
 use Rattle.jser_reader.proofs.machine.text_bytes.add_units.Given as goal
 
-abbrev pub invariant-bytes : goal.invariant-bytes
-invariant-bytes l = record {
-  added : l.name.items ≡ l.fn.name.items ++ take l.byte-index l.bytes;
-  room : vec_len l.name + (length l.bytes - l.byte-index) ≤ vec_capacity l.name;
+abbrev pub invariant-loads : goal.invariant-loads
+invariant-loads l = record {
+  added : l.fn.name.items ++ l.fn.bytes ≡ l.name.items ++ l.rest;
+  room : vec_len l.name + length l.rest ≤ vec_capacity l.name;
 }
+
+abbrev pub decreases-loads : goal.decreases-loads
+decreases-loads l = length l.rest

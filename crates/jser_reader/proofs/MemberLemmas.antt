@@ -1,0 +1,224 @@
+-- A field of a descriptor that is taken in one step: the machines between its type code, its name and its type are named
+-- here alone, and no code makes them.
+use Rattle.std.proofs.Common.{◌≡◌, ℕ, ◌+◌, ◌-◌, ◌^◌, ◌<◌, ◌≤◌, Bool, true, false, List, ◌++◌, length, get_or, take, drop, Option, Some, None, refl, sym, ◌∙◌, ap, subst, arith}
+use Rattle.std.proofs.lemmas.List.{length-drop, length-take-le}
+use Rattle.jser_reading.specs.Goals.{State, settle}
+use Rattle.jser_verdict.specs.Gates.{Gate}
+use Rattle.jser_reader.specs.declared.machine.taken.Taken.TheVariants as taken
+use Rattle.jser_reader.specs.declared.phase.Phase.TheVariants as phase
+use Rattle.jser_reader.specs.declared.phase.TextFor.TheVariants as text
+use Rattle.jser_reader.specs.declared.tag.ValueTag.TheVariants as value
+use Rattle.jser_reader.specs.declared.tally.Tally.{Tally}
+use Rattle.jser_reader.specs.Fitting.{HasDescriptor}
+use Rattle.jser_reader.specs.Readers.{Seen, Header, Ready, moment_of, fields_goals, text_rest}
+use Rattle.jser_reader.specs.Handlers.{Comes, TellsSurely, IsNext, moved}
+use Rattle.jser_reader.specs.Descriptors.{GoesOnFields}
+use Rattle.jser_reader.specs.Takes.{counted_on, farther, TakesByte}
+use Rattle.jser_reader.specs.Passes.{Passes, CanPass}
+use Rattle.jser_reader.specs.Wholes.{HasText}
+use Rattle.jser_reader.specs.Members.{HasType, with_header, BeginsMember}
+use Rattle.jser_reader.proofs.FieldLemmas.{begins_field, right_code}
+use Rattle.jser_reader.proofs.TakeLemmas.{counts_bytes, takes_type_code, takes_text_tag, one_taken}
+use Rattle.jser_reader.proofs.TextLemmas.{text_value_tag, text_reference, right_text, type_named, field_named, object_field_named}
+use Rattle.jser_reader.proofs.TextSteps.{short_text_taken}
+use Rattle.jser_reader.proofs.TextTakeLemmas.{takes_text_handle}
+use Rattle.jser_reader.proofs.CutLemmas.{four_taken}
+use Rattle.jser_reader.proofs.PassLemmas.{then_passes, quiet_end, quiet_takes}
+use Rattle.jser_reader.proofs.WholeLemmas.{rest_can, can_go_on, same_meter}
+
+-- ---- the type code
+
+-- after it
+abbrev begun_member : Seen → Header → Bool → Seen
+begun_member r header is_object = record {
+  meter = moved (counted_on r.meter 1);
+  phase = phase.Length2;
+  frames = r.frames;
+  layers = r.layers;
+  table = r.table;
+  refs = r.refs;
+  owner = r.owner;
+  elements = r.elements;
+  header = header;
+  text = text.FieldName is_object;
+  left = r.left;
+  scan = r.scan;
+  name = r.name;
+}
+
+code_taken : (code : ℕ) (is_object : Bool) (r mid : Seen) → r.phase ≡ phase.TypeCode → BeginsMember code is_object r mid
+    → TakesByte code true r (begun_member r mid.header is_object)
+code_taken code is_object r mid ep b =
+    takes_type_code code true r (farther r 1) (begun_member r mid.header is_object)
+    (right_code code true (farther r 1) (begun_member r mid.header is_object)
+    (begins_field code is_object true (farther r 1) (with_header (farther r 1) mid.header) (begun_member r mid.header is_object)
+    (record { phase_is = refl; frames = refl; layers = refl; table = refl; refs = refl; owner_is = refl; chain_is = refl; header_is = refl; text_is = refl; left = refl; meter = refl })
+    refl b.object refl refl refl refl refl b.kind (λ some. (b.codes some, b.fields some, b.seen some)))
+    b.sound)
+    refl ep
+
+code_passes : (gate : Gate) (code : ℕ) (is_object : Bool) (piece : List ℕ) (r mid : Seen) (tally : Tally) → CanPass r piece → r.phase ≡ phase.TypeCode → 0 < length piece
+    → code ≡ get_or piece 0 0 → BeginsMember code is_object r mid → Passes gate piece (Some 1) r tally (begun_member r mid.header is_object) tally
+code_passes gate code is_object piece r mid tally can ep some ec b =
+    quiet_end gate 1 (taken.Ended 1) piece r (begun_member r mid.header is_object) tally
+    (one_taken code true (taken.Ended 1) piece r (begun_member r mid.header is_object) (code_taken code is_object r mid ep b) refl ec some (rw ep tt) gate)
+    refl (rw ep tt) can
+
+-- ---- what comes after a field
+
+-- the same of a machine that was as far, and has the same
+goes_as : (a k new : Seen) → GoesOnFields true a new → moved k.meter ≡ moved a.meter → k.frames ≡ a.frames → k.layers ≡ a.layers → k.table ≡ a.table → k.refs ≡ a.refs
+    → k.header ≡ a.header → GoesOnFields true k new
+unfolding GoesOnFields TellsSurely
+goes_as a k new h em ef ey et er eh = λ d.
+    let c : Comes a new (settle (moment_of a) (fields_goals a a.header.fields)) = h (subst HasDescriptor ef d) in
+    let same : settle (moment_of k) (fields_goals k k.header.fields) ≡ settle (moment_of a) (fields_goals a a.header.fields) =
+    rw ef (rw ey (rw et (rw er (rw eh refl)))) in
+    record {
+      ready = subst (Ready new) (sym same) c.ready;
+      meter = c.meter ∙ sym em;
+      max = c.max ∙ sym (ap (λ t. t.max) et);
+    }
+
+-- ---- a field of a primitive type
+
+pub raw_member_passes : (gate : Gate) (code len : ℕ) (found : Bool) (piece : List ℕ) (old mid far new : Seen) (tally : Tally) → CanPass old piece
+    → old.phase ≡ phase.TypeCode → code ≡ get_or piece 0 0 → HasText piece len → BeginsMember code false old mid → GoesOnFields found far new → found ≡ true
+    → far ≡ farther mid (len + 3) → Passes gate piece (Some (len + 3)) old tally new tally
+raw_member_passes gate code len found piece old mid far new tally can ep ec t b goes_on true_is ef =
+    let goes : GoesOnFields true far new = subst (λ x. GoesOnFields x far new) true_is goes_on in
+    let m : Seen = begun_member old mid.header false in
+    let k : Seen = farther m (2 + len) in
+    let rest : List ℕ = drop 1 piece in
+    let n = length-drop 1 piece in
+    let enough = t.within in
+    let size : length (take (2 + len) rest) ≡ 2 + len = length-take-le (2 + len) rest (omega arith) in
+    let far_is : far ≡ farther (with_header old mid.header) (len + 3) = ef ∙ ap (λ r. farther r (len + 3)) b.rest in
+    let e : 2 + len + 1 ≡ len + 3 = omega arith in
+    let ends : GoesOnFields true k new =
+    goes_as (farther (with_header old mid.header) (len + 3)) k new (subst (λ r. GoesOnFields true r new) far_is goes)
+    (same_meter old (2 + len) ∙ ap (λ j. moved (counted_on old.meter j)) e) refl refl refl refl refl in
+    let body : Passes gate rest (Some (2 + len)) m tally new tally =
+    quiet_takes gate (2 + len) rest m new tally (omega arith)
+    (short_text_taken gate m k new (take (2 + len) rest) t.units
+    (λ inside. field_named gate true k new ends refl t.units (record { inside = inside; kept = λ checked. absurd (cc) }))
+    refl (omega arith) (counts_bytes (take (2 + len) rest) (2 + len) m k refl size) t.are_text t.spelled)
+    tt (rest_can piece old m can (omega arith) refl refl) in
+    subst (λ u. Passes gate piece (Some u) old tally new tally) (let s : 1 + (2 + len) ≡ len + 3 = omega arith in s)
+    (then_passes gate piece rest 1 (2 + len) old m new tally tally tally (code_passes gate code false piece old mid tally can ep (omega arith) ec b) body refl)
+
+-- ---- a field of an object or an array
+
+-- after its name
+abbrev named_member : Seen → Header → ℕ → Seen
+named_member r header len = record {
+  meter = moved (counted_on (moved (counted_on r.meter 1)) (2 + len));
+  phase = phase.TextTag;
+  frames = r.frames;
+  layers = r.layers;
+  table = r.table;
+  refs = r.refs;
+  owner = r.owner;
+  elements = r.elements;
+  header = header;
+  text = text.FieldType;
+  left = r.left;
+  scan = r.scan;
+  name = r.name;
+}
+
+named_passes : (gate : Gate) (code len : ℕ) (piece : List ℕ) (old mid : Seen) (tally : Tally) → CanPass old piece → old.phase ≡ phase.TypeCode
+    → code ≡ get_or piece 0 0 → HasText piece len → BeginsMember code true old mid → Passes gate piece (Some (len + 3)) old tally (named_member old mid.header len) tally
+named_passes gate code len piece old mid tally can ep ec t b =
+    let m : Seen = begun_member old mid.header true in
+    let k : Seen = farther m (2 + len) in
+    let new : Seen = named_member old mid.header len in
+    let rest : List ℕ = drop 1 piece in
+    let n = length-drop 1 piece in
+    let enough = t.within in
+    let size : length (take (2 + len) rest) ≡ 2 + len = length-take-le (2 + len) rest (omega arith) in
+    let body : Passes gate rest (Some (2 + len)) m tally new tally =
+    quiet_takes gate (2 + len) rest m new tally (omega arith)
+    (short_text_taken gate m k new (take (2 + len) rest) t.units
+    (λ inside. object_field_named gate true k new
+    (record { phase_is = refl; frames = refl; layers = refl; table = refl; refs = refl; owner_is = refl; chain_is = refl; header_is = refl; text_is = refl; left = refl; meter = refl })
+    refl refl t.units (record { inside = inside; kept = λ checked. absurd (cc) }))
+    refl (omega arith) (counts_bytes (take (2 + len) rest) (2 + len) m k refl size) t.are_text t.spelled)
+    tt (rest_can piece old m can (omega arith) refl refl) in
+    subst (λ u. Passes gate piece (Some u) old tally new tally) (let s : 1 + (2 + len) ≡ len + 3 = omega arith in s)
+    (then_passes gate piece rest 1 (2 + len) old m new tally tally tally (code_passes gate code true piece old mid tally can ep (omega arith) ec b) body refl)
+
+-- after the tag of its type
+abbrev at_type : Seen → Seen
+at_type r = record {
+  meter = moved (counted_on r.meter 1);
+  phase = phase.TextHandle;
+  frames = r.frames;
+  layers = r.layers;
+  table = r.table;
+  refs = r.refs;
+  owner = r.owner;
+  elements = r.elements;
+  header = r.header;
+  text = r.text;
+  left = r.left;
+  scan = r.scan;
+  name = r.name;
+}
+
+type_tag_taken : (r : Seen) → r.phase ≡ phase.TextTag → TakesByte 0x71 true r (at_type r)
+type_tag_taken r ep =
+    takes_text_tag 0x71 true r (farther r 1) (at_type r)
+    (text_value_tag value.Reference 0x71 true (farther r 1) (at_type r) refl
+    (text_reference true (farther r 1) (at_type r)
+    (record { phase_is = refl; frames = refl; layers = refl; table = refl; refs = refl; owner_is = refl; chain_is = refl; header_is = refl; text_is = refl; left = refl; meter = refl })
+    refl))
+    refl ep
+
+type_passes : (gate : Gate) (n : ℕ) (piece : List ℕ) (r new : Seen) (tally : Tally) → CanPass r piece → r.phase ≡ phase.TextTag → r.text ≡ text.FieldType
+    → HasType piece n r → GoesOnFields true (farther (at_type r) 4) new → Passes gate piece (Some 5) r tally new tally
+type_passes gate n piece r new tally can ep et t goes =
+    let m : Seen = at_type r in
+    let far : Seen = farther m 4 in
+    let rest : List ℕ = drop 1 piece in
+    let len = length-drop 1 piece in
+    let enough = t.is.within in
+    let tag : Passes gate piece (Some 1) r tally m tally =
+    quiet_end gate 1 (taken.Ended 1) piece r m tally
+    (one_taken 0x71 true (taken.Ended 1) piece r m (type_tag_taken r ep) refl t.tag (omega arith) (rw ep tt) gate)
+    refl (rw ep tt) can in
+    let handle : Passes gate rest (Some 4) m tally new tally =
+    quiet_end gate 4 (taken.Ended 4) rest m new tally
+    (four_taken n true (taken.Ended 4) rest (take 4 rest) m new
+    (takes_text_handle n 4 true m far new
+    (right_text n (settle (moment_of far) (text_rest far far.text)) true far new (type_named true far new goes et) t.is_string t.low)
+    refl refl (omega arith) t.few)
+    refl tt t.is.spelled refl (omega arith) gate)
+    refl tt (rest_can piece r m can (omega arith) refl refl) in
+    then_passes gate piece rest 1 4 r m new tally tally tally tag handle refl
+
+pub typed_member_passes : (gate : Gate) (code len n : ℕ) (found : Bool) (piece rest : List ℕ) (old mid far new : Seen) (tally : Tally) → CanPass old piece
+    → old.phase ≡ phase.TypeCode → code ≡ get_or piece 0 0 → HasText piece len → rest ≡ drop (len + 3) piece → HasType rest n old
+    → BeginsMember code true old mid → GoesOnFields found far new → found ≡ true → far ≡ farther mid (len + 8) → Passes gate piece (Some (len + 8)) old tally new tally
+typed_member_passes gate code len n found piece rest old mid far new tally can ep ec t er y b goes_on true_is ef =
+    let goes : GoesOnFields true far new = subst (λ x. GoesOnFields x far new) true_is goes_on in
+    let m : Seen = named_member old mid.header len in
+    let k : Seen = farther (at_type m) 4 in
+    let enough = t.within in
+    let far_is : far ≡ farther (with_header old mid.header) (len + 8) = ef ∙ ap (λ r. farther r (len + 8)) b.rest in
+    let e : old.meter.at + 1 + (2 + len) + 1 + 4 ≡ old.meter.at + (len + 8) = omega arith in
+    let meter : moved k.meter ≡ moved (farther (with_header old mid.header) (len + 8)).meter =
+    ap (λ j. record { at = j; from = j; limits = old.meter.limits; stop = old.meter.stop; cut_phase = old.meter.cut_phase; kept = old.meter.kept }) e in
+    let ends : GoesOnFields true k new =
+    goes_as (farther (with_header old mid.header) (len + 8)) k new (subst (λ r. GoesOnFields true r new) far_is goes) meter refl refl refl refl refl in
+    let there : m.meter ≡ moved (counted_on old.meter (len + 3)) = same_meter old (2 + len) ∙ ap (λ j. moved (counted_on old.meter j)) (let s : 2 + len + 1 ≡ len + 3 = omega arith in s) in
+    let can_m : CanPass m rest = subst (CanPass m) (sym er) (can_go_on piece (len + 3) old m can (omega arith) there) in
+    subst (λ u. Passes gate piece (Some u) old tally new tally) (let s : len + 3 + 5 ≡ len + 8 = omega arith in s)
+    (then_passes gate piece rest (len + 3) 5 old m new tally tally tally (named_passes gate code len piece old mid tally can ep ec t b)
+    (type_passes gate n rest m new tally can_m refl refl (record { tag = y.tag; is = y.is; few = y.few; low = y.low; is_string = y.is_string }) ends) er)
+
+-- what is left of the piece may be taken too
+pub member_can : (piece : List ℕ) (used : ℕ) (found : Bool) (old mid far new : Seen) (code : ℕ) (is_object : Bool) → CanPass old piece → used ≤ length piece
+    → BeginsMember code is_object old mid → GoesOnFields found far new → new.meter ≡ moved far.meter → far ≡ farther mid used → CanPass new (drop used piece)
+member_can piece used found old mid far new code is_object can le b goes em ef =
+    can_go_on piece used old new can le (em ∙ ap (λ r. moved r.meter) (ef ∙ ap (λ r. farther r used) b.rest))

@@ -1,0 +1,31 @@
+-- Fields of a descriptor of which all bytes are in a piece.
+use Rattle.std.specs.Prelude.{◌≡◌, ℕ, ◌+◌, ◌-◌, ◌^◌, ◌<◌, ◌++◌, ◌∷◌, [], ◌||◌, Bool, true, List, get_or, slice_get, Option, None, option_map}
+use Rattle.jser_table.specs.Codes.{is_object_code}
+use Rattle.jser_table.specs.Entries.{is_text}
+use Rattle.jser_grammar.specs.Wire.{TC_REFERENCE}
+use Rattle.jser_verdict.specs.Verdicts.{code_reason}
+use Rattle.jser_reader.specs.Reasons.{named}
+use Rattle.jser_reader.specs.Readers.{Header, Seen}
+use Rattle.jser_reader.specs.Wholes.{HasNumber}
+
+-- at the front of the piece is a reference with this handle, which is that of a string
+pub record HasType (piece : List ℕ) (n : ℕ) (r : Seen) : Type 0 where
+  pub tag : TC_REFERENCE ≡ get_or piece 0 0
+  pub is : HasNumber piece n
+  pub few : n < 2 ^ 32
+  pub low : n < 0x7E0000 → ⊥
+  pub is_string : true ≡ is_text (slice_get r.table.entries (n - 0x7E0000))
+
+-- the machine with another head of a descriptor
+abbrev pub with_header : Seen → Header → Seen
+with_header r header = record { meter = r.meter; phase = r.phase; frames = r.frames; layers = r.layers; table = r.table; refs = r.refs; owner = r.owner; elements = r.elements; header = header; text = r.text; left = r.left; scan = r.scan; name = r.name }
+
+-- This type code may stand there, and it was kept as that of the field that begins.
+pub record BeginsMember (code : ℕ) (is_object : Bool) (old new : Seen) : Type 0 where
+  pub sound : None ≡ option_map named (code_reason old.header.seen code)
+  pub object : is_object ≡ is_object_code code
+  pub rest : new ≡ with_header old new.header
+  pub kind : new.header.kind ≡ old.header.kind
+  pub codes : 0 < old.header.fields → new.header.codes ≡ old.header.codes ++ (code ∷ [])
+  pub fields : 0 < old.header.fields → new.header.fields ≡ old.header.fields - 1
+  pub seen : 0 < old.header.fields → new.header.seen ≡ (old.header.seen || is_object)
