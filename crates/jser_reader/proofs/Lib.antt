@@ -57,3 +57,4 @@ pub mod RawsToldLemmas
 pub mod RawLemmas
 pub mod RunItems
 pub mod RunLemmas
+pub mod FlatLemmas

@@ -35,3 +35,4 @@ pub mod Gates
 pub mod RawRuns
 pub mod RawsTold
 pub mod Runs
+pub mod FlatObjects

@@ -18,6 +18,7 @@ mod classes;
 mod descriptors;
 mod ends;
 mod fields;
+mod flat_objects;
 pub(crate) mod items;
 mod names;
 mod numbers;
