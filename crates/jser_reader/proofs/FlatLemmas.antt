@@ -27,7 +27,7 @@ use Rattle.jser_reader.specs.declared.phase.Phase.TheVariants as phase
 use Rattle.jser_reader.specs.declared.tally.Tally.{Tally}
 use Rattle.jser_reader.specs.declared.tally.Mark.{Mark}
 use Rattle.jser_reader.specs.Classes.{fit_reason}
-use Rattle.jser_reader.specs.FlatObjects.{HasOneSection, IsBack, AreBacks, IsFlat, HasPlaces, AssignsOther, with_object, object_tally}
+use Rattle.jser_reader.specs.FlatObjects.{HasOneSection, IsBack, AreBacks, IsFlat, HasPlaces, AssignsOther, with_object, value_tally}
 use Rattle.jser_reader.specs.Handlers.{Comes, Assigns, Pushes, BeginsObject, moved, with_entry, added, pushed, is_full}
 use Rattle.jser_reader.specs.ItemsTold.{StandsIn}
 use Rattle.jser_reader.specs.Passes.{Passes, PassTells, PassInside, CanPass}
@@ -114,7 +114,7 @@ unfolding before_parts after_value
 after_reference r new fs values h = record { ready = h.ready; meter = h.meter; max = h.max }
 
 -- the depth that is counted
-abbrev deeper : Tally → List Frame → Tally
+abbrev pub deeper : Tally → List Frame → Tally
 deeper tally fs = record { contents = tally.contents; earlier = tally.earlier; depth = max tally.depth (suc (suc (length fs))) }
 
 tally_same : (c e d e' d' : ℕ) → e ≡ e' → d ≡ d'
@@ -191,7 +191,7 @@ other_values (suc values) gate piece used most old before tally r fs g can some 
     (one_value gate piece used most values old before (deeper tally fs) r fs g can some le b backs.0 goes)))
 
 -- what they count
-abbrev with_values : Tally → List Frame → ℕ → Tally
+abbrev pub with_values : Tally → List Frame → ℕ → Tally
 with_values tally fs zero = tally
 with_values tally fs (suc values) = deeper tally fs
 
@@ -219,7 +219,7 @@ codes_of r section = primitive_codes (layer_of r.table.chains section).codes
 abbrev at_raws : Seen → Section → (last first size : ℕ) → Seen
 at_raws old held last first size = record { meter = moved (with_class owner.Object old).meter; phase = phase.Prims; frames = frame.Fields last first 1 held.prims held.values ∷ old.frames; layers = old.layers; table = with_entry old.table other_entry; refs = suc old.refs; owner = owner.Object; elements = old.elements; header = old.header; text = old.text; left = size; scan = old.scan; name = old.name }
 
-assigned_other : (r : Seen) → is_full r ≡ false → Assigns other_entry (Some (length r.table.entries)) r (added r other_entry)
+pub assigned_other : (r : Seen) → is_full r ≡ false → Assigns other_entry (Some (length r.table.entries)) r (added r other_entry)
 unfolding Assigns
 assigned_other r full = (refl, full, refl)
 
@@ -291,7 +291,7 @@ raws_go gate n raws piece old m before tally held last first size can em some en
 
 -- ---- all of it
 
-abbrev class_counted : Seen → Tally → Tally
+abbrev pub class_counted : Seen → Tally → Tally
 class_counted old before = tally_after (mark_of old) (mark_of (with_class owner.Object old)) before
 
 flat_goes : (gate : Gate) (n first_size size : ℕ) (piece : List ℕ) (old : Seen) (before : Tally) (held : Section) (c : HasOneSection old n held) → IsGate gate → CanPass old piece → IsPlace old.phase
@@ -352,7 +352,7 @@ none_new false n = refl
 none_new true zero = refl
 none_new true (suc n) = let some : (suc n == 0) ≡ false = grind (arith, nat_tests) in ap (λ b. number_if (true && b) (suc n)) some
 
-flat_counts : (values : ℕ) (old : Seen) (before : Tally) → with_values (class_counted old before) old.frames values ≡ object_tally (mark_of old) values before
+pub flat_counts : (values : ℕ) (old : Seen) (before : Tally) → with_values (class_counted old before) old.frames values ≡ value_tally (mark_of old) values before
 flat_counts zero old before =
     let one : nat_lt old.refs (suc old.refs) ≡ true = grind (arith, nat_tests) in
     let none : before.earlier + number_if (is_top old.phase && length old.table.entries == 0) (length old.table.entries) ≡ before.earlier =
@@ -371,7 +371,7 @@ flat_counts (suc values) old before =
     ∙ ap (λ b. max before.depth (suc (length old.frames) + number_if b 1)) (sym any))
 
 -- the code counts without a look at what may not happen: that there are more contents than bytes
-counted_once : (gate : Gate) (piece : List ℕ) (used : ℕ) (old new : Seen) (before after told : Tally) → IsGate gate → (before.contents + 1 < 2 ^ 64 → after ≡ told)
+pub counted_once : (gate : Gate) (piece : List ℕ) (used : ℕ) (old new : Seen) (before after told : Tally) → IsGate gate → (before.contents + 1 < 2 ^ 64 → after ≡ told)
     → Passes gate piece (Some used) old before new told → Passes gate piece (Some used) old before new after
 unfolding PassTells PassInside StandsFor
 counted_once gate piece used old new before after told g counts all = record {
@@ -394,7 +394,7 @@ counted_once gate piece used old new before after told g counts all = record {
 pub flat_passes : (gate : Gate) (n size : ℕ) (piece : List ℕ) (old mid far new : Seen) (first : Mark) (before after : Tally) (held : Section) → IsGate gate → CanPass old piece → IsPlace old.phase
     → 0x73 ≡ get_or piece 0 0 → HasReference piece n → n < 2 ^ 32 → HasOneSection old n held → IsFlat old piece held size → HasPlaces old held.values
     → AssignsOther true old mid → far ≡ with_object mid held.values size → Comes far new (after_value far) → first ≡ mark_of old
-    → (before.contents + 1 < 2 ^ 64 → after ≡ object_tally first held.values before) → Passes gate piece (Some size) old before new after
+    → (before.contents + 1 < 2 ^ 64 → after ≡ value_tally first held.values before) → Passes gate piece (Some size) old before new after
 unfolding AssignsOther
 flat_passes gate n size piece old mid far new first before after held g can i tag class small c flat places assigns ef comes em counts =
     let holds : HoldsFor (layer_of old.table.chains c.sections.first) held = subst (λ k. HoldsFor (layer_of old.table.chains k) held) (sym c.one) c.holds in
@@ -405,7 +405,7 @@ flat_passes gate n size piece old mid far new first before after held g can i ta
     let few = code.2 in
     let told : Tally = with_values (class_counted old before) old.frames held.values in
     counted_once gate piece size old new before after told g
-    (λ room. counts room ∙ ap (λ m. object_tally m held.values before) em ∙ sym (flat_counts held.values old before))
+    (λ room. counts room ∙ ap (λ m. value_tally m held.values before) em ∙ sym (flat_counts held.values old before))
     (subst (λ k. Passes gate piece (Some k) old before new told) (sym flat.is)
     (flat_goes gate n code.0 size piece old before held c g can i tag class small flat places assigns.0 holds code.1 code.3 (omega arith) new
     (flat_comes old far new held c.sections.last c.sections.first code.0 size flat.is (ef ∙ ap (λ r. with_object r held.values size) assigns.1) comes)))

@@ -58,3 +58,4 @@ pub mod RawLemmas
 pub mod RunItems
 pub mod RunLemmas
 pub mod FlatLemmas
+pub mod NestLemmas

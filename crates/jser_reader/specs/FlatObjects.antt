@@ -79,10 +79,10 @@ AssignsOther result old new = OtherCases result old new
 abbrev pub with_object : Seen → (values size : ℕ) → Seen
 with_object r values size = record { meter = counted_on r.meter size; phase = r.phase; frames = r.frames; layers = r.layers; table = r.table; refs = r.refs + (1 + values); owner = r.owner; elements = r.elements; header = r.header; text = r.text; left = r.left; scan = r.scan; name = r.name }
 
--- the counts after an object with so many values, by what was known before it
-abbrev pub object_tally : Mark → (values : ℕ) → Tally → Tally
-object_tally first values tally = record {
+-- the counts after a value with so many values inside it, by what was known before it
+abbrev pub value_tally : Mark → (inside : ℕ) → Tally → Tally
+value_tally first inside tally = record {
   contents = one_more_if first.at_top tally.contents;
   earlier = tally.earlier;
-  depth = max tally.depth (first.depth + number_if (nat_lt 0 values) 1);
+  depth = max tally.depth (first.depth + number_if (nat_lt 0 inside) 1);
 }

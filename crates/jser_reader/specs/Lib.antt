@@ -36,3 +36,4 @@ pub mod RawRuns
 pub mod RawsTold
 pub mod Runs
 pub mod FlatObjects
+pub mod WholeArrays

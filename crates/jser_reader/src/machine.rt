@@ -47,6 +47,7 @@ pub(crate) mod taken;
 mod text_bytes;
 mod texts;
 mod values;
+mod whole_arrays;
 pub(crate) mod wholes;
 
 /// The limits that a gate sets, but for the handles of an epoch, which the table keeps.

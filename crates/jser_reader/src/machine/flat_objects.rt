@@ -91,7 +91,7 @@ impl Machine {
     /// Assigns the handle of what has a class; or does nothing.
     #[tactic(auto, using(crate::proofs::EntryLemmas::fits_entry, crate::proofs::FlatLemmas::assigns_other, crate::proofs::FlatLemmas::assigns_nothing))]
     #[inline(always)]
-    fn assign_other(&mut self) -> bool
+    pub(super) fn assign_other(&mut self) -> bool
         ensures { AssignsOther result self.old self.new }
     {
         self.table.assign(Kind::Other).is_ok()
@@ -152,7 +152,7 @@ impl Machine {
             return None;
         }
         self.count_places(held.values, size);
-        tally.count_object(first, held.values);
+        tally.count_value(first, held.values);
         self.ended_in_line();
         Some(size)
     }
