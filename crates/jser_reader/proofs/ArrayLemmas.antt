@@ -40,7 +40,7 @@ raw_elements size n (Some c) b old mid new k e el some es ef ey et er em =
 
 -- elements that are values
 
-value_state : (r : Seen) (n : ℕ) → 0 < n → after_length r None n ≡ (moment_of r, parts_goal (depth_of r) (value_part ∷ value_parts (n - 1) []) ∷ goals_of r)
+pub value_state : (r : Seen) (n : ℕ) → 0 < n → after_length r None n ≡ (moment_of r, parts_goal (depth_of r) (value_part ∷ value_parts (n - 1) []) ∷ goals_of r)
 unfolding after_length
 value_state r zero some = absurd (omega arith)
 value_state r (suc n) some = let e : n ≡ suc n - 1 = omega arith in ap (λ k. (moment_of r, parts_goal (depth_of r) (value_part ∷ value_parts k []) ∷ goals_of r)) e

@@ -58,3 +58,5 @@ pub mod RawsToldLemmas
 pub mod RawLemmas
 pub mod RunItems
 pub mod RunLemmas
+pub mod FlatLemmas
+pub mod NestLemmas

@@ -36,3 +36,5 @@ pub mod Gates
 pub mod RawRuns
 pub mod RawsTold
 pub mod Runs
+pub mod FlatObjects
+pub mod WholeArrays

@@ -18,6 +18,7 @@ mod classes;
 mod descriptors;
 mod ends;
 mod fields;
+mod flat_objects;
 pub(crate) mod items;
 mod members;
 mod names;
@@ -48,6 +49,7 @@ pub(crate) mod taken;
 mod text_bytes;
 mod texts;
 mod values;
+mod whole_arrays;
 pub(crate) mod wholes;
 
 /// The limits that a gate sets, but for the handles of an epoch, which the table keeps.

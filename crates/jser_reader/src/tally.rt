@@ -1,5 +1,6 @@
 //! The counts of a stream that its fields tell, kept while it is read.
 ghost use Rattle.std.specs.Prelude.{◌≡◌, ◌+◌, ◌<◌, ◌^◌};
+ghost use Rattle.jser_reader.specs.FlatObjects.{value_tally};
 ghost use Rattle.jser_reader.specs.Tallies.{tally_after, run_tally, no_tally};
 
 /// What a tally asks of the machine before and after a field.
@@ -59,5 +60,22 @@ impl Tally {
         if places > 0 {
             self.depth = self.depth.max(first.depth);
         }
+    }
+
+    /// A value was taken in one step, with so many values inside it: what was known before it.
+    #[inline(always)]
+    pub(crate) fn count_value(&mut self, first: Mark, inside: u16)
+        requires { 0 < inside → first.depth + 1 < 2 ^ 64 }
+        ensures { self.old.contents + 1 < 2 ^ 64 → self.new ≡ value_tally first inside self.old }
+    {
+        if first.at_top {
+            self.contents = self.contents.wrapping_add(1);
+        }
+        let deepest = if inside > 0 {
+            first.depth + 1
+        } else {
+            first.depth
+        };
+        self.depth = self.depth.max(deepest);
     }
 }

@@ -79,7 +79,7 @@ impl Machine {
 
     /// Counts a place and so many bytes.
     #[inline(always)]
-    fn begin_place(&mut self, size: u64)
+    pub(super) fn begin_place(&mut self, size: u64)
         requires few { self.old.refs < self.old.meter.limits.refs }
         requires room { self.old.meter.at + size < 2 ^ 64 }
         ensures { self.new ≡ placed self.old size }
