@@ -19,8 +19,8 @@ use jser_reader::{Item, OpenGate, Reader, Step, Whole};
 use jser_shown::laws::{one_more, tells_fronts, told};
 use jser_walk::{Field, Walk};
 use jser_words::{
-    say_all_due, say_class_reference, say_next, say_plain_handle, say_plain_string, say_section_raw,
-    say_section_reference,
+    say_all_due, say_class_reference, say_next, say_plain_handle, say_plain_string,
+    say_section_raw, say_section_reference,
 };
 use std::alloc::{AllocError, Global};
 

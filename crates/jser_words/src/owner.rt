@@ -14,11 +14,7 @@ use jser_walk::{Field, Walk};
 /// Says the beginning of the line of a class that is a reference and goes past its tag, where the walk waits for the class
 /// of what has one. Nothing is done where that is not so, and the answer is false.
 #[inline(always)]
-pub fn say_class_reference<W: Sink>(
-    outbox: &mut Outbox,
-    sink: &mut W,
-    walk: &mut Walk<'_>,
-) -> bool
+pub fn say_class_reference<W: Sink>(outbox: &mut Outbox, sink: &mut W, walk: &mut Walk<'_>) -> bool
     ensures said { result ≡ true → (told : StreamField) → IsOf (Field.Tag TC_REFERENCE) told
         → SaysTo W.gone_out W.has_failed outbox.old outbox.new sink.old sink.new (λ k. says_next walk.old told k) }
     ensures goes { result ≡ true → (told : StreamField) → IsOf (Field.Tag TC_REFERENCE) told → walk.new ≡ goes (settled walk.old) told }

@@ -13,12 +13,7 @@ use jser_walk::Name;
 
 /// Says the beginning of the line of a field, in a section of this level, as `"next" = `.
 #[inline(always)]
-pub(crate) fn say_field_start<W: Sink>(
-    outbox: &mut Outbox,
-    sink: &mut W,
-    level: u64,
-    name: &Name,
-)
+pub(crate) fn say_field_start<W: Sink>(outbox: &mut Outbox, sink: &mut W, level: u64, name: &Name)
     ensures { SaysTo W.gone_out W.has_failed outbox.old outbox.new sink.old sink.new (λ k. begin_line (suc level) (name_text (field_named name.now) k)) }
 {
     say_deeper_quote(outbox, sink, level);

@@ -28,7 +28,8 @@ impl<'a> Standing<'a> {
                 index,
                 stage,
             },
-        ) = self.frames.top() else {
+        ) = self.frames.top()
+        else {
             return None;
         };
         match next_part(&self.table, chain, index, stage).part {
@@ -50,7 +51,8 @@ impl<'a> Standing<'a> {
                 index,
                 stage,
             },
-        ) = self.frames.top() else {
+        ) = self.frames.top()
+        else {
             return None;
         };
         match next_part(&self.table, chain, index, stage).part {
@@ -72,7 +74,8 @@ impl<'a> Standing<'a> {
                 index,
                 stage,
             },
-        ) = self.frames.top() {
+        ) = self.frames.top()
+        {
             pass_part(&self.table, &mut self.frames, level, chain, index, stage);
         }
     }
@@ -90,7 +93,8 @@ impl<'a> Standing<'a> {
                 index,
                 stage,
             },
-        ) = self.frames.top() {
+        ) = self.frames.top()
+        {
             pass_part(&self.table, &mut self.frames, level, chain, index, stage);
             return Phase::Handle;
         }
