@@ -57,4 +57,5 @@ pub mod LentLemmas
 pub mod RawsToldLemmas
 pub mod RawLemmas
 pub mod RunItems
+pub mod NameSteps
 pub mod RunLemmas
