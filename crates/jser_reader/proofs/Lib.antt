@@ -57,6 +57,7 @@ pub mod LentLemmas
 pub mod RawsToldLemmas
 pub mod RawLemmas
 pub mod RunItems
+pub mod NameSteps
 pub mod RunLemmas
 pub mod FlatLemmas
 pub mod NestLemmas

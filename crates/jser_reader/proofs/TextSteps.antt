@@ -172,15 +172,20 @@ empty_text_taken gate long found old mid new taken h eo some e c = λ s cut st.
     empty true = (refl, omega arith)
 
 -- the length of a text and its bytes, all at once
+pub short_text_found : (gate : Gate) (found : Bool) (old mid new : Seen) (taken units : List ℕ)
+    → (IsInside mid.text mid.frames → TellsSurely (text_reason gate mid units) (after_text mid units) found mid new)
+    → old.phase ≡ phase.Length2 → 0 < length taken → Counts taken old mid → IsText false units → spelled false units ≡ taken → Takes gate taken found old new
+unfolding Takes
+short_text_found gate found old mid new taken units h ep some c t e = λ s cut st.
+    let w = whole_open phase.Length2 old ep (omega arith) in
+    let o = is_open phase.Length2 old (settled s) cut st.stands w.0 (omega arith) in
+    whole_taken gate found old mid new s cut taken false units h st c some (length_open false old s o.ready) t
+    (e ∙ ap (λ xs. xs ++ taken) (sym (o.cut_is ∙ w.1)))
+
 pub short_text_taken : (gate : Gate) (old mid new : Seen) (taken units : List ℕ)
     → (IsInside mid.text mid.frames → TellsSurely (text_reason gate mid units) (after_text mid units) true mid new)
     → old.phase ≡ phase.Length2 → 0 < length taken → Counts taken old mid → IsText false units → spelled false units ≡ taken → Takes gate taken true old new
-unfolding Takes
-short_text_taken gate old mid new taken units h ep some c t e = λ s cut st.
-    let w = whole_open phase.Length2 old ep (omega arith) in
-    let o = is_open phase.Length2 old (settled s) cut st.stands w.0 (omega arith) in
-    whole_taken gate true old mid new s cut taken false units h st c some (length_open false old s o.ready) t
-    (e ∙ ap (λ xs. xs ++ taken) (sym (o.cut_is ∙ w.1)))
+short_text_taken gate old mid new taken units h ep some c t e = short_text_found gate true old mid new taken units h ep some c t e
 
 -- the bytes of a text come next
 pub text_opened : (gate : Gate) (long : Bool) (len : ℕ) (old new : Seen) (taken : List ℕ)

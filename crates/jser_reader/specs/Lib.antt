@@ -24,6 +24,7 @@ pub mod ReaderStates
 pub mod Passes
 pub mod Wholes
 pub mod Members
+pub mod ClassNames
 pub mod Bounds
 pub mod States
 pub mod Streams

@@ -14,6 +14,7 @@ use jser_table::{Layer, LayerKind, Table};
 use std::alloc::Global;
 use std::marker::Model;
 
+mod class_names;
 mod classes;
 mod descriptors;
 mod ends;

@@ -136,6 +136,21 @@ impl Machine {
         }
     }
 
+    /// Takes the length of a text and, where they come next, bytes of the text.
+    #[inline(never)]
+    pub(super) fn pass_length<G: Gate>(&mut self, gate: &G, piece: &[u8]) -> Option<usize>
+        requires can { CanPass self.old piece.now }
+        requires some { 0 < length piece.now }
+        requires phase { self.old.phase ≡ Phase.Length2 }
+        ensures passes { (tally : Tally) → Passes (G.told gate.now) piece.now result self.old tally self.new tally }
+        ensures progress { HasPassed piece.now result }
+    {
+        let Some(length) = self.pass_known(gate, piece, Phase::Length2) else {
+            return None;
+        };
+        self.go_on(gate, piece, length, Phase::Text)
+    }
+
     /// Takes the length of a text and the text; and where it is the name of a class, what comes up to the number of its
     /// fields.
     #[inline(always)]
@@ -146,10 +161,7 @@ impl Machine {
         ensures passes { (tally : Tally) → Passes (G.told gate.now) piece.now result self.old tally self.new tally }
         ensures progress { HasPassed piece.now result }
     {
-        let Some(length) = self.pass_known(gate, piece, Phase::Length2) else {
-            return None;
-        };
-        let Some(text) = self.go_on(gate, piece, length, Phase::Text) else {
+        let Some(text) = self.pass_name(gate, piece) else {
             return None;
         };
         let Some(suid) = self.go_on(gate, piece, text, Phase::Suid) else {

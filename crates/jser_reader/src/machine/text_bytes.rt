@@ -67,7 +67,7 @@ fn add_half(name: &mut Vec<u16>, bytes: &[u8])
 }
 
 /// Adds units of one byte each, many together, where there is room for them.
-fn add_units(name: &mut Vec<u16>, bytes: &[u8])
+pub(super) fn add_units(name: &mut Vec<u16>, bytes: &[u8])
     requires { vec_len name.old + length bytes.now ≤ vec_capacity name.old }
     ensures { name.new.items ≡ name.old.items ++ bytes.now }
 {
