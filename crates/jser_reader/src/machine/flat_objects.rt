@@ -151,15 +151,13 @@ impl Machine {
         Some(raws + 5 * usize::from(end.values))
     }
 
-    /// The raw values of an object whose class has this handle, and how many bytes the object has, where its data are these
-    /// and references alone, and all of them are in the piece.
+    /// An object whose class has this handle and these sections, where its data are raw values and references alone, and all
+    /// of them are in the piece.
     #[inline(always)]
-    fn flat_object(&self, piece: &[u8], n: u32) -> Option<FlatObject>
+    fn flat_object(&self, piece: &[u8], n: u32, sections: Sections) -> Option<FlatObject>
+        requires { HasSections self.now n sections }
         ensures { IfSome result (λ object. IsFlatObject self.now piece.now n object) }
     {
-        let Some(sections) = self.sections_of_class(n) else {
-            return None;
-        };
         let Some(end) = self.raws_of_object(piece, sections) else {
             return None;
         };
@@ -183,7 +181,57 @@ impl Machine {
         ensures within { HasPassed piece.now result }
         ensures nothing { result ≡ None → (self.new ≡ self.old) × (tally.new ≡ tally.old) }
     {
-        let Some(object) = self.flat_object(piece, n) else {
+        let Some(sections) = self.sections_of_class(n) else {
+            return None;
+        };
+        if sections.first == sections.last {
+            return self.whole_object_of(tally, piece, n, sections);
+        }
+        self.whole_object_of_many(tally, piece, n, sections)
+    }
+
+    /// The same, where its class has several sections. It is out of line, so that the loop over them has the registers.
+    #[inline(never)]
+    fn whole_object_of_many(
+        &mut self,
+        tally: &mut Tally,
+        piece: &[u8],
+        n: u32,
+        sections: Sections,
+    ) -> Option<usize>
+        requires can { CanPass self.old piece.now }
+        requires place { IsPlace self.old.phase }
+        requires tag { TC_OBJECT ≡ get_or piece.now 0 0 }
+        requires class { HasReference piece.now n }
+        requires room { HasPlace self.old }
+        requires sections { HasSections self.old n sections }
+        ensures passes { IfSome result (λ used. (gate : ToldGate) → IsGate gate → Passes gate piece.now (Some used) self.old tally.old self.new tally.new) }
+        ensures within { HasPassed piece.now result }
+        ensures nothing { result ≡ None → (self.new ≡ self.old) × (tally.new ≡ tally.old) }
+    {
+        self.whole_object_of(tally, piece, n, sections)
+    }
+
+    /// The same, where its class has these sections.
+    #[inline(always)]
+    fn whole_object_of(
+        &mut self,
+        tally: &mut Tally,
+        piece: &[u8],
+        n: u32,
+        sections: Sections,
+    ) -> Option<usize>
+        requires can { CanPass self.old piece.now }
+        requires place { IsPlace self.old.phase }
+        requires tag { TC_OBJECT ≡ get_or piece.now 0 0 }
+        requires class { HasReference piece.now n }
+        requires room { HasPlace self.old }
+        requires sections { HasSections self.old n sections }
+        ensures passes { IfSome result (λ used. (gate : ToldGate) → IsGate gate → Passes gate piece.now (Some used) self.old tally.old self.new tally.new) }
+        ensures within { HasPassed piece.now result }
+        ensures nothing { result ≡ None → (self.new ≡ self.old) × (tally.new ≡ tally.old) }
+    {
+        let Some(object) = self.flat_object(piece, n, sections) else {
             return None;
         };
         if !self.has_places(object.values) {

@@ -1,6 +1,6 @@
 use Rattle.std.proofs.Common.{refl, arith, rules}
 use Rattle.jser_reader.proofs.FlatLemmas.{no_other, other_assigned, flat_few, flat_room, flat_deep, flat_passes, flat_within}
-use Rattle.jser_reader.proofs.machine.Machine.whole_object.Goals as goal
+use Rattle.jser_reader.proofs.machine.Machine.whole_object_of.Goals as goal
 
 pub returns-then-not-assign_other-clause-nothing : goal.returns-then-not-assign_other-clause-nothing
 returns-then-not-assign_other-clause-nothing c = λ _. (no_other _ _ _ c.assign_other.ensures (search rules), refl)
