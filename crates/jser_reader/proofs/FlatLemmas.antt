@@ -1,5 +1,5 @@
 -- An object that is taken in one step: the machines between its fields are named here alone, and no code makes them.
-use Rattle.std.proofs.Common.{◌≡◌, ℕ, zero, suc, ◌+◌, ◌*◌, ◌-◌, ◌^◌, ◌<◌, ◌≤◌, Bool, true, false, nat_lt, max, List, [], ◌∷◌, ◌++◌, length, get_or, take, drop, slice_get, Some, option_map, refl, sym, ◌∙◌, ap, ap₂, subst, arith}
+use Rattle.std.proofs.Common.{◌≡◌, ℕ, zero, suc, ◌+◌, ◌*◌, ◌-◌, ◌^◌, ◌<◌, ◌≤◌, Bool, true, false, nat_lt, max, List, [], ◌∷◌, ◌++◌, length, get_or, take, drop, slice_get, Option, Some, None, IfSome, option_map, refl, sym, ◌∙◌, ap, ap₂, subst, arith}
 use Rattle.std.specs.Prelude.{◌&&◌, ◌==◌}
 use Rattle.std.proofs.lemmas.Bool.{lt-leb}
 use Rattle.std.proofs.lemmas.Bool.Decides.{nat_tests}
@@ -10,7 +10,7 @@ use Rattle.jser_table.specs.declared.layer.Fit.TheVariants as fit
 use Rattle.jser_table.specs.declared.layer.Purpose.TheVariants as purpose
 use Rattle.jser_table.specs.declared.section.Section.{Section}
 use Rattle.jser_table.specs.declared.section.Sections.{Sections}
-use Rattle.jser_table.specs.Chains.{chain_in, is_external}
+use Rattle.jser_table.specs.Chains.{chain_in, is_external, has_write_method}
 use Rattle.jser_table.specs.Codes.{PrimCode, size_of, primitive_codes, raw_size}
 use Rattle.jser_table.specs.Entries.{other_entry}
 use Rattle.jser_table.specs.Fits.{fit_of}
@@ -23,15 +23,17 @@ use Rattle.jser_verdict.specs.Gates.{Gate, IsGate}
 use Rattle.jser_reader.specs.declared.frame.Frame.{Frame}
 use Rattle.jser_reader.specs.declared.frame.Frame.TheVariants as frame
 use Rattle.jser_reader.specs.declared.frame.Owner.TheVariants as owner
+use Rattle.jser_reader.specs.declared.machine.flat_objects.FlatObject.{FlatObject}
+use Rattle.jser_reader.specs.declared.machine.raws.RawsEnd.{RawsEnd}
 use Rattle.jser_reader.specs.declared.phase.Phase.TheVariants as phase
 use Rattle.jser_reader.specs.declared.tally.Tally.{Tally}
 use Rattle.jser_reader.specs.declared.tally.Mark.{Mark}
 use Rattle.jser_reader.specs.Classes.{fit_reason}
-use Rattle.jser_reader.specs.FlatObjects.{HasOneSection, IsBack, AreBacks, IsFlat, HasPlaces, AssignsOther, with_object, value_tally}
+use Rattle.jser_reader.specs.FlatObjects.{HasSections, first_end, HasRaws, IsBack, AreBacks, IsFlat, IsFlatObject, HasPlaces, AssignsOther, with_object, value_tally}
 use Rattle.jser_reader.specs.Handlers.{Comes, Assigns, Pushes, BeginsObject, moved, with_entry, added, pushed, is_full}
 use Rattle.jser_reader.specs.ItemsTold.{StandsIn}
 use Rattle.jser_reader.specs.Passes.{Passes, PassTells, PassInside, CanPass}
-use Rattle.jser_reader.specs.RawRuns.{parts_after}
+use Rattle.jser_reader.specs.RawRuns.{parts_after, EndsRaws, GoesTo}
 use Rattle.jser_reader.specs.Readers.{Seen, Ready}
 use Rattle.jser_reader.specs.ReaderStates.{StandsFor}
 use Rattle.jser_reader.specs.Steps.{before_parts, after_value, PartGives}
@@ -66,24 +68,28 @@ unfolding AssignsOther
 no_other true old new h e = absurd (cc)
 no_other false old new h e = h
 
-pub only_one : (r : Seen) (n chain : ℕ) (sections : Sections) (held : Section) → (n < 0x7E0000 → ⊥)
-    → IsClass r.table.chains (slice_get r.table.entries (n - 0x7E0000)) (class.Closed chain)
+pub has_sections : (r : Seen) (n chain : ℕ) (sections : Option Sections) → (n < 0x7E0000 → ⊥) → IsClass r.table.chains (slice_get r.table.entries (n - 0x7E0000)) (class.Closed chain)
     → is_external (chain_in r.table.chains chain) ≡ false → fit_of purpose.Object (chain_in r.table.chains chain) ≡ fit.Fits
-    → AreSections r.table.chains (chain_in r.table.chains chain) (Some sections) → sections.first ≡ sections.last
-    → HoldsFor (layer_of r.table.chains sections.last) held → 0 < held.prims → held.is_annotated ≡ false → HasOneSection r n held
-only_one r n chain sections held low is_class plain fits are one holds some unannotated = record {
-  chain = chain;
-  sections = sections;
-  low = low;
-  is_class = is_class;
-  fits = fits;
-  plain = plain;
-  are = are;
-  one = one;
-  holds = holds;
-  some = some;
-  unannotated = unannotated;
-}
+    → AreSections r.table.chains (chain_in r.table.chains chain) sections → IfSome sections (λ found. HasSections r n found)
+has_sections r n chain None low is_class plain fits are = tt
+has_sections r n chain (Some sections) low is_class plain fits are =
+    record { chain = chain; low = low; is_class = is_class; fits = fits; plain = plain; are = are }
+
+pub has_raws : (r : Seen) (piece rest : List ℕ) (sections : Sections) (held : Section) (end : RawsEnd) → HoldsFor (layer_of r.table.chains sections.first) held → (held.prims ≡ 0 → ⊥)
+    → 6 + held.raw_bytes ≤ length piece → rest ≡ drop 6 piece → GoesTo r.table.chains (length rest) (first_end sections held) end → end.section ≡ sections.last → end.is_annotated ≡ false
+    → HasRaws r piece sections end
+has_raws r piece rest sections held end holds some enough er goes last plain =
+    let n = length-drop 6 piece in
+    let long : length rest ≡ length piece - 6 = ap length er ∙ n in
+    record {
+      held = held;
+      holds = holds;
+      some = omega arith;
+      enough = enough;
+      goes = subst (λ k. GoesTo r.table.chains k (first_end sections held) end) long goes;
+      last = last;
+      unannotated = plain;
+    }
 
 -- ---- one reference of an object
 
@@ -227,26 +233,26 @@ pushed_frame : (r : Seen) → Pushes frame.ExternalNotes true r (pushed r frame.
 unfolding Pushes
 pushed_frame r = refl
 
-class_told : (old : Seen) (n size : ℕ) (held : Section) (c : HasOneSection old n held) → is_full old ≡ false
-    → option_map size_of (slice_get (codes_of old c.sections.first) 0) ≡ Some size → HoldsFor (layer_of old.table.chains c.sections.first) held
-    → TellsClass n true (with_class owner.Object old) (at_raws old held c.sections.last c.sections.first size)
-class_told old n size held c full code holds =
+class_told : (old : Seen) (n size : ℕ) (sections : Sections) (held : Section) → HasSections old n sections → is_full old ≡ false
+    → option_map size_of (slice_get (codes_of old sections.first) 0) ≡ Some size → HoldsFor (layer_of old.table.chains sections.first) held → 0 < held.prims
+    → TellsClass n true (with_class owner.Object old) (at_raws old held sections.last sections.first size)
+class_told old n size sections held c full code holds some =
     let mid : Seen = with_class owner.Object old in
     let with_other : Seen = added mid other_entry in
     let begins : Seen = record with_other { meter = moved with_other.meter } in
     let opened : Seen = pushed begins frame.ExternalNotes in
-    let new : Seen = at_raws old held c.sections.last c.sections.first size in
+    let new : Seen = at_raws old held sections.last sections.first size in
     let chain : List Layer = chain_in old.table.chains c.chain in
-    let part : PartGives true opened new (section_parts (layer_of opened.table.chains c.sections.first ∷ under opened.table.chains c.sections.last c.sections.first)) =
-    begins_prims opened new c.sections.last c.sections.first size held holds code refl refl refl refl refl refl in
+    let part : PartGives true opened new (section_parts (layer_of opened.table.chains sections.first ∷ under opened.table.chains sections.last sections.first)) =
+    begins_prims opened new sections.last sections.first size held holds code refl refl refl refl refl refl in
     let object : BeginsObject chain true begins new =
-    filled_object chain c.sections true true begins opened new part (pushed_frame begins) refl refl c.plain c.are refl in
+    filled_object chain sections true true begins opened new part (pushed_frame begins) refl refl c.plain c.are refl in
     right_class n c.chain true mid new
     (object_owned (length old.table.entries) c.chain true mid with_other new
     (object_begins chain true with_other begins new object refl refl refl refl refl) (assigned_other mid full) refl)
     c.is_class c.low (sym (ap fit_reason c.fits))
 
--- nothing comes after the only section
+-- nothing comes after the last section
 
 drop_all : (ls : List Layer) → drop (length ls) ls ≡ []
 drop_all [] = refl
@@ -256,11 +262,11 @@ under_last : (C : List (List Layer)) (last : ℕ) → under C last last ≡ []
 unfolding under
 under_last C last = drop_all (down_to C last)
 
-only_parts : (r : Seen) (last first values : ℕ) (held : Section) → first ≡ last → HoldsFor (layer_of r.table.chains first) held → held.is_annotated ≡ false
-    → parts_after r last first values ≡ value_parts values []
-only_parts r last first values held one holds none =
-    ap₂ (λ b ls. value_parts values (annotation_if b (section_parts ls))) (sym holds.annotated ∙ none)
-    (ap (λ k. under r.table.chains last k) one ∙ under_last r.table.chains last)
+last_parts : (r : Seen) (last : ℕ) (end : RawsEnd) → end.last ≡ last → end.section ≡ last → has_write_method (layer_of r.table.chains end.section).flags ≡ false
+    → parts_after r end.last end.section end.values ≡ value_parts end.values []
+last_parts r last end el es none =
+    ap₂ (λ b ls. value_parts end.values (annotation_if b (section_parts ls))) none
+    (ap₂ (λ a b. under r.table.chains a b) el es ∙ under_last r.table.chains last)
 
 first_code : (codes : List PrimCode) → 0 < length codes → (size : ℕ) × (option_map size_of (slice_get codes 0) ≡ Some size) × (size ≤ raw_size codes) × (0 < size)
 first_code [] some = absurd (omega arith)
@@ -270,22 +276,27 @@ first_code (c ∷ cs) some = (size_of c, refl, omega arith, size_some c)
     size_some c = grind (arith)
 
 -- after the raw values
-raws_go : (gate : Gate) (n raws : ℕ) (piece : List ℕ) (old m : Seen) (before tally : Tally) (held : Section) (last first size : ℕ) → CanPass old piece → m ≡ at_raws old held last first size
-    → 0 < length piece → 6 + held.raw_bytes ≤ length piece → IsOn old.table.chains last first → first ≡ last → HoldsFor (layer_of old.table.chains first) held → held.is_annotated ≡ false
-    → option_map size_of (slice_get (codes_of old first) 0) ≡ Some size → 0 < size → size ≤ held.raw_bytes → 0 < held.prims
-    → Passes gate piece (Some 6) old before (at_raws old held last first size) tally
-    → Goes gate piece (6 + held.raw_bytes) old before (farther (at_raws old held last first size) held.raw_bytes) old.frames (value_parts held.values []) tally
+raws_go : (gate : Gate) (piece : List ℕ) (old : Seen) (before tally : Tally) (sections : Sections) (end : RawsEnd) (size : ℕ) (h : HasRaws old piece sections end) → CanPass old piece
+    → IsOn old.table.chains sections.last sections.first
+    → option_map size_of (slice_get (codes_of old sections.first) 0) ≡ Some size → 0 < size → size ≤ h.held.raw_bytes
+    → Passes gate piece (Some 6) old before (at_raws old h.held sections.last sections.first size) tally
+    → Goes gate piece (6 + end.used) old before (farther (at_raws old h.held sections.last sections.first size) end.used) old.frames (value_parts end.values []) tally
 unfolding before_parts
-raws_go gate n raws piece old m before tally held last first size can em some enough on one holds none code any fits prims class new comes =
-    let r : Seen = at_raws old held last first size in
+raws_go gate piece old before tally sections end size h can on code any fits class new comes =
+    let held : Section = h.held in
+    let enough = h.enough in
+    let prims = h.some in
+    let r : Seen = at_raws old held sections.last sections.first size in
     let rest : List ℕ = drop 6 piece in
     let l = length-drop 6 piece in
     let at : r.meter.at ≡ old.meter.at + 6 = omega arith in
-    let can_r : CanPass r rest = can_after piece 6 old r can some (omega arith) at refl in
-    let end = raws_begin rest r last first held.prims held.values size held.raw_bytes held can_r refl refl (on, holds.prims, omega arith) holds code any (omega arith) (omega arith) in
-    let parts = only_parts r last first held.values held one holds none in
-    then_passes gate piece rest 6 held.raw_bytes old r new before tally tally class
-    (end.leads.to gate tally new
+    let can_r : CanPass r rest = can_after piece 6 old r can (omega arith) (omega arith) at refl in
+    let first : EndsRaws rest r (first_end sections held) =
+    raws_begin rest r sections.last sections.first held.prims held.values size held.raw_bytes held can_r refl refl (on, h.holds.prims, omega arith) h.holds code any (omega arith) (omega arith) in
+    let all : EndsRaws rest r end = h.goes.ends rest r l refl can_r first in
+    let parts = last_parts r sections.last end h.goes.last h.last (sym all.annotated ∙ h.unannotated) in
+    then_passes gate piece rest 6 end.used old r new before tally tally class
+    (all.leads.to gate tally new
     (record { ready = subst (λ ps. Ready new (before_parts r old.frames ps)) (sym parts) comes.ready; meter = comes.meter; max = comes.max }))
     refl
 
@@ -294,25 +305,25 @@ raws_go gate n raws piece old m before tally held last first size can em some en
 abbrev pub class_counted : Seen → Tally → Tally
 class_counted old before = tally_after (mark_of old) (mark_of (with_class owner.Object old)) before
 
-flat_goes : (gate : Gate) (n first_size size : ℕ) (piece : List ℕ) (old : Seen) (before : Tally) (held : Section) (c : HasOneSection old n held) → IsGate gate → CanPass old piece → IsPlace old.phase
-    → 0x73 ≡ get_or piece 0 0 → HasReference piece n → n < 2 ^ 32 → IsFlat old piece held size → HasPlaces old held.values → is_full old ≡ false
-    → HoldsFor (layer_of old.table.chains c.sections.first) held → option_map size_of (slice_get (codes_of old c.sections.first) 0) ≡ Some first_size → 0 < first_size → first_size ≤ held.raw_bytes
-    → Goes gate piece (6 + held.raw_bytes + 5 * held.values) old before
-    (walked (farther (at_raws old held c.sections.last c.sections.first first_size) held.raw_bytes) held.values) old.frames []
-    (with_values (class_counted old before) old.frames held.values)
-flat_goes gate n first_size size piece old before held c g can i tag class small flat places full holds code any fits =
+flat_goes : (gate : Gate) (n first_size size : ℕ) (piece : List ℕ) (old : Seen) (before : Tally) (sections : Sections) (end : RawsEnd) (h : HasRaws old piece sections end) → IsGate gate
+    → CanPass old piece → IsPlace old.phase → 0x73 ≡ get_or piece 0 0 → HasReference piece n → n < 2 ^ 32 → HasSections old n sections → IsFlat old piece end size → HasPlaces old end.values
+    → is_full old ≡ false → option_map size_of (slice_get (codes_of old sections.first) 0) ≡ Some first_size → 0 < first_size → first_size ≤ h.held.raw_bytes
+    → Goes gate piece (6 + end.used + 5 * end.values) old before
+    (walked (farther (at_raws old h.held sections.last sections.first first_size) end.used) end.values) old.frames []
+    (with_values (class_counted old before) old.frames end.values)
+flat_goes gate n first_size size piece old before sections end h g can i tag class small c flat places full code any fits =
     let enough = class.within in
     let raws = flat.raws in
     let shallow = places.shallow in
     let few = places.few in
-    let r : Seen = at_raws old held c.sections.last c.sections.first first_size in
+    let r : Seen = at_raws old h.held sections.last sections.first first_size in
     let one = length-append old.table.entries (other_entry ∷ []) in
-    all_values held.values gate piece (6 + held.raw_bytes) (length old.table.entries) old before (class_counted old before) (farther r held.raw_bytes) old.frames g can (omega arith) raws
+    all_values end.values gate piece (6 + end.used) (length old.table.entries) old before (class_counted old before) (farther r end.used) old.frames g can (omega arith) raws
     (record { at = omega arith; limits = refl; shallow = places.shallow; few = omega arith; entries = omega arith })
     flat.backs
-    (raws_go gate n held.raw_bytes piece old r before (class_counted old before) held c.sections.last c.sections.first first_size can refl (omega arith) raws c.are.0 c.one holds c.unannotated code any fits c.some
+    (raws_go gate piece old before (class_counted old before) sections end first_size h can c.are.0 code any fits
     (owner_passes gate owner.Object n true piece old (with_class owner.Object old) r (mark_of old) (mark_of (with_class owner.Object old)) before (class_counted old before) g can i tag class small
-    (record { shallow = omega arith; few = omega arith }) refl (class_told old n first_size held c full code holds) refl refl (λ _ _. refl)))
+    (record { shallow = omega arith; few = omega arith }) refl (class_told old n first_size sections h.held c full code h.holds h.some) refl refl (λ _ _. refl)))
 
 -- the machine after it
 
@@ -327,18 +338,18 @@ walked_is (suc values) r =
     walked_is values (placed r 5)
     ∙ ap₂ (λ k j. record r { meter = record { at = k; from = r.meter.from; limits = r.meter.limits; stop = r.meter.stop; cut_phase = r.meter.cut_phase; kept = r.meter.kept }; refs = j }) a b
 
-flat_comes : (old far new : Seen) (held : Section) (last first first_size size : ℕ) → size ≡ 6 + held.raw_bytes + 5 * held.values
-    → far ≡ with_object (added old other_entry) held.values size → Comes far new (after_value far)
-    → (let r : Seen = walked (farther (at_raws old held last first first_size) held.raw_bytes) held.values in Comes r new (before_parts r old.frames []))
+flat_comes : (old far new : Seen) (held : Section) (last first first_size size used values : ℕ) → size ≡ 6 + used + 5 * values
+    → far ≡ with_object (added old other_entry) values size → Comes far new (after_value far)
+    → (let r : Seen = walked (farther (at_raws old held last first first_size) used) values in Comes r new (before_parts r old.frames []))
 unfolding before_parts after_value
-flat_comes old far new held last first first_size size es ef comes =
-    let m : Seen = farther (at_raws old held last first first_size) held.raw_bytes in
-    let k : Seen = record m { meter = counted_on m.meter (5 * held.values); refs = m.refs + held.values } in
-    let f : Seen = with_object (added old other_entry) held.values size in
+flat_comes old far new held last first first_size size used values es ef comes =
+    let m : Seen = farther (at_raws old held last first first_size) used in
+    let k : Seen = record m { meter = counted_on m.meter (5 * values); refs = m.refs + values } in
+    let f : Seen = with_object (added old other_entry) values size in
     let end : Comes f new (after_value f) = subst (λ r. Comes r new (after_value r)) ef comes in
     let at : old.meter.at + size ≡ k.meter.at = omega arith in
     let refs : f.refs ≡ k.refs = omega arith in
-    subst (λ r. Comes r new (before_parts r old.frames [])) (sym (walked_is held.values m))
+    subst (λ r. Comes r new (before_parts r old.frames [])) (sym (walked_is values m))
     (record {
       ready = subst (λ j. Ready new (after_value (record f { refs = j }))) refs end.ready;
       meter = end.meter ∙ ap (λ j. record { at = j; from = j; limits = old.meter.limits; stop = old.meter.stop; cut_phase = old.meter.cut_phase; kept = old.meter.kept }) at;
@@ -391,31 +402,54 @@ counted_once gate piece used old new before after told g counts all = record {
         let cap = g.0 in
         counts (omega arith)
 
-pub flat_passes : (gate : Gate) (n size : ℕ) (piece : List ℕ) (old mid far new : Seen) (first : Mark) (before after : Tally) (held : Section) → IsGate gate → CanPass old piece → IsPlace old.phase
-    → 0x73 ≡ get_or piece 0 0 → HasReference piece n → n < 2 ^ 32 → HasOneSection old n held → IsFlat old piece held size → HasPlaces old held.values
-    → AssignsOther true old mid → far ≡ with_object mid held.values size → Comes far new (after_value far) → first ≡ mark_of old
-    → (before.contents + 1 < 2 ^ 64 → after ≡ value_tally first held.values before) → Passes gate piece (Some size) old before new after
-unfolding AssignsOther
-flat_passes gate n size piece old mid far new first before after held g can i tag class small c flat places assigns ef comes em counts =
-    let holds : HoldsFor (layer_of old.table.chains c.sections.first) held = subst (λ k. HoldsFor (layer_of old.table.chains k) held) (sym c.one) c.holds in
-    let prims = holds.prims in
-    let any = c.some in
-    let raw = holds.raw_bytes in
-    let code = first_code (codes_of old c.sections.first) (omega arith) in
-    let few = code.2 in
-    let told : Tally = with_values (class_counted old before) old.frames held.values in
-    counted_once gate piece size old new before after told g
-    (λ room. counts room ∙ ap (λ m. value_tally m held.values before) em ∙ sym (flat_counts held.values old before))
-    (subst (λ k. Passes gate piece (Some k) old before new told) (sym flat.is)
-    (flat_goes gate n code.0 size piece old before held c g can i tag class small flat places assigns.0 holds code.1 code.3 (omega arith) new
-    (flat_comes old far new held c.sections.last c.sections.first code.0 size flat.is (ef ∙ ap (λ r. with_object r held.values size) assigns.1) comes)))
+backs_long : (values : ℕ) (bytes : List ℕ) (most : ℕ) → AreBacks bytes values most → 5 * values ≤ length bytes
+backs_long zero bytes most h = omega arith
+backs_long (suc values) bytes most h =
+    let first = back_long bytes most h.0 in
+    let n = length-drop 5 bytes in
+    let others = backs_long values (drop 5 bytes) most h.1 in
+    omega arith
 
-pub flat_room : (piece : List ℕ) (size : ℕ) (old mid : Seen) (held : Section) → CanPass old piece → IsFlat old piece held size → size ≤ length piece → 0 < length piece → AssignsOther true old mid
-    → mid.meter.at + size < 2 ^ 64
+-- it is all in the piece
+pub flat_within : (r : Seen) (piece : List ℕ) (n : ℕ) (object : FlatObject) → IsFlatObject r piece n object → (0 < object.size) × (object.size ≤ length piece)
+flat_within r piece n object c =
+    let raws = c.flat.raws in
+    let n = length-drop (6 + c.end.used) piece in
+    let backs = backs_long c.end.values (drop (6 + c.end.used) piece) (length r.table.entries) c.flat.backs in
+    let is = c.flat.is in
+    (omega arith, omega arith)
+
+pub flat_passes : (gate : Gate) (n : ℕ) (piece : List ℕ) (old mid far new : Seen) (first : Mark) (before after : Tally) (object : FlatObject) → IsGate gate → CanPass old piece → IsPlace old.phase
+    → 0x73 ≡ get_or piece 0 0 → HasReference piece n → n < 2 ^ 32 → IsFlatObject old piece n object → HasPlaces old object.values
+    → AssignsOther true old mid → far ≡ with_object mid object.values object.size → Comes far new (after_value far) → first ≡ mark_of old
+    → (before.contents + 1 < 2 ^ 64 → after ≡ value_tally first object.values before) → Passes gate piece (Some object.size) old before new after
 unfolding AssignsOther
-flat_room piece size old mid held can flat le some h =
-    let room = can.within.room some in
-    subst (λ r. r.meter.at + size < 2 ^ 64) (sym h.1) (let k : old.meter.at + size < 2 ^ 64 = omega arith in k)
+flat_passes gate n piece old mid far new first before after object g can i tag class small c places assigns ef comes em counts =
+    let sections : Sections = c.sections in
+    let end : RawsEnd = c.end in
+    let prims = c.raws.holds.prims in
+    let any = c.raws.some in
+    let raw = c.raws.holds.raw_bytes in
+    let code = first_code (codes_of old sections.first) (omega arith) in
+    let few = code.2 in
+    let told : Tally = with_values (class_counted old before) old.frames end.values in
+    let is_far : far ≡ with_object (added old other_entry) end.values object.size =
+    ef ∙ ap (λ r. with_object r object.values object.size) assigns.1 ∙ ap (λ k. with_object (added old other_entry) k object.size) c.values in
+    counted_once gate piece object.size old new before after told g
+    (λ room. counts room ∙ ap₂ (λ m k. value_tally m k before) em c.values ∙ sym (flat_counts end.values old before))
+    (subst (λ k. Passes gate piece (Some k) old before new told) (sym c.flat.is)
+    (flat_goes gate n code.0 object.size piece old before sections end c.raws g can i tag class small c.of_class c.flat (subst (HasPlaces old) c.values places) assigns.0 code.1 code.3 (omega arith) new
+    (flat_comes old far new c.raws.held sections.last sections.first code.0 object.size end.used end.values c.flat.is is_far comes)))
+
+pub flat_room : (piece : List ℕ) (n : ℕ) (old mid : Seen) (object : FlatObject) → CanPass old piece → IsFlatObject old piece n object → AssignsOther true old mid
+    → mid.meter.at + object.size < 2 ^ 64
+unfolding AssignsOther
+flat_room piece n old mid object can c h =
+    let w = flat_within old piece n object c in
+    let some = w.0 in
+    let le = w.1 in
+    let room = can.within.room (omega arith) in
+    subst (λ r. r.meter.at + object.size < 2 ^ 64) (sym h.1) (let k : old.meter.at + object.size < 2 ^ 64 = omega arith in k)
 
 pub flat_deep : (first : Mark) (values : ℕ) (old : Seen) → first ≡ mark_of old → HasPlaces old values → first.depth + 1 < 2 ^ 64
 flat_deep first values old e p =
@@ -426,23 +460,6 @@ flat_deep first values old e p =
 pub flat_few : (values : ℕ) (old mid : Seen) → HasPlaces old values → AssignsOther true old mid → mid.refs + values < mid.meter.limits.refs
 unfolding AssignsOther
 flat_few values old mid p h = subst (λ r. r.refs + values < r.meter.limits.refs) (sym h.1) p.few
-
-backs_long : (values : ℕ) (bytes : List ℕ) (most : ℕ) → AreBacks bytes values most → 5 * values ≤ length bytes
-backs_long zero bytes most h = omega arith
-backs_long (suc values) bytes most h =
-    let first = back_long bytes most h.0 in
-    let n = length-drop 5 bytes in
-    let others = backs_long values (drop 5 bytes) most h.1 in
-    omega arith
-
--- it is all in the piece
-pub flat_within : (r : Seen) (piece : List ℕ) (held : Section) (size : ℕ) → IsFlat r piece held size → (0 < size) × (size ≤ length piece)
-flat_within r piece held size h =
-    let raws = h.raws in
-    let n = length-drop (6 + held.raw_bytes) piece in
-    let backs = backs_long held.values (drop (6 + held.raw_bytes) piece) (length r.table.entries) h.backs in
-    let is = h.is in
-    (omega arith, omega arith)
 
 -- ---- the loop over the references
 

@@ -20,7 +20,7 @@ use Rattle.jser_reader.specs.Frames.{frame_goals}
 use Rattle.jser_reader.specs.Fitting.{FrameFits, HasParts, AllFit, LayersFit}
 use Rattle.jser_reader.specs.Handlers.{Comes, moved}
 use Rattle.jser_reader.specs.Passes.{Passes, CanPass}
-use Rattle.jser_reader.specs.RawRuns.{Leads, parts_after, EndsRaws}
+use Rattle.jser_reader.specs.RawRuns.{Leads, parts_after, EndsRaws, GoesTo}
 use Rattle.jser_reader.specs.RawsTold.{TellsRaws, RawsCases}
 use Rattle.jser_reader.specs.Readers.{Seen, Ready}
 use Rattle.jser_reader.specs.Stacks.{tail_of}
@@ -264,6 +264,26 @@ raws_go_on piece r next end held can h none plain on is enough =
       leads = subst (λ k. Leads piece (end.used + k) r (state_with r end.last next held.values [])) (sym size)
           (leads_raws (codes_of r next) piece end.used r end.last next 0 held.values can before (omega arith) refl start);
     }
+
+-- the same, whatever machine it is
+
+pub goes_nowhere : (C : List (List Layer)) (size : ℕ) (end : RawsEnd) → IsOn C end.last end.section → end.used ≤ size → GoesTo C size end end
+goes_nowhere C size end on within = record { on = on; last = refl; within = within; ends = λ piece r el ec can h. h }
+
+pub goes_on : (C : List (List Layer)) (size next : ℕ) (first end : RawsEnd) (held : Section) → GoesTo C size first end
+    → end.values ≡ 0 → end.is_annotated ≡ false → IsNext C end.last end.section (Some next) → HoldsFor (layer_of C next) held → end.used + held.raw_bytes ≤ size
+    → GoesTo C size first (record { last = end.last; section = next; prims = held.prims; values = held.values; is_annotated = held.is_annotated; used = end.used + held.raw_bytes })
+goes_on C size next first end held h none plain on is enough = record {
+  on = on.0;
+  last = h.last;
+  within = enough;
+  ends = λ piece r el ec can first_ends.
+      raws_go_on piece r next end held can (h.ends piece r el ec can first_ends) none plain (subst (λ X. IsNext X end.last end.section (Some next)) (sym ec) on)
+      (subst (λ X. HoldsFor (layer_of X next) held) (sym ec) is) (omega arith);
+}
+
+pub goes_there : (piece : List ℕ) (r : Seen) (first end : RawsEnd) → CanPass r piece → EndsRaws piece r first → GoesTo r.table.chains (length piece) first end → EndsRaws piece r end
+goes_there piece r first end can h goes = goes.ends piece r refl refl can h
 
 -- ---- the machine after them
 

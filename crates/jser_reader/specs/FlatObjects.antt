@@ -1,5 +1,5 @@
--- Objects of which all bytes are in a piece: the tag, the reference that is the class, and one section, of raw values and
--- references alone.
+-- Objects of which all bytes are in a piece: the tag, the reference that is the class, and sections of raw values, the last
+-- of which may have references too.
 use Rattle.std.specs.Prelude.{◌≡◌, ℕ, zero, suc, ◌+◌, ◌*◌, ◌-◌, ◌^◌, ◌<◌, ◌≤◌, Bool, true, false, max, nat_lt, List, length, get_or, drop, slice_get, Some}
 use Rattle.jser_table.specs.declared.class.Class.TheVariants as class
 use Rattle.jser_table.specs.declared.layer.Fit.TheVariants as fit
@@ -13,28 +13,41 @@ use Rattle.jser_table.specs.Sections.{layer_of, AreSections, HoldsFor}
 use Rattle.jser_table.specs.Tables.{IsClass}
 use Rattle.jser_grammar.specs.Wire.{TC_REFERENCE}
 use Rattle.jser_reading.specs.Totals.{one_more_if, number_if}
+use Rattle.jser_reader.specs.declared.machine.flat_objects.FlatObject.{FlatObject}
+use Rattle.jser_reader.specs.declared.machine.raws.RawsEnd.{RawsEnd}
 use Rattle.jser_reader.specs.declared.tally.Mark.{Mark}
 use Rattle.jser_reader.specs.declared.tally.Tally.{Tally}
 use Rattle.jser_reader.specs.Handlers.{is_full, added}
+use Rattle.jser_reader.specs.RawRuns.{GoesTo}
 use Rattle.jser_reader.specs.Readers.{Seen}
 use Rattle.jser_reader.specs.Takes.{counted_on}
 use Rattle.jser_reader.specs.Wholes.{HasNumber}
 
 -- ---- the class
 
--- a closed class that fits an object, whose data are one section: raw values, and then values
-pub record HasOneSection (r : Seen) (n : ℕ) (held : Section) : Type 0 where
+-- a closed class that fits an object, whose data have these sections
+pub record HasSections (r : Seen) (n : ℕ) (sections : Sections) : Type 0 where
   pub chain : ℕ
-  pub sections : Sections
   pub low : n < 0x7E0000 → ⊥
   pub is_class : IsClass r.table.chains (slice_get r.table.entries (n - 0x7E0000)) (class.Closed chain)
   pub fits : fit_of purpose.Object (chain_in r.table.chains chain) ≡ fit.Fits
   pub plain : is_external (chain_in r.table.chains chain) ≡ false
   pub are : AreSections r.table.chains (chain_in r.table.chains chain) (Some sections)
-  pub one : sections.first ≡ sections.last
-  pub holds : HoldsFor (layer_of r.table.chains sections.last) held
+
+-- the first section, which begins with so many bytes of raw values
+abbrev pub first_end : Sections → Section → RawsEnd
+first_end sections held = record { last = sections.last; section = sections.first; prims = held.prims; values = held.values; is_annotated = held.is_annotated; used = held.raw_bytes }
+
+-- After the reference that is the class come raw values up to the last section, all of them in the piece, and no annotation
+-- comes after that section's values.
+pub record HasRaws (r : Seen) (piece : List ℕ) (sections : Sections) (end : RawsEnd) : Type 0 where
+  pub held : Section
+  pub holds : HoldsFor (layer_of r.table.chains sections.first) held
   pub some : 0 < held.prims
-  pub unannotated : held.is_annotated ≡ false
+  pub enough : 6 + held.raw_bytes ≤ length piece
+  pub goes : GoesTo r.table.chains (length piece - 6) (first_end sections held) end
+  pub last : end.section ≡ sections.last
+  pub unannotated : end.is_annotated ≡ false
 
 -- ---- the references
 
@@ -52,12 +65,20 @@ abbrev pub AreBacks : List ℕ → (values most : ℕ) → Type 0
 AreBacks bytes zero most = Unit {0}
 AreBacks bytes (suc values) most = IsBack bytes most × AreBacks (drop 5 bytes) values most
 
--- the raw values of this section and its values, all of them references, come after the reference that is the class: so many
--- bytes with that and the tag
-pub record IsFlat (r : Seen) (piece : List ℕ) (held : Section) (size : ℕ) : Type 0 where
-  pub raws : 6 + held.raw_bytes ≤ length piece
-  pub backs : AreBacks (drop (6 + held.raw_bytes) piece) held.values (length r.table.entries)
-  pub is : size ≡ 6 + held.raw_bytes + 5 * held.values
+-- the values after these raw values are references, all of them in the piece: an object of so many bytes
+pub record IsFlat (r : Seen) (piece : List ℕ) (end : RawsEnd) (size : ℕ) : Type 0 where
+  pub raws : 6 + end.used ≤ length piece
+  pub backs : AreBacks (drop (6 + end.used) piece) end.values (length r.table.entries)
+  pub is : size ≡ 6 + end.used + 5 * end.values
+
+-- an object of this class is at the front of the piece, and flat
+pub record IsFlatObject (r : Seen) (piece : List ℕ) (n : ℕ) (object : FlatObject) : Type 0 where
+  pub sections : Sections
+  pub end : RawsEnd
+  pub of_class : HasSections r n sections
+  pub raws : HasRaws r piece sections end
+  pub flat : IsFlat r piece end object.size
+  pub values : object.values ≡ end.values
 
 -- the places of an object and of so many values in it are not too deep, nor too many
 pub record HasPlaces (r : Seen) (values : ℕ) : Type 0 where

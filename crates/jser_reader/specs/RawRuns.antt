@@ -1,6 +1,7 @@
 -- Raw values that come one after another: all those of a section, and those of the sections after it that have nothing
 -- else.
 use Rattle.std.specs.Prelude.{◌≡◌, ℕ, ◌<◌, ◌≤◌, List, length, Some}
+use Rattle.jser_table.specs.declared.layer.Layer.{Layer}
 use Rattle.jser_table.specs.Chains.{has_write_method}
 use Rattle.jser_table.specs.Codes.{primitive_codes}
 use Rattle.jser_table.specs.Sections.{layer_of, under, IsOn}
@@ -10,7 +11,7 @@ use Rattle.jser_reader.specs.declared.machine.raws.RawsEnd.{RawsEnd}
 use Rattle.jser_reader.specs.declared.tally.Tally.{Tally}
 use Rattle.jser_reader.specs.Fitting.{HasParts}
 use Rattle.jser_reader.specs.Handlers.{Comes}
-use Rattle.jser_reader.specs.Passes.{Passes}
+use Rattle.jser_reader.specs.Passes.{Passes, CanPass}
 use Rattle.jser_reader.specs.RawsTold.{TellsRaws}
 use Rattle.jser_reader.specs.Readers.{Seen}
 use Rattle.jser_reader.specs.Stacks.{tail_of}
@@ -36,3 +37,11 @@ pub record EndsRaws (piece : List ℕ) (r : Seen) (end : RawsEnd) : Type 0 where
   pub some : 0 < end.used
   pub within : end.used ≤ length piece
   pub leads : Leads piece end.used r (before_parts r (tail_of r.frames) (parts_after r end.last end.section end.values))
+
+-- Where the raw values up to the section of the first end are in a piece of this length, those up to the section of the
+-- other one are as well, whatever machine it is that has these chains.
+pub record GoesTo (chains : List (List Layer)) (size : ℕ) (first end : RawsEnd) : Type 0 where
+  pub on : IsOn chains end.last end.section
+  pub last : end.last ≡ first.last
+  pub within : end.used ≤ size
+  pub ends : (piece : List ℕ) (r : Seen) → length piece ≡ size → r.table.chains ≡ chains → CanPass r piece → EndsRaws piece r first → EndsRaws piece r end

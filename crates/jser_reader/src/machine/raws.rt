@@ -3,7 +3,8 @@
 ghost use Rattle.std.specs.Prelude.{◌≡◌, ◌∷◌, ◌<◌, ◌≤◌, length, drop, IfSome, Some, None};
 ghost use Rattle.jser_verdict.specs.Gates.{Gate as ToldGate};
 ghost use Rattle.jser_reader.specs.Passes.{Passes, CanPass};
-ghost use Rattle.jser_reader.specs.RawRuns.{EndsRaws};
+ghost use Rattle.jser_table.specs.Sections.{IsOn};
+ghost use Rattle.jser_reader.specs.RawRuns.{EndsRaws, GoesTo};
 ghost use Rattle.jser_reader.specs.RawsTold.{TellsRaws, RawsCases};
 ghost use Rattle.jser_reader.specs.Stacks.{tail_of};
 
@@ -17,17 +18,17 @@ use jser_table::SectionNumber;
 #[derive(Clone, Copy)]
 pub(super) struct RawsEnd {
     /// The last section of the object.
-    last: SectionNumber,
+    pub(super) last: SectionNumber,
     /// This section.
-    section: SectionNumber,
+    pub(super) section: SectionNumber,
     /// How many raw values it has.
-    prims: u16,
+    pub(super) prims: u16,
     /// How many values are still to come of it.
-    values: u16,
+    pub(super) values: u16,
     /// Whether an annotation comes after them.
-    is_annotated: bool,
+    pub(super) is_annotated: bool,
     /// How many bytes were taken up to there.
-    used: usize,
+    pub(super) used: usize,
 }
 
 impl Machine {
@@ -86,12 +87,12 @@ impl Machine {
     }
 
     /// The same with the sections that come after it, as long as they have raw values alone and these are in the piece.
-    #[tactic(auto, using(crate::proofs::RawLemmas::raws_go_on))]
+    #[tactic(auto, using(crate::proofs::RawLemmas::goes_nowhere))]
     #[inline(always)]
-    fn raws_of_sections(&self, piece: &[u8], first: RawsEnd) -> RawsEnd
-        requires can { CanPass self.now piece.now }
-        requires first { EndsRaws piece.now self.now first }
-        ensures { EndsRaws piece.now self.now result }
+    pub(super) fn raws_of_sections(&self, piece: &[u8], first: RawsEnd) -> RawsEnd
+        requires on { IsOn self.now.table.chains first.last first.section }
+        requires within { first.used ≤ length piece.now }
+        ensures { GoesTo self.now.table.chains (length piece.now) first result }
     {
         let mut end = first;
         'sections: while end.values == 0 && !end.is_annotated {
@@ -138,6 +139,7 @@ impl Machine {
 
     /// Takes raw values, as many as come one after another and are in the piece with all their bytes, and returns how
     /// many bytes they are; or does nothing.
+    #[tactic(auto, using(crate::proofs::RawLemmas::goes_there))]
     #[inline(always)]
     pub(super) fn whole_raws(&mut self, piece: &[u8]) -> Option<usize>
         requires can { CanPass self.old piece.now }
