@@ -112,6 +112,7 @@ impl Machine {
 
     /// The flags of the plain descriptor on top.
     #[tactic(auto, using(crate::proofs::FieldLemmas::high_flags, crate::proofs::FieldLemmas::both_flags, crate::proofs::FieldLemmas::flags_fault, crate::proofs::FieldLemmas::flags_go))]
+    #[inline(always)]
     pub(super) fn flags(&mut self, flags: u8) -> bool
         ensures { HasDescriptor self.old.frames → Tells (flags_reason (top_role self.old.frames) flags) (field_count_state self.old flags) result self.old self.new }
     {

@@ -60,6 +60,7 @@ impl Machine {
 
     /// The number of fields of the plain descriptor on top.
     #[tactic(auto, using(crate::proofs::FieldLemmas::negative_count, crate::proofs::FieldLemmas::fields_begin))]
+    #[inline(always)]
     pub(super) fn field_count(&mut self, n: u16) -> bool
         ensures { HasDescriptor self.old.frames → Tells (count_reason (2 ^ 15) n) (after_field_count self.old n) result self.old self.new }
     {

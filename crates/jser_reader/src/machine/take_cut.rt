@@ -156,6 +156,7 @@ impl Machine {
 
     /// Takes the last `count` bytes of a number of eight bytes, the field that is open.
     #[tactic(auto, using(crate::proofs::CutLemmas::no_other_eight))]
+    #[inline(always)]
     fn end_eight(&mut self, phase: Phase, n: u64, count: u64) -> bool
         requires eight { IsEight phase }
         requires open { open_phase self.old ≡ phase }
