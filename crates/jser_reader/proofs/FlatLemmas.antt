@@ -46,7 +46,7 @@ use Rattle.jser_reader.proofs.OwnerLemmas.{filled_object, object_begins, object_
 use Rattle.jser_reader.proofs.PartLemmas.{begins_prims}
 use Rattle.jser_reader.proofs.PassLemmas.{then_passes, for_bytes}
 use Rattle.jser_reader.proofs.RawLemmas.{can_after, raws_begin}
-use Rattle.jser_reader.proofs.WholeLemmas.{with_class, TellsClass, owner_passes, reference_passes}
+use Rattle.jser_reader.proofs.WholeLemmas.{with_class, TellsClass, owner_passes, reference_passes, can_go_on}
 
 -- ---- what the code asks
 
@@ -440,6 +440,13 @@ flat_passes gate n piece old mid far new first before after object g can i tag c
     (subst (λ k. Passes gate piece (Some k) old before new told) (sym c.flat.is)
     (flat_goes gate n code.0 object.size piece old before sections end c.raws g can i tag class small c.of_class c.flat (subst (HasPlaces old) c.values places) assigns.0 code.1 code.3 (omega arith) new
     (flat_comes old far new c.raws.held sections.last sections.first code.0 object.size end.used end.values c.flat.is is_far comes)))
+
+pub flat_goes_on : (piece : List ℕ) (n : ℕ) (old mid far new : Seen) (object : FlatObject) → CanPass old piece → IsFlatObject old piece n object → AssignsOther true old mid
+    → far ≡ with_object mid object.values object.size → Comes far new (after_value far) → CanPass new (drop object.size piece)
+unfolding AssignsOther
+flat_goes_on piece n old mid far new object can c assigns ef comes =
+    can_go_on piece object.size old new can (flat_within old piece n object c).1
+    (comes.meter ∙ ap (λ r. moved r.meter) (ef ∙ ap (λ r. with_object r object.values object.size) assigns.1))
 
 pub flat_room : (piece : List ℕ) (n : ℕ) (old mid : Seen) (object : FlatObject) → CanPass old piece → IsFlatObject old piece n object → AssignsOther true old mid
     → mid.meter.at + object.size < 2 ^ 64

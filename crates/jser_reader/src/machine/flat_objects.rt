@@ -1,6 +1,6 @@
 //! Objects of which all bytes are in the piece, and whose data are raw values, and then references: so many sections of raw
 //! values alone, and one that may have references too. They are taken in one step, and no frame is put on the stack.
-ghost use Rattle.std.specs.Prelude.{◌≡◌, ◌+◌, ◌-◌, ◌^◌, ◌<◌, ◌≤◌, true, get_or, slice_get, length, Some, None, IfSome};
+ghost use Rattle.std.specs.Prelude.{◌≡◌, ◌+◌, ◌-◌, ◌^◌, ◌<◌, ◌≤◌, true, get_or, slice_get, length, drop, Some, None, IfSome};
 ghost use Rattle.jser_table.specs.Sections.{IsOn};
 ghost use Rattle.jser_table.specs.Tables.{IsClass};
 ghost use Rattle.jser_grammar.specs.Wire.{TC_OBJECT};
@@ -11,9 +11,10 @@ ghost use Rattle.jser_reader.specs.FlatObjects.{HasSections, HasRaws, AreBacks, 
 
 use crate::machine::Machine;
 use crate::machine::raws::RawsEnd;
-use crate::machine::wholes::number_after;
+use crate::machine::wholes::{number_after, reference_after};
+use crate::phase::Phase;
 use crate::tally::Tally;
-use jser_grammar::wire::{BASE_WIRE_HANDLE, TC_REFERENCE};
+use jser_grammar::wire::{BASE_WIRE_HANDLE, TC_OBJECT, TC_REFERENCE};
 use jser_table::{ChainNumber, Class, Fit, Kind, Purpose, Sections};
 
 /// An object whose data are raw values and references alone.
@@ -171,7 +172,7 @@ impl Machine {
     /// Takes an object with all its data, where they are raw values and references alone, and returns how many bytes it has;
     /// or does nothing.
     #[inline(always)]
-    pub(super) fn whole_object(&mut self, tally: &mut Tally, piece: &[u8], n: u32) -> Option<usize>
+    fn whole_object(&mut self, tally: &mut Tally, piece: &[u8], n: u32) -> Option<usize>
         requires can { CanPass self.old piece.now }
         requires place { IsPlace self.old.phase }
         requires tag { TC_OBJECT ≡ get_or piece.now 0 0 }
@@ -179,6 +180,7 @@ impl Machine {
         requires room { HasPlace self.old }
         ensures passes { IfSome result (λ used. (gate : ToldGate) → IsGate gate → Passes gate piece.now (Some used) self.old tally.old self.new tally.new) }
         ensures within { HasPassed piece.now result }
+        ensures can { IfSome result (λ used. CanPass self.new (drop used piece.now)) }
         ensures nothing { result ≡ None → (self.new ≡ self.old) × (tally.new ≡ tally.old) }
     {
         let Some(sections) = self.sections_of_class(n) else {
@@ -207,6 +209,7 @@ impl Machine {
         requires sections { HasSections self.old n sections }
         ensures passes { IfSome result (λ used. (gate : ToldGate) → IsGate gate → Passes gate piece.now (Some used) self.old tally.old self.new tally.new) }
         ensures within { HasPassed piece.now result }
+        ensures can { IfSome result (λ used. CanPass self.new (drop used piece.now)) }
         ensures nothing { result ≡ None → (self.new ≡ self.old) × (tally.new ≡ tally.old) }
     {
         self.whole_object_of(tally, piece, n, sections)
@@ -229,6 +232,7 @@ impl Machine {
         requires sections { HasSections self.old n sections }
         ensures passes { IfSome result (λ used. (gate : ToldGate) → IsGate gate → Passes gate piece.now (Some used) self.old tally.old self.new tally.new) }
         ensures within { HasPassed piece.now result }
+        ensures can { IfSome result (λ used. CanPass self.new (drop used piece.now)) }
         ensures nothing { result ≡ None → (self.new ≡ self.old) × (tally.new ≡ tally.old) }
     {
         let Some(object) = self.flat_object(piece, n, sections) else {
@@ -245,5 +249,60 @@ impl Machine {
         tally.count_value(first, object.values);
         self.ended_in_line();
         Some(object.size)
+    }
+
+    /// Takes an object with all its data, where one comes next whose data are raw values and references alone, and returns how
+    /// many bytes it has; or does nothing.
+    #[inline(always)]
+    fn object_here(&mut self, tally: &mut Tally, piece: &[u8]) -> Option<usize>
+        requires can { CanPass self.old piece.now }
+        requires place { IsPlace self.old.phase }
+        requires some { 0 < length piece.now }
+        ensures passes { IfSome result (λ used. (gate : ToldGate) → IsGate gate → Passes gate piece.now (Some used) self.old tally.old self.new tally.new) }
+        ensures within { HasPassed piece.now result }
+        ensures can { IfSome result (λ used. CanPass self.new (drop used piece.now)) }
+        ensures nothing { result ≡ None → (self.new ≡ self.old) × (tally.new ≡ tally.old) }
+    {
+        if piece[0] != TC_OBJECT {
+            return None;
+        }
+        let Some(n) = reference_after(piece) else {
+            return None;
+        };
+        if !self.has_place() {
+            return None;
+        }
+        self.whole_object(tally, piece, n)
+    }
+
+    /// Whether a content or a value comes next.
+    #[inline(always)]
+    fn is_place(&self) -> bool
+        ensures { result ≡ true → IsPlace self.now.phase }
+    {
+        match self.phase {
+            Phase::Top | Phase::Note | Phase::Value => true,
+            _ => false,
+        }
+    }
+
+    /// Takes objects whose data are raw values and references alone, as many as come one after another, and returns how many
+    /// bytes they are; or does nothing.
+    #[inline(always)]
+    pub(super) fn pass_objects(&mut self, tally: &mut Tally, piece: &[u8]) -> usize
+        requires can { CanPass self.old piece.now }
+        ensures passes { (gate : ToldGate) → IsGate gate → Passes gate piece.now (Some result) self.old tally.old self.new tally.new }
+        ensures within { result ≤ length piece.now }
+        ensures nothing { result ≡ 0 → (self.new ≡ self.old) × (tally.new ≡ tally.old) }
+    {
+        let mut used = 0;
+        'objects: while used < piece.len() && self.is_place() {
+            let (_, rest) = piece.split_at(used);
+            match self.object_here(tally, rest) {
+                None => return used,
+                Some(more) => used += more,
+            }
+        }
+        used
     }
 }

@@ -183,10 +183,28 @@ impl Machine {
         Some(n)
     }
 
+    /// Takes objects that come one after another, with all their data; or the tag of one, and its class where that is a
+    /// reference which is whole in the piece, with the raw values and the references that come after it.
+    #[inline(never)]
+    pub(super) fn pass_object(&mut self, tally: &mut Tally, piece: &[u8]) -> Option<usize>
+        requires can { CanPass self.old piece.now }
+        requires place { IsPlace self.old.phase }
+        requires tag { TC_OBJECT ≡ get_or piece.now 0 0 }
+        requires some { 0 < length piece.now }
+        ensures passes { (gate : ToldGate) → IsGate gate → Passes gate piece.now result self.old tally.old self.new tally.new }
+        ensures progress { HasPassed piece.now result }
+    {
+        let used = self.pass_objects(tally, piece);
+        if used > 0 {
+            return Some(used);
+        }
+        self.pass_object_parts(tally, piece)
+    }
+
     /// Takes the tag of an object, and its class where that is a reference which is whole in the piece, with the raw values
     /// and the references that come after it.
     #[inline(never)]
-    pub(super) fn pass_object(&mut self, tally: &mut Tally, piece: &[u8]) -> Option<usize>
+    fn pass_object_parts(&mut self, tally: &mut Tally, piece: &[u8]) -> Option<usize>
         requires can { CanPass self.old piece.now }
         requires place { IsPlace self.old.phase }
         requires tag { TC_OBJECT ≡ get_or piece.now 0 0 }
@@ -197,24 +215,6 @@ impl Machine {
         let Some(n) = self.class_here(piece) else {
             return self.pass_tag_alone(tally, piece);
         };
-        if let Some(used) = self.whole_object(tally, piece, n) {
-            return Some(used);
-        }
-        self.pass_object_parts(tally, piece, n)
-    }
-
-    /// Takes the tag of an object and the reference that is its class, with the raw values and the references that come after
-    /// it.
-    #[inline(never)]
-    fn pass_object_parts(&mut self, tally: &mut Tally, piece: &[u8], n: u32) -> Option<usize>
-        requires can { CanPass self.old piece.now }
-        requires place { IsPlace self.old.phase }
-        requires tag { TC_OBJECT ≡ get_or piece.now 0 0 }
-        requires class { HasReference piece.now n }
-        requires room { HasPlace self.old }
-        ensures passes { (gate : ToldGate) → IsGate gate → Passes gate piece.now result self.old tally.old self.new tally.new }
-        ensures progress { HasPassed piece.now result }
-    {
         if !self.whole_owner(tally, piece, Owner::Object, n) {
             return None;
         }

@@ -1,5 +1,5 @@
 use Rattle.std.proofs.Common.{refl, arith, rules}
-use Rattle.jser_reader.proofs.FlatLemmas.{no_other, other_assigned, flat_few, flat_room, flat_deep, flat_passes, flat_within}
+use Rattle.jser_reader.proofs.FlatLemmas.{no_other, other_assigned, flat_few, flat_room, flat_deep, flat_passes, flat_within, flat_goes_on}
 use Rattle.jser_reader.proofs.machine.Machine.whole_object_of.Goals as goal
 
 pub returns-then-not-assign_other-clause-nothing : goal.returns-then-not-assign_other-clause-nothing
@@ -24,3 +24,8 @@ returns-clause-passes c = λ gate is_gate.
 
 pub returns-clause-within : goal.returns-clause-within
 returns-clause-within c = flat_within _ c.args.piece.now c.args.n c.in-Some.object c.in-Some.ensures
+
+pub returns-clause-can : goal.returns-clause-can
+returns-clause-can c =
+    flat_goes_on c.args.piece.now c.args.n _ _ _ _ c.in-Some.object c.requires.can c.in-Some.ensures (other_assigned _ _ _ c.assign_other.ensures (search rules))
+    c.count_places.ensures c.ended_in_line.ensures.comes
