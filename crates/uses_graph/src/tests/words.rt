@@ -20,6 +20,7 @@ fn say_fields<W: Sink>(
 }
 // end
 
+mod at_once;
 mod fields;
 mod single;
 mod streams;
