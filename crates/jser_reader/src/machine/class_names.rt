@@ -28,8 +28,8 @@ fn name_in(piece: &[u8]) -> Option<usize>
 }
 
 impl Machine {
-    /// How many bytes the name has that comes next with its length, where it is that of a class, whole in the piece, and there
-    /// is room for its units.
+    /// How many bytes the name has that comes next with its length, where it is that of a class, whole in the piece, and each
+    /// byte of it is a unit.
     #[inline(always)]
     fn class_name_here(&self, piece: &[u8]) -> Option<usize>
         ensures { IfSome result (λ len. HasName piece.now len × (self.now.text ≡ TextFor.ClassName)) }
@@ -49,7 +49,7 @@ impl Machine {
         self.class_name(gate)
     }
 
-    /// Takes the length of a text and the text.
+    /// Takes the length of a text and the text: in one step where it is such a name, and there is room for its units.
     #[inline(always)]
     pub(super) fn pass_name<G: Gate>(&mut self, gate: &G, piece: &[u8]) -> Option<usize>
         requires can { CanPass self.old piece.now }

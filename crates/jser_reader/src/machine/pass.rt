@@ -149,7 +149,7 @@ impl Machine {
             Phase::Value | Phase::Top | Phase::Note => self.pass_value(tally, piece),
             Phase::Prims => self.pass_prims(piece),
             Phase::TypeCode | Phase::Length2 | Phase::Text | Phase::Suid => {
-                self.pass_class(gate, tally, piece)
+                self.pass_classes(gate, tally, piece)
             }
             _ => {
                 if self.phase.is_quiet() {

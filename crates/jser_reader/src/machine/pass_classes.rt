@@ -74,8 +74,23 @@ impl Machine {
 
     /// Takes fields with which no count changes, as many as come one after another, and what comes after those of a
     /// descriptor.
+    #[inline(always)]
+    fn pass_class<G: Gate>(&mut self, gate: &G, tally: &mut Tally, piece: &[u8]) -> Option<usize>
+        requires can { CanPass self.old piece.now }
+        requires some { 0 < length piece.now }
+        requires quiet { IsQuiet self.old.phase }
+        ensures passes { Passes (G.told gate.now) piece.now result self.old tally.old self.new tally.new }
+        ensures progress { HasPassed piece.now result }
+    {
+        match self.pass_quiets(gate, piece) {
+            None => None,
+            Some(used) => self.then_class(tally, piece, used),
+        }
+    }
+
+    /// The same of one descriptor after another, as many as come there.
     #[inline(never)]
-    pub(super) fn pass_class<G: Gate>(
+    pub(super) fn pass_classes<G: Gate>(
         &mut self,
         gate: &G,
         tally: &mut Tally,
@@ -87,9 +102,17 @@ impl Machine {
         ensures passes { Passes (G.told gate.now) piece.now result self.old tally.old self.new tally.new }
         ensures progress { HasPassed piece.now result }
     {
-        match self.pass_quiets(gate, piece) {
-            None => None,
-            Some(used) => self.then_class(tally, piece, used),
+        let mut used = 0;
+        'classes: loop {
+            let (_, rest) = piece.split_at(used);
+            match self.pass_class(gate, tally, rest) {
+                None => return None,
+                Some(more) => used += more,
+            }
+            let (_, others) = piece.split_at(used);
+            if others.is_empty() || !self.phase.is_quiet() || !self.has_room(others) {
+                return Some(used);
+            }
         }
     }
 }
