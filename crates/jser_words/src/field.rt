@@ -52,6 +52,7 @@ fn say_header<W: Sink>(outbox: &mut Outbox, sink: &mut W, place: Place, prompt: 
 }
 
 /// Says the tag of a value.
+#[inline(always)]
 fn say_tag<W: Sink>(outbox: &mut Outbox, sink: &mut W, place: Place, prompt: Prompt<'_>, tag: Tag)
     ensures { SaysTo W.gone_out W.has_failed outbox.old outbox.new sink.old sink.new (λ k. prompt_words place prompt.entry (seen_tag (told_tag tag)) k) }
 {

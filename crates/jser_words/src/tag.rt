@@ -22,6 +22,7 @@ pub(crate) struct Place {
 }
 
 /// Says what a tag begins: the whole line of a null, else the words before what comes next.
+#[inline(always)]
 pub(crate) fn say_value_tag<W: Sink>(outbox: &mut Outbox, sink: &mut W, place: Place, tag: Tag)
     ensures { SaysTo W.gone_out W.has_failed outbox.old outbox.new sink.old sink.new (λ k. tag_words place (told_tag tag) k) }
 {
