@@ -321,7 +321,7 @@ fn layer_codes(table: &Table, number: u32, most: u32) -> u64
             return codes;
         };
         if index < table.layers(number) {
-            codes = codes.wrapping_add(table.layer(number, index).codes.as_slice().len() as u64);
+            codes = codes.wrapping_add(table.layer(number, index).codes().len() as u64);
         }
         from = index.saturating_add(1);
     }

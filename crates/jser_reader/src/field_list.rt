@@ -2,7 +2,7 @@
 ghost use Rattle.std.specs.Prelude.{◌≡◌, ◌<◌, ◌^◌, ◌-◌, ◌++◌, ◌∷◌, [], ◌||◌, false, OnOk, OnErr};
 ghost use Rattle.jser_reader.specs.FieldLists.{FieldsRead};
 
-use jser_table::Codes;
+use jser_table::{KeptLayer, LayerKind};
 use std::alloc::{AllocError, Global};
 use std::marker::Model;
 
@@ -75,11 +75,11 @@ impl FieldList {
         Ok(())
     }
 
-    /// Takes the type codes out. Takes no memory.
-    pub(crate) fn take(&mut self, alloc: Global) -> Codes
-        ensures codes { result ≡ self.old.codes }
+    /// Takes the type codes out, into a layer of this kind with these flags. Takes no memory.
+    pub(crate) fn take(&mut self, alloc: Global, kind: LayerKind, flags: u8) -> KeptLayer
+        ensures layer { result ≡ record { kind = kind; flags = flags; codes = self.old.codes } }
         ensures rest { self.new ≡ record { codes = []; left = self.old.left; has_object = self.old.has_object } }
     {
-        Codes::new(std::mem::replace(&mut self.codes, Vec::new(alloc)))
+        KeptLayer::taking(alloc, kind, flags, &mut self.codes)
     }
 }

@@ -10,7 +10,7 @@ use crate::phase::{Phase, TextFor};
 use crate::refusal::Stop;
 use crate::stack::Stack;
 use jser_prim::TextScan;
-use jser_table::{Layer, LayerKind, Table};
+use jser_table::{KeptLayer, LayerKind, Table};
 use std::alloc::Global;
 use std::marker::Model;
 
@@ -89,8 +89,8 @@ pub(crate) struct Machine {
     fields: FieldList,
     interfaces: u32,
     /// The layer of the innermost descriptor that is open, and those of the others.
-    layer: Layer,
-    outer: Vec<Layer>,
+    layer: KeptLayer,
+    outer: Vec<KeptLayer>,
     text: TextFor,
     scan: TextScan,
     /// The units so far of the name of a class or an interface that is being read.

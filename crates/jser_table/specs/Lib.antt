@@ -6,6 +6,7 @@ pub mod Fits
 pub mod Sections
 pub mod Descriptors
 pub mod Jumps
+pub mod Kept
 pub mod Stored
 pub mod Slots
 pub mod Tables

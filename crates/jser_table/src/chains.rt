@@ -11,10 +11,11 @@ ghost use Rattle.jser_table.specs.Fits.{fit_of};
 ghost use Rattle.jser_table.specs.Jumps.{JumpsFar, TakesJump};
 ghost use Rattle.jser_table.specs.Descriptors.{AreTold, IsHighest, GoesUp, LinksTo, IsUnder, IsTold, IsLast, IsLastUnder, RunsOn, Files, AreShelved, IsFiled, chains_of, chain_of_parent, count_of, front_of};
 
-use crate::codes::leading_size;
+use crate::codes::{leading_of, leading_size, prim_size_in};
 use crate::descriptor::{Counted, Descriptor, Filed, Links};
 use crate::entry::MOST_CHAINS;
-use crate::layer::{Fit, Layer, Purpose};
+use crate::kept::KeptLayer;
+use crate::layer::{Fit, Purpose};
 use crate::section::{Section, SectionNumber, Sections};
 use std::alloc::{AllocError, Global};
 use std::marker::Model;
@@ -71,7 +72,7 @@ impl Chains {
     /// Adds the chain of the parent, if there is one, with this layer at its end, and gives its number.
     /// Takes no memory.
     #[tactic(auto, using(crate::proofs::ChainLemmas::length_chains_of, crate::proofs::ChainLemmas::told_push, crate::proofs::ChainLemmas::chains_push))]
-    pub(crate) fn add(&mut self, layer: Layer, parent: Option<u32>) -> u32
+    pub(crate) fn add(&mut self, layer: KeptLayer, parent: Option<u32>) -> u32
         requires room { 0 < self.old.room }
         requires parent_in { ForSome parent (λ number. number < length self.old.listed) }
         ensures added { self.new.listed ≡ self.old.listed ++ (chain_of_parent self.old.listed parent ++ layer ∷ []) ∷ [] }
@@ -102,7 +103,7 @@ impl Chains {
 
     /// The layer of the chain at this index.
     #[tactic(auto, using(crate::proofs::ChainLemmas::length_chains_of))]
-    pub(crate) fn layer(&self, number: u32, index: usize) -> &Layer
+    pub(crate) fn layer(&self, number: u32, index: usize) -> &KeptLayer
         requires number_in { number < length self.now.listed }
         requires index_in { index < length (chain_in self.now.listed number) }
         ensures { slice_get (chain_in self.now.listed number) index ≡ Some result.now }
@@ -236,7 +237,7 @@ fn run_under(descriptors: &[Descriptor], sections: &[Filed], above: Option<u32>)
 }
 
 /// Adds the section of the layer to the list, if it has one. Takes no memory.
-fn file(sections: &mut Vec<Filed>, layer: &Layer, class: u32, run: u32)
+fn file(sections: &mut Vec<Filed>, layer: &KeptLayer, class: u32, run: u32)
     requires room { vec_len sections.old < vec_capacity sections.old }
     ensures filed { Files layer.now class run sections.old.items sections.new.items }
     ensures room { vec_capacity sections.old - vec_len sections.old ≤ vec_capacity sections.new - vec_len sections.new + 1 }
@@ -248,7 +249,7 @@ fn file(sections: &mut Vec<Filed>, layer: &Layer, class: u32, run: u32)
         section: layer.section(),
         class,
         run,
-        leading: layer.codes.leading(),
+        leading: leading_of(layer.codes()),
     };
     match sections.push(filed) {
         Ok(()) => (),
@@ -262,7 +263,7 @@ fn file(sections: &mut Vec<Filed>, layer: &Layer, class: u32, run: u32)
 fn descriptor_under(
     descriptors: &[Descriptor],
     parent: Option<u32>,
-    layer: Layer,
+    layer: KeptLayer,
     section: u32,
 ) -> Descriptor
     requires told { AreTold descriptors.now }
@@ -282,7 +283,7 @@ fn descriptor_under(
 }
 
 /// The lowest section of a chain: the layer's own, if it has one, and else the one above.
-fn last_under(layer: &Layer, section: u32, above: Option<u32>) -> Option<u32>
+fn last_under(layer: &KeptLayer, section: u32, above: Option<u32>) -> Option<u32>
     ensures { IsLastUnder layer.now section above result }
 {
     if layer.is_filled() {
@@ -345,11 +346,13 @@ fn prim_size_at(descriptors: &[Descriptor], sections: &[Filed], section: u32, po
     ensures { option_map size_of (slice_get (primitive_codes (layer_of (chains_of descriptors.now) section).codes) pos) ≡ Some result }
 {
     let filed = filed_at(descriptors, sections, section);
-    let codes = &descriptor_at(descriptors, filed.class as usize).layer.codes;
+    let codes = descriptor_at(descriptors, filed.class as usize)
+        .layer
+        .codes();
     if pos < filed.leading {
-        leading_size(codes.as_slice(), filed.leading, pos)
+        leading_size(codes, filed.leading, pos)
     } else {
-        codes.prim_size(pos as usize)
+        prim_size_in(codes, pos as usize)
     }
 }
 
@@ -426,7 +429,7 @@ fn section_after_by_walk(
 
 /// The layer at this index of the chain at `start`.
 #[tactic(auto, using(crate::proofs::WalkLemmas::layer_found))]
-fn layer_at(descriptors: &[Descriptor], start: usize, index: usize) -> &Layer
+fn layer_at(descriptors: &[Descriptor], start: usize, index: usize) -> &KeptLayer
     requires told { AreTold descriptors.now }
     requires start_in { start < length descriptors.now }
     requires index_in { index < length (chain_in (chains_of descriptors.now) start) }

@@ -33,7 +33,8 @@ impl Codes {
 
     /// The codes, in order.
     pub fn as_slice(&self) -> &[u8]
-        ensures { result.now ≡ self.now }
+        ensures codes { result.now ≡ self.now }
+        ensures few { length result.now < 2 ^ 15 }
     {
         self.codes.as_slice()
     }
@@ -52,31 +53,6 @@ impl Codes {
         let Codes { codes } = self;
         codes
     }
-
-    /// How many of the codes are those of primitive types, how many bytes these have together, and how many
-    /// are left.
-    pub(crate) fn counts(&self) -> Counts
-        ensures prims { result.prims ≡ length (primitive_codes self.now) }
-        ensures values { result.values ≡ object_count self.now }
-        ensures raw_bytes { result.raw_bytes ≡ raw_size (primitive_codes self.now) }
-    {
-        counts_of(&self.codes)
-    }
-
-    /// How many of the codes come before the first that is not a primitive type's.
-    pub(crate) fn leading(&self) -> u16
-        ensures { AreLeading self.now result }
-    {
-        leading_of(&self.codes)
-    }
-
-    /// The size of the raw value at this place among those of the class.
-    pub(crate) fn prim_size(&self, pos: usize) -> u8
-        requires { pos < length (primitive_codes self.now) }
-        ensures { option_map size_of (slice_get (primitive_codes self.now) pos) ≡ Some result }
-    {
-        prim_size_in(&self.codes, pos)
-    }
 }
 
 /// How many codes of each sort a class has.
@@ -87,8 +63,9 @@ pub(crate) struct Counts {
     pub(crate) values: u16,
 }
 
-/// The same of these codes.
-fn counts_of(codes: &[u8]) -> Counts
+/// How many of these codes are those of primitive types, how many bytes these have together, and how many
+/// are left.
+pub(crate) fn counts_of(codes: &[u8]) -> Counts
     requires { length codes.now < 2 ^ 15 }
     ensures prims { result.prims ≡ length (primitive_codes codes.now) }
     ensures values { result.values ≡ object_count codes.now }
@@ -114,7 +91,7 @@ fn counts_of(codes: &[u8]) -> Counts
 }
 
 /// How many of these codes come before the first that is not a primitive type's.
-fn leading_of(codes: &[u8]) -> u16
+pub(crate) fn leading_of(codes: &[u8]) -> u16
     requires { length codes.now < 2 ^ 15 }
     ensures { AreLeading codes.now result }
 {
@@ -141,7 +118,7 @@ pub(crate) fn leading_size(codes: &[u8], leading: u16, pos: u16) -> u8
 }
 
 /// The size of the raw value at this place among those of these codes.
-fn prim_size_in(codes: &[u8], pos: usize) -> u8
+pub(crate) fn prim_size_in(codes: &[u8], pos: usize) -> u8
     requires { pos < length (primitive_codes codes.now) }
     ensures { option_map size_of (slice_get (primitive_codes codes.now) pos) ≡ Some result }
 {

@@ -2,7 +2,7 @@
 ghost use Rattle.std.specs.Prelude.{◌≡◌, ◌<◌, ◌≤◌, ◌^◌, ◌-◌, [], ◌∷◌, Some, None};
 ghost use Rattle.jser_table.specs.Descriptors.{told_count, Knows, KnowsBelow};
 
-use crate::layer::Layer;
+use crate::kept::KeptLayer;
 use crate::section::Section;
 
 /// Where a descriptor's superclasses stand in the list of closed descriptors: the parent, and an ancestor
@@ -17,7 +17,7 @@ pub(crate) struct Links {
 /// A closed descriptor.
 #[derive(Debug, Drop)]
 pub(crate) struct Descriptor {
-    pub(crate) layer: Layer,
+    pub(crate) layer: KeptLayer,
     /// None for a class with no superclass.
     pub(crate) links: Option<Links>,
     /// How many layers the chain has.
@@ -53,7 +53,7 @@ pub(crate) enum Counted {
 impl Descriptor {
     /// A class with no superclass.
     #[tactic(auto, using(crate::proofs::ChainLemmas::knows_root))]
-    pub(crate) fn root(layer: Layer, last: Option<u32>) -> Descriptor
+    pub(crate) fn root(layer: KeptLayer, last: Option<u32>) -> Descriptor
         ensures layer { result.layer ≡ layer }
         ensures last { result.last ≡ last }
         ensures links { result.links ≡ None }
@@ -74,7 +74,7 @@ impl Descriptor {
     pub(crate) fn below(
         parent: &Descriptor,
         links: Links,
-        layer: Layer,
+        layer: KeptLayer,
         last: Option<u32>,
     ) -> Descriptor
         requires fewer { parent.now.layers < 2 ^ 32 - 1 }

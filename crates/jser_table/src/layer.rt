@@ -1,13 +1,9 @@
 //! Layers: what an object's data needs of each class of a chain.
-ghost use Rattle.std.specs.Prelude.{◌≡◌, option_map};
-ghost use Rattle.jser_table.specs.Chains.{has_write_method, is_serializable, is_externalizable, has_block_data, is_enum, is_filled, is_serial, is_array_kind, elements_of_kind};
-ghost use Rattle.jser_table.specs.Codes.{size_of};
-ghost use Rattle.jser_table.specs.Sections.{HoldsFor};
-ghost use Rattle.jser_table.specs.Fits.{class_fit, object_fit};
+ghost use Rattle.std.specs.Prelude.{◌≡◌};
+ghost use Rattle.jser_table.specs.Chains.{has_write_method, is_serializable, is_externalizable, has_block_data, is_enum, is_filled, is_serial};
 
-use crate::codes::{Codes, size_of_code};
-use crate::flags::{SC_BLOCK_DATA, SC_ENUM, SC_EXTERNALIZABLE, SC_SERIALIZABLE, SC_WRITE_METHOD};
-use crate::section::Section;
+use crate::codes::Codes;
+use crate::flags::{has_block_data, has_write_method, is_enum, is_externalizable, is_serializable};
 
 /// What the elements of an array are.
 #[derive(Clone, Copy, PartialEq, Eq, Hash, Debug)]
@@ -69,39 +65,35 @@ impl Layer {
     pub fn has_write_method(&self) -> bool
         ensures { result ≡ has_write_method self.now.flags }
     {
-        self.flags & SC_WRITE_METHOD != 0
+        has_write_method(self.flags)
     }
 
     /// Whether the flags have `SC_SERIALIZABLE`.
-    #[tactic(auto, using(crate::proofs::FlagLemmas::serializable_bit))]
     pub fn is_serializable(&self) -> bool
         ensures { result ≡ is_serializable self.now.flags }
     {
-        self.flags & SC_SERIALIZABLE != 0
+        is_serializable(self.flags)
     }
 
     /// Whether the flags have `SC_EXTERNALIZABLE`.
-    #[tactic(auto, using(crate::proofs::FlagLemmas::externalizable_bit))]
     pub fn is_externalizable(&self) -> bool
         ensures { result ≡ is_externalizable self.now.flags }
     {
-        self.flags & SC_EXTERNALIZABLE != 0
+        is_externalizable(self.flags)
     }
 
     /// Whether the flags have `SC_BLOCK_DATA`: an externalizable class writes block data.
-    #[tactic(auto, using(crate::proofs::FlagLemmas::block_data_bit))]
     pub fn has_block_data(&self) -> bool
         ensures { result ≡ has_block_data self.now.flags }
     {
-        self.flags & SC_BLOCK_DATA != 0
+        has_block_data(self.flags)
     }
 
     /// Whether the flags have `SC_ENUM`.
-    #[tactic(auto, using(crate::proofs::FlagLemmas::enum_bit))]
     pub fn is_enum(&self) -> bool
         ensures { result ≡ is_enum self.now.flags }
     {
-        self.flags & SC_ENUM != 0
+        is_enum(self.flags)
     }
 
     /// Whether an object holds something to read for this class: fields, or an annotation.
@@ -116,67 +108,5 @@ impl Layer {
         ensures { result ≡ is_serial self.now }
     {
         self.kind == LayerKind::Proxy || self.is_serializable()
-    }
-
-    /// What an object's data holds for this class.
-    pub(crate) fn section(&self) -> Section
-        ensures { HoldsFor self.now result }
-    {
-        let counts = self.codes.counts();
-        Section {
-            raw_bytes: counts.raw_bytes,
-            prims: counts.prims,
-            values: counts.values,
-            is_annotated: self.has_write_method(),
-        }
-    }
-
-    /// Whether this class fits the purpose. `all_serial` tells whether each class of its chain, itself
-    /// included, is a proxy or serializable.
-    pub(crate) fn fit(&self, purpose: Purpose, all_serial: bool) -> Fit
-        ensures { result ≡ class_fit purpose self.now all_serial }
-    {
-        let is_right = match purpose {
-            Purpose::Object => return self.fit_object(all_serial),
-            Purpose::Array => self.is_array(),
-            Purpose::EnumConst => self.kind != LayerKind::Proxy && self.is_enum(),
-        };
-        if is_right { Fit::Fits } else { Fit::WrongClass }
-    }
-
-    fn fit_object(&self, all_serial: bool) -> Fit
-        ensures { result ≡ object_fit self.now all_serial }
-    {
-        if self.is_array() {
-            return Fit::WrongClass;
-        }
-        if self.is_externalizable() {
-            return if self.has_block_data() {
-                Fit::Fits
-            } else {
-                Fit::ExternalRaw
-            };
-        }
-        if all_serial {
-            Fit::Fits
-        } else {
-            Fit::NotSerializable
-        }
-    }
-
-    /// The size of an array's elements, where they are raw values.
-    pub(crate) fn element_size(&self) -> Option<u8>
-        ensures { result ≡ option_map size_of (elements_of_kind self.now.kind) }
-    {
-        match self.kind {
-            LayerKind::Array(BodyKind::Prim(code)) => size_of_code(code),
-            _ => None,
-        }
-    }
-
-    fn is_array(&self) -> bool
-        ensures { result ≡ is_array_kind self.now.kind }
-    {
-        matches!(self.kind, LayerKind::Array(_))
     }
 }

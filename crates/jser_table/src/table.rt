@@ -14,6 +14,7 @@ ghost use Rattle.jser_table.specs.Tables.{new_entry, closed_under, is_text_entry
 use crate::chains::Chains;
 use crate::class::{ChainNumber, Class};
 use crate::entry::{Closed, Entry, Kept, Kind, Slot};
+use crate::kept::KeptLayer;
 use crate::layer::{Fit, Layer, Purpose};
 use crate::section::{Section, SectionNumber, Sections};
 use std::alloc::Global;
@@ -129,6 +130,17 @@ impl Table {
         ensures chains { self.new.chains ≡ self.old.chains ++ (parent_chain self.old.entries parent ++ layer ∷ []) ∷ [] }
         ensures max { self.new.max ≡ self.old.max }
     {
+        self.close_kept(number, KeptLayer::new(layer), parent);
+    }
+
+    /// The same with a layer in the form in which it is kept.
+    pub fn close_kept(&mut self, number: u32, layer: KeptLayer, parent: Option<u32>)
+        requires pending { IsTrue (is_pending (slice_get self.old.entries number)) }
+        requires parent { ForSome parent (λ p. IsTrue (is_closed (slice_get self.old.entries p))) }
+        ensures closed { self.new.entries ≡ slice_set self.old.entries number (closed_under self.old.entries parent layer) }
+        ensures chains { self.new.chains ≡ self.old.chains ++ (parent_chain self.old.entries parent ++ layer ∷ []) ∷ [] }
+        ensures max { self.new.max ≡ self.old.max }
+    {
         let parent = parent_chain_number(&self.entries, parent);
         let chain = self.chains.add(layer, parent);
         self.entries[number as usize] = Slot::closed(chain);
@@ -175,7 +187,7 @@ impl Table {
 
     /// The layer of the chain of a closed entry at this index, where 0 is the highest superclass. The
     /// number of steps is in the order of the logarithm of the chain.
-    pub fn layer(&self, number: u32, index: usize) -> &Layer
+    pub fn layer(&self, number: u32, index: usize) -> &KeptLayer
         requires closed { IsTrue (is_closed (slice_get self.now.entries number)) }
         requires index { index < length (chain_at self.now.entries number) }
         ensures { slice_get (chain_at self.now.entries number) index ≡ Some result.now }

@@ -12,7 +12,7 @@ ghost use Rattle.jser_value.specs.View.{view_field};
 
 use crate::cursor::Fault;
 use crate::texts::is_primitive;
-use jser_table::{BodyKind, Codes, Entry, Kind, Layer, LayerKind, Table, layer_kind_of};
+use jser_table::{BodyKind, Codes, Entry, KeptLayer, Kind, Layer, LayerKind, Table, layer_kind_of};
 use jser_value::{Field, Handles};
 use std::alloc::{AllocError, Global};
 
@@ -80,7 +80,7 @@ pub(crate) fn proxy_layer(alloc: Global) -> Layer
 
 /// The class's own layer, the last of its chain.
 #[tactic(auto, using(jser_value::proofs::CheckLemmas::own_layer_last, jser_value::proofs::CheckLemmas::own_layer_none))]
-fn own_layer(table: &Table, number: u32) -> Option<&Layer>
+fn own_layer(table: &Table, number: u32) -> Option<&KeptLayer>
     requires { IsTrue (is_closed (slice_get table.now.entries number)) }
     ensures { option_copied result ≡ own_layer (chain_at table.now.entries number) }
 {
@@ -106,7 +106,7 @@ pub(crate) fn element_code(table: &Table, number: u32) -> Option<u8>
     ensures { result ≡ element_code (chain_at table.now.entries number) }
 {
     match own_layer(table, number) {
-        Some(layer) => element_code_of(layer.kind),
+        Some(layer) => element_code_of(layer.kind()),
         None => None,
     }
 }

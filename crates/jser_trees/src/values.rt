@@ -518,7 +518,7 @@ fn section(
     ensures spent { OnOk result (Spends table.old.entries cursor.old table.new.entries cursor.new) }
 {
     let layer = table.table().layer(number, index);
-    let codes = layer.codes.as_slice();
+    let codes = layer.codes();
     let prims = prims_of(alloc, cursor, codes)?;
     let count = count_values(codes);
     let has_notes = layer.has_write_method();

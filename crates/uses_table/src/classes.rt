@@ -6,7 +6,7 @@ ghost use Rattle.jser_table.specs.Entries.{is_closed, chain_at};
 ghost use Rattle.jser_table.specs.Fits.{fits};
 ghost use Rattle.uses_table.specs.Layouts.{layout_by};
 
-use jser_table::{ChainNumber, Fit, Layer, Purpose, Table};
+use jser_table::{ChainNumber, Fit, KeptLayer, Purpose, Table};
 
 /// Whether an object of this class can be read.
 pub fn can_be_read(table: &Table, number: u32) -> bool
@@ -25,7 +25,7 @@ pub fn is_serial(table: &Table, number: u32) -> bool
 }
 
 /// The layer of the class itself, which stands behind those of its superclasses.
-pub fn own_layer(table: &Table, number: u32) -> Option<&Layer>
+pub fn own_layer(table: &Table, number: u32) -> Option<&KeptLayer>
     requires { IsTrue (is_closed (slice_get table.now.entries number)) }
     ensures { option_map (λ layer. layer.now) result ≡ slice_get (chain_at table.now.entries number) (length (chain_at table.now.entries number) - 1) }
 {

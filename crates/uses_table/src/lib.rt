@@ -6,6 +6,7 @@ pub mod classes;
 pub mod data;
 pub mod epochs;
 pub mod fields;
+pub mod kept;
 pub mod names;
 pub mod references;
 #[cfg(test)]

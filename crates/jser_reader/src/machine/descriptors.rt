@@ -16,7 +16,7 @@ use crate::frame::{Frame, Owner, Role};
 use crate::machine::Machine;
 use crate::phase::Phase;
 use crate::refusal::Reason;
-use jser_table::{Codes, Kind, Layer, LayerKind};
+use jser_table::{KeptLayer, Kind, LayerKind};
 
 impl Machine {
     /// Puts the descriptor with this number on the stack, and then a layer in which nothing is yet: where memory runs
@@ -33,11 +33,7 @@ impl Machine {
         {
             return self.no_memory();
         }
-        let layer = Layer {
-            kind: LayerKind::Other,
-            flags: 0,
-            codes: Codes::new(Vec::new(self.alloc)),
-        };
+        let layer = KeptLayer::bare(LayerKind::Other, 0);
         let outer = std::mem::replace(&mut self.layer, layer);
         if self.outer.push(outer).is_err() {
             return self.no_memory();
@@ -119,7 +115,7 @@ impl Machine {
         if flags >= 0x20 {
             return self.refuse(Reason::BadFlags);
         }
-        self.layer.flags = flags;
+        self.layer.set_flags(flags);
         if self.has_both_flags() {
             return self.refuse(Reason::BadFlags);
         }

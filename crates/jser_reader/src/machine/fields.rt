@@ -15,7 +15,7 @@ ghost use Rattle.jser_reader.specs.Descriptors.{SetsLayer, GoesOnFields, GoesOnI
 use crate::machine::Machine;
 use crate::phase::{Phase, TextFor};
 use crate::refusal::Reason;
-use jser_table::{Codes, Layer, LayerKind, size_of_code};
+use jser_table::{KeptLayer, LayerKind, size_of_code};
 
 /// Whether the type code is `L` or `[`: the field holds an object or an array.
 pub(super) fn is_object_code(code: u8) -> bool
@@ -40,8 +40,9 @@ impl Machine {
     fn set_layer(&mut self)
         ensures { SetsLayer (read_layer (name_kind_of self.old.header.kind) (head_layer self.old.layers).flags (reverse self.old.header.codes)) self.old self.new }
     {
-        self.layer.kind = plain_kind(self.kind);
-        self.layer.codes = self.fields.take(self.alloc);
+        let kind = plain_kind(self.kind);
+        let flags = self.layer.flags();
+        self.layer = self.fields.take(self.alloc, kind, flags);
     }
 
     /// What comes after a field: the next one, or after the last one the annotation of the descriptor.
@@ -124,11 +125,7 @@ impl Machine {
         if self.interfaces > 0 {
             return self.next_text(TextFor::InterfaceName, false);
         }
-        self.layer = Layer {
-            kind: LayerKind::Proxy,
-            flags: 0,
-            codes: Codes::new(Vec::new(self.alloc)),
-        };
+        self.layer = KeptLayer::bare(LayerKind::Proxy, 0);
         self.done(Phase::Note)
     }
 

@@ -17,7 +17,7 @@ use crate::refusal::{Reason, Refusal, Stop};
 use crate::stack::Stack;
 use crate::tally::{Mark, Tally};
 use jser_prim::TextScan;
-use jser_table::{Codes, Layer, LayerKind, Table};
+use jser_table::{KeptLayer, LayerKind, Table};
 use std::alloc::Global;
 
 impl Machine {
@@ -43,11 +43,7 @@ impl Machine {
             kind: LayerKind::Other,
             fields: FieldList::new(alloc),
             interfaces: 0,
-            layer: Layer {
-                kind: LayerKind::Other,
-                flags: 0,
-                codes: Codes::new(Vec::new(alloc)),
-            },
+            layer: KeptLayer::bare(LayerKind::Other, 0),
             outer: Vec::new(alloc),
             text: TextFor::Value,
             scan: TextScan::new(0),

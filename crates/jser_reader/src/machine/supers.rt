@@ -13,7 +13,7 @@ ghost use Rattle.jser_reader.specs.Closing.{ClosesTop, ClosesOne, PopsLayer, clo
 
 use crate::frame::{Frame, Owner, Role};
 use crate::machine::Machine;
-use jser_table::{Class, Codes, Layer, LayerKind};
+use jser_table::{Class, KeptLayer, LayerKind};
 
 /// What came of closing a descriptor.
 #[derive(Clone, Copy)]
@@ -27,17 +27,13 @@ enum Closing {
 impl Machine {
     /// Takes the layer of the innermost open descriptor, and puts that of the next one in its place.
     #[tactic(auto, using(crate::proofs::CloseLemmas::next_layer, crate::proofs::CloseLemmas::last_layer, crate::proofs::LayerLemmas::layer_taken, crate::proofs::LayerLemmas::no_layers))]
-    fn pop_layer(&mut self) -> Layer
+    fn pop_layer(&mut self) -> KeptLayer
         ensures layer { result ≡ head_layer self.old.layers }
         ensures rest { PopsLayer self.old self.new }
     {
         let outer = match self.outer.pop() {
             Some(layer) => layer,
-            None => Layer {
-                kind: LayerKind::Other,
-                flags: 0,
-                codes: Codes::new(Vec::new(self.alloc)),
-            },
+            None => KeptLayer::bare(LayerKind::Other, 0),
         };
         std::mem::replace(&mut self.layer, outer)
     }
@@ -52,7 +48,7 @@ impl Machine {
         let _ = &self.alloc;
         let layer = self.pop_layer();
         self.frames.pop();
-        self.table.close(number, layer, parent);
+        self.table.close_kept(number, layer, parent);
     }
 
     /// The class with this number has been read: its owner's handle is assigned.

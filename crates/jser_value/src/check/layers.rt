@@ -11,7 +11,7 @@ ghost use Rattle.jser_value.specs.View.{view_field, view_prim, view_values, view
 use crate::check::fault::Fault;
 use crate::parts::{are_prims, codes_of, count_values, element_code_of};
 use crate::tree::{Field, Section};
-use jser_table::{Codes, Layer, LayerKind, Table, layer_kind_of};
+use jser_table::{Codes, KeptLayer, Layer, LayerKind, Table, layer_kind_of};
 use std::alloc::Global;
 
 /// The layer of a plain descriptor.
@@ -49,7 +49,7 @@ pub(crate) fn proxy_layer(alloc: Global) -> Layer
 
 /// The class's own layer, the last of its chain.
 #[tactic(auto, using(crate::proofs::CheckLemmas::own_layer_last, crate::proofs::CheckLemmas::own_layer_none))]
-fn own_layer(table: &Table, number: u32) -> Option<&Layer>
+fn own_layer(table: &Table, number: u32) -> Option<&KeptLayer>
     requires { IsTrue (is_closed (slice_get table.now.entries number)) }
     ensures { option_copied result ≡ own_layer (chain_at table.now.entries number) }
 {
@@ -65,7 +65,7 @@ pub(crate) fn element_code(table: &Table, number: u32) -> Option<u8>
     ensures { result ≡ element_code (chain_at table.now.entries number) }
 {
     match own_layer(table, number) {
-        Some(layer) => element_code_of(layer.kind),
+        Some(layer) => element_code_of(layer.kind()),
         None => None,
     }
 }
@@ -83,10 +83,10 @@ pub(crate) fn is_external(table: &Table, number: u32) -> bool
 
 /// Whether the section's raw values are those of the layer's class, and its values as many.
 #[tactic(auto, using(crate::proofs::CheckLemmas::value_count_of))]
-fn is_section_of(layer: &Layer, section: &Section) -> bool
+fn is_section_of(layer: &KeptLayer, section: &Section) -> bool
     ensures { result ≡ obeys_layer layer.now (map view_prim section.now.prims.items) (view_values section.now.values.items) }
 {
-    let codes = layer.codes.as_slice();
+    let codes = layer.codes();
     are_prims(codes, &section.prims) && section.values.len() == count_values(codes)
 }
 

@@ -1,5 +1,5 @@
 //! Each caller on a worked case.
-ghost use Rattle.std.specs.Prelude.{slice_get, IsTrue, IfOk};
+ghost use Rattle.std.specs.Prelude.{◌<◌, ◌^◌, slice_get, IsTrue, IfOk};
 ghost use Rattle.jser_table.specs.Entries.{is_closed};
 
 use crate::classes::{Layout, can_be_read, holds_nothing, is_serial, layout_of, own_layer};
@@ -11,6 +11,7 @@ use crate::fields::{
     first_code, holds_fields_alone, is_raw, is_serial_enum, loses_fields, through_codes,
     writes_blocks,
 };
+use crate::kept::{close_class, kept_with_flags, kind_and_first, proxy_layer};
 use crate::names::{is_name, is_string, kind_of, kind_of_judged};
 use crate::references::{class_fit, is_assigned, names_class, names_open_class, names_text};
 use jser_table::{
@@ -143,6 +144,39 @@ fn its_codes(rt: HostRuntime) -> Result<(), Fail> {
 fn codes_given_back(rt: HostRuntime) -> Result<(), Fail> {
     let codes = through_codes(vec![in rt.alloc(); b'J', b'[']?);
     assert!(rt; codes.as_slice() == [b'J', b'['].as_slice());
+    Ok(())
+}
+
+/// A class with so many fields of a byte is closed, and the table tells its first code.
+fn compare_closed(rt: &impl Abort, alloc: Global, fields: usize) -> Result<(), Fail>
+    requires { fields < 2 ^ 15 }
+{
+    let mut table = Table::new(alloc, 1);
+    let number = table.assign(Kind::Pending)?;
+    let mut codes = vec![in alloc; b'B'; fields]?;
+    close_class(alloc, &mut table, number, 0x02, &mut codes);
+    assert!(rt; codes.is_empty());
+    let layer = table.layer(number, 0);
+    assert_eq!(rt; layer.codes().len(), fields);
+    assert_eq!(rt; layer.flags(), 0x02);
+    Ok(())
+}
+
+/// Classes whose type codes lie in place, and some with too many for that.
+#[test]
+fn closed_classes(rt: HostRuntime) -> Result<(), Fail> {
+    for fields in [0usize, 1, 25, 26, 27, 100] {
+        compare_closed(&rt, rt.alloc(), fields)?;
+    }
+    Ok(())
+}
+
+#[test]
+fn kept_layers(rt: HostRuntime) -> Result<(), Fail> {
+    let kept = kept_with_flags(order(rt.alloc(), 0x12)?, 0x02);
+    assert_eq!(rt; kept.flags(), 0x02);
+    assert_eq!(rt; kind_and_first(&kept), (LayerKind::Other, Some(b'I')));
+    assert_eq!(rt; kind_and_first(&proxy_layer()), (LayerKind::Proxy, None));
     Ok(())
 }
 

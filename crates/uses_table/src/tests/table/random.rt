@@ -120,8 +120,8 @@ fn compare_layer(rt: &impl Abort, table: &Table, number: u32, index: usize, mark
 {
     assert!(rt; index < table.layers(number));
     let layer = table.layer(number, index);
-    assert_eq!(rt; layer.flags, mark.flags);
-    assert_eq!(rt; layer.codes.as_slice().len(), mark.codes);
+    assert_eq!(rt; layer.flags(), mark.flags);
+    assert_eq!(rt; layer.codes().len(), mark.codes);
 }
 
 /// Compares an entry with what the model says of it.
@@ -324,7 +324,7 @@ fn cost_of_layer(
     let mut flags: u64 = 0;
     for _ in 0..CALLS {
         let index = random.below(u64::from(layers)) as usize;
-        flags = flags.wrapping_add(u64::from(table.layer(own, index).flags));
+        flags = flags.wrapping_add(u64::from(table.layer(own, index).flags()));
     }
     let spent = start.elapsed(rt)?;
     assert_eq!(rt; flags, 2 * u64::from(CALLS));

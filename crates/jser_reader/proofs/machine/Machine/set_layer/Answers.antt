@@ -4,5 +4,5 @@ use Rattle.jser_reader.proofs.machine.Machine.set_layer.Goals as goal
 
 pub returns : goal.returns
 returns c =
-    sets_layer c.args.self.now _ c.plain_kind-self-inside.result c.take.result c.self.inside.layer.flags
+    sets_layer c.args.self.now _ c.plain_kind-kind.result c.self.inside.fields.codes c.flags-flags.result
     (search rules) (search rules) (search rules) (search rules) (search rules) (search rules) (search rules) (search rules)

@@ -1,7 +1,7 @@
 use Rattle.std.proofs.Common.{arith}
 use Rattle.jser_table.specs.Tables.{IsNumberOf}
 use Rattle.jser_table.proofs.TableLemmas.{pending_counted, pending_kept, closed_kept_in, parent_among, sound_close, closed_view}
-use Rattle.jser_table.proofs.table.Table.close.Goals as goal
+use Rattle.jser_table.proofs.table.Table.close_kept.Goals as goal
 
 pub parent_chain_number-parent-requires : goal.parent_chain_number-parent-requires
 parent_chain_number-parent-requires c =
