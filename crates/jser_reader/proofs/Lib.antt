@@ -56,6 +56,7 @@ pub mod MemberLemmas
 pub mod LentLemmas
 pub mod RawsToldLemmas
 pub mod RawLemmas
+mod RawJumps
 pub mod RunItems
 pub mod NameSteps
 pub mod RunLemmas

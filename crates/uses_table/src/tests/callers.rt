@@ -2,8 +2,9 @@
 ghost use Rattle.std.specs.Prelude.{◌<◌, ◌^◌, slice_get, IsTrue, IfOk};
 ghost use Rattle.jser_table.specs.Entries.{is_closed};
 
+use super::table::try_close;
 use crate::classes::{Layout, can_be_read, holds_nothing, is_serial, layout_of, own_layer};
-use crate::data::{first_size, has_annotation};
+use crate::data::{first_size, fits_at_once, has_annotation};
 use crate::epochs::{
     Advice, assign_again, assign_or_advise, is_new, log_line, next_epoch, with_class,
 };
@@ -144,6 +145,38 @@ fn its_codes(rt: HostRuntime) -> Result<(), Fail> {
 fn codes_given_back(rt: HostRuntime) -> Result<(), Fail> {
     let codes = through_codes(vec![in rt.alloc(); b'J', b'[']?);
     assert!(rt; codes.as_slice() == [b'J', b'['].as_slice());
+    Ok(())
+}
+
+/// The table knows at once that the data of three classes, each with an int, under each other are raw values alone.
+fn compare_raws(rt: &impl Abort, table: &Table) {
+    let Class::Closed(chain) = table.class_at(2) else {
+        panic!(rt; "the class is closed");
+    };
+    let Some(Sections { first, last }) = table.sections(chain) else {
+        panic!(rt; "the class has sections");
+    };
+    assert_eq!(rt; table.raws_between(last, first), Some(8));
+    assert!(rt; fits_at_once(table, last, first, 8) && !fits_at_once(table, last, first, 7));
+}
+
+#[test]
+fn raws_at_once(rt: HostRuntime) -> Result<(), Fail> {
+    let alloc = rt.alloc();
+    let mut table = Table::new(alloc, 3);
+    let mut parent = None;
+    for _ in 0..3u8 {
+        let number = table.assign(Kind::Pending)?;
+        let codes = Codes::new(vec![in alloc; b'I']?);
+        let layer = Layer {
+            kind: LayerKind::Other,
+            flags: 0x02,
+            codes,
+        };
+        assert!(rt; try_close(&mut table, number, layer, parent));
+        parent = Some(number);
+    }
+    compare_raws(&rt, &table);
     Ok(())
 }
 

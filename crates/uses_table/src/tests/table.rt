@@ -38,7 +38,7 @@ fn is_closed(table: &Table, number: u32) -> bool
 }
 
 /// Closes an entry, where it is pending and its parent closed.
-fn try_close(table: &mut Table, number: u32, layer: Layer, parent: Option<u32>) -> bool {
+pub(super) fn try_close(table: &mut Table, number: u32, layer: Layer, parent: Option<u32>) -> bool {
     if !is_pending(table, number) {
         return false;
     }
