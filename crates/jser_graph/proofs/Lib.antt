@@ -1,6 +1,7 @@
 pub mod ListedLemmas
-pub mod StoredLemmas
 pub mod DecodeLemmas
+pub mod KeptLemmas
+pub mod StoredLemmas
 pub mod OwnerLemmas
 pub mod AlongLemmas
 pub mod PartLemmas

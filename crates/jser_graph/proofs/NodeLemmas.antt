@@ -3,7 +3,9 @@ use denote.Bor.{Bor}
 use Rattle.std.proofs.Common.{◌≡◌, ℕ, zero, suc, List, [], ◌∷◌, ◌++◌, length, map, slice_get, Option, Some, None, option_map, refl, sym, ◌∙◌, ap, subst}
 use Rattle.jser_graph.specs.declared.node.Node.{Node}
 use Rattle.jser_graph.specs.declared.node.StoredNode.{StoredNode}
-use Rattle.jser_graph.specs.StoredNodes.{told_node}
+use Rattle.jser_graph.specs.declared.spot.Spot.{Spot}
+use Rattle.jser_graph.specs.Keeping.{Kept, units_at}
+use Rattle.jser_graph.specs.StoredNodes.{told_node, spot_in, units_in}
 use Rattle.jser_graph.specs.Listed.{Listed, IsList}
 use Rattle.jser_graph.specs.Graphs.{in_list, node_in, stored_in, IsNode, text_of}
 
@@ -12,13 +14,13 @@ get_map f [] k = refl
 get_map f (x ∷ xs) zero = refl
 get_map f (x ∷ xs) (suc k) = get_map f xs k
 
-told_in : (texts : List (List ℕ)) (ended : List (List StoredNode)) (last : List StoredNode) (epoch number : ℕ)
-    → node_in (map (map (told_node texts)) ended ++ (map (told_node texts) last ∷ [])) epoch number
-    ≡ option_map (told_node texts) (in_list (slice_get (ended ++ (last ∷ [])) epoch) number)
-told_in texts [] last zero number = get_map (told_node texts) last number
-told_in texts [] last (suc epoch) number = refl
-told_in texts (list ∷ ended) last zero number = get_map (told_node texts) list number
-told_in texts (list ∷ ended) last (suc epoch) number = told_in texts ended last epoch number
+told_in : (kept : Kept) (ended : List (List StoredNode)) (last : List StoredNode) (epoch number : ℕ)
+    → node_in (map (map (told_node kept)) ended ++ (map (told_node kept) last ∷ [])) epoch number
+    ≡ option_map (told_node kept) (in_list (slice_get (ended ++ (last ∷ [])) epoch) number)
+told_in kept [] last zero number = get_map (told_node kept) last number
+told_in kept [] last (suc epoch) number = refl
+told_in kept (list ∷ ended) last zero number = get_map (told_node kept) list number
+told_in kept (list ∷ ended) last (suc epoch) number = told_in kept ended last epoch number
 
 -- the list of an epoch
 
@@ -45,14 +47,19 @@ none_stored f o e = ap (option_map f) e
 
 -- what was found is told
 
-pub node_is : (texts : List (List ℕ)) (lists : Listed StoredNode) (epoch number : ℕ) (stored : Option StoredNode) (node : Option Node)
-    → stored ≡ stored_in lists epoch number → IsNode (option_map (told_node texts) stored) node
-    → IsNode (node_in (map (map (told_node texts)) lists.ended ++ (map (told_node texts) lists.last ∷ [])) epoch number) node
-node_is texts lists epoch number stored node e h =
-    subst (λ o. IsNode o node) (ap (option_map (told_node texts)) e ∙ sym (told_in texts lists.ended lists.last epoch number)) h
+pub node_is : (kept : Kept) (lists : Listed StoredNode) (epoch number : ℕ) (stored : Option StoredNode) (node : Option Node)
+    → stored ≡ stored_in lists epoch number → IsNode (option_map (told_node kept) stored) node
+    → IsNode (node_in (map (map (told_node kept)) lists.ended ++ (map (told_node kept) lists.last ∷ [])) epoch number) node
+node_is kept lists epoch number stored node e h =
+    subst (λ o. IsNode o node) (ap (option_map (told_node kept)) e ∙ sym (told_in kept lists.ended lists.last epoch number)) h
 
-pub text_is : (texts : List (List ℕ)) (lists : Listed StoredNode) (epoch number : ℕ) (stored : Option StoredNode) (text : Option (Bor (List ℕ)))
-    → stored ≡ stored_in lists epoch number → IsList (text_of (option_map (told_node texts) stored)) text
-    → IsList (text_of (node_in (map (map (told_node texts)) lists.ended ++ (map (told_node texts) lists.last ∷ [])) epoch number)) text
-text_is texts lists epoch number stored text e h =
-    subst (λ o. IsList (text_of o) text) (ap (option_map (told_node texts)) e ∙ sym (told_in texts lists.ended lists.last epoch number)) h
+pub text_is : (kept : Kept) (lists : Listed StoredNode) (epoch number : ℕ) (stored : Option StoredNode) (text : Option (Bor (List ℕ)))
+    → stored ≡ stored_in lists epoch number → IsList (text_of (option_map (told_node kept) stored)) text
+    → IsList (text_of (node_in (map (map (told_node kept)) lists.ended ++ (map (told_node kept) lists.last ∷ [])) epoch number)) text
+text_is kept lists epoch number stored text e h =
+    subst (λ o. IsList (text_of o) text) (ap (option_map (told_node kept)) e ∙ sym (told_in kept lists.ended lists.last epoch number)) h
+
+-- the units at its spot are its text
+pub text_lent : (kept : Kept) (stored : StoredNode) (spot : Spot) (text : Bor (List ℕ)) → spot_in stored ≡ Some spot → text.now ≡ units_at kept spot
+    → IsList (text_of (option_map (told_node kept) (Some stored))) (Some text)
+text_lent kept stored spot text e is = subst (λ o. IsList (units_in kept o) (Some text)) (sym e) is

@@ -9,7 +9,8 @@ use Rattle.jser_shown.specs.Finding.{Begun as ToldBegun}
 use Rattle.jser_walk.specs.declared.Field.TheVariants as lent
 use Rattle.jser_walk.specs.Given.{IsOf}
 use Rattle.jser_graph.specs.Along.{IsTextOf}
-use Rattle.jser_graph.specs.Listed.{Listed, with_last}
+use Rattle.jser_graph.specs.Listed.{Listed}
+use Rattle.jser_graph.specs.StoredNodes.{AddsNode}
 use Rattle.jser_graph.specs.Surveying.{IsPlain, AddsString, GoesPastBoth}
 use Rattle.jser_graph.proofs.SurveyLemmas.{finds_made, finds_unmade, tag_plain, tag_no_name}
 
@@ -56,13 +57,13 @@ adds_string : (text units : List ℕ) (end : ℕ) (old new : Finding) → ((told
     → AddsString text end old new
 adds_string text units end old new spelled is = record { units = units; spelled = spelled; is = is }
 
-pub string_added : (text units : List ℕ) (end : ℕ) (old new seen : Finding) (nodes : Listed Node) → seen ≡ old
-    → ((told : List ℕ) → IsUnits told → modified_utf8 told ≡ text → units ≡ told)
-    → nodes ≡ with_last (record { ended = seen.ended; last = seen.nodes }) (record { kind = text_node; place = seen.place; units = Some units })
+pub string_added : (text : List ℕ) (end : ℕ) (old new seen : Finding) (nodes : Listed Node) → seen ≡ old
+    → AddsNode text seen.place (record { ended = seen.ended; last = seen.nodes }) nodes
     → new ≡ record seen { nodes = nodes.last; ended = nodes.ended; is_name = true; place = end } → AddsString text end old new
-string_added text units end old new seen nodes same spelled pushed is =
+string_added text end old new seen nodes same adds is =
     subst (λ x. AddsString text end x new) same
-    (adds_string text units end seen new spelled (is ∙ ap (λ n. record seen { nodes = n.last; ended = n.ended; is_name = true; place = end }) pushed))
+    (adds_string text adds.units end seen new adds.spelled
+    (is ∙ ap (λ n. record seen { nodes = n.last; ended = n.ended; is_name = true; place = end }) adds.is))
 
 -- where a node was made before the tag
 pub string_made : (text : List ℕ) (assigned end : ℕ) (old made new : Finding) → length old.nodes < assigned

@@ -1,5 +1,5 @@
 -- Reading the units of a text: all bytes at once where each is a unit, or byte by byte.
-use Rattle.std.specs.Prelude.{ℕ, ◌≡◌, ◌+◌, ◌<◌, ◌≤◌, Bool, true, List, [], ◌∷◌, ◌++◌, length, slice_index, take}
+use Rattle.std.specs.Prelude.{ℕ, ◌≡◌, ◌+◌, ◌<◌, ◌≤◌, Bool, true, List, [], ◌∷◌, ◌++◌, length, slice_index, take, drop}
 use Rattle.jser_prim.specs.ModifiedUtf8.{IsUnits, modified_utf8}
 use Rattle.jser_prim.specs.Texts.{Scan, BeginsText, HasAccepted}
 
@@ -31,3 +31,9 @@ pub record Widens (lanes : ℕ) (bytes : List ℕ) (at : ℕ) (narrow : Bool) (o
 pub record Widened (bytes room : List ℕ) (count : ℕ) : Type 0 where
   pub units : (k : ℕ) → k < count → slice_index room k ≡ slice_index bytes k
   pub below : (k : ℕ) → k < count → slice_index bytes k < 0x80
+
+-- what is used of the room is as it was; and where the bytes are narrow, they stand as units behind it
+pub record PutsNarrow (bytes : List ℕ) (used : ℕ) (narrow : Bool) (old new : List ℕ) : Type 0 where
+  pub size : length new ≡ length old
+  pub front : take used new ≡ take used old
+  pub back : narrow ≡ true → AreNarrow bytes (drop used new)

@@ -1,4 +1,5 @@
 pub mod Listed
+pub mod Keeping
 pub mod StoredNodes
 pub mod Decoding
 pub mod Along

@@ -45,7 +45,7 @@ fn widen(bytes: &[u8], room: &mut Vec<u16>) -> Result<bool, AllocError>
 /// The same, where there is room. The last bytes of a text, where they are too few for all lanes, are put with some that
 /// were put before.
 #[inline(always)]
-fn widen_all(bytes: &[u8], room: &mut [u16]) -> bool
+pub(crate) fn widen_all(bytes: &[u8], room: &mut [u16]) -> bool
     requires { length bytes.now ≤ length room.old }
     ensures { result ≡ true → AreNarrow bytes.now room.new }
 {

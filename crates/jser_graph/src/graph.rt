@@ -17,8 +17,9 @@ use std::marker::Model;
 /// A Java object serialization stream, by its handles: what each of them names, the units of every string, the checked
 /// names, and the bytes as they were read.
 ///
-/// It holds the bytes, 24 bytes for each handle, 8 for each object, array, enum constant and class object, and two for
-/// each unit of a string or a checked name. It holds no tree, and nothing in it goes as deep as the stream.
+/// It holds the bytes, 12 bytes for each handle, 8 for each object, array, enum constant and class object, and two for
+/// each unit of a string or a checked name, with room for at most 32,768 units more. It holds no tree, and nothing in it
+/// goes as deep as the stream.
 #[derive(Drop)]
 pub struct Graph {
     pub(crate) bytes: Vec<u8>,

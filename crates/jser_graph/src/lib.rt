@@ -13,8 +13,11 @@ mod owners;
 mod part;
 mod read;
 mod show;
+mod spot;
+mod strings;
 mod survey;
 mod texts;
+mod units;
 
 pub use graph::Graph;
 pub use node::{Node, NodeKind};

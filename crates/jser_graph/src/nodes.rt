@@ -4,15 +4,15 @@ ghost use Rattle.jser_reading.specs.Labels.{StreamField};
 ghost use Rattle.jser_shown.specs.Finding.{node_made};
 ghost use Rattle.jser_shown.specs.Nodes.{text_node};
 ghost use Rattle.jser_walk.specs.Given.{IsOf};
-ghost use Rattle.jser_graph.specs.StoredNodes.{told_kind};
+ghost use Rattle.jser_graph.specs.StoredNodes.{told_kind, AddsNode};
 ghost use Rattle.jser_graph.specs.Graphs.{IsNode, node_in, stored_in, text_of};
 ghost use Rattle.jser_graph.specs.Listed.{IsList, all_lists, ended_last, with_last};
 ghost use Rattle.jser_graph.specs.Surveying.{told_begun};
 
 use crate::begun::Begun;
 use crate::lists::Lists;
-use crate::node::{Detail, Node, NodeKind, StoredNode, small_number};
-use crate::texts::Texts;
+use crate::node::{Node, NodeKind, StoredNode};
+use crate::strings::Strings;
 use jser_walk::Field;
 use std::alloc::{AllocError, Global};
 use std::marker::Model;
@@ -21,11 +21,12 @@ use std::marker::Model;
 #[derive(Drop)]
 pub(crate) struct Nodes {
     nodes: Lists<StoredNode>,
-    texts: Texts,
+    /// The units of those that are strings.
+    strings: Strings,
 }
 
 impl Model for Nodes {
-    ghost use Rattle.std.specs.Prelude.{length, map};
+    ghost use Rattle.std.specs.Prelude.{map};
     ghost use Rattle.std.specs.List.{All};
     ghost use Rattle.jser_shown.specs.Nodes.{Node as ToldNode};
     ghost use Rattle.jser_graph.specs.Listed.{Listed};
@@ -33,9 +34,9 @@ impl Model for Nodes {
 
     ghost Value = { Listed ToldNode };
 
-    ghost view = { λ a. record { ended = map (map (told_node a.texts)) a.nodes.ended; last = map (told_node a.texts) a.nodes.last } };
+    ghost view = { λ a. record { ended = map (map (told_node a.strings)) a.nodes.ended; last = map (told_node a.strings) a.nodes.last } };
 
-    ghost invariant = { λ a. All (IsAmong (length a.texts)) a.nodes.last × All (All (IsAmong (length a.texts))) a.nodes.ended };
+    ghost invariant = { λ a. All (IsAmong a.strings) a.nodes.last × All (All (IsAmong a.strings)) a.nodes.ended };
 }
 
 impl Nodes {
@@ -45,7 +46,7 @@ impl Nodes {
     {
         Nodes {
             nodes: Lists::new(alloc),
-            texts: Texts::new(alloc),
+            strings: Strings::new(alloc),
         }
     }
 
@@ -74,28 +75,39 @@ impl Nodes {
     }
 
     /// Adds a node that has no text.
-    #[tactic(auto, using(crate::proofs::StoredLemmas::among_push, crate::proofs::StoredLemmas::told_push))]
     #[inline(always)]
     fn push(&mut self, begun: Begun) -> Result<(), AllocError>
         ensures { OnOk result (self.new ≡ with_last self.old (record { kind = told_kind begun.kind; place = begun.tag_byte; units = None })) }
     {
-        self.nodes.push(StoredNode {
-            tag_byte: begun.tag_byte,
-            detail: Detail::Other(begun.kind),
-        })
+        let stored = StoredNode::without_units(begun.kind, begun.tag_byte)?;
+        self.nodes.push(stored)
     }
 
     /// Adds the node of a string.
+    #[tactic(auto, using(crate::proofs::StoredLemmas::among_extended, crate::proofs::StoredLemmas::all_among_extended))]
     #[inline(always)]
-    pub(crate) fn push_text(&mut self, units: &[u16], tag_byte: u64) -> Result<(), AllocError>
+    fn push_text(&mut self, units: &[u16], tag_byte: u64) -> Result<(), AllocError>
         ensures { OnOk result (self.new ≡ with_last self.old (record { kind = text_node; place = tag_byte; units = Some units.now })) }
     {
-        let number = small_number(self.texts.count())?;
-        self.texts.add(units)?;
-        self.nodes.push(StoredNode {
-            tag_byte,
-            detail: Detail::Text(number),
-        })
+        let spot = self.strings.add(units)?;
+        let stored = StoredNode::string(spot, tag_byte)?;
+        self.nodes.push(stored)
+    }
+
+    /// Adds the node of a string of which these are the bytes. `scratch` is room for its units.
+    #[tactic(auto, using(crate::proofs::StoredLemmas::among_extended, crate::proofs::StoredLemmas::all_among_extended))]
+    #[inline(always)]
+    pub(crate) fn push_string(
+        &mut self,
+        bytes: &[u8],
+        scratch: &mut Vec<u16>,
+        tag_byte: u64,
+    ) -> Result<(), AllocError>
+        ensures { OnOk result (AddsNode bytes.now tag_byte self.old self.new) }
+    {
+        let spot = self.strings.add_text(bytes, scratch)?;
+        let stored = StoredNode::string(spot, tag_byte)?;
+        self.nodes.push(stored)
     }
 
     /// Begins the next epoch.
@@ -121,10 +133,8 @@ impl Nodes {
         ensures { IsList (text_of (node_in (all_lists self.now) epoch number)) result }
     {
         let stored = stored(&self.nodes, epoch, number)?;
-        match stored.detail {
-            Detail::Text(text) => Some(self.texts.get(text as usize).unwrap_or(&[])),
-            Detail::Other(_) => None,
-        }
+        let spot = stored.spot()?;
+        Some(self.strings.get(spot))
     }
 }
 

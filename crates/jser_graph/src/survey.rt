@@ -368,8 +368,7 @@ impl Survey {
     fn add_string(&mut self, text: &[u8], units: &mut Vec<u16>, end: u64) -> Result<(), AllocError>
         ensures { OnOk result (AddsString text.now end self.old self.new) }
     {
-        let units = decode(text, units)?;
-        self.nodes.push_text(units, self.place)?;
+        self.nodes.push_string(text, units, self.place)?;
         self.is_name = true;
         self.place = end;
         Ok(())

@@ -7,5 +7,5 @@ use Rattle.jser_graph.proofs.nodes.Nodes.node.Goals as goal
 pub returns : goal.returns
 returns c =
     subst (λ x. IsNode (node_in (all_lists x) c.args.epoch c.args.number) (Some c.node.result)) c.self.view_is
-    (node_is c.self.inside.texts c.self.inside.nodes c.args.epoch c.args.number (Some c.in_ok-stored.stored) (Some c.node.result)
+    (node_is c.self.inside.strings c.self.inside.nodes c.args.epoch c.args.number (Some c.in_ok-stored.stored) (Some c.node.result)
     (search rules) (c.node.ensures.kind, c.node.ensures.tag_byte))
