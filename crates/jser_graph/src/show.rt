@@ -19,8 +19,8 @@ use jser_reader::{Item, OpenGate, Reader, Step, Whole};
 use jser_shown::laws::{one_more, tells_fronts, told};
 use jser_walk::{Field, Walk};
 use jser_words::{
-    say_all_due, say_class_reference, say_next, say_plain_handle, say_plain_string,
-    say_section_raw, say_section_reference,
+    say_all_due, say_class_handle, say_class_reference, say_enum_name, say_next, say_plain_handle,
+    say_plain_string, say_section_raw, say_section_reference, say_top_reference,
 };
 use std::alloc::{AllocError, Global};
 
@@ -217,7 +217,8 @@ fn say_reference<W: Sink>(
     say_handle(outbox, sink, walk, handle)
 }
 
-/// Says the tag of a reference, with all that is due before it. Most references are classes and the values of fields.
+/// Says the tag of a reference, with all that is due before it. Most references are classes, the values of fields, the
+/// names of enum constants, and contents of the stream itself.
 ///
 /// # Errors
 ///
@@ -240,10 +241,16 @@ fn say_reference_tag<W: Sink>(
     if say_class_reference(outbox, sink, walk) {
         return Ok(());
     }
+    if say_top_reference(outbox, sink, walk) {
+        return Ok(());
+    }
+    if say_enum_name(outbox, sink, walk)? {
+        return Ok(());
+    }
     say_next(outbox, sink, walk, Field::Tag(TC_REFERENCE))
 }
 
-/// Says the handle of a reference, with all that is due before it. Of most handles nothing is made.
+/// Says the handle of a reference, with all that is due before it. Most are those of classes, or nothing is made of them.
 ///
 /// # Errors
 ///
@@ -262,6 +269,9 @@ fn say_handle<W: Sink>(
         → BeginsTo W.gone_out W.has_failed outbox.old outbox.new sink.old sink.new (λ k. says_next walk.old told k)) }
 {
     if say_plain_handle(outbox, sink, walk, handle) {
+        return Ok(());
+    }
+    if say_class_handle(outbox, sink, walk, handle)? {
         return Ok(());
     }
     say_next(outbox, sink, walk, Field::Handle(handle))

@@ -1,14 +1,16 @@
 -- Steps that need no field, by the frame on top.
 use Rattle.std.proofs.Common.{◌≡◌, ℕ, suc, ◌+◌, Bool, true, false, List, [], ◌∷◌, ◌++◌, length, slice_set, Option, Some, None, ap, sym, ◌∙◌, subst, arith}
-use Rattle.jser_shown.specs.Known.{NamedLayer, Known, known_class, classes_at, own_class_of, is_external_class, is_external_chain}
+use Rattle.jser_reading.specs.Roles.{enum_owner}
+use Rattle.jser_shown.specs.Known.{NamedLayer, Known, known_class, known_other, with_entry, classes_at, own_class_of, is_external_class, is_external_chain}
 use Rattle.jser_shown.specs.Shown.{field_named}
 use Rattle.jser_shown.specs.Owners.{OwnerNode}
-use Rattle.jser_shown.specs.Cues.{SectionPart, raw_part, value_part, note_part, note_cue, parts_cue, teller, object_parts}
+use Rattle.jser_shown.specs.Cues.{SectionPart, raw_part, value_part, note_part, note_cue, name_cue, parts_cue, teller, object_parts}
 use Rattle.jser_walk.specs.declared.frame.Frame.{Frame}
 use Rattle.jser_walk.specs.declared.frame.Frame.TheVariants as frame
 use Rattle.jser_walk.specs.declared.frame.Stage.{Stage}
 use Rattle.jser_walk.specs.declared.frame.Stage.TheVariants as stage
-use Rattle.jser_walk.specs.Steps.{pass_part, pass_at, pass_in}
+use Rattle.jser_walk.specs.declared.owner.Owner.TheVariants as owner
+use Rattle.jser_walk.specs.Steps.{due_in, made_due, pass_part, pass_at, pass_in}
 use Rattle.jser_walk.specs.Tables.{TableView, layer_in, layers_in, IsChainOf}
 use Rattle.jser_walk.specs.Frames.{parts_from, cue_of, cues_of, tail_of, FramesFit, BeginsSection}
 use Rattle.jser_walk.proofs.FrameLemmas.{cues_more_chains, fit_more_chains, tail_fits}
@@ -91,3 +93,14 @@ close_passed layers same old new c frames popped number parent layer e known kno
     ap (λ cues. teller e known' os cues) (close_cues layers same old new c frames popped fits unchanged added put)
     ∙ ap (λ k. teller e k os (cues_of layers old (tail_of frames))) is
     ∙ sym (pass_first layers old frames (frame.Close number parent layer) e known os top)
+
+-- an enum constant gets its handle
+
+pub enum_due : (layers : List NamedLayer) (chains : List (List NamedLayer)) (frames : List Frame) (level number : ℕ) → frames ≡ frame.Made owner.EnumConst level number ∷ tail_of frames → due_in (cues_of layers chains frames) ≡ Some (made_due enum_owner)
+enum_due layers chains frames level number top = ap (λ fs. due_in (cues_of layers chains fs)) top
+
+pub enum_passed : (layers : List NamedLayer) (chains : List (List NamedLayer)) (frames popped : List Frame) (level number e : ℕ) (known known' : Known) (os : List OwnerNode) → frames ≡ frame.Made owner.EnumConst level number ∷ tail_of frames → popped ≡ tail_of frames → known' ≡ with_entry known known_other → pass_in (cues_of layers chains frames) e known os ≡ teller e known' os (name_cue level ∷ cues_of layers chains popped)
+enum_passed layers chains frames popped level number e known known' os top put is =
+    pass_first layers chains frames (frame.Made owner.EnumConst level number) e known os top
+    ∙ sym (ap (λ fs. teller e known' os (name_cue level ∷ cues_of layers chains fs)) put
+    ∙ ap (λ k. teller e k os (name_cue level ∷ cues_of layers chains (tail_of frames))) is)

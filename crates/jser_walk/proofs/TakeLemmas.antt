@@ -1,17 +1,17 @@
 -- Fields by the frame on top.
 use Rattle.std.proofs.Common.{◌≡◌, ℕ, suc, List, [], ◌∷◌, ◌++◌, length, slice_set, Option, Some, None, refl, ap, sym, ◌∙◌, arith}
-use Rattle.jser_reading.specs.Labels.{Tag, null_tag}
+use Rattle.jser_reading.specs.Labels.{Tag, tag_field, null_tag, reference_tag}
 use Rattle.jser_shown.specs.Known.{NamedLayer, Known, known_class}
 use Rattle.jser_shown.specs.Shown.{field_named}
 use Rattle.jser_shown.specs.Owners.{OwnerNode}
-use Rattle.jser_shown.specs.Cues.{SectionPart, data_part, raw_part, value_part, note_part, top_cue, note_cue, elements_cue, parts_cue, Cue, teller}
-use Rattle.jser_shown.specs.Telling.{SeenField, seen_tag, seen_bytes, begin, goes_at, goes_in, parts_goes}
+use Rattle.jser_shown.specs.Cues.{SectionPart, data_part, raw_part, value_part, note_part, top_cue, handle_cue, name_cue, note_cue, elements_cue, parts_cue, Cue, Teller, teller}
+use Rattle.jser_shown.specs.Telling.{SeenField, seen_tag, seen_bytes, begin, goes, goes_at, goes_in, parts_goes}
 use Rattle.jser_walk.specs.declared.frame.Frame.{Frame}
 use Rattle.jser_walk.specs.declared.frame.Frame.TheVariants as frame
 use Rattle.jser_walk.specs.declared.frame.Stage.{Stage}
 use Rattle.jser_walk.specs.declared.part.Part.{Part}
 use Rattle.jser_walk.specs.declared.part.Part.TheVariants as part
-use Rattle.jser_walk.specs.Prompts.{Prompt, raw_prompt, value_prompt, no_prompt, prompt_in}
+use Rattle.jser_walk.specs.Prompts.{Prompt, top_prompt, raw_prompt, value_prompt, enum_name_prompt, no_prompt, prompt_in, prompt_of}
 use Rattle.jser_walk.specs.Sections.{PassesPart}
 use Rattle.jser_walk.specs.Tables.{layer_in, layers_in}
 use Rattle.jser_walk.specs.Frames.{parts_from, cue_of, cues_of, tail_of, FramesFit, BeginsSection, BeginsWith, others_of, TakesPart}
@@ -36,6 +36,28 @@ pub no_frames : (layers : List NamedLayer) (chains : List (List NamedLayer)) (fr
 no_frames layers chains [] is = refl
 no_frames layers chains (f ∷ []) is = absurd (omega (arith, ap length is))
 no_frames layers chains (f ∷ g ∷ frames) is = absurd (omega (arith, ap length is))
+
+pub at_top : (layers : List NamedLayer) (chains : List (List NamedLayer)) (frames : List Frame) → frames ≡ [] → cues_of layers chains frames ≡ top_cue ∷ []
+at_top layers chains frames none = ap (cues_of layers chains) none
+
+-- a content of the stream is waited for there
+pub top_waited : (cues : List Cue) → cues ≡ top_cue ∷ [] → prompt_in cues ≡ top_prompt
+top_waited cues is = ap prompt_in is
+
+pub top_reference : (e : ℕ) (known : Known) (os : List OwnerNode) (cues : List Cue) → cues ≡ top_cue ∷ []
+    → teller e known os (handle_cue ∷ cues) ≡ goes_in e known os cues (seen_tag reference_tag)
+top_reference e known os cues is =
+    ap (λ c. teller e known os (handle_cue ∷ c)) is ∙ sym (ap (λ c. goes_in e known os c (seen_tag reference_tag)) is)
+
+-- the name of an enum constant
+
+pub enum_waited : (s : Teller) (e : ℕ) (known : Known) (os : List OwnerNode) (level : ℕ) (cues : List Cue) → s ≡ teller e known os (name_cue level ∷ cues)
+    → prompt_of s ≡ enum_name_prompt level
+enum_waited s e known os level cues is = ap prompt_of is
+
+pub enum_named : (s : Teller) (e : ℕ) (known : Known) (os : List OwnerNode) (level : ℕ) (cues : List Cue) → s ≡ teller e known os (name_cue level ∷ cues)
+    → teller e known os (handle_cue ∷ cues) ≡ goes s (tag_field reference_tag)
+enum_named s e known os level cues is = sym (ap (λ t. goes t (tag_field reference_tag)) is)
 
 -- at the sections of an object
 

@@ -1,6 +1,6 @@
 //! Where a walk stands, but for its phase: the epoch and its handles, the owners that are still to come, and what is
 //! open.
-ghost use Rattle.std.specs.Prelude.{◌≡◌, ◌∷◌, ◌+◌, [], length, Some, None, OnOk, IfOk};
+ghost use Rattle.std.specs.Prelude.{◌≡◌, ◌∷◌, ◌+◌, [], true, length, Some, None, OnOk, IfOk};
 ghost use Rattle.jser_shown.specs.Cues.{top_cue, teller, made_cue, class_cue, elements_cue, note_cue, super_cue, rest_of_desc};
 ghost use Rattle.jser_shown.specs.Known.{with_entry, known_pending, known_text};
 ghost use Rattle.jser_shown.specs.Telling.{first_owner, without_first, begin, class_tag_goes};
@@ -134,6 +134,18 @@ impl<'a> Standing<'a> {
             level,
             number,
         })
+    }
+
+    /// Whether nothing is open.
+    #[tactic(auto, using(crate::proofs::TakeLemmas::at_top))]
+    #[inline(always)]
+    pub(crate) fn is_at_top(&self) -> bool
+        ensures { result ≡ true → self.now.cues ≡ top_cue ∷ [] }
+    {
+        match self.frames.top() {
+            None => true,
+            Some(_) => false,
+        }
     }
 
     /// The elements of an array come.

@@ -1,6 +1,6 @@
 -- Fields that are said at once, where a walk waits for them: strings whose bytes stand for themselves, handles, the raw
 -- values of fields, and references.
-use Rattle.std.proofs.Common.{◌≡◌, ℕ, ◌+◌, ◌<◌, List, [], ◌∷◌, ◌++◌, Bool, true, false, zero, suc, ◌≤◌, length, take, get_or, refl, sym, ap, ◌∙◌, arith}
+use Rattle.std.proofs.Common.{◌≡◌, ℕ, ◌+◌, ◌<◌, List, [], ◌∷◌, ◌++◌, Bool, true, false, zero, suc, ◌≤◌, length, take, get_or, Some, refl, sym, ap, ◌∙◌, arith}
 use Rattle.std.specs.Prelude.{nat_lt, slice_index, codes}
 use Rattle.std.specs.Borrow.{Bor}
 use Rattle.std.specs.List.{flat_map}
@@ -8,20 +8,22 @@ use Rattle.std.proofs.lemmas.List.{take_more, flat_map_more}
 use Rattle.std.proofs.lemmas.Bool.Decides.{nat_tests}
 use Rattle.jser_prim.specs.Outgoing.{Outgoing, SinkState}
 use Rattle.jser_grammar.specs.Wire.{TC_REFERENCE}
+use Rattle.jser_reading.specs.Roles.{Owner, enum_owner}
 use Rattle.jser_reading.specs.Labels.{StreamField, tag_field, block_tag_field, end_tag_field, reset_tag_field, handle_field, text_field, prims_field, bytes_field, null_tag, reference_tag, class_desc_tag, object_tag, string_tag, array_tag, class_tag, long_string_tag, proxy_desc_tag, enum_tag}
 use Rattle.jser_shown.specs.Cues.{Teller}
-use Rattle.jser_shown.specs.Telling.{says, seen, seen_tag, seen_handle, seen_text, seen_bytes, handle_says, raw_line, first_owner, goes, goes_in, settled}
+use Rattle.jser_shown.specs.Telling.{says, settle_says, seen, seen_tag, seen_handle, seen_text, seen_bytes, handle_says, raw_line, first_owner, goes, goes_in, settled}
 use Rattle.jser_shown.specs.Shown.{field_named, name_text}
 use Rattle.jser_shown.specs.Words.{begin_line, end_line, mark, quoted, quoted_unit}
 use Rattle.jser_walk.specs.declared.Field.TheVariants as lent
 use Rattle.jser_walk.specs.Given.{IsOf}
-use Rattle.jser_walk.specs.Prompts.{Prompt, prompt_of, prompt_says, handle_prompt, string_prompt, raw_prompt, value_prompt, class_prompt}
+use Rattle.jser_walk.specs.Prompts.{Prompt, prompt_of, prompt_says, handle_prompt, string_prompt, raw_prompt, top_prompt, value_prompt, class_prompt, enum_name_prompt}
+use Rattle.jser_walk.specs.Steps.{due, due_says, made_due, pass}
 use Rattle.jser_words.specs.Passing.{says_next, waits}
 use Rattle.jser_words.specs.Plain.{ArePlain}
 use Rattle.jser_words.specs.Says.{Says}
 use Rattle.jser_words.proofs.FieldLemmas.{in-cues-says}
 use Rattle.jser_words.proofs.SaysLemmas.{says_name, says_same, says_both}
-use Rattle.jser_words.proofs.StepLemmas.{none_due, says_waited, goes_waited}
+use Rattle.jser_words.proofs.StepLemmas.{steps-settle, none_due, says_waited, goes_waited}
 
 -- a byte more
 pub quoted_more : (bytes : List ℕ) (i byte : ℕ) → flat_map quoted_unit (take i bytes) ≡ take i bytes → i < length bytes → byte ≡ get_or bytes i 0
@@ -165,3 +167,42 @@ pub goes_class : (s t : Teller) (L : ℕ) (told : StreamField) → prompt_of s �
     → IsOf (lent.Tag TC_REFERENCE) told → t ≡ goes s (tag_field reference_tag) → t ≡ goes (settled s) told
 goes_class s t L told wants is goes_on =
     goes_seen s t (class_prompt L) (tag_field reference_tag) told wants refl (reference_seen told is) goes_on
+
+-- a reference that is a content of the stream itself
+pub says_top : (a b : Outgoing) (d e : SinkState) (s : Teller) (told : StreamField) → prompt_of s ≡ top_prompt → IsOf (lent.Tag TC_REFERENCE) told
+    → Says a b d e (λ k. codes "ref " ++ k) → Says a b d e (λ k. says_next s told k)
+says_top a b d e s told wants is x =
+    says_seen a b d e s top_prompt told (λ k. codes "ref " ++ k) wants refl
+    (λ k. ap (λ z. prompt_says top_prompt s.epoch (length s.known) (first_owner s.owners) z k) (reference_seen told is)) x
+
+pub goes_top : (s t : Teller) (told : StreamField) → prompt_of s ≡ top_prompt → IsOf (lent.Tag TC_REFERENCE) told → t ≡ goes s (tag_field reference_tag)
+    → t ≡ goes (settled s) told
+goes_top s t told wants is goes_on = goes_seen s t top_prompt (tag_field reference_tag) told wants refl (reference_seen told is) goes_on
+
+-- the handle of a class
+pub goes_class_handle : (s t : Teller) (handle number : ℕ) (told : StreamField) → prompt_of s ≡ handle_prompt → seen_handle number ≡ seen told
+    → t ≡ goes s (handle_field number) → t ≡ goes (settled s) told
+goes_class_handle s t handle number told wants same goes_on = goes_seen s t handle_prompt (handle_field number) told wants refl (sym same) goes_on
+
+-- where only a handle is due before a field
+
+says_made : (s : Teller) (owner : Owner) (told : StreamField) (k : List ℕ) → due s ≡ Some (made_due owner) → says_next s told k ≡ says_next (pass s) told k
+says_made s owner told k is =
+    (steps-settle s).1 (says (settled s) told k)
+    ∙ ap (λ d. due_says d (settle_says (pass s).known (pass s).cues (says (settled s) told k))) is
+    ∙ ap (λ u. settle_says (pass s).known (pass s).cues (says u told k)) (steps-settle s).0
+
+pub says_enum_name : (a b c : Outgoing) (d e f : SinkState) (s : Teller) (L : ℕ) (told : StreamField) → due s ≡ Some (made_due enum_owner)
+    → prompt_of (pass s) ≡ enum_name_prompt L → IsOf (lent.Tag TC_REFERENCE) told → Says a b d e (λ k. begin_line L k)
+    → Says b c e f (λ k. codes "name ref " ++ k) → Says a c d f (λ k. says_next s told k)
+says_enum_name a b c d e f s L told made wants is x y =
+    says_same a c d f (λ k. says_next (pass s) told k) (λ k. says_next s told k) (λ k. says_made s enum_owner told k made)
+    (says_seen a c d f (pass s) (enum_name_prompt L) told (λ k. begin_line L (codes "name ref " ++ k)) wants refl
+    (λ k. ap (λ z. prompt_says (enum_name_prompt L) (pass s).epoch (length (pass s).known) (first_owner (pass s).owners) z k) (reference_seen told is))
+    (says_both a b c d e f (λ k. begin_line L k) (λ k. codes "name ref " ++ k) x y))
+
+pub goes_enum_name : (s t : Teller) (L : ℕ) (told : StreamField) → prompt_of (pass s) ≡ enum_name_prompt L → IsOf (lent.Tag TC_REFERENCE) told
+    → t ≡ goes (pass s) (tag_field reference_tag) → t ≡ goes (settled s) told
+goes_enum_name s t L told wants is goes_on =
+    goes_seen (pass s) t (enum_name_prompt L) (tag_field reference_tag) told wants refl (reference_seen told is) goes_on
+    ∙ ap (λ u. goes u told) (sym (steps-settle s).0)

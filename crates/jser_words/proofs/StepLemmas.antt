@@ -12,7 +12,7 @@ use Rattle.jser_words.specs.Passing.{Passed, says_next, waits}
 use Rattle.jser_words.specs.Says.{Saying, Says, Begins}
 use Rattle.jser_words.proofs.SaysLemmas.{says_on, says_both, says_same}
 
-steps-settle : StepsSettle
+pub steps-settle : StepsSettle
 steps-settle = search rules
 
 steps-end : StepsEnd

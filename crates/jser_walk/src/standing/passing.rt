@@ -7,6 +7,7 @@ ghost use Rattle.jser_walk.specs.Given.{told_owner};
 ghost use Rattle.jser_walk.specs.Steps.{pass, pass_in};
 ghost use Rattle.jser_walk.specs.Frames.{cue_of, cues_of, tail_of, FrameFits, FramesFit, FirstIs};
 ghost use Rattle.jser_walk.specs.Phases.{StandsIn};
+ghost use Rattle.jser_walk.specs.Sections.{PassesEnumMade};
 
 use crate::frame::{Frame, Stage};
 use crate::owner::Owner;
@@ -173,6 +174,28 @@ impl<'a> Standing<'a> {
                 self.frames.pop();
                 Ok(Phase::Frames)
             }
+        }
+    }
+
+    /// An enum constant gets its handle, where nothing else is due: its name is waited for, in a line of the level that is
+    /// returned. None where something else comes; nothing is done then.
+    #[tactic(auto, using(crate::proofs::PassLemmas::enum_due, crate::proofs::PassLemmas::enum_passed, crate::proofs::FrameLemmas::tail_fits))]
+    #[inline(always)]
+    pub(crate) fn pass_enum_made(&mut self) -> Result<Option<u64>, AllocError>
+        ensures { IfOk result (λ level. PassesEnumMade level self.old self.new) }
+    {
+        match self.frames.top() {
+            Some(Frame::Made { owner, level, .. }) => match owner {
+                Owner::EnumConst => {
+                    self.table.add_other()?;
+                    self.frames.pop();
+                    Ok(Some(level))
+                }
+                Owner::Object => Ok(None),
+                Owner::Array => Ok(None),
+                Owner::ClassObject => Ok(None),
+            },
+            _ => Ok(None),
         }
     }
 }
