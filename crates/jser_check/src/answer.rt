@@ -5,7 +5,7 @@ ghost use Rattle.jser_check.specs.Answers.{report_of};
 use jser_reader::{Stop, Totals};
 
 /// The counts of an admitted stream.
-#[derive(Clone, Copy, PartialEq, Eq, Hash, Debug)]
+#[derive(Clone, Copy, PartialEq, Eq, Debug)]
 pub struct Report {
     /// How many bytes it has.
     pub bytes: u64,
@@ -35,7 +35,7 @@ impl Report {
 }
 
 /// Why the check of a source stopped without a report.
-#[derive(Clone, Copy, PartialEq, Eq, Hash, Debug)]
+#[derive(Clone, Copy, PartialEq, Eq, Debug)]
 pub enum CheckFault {
     /// The check stopped.
     Stop(Stop),

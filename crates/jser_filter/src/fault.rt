@@ -4,7 +4,7 @@ use std::error::Error;
 use std::fmt;
 
 /// What is wrong with a piece of a filter's text. Where several of these apply, the first is told.
-#[derive(Clone, Copy, PartialEq, Eq, Hash, Debug)]
+#[derive(Clone, Copy, PartialEq, Eq, Debug)]
 pub enum FilterCause {
     /// A limit with none of the names `maxdepth`, `maxrefs`, `maxbytes` and `maxarray`.
     UnknownLimit,
@@ -21,7 +21,7 @@ pub enum FilterCause {
 }
 
 /// The first faulty piece of a filter's text, counted from 0 with empty pieces and limits included.
-#[derive(Clone, Copy, PartialEq, Eq, Hash, Debug)]
+#[derive(Clone, Copy, PartialEq, Eq, Debug)]
 pub struct FilterFault {
     /// The piece.
     pub pattern: usize,
@@ -75,7 +75,7 @@ impl Error for FilterCause {}
 impl Error for FilterFault {}
 
 /// What is wrong with a line of a table of modules. Where both apply, the first is told.
-#[derive(Clone, Copy, PartialEq, Eq, Hash, Debug)]
+#[derive(Clone, Copy, PartialEq, Eq, Debug)]
 pub enum ModulesCause {
     /// Not exactly one `=`, or an empty side.
     BadLine,
@@ -86,7 +86,7 @@ pub enum ModulesCause {
 }
 
 /// The first faulty line of a table of modules, counted from 0 with empty lines included.
-#[derive(Clone, Copy, PartialEq, Eq, Hash, Debug)]
+#[derive(Clone, Copy, PartialEq, Eq, Debug)]
 pub struct ModulesFault {
     /// The line.
     pub line: usize,

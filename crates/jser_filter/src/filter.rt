@@ -17,10 +17,11 @@ use crate::verdict::Verdict;
 use jser_prim::units_of;
 use jser_table::{Element, element_of};
 use std::alloc::Global;
+use std::fmt;
 use std::marker::Model;
 
 /// A filter of class names and limits.
-#[derive(Debug, Drop)]
+#[derive(Drop)]
 pub struct Filter {
     pieces: Pieces,
     modules: Modules,
@@ -32,6 +33,13 @@ impl Model for Filter {
     ghost Value = { FilterView };
 
     ghost view = { λ a. record { pieces = a.pieces; modules = a.modules } };
+}
+
+/// Says that it is a filter, and not which.
+impl fmt::Debug for Filter {
+    fn fmt<W: fmt::Write>(&self, f: &mut fmt::Formatter<W>) -> fmt::Result {
+        f.debug_struct("Filter").finish_non_exhaustive()
+    }
 }
 
 const SEMICOLON: u16 = 0x3B;

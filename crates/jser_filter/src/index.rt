@@ -16,7 +16,7 @@ use std::alloc::{AllocError, Global};
 
 /// Where patterns stand. Those in no module that are an exact name or `P.*` are found by hash maps, all others
 /// by the words of a trie.
-#[derive(Debug, Drop)]
+#[derive(Drop)]
 pub(crate) struct Index {
     names: Places,
     packages: Places,

@@ -5,7 +5,7 @@ ghost use Rattle.jser_filter.specs.Limits.{limit_named, limit_value, number_up_t
 use jser_table::is_text;
 
 /// What a limit limits.
-#[derive(Clone, Copy, PartialEq, Eq, Debug)]
+#[derive(Clone, Copy)]
 pub(crate) enum Limit {
     Depth,
     Refs,
@@ -14,7 +14,7 @@ pub(crate) enum Limit {
 }
 
 /// The limits of a filter's text: for each, the last value that the text sets.
-#[derive(Clone, Copy, PartialEq, Eq, Hash, Debug, Default)]
+#[derive(Clone, Copy, PartialEq, Eq, Debug, Default)]
 pub struct Limits {
     /// The greatest depth of a place: `maxdepth`.
     pub depth: Option<u64>,

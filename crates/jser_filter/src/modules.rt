@@ -10,17 +10,18 @@ use crate::places::Places;
 use crate::units::Units;
 use jser_prim::units_of;
 use std::alloc::{AllocError, Global};
+use std::fmt;
 use std::marker::Model;
 
 /// A package and its module.
-#[derive(Debug, Drop)]
+#[derive(Drop)]
 pub(crate) struct Entry {
     pub(crate) package: Units,
     pub(crate) module: Units,
 }
 
 /// A table from packages to modules.
-#[derive(Debug, Drop)]
+#[derive(Drop)]
 pub struct Modules {
     entries: Vec<Entry>,
     packages: Places,
@@ -43,6 +44,15 @@ impl Model for Modules {
 const EQUALS: u16 = 0x3D;
 
 const LINE_FEED: u16 = 0x0A;
+
+/// Says how many entries the table has, and not which.
+impl fmt::Debug for Modules {
+    fn fmt<W: fmt::Write>(&self, f: &mut fmt::Formatter<W>) -> fmt::Result {
+        f.debug_struct("Modules")
+            .field("entries", &self.entries.len())
+            .finish_non_exhaustive()
+    }
+}
 
 impl Modules {
     /// The empty table. It allocates nothing.

@@ -6,7 +6,7 @@ use crate::units::Units;
 use std::alloc::{AllocError, Global};
 
 /// A name pattern, read once: the units are those in front of its stars, or all of them.
-#[derive(Debug, Drop)]
+#[derive(Drop)]
 pub(crate) enum NamePattern {
     /// `P.**`, with its `P.`
     BelowPackage(Units),

@@ -11,7 +11,7 @@ use jser_table::is_text;
 use std::alloc::Global;
 
 /// A pattern of names.
-#[derive(Debug, Drop)]
+#[derive(Drop)]
 pub(crate) struct Pattern {
     pub(crate) rejects: bool,
     pub(crate) in_module: Option<Units>,
@@ -19,7 +19,7 @@ pub(crate) struct Pattern {
 }
 
 /// What a piece says. An empty one says nothing, and keeps its place in the order.
-#[derive(Debug, Drop)]
+#[derive(Drop)]
 pub(crate) enum Piece {
     Empty,
     Limit(Limit, u64),

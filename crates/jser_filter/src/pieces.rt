@@ -15,7 +15,7 @@ use std::alloc::{AllocError, Global};
 use std::marker::Model;
 
 /// The pieces in their order.
-#[derive(Debug, Drop)]
+#[derive(Drop)]
 pub(crate) struct Pieces {
     pieces: Vec<Piece>,
     index: Index,

@@ -6,7 +6,7 @@ use std::alloc::{AllocError, Global};
 use std::collections::HashMap;
 
 /// The first place of each name.
-#[derive(Debug, Drop)]
+#[derive(Drop)]
 pub(crate) struct Places {
     map: HashMap<Vec<u16>, usize>,
 }

@@ -10,21 +10,21 @@ use std::alloc::{AllocError, Global};
 use std::collections::HashMap;
 
 /// Words, each with a place.
-#[derive(Debug, Drop)]
+#[derive(Drop)]
 pub(crate) struct Trie {
     nodes: Vec<Node>,
     others: HashMap<(usize, u32), usize>,
 }
 
 /// A node: the place of the word that ends there, if one does, and the first edge from it.
-#[derive(Clone, Copy, Debug)]
+#[derive(Clone, Copy)]
 struct Node {
     mark: Option<usize>,
     first: Option<Edge>,
 }
 
 /// The node to which a letter leads.
-#[derive(Clone, Copy, Debug)]
+#[derive(Clone, Copy)]
 struct Edge {
     letter: u32,
     to: usize,
@@ -37,7 +37,7 @@ const BLANK: Node = Node {
 };
 
 /// How far the letters so far lead: the node, if the trie has it, and the least place met.
-#[derive(Clone, Copy, Debug)]
+#[derive(Clone, Copy)]
 pub(crate) struct Walk {
     node: Option<usize>,
     pub(crate) first: Option<usize>,

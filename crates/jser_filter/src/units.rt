@@ -5,7 +5,7 @@ use std::alloc::{AllocError, Global};
 use std::marker::Model;
 
 /// A list of units that is kept.
-#[derive(Debug, Drop)]
+#[derive(Drop)]
 pub(crate) struct Units {
     units: Vec<u16>,
 }

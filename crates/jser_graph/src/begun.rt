@@ -14,7 +14,7 @@ use jser_grammar::wire::{
 use jser_walk::Field;
 
 /// A tag whose node is not made yet.
-#[derive(Clone, Copy, PartialEq, Eq, Debug)]
+#[derive(Clone, Copy)]
 pub(crate) struct Begun {
     pub(crate) kind: NodeKind,
     /// The place of the tag.

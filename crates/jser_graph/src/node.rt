@@ -35,7 +35,7 @@ pub struct Node {
 }
 
 /// What a node is, as it is kept.
-#[derive(Clone, Copy, PartialEq, Eq, Debug)]
+#[derive(Clone, Copy)]
 pub(crate) enum StoredKind {
     /// A string of which no units are kept.
     Text,
@@ -52,7 +52,7 @@ pub(crate) enum StoredKind {
 }
 
 /// A node, as it is kept, in 12 bytes: the place of its tag takes 40 bits, since no stream that is read is longer.
-#[derive(Clone, Copy, PartialEq, Eq, Debug)]
+#[derive(Clone, Copy)]
 pub(crate) struct StoredNode {
     /// The lower 32 bits of the place of its tag.
     place_low: u32,

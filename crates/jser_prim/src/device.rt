@@ -4,12 +4,12 @@
 use thiserror::Error;
 
 /// A device failed. It says no more, since its user could do no more about it.
-#[derive(Clone, Copy, PartialEq, Eq, Hash, Debug, Error)]
+#[derive(Clone, Copy, PartialEq, Eq, Debug, Error)]
 #[error("the device failed")]
 pub struct Failed;
 
 /// A device failed after some bytes.
-#[derive(Clone, Copy, PartialEq, Eq, Hash, Debug, Error)]
+#[derive(Clone, Copy, PartialEq, Eq, Debug, Error)]
 #[error("the device failed after {given} bytes")]
 pub struct FailedAfter {
     /// How many bytes it had taken.

@@ -15,12 +15,12 @@ use std::marker::Model;
 use thiserror::Error;
 
 /// A byte that no text of the scan's length can have where it stands.
-#[derive(Clone, Copy, PartialEq, Eq, Hash, Debug, Error)]
+#[derive(Clone, Copy, PartialEq, Eq, Debug, Error)]
 #[error("not modified UTF-8 of this length")]
 pub struct TextFault;
 
 /// A byte of a slice, which no text of the scan's length can have where it stands.
-#[derive(Clone, Copy, PartialEq, Eq, Hash, Debug, Error)]
+#[derive(Clone, Copy, PartialEq, Eq, Debug, Error)]
 #[error("not modified UTF-8 of this length after {accepted} bytes")]
 pub struct TextFaultAfter {
     /// How many bytes were accepted before it.

@@ -56,7 +56,7 @@ pub trait Gate {
 }
 
 /// The gate that passes all names, and has the greatest limits.
-#[derive(Clone, Copy, PartialEq, Eq, Hash, Debug)]
+#[derive(Clone, Copy, PartialEq, Eq, Debug)]
 pub struct OpenGate;
 
 impl Gate for OpenGate {

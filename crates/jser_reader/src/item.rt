@@ -4,7 +4,7 @@
 ///
 /// The bytes of a text and of raw values are lent as slices of the piece that was given, in as many parts as the piece
 /// has of them; all other items are whole fields.
-#[derive(Clone, Copy, PartialEq, Eq, Hash, Debug)]
+#[derive(Clone, Copy, PartialEq, Eq, Debug)]
 pub enum Item<'p> {
     /// The header: `STREAM_MAGIC` and `STREAM_VERSION`.
     Header,
@@ -35,7 +35,7 @@ pub enum Item<'p> {
 }
 
 /// What the reader answers where it refuses nothing.
-#[derive(Clone, Copy, PartialEq, Eq, Hash, Debug)]
+#[derive(Clone, Copy, PartialEq, Eq, Debug)]
 pub enum Step<'p> {
     /// An item.
     Item {
@@ -49,7 +49,7 @@ pub enum Step<'p> {
 }
 
 /// A value of several fields, lent at once.
-#[derive(Clone, Copy, PartialEq, Eq, Hash, Debug)]
+#[derive(Clone, Copy, PartialEq, Eq, Debug)]
 pub enum Whole<'p> {
     /// A reference: its tag, and its handle as it is written. They are five bytes.
     Reference(u32),
@@ -66,7 +66,7 @@ pub enum Whole<'p> {
 }
 
 /// What a stream holds that was read to its end.
-#[derive(Clone, Copy, PartialEq, Eq, Hash, Debug)]
+#[derive(Clone, Copy, PartialEq, Eq, Debug)]
 pub struct Totals {
     /// How many bytes it has.
     pub bytes: u64,

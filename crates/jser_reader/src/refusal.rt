@@ -107,7 +107,7 @@ impl fmt::Display for Reason {
 }
 
 /// The bytes that are refused.
-#[derive(Clone, Copy, PartialEq, Eq, Hash, Debug)]
+#[derive(Clone, Copy, PartialEq, Eq, Debug)]
 pub struct Refusal {
     /// Where the faulty field starts, counted from 0.
     pub from_byte: u64,
@@ -118,7 +118,7 @@ pub struct Refusal {
 }
 
 /// Why a reader stopped.
-#[derive(Clone, Copy, PartialEq, Eq, Hash, Debug)]
+#[derive(Clone, Copy, PartialEq, Eq, Debug)]
 pub enum Stop {
     /// The bytes are refused.
     Refused(Refusal),

@@ -21,7 +21,7 @@ use std::alloc::{AllocError, Global};
 use std::marker::Model;
 
 /// The chains of the closed descriptors, numbered in the order in which they were added.
-#[derive(Debug, Drop)]
+#[derive(Drop)]
 pub(crate) struct Chains {
     descriptors: Vec<Descriptor>,
     /// The sections of those that have one.

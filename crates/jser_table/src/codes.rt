@@ -56,7 +56,7 @@ impl Codes {
 }
 
 /// How many codes of each sort a class has.
-#[derive(Clone, Copy, Debug)]
+#[derive(Clone, Copy)]
 pub(crate) struct Counts {
     pub(crate) raw_bytes: u32,
     pub(crate) prims: u16,

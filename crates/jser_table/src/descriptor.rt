@@ -8,14 +8,14 @@ use crate::section::Section;
 /// Where a descriptor's superclasses stand in the list of closed descriptors: the parent, and an ancestor
 /// further up. The jumps are those of a skew-binary list (E. Myers, "An applicative random-access stack",
 /// 1983), so a walk to any ancestor takes a number of links in the order of the logarithm of the chain.
-#[derive(Clone, Copy, Debug)]
+#[derive(Clone, Copy)]
 pub(crate) struct Links {
     pub(crate) parent: u32,
     pub(crate) jump: u32,
 }
 
 /// A closed descriptor.
-#[derive(Debug, Drop)]
+#[derive(Drop)]
 pub(crate) struct Descriptor {
     pub(crate) layer: KeptLayer,
     /// None for a class with no superclass.
@@ -31,7 +31,7 @@ pub(crate) struct Descriptor {
 }
 
 /// The sections up to one that stand under each other and, but for that one, have raw values alone.
-#[derive(Clone, Copy, Debug)]
+#[derive(Clone, Copy)]
 pub(crate) struct RawRun {
     /// The first of them.
     pub(crate) from: u32,
@@ -40,7 +40,7 @@ pub(crate) struct RawRun {
 }
 
 /// A section in the list of sections.
-#[derive(Debug, Drop)]
+#[derive(Drop)]
 pub(crate) struct Filed {
     /// What it holds.
     pub(crate) section: Section,
@@ -55,7 +55,7 @@ pub(crate) struct Filed {
 }
 
 /// What a walk up a chain counts: all layers, or those that have something to read.
-#[derive(Clone, Copy, Debug)]
+#[derive(Clone, Copy)]
 pub(crate) enum Counted {
     Layers,
     Filled,

@@ -46,7 +46,7 @@ const PENDING: u32 = 2;
 const FIRST_CHAIN: u32 = 3;
 
 /// What a table keeps of an entry.
-#[derive(Clone, Copy, Debug)]
+#[derive(Clone, Copy)]
 pub(crate) enum Kept {
     Text,
     Other,
@@ -56,7 +56,7 @@ pub(crate) enum Kept {
 }
 
 /// The same in four bytes: a number of four bytes, which this file alone reads.
-#[derive(Debug, Drop)]
+#[derive(Drop)]
 pub(crate) struct Slot {
     code: u32,
 }

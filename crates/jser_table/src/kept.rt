@@ -11,13 +11,14 @@ use crate::flags::{has_block_data, has_write_method, is_enum, is_externalizable,
 use crate::layer::{BodyKind, Fit, Layer, LayerKind, Purpose};
 use crate::section::Section;
 use std::alloc::Global;
+use std::fmt;
 use std::marker::Model;
 
 /// How many type codes lie in place at most: as many as find room, beside the rest, in 32 bytes.
 const FEW: usize = 26;
 
 /// How a layer is kept.
-#[derive(Debug, Drop)]
+#[derive(Drop)]
 enum Form {
     /// With its type codes in place: so many of these bytes.
     Few {
@@ -35,7 +36,7 @@ enum Form {
 }
 
 /// One class of a chain, as a table keeps it. Contracts see it as the `Layer` that the table was given.
-#[derive(Debug, Drop)]
+#[derive(Drop)]
 pub struct KeptLayer {
     form: Form,
 }
@@ -49,6 +50,16 @@ impl Model for KeptLayer {
     ghost view = { λ a. layer_kept a.form };
 
     ghost invariant = { λ a. IsKept a.form };
+}
+
+/// Says what the class is and its flags, and not the type codes of its fields.
+impl fmt::Debug for KeptLayer {
+    fn fmt<W: fmt::Write>(&self, f: &mut fmt::Formatter<W>) -> fmt::Result {
+        f.debug_struct("KeptLayer")
+            .field("kind", &self.kind())
+            .field("flags", &self.flags())
+            .finish_non_exhaustive()
+    }
 }
 
 /// The layer with these codes in place, where they are few.

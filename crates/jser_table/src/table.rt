@@ -23,7 +23,7 @@ use std::fmt;
 use std::marker::Model;
 
 /// Why a handle was not assigned. The table is as it was.
-#[derive(Clone, Copy, PartialEq, Eq, Hash, Debug)]
+#[derive(Clone, Copy, PartialEq, Eq, Debug)]
 pub enum TableFault {
     /// The table has as many entries as it may have.
     Full,
@@ -45,7 +45,7 @@ impl fmt::Display for TableFault {
 impl Error for TableFault {}
 
 /// The entries of one epoch, in the order of their handles.
-#[derive(Debug, Drop)]
+#[derive(Drop)]
 pub struct Table {
     entries: Vec<Slot>,
     chains: Chains,
@@ -65,6 +65,16 @@ impl Model for Table {
     ghost view = { λ a. record { entries = map (view_entry a.chains.listed) a.entries.items; chains = a.chains.listed; max = a.max } };
 
     ghost invariant = { λ a. IsSound a.entries.items a.chains a.pending a.max };
+}
+
+/// Says how many entries there are and may be, and not which.
+impl fmt::Debug for Table {
+    fn fmt<W: fmt::Write>(&self, f: &mut fmt::Formatter<W>) -> fmt::Result {
+        f.debug_struct("Table")
+            .field("count", &self.entries.len())
+            .field("max", &self.max)
+            .finish_non_exhaustive()
+    }
 }
 
 impl Table {

@@ -7,7 +7,7 @@ use jser_prim::{read_u16, read_u32, read_u64};
 use std::marker::Model;
 
 /// Why a part was not built.
-#[derive(Clone, Copy, PartialEq, Eq, Debug)]
+#[derive(Clone, Copy)]
 pub(crate) enum Fault {
     /// The bytes are not those of such a part.
     Lost,

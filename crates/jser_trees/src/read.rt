@@ -51,7 +51,7 @@ fn check_under<G: Gate + Drop>(alloc: Global, bytes: &[u8], gate: G) -> Result<T
 }
 
 /// There was no memory for the tree.
-#[derive(Clone, Copy, PartialEq, Eq, Debug)]
+#[derive(Clone, Copy)]
 struct OutOfMemory;
 
 /// The contents of a stream within the caps of trees.

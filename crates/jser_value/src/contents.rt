@@ -17,7 +17,7 @@ use thiserror::Error;
 const MOST_AFTER_HEADER: u64 = MOST_TREE_BYTES - 4;
 
 /// Why a list of contents is refused: the first of these that holds.
-#[derive(Clone, Copy, PartialEq, Eq, Hash, Debug, Error)]
+#[derive(Clone, Copy, PartialEq, Eq, Debug, Error)]
 pub enum ValueCause {
     /// Its depth is over 1,000.
     #[error("the contents are nested too deep")]

@@ -28,7 +28,7 @@ use thiserror::Error;
 const HEADER: [u8; 4] = [0xAC, 0xED, 0x00, 0x05];
 
 /// Why a list of contents was not written whole.
-#[derive(Clone, Copy, PartialEq, Eq, Hash, Debug, Error)]
+#[derive(Clone, Copy, PartialEq, Eq, Debug, Error)]
 pub enum EncodeFault {
     /// The sink failed after so many bytes of the spelling.
     #[error("the writer failed after {written} bytes")]

@@ -152,7 +152,7 @@ pub enum Body {
 }
 
 /// A primitive value as raw bits, by its type code.
-#[derive(Clone, Copy, PartialEq, Eq, Hash, Debug)]
+#[derive(Clone, Copy, PartialEq, Eq, Debug)]
 pub enum Raw {
     /// A byte.
     B(u8),

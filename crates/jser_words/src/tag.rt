@@ -11,7 +11,7 @@ use jser_prim::{Outbox, Sink};
 use jser_walk::{OwnerNode, Tag};
 
 /// What the words of a tag need besides it.
-#[derive(Clone, Copy, PartialEq, Eq, Debug)]
+#[derive(Clone, Copy)]
 pub(crate) struct Place {
     /// Which epoch it is, from 0.
     pub epoch: u64,

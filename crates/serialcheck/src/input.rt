@@ -17,7 +17,7 @@ use jser_verdict::laws::refuses_first_fault;
 use std::alloc::Global;
 
 /// Why there is no stream.
-#[derive(Clone, Copy, PartialEq, Eq, Debug)]
+#[derive(Clone, Copy)]
 pub(crate) enum Unread {
     /// The bytes are no stream, or one that is longer or deeper than any may be.
     Refused(Refusal),

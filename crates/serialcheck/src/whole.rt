@@ -9,7 +9,7 @@ use jser_prim::Source;
 use std::alloc::{AllocError, Global};
 
 /// Why there are no bytes.
-#[derive(Clone, Copy, PartialEq, Eq, Debug)]
+#[derive(Clone, Copy)]
 pub(crate) enum WholeFault {
     /// A read failed.
     Failed,

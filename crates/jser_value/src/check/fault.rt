@@ -8,7 +8,7 @@ use crate::handles::Handles;
 use jser_table::Kind;
 
 /// Why a tree did not pass.
-#[derive(Clone, Copy, PartialEq, Eq, Debug)]
+#[derive(Clone, Copy)]
 pub(crate) enum Fault {
     /// It does not obey the format.
     NotRight,
