@@ -1,6 +1,6 @@
 -- The text of show, said field by field along the bytes.
-use Rattle.std.proofs.Common.{◌≡◌, ◌⊎◌, inl, inr, ℕ, true, List, [], ◌∷◌, ◌++◌, length, Result, Ok, Err, OnOk, OnErr, refl, sym, ◌∙◌, ap, subst, append_assoc, append-nil}
-use Rattle.jser_prim.specs.Outgoing.{Outgoing, SinkState, Puts}
+use Rattle.std.proofs.Common.{◌≡◌, ◌⊎◌, inl, inr, ℕ, Bool, true, Option, List, [], ◌∷◌, ◌++◌, length, Result, Ok, Err, OnOk, OnErr, refl, sym, ◌∙◌, ap, subst, append_assoc, append-nil}
+use Rattle.jser_prim.specs.Outgoing.{Outgoing, SinkState, Puts, sink_state}
 use Rattle.jser_prim.proofs.OutgoingLemmas.{puts_both, puts_stopped}
 use Rattle.jser_grammar.specs.Trees.{ContentTrees}
 use Rattle.jser_reading.specs.Labels.{StreamField, Label, Piece, piece}
@@ -18,7 +18,7 @@ use Rattle.jser_reader.specs.declared.Item.{Item}
 use Rattle.jser_reader.specs.declared.tally.Tally.{Tally}
 use Rattle.jser_reader.specs.Readers.{Seen}
 use Rattle.jser_words.specs.Passing.{says_next}
-use Rattle.jser_words.specs.Says.{Says, Begins}
+use Rattle.jser_words.specs.Says.{Says, Begins, BeginsTo}
 use Rattle.jser_words.proofs.SaysLemmas.{says_none, says_both, says_same}
 use Rattle.jser_graph.specs.Along.{Ends, IsLength, InText, IsStuck, GoesAlong}
 use Rattle.jser_graph.specs.Showing.{PutsText, PutsSome, PutsFront}
@@ -39,6 +39,17 @@ SaysAlong bytes rest r tally start old now before after walk = GoesAlong open_ga
 
 pub begins_none : (out : Outgoing) (sink : SinkState) (all : List ℕ → List ℕ) → Begins out out sink sink all
 begins_none out sink all = record { left = all; said = says_none out sink all }
+
+pub begins_same : {S : Type 0} (gone_out : S → Option (List ℕ)) (has_failed : S → Bool) (old new : Outgoing) (before after : S) (all : List ℕ → List ℕ)
+    → new ≡ old → after ≡ before → BeginsTo gone_out has_failed old new before after all
+begins_same gone_out has_failed old new before after all out sink =
+    subst (λ o. BeginsTo gone_out has_failed old o before after all) (sym out)
+    (subst (λ s. BeginsTo gone_out has_failed old old before s all) (sym sink)
+    (begins_none old (sink_state (gone_out before) (has_failed before)) all))
+
+pub err_any : {T E P : Type 0} (r : Result T E) → P → OnErr r P
+err_any (Ok x) p = tt
+err_any (Err e) p = p
 
 pub ok_by : {T E P Q : Type 0} (r : Result T E) → OnOk r P → (P → Q) → OnOk r Q
 ok_by (Ok x) p f = f p

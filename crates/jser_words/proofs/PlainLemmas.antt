@@ -179,11 +179,6 @@ pub goes_top : (s t : Teller) (told : StreamField) → prompt_of s ≡ top_promp
     → t ≡ goes (settled s) told
 goes_top s t told wants is goes_on = goes_seen s t top_prompt (tag_field reference_tag) told wants refl (reference_seen told is) goes_on
 
--- the handle of a class
-pub goes_class_handle : (s t : Teller) (handle number : ℕ) (told : StreamField) → prompt_of s ≡ handle_prompt → seen_handle number ≡ seen told
-    → t ≡ goes s (handle_field number) → t ≡ goes (settled s) told
-goes_class_handle s t handle number told wants same goes_on = goes_seen s t handle_prompt (handle_field number) told wants refl (sym same) goes_on
-
 -- where only a handle is due before a field
 
 says_made : (s : Teller) (owner : Owner) (told : StreamField) (k : List ℕ) → due s ≡ Some (made_due owner) → says_next s told k ≡ says_next (pass s) told k
