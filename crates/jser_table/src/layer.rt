@@ -1,9 +1,5 @@
 //! Layers: what an object's data needs of each class of a chain.
-ghost use Rattle.std.specs.Prelude.{◌≡◌};
-ghost use Rattle.jser_table.specs.Chains.{has_write_method, is_serializable, is_externalizable, has_block_data, is_enum, is_filled, is_serial};
-
 use crate::codes::Codes;
-use crate::flags::{has_block_data, has_write_method, is_enum, is_externalizable, is_serializable};
 
 /// What the elements of an array are.
 #[derive(Clone, Copy, PartialEq, Eq, Hash, Debug)]
@@ -58,55 +54,4 @@ pub struct Layer {
     pub flags: u8,
     /// The type codes of its fields, in order. A stream says none of a proxy, and a reader gives none.
     pub codes: Codes,
-}
-
-impl Layer {
-    /// Whether the flags have `SC_WRITE_METHOD`: an annotation follows the class's fields.
-    pub fn has_write_method(&self) -> bool
-        ensures { result ≡ has_write_method self.now.flags }
-    {
-        has_write_method(self.flags)
-    }
-
-    /// Whether the flags have `SC_SERIALIZABLE`.
-    pub fn is_serializable(&self) -> bool
-        ensures { result ≡ is_serializable self.now.flags }
-    {
-        is_serializable(self.flags)
-    }
-
-    /// Whether the flags have `SC_EXTERNALIZABLE`.
-    pub fn is_externalizable(&self) -> bool
-        ensures { result ≡ is_externalizable self.now.flags }
-    {
-        is_externalizable(self.flags)
-    }
-
-    /// Whether the flags have `SC_BLOCK_DATA`: an externalizable class writes block data.
-    pub fn has_block_data(&self) -> bool
-        ensures { result ≡ has_block_data self.now.flags }
-    {
-        has_block_data(self.flags)
-    }
-
-    /// Whether the flags have `SC_ENUM`.
-    pub fn is_enum(&self) -> bool
-        ensures { result ≡ is_enum self.now.flags }
-    {
-        is_enum(self.flags)
-    }
-
-    /// Whether an object holds something to read for this class: fields, or an annotation.
-    pub fn is_filled(&self) -> bool
-        ensures { result ≡ is_filled self.now }
-    {
-        !self.codes.is_empty() || self.has_write_method()
-    }
-
-    /// Whether the class is a proxy or has the flag `SC_SERIALIZABLE`.
-    pub fn is_serial(&self) -> bool
-        ensures { result ≡ is_serial self.now }
-    {
-        self.kind == LayerKind::Proxy || self.is_serializable()
-    }
 }

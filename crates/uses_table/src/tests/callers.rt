@@ -8,15 +8,16 @@ use crate::data::{first_size, fits_at_once, has_annotation};
 use crate::epochs::{
     Advice, assign_again, assign_or_advise, is_new, log_line, next_epoch, with_class,
 };
-use crate::fields::{
-    first_code, holds_fields_alone, is_raw, is_serial_enum, loses_fields, through_codes,
-    writes_blocks,
+use crate::fields::{first_code, is_raw, through_codes};
+use crate::kept::{
+    close_class, holds_fields_alone, is_serial_enum, kept_with_flags, kind_and_first, loses_fields,
+    proxy_layer, writes_blocks,
 };
-use crate::kept::{close_class, kept_with_flags, kind_and_first, proxy_layer};
 use crate::names::{is_name, is_string, kind_of, kind_of_judged};
 use crate::references::{class_fit, is_assigned, names_class, names_open_class, names_text};
 use jser_table::{
-    BodyKind, Class, Codes, Fit, Kind, Layer, LayerKind, Purpose, Sections, Table, TableFault,
+    BodyKind, Class, Codes, Fit, KeptLayer, Kind, Layer, LayerKind, Purpose, Sections, Table,
+    TableFault,
 };
 use std::alloc::{AllocError, Global};
 use std::process::Abort;
@@ -111,7 +112,7 @@ fn its_data(rt: HostRuntime) -> Result<(), Fail> {
 }
 
 /// Whether a layer is that of an enum, holds fields alone, writes blocks, and loses fields.
-fn compare_flags(rt: &impl Abort, layer: &Layer, wanted: [bool; 4]) {
+fn compare_flags(rt: &impl Abort, layer: &KeptLayer, wanted: [bool; 4]) {
     let found = [
         is_serial_enum(layer),
         holds_fields_alone(layer),
@@ -128,7 +129,8 @@ fn a_layer(rt: HostRuntime) -> Result<(), Fail> {
         (0x00, [false, true, false, true]),
         (0x0C, [false, true, true, true]),
     ] {
-        compare_flags(&rt, &order(rt.alloc(), flags)?, wanted);
+        let layer = KeptLayer::new(order(rt.alloc(), flags)?);
+        compare_flags(&rt, &layer, wanted);
     }
     Ok(())
 }
