@@ -47,10 +47,6 @@ begins_same gone_out has_failed old new before after all out sink =
     (subst (λ s. BeginsTo gone_out has_failed old old before s all) (sym sink)
     (begins_none old (sink_state (gone_out before) (has_failed before)) all))
 
-pub err_any : {T E P : Type 0} (r : Result T E) → P → OnErr r P
-err_any (Ok x) p = tt
-err_any (Err e) p = p
-
 pub ok_by : {T E P Q : Type 0} (r : Result T E) → OnOk r P → (P → Q) → OnOk r Q
 ok_by (Ok x) p f = f p
 ok_by (Err e) p f = tt
