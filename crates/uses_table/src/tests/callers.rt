@@ -2,7 +2,7 @@
 ghost use Rattle.std.specs.Prelude.{◌<◌, ◌^◌, slice_get, IsTrue, IfOk};
 ghost use Rattle.jser_table.specs.Entries.{is_closed};
 
-use super::table::try_close;
+use super::table::{is_closed, try_close};
 use crate::classes::{Layout, can_be_read, holds_nothing, is_serial, layout_of, own_layer};
 use crate::data::{first_size, fits_at_once, has_annotation};
 use crate::epochs::{
@@ -191,6 +191,8 @@ fn compare_closed(rt: &impl Abort, alloc: Global, fields: usize) -> Result<(), F
     let mut codes = vec![in alloc; b'B'; fields]?;
     close_class(alloc, &mut table, number, 0x02, &mut codes);
     assert!(rt; codes.is_empty());
+    assert!(rt; is_closed(&table, number));
+    assert!(rt; table.layers(number) > 0);
     let layer = table.layer(number, 0);
     assert_eq!(rt; layer.codes().len(), fields);
     assert_eq!(rt; layer.flags(), 0x02);

@@ -31,7 +31,7 @@ fn is_pending(table: &Table, number: u32) -> bool
     matches!(table.get(number), Some(Entry::Pending))
 }
 
-fn is_closed(table: &Table, number: u32) -> bool
+pub(super) fn is_closed(table: &Table, number: u32) -> bool
     ensures { result ≡ is_closed (slice_get table.now.entries number) }
 {
     matches!(table.get(number), Some(Entry::Closed(_)))
