@@ -18,8 +18,8 @@ use std::marker::Model;
 /// names, and the bytes as they were read.
 ///
 /// It holds the bytes, 12 bytes for each handle, 8 for each object, array, enum constant and class object, and two for
-/// each unit of a string or a checked name, with room for at most 32,768 units more. It holds no tree, and nothing in it
-/// goes as deep as the stream.
+/// each unit of a string or a checked name; besides, room that is made ready for at most 32,768 units, and what each vector
+/// holds in reserve as it grows. It holds no tree, and nothing in it goes as deep as the stream.
 #[derive(Drop)]
 pub struct Graph {
     pub(crate) bytes: Vec<u8>,

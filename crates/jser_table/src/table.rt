@@ -143,7 +143,7 @@ impl Table {
         self.close_kept(number, KeptLayer::new(layer), parent);
     }
 
-    /// The same with a layer in the form in which it is kept.
+    /// The same as `close`, with a layer in the form in which it is kept. Takes no memory.
     pub fn close_kept(&mut self, number: u32, layer: KeptLayer, parent: Option<u32>)
         requires pending { IsTrue (is_pending (slice_get self.old.entries number)) }
         requires parent { ForSome parent (λ p. IsTrue (is_closed (slice_get self.old.entries p))) }
