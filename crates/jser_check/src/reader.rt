@@ -17,8 +17,9 @@ use jser_prim::Source;
 use jser_reader::{Gate, Reader, Stop, Totals};
 use std::alloc::{AllocError, Global};
 
-/// How many bytes a read asks for at most.
-const BUFFER_LEN: usize = 65_535;
+/// How many bytes a read asks for at most: the greatest multiple of sixteen that is less than 64 KiB. A device copies
+/// such a run faster than one of 65,535 bytes, after which the next one would begin in the middle of a word.
+const BUFFER_LEN: usize = 65_520;
 
 /// Checks whether the bytes of a source are one stream that the filter admits, and returns its counts.
 ///

@@ -1,21 +1,21 @@
 -- The index of a filter's patterns: one more piece, and the first match.
-use Rattle.std.proofs.Common.{◌≡◌, ℕ, ◌+◌, ◌<◌, ◌≤◌, Bool, true, false, not, ◌&&◌, ◌||◌, ◌==◌, nat_eq, nat_lt, cond, List, [], ◌∷◌, ◌++◌, length, map, position, Option, Some, None, option_map, refl, ap, sym, ◌∙◌, subst, arith}
-use Rattle.std.specs.List.{position_from, starts_with}
-use Rattle.std.specs.Str.{bytes_eq}
+use Rattle.std.proofs.Common.{◌≡◌, ℕ, ◌+◌, ◌<◌, Bool, true, false, ◌||◌, cond, List, [], ◌∷◌, ◌++◌, length, map, position, Option, Some, None, refl, ap, sym, ◌∙◌, subst, arith}
+use Rattle.std.specs.List.{position_from, list_any}
 use Rattle.std.proofs.lemmas.Bool.{le-ltb}
 use Rattle.std.proofs.lemmas.List.{length-map, map_push}
+use Rattle.std.proofs.lemmas.List.Folds.{list_any-append}
 use Rattle.std.proofs.lemmas.Iterator.Adapters.{position_from-zero}
 use Rattle.jser_filter.specs.declared.index.Index.{Index}
 use Rattle.jser_filter.specs.declared.piece.Piece.{Piece as KeptPiece}
-use Rattle.jser_filter.specs.Pieces.{Piece, view_piece}
+use Rattle.jser_filter.specs.Pieces.{Piece, view_piece, empty_piece, limit_piece, pattern_piece, faulty_piece}
 use Rattle.jser_filter.specs.Places.{place_of, or_else}
 use Rattle.jser_filter.specs.Trie.{first_of, least}
 use Rattle.jser_filter.specs.Patterns.{package_of}
-use Rattle.jser_filter.specs.Filters.{matches_piece}
+use Rattle.jser_filter.specs.Filters.{matches_piece, is_pattern}
 use Rattle.jser_filter.specs.Words.{letters, word_of}
 use Rattle.jser_filter.specs.Index.{package_front, of_piece, is_exact, is_inside, is_begun, first_by, first_in, first_inside, name_in, package_in, IsIndex, AddsPlace}
 use Rattle.jser_filter.specs.declared.piece.Piece.TheVariants as kept
-use Rattle.jser_filter.proofs.MatchLemmas.{agrees, inside_of, package_word, word_in}
+use Rattle.jser_filter.proofs.MatchLemmas.{agrees, inside_of, word_in}
 use Rattle.jser_filter.proofs.TreeLemmas.{least_comm}
 use Rattle.jser_filter.proofs.PositionLemmas.{position-push, position-push_least, or_cond}
 
@@ -165,3 +165,29 @@ first_is found package_found name pieces index is its =
     ∙ ap (least (position (λ p. is_exact name p || inside_test package_found p) all)) (sym (either_first (is_begun (letters name)) (module_test found package_found name) all))
     ∙ sym (either_first (λ p. is_exact name p || inside_test package_found p) (λ p. is_begun (letters name) p || module_test found package_found name p) all)
     ∙ alike_first (found_by found package_found name) (matches_piece found name) (piece_agrees found package_found name its) pieces
+
+-- no piece is a pattern, so none matches
+
+none_from : (found : Option (List ℕ)) (name : List ℕ) (first : ℕ) (pieces : List Piece) → list_any is_pattern pieces ≡ false → position_from (matches_piece found name) first pieces ≡ None
+none_from found name first [] none = refl
+none_from found name first (empty_piece ∷ pieces) none = none_from found name (first + 1) pieces none
+none_from found name first (limit_piece limit value ∷ pieces) none = none_from found name (first + 1) pieces none
+none_from found name first (pattern_piece pattern ∷ pieces) none = absurd cc
+none_from found name first (faulty_piece cause ∷ pieces) none = none_from found name (first + 1) pieces none
+
+pub none_matches : (found : Option (List ℕ)) (name : List ℕ) (pieces : List Piece) → list_any is_pattern pieces ≡ false → position (matches_piece found name) pieces ≡ None
+none_matches found name pieces none = position_from-zero (matches_piece found name) pieces ∙ none_from found name 0 pieces none
+
+-- one more piece
+pub patterns_pushed : (old mid new : List KeptPiece) (piece : KeptPiece) (had is : Bool) → had ≡ list_any is_pattern (map view_piece old) → mid ≡ old → is ≡ is_pattern (view_piece piece) → new ≡ mid ++ piece ∷ []
+    → (had || is) ≡ list_any is_pattern (map view_piece new)
+patterns_pushed old mid new piece had is before same one added =
+    let pushed : map view_piece new ≡ map view_piece old ++ view_piece piece ∷ [] =
+    ap (map view_piece) (added ∙ ap (λ ps. ps ++ piece ∷ []) same) ∙ map_push view_piece old piece
+    in
+    ap (λ b. b || is) before ∙ ap (λ b. list_any is_pattern (map view_piece old) || b) (one ∙ sym (last (is_pattern (view_piece piece))))
+    ∙ sym (list_any-append is_pattern (map view_piece old) (view_piece piece ∷ [])) ∙ ap (list_any is_pattern) (sym pushed)
+  where
+    last : (b : Bool) → (b || false) ≡ b
+    last true = refl
+    last false = refl

@@ -1,21 +1,18 @@
 -- A pattern matches a name exactly where one of its finders says so: as an exact name, by its package, or as a word.
-use Rattle.std.proofs.Common.{◌≡◌, ℕ, suc, ◌+◌, Bool, true, false, not, ◌&&◌, ◌||◌, ◌==◌, nat_eq, cond, List, [], ◌∷◌, ◌++◌, length, take, drop, is_some, Option, Some, None, refl, ap, sym, ◌∙◌, subst, arith}
+use Rattle.std.proofs.Common.{◌≡◌, ℕ, ◌+◌, Bool, true, false, not, ◌&&◌, ◌||◌, ◌==◌, nat_eq, cond, List, [], ◌∷◌, ◌++◌, length, drop, is_some, Option, Some, None, refl, ap, sym, ◌∙◌, arith}
 use Rattle.std.specs.List.{starts_with}
 use Rattle.std.specs.Str.{bytes_eq}
 use Rattle.std.proofs.lemmas.Bool.{ne_eqb, eq-eqb, eqb-true, eqb-false, and_from, and_parts}
 use Rattle.std.proofs.lemmas.Cmp.{nat_eq_equiv}
 use Rattle.jser_filter.specs.declared.pattern.NamePattern.{NamePattern as Kept}
 use Rattle.jser_filter.specs.declared.pattern.NamePattern.TheVariants as kept
-use Rattle.jser_filter.specs.declared.piece.Piece.{Piece as KeptPiece}
-use Rattle.jser_filter.specs.declared.piece.Piece.TheVariants as kept_piece
 use Rattle.jser_filter.specs.Cuts.{before_last, front_with}
 use Rattle.jser_filter.specs.Patterns.{has_dot, matches_name, package_of, view_name}
-use Rattle.jser_filter.specs.Pieces.{Piece, view_piece}
-use Rattle.jser_filter.specs.Filters.{is_in_module, matches_piece}
+use Rattle.jser_filter.specs.Filters.{is_in_module}
 use Rattle.jser_filter.specs.Trie.{begins}
 use Rattle.jser_filter.specs.Words.{letter, letters, in_module, name_word, word_of, of_module, of_name, of_end, of_package}
 use Rattle.jser_filter.proofs.PackageLemmas.{dotted}
-use Rattle.jser_filter.specs.Index.{exact_name, package_front, of_piece, is_these, is_exact, is_inside, is_begun, is_begun_by, name_in, package_in}
+use Rattle.jser_filter.specs.Index.{exact_name, package_front, is_these, is_begun_by, name_in, package_in}
 
 -- booleans
 

@@ -1,14 +1,13 @@
 -- Packages: the pattern `P.*`, and the names that are in a package.
-use Rattle.std.proofs.Common.{◌≡◌, ℕ, ◌+◌, ◌-◌, Bool, true, false, not, ◌&&◌, ◌||◌, ◌==◌, cond, nat_eq, codes, List, [], ◌∷◌, ◌++◌, length, take, drop, Option, Some, None, refl, ap, sym, ◌∙◌, subst, arith, append_assoc, length-append}
-use Rattle.std.specs.List.{starts_with, ends_with}
+use Rattle.std.proofs.Common.{◌≡◌, ℕ, ◌+◌, ◌-◌, Bool, true, false, ◌&&◌, cond, nat_eq, codes, List, [], ◌∷◌, ◌++◌, length, take, drop, Some, refl, ap, sym, ◌∙◌, arith, append_assoc, length-append}
+use Rattle.std.specs.List.{ends_with}
 use Rattle.std.specs.Str.{bytes_eq}
 use Rattle.std.proofs.lemmas.List.{take_at, take-append-drop}
 use Rattle.std.proofs.lemmas.Slice.Eq.{bytes_eq-Decides}
 use Rattle.std.proofs.lemmas.Cmp.{nat_eq_equiv}
 use Rattle.jser_filter.specs.declared.places.Places.{Places}
 use Rattle.jser_filter.specs.Places.{place_of, or_else, PutsFirst}
-use Rattle.jser_filter.specs.Cuts.{before_last, front_with}
-use Rattle.jser_filter.specs.Patterns.{NamePattern, in_package, has_dot, without_last, package_of}
+use Rattle.jser_filter.specs.Patterns.{in_package, without_last}
 
 -- the `P` of `P.*`, and its `.`
 

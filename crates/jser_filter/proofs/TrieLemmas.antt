@@ -7,7 +7,7 @@ use Rattle.std.proofs.lemmas.List.{get_or-set_same, get_or-set_other, length_pus
 use Rattle.jser_filter.specs.declared.trie.Trie.{Trie}
 use Rattle.jser_filter.specs.declared.trie.Node.{Node}
 use Rattle.jser_filter.specs.declared.trie.Edge.{Edge}
-use Rattle.jser_filter.specs.Trie.{Edges, Marks, IsTree, IsTrie, Keeps, LeadsOn, Reaches, AddsWord, blank, node_of, edge_with, other_edge, edge_of, mark_of, first_of, first_from, least, begins, node_after}
+use Rattle.jser_filter.specs.Trie.{Edges, Marks, IsTree, IsTrie, Keeps, LeadsOn, Reaches, AddsWord, blank, node_of, edge_with, other_edge, edge_of, mark_of, first_of, first_from, least}
 use Rattle.jser_filter.proofs.TreeLemmas.{least_none, none_some, marks, grown_first, grown_after, grown_tree, after_letter}
 
 -- an item that is the default at the end of a list

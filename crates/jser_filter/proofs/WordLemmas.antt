@@ -1,12 +1,12 @@
 -- Patterns as words of a trie: the way of a word, and a word at its end.
-use Rattle.std.proofs.Common.{◌≡◌, ℕ, ◌+◌, ◌<◌, ◌≤◌, Bool, true, false, cond, List, [], ◌∷◌, ◌++◌, length, map, take, drop, get_or, Option, Some, None, refl, ap, sym, ◌∙◌, subst, arith, append_assoc, length-append}
+use Rattle.std.proofs.Common.{◌≡◌, ℕ, ◌+◌, ◌<◌, ◌≤◌, cond, List, [], ◌∷◌, ◌++◌, length, take, drop, get_or, Option, Some, None, refl, ap, sym, ◌∙◌, subst, arith, append_assoc, length-append}
 use Rattle.std.proofs.lemmas.List.{append-nil, map_more, map_push, map-append, drop_at}
 use Rattle.jser_filter.specs.declared.trie.Walk.{Walk}
 use Rattle.jser_filter.specs.declared.trie.Trie.{Trie}
 use Rattle.jser_filter.specs.Index.{name_in, package_in, first_in_module}
 use Rattle.jser_filter.specs.Patterns.{package_of}
 use Rattle.jser_filter.proofs.MatchLemmas.{cut_name}
-use Rattle.jser_filter.specs.Trie.{Edges, Marks, IsTrie, Keeps, LeadsOn, Reaches, AddsWord, edge_of, mark_of, first_of, first_from, least, begins, step, walk_along}
+use Rattle.jser_filter.specs.Trie.{Keeps, LeadsOn, Reaches, AddsWord, edge_of, mark_of, first_of, least, begins, step, walk_along}
 use Rattle.jser_filter.specs.Words.{letter, letters, in_module, of_module, of_name, of_end, of_package}
 use Rattle.jser_filter.proofs.TreeLemmas.{walk-append, walk_first}
 

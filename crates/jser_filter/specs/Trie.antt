@@ -1,6 +1,6 @@
 -- A trie of words: each word is a path from the node 0, and the node at its end is marked with its place. A word is
 -- a list of letters, and a letter a number.
-use Rattle.std.specs.Prelude.{ℕ, ◌≡◌, ◌+◌, ◌<◌, length, slice_index_or, List, [], ◌∷◌, ◌++◌, Option, Some, None, option_and_then, nat_lt, nat_eq, if◌then◌else◌, Bool, true, false, ◌==◌, ◌&&◌}
+use Rattle.std.specs.Prelude.{ℕ, ◌≡◌, ◌<◌, length, slice_index_or, List, [], ◌∷◌, ◌++◌, Option, Some, None, option_and_then, nat_lt, nat_eq, if◌then◌else◌, Bool, true, false, ◌==◌, ◌&&◌}
 use Rattle.std.specs.HashMap.{get}
 use Rattle.jser_filter.specs.declared.trie.Trie.{Trie}
 use Rattle.jser_filter.specs.declared.trie.Node.{Node}

@@ -99,10 +99,13 @@ impl Filter {
         Filter { pieces, modules }
     }
 
-    /// What the filter says of an element's name.
+    /// What the filter says of an element's name. Where it has no patterns, the name is not looked at.
     fn judge_class(&self, class: &[u16]) -> Verdict
         ensures { result ≡ verdict_by self.now (element class.now) }
     {
+        if !self.pieces.has_patterns() {
+            return Verdict::Undecided;
+        }
         let package = before_last(class, DOT);
         let found = self.modules.of_package(package);
         judge_by(&self.pieces, found, package, class)

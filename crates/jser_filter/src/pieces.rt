@@ -5,7 +5,8 @@ ghost use Rattle.jser_filter.specs.Patterns.{package_of};
 ghost use Rattle.jser_filter.specs.Pieces.{read_piece, view_piece, IsCauseOf};
 ghost use Rattle.jser_filter.specs.Index.{AddsPlace, KeepsIndex};
 ghost use Rattle.jser_filter.specs.Trie.{IsTrie};
-ghost use Rattle.jser_filter.specs.Filters.{matches_piece, rejects, limits_of, limits_after, is_faulty};
+ghost use Rattle.jser_filter.specs.Filters.{matches_piece, is_pattern, rejects, limits_of, limits_after, is_faulty};
+ghost use Rattle.std.specs.List.{list_any};
 
 use crate::fault::{FilterCause, FilterFault};
 use crate::index::Index;
@@ -19,6 +20,7 @@ use std::marker::Model;
 pub(crate) struct Pieces {
     pieces: Vec<Piece>,
     index: Index,
+    has_patterns: bool,
 }
 
 impl Model for Pieces {
@@ -27,11 +29,14 @@ impl Model for Pieces {
 
     ghost Value = { List Piece };
 
+    ghost use Rattle.std.specs.Prelude.{◌≡◌};
+    ghost use Rattle.std.specs.List.{list_any};
+    ghost use Rattle.jser_filter.specs.Filters.{is_pattern};
     ghost use Rattle.jser_filter.specs.Index.{IsIndex};
 
     ghost view = { λ a. map view_piece a.pieces.items };
 
-    ghost invariant = { λ a. IsIndex (map view_piece a.pieces.items) a.index };
+    ghost invariant = { λ a. IsIndex (map view_piece a.pieces.items) a.index × (a.has_patterns ≡ list_any is_pattern (map view_piece a.pieces.items)) };
 }
 
 impl Pieces {
@@ -42,6 +47,7 @@ impl Pieces {
         Ok(Pieces {
             pieces: Vec::new(alloc),
             index: Index::new(alloc)?,
+            has_patterns: false,
         })
     }
 
@@ -81,6 +87,13 @@ impl Pieces {
         self.index.first(found, package, name)
     }
 
+    /// Whether some piece is a pattern. Where none is, none matches any name.
+    pub(crate) fn has_patterns(&self) -> bool
+        ensures { result ≡ list_any is_pattern self.now }
+    {
+        self.has_patterns
+    }
+
     /// Whether the piece with this index is a rejecting pattern.
     pub(crate) fn rejects(&self, index: usize) -> bool
         ensures { result ≡ rejects (slice_get self.now index) }
@@ -103,6 +116,7 @@ impl Pieces {
         self.pieces.reserve(1)?;
         let place = self.pieces.len();
         add_place(alloc, &mut self.index, &piece, place)?;
+        self.has_patterns |= is_pattern(&piece);
         self.pieces.push_reserved(piece);
         Ok(())
     }
@@ -123,6 +137,13 @@ fn add_place(
         Piece::Pattern(pattern) => index.add(alloc, pattern, place),
         Piece::Empty | Piece::Limit(..) => Ok(()),
     }
+}
+
+/// Whether a piece is a pattern.
+fn is_pattern(piece: &Piece) -> bool
+    ensures { result ≡ is_pattern (view_piece piece.now) }
+{
+    matches!(piece, Piece::Pattern(_))
 }
 
 /// Whether the piece with this index is a rejecting pattern.

@@ -157,12 +157,25 @@ fn on_file<W: Sink, E: Sink>(
 {
     let alloc = rt.alloc();
     if file == "-" {
-        return run(alloc, job, &mut FromRead::new(rt.stdin()), output, faults);
+        return on_input(alloc, job, &mut FromRead::new(rt.stdin()), output, faults);
     }
     match File::open(rt, file) {
-        Ok(opened) => run(alloc, job, &mut FromRead::new(opened), output, faults),
+        Ok(opened) => on_input(alloc, job, &mut FromRead::new(opened), output, faults),
         Err(_) => tell_unopened(alloc, file, faults),
     }
+}
+
+/// Does the job on an opened input. Of what `run` promises it passes on the status alone, which is what is needed here.
+fn on_input<R: Source, W: Sink, E: Sink>(
+    alloc: Global,
+    job: &Job,
+    input: &mut R,
+    output: &mut W,
+    faults: &mut E,
+) -> u8
+    ensures { (result ≡ 0) ⊎ ((result ≡ 1) ⊎ (result ≡ 3)) }
+{
+    run(alloc, job, input, output, faults)
 }
 
 /// Tells that a file cannot be opened, and returns the status of a failure.

@@ -15,55 +15,52 @@ use std::test::Fail;
 
 #[test]
 fn numbers(rt: HostRuntime) {
-    assert!(rt; is_header(&[0xAC, 0xED, 0x00, 0x05]) && !is_header(&[0xAC, 0xED, 0x00, 0x04]));
-    assert_eq!(rt; handle(&[0x00, 0x7E, 0x00, 0x03]), Some(3));
-    assert_eq!(rt; handle(&[0x00, 0x7D, 0xFF, 0xFF]), None);
-    assert!(rt; is_known(&[0, 0, 0, 0, 0, 0, 1, 2], 258));
+    holds!(rt; is_header(&[0xAC, 0xED, 0x00, 0x05]) && !is_header(&[0xAC, 0xED, 0x00, 0x04]));
+    same!(rt; handle(&[0x00, 0x7E, 0x00, 0x03]), Some(3));
+    same!(rt; handle(&[0x00, 0x7D, 0xFF, 0xFF]), None);
+    holds!(rt; is_known(&[0, 0, 0, 0, 0, 0, 1, 2], 258));
 }
 
 #[test]
 fn spellings(rt: HostRuntime) -> Result<(), Fail> {
     let bytes = spelled(rt.alloc(), "a\0")?;
-    assert_eq!(rt; bytes.as_slice(), [0x61, 0xC0, 0x80].as_slice());
-    assert!(rt; spells(&[0xC3, 0xA9], 0xE9) && !spells(&[0xC3], 0xE9));
+    same!(rt; bytes.as_slice(), [0x61, 0xC0, 0x80].as_slice());
+    holds!(rt; spells(&[0xC3, 0xA9], 0xE9) && !spells(&[0xC3], 0xE9));
     Ok(())
 }
 
 #[test]
 fn whole_texts(rt: HostRuntime) -> Result<(), Fail> {
-    assert!(rt; is_text(b"abc") && !is_text(&[0x61, 0xFF]));
-    assert!(rt; is_text_in_two(&[0x61, 0xC3], &[0xA9]) && !is_text_in_two(&[0x61, 0xC3], &[0x61]));
-    assert!(rt; is_whole(2, b"ab") && !is_whole(3, b"ab"));
-    assert_eq!(rt; first_fault(&[0x61, 0x62, 0x00]), Some(2));
-    assert!(rt; can_begin(2, 0xC3) && !can_begin(1, 0xC3));
+    holds!(rt; is_text(b"abc") && !is_text(&[0x61, 0xFF]));
+    holds!(rt; is_text_in_two(&[0x61, 0xC3], &[0xA9]) && !is_text_in_two(&[0x61, 0xC3], &[0x61]));
+    holds!(rt; is_whole(2, b"ab") && !is_whole(3, b"ab"));
+    same!(rt; first_fault(&[0x61, 0x62, 0x00]), Some(2));
+    holds!(rt; can_begin(2, 0xC3) && !can_begin(1, 0xC3));
     let units = units_in(rt.alloc(), &[0x61, 0xC3, 0xA9])?;
-    assert!(rt; units.is_some_and(|units| units.as_slice() == [0x61, 0xE9].as_slice()));
-    assert!(rt; units_in(rt.alloc(), &[0xC3])?.is_none());
+    holds!(rt; units.is_some_and(|units| units.as_slice() == [0x61, 0xE9].as_slice()));
+    holds!(rt; units_in(rt.alloc(), &[0xC3])?.is_none());
     Ok(())
 }
 
 #[test]
 fn texts_in_pieces(rt: HostRuntime) {
     let mut scan = TextScan::new(0);
-    assert_eq!(rt; push_more(&mut scan, 0x61), None);
-    assert_eq!(rt; own_bytes(&TextScan::new(2), b"abc"), 2);
-    assert_eq!(rt; own_bytes(&TextScan::new(4), b"abc"), 3);
-    assert!(rt; ends_with(&mut TextScan::new(1), 0x61) && !ends_with(&mut TextScan::new(2), 0x61));
-    assert!(rt; push_pair(&mut TextScan::new(2), 0xC3, 0xA9));
-    assert_eq!(rt; push_again(&mut TextScan::new(1), 0xC3), Err(TextFault));
-    assert_eq!(rt;
-        faulty_byte(&mut TextScan::new(2), &[0x61, 0x00]),
-        Some(0x00)
-    );
-    assert!(rt; !goes_on_after_fault(&mut TextScan::new(2), &[0x61, 0x00], 0x61));
+    same!(rt; push_more(&mut scan, 0x61), None);
+    same!(rt; own_bytes(&TextScan::new(2), b"abc"), 2);
+    same!(rt; own_bytes(&TextScan::new(4), b"abc"), 3);
+    holds!(rt; ends_with(&mut TextScan::new(1), 0x61) && !ends_with(&mut TextScan::new(2), 0x61));
+    holds!(rt; push_pair(&mut TextScan::new(2), 0xC3, 0xA9));
+    same!(rt; push_again(&mut TextScan::new(1), 0xC3), Err(TextFault));
+    same!(rt; faulty_byte(&mut TextScan::new(2), &[0x61, 0x00]), Some(0x00));
+    holds!(rt; !goes_on_after_fault(&mut TextScan::new(2), &[0x61, 0x00], 0x61));
     let mut scan = TextScan::new(3);
     if scan.push(0x00).is_err() {
-        assert!(rt; !drained(&mut scan, b"a", b"bc"));
-        assert!(rt; !is_mended(&mut scan, 0x61));
-        assert!(rt; !is_complete_after(&mut scan, b""));
+        holds!(rt; !drained(&mut scan, b"a", b"bc"));
+        holds!(rt; !is_mended(&mut scan, 0x61));
+        holds!(rt; !is_complete_after(&mut scan, b""));
     }
-    assert!(rt; is_complete_after(&mut TextScan::new(1), b"a"));
-    assert!(rt; !is_complete_after(&mut TextScan::new(2), b"a"));
+    holds!(rt; is_complete_after(&mut TextScan::new(1), b"a"));
+    holds!(rt; !is_complete_after(&mut TextScan::new(2), b"a"));
 }
 
 #[test]
@@ -72,48 +69,42 @@ fn sources(rt: HostRuntime) {
     let Some((mut source, count)) = opened(&b"abcd"[..], &mut buf) else {
         return;
     };
-    assert_eq!(rt; count, 2);
-    assert_eq!(rt; last_taken(&mut source, &mut buf), Some(b'd'));
-    assert_eq!(rt; take_again(&mut source, &mut buf), Ok(0));
-    assert!(rt; !fails_now(&mut source, &mut buf));
+    same!(rt; count, 2);
+    same!(rt; last_taken(&mut source, &mut buf), Some(b'd'));
+    same!(rt; take_again(&mut source, &mut buf), Ok(0));
+    holds!(rt; !fails_now(&mut source, &mut buf));
 }
 
 #[test]
 fn sinks(rt: HostRuntime) {
-    assert!(rt; is_lost(&mut ToWrite::new(&mut [][..]), b"a"));
-    assert!(rt; is_delivered(&mut ToWrite::new(&mut [0u8; 2][..]), b"ab"));
-    assert_eq!(rt; given(&mut ToWrite::new(&mut [0u8; 2][..]), b"abc"), 2);
+    holds!(rt; is_lost(&mut ToWrite::new(&mut [][..]), b"a"));
+    holds!(rt; is_delivered(&mut ToWrite::new(&mut [0u8; 2][..]), b"ab"));
+    same!(rt; given(&mut ToWrite::new(&mut [0u8; 2][..]), b"abc"), 2);
     let mut page = [0u8; 2];
     let Some(mut sink) = begun(&mut page[..], b'a') else {
         return;
     };
-    assert_eq!(rt; give_byte(&mut sink, b'b'), Ok(()));
-    assert!(rt; is_open(&sink));
-    assert_eq!(rt; give_byte(&mut sink, b'c'), Err(Failed));
-    assert!(rt; !is_open(&sink));
+    same!(rt; give_byte(&mut sink, b'b'), Ok(()));
+    holds!(rt; is_open(&sink));
+    same!(rt; give_byte(&mut sink, b'c'), Err(Failed));
+    holds!(rt; !is_open(&sink));
 }
 
 #[test]
 fn records(rt: HostRuntime) {
     let mut page = [0u8; 7];
-    assert_eq!(rt;
-        write_record(&mut ToWrite::new(&mut page[..]), b"abc"),
-        Some(7)
-    );
-    assert_eq!(rt; page, [0, 0, 0, 3, 0x61, 0x62, 0x63]);
+    same!(rt; write_record(&mut ToWrite::new(&mut page[..]), b"abc"), Some(7));
+    same!(rt; page, [0, 0, 0, 3, 0x61, 0x62, 0x63]);
     let mut short = [0u8; 6];
-    assert_eq!(rt;
-        write_record(&mut ToWrite::new(&mut short[..]), b"abc"),
-        None
-    );
-    assert_eq!(rt; short, [0, 0, 0, 3, 0x61, 0x62]);
+    same!(rt; write_record(&mut ToWrite::new(&mut short[..]), b"abc"), None);
+    same!(rt; short, [0, 0, 0, 3, 0x61, 0x62]);
 }
 
 #[test]
 fn heads(rt: HostRuntime) {
     let mut page = [0u8; 11];
     let written = write_head(&mut ToWrite::new(&mut page[..]), 7, 0x0102, 0x0304_0506);
-    assert_eq!(rt; written, Some(11));
-    assert_eq!(rt; page, [7, 1, 2, 0, 0, 0, 0, 3, 4, 5, 6]);
-    assert_eq!(rt; write_head(&mut ToWrite::new(&mut [][..]), 7, 1, 2), None);
+    same!(rt; written, Some(11));
+    same!(rt; page, [7, 1, 2, 0, 0, 0, 0, 3, 4, 5, 6]);
+    same!(rt; write_head(&mut ToWrite::new(&mut [][..]), 7, 1, 2), None);
 }

@@ -54,13 +54,13 @@ impl Write for SmallDisk {
 fn gives_what_the_reader_has(rt: HostRuntime) {
     let mut source = FromRead::new(&b"abc"[..]);
     let mut buf = [0u8; 2];
-    assert_eq!(rt; source.take(&mut []), Ok(0));
-    assert_eq!(rt; source.take(&mut buf), Ok(2));
-    assert_eq!(rt; buf, *b"ab");
-    assert_eq!(rt; source.take(&mut buf), Ok(1));
-    assert_eq!(rt; buf, *b"cb");
-    assert_eq!(rt; source.take(&mut buf), Ok(0), "the end");
-    assert!(rt; !source.failed());
+    same!(rt; source.take(&mut []), Ok(0));
+    same!(rt; source.take(&mut buf), Ok(2));
+    same!(rt; buf, *b"ab");
+    same!(rt; source.take(&mut buf), Ok(1));
+    same!(rt; buf, *b"cb");
+    same!(rt; source.take(&mut buf), Ok(0), "the end");
+    holds!(rt; !source.failed());
 }
 
 #[test]
@@ -70,27 +70,27 @@ fn each_error_of_the_reader_is_a_failure(rt: HostRuntime) {
         calls: 0,
     });
     let mut buf = [0u8; 4];
-    assert_eq!(rt; source.take(&mut buf), Ok(1));
-    assert_eq!(rt; source.take(&mut buf), Ok(1));
-    assert_eq!(rt; buf[0], b'b');
-    assert!(rt; !source.failed());
-    assert_eq!(rt; source.take(&mut buf), Err(Failed));
-    assert!(rt; source.failed());
-    assert_eq!(rt; source.take(&mut buf), Ok(1), "no byte was lost");
-    assert_eq!(rt; buf[0], b'c');
-    assert!(rt; source.failed(), "a failure is remembered");
+    same!(rt; source.take(&mut buf), Ok(1));
+    same!(rt; source.take(&mut buf), Ok(1));
+    same!(rt; buf[0], b'b');
+    holds!(rt; !source.failed());
+    same!(rt; source.take(&mut buf), Err(Failed));
+    holds!(rt; source.failed());
+    same!(rt; source.take(&mut buf), Ok(1), "no byte was lost");
+    same!(rt; buf[0], b'c');
+    holds!(rt; source.failed(), "a failure is remembered");
 }
 
 #[test]
 fn the_writer_gets_the_bytes(rt: HostRuntime) -> Result<(), Fail> {
     let mut written = Vec::with_capacity(rt.alloc(), 3)?;
     let mut sink = ToWrite::new(&mut written);
-    assert_eq!(rt; sink.give(b"ab"), Ok(2));
-    assert_eq!(rt; sink.give(b""), Ok(0));
-    assert_eq!(rt; sink.give(b"c"), Ok(1));
-    assert!(rt; !sink.failed());
+    same!(rt; sink.give(b"ab"), Ok(2));
+    same!(rt; sink.give(b""), Ok(0));
+    same!(rt; sink.give(b"c"), Ok(1));
+    holds!(rt; !sink.failed());
     drop(sink);
-    assert_eq!(rt; written.as_slice(), b"abc".as_slice());
+    same!(rt; written.as_slice(), b"abc".as_slice());
     Ok(())
 }
 
@@ -101,11 +101,11 @@ fn a_write_that_takes_nothing_is_a_failure(rt: HostRuntime) {
             left: 1,
             answers_errors,
         });
-        assert_eq!(rt; sink.give(b"ab"), Ok(1));
-        assert!(rt; !sink.failed());
-        assert_eq!(rt; sink.give(b"b"), Err(Failed));
-        assert!(rt; sink.failed());
-        assert_eq!(rt; sink.give(b""), Ok(0), "nothing to take");
-        assert!(rt; sink.failed(), "a failure is remembered");
+        same!(rt; sink.give(b"ab"), Ok(1));
+        holds!(rt; !sink.failed());
+        same!(rt; sink.give(b"b"), Err(Failed));
+        holds!(rt; sink.failed());
+        same!(rt; sink.give(b""), Ok(0), "nothing to take");
+        holds!(rt; sink.failed(), "a failure is remembered");
     }
 }

@@ -16,44 +16,44 @@ fn pushed(bytes: &[u8], scan: &mut TextScan) -> usize {
 
 /// Pushes one byte, which the scan still expects.
 fn push(rt: &impl Abort, scan: &mut TextScan, byte: u8) -> Result<Option<u16>, TextFault> {
-    assert!(rt; !scan.is_done());
+    holds!(rt; !scan.is_done());
     scan.push(byte)
 }
 
 #[test]
 fn scan_empty(rt: HostRuntime) {
-    assert!(rt; TextScan::new(0).is_done());
+    holds!(rt; TextScan::new(0).is_done());
 }
 
 #[test]
 fn scan_lone_c3(rt: HostRuntime) {
     let mut scan = TextScan::new(1);
-    assert_eq!(rt; push(&rt, &mut scan, 0xC3), Err(TextFault));
-    assert_eq!(rt; push(&rt, &mut scan, 0x61), Err(TextFault));
-    assert!(rt; !scan.is_done());
+    same!(rt; push(&rt, &mut scan, 0xC3), Err(TextFault));
+    same!(rt; push(&rt, &mut scan, 0x61), Err(TextFault));
+    holds!(rt; !scan.is_done());
 }
 
 #[test]
 fn scan_c080(rt: HostRuntime) {
     let mut scan = TextScan::new(2);
-    assert_eq!(rt; push(&rt, &mut scan, 0xC0), Ok(None));
-    assert_eq!(rt; push(&rt, &mut scan, 0x80), Ok(Some(0x0000)));
-    assert!(rt; scan.is_done());
+    same!(rt; push(&rt, &mut scan, 0xC0), Ok(None));
+    same!(rt; push(&rt, &mut scan, 0x80), Ok(Some(0x0000)));
+    holds!(rt; scan.is_done());
 }
 
 #[test]
 fn scan_surrogate(rt: HostRuntime) {
     let mut scan = TextScan::new(3);
-    assert_eq!(rt; push(&rt, &mut scan, 0xED), Ok(None));
-    assert_eq!(rt; push(&rt, &mut scan, 0xA0), Ok(None));
-    assert_eq!(rt; push(&rt, &mut scan, 0x80), Ok(Some(0xD800)));
-    assert!(rt; scan.is_done());
+    same!(rt; push(&rt, &mut scan, 0xED), Ok(None));
+    same!(rt; push(&rt, &mut scan, 0xA0), Ok(None));
+    same!(rt; push(&rt, &mut scan, 0x80), Ok(Some(0xD800)));
+    holds!(rt; scan.is_done());
 }
 
 #[test]
 fn scan_never(rt: HostRuntime) {
-    assert_eq!(rt; push(&rt, &mut TextScan::new(2), 0xE0), Err(TextFault));
-    assert_eq!(rt; push(&rt, &mut TextScan::new(1), 0x00), Err(TextFault));
+    same!(rt; push(&rt, &mut TextScan::new(2), 0xE0), Err(TextFault));
+    same!(rt; push(&rt, &mut TextScan::new(1), 0x00), Err(TextFault));
 }
 
 /// Whether a byte may stand after these bytes of its unit, with `left` bytes left in the text, itself
@@ -125,16 +125,12 @@ fn each_two_and_three_bytes_by_table(rt: HostRuntime) {
         for second in 0..=u8::MAX {
             let pair = [first, second];
             let right = right_by_table(&pair);
-            assert_eq!(rt; pushed_alone(&pair), right, "{first:02x} {second:02x}");
-            assert_eq!(rt; pushed_in_two(&pair, 1), right, "{first:02x} {second:02x}");
+            same!(rt; pushed_alone(&pair), right, format_args!("{first:02x} {second:02x}"));
+            same!(rt; pushed_in_two(&pair, 1), right, format_args!("{first:02x} {second:02x}"));
             for third in 0..=u8::MAX {
                 let triple = [first, second, third];
                 let right = right_by_table(&triple);
-                assert_eq!(rt;
-                    pushed_alone(&triple),
-                    right,
-                    "{first:02x} {second:02x} {third:02x}"
-                );
+                same!(rt; pushed_alone(&triple), right, format_args!("{first:02x} {second:02x} {third:02x}"));
                 // Where an earlier byte is wrong already, the third is not looked at.
                 if right < 2 {
                     break;
@@ -170,16 +166,8 @@ fn slices_mean_the_bytes_one_by_one(rt: HostRuntime) {
                 for odd in ODD_BYTES {
                     text[place] = odd;
                     let accepted = pushed_alone(&text[..len]);
-                    assert_eq!(rt;
-                        pushed_in_two(&text[..len], 0),
-                        accepted,
-                        "{len} {place} {odd:02x}"
-                    );
-                    assert_eq!(rt;
-                        pushed_in_two(&text[..len], place),
-                        accepted,
-                        "{len} {place} {odd:02x}"
-                    );
+                    same!(rt; pushed_in_two(&text[..len], 0), accepted, format_args!("{len} {place} {odd:02x}"));
+                    same!(rt; pushed_in_two(&text[..len], place), accepted, format_args!("{len} {place} {odd:02x}"));
                 }
                 text[place] = usual;
             }
@@ -195,7 +183,7 @@ fn each_cut_of_a_text_gives_the_same(rt: HostRuntime) {
             *byte = pattern[at % 6];
         }
         for cut in 0..=text.len() {
-            assert_eq!(rt; pushed_in_two(&text, cut), text.len(), "{cut}");
+            same!(rt; pushed_in_two(&text, cut), text.len(), cut);
         }
     }
 }
@@ -207,7 +195,7 @@ fn each_unit_comes_back_from_its_spelling(rt: HostRuntime) -> Result<(), Fail> {
         units.push(unit)?;
     }
     let bytes = text_bytes(rt.alloc(), &units)?;
-    assert_eq!(rt; bytes.len(), 2 + 127 + 2 * 1920 + 3 * 63488);
+    same!(rt; bytes.len(), 2 + 127 + 2 * 1920 + 3 * 63488);
     let mut scan = TextScan::new(bytes.len() as u64);
     let mut read = Vec::new(rt.alloc());
     for byte in &bytes {
@@ -215,27 +203,24 @@ fn each_unit_comes_back_from_its_spelling(rt: HostRuntime) -> Result<(), Fail> {
             read.push(unit)?;
         }
     }
-    assert!(rt; scan.is_done());
-    assert_eq!(rt; read, units);
+    holds!(rt; scan.is_done());
+    same!(rt; read, units);
     Ok(())
 }
 
 #[test]
 fn a_fault_in_a_slice_stays(rt: HostRuntime) {
     let mut scan = TextScan::new(4);
-    assert_eq!(rt;
-        scan.push_all(b"ab\0c"),
-        Err(TextFaultAfter { accepted: 2 })
-    );
-    assert!(rt; !scan.is_done());
-    assert_eq!(rt; push(&rt, &mut scan, b'c'), Err(TextFault));
+    same!(rt; scan.push_all(b"ab\0c"), Err(TextFaultAfter { accepted: 2 }));
+    holds!(rt; !scan.is_done());
+    same!(rt; push(&rt, &mut scan, b'c'), Err(TextFault));
 }
 
 /// A slice of plain ASCII is taken at once, and one with another byte is not.
 #[test]
 fn plain_slices(rt: HostRuntime) {
     let mut scan = TextScan::new(4);
-    assert!(rt; scan.push_plain(b"ab"));
-    assert!(rt; !scan.push_plain(b"a\0"));
-    assert_eq!(rt; scan.left(), 2);
+    holds!(rt; scan.push_plain(b"ab"));
+    holds!(rt; !scan.push_plain(b"a\0"));
+    same!(rt; scan.left(), 2);
 }

@@ -10,7 +10,7 @@ fn spell_six_units(rt: HostRuntime) -> Result<(), Fail> {
     let spelling = [
         0xC0, 0x80, 0x7F, 0xC2, 0x80, 0xDF, 0xBF, 0xE0, 0xA0, 0x80, 0xEF, 0xBF, 0xBF,
     ];
-    assert_eq!(rt; bytes.as_slice(), spelling.as_slice());
+    same!(rt; bytes.as_slice(), spelling.as_slice());
     Ok(())
 }
 
@@ -24,14 +24,14 @@ fn spell_each_form(rt: HostRuntime) {
         (0x4E00, &[0xE4, 0xB8, 0x80]),
         (0xD800, &[0xED, 0xA0, 0x80]),
     ] {
-        assert_eq!(rt; spell_unit(unit, &mut buffer), spelling, "{unit:04x}");
+        same!(rt; spell_unit(unit, &mut buffer), spelling, format_args!("{unit:04x}"));
     }
 }
 
 #[test]
 fn units_of_two(rt: HostRuntime) -> Result<(), Fail> {
     let units = units_of(rt.alloc(), "a\u{1F600}")?;
-    assert_eq!(rt; units.as_slice(), [0x0061, 0xD83D, 0xDE00].as_slice());
+    same!(rt; units.as_slice(), [0x0061, 0xD83D, 0xDE00].as_slice());
     Ok(())
 }
 
@@ -52,7 +52,7 @@ fn refused_growth_changes_no_answer(rt: HostRuntime) -> Result<(), Fail> {
             "serial" => b"serial",
             _ => b"\xC0\x80\xC3\xA9\xE4\xB8\x80\xED\xA0\xBD\xED\xB8\x80",
         };
-        assert_eq!(rt; bytes.as_slice(), spelling, "{text:?}");
+        same!(rt; bytes.as_slice(), spelling, format_args!("{text:?}"));
     }
     Ok(())
 }

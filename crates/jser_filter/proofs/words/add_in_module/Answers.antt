@@ -1,7 +1,5 @@
-use Rattle.std.proofs.Common.{subst, ap, append_assoc, []}
 use Rattle.jser_filter.specs.Patterns.{view_name}
-use Rattle.jser_filter.specs.Trie.{LeadsOn}
-use Rattle.jser_filter.specs.Words.{in_module, letters, name_word, of_module, of_name}
+use Rattle.jser_filter.specs.Words.{in_module, name_word}
 use Rattle.jser_filter.proofs.WordLemmas.{word_added, keeps_on, leads_into}
 use Rattle.jser_filter.proofs.words.add_in_module.Goals as goal
 

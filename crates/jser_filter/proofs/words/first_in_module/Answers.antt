@@ -1,4 +1,4 @@
-use Rattle.std.proofs.Common.{◌≡◌, Some, List, ℕ, drop, length, ap, sym, ◌∙◌, []}
+use Rattle.std.proofs.Common.{◌≡◌, Some, List, ℕ, ap, sym, ◌∙◌, []}
 use Rattle.std.proofs.Common.{option_map, ◌++◌, ◌∷◌}
 use Rattle.jser_filter.specs.Cuts.{part_now}
 use Rattle.jser_filter.specs.Index.{first_in_module}
