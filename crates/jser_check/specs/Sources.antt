@@ -12,7 +12,7 @@ use Rattle.jser_check.specs.Feeding.{Fed, StopCases}
 
 -- how many bytes a read asks for at most
 abbrev pub read_bytes : ℕ
-read_bytes = 65520
+read_bytes = 57344
 
 -- at most so many bytes came from the source
 pub record TakesAtMost (most : ℕ) (had has : Option (List ℕ)) : Type 0 where

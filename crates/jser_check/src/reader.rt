@@ -17,9 +17,8 @@ use jser_prim::Source;
 use jser_reader::{Gate, Reader, Stop, Totals};
 use std::alloc::{AllocError, Global};
 
-/// How many bytes a read asks for at most: the greatest multiple of sixteen that is less than 64 KiB. A device copies
-/// such a run faster than one of 65,535 bytes, after which the next one would begin in the middle of a word.
-const BUFFER_LEN: usize = 65_520;
+/// How many bytes a read asks for at most: 14 pages of 4 KiB, so that each read of a file begins at a page.
+const BUFFER_LEN: usize = 57_344;
 
 /// Checks whether the bytes of a source are one stream that the filter admits, and returns its counts.
 ///
