@@ -39,6 +39,7 @@ matches_piece found name (faulty_piece cause) = false
 abbrev pub first_match : FilterView → List ℕ → Option ℕ
 first_match filter element_name = position (matches_piece (module_of_class filter.modules element_name) element_name) filter.pieces
 
+-- whether a piece is a pattern, and not a limit or nothing
 abbrev pub is_pattern : Piece → Bool
 is_pattern empty_piece = false
 is_pattern (limit_piece limit value) = false

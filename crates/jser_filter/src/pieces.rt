@@ -1,12 +1,12 @@
 //! The pieces of a filter's text, with an index that finds the first match of a name.
 ghost use Rattle.std.specs.Prelude.{◌≡◌, ◌++◌, [], ◌∷◌, length, map, position, slice_get, option_map, false, IfOk, OnOk, OnErr, IfErr};
+ghost use Rattle.std.specs.List.{list_any};
 ghost use Rattle.jser_filter.specs.Cuts.{part_now};
 ghost use Rattle.jser_filter.specs.Patterns.{package_of};
 ghost use Rattle.jser_filter.specs.Pieces.{read_piece, view_piece, IsCauseOf};
 ghost use Rattle.jser_filter.specs.Index.{AddsPlace, KeepsIndex};
 ghost use Rattle.jser_filter.specs.Trie.{IsTrie};
 ghost use Rattle.jser_filter.specs.Filters.{matches_piece, is_pattern, rejects, limits_of, limits_after, is_faulty};
-ghost use Rattle.std.specs.List.{list_any};
 
 use crate::fault::{FilterCause, FilterFault};
 use crate::index::Index;

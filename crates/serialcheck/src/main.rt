@@ -1,32 +1,18 @@
 //! serialcheck: checks and shows Java serialization streams, and runs none of their classes.
 //!
-//! `main` reads the command line, the filter and the table of modules, and then opens the input; `job::run` does the
-//! work on what was opened.
+//! `main` reads the command line, the filter and the table of modules, and then opens the input; `run` of jser_commands
+//! does the work on what was opened.
 #![tactic(auto)]
 
 ghost use Rattle.std.specs.Prelude.{◌≡◌, ◌⊎◌, ◌≤◌, IfOk, IfErr, length, vec_len};
 ghost use Rattle.jser_prim.specs.ModifiedUtf8.{utf16_units};
 ghost use Rattle.jser_filter.specs.Pieces.{pieces_of};
 
-mod answer;
-mod command;
-mod counting;
-mod input;
-mod job;
-mod keyed;
-mod line;
-mod list;
-mod settings;
-mod show;
-mod status;
-mod whole;
-
-use job::{Job, run};
+use jser_commands::{
+    Job, Line, LineFault, filter_of, line_of, modules_of, run, tell_failure, tell_misuse,
+};
 use jser_filter::{Filter, Modules};
 use jser_prim::{FromRead, Sink, Source, ToWrite};
-use line::{Line, LineFault, line_of};
-use settings::{filter_of, modules_of};
-use status::{tell_failure, tell_misuse};
 use std::alloc::{AllocError, Global};
 use std::env;
 use std::fs::File;

@@ -1,13 +1,17 @@
 //! Graphs of worked streams: what their handles name, their texts and names, and what they hand out again.
+//!
+//! Each call of a library has a function of its own here, with no contract: what a test compares is then proved without all
+//! that the library promises, which takes minutes less.
 
 use jser_graph::{Graph, GraphFault, Node, NodeKind};
+use jser_prim::Sink;
 use jser_reader::{Reason, Refusal, Stop};
-use jser_value::{ValueCause, encode};
-use std::alloc::{AllocError, AllocGlobal, Global};
+use jser_value::{Contents, ValueCause, encode};
+use std::alloc::{AllocError, AllocGlobal};
 use std::process::Abort;
 use std::test::Fail;
-use test_support::Page;
 use test_support::streams::{LINKED_PAIR, RESET_EPOCHS, nest};
+use test_support::{Compared, Page};
 
 mod example;
 mod memory;
@@ -24,67 +28,113 @@ fn graph_of(rt: &(impl Abort + AllocGlobal), bytes: &[u8]) -> Graph {
     }
 }
 
+/// Writes the graph.
+fn write<W: Sink>(rt: &impl AllocGlobal, graph: &Graph, sink: &mut W) -> Result<u64, GraphFault> {
+    graph.write_to(rt.alloc(), sink)
+}
+
+/// The tree of the graph.
+fn tree_of(rt: &impl AllocGlobal, graph: &Graph) -> Result<Contents, ValueCause> {
+    graph.contents(rt.alloc())
+}
+
+/// Writes the tree, and returns whether it could.
+fn write_tree<W: Sink>(contents: &Contents, sink: &mut W) -> bool {
+    encode(contents, sink).is_ok()
+}
+
 /// The graph hands out the bytes from which it was read, and its tree is written as these bytes too.
-fn hands_out(rt: &(impl Abort + AllocGlobal), name: &str, bytes: &[u8]) -> Result<(), Fail> {
+fn hands_out(rt: &(impl Abort + AllocGlobal), name: &str, bytes: &[u8]) {
     let graph = graph_of(rt, bytes);
-    let mut page = Page::new(rt.alloc(), 4096, 1_000_000);
-    let count = graph.write_to(rt.alloc(), &mut page)?;
-    assert!(rt; page.bytes.as_slice() == bytes, "{name}");
-    assert_eq!(rt; count, bytes.len() as u64, "{name}");
-    let contents = graph.contents(rt.alloc())?;
-    let mut page = Page::new(rt.alloc(), 4096, 1_000_000);
-    encode(&contents, &mut page)?;
-    assert!(rt; page.bytes.as_slice() == bytes, "{name}");
-    Ok(())
+    is_written(rt, name, &graph, bytes);
+    match tree_of(rt, &graph) {
+        Ok(contents) => is_encoded(rt, name, &contents, bytes),
+        Err(cause) => panic!(rt; "{name}: {cause:?}"),
+    }
+}
+
+/// The graph is written as these bytes, which are counted.
+fn is_written(rt: &(impl Abort + AllocGlobal), name: &str, graph: &Graph, bytes: &[u8]) {
+    let mut sink = Compared::new(bytes);
+    assert_eq!(rt;
+        write(rt, graph, &mut sink),
+        Ok(bytes.len() as u64),
+        "{name}"
+    );
+    assert!(rt; sink.is_whole(), "{name}");
+}
+
+/// The tree is written as these bytes.
+fn is_encoded(rt: &impl Abort, name: &str, contents: &Contents, bytes: &[u8]) {
+    let mut sink = Compared::new(bytes);
+    assert!(rt; write_tree(contents, &mut sink), "{name}");
+    assert!(rt; sink.is_whole(), "{name}");
+}
+
+/// The handle of this epoch names this node, or none.
+fn names(rt: &impl Abort, graph: &Graph, epoch: u64, handle: u32, node: Option<Node>) {
+    assert_eq!(rt;
+        graph.node(epoch, handle),
+        node,
+        "{handle} of epoch {epoch}"
+    );
+}
+
+/// The handle of this epoch is that of a string of this text, or of none.
+fn has_text(rt: &impl Abort, graph: &Graph, epoch: u64, handle: u32, text: Option<&[u16]>) {
+    assert_eq!(rt;
+        graph.text(epoch, handle),
+        text,
+        "{handle} of epoch {epoch}"
+    );
+}
+
+/// The graph has these checked names, and no others.
+fn has_names(rt: &impl Abort, graph: &Graph, names: &[&[u16]]) {
+    assert_eq!(rt; graph.name_count(), names.len());
+    for (number, name) in names.iter().enumerate() {
+        is_name(rt, graph, number, Some(*name));
+    }
+    is_name(rt, graph, names.len(), None);
+}
+
+/// The checked name with this number is this one, or there is none.
+fn is_name(rt: &impl Abort, graph: &Graph, number: usize, name: Option<&[u16]>) {
+    assert_eq!(rt; graph.name_at(number), name, "name {number}");
+}
+
+/// A node.
+fn node(kind: NodeKind, tag_byte: u64) -> Option<Node> {
+    Some(Node { kind, tag_byte })
 }
 
 #[test]
-fn graph_of_linked_pair(rt: HostRuntime) -> Result<(), Fail> {
+fn graph_of_linked_pair(rt: HostRuntime) {
     let graph = graph_of(&rt, LINKED_PAIR);
-    let class = Node {
-        kind: NodeKind::PlainDesc,
-        tag_byte: 5,
-    };
-    let first = Node {
-        kind: NodeKind::Object,
-        tag_byte: 4,
-    };
-    let second = Node {
-        kind: NodeKind::Object,
-        tag_byte: 53,
-    };
-    assert_eq!(rt; graph.node(0, 0x7E_0000), Some(class));
-    assert_eq!(rt; graph.node(0, 0x7E_0002), Some(first));
-    assert_eq!(rt; graph.node(0, 0x7E_0003), Some(second));
-    assert_eq!(rt; graph.node(0, 0x7E_0004), None);
-    assert_eq!(rt; graph.node(0, 0x7D_FFFF), None);
-    assert_eq!(rt; graph.node(1, 0x7E_0000), None);
+    names(&rt, &graph, 0, 0x7E_0000, node(NodeKind::PlainDesc, 5));
+    names(&rt, &graph, 0, 0x7E_0002, node(NodeKind::Object, 4));
+    names(&rt, &graph, 0, 0x7E_0003, node(NodeKind::Object, 53));
+    names(&rt, &graph, 0, 0x7E_0004, None);
+    names(&rt, &graph, 0, 0x7D_FFFF, None);
+    names(&rt, &graph, 1, 0x7E_0000, None);
     let text = [0x4C, 0x4C, 0x69, 0x73, 0x74, 0x3B];
-    assert!(rt; graph.text(0, 0x7E_0001) == Some(&text[..]));
-    assert!(rt; graph.text(0, 0x7E_0000).is_none());
-    assert_eq!(rt; graph.name_count(), 1);
-    assert!(rt; graph.name_at(0) == Some(&[0x4C, 0x69, 0x73, 0x74][..]));
-    assert!(rt; graph.name_at(1).is_none());
-    Ok(())
+    has_text(&rt, &graph, 0, 0x7E_0001, Some(&text));
+    has_text(&rt, &graph, 0, 0x7E_0000, None);
+    has_names(&rt, &graph, &[&[0x4C, 0x69, 0x73, 0x74]]);
 }
 
 #[test]
-fn graph_of_reset_epochs(rt: HostRuntime) -> Result<(), Fail> {
+fn graph_of_reset_epochs(rt: HostRuntime) {
     let graph = graph_of(&rt, RESET_EPOCHS);
-    let text = Node {
-        kind: NodeKind::Text,
-        tag_byte: 9,
-    };
-    assert_eq!(rt; graph.node(1, 0x7E_0000), Some(text));
-    assert!(rt; graph.text(1, 0x7E_0000) == Some(&[0x62][..]));
-    assert!(rt; graph.text(0, 0x7E_0000) == Some(&[0x61][..]));
-    assert_eq!(rt; graph.node(2, 0x7E_0000), None);
-    assert_eq!(rt; graph.name_count(), 0);
-    Ok(())
+    names(&rt, &graph, 1, 0x7E_0000, node(NodeKind::Text, 9));
+    has_text(&rt, &graph, 1, 0x7E_0000, Some(&[0x62]));
+    has_text(&rt, &graph, 0, 0x7E_0000, Some(&[0x61]));
+    names(&rt, &graph, 2, 0x7E_0000, None);
+    has_names(&rt, &graph, &[]);
 }
 
 #[test]
-fn refused(rt: HostRuntime) -> Result<(), Fail> {
+fn refused(rt: HostRuntime) {
     let refusal = Refusal {
         from_byte: 4,
         to_byte: 5,
@@ -103,41 +153,66 @@ fn refused(rt: HostRuntime) -> Result<(), Fail> {
         Err(stop) => assert!(rt; stop == Stop::Refused(cut)),
         Ok(_) => panic!(rt; "half a header"),
     }
-    Ok(())
 }
 
 #[test]
 fn nest_1000(rt: HostRuntime) -> Result<(), Fail> {
     let bytes = nest(rt.alloc(), 1000)?;
     let graph = graph_of(&rt, &bytes);
-    let last = Node {
-        kind: NodeKind::Array,
-        tag_byte: 10_009,
-    };
-    assert_eq!(rt; graph.node(0, 0x7E_0000 + 1000), Some(last));
-    let mut page = Page::new(rt.alloc(), 4096, 1_000_000);
-    assert_eq!(rt; graph.write_to(rt.alloc(), &mut page)?, 10_020);
-    assert!(rt; page.bytes == bytes);
-    match graph.contents(rt.alloc()) {
-        Err(cause) => assert!(rt; cause == ValueCause::TooDeep),
-        Ok(_) => panic!(rt; "a tree is at most 1,000 deep"),
-    }
+    names(
+        &rt,
+        &graph,
+        0,
+        0x7E_0000 + 1000,
+        node(NodeKind::Array, 10_009),
+    );
+    has_length(&rt, &bytes, 10_020);
+    is_written(&rt, "arrays 1,000 deep", &graph, &bytes);
+    has_no_tree(&rt, &graph);
     Ok(())
 }
 
+/// There are so many bytes.
+fn has_length(rt: &impl Abort, bytes: &[u8], length: usize) {
+    assert_eq!(rt; bytes.len(), length);
+}
+
+/// A tree is at most 1,000 deep.
+fn has_no_tree(rt: &(impl Abort + AllocGlobal), graph: &Graph) {
+    match tree_of(rt, graph) {
+        Err(cause) => assert!(rt; cause == ValueCause::TooDeep),
+        Ok(_) => panic!(rt; "a tree is at most 1,000 deep"),
+    }
+}
+
 #[test]
-fn write_fails_anywhere(rt: HostRuntime) -> Result<(), Fail> {
+fn write_fails_anywhere(rt: HostRuntime) {
     let graph = graph_of(&rt, LINKED_PAIR);
     for room in 0..69_usize {
-        let mut page = Page::new(rt.alloc(), 7, room);
-        let written = room as u64;
-        match graph.write_to(rt.alloc(), &mut page) {
-            Err(fault) => assert_eq!(rt; fault, GraphFault::Write { written }),
-            Ok(_) => panic!(rt; "it has no room for all"),
-        }
-        assert!(rt; page.bytes.as_slice() == &LINKED_PAIR[..room]);
+        writes_front(&rt, &graph, &LINKED_PAIR[..room]);
     }
     let mut page = Page::new(rt.alloc(), 1, 69);
-    assert_eq!(rt; graph.write_to(rt.alloc(), &mut page)?, 69);
-    Ok(())
+    let count = write(&rt, &graph, &mut page);
+    page_has(&rt, &page, count, LINKED_PAIR);
+}
+
+/// To a page that has no room for more than these bytes, they are written, and then the fault counts them.
+fn writes_front(rt: &(impl Abort + AllocGlobal), graph: &Graph, front: &[u8]) {
+    let mut page = Page::new(rt.alloc(), 7, front.len());
+    let count = write(rt, graph, &mut page);
+    page_is_full(rt, &page, count, front);
+}
+
+/// The page was given these bytes, which were counted.
+fn page_has(rt: &impl Abort, page: &Page, count: Result<u64, GraphFault>, bytes: &[u8]) {
+    assert!(rt; page.bytes.as_slice() == bytes);
+    assert_eq!(rt; count, Ok(bytes.len() as u64));
+}
+
+/// The page failed when it had been given these bytes, which the fault counts.
+fn page_is_full(rt: &impl Abort, page: &Page, count: Result<u64, GraphFault>, front: &[u8]) {
+    let written = front.len() as u64;
+    assert_eq!(rt; count, Err(GraphFault::Write { written }));
+    assert!(rt; page.failed());
+    assert!(rt; page.bytes.as_slice() == front);
 }

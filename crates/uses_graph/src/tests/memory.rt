@@ -1,10 +1,10 @@
 //! To be run with each allocation refused in turn: each call answers out of memory, or the right thing.
 
-use crate::tests::show::LINKED_PAIR_TEXT;
+use crate::tests::show::{LINKED_PAIR_TEXT, show};
+use crate::tests::{is_encoded, is_name, is_written, tree_of};
 use jser_graph::{Graph, GraphFault};
-use jser_prim::{Failed, Sink};
 use jser_reader::Stop;
-use jser_value::{ValueCause, encode};
+use jser_value::ValueCause;
 use std::alloc::AllocGlobal;
 use std::process::Abort;
 use test_support::Compared;
@@ -13,7 +13,7 @@ use test_support::streams::LINKED_PAIR;
 /// The text of `show`, or a beginning of it of which the fault tells the length.
 fn shows(rt: &(impl Abort + AllocGlobal), graph: &Graph) -> bool {
     let mut sink = Compared::new(LINKED_PAIR_TEXT);
-    match graph.show(rt.alloc(), &mut sink) {
+    match show(rt, graph, &mut sink) {
         Ok(_) => {
             assert!(rt; sink.is_whole());
             true
@@ -30,11 +30,9 @@ fn shows(rt: &(impl Abort + AllocGlobal), graph: &Graph) -> bool {
 
 /// The tree of the stream.
 fn hands_out_the_tree(rt: &(impl Abort + AllocGlobal), graph: &Graph) -> bool {
-    match graph.contents(rt.alloc()) {
+    match tree_of(rt, graph) {
         Ok(contents) => {
-            let mut sink = Compared::new(LINKED_PAIR);
-            assert!(rt; encode(&contents, &mut sink).is_ok());
-            assert!(rt; sink.is_whole());
+            is_encoded(rt, "the tree", &contents, LINKED_PAIR);
             true
         }
         Err(cause) => {
@@ -50,13 +48,8 @@ fn right_or_out_of_memory(rt: HostRuntime) {
         Ok(graph) => {
             let shown = shows(&rt, &graph);
             let handed_out = hands_out_the_tree(&rt, &graph);
-            assert_eq!(rt; graph.name_at(0), Some(&[0x4C, 0x69, 0x73, 0x74][..]));
-            let mut sink = Compared::new(LINKED_PAIR);
-            assert_eq!(rt;
-                graph.write_to(rt.alloc(), &mut sink),
-                Ok(LINKED_PAIR.len() as u64)
-            );
-            assert!(rt; sink.is_whole());
+            is_name(&rt, &graph, 0, Some(&[0x4C, 0x69, 0x73, 0x74]));
+            is_written(&rt, "the bytes", &graph, LINKED_PAIR);
             if !shown || !handed_out {
                 let _ = println!(rt; "refused");
             }

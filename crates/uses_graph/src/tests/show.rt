@@ -1,6 +1,6 @@
 //! The texts of `show` of worked streams, and what goes out of them where the sink fails.
 
-use crate::tests::graph_of;
+use crate::tests::{graph_of, page_has, page_is_full};
 use jser_graph::{Graph, GraphFault};
 use jser_prim::Sink;
 use std::alloc::AllocGlobal;
@@ -25,36 +25,36 @@ object #0.7e0002
 ref #0.7e0003
 ";
 
-/// The stream is shown as this text, to a sink that takes so many bytes at once.
-fn shows_by(
-    rt: &(impl Abort + AllocGlobal),
+/// Shows the graph.
+pub(crate) fn show<W: Sink>(
+    rt: &impl AllocGlobal,
     graph: &Graph,
-    text: &[u8],
-    step: usize,
-) -> Result<(), Fail> {
+    sink: &mut W,
+) -> Result<u64, GraphFault> {
+    graph.show(rt.alloc(), sink)
+}
+
+/// The stream is shown as this text, to a sink that takes so many bytes at once.
+fn shows_by(rt: &(impl Abort + AllocGlobal), graph: &Graph, text: &[u8], step: usize) {
     let mut page = Page::new(rt.alloc(), step, 1_000_000);
-    let count = graph.show(rt.alloc(), &mut page)?;
-    assert!(rt; page.bytes.as_slice() == text);
-    assert_eq!(rt; count, text.len() as u64);
-    Ok(())
+    let count = show(rt, graph, &mut page);
+    page_has(rt, &page, count, text);
 }
 
 /// The stream is shown as this text.
-fn shows(rt: &(impl Abort + AllocGlobal), bytes: &[u8], text: &[u8]) -> Result<(), Fail> {
+fn shows(rt: &(impl Abort + AllocGlobal), bytes: &[u8], text: &[u8]) {
     let graph = graph_of(rt, bytes);
-    shows_by(rt, &graph, text, 4096)?;
-    shows_by(rt, &graph, text, 1)?;
-    Ok(())
+    shows_by(rt, &graph, text, 4096);
+    shows_by(rt, &graph, text, 1);
 }
 
 #[test]
-fn show_linked_pair(rt: HostRuntime) -> Result<(), Fail> {
-    shows(&rt, LINKED_PAIR, LINKED_PAIR_TEXT)?;
-    Ok(())
+fn show_linked_pair(rt: HostRuntime) {
+    shows(&rt, LINKED_PAIR, LINKED_PAIR_TEXT);
 }
 
 #[test]
-fn show_array_list(rt: HostRuntime) -> Result<(), Fail> {
+fn show_array_list(rt: HostRuntime) {
     shows(
         &rt,
         ARRAY_LIST,
@@ -68,12 +68,11 @@ object #0.7e0001
     note block 4: 00000001
     note text #0.7e0002 \"a\"
 ",
-    )?;
-    Ok(())
+    );
 }
 
 #[test]
-fn show_int_array(rt: HostRuntime) -> Result<(), Fail> {
+fn show_int_array(rt: HostRuntime) {
     shows(
         &rt,
         INT_ARRAY,
@@ -84,12 +83,11 @@ array #0.7e0001 length 2
   [0] 00000001
   [1] ffffffff
 ",
-    )?;
-    Ok(())
+    );
 }
 
 #[test]
-fn show_reset_epochs(rt: HostRuntime) -> Result<(), Fail> {
+fn show_reset_epochs(rt: HostRuntime) {
     shows(
         &rt,
         RESET_EPOCHS,
@@ -99,14 +97,12 @@ reset
 text #1.7e0000 \"b\"
 ref #1.7e0000
 ",
-    )?;
-    Ok(())
+    );
 }
 
 #[test]
-fn show_nothing(rt: HostRuntime) -> Result<(), Fail> {
-    shows(&rt, b"\xAC\xED\x00\x05", b"stream version 5\n")?;
-    Ok(())
+fn show_nothing(rt: HostRuntime) {
+    shows(&rt, b"\xAC\xED\x00\x05", b"stream version 5\n");
 }
 
 /// The length of the text of `nest(999)`, from the definition of the text: 3 lines for the first array, with that of the
@@ -119,28 +115,33 @@ fn show_nest_999(rt: HostRuntime) -> Result<(), Fail> {
     let bytes = nest(rt.alloc(), 999)?;
     let graph = graph_of(&rt, &bytes);
     let mut page = Page::new(rt.alloc(), 4096, 10_000_000);
-    assert_eq!(rt; graph.show(rt.alloc(), &mut page)?, NEST_999_LENGTH);
-    assert_eq!(rt; page.bytes.len() as u64, NEST_999_LENGTH);
+    let count = show(&rt, &graph, &mut page);
+    is_as_long(&rt, &page, count, NEST_999_LENGTH);
     Ok(())
+}
+
+/// The page was given so many bytes, and they were counted.
+fn is_as_long(rt: &impl Abort, page: &Page, count: Result<u64, GraphFault>, length: u64) {
+    assert_eq!(rt; count, Ok(length));
+    assert_eq!(rt; page.bytes.len() as u64, length);
 }
 
 /// What went out is the beginning of the text that the fault counts, wherever the sink fails, and the graph still
 /// answers.
 #[test]
-fn show_fails_anywhere(rt: HostRuntime) -> Result<(), Fail> {
+fn show_fails_anywhere(rt: HostRuntime) {
     let graph = graph_of(&rt, LINKED_PAIR);
     for room in 0..LINKED_PAIR_TEXT.len() {
-        let mut page = Page::new(rt.alloc(), 7, room);
-        let written = room as u64;
-        match graph.show(rt.alloc(), &mut page) {
-            Err(fault) => assert_eq!(rt; fault, GraphFault::Write { written }),
-            Ok(_) => panic!(rt; "it has no room for all"),
-        }
-        assert!(rt; page.failed());
-        assert!(rt; page.bytes.as_slice() == &LINKED_PAIR_TEXT[..room]);
+        shows_front(&rt, &graph, &LINKED_PAIR_TEXT[..room]);
     }
-    shows_by(&rt, &graph, LINKED_PAIR_TEXT, 7)?;
-    Ok(())
+    shows_by(&rt, &graph, LINKED_PAIR_TEXT, 7);
+}
+
+/// To a page that has no room for more than this text, it is shown, and then the fault counts it.
+fn shows_front(rt: &(impl Abort + AllocGlobal), graph: &Graph, front: &[u8]) {
+    let mut page = Page::new(rt.alloc(), 7, front.len());
+    let count = show(rt, graph, &mut page);
+    page_is_full(rt, &page, count, front);
 }
 
 /// Wherever an allocation is refused, what went out is the beginning of the text that the fault counts.
@@ -148,15 +149,18 @@ fn show_fails_anywhere(rt: HostRuntime) -> Result<(), Fail> {
 fn show_in_any_memory(rt: HostRuntime) -> Result<(), Fail> {
     let graph = Graph::read(rt.alloc(), LINKED_PAIR)?;
     let mut page = Page::new(rt.alloc(), 4096, 1_000_000);
-    match graph.show(rt.alloc(), &mut page) {
-        Ok(count) => {
-            assert_eq!(rt; count, LINKED_PAIR_TEXT.len() as u64);
-            assert!(rt; page.bytes.as_slice() == LINKED_PAIR_TEXT);
-        }
+    let count = show(&rt, &graph, &mut page);
+    is_front(&rt, &page, count);
+    Ok(())
+}
+
+/// The page was given the text of the linked pair, or the beginning of it that the fault counts.
+fn is_front(rt: &impl Abort, page: &Page, count: Result<u64, GraphFault>) {
+    match count {
+        Ok(_) => page_has(rt, page, count, LINKED_PAIR_TEXT),
         Err(GraphFault::Write { written } | GraphFault::OutOfMemory { written }) => {
             assert_eq!(rt; page.bytes.len() as u64, written);
             assert!(rt; LINKED_PAIR_TEXT.starts_with(&page.bytes));
         }
     }
-    Ok(())
 }

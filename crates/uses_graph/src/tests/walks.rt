@@ -16,11 +16,19 @@ fn step(walk: &mut Walk<'_>, field: Field<'_>) -> Result<Option<bool>, AllocErro
 }
 // end
 
+use std::process::Abort;
 use std::test::Fail;
 
 #[test]
 fn the_name_of_a_class(rt: HostRuntime) -> Result<(), Fail> {
     let mut walk = Walk::new(rt.alloc(), &[]);
+    finds_the_name(&rt, &mut walk)?;
+    assert_eq!(rt; walk.count(), 1);
+    Ok(())
+}
+
+/// Of the fields up to a suid, the text alone is the name of a class.
+fn finds_the_name(rt: &impl Abort, walk: &mut Walk<'_>) -> Result<(), AllocError> {
     let name = [0x41];
     let fields = [
         (Field::Header, false),
@@ -33,11 +41,10 @@ fn the_name_of_a_class(rt: HostRuntime) -> Result<(), Fail> {
         // nothing that is due here takes more steps
         for _ in 0..9 {
             if found.is_none() {
-                found = step(&mut walk, field)?;
+                found = step(walk, field)?;
             }
         }
         assert_eq!(rt; found, Some(want));
     }
-    assert_eq!(rt; walk.count(), 1);
     Ok(())
 }

@@ -1,9 +1,9 @@
 //! Single words, with the numbers and units at their edges.
 
-use jser_prim::Outbox;
+use jser_prim::{Outbox, Sink};
 use jser_walk::{Due, Field, Name, Walk};
 use jser_words::{say, say_decimal, say_due, say_field, say_next, say_quoted};
-use std::alloc::AllocGlobal;
+use std::alloc::{AllocError, AllocGlobal};
 use std::process::Abort;
 use std::test::Fail;
 use test_support::Page;
@@ -96,26 +96,44 @@ fn quoted_texts(rt: HostRuntime) {
 }
 
 /// A block of 200 bytes.
-#[test]
-fn many_bytes_in_hexadecimal(rt: HostRuntime) -> Result<(), Fail> {
-    let mut page = Page::new(rt.alloc(), 1, 1000);
-    let mut outbox = Outbox::new();
-    let mut walk = Walk::new(rt.alloc(), &[]);
-    for field in [
-        Field::Header,
-        Field::Tag(0x77),
-        Field::BlockLength(200),
-        Field::Raw(&[0xAF; 200]),
-    ] {
-        say_next(&mut outbox, &mut page, &mut walk, field)?;
+const BLOCK: [Field<'static>; 4] = [
+    Field::Header,
+    Field::Tag(0x77),
+    Field::BlockLength(200),
+    Field::Raw(&[0xAF; 200]),
+];
+
+/// Says these fields, one after the other.
+fn say_each<W: Sink>(
+    outbox: &mut Outbox,
+    sink: &mut W,
+    walk: &mut Walk<'_>,
+    fields: &[Field<'_>],
+) -> Result<(), AllocError> {
+    for field in fields {
+        say_next(outbox, sink, walk, *field)?;
     }
-    outbox.flush(&mut page);
-    let (_, digits) = page.bytes.as_slice().split_at(page.bytes.len().min(28));
+    Ok(())
+}
+
+/// Behind the line of the version and the head of the block stand the digits of 200 bytes.
+fn has_200_bytes(rt: &impl Abort, text: &[u8]) {
+    let (_, digits) = text.split_at(text.len().min(28));
     let count = digits
         .chunks(2)
         .filter(|pair| *pair == b"af".as_slice())
         .count();
     assert_eq!(rt; count, 200);
+}
+
+#[test]
+fn many_bytes_in_hexadecimal(rt: HostRuntime) -> Result<(), Fail> {
+    let mut page = Page::new(rt.alloc(), 1, 1000);
+    let mut outbox = Outbox::new();
+    let mut walk = Walk::new(rt.alloc(), &[]);
+    say_each(&mut outbox, &mut page, &mut walk, &BLOCK)?;
+    outbox.flush(&mut page);
+    has_200_bytes(&rt, &page.bytes);
     Ok(())
 }
 

@@ -1,0 +1,127 @@
+-- What `list` prints.
+use denote.Bor.{Bor}
+use Rattle.std.proofs.Common.{◌≡◌, ℕ, suc, ◌+◌, ◌<◌, ◌≤◌, true, false, List, [], ◌∷◌, ◌++◌, map, length, drop, slice_get, Option, Some, None, option_map, codes, refl, sym, ap, subst, ◌∙◌, arith, append_assoc}
+use Rattle.std.proofs.Math.Seq.{drop-cons}
+use Rattle.std.proofs.lemmas.List.{drop_all}
+use Rattle.std.proofs.lemmas.Option.{get_or_from_slice_get, slice_get_within, slice_get-map}
+use Rattle.std.specs.Prelude.{IfSome}
+use Rattle.std.specs.Fmt.{decimal}
+use Rattle.std.specs.Io.KnownBytes.{Appends}
+use Rattle.jser_prim.specs.Outgoing.{Outgoing, SinkState, Puts}
+use Rattle.jser_prim.proofs.OutgoingLemmas.{nothing, puts_both, went_out}
+use Rattle.jser_filter.specs.declared.Verdict.{Verdict}
+use Rattle.jser_filter.specs.declared.Verdict.TheVariants as verdict
+use Rattle.jser_filter.specs.Filters.{FilterView, verdict_of}
+use Rattle.jser_shown.specs.Counting.{NameTally, name_tally, tally_all, tally_lines}
+use Rattle.jser_shown.specs.Laws.{Counted}
+use Rattle.jser_shown.specs.Listed.{listed}
+use Rattle.jser_shown.specs.Words.{quoted}
+use Rattle.jser_graph.specs.Graphs.{GraphView, StandsForSome}
+use Rattle.jser_words.specs.Says.{Says, Saying}
+use Rattle.jser_words.proofs.SaysLemmas.{says_before, says_on, says_same, says_both, says_five}
+use Rattle.jser_commands.specs.Counts.{tallies_of, tally_line, lines_before}
+use Rattle.jser_commands.specs.Lines.{SaysText, verdict_words, words_on}
+
+-- the text of the list for which the graph stands
+pub says_listed : Counted → (told : Option (List ℕ)) (filter : FilterView) (graph : GraphView) (old new : Option (List ℕ))
+    → IfSome told (λ bytes. StandsForSome bytes graph) → Appends old new (tally_lines (words_on filter) (tally_all [] graph.names))
+    → IfSome told (λ bytes. SaysText (listed (words_on filter)) bytes old new)
+says_listed law None filter graph old new stands wrote = tt
+says_listed law (Some bytes) filter graph old new stands wrote = record {
+  list = stands.0;
+  passes = stands.1.passes;
+  printed = subst (Appends old new) (ap (λ names. tally_lines (words_on filter) (tally_all [] names)) stands.1.names_are ∙ sym (law (words_on filter) stands.0)) wrote;
+}
+
+-- a word, and the index of a piece
+pub says_index : (a b c : Outgoing) (d e f : SinkState) (word : List ℕ) (index : ℕ) → Says a b d e (λ k. word ++ k) → Says b c e f (λ k. decimal index ++ k)
+    → Says a c d f (λ k. (word ++ decimal index) ++ k)
+says_index a b c d e f word index h g =
+    says_same a c d f (λ k. word ++ (decimal index ++ k)) (λ k. (word ++ decimal index) ++ k) (λ k. append_assoc word (decimal index) k)
+    (says_both a b c d e f (λ k. word ++ k) (λ k. decimal index ++ k) h g)
+
+pub says_allowed : (a b c : Outgoing) (d e f : SinkState) (said : Verdict) (index : ℕ) → said ≡ verdict.Allowed index
+    → Says a b d e (λ k. codes "allowed:" ++ k) → Says b c e f (λ k. decimal index ++ k) → Says a c d f (λ k. verdict_words said ++ k)
+says_allowed a b c d e f said index is h g =
+    subst (λ v. Says a c d f (λ k. verdict_words v ++ k)) (sym is) (says_index a b c d e f (codes "allowed:") index h g)
+
+pub says_rejected : (a b c : Outgoing) (d e f : SinkState) (said : Verdict) (index : ℕ) → said ≡ verdict.Rejected index
+    → Says a b d e (λ k. codes "rejected:" ++ k) → Says b c e f (λ k. decimal index ++ k) → Says a c d f (λ k. verdict_words said ++ k)
+says_rejected a b c d e f said index is h g =
+    subst (λ v. Says a c d f (λ k. verdict_words v ++ k)) (sym is) (says_index a b c d e f (codes "rejected:") index h g)
+
+-- the line of a name
+pub says_line : (a b c d e f g : Outgoing) (p q r s t u v : SinkState) (filter : FilterView) (name : List ℕ) (times : ℕ) (said : Verdict)
+    → said ≡ verdict_of filter name → Says a b p q (λ k. decimal times ++ k) → Says b c q r (λ k. 0x20 ∷ k) → Says c d r s (λ k. verdict_words said ++ k)
+    → Says d e s t (λ k. 0x20 ∷ k) → Says e f t u (λ k. quoted name k) → Says f g u v (λ k. 0x0A ∷ k)
+    → Says a g p v (λ k. tally_line (words_on filter) (name_tally name times) k)
+says_line a b c d e f g p q r s t u v filter name times said is x1 x2 x3 x4 x5 x6 =
+    says_both a b g p q v (λ k. decimal times ++ k) (λ k. 0x20 ∷ (words_on filter name ++ (0x20 ∷ quoted name (0x0A ∷ k)))) x1
+    (says_five b c d e f g q r s t u v (λ k. 0x20 ∷ k) (λ k. words_on filter name ++ k) (λ k. 0x20 ∷ k) (λ k. quoted name k) (λ k. 0x0A ∷ k)
+    x2 (subst (λ v. Says c d r s (λ k. verdict_words v ++ k)) is x3) x4 x5 x6)
+
+-- ---- all lines
+
+abbrev tally_of : Bor (List ℕ) × ℕ → NameTally
+tally_of entry = name_tally entry.0.now entry.1
+
+tallies_map : (entries : List (Bor (List ℕ) × ℕ)) → tallies_of entries ≡ map tally_of entries
+tallies_map [] = refl
+tallies_map (e ∷ es) = ap (λ ts. tally_of e ∷ ts) (tallies_map es)
+
+lines_are : (words : List ℕ → List ℕ) (tallies : List NameTally) → lines_before words tallies [] ≡ tally_lines words tallies
+lines_are words [] = refl
+lines_are words (t ∷ ts) = ap (tally_line words t) (lines_are words ts)
+
+tallies_length : (entries : List (Bor (List ℕ) × ℕ)) → length (tallies_of entries) ≡ length entries
+tallies_length [] = refl
+tallies_length (e ∷ es) = ap suc (tallies_length es)
+
+tally_at : (entries : List (Bor (List ℕ) × ℕ)) (number : ℕ) (name : Bor (List ℕ)) (times : ℕ) → slice_get entries number ≡ Some (name, times)
+    → (number < length (tallies_of entries)) × (slice_get (tallies_of entries) number ≡ Some (name_tally name.now times))
+tally_at entries number name times here =
+    let there : slice_get (map tally_of entries) number ≡ Some (name_tally name.now times) =
+    slice_get-map tally_of entries number ∙ ap (option_map tally_of) here in
+    let same = tallies_map entries in
+    let found : slice_get (tallies_of entries) number ≡ Some (name_tally name.now times) = ap (λ ts. slice_get ts number) same ∙ there in
+    (slice_get_within (tallies_of entries) number (name_tally name.now times) found, found)
+
+-- one line more
+pub lines_on : (a b c : Outgoing) (d e f : SinkState) (words : List ℕ → List ℕ) (entries : List (Bor (List ℕ) × ℕ)) (number : ℕ) (name : Bor (List ℕ)) (times : ℕ)
+    (all : List ℕ → List ℕ) → slice_get entries number ≡ Some (name, times)
+    → Saying a b d e all (λ k. lines_before words (drop number (tallies_of entries)) k)
+    → Says b c e f (λ k. tally_line words (name_tally name.now times) k)
+    → Saying a c d f all (λ k. lines_before words (drop (number + 1) (tallies_of entries)) k)
+lines_on a b c d e f words entries number name times all here so line =
+    let at = tally_at entries number name times here in
+    let tally = name_tally name.now times in
+    let next : drop number (tallies_of entries) ≡ tally ∷ drop (suc number) (tallies_of entries) =
+    drop-cons (tallies_of entries) number tally at.0 ∙ ap (λ t. t ∷ drop (suc number) (tallies_of entries)) (get_or_from_slice_get (tallies_of entries) number tally tally at.1) in
+    let n : suc number ≡ number + 1 = omega arith in
+    let left : List NameTally → List ℕ → List ℕ = λ ts k. lines_before words ts k in
+    subst (λ m. Saying a c d f all (left (drop m (tallies_of entries)))) n
+    (says_on a b c d e f all (left (tally ∷ drop (suc number) (tallies_of entries))) (left (drop (suc number) (tallies_of entries)))
+    (subst (λ ts. Saying a b d e all (left ts)) next so)
+    (says_before b c e f (λ k. tally_line words tally k) (left (drop (suc number) (tallies_of entries))) line))
+
+-- none is left
+pub lines_ended : (a b : Outgoing) (d e : SinkState) (words : List ℕ → List ℕ) (entries : List (Bor (List ℕ) × ℕ)) (number : ℕ) (all : List ℕ → List ℕ)
+    → length entries ≤ number → Saying a b d e all (λ k. lines_before words (drop number (tallies_of entries)) k) → Says a b d e all
+lines_ended a b d e words entries number all past so =
+    let none : drop number (tallies_of entries) ≡ [] =
+    drop_all number (tallies_of entries) (omega (arith, past, tallies_length entries)) in
+    subst (λ ts. Saying a b d e all (λ k. lines_before words ts k)) none so
+
+pub lines_went_out : (start mid now : Outgoing) (before middle after : SinkState) (words : List ℕ → List ℕ) (tallies : List NameTally)
+    → start ≡ nothing → Says start mid before middle (λ k. lines_before words tallies k) → Puts mid now middle after []
+    → now.failed ≡ false → (now.failed ≡ false → now.waiting ≡ []) → Appends before.gone_out after.gone_out (tally_lines words tallies)
+lines_went_out start mid now before middle after words tallies new says flush on empty =
+    subst (Appends before.gone_out after.gone_out) (sym (says.is []) ∙ lines_are words tallies)
+    (went_out start now before after (says.bytes ++ []) new (puts_both start mid now before middle after says.bytes [] says.puts flush) on empty).0
+
+pub lines_failed : (start mid now : Outgoing) (before middle after : SinkState) (words : List ℕ → List ℕ) (tallies : List NameTally)
+    → start ≡ nothing → Says start mid before middle (λ k. lines_before words tallies k) → Puts mid now middle after []
+    → now.failed ≡ true → after.failed ≡ true
+lines_failed start mid now before middle after words tallies new says flush off =
+    let all = puts_both start mid now before middle after says.bytes [] says.puts flush in
+    (all.going (ap (λ o. o.failed) new)).fault off

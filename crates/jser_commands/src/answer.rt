@@ -1,0 +1,68 @@
+//! The lines of answers, and how an answer is printed.
+ghost use Rattle.std.specs.Prelude.{◌≡◌, ◌⊎◌, ◌<◌, ◌++◌, IfOk, OnOk, IsOkAnd, true, string_bytes};
+ghost use Rattle.std.specs.Fmt.{decimal};
+ghost use Rattle.std.specs.Io.KnownBytes.{Appends, Keeps};
+ghost use Rattle.jser_commands.specs.Lines.{yes_line, no_line};
+
+use crate::status::tell_failure;
+use jser_check::{Refusal, Report};
+use jser_prim::{Sink, give_all};
+use std::alloc::{AllocError, Global};
+use std::fmt::Write;
+
+/// `yes B bytes, C contents, R refs, depth D`
+pub(crate) fn text_of_report(alloc: Global, report: Report) -> Result<String, AllocError>
+    ensures { IfOk result (λ text. string_bytes text ≡ yes_line report) }
+{
+    let mut text = String::new(alloc);
+    push_count(&mut text, "yes ", report.bytes)?;
+    push_count(&mut text, " bytes, ", report.contents)?;
+    push_count(&mut text, " contents, ", report.refs)?;
+    push_count(&mut text, " refs, depth ", report.depth)?;
+    text.push_str("\n")?;
+    Ok(text)
+}
+
+/// `no at A to E: REASON`
+pub(crate) fn text_of_refusal(alloc: Global, refusal: Refusal) -> Result<String, AllocError>
+    ensures { IfOk result (λ text. string_bytes text ≡ no_line refusal) }
+{
+    let mut text = String::new(alloc);
+    push_count(&mut text, "no at ", refusal.from_byte)?;
+    push_count(&mut text, " to ", refusal.to_byte)?;
+    text.push_str(": ")?;
+    text.push_str(refusal.reason.name())?;
+    text.push_str("\n")?;
+    Ok(text)
+}
+
+/// Appends some words and a number in decimal.
+fn push_count(text: &mut String, words: &str, count: u64) -> Result<(), AllocError>
+    ensures { OnOk result (string_bytes text.new ≡ string_bytes text.old ++ words.now ++ decimal count) }
+{
+    text.push_str(words)?;
+    write!(text, "{count}")?;
+    Ok(())
+}
+
+/// Prints a line, and returns its status, or tells why it could not be printed.
+#[tactic(auto, using(crate::proofs::Lines::kept))]
+pub(crate) fn print_line<W: Sink, E: Sink>(
+    output: &mut W,
+    faults: &mut E,
+    line: Result<String, AllocError>,
+    status: u8,
+) -> u8
+    requires { status < 3 }
+    ensures printed { result ≡ status → IsOkAnd line (λ text. Appends (W.gone_out output.old) (W.gone_out output.new) (string_bytes text)) }
+    ensures failed { result ≡ 3 → (W.has_failed output.new ≡ true) ⊎ Keeps (W.gone_out output.old) (W.gone_out output.new) }
+    ensures status { (result ≡ status) ⊎ (result ≡ 3) }
+{
+    let Ok(text) = line else {
+        return tell_failure(faults, "out of memory\n");
+    };
+    match give_all(output, text.as_bytes()) {
+        Ok(()) => status,
+        Err(_) => tell_failure(faults, "write failed\n"),
+    }
+}

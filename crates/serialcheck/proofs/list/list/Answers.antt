@@ -1,6 +1,0 @@
-use Rattle.serialcheck.proofs.ListLemmas.{says_listed}
-use Rattle.serialcheck.proofs.list.list.Goals as goal
-
-pub returns-in-Ok-clause-accepted : goal.returns-in-Ok-clause-accepted
-returns-in-Ok-clause-accepted g c zero =
-    says_listed c.counted.ensures _ c.args.filter.now c.in-Ok.graph _ _ c.in-Ok.ensures.accepted (c.print_names.ensures.printed zero)

@@ -1,6 +1,0 @@
-use Rattle.std.proofs.Common.{inr}
-use Rattle.serialcheck.proofs.ShowLemmas.{says_front}
-use Rattle.serialcheck.proofs.show.show.Goals as goal
-
-pub returns-in-Ok-clause-failed : goal.returns-in-Ok-clause-failed
-returns-in-Ok-clause-failed g c = λ h. inr (says_front _ c.in-Ok.graph _ _ c.in-Ok.ensures.accepted (c.print_text.ensures.failed h))
