@@ -27,36 +27,46 @@ fn assert_admits(
     want: bool,
 ) -> Result<(), AllocError> {
     let units = units_of(alloc, name)?;
-    assert!(rt; admits(filter, &units) == want, "{name}");
+    same!(rt; admits(filter, &units), want, name);
+    Ok(())
+}
+
+/// The filter admits the names that it is to admit, and no others.
+fn compare_admitted(rt: &impl Abort, alloc: Global, filter: &Filter) -> Result<(), Fail> {
+    for (name, want) in &ADMITTED {
+        assert_admits(rt, alloc, filter, name, *want)?;
+    }
     Ok(())
 }
 
 #[test]
 fn admitted_names(rt: HostRuntime) -> Result<(), Fail> {
     let filter = Filter::parse(rt.alloc(), "java.util.*;!com.**")?;
-    for (name, want) in ADMITTED {
-        assert_admits(&rt, rt.alloc(), &filter, name, want)?;
-    }
-    Ok(())
+    compare_admitted(&rt, rt.alloc(), &filter)
 }
 
 #[test]
 fn verdicts_of_texts(rt: HostRuntime) -> Result<(), Fail> {
     let alloc = rt.alloc();
     let name = [0x61, 0x2E, 0x42];
-    assert_eq!(rt;
+    same!(rt;
         judge_text(alloc, "x;!a.*", &name),
         Ok(Verdict::Rejected(1))
     );
-    assert_eq!(rt;
+    same!(rt;
         judge_for_good(alloc, "a.B;*", &name),
         Ok(Verdict::Allowed(0))
     );
-    assert_eq!(rt;
+    same!(rt;
         judge_for_each_table(alloc, "x", &name),
         Ok(Verdict::Undecided)
     );
     Ok(())
+}
+
+/// Why the settings of these two texts are not taken, if they are not.
+fn settings_fault(alloc: Global, text: &str, table: &str) -> Option<SettingsFault> {
+    load(alloc, text, table).err()
 }
 
 #[test]
@@ -66,16 +76,22 @@ fn faulty_settings(rt: HostRuntime) {
         pattern: 1,
         cause: FilterCause::NameMissing,
     };
-    assert!(rt;
-        matches!(load(alloc, "a;!", ""), Err(SettingsFault::Filter(told)) if told == fault)
-    );
+    same!(rt; settings_fault(alloc, "a;!", ""), Some(SettingsFault::Filter(fault)));
     let fault = ModulesFault {
         line: 0,
         cause: ModulesCause::BadLine,
     };
-    assert!(rt;
-        matches!(load(alloc, "a", "b"), Err(SettingsFault::Modules(told)) if told == fault)
-    );
+    same!(rt; settings_fault(alloc, "a", "b"), Some(SettingsFault::Modules(fault)));
+}
+
+/// The name of a class of the package that the settings below put into a module.
+const IN_SHOP: [u16; 3] = [0x61, 0x2E, 0x42];
+
+/// The limit of the settings below, and that they do not admit the classes of the module.
+fn compare_loaded(rt: &impl Abort, filter: &Filter) {
+    same!(rt; depth_limit(filter, 1000), 20);
+    same!(rt; depth_limit(filter, 10), 10);
+    holds!(rt; !admits(filter, &IN_SHOP));
 }
 
 #[test]
@@ -84,11 +100,9 @@ fn loaded_settings(rt: HostRuntime) {
     let Ok(filter) = load(alloc, "!shop/a.*;maxdepth=20", "a=shop") else {
         return;
     };
-    assert_eq!(rt; depth_limit(&filter, 1000), 20);
-    assert_eq!(rt; depth_limit(&filter, 10), 10);
-    let name = [0x61, 0x2E, 0x42];
-    assert!(rt; !admits(&filter, &name));
-    assert!(rt; admits(&forget_modules(alloc, filter), &name));
+    compare_loaded(&rt, &filter);
+    let bare = forget_modules(alloc, filter);
+    holds!(rt; admits(&bare, &IN_SHOP));
 }
 
 /// The package of this one letter is in the module, or not.
@@ -101,21 +115,29 @@ fn assert_in_module(
     want: bool,
 ) -> Result<(), AllocError> {
     let units = units_of(alloc, module)?;
-    assert!(rt; is_in_module(table, &[package], &units) == want, "{module}");
+    same!(rt; is_in_module(table, &[package], &units), want, module);
+    Ok(())
+}
+
+/// Packages of one letter, and whether the table of the test below puts them into a module.
+const IN_MODULES: [(u16, &str, bool); 3] = [
+    (0x61, "shop", true),
+    (0x61, "till", false),
+    (0x63, "till", false),
+];
+
+/// The table puts these packages into these modules, or not.
+fn compare_modules(rt: &impl Abort, alloc: Global, table: &Modules) -> Result<(), Fail> {
+    for (package, module, want) in &IN_MODULES {
+        assert_in_module(rt, alloc, table, *package, module, *want)?;
+    }
     Ok(())
 }
 
 #[test]
 fn modules_of_packages(rt: HostRuntime) -> Result<(), Fail> {
     let table = Modules::parse(rt.alloc(), "a=shop\nb=till")?;
-    for (package, module, want) in [
-        (0x61, "shop", true),
-        (0x61, "till", false),
-        (0x63, "till", false),
-    ] {
-        assert_in_module(&rt, rt.alloc(), &table, package, module, want)?;
-    }
-    Ok(())
+    compare_modules(&rt, rt.alloc(), &table)
 }
 
 #[test]
@@ -124,25 +146,21 @@ fn faulty_filter(rt: HostRuntime) -> Result<(), Fail> {
     let Some(fault) = faulty_piece(alloc, "a;maxdepth=x") else {
         return Ok(());
     };
-    assert_eq!(rt;
-        filter_line(alloc, fault)?.as_str(),
-        "filter pattern 1: BadLimit"
-    );
-    assert!(rt; faulty_piece(alloc, "a;b").is_none());
+    let line = filter_line(alloc, fault)?;
+    same!(rt; line.as_str(), "filter pattern 1: BadLimit");
+    holds!(rt; faulty_piece(alloc, "a;b").is_none());
     Ok(())
 }
 
 #[test]
 fn faulty_table(rt: HostRuntime) -> Result<(), Fail> {
     let alloc = rt.alloc();
-    assert_eq!(rt; sound_lines(alloc, "a=b\nc=d\na=e"), Some(2));
+    same!(rt; sound_lines(alloc, "a=b\nc=d\na=e"), Some(2));
     let fault = ModulesFault {
         line: 2,
         cause: ModulesCause::PackageTwice,
     };
-    assert_eq!(rt;
-        modules_line(alloc, fault)?.as_str(),
-        "modules line 2: PackageTwice"
-    );
+    let line = modules_line(alloc, fault)?;
+    same!(rt; line.as_str(), "modules line 2: PackageTwice");
     Ok(())
 }

@@ -20,34 +20,35 @@ fn judge(filter: &Filter, name: &[u16]) -> Option<Verdict> {
     }
 }
 
-/// What a text says of a name.
-fn verdict_of(
-    rt: &impl Abort,
-    alloc: Global,
-    text: &str,
-    name: &str,
-) -> Result<Verdict, AllocError> {
-    let name = units_of(alloc, name)?;
-    let filter = Filter::parse(alloc, text);
-    assert!(rt; filter.is_ok(), "{text}");
-    match filter {
-        Ok(filter) => {
-            let verdict = judge(&filter, &name);
-            assert!(rt; verdict.is_some(), "{text}");
-            Ok(verdict.unwrap_or(Verdict::Undecided))
-        }
-        Err(_) => Err(AllocError),
+/// The filter of a text that has no fault.
+fn filter_of(rt: &impl Abort, alloc: Global, text: &str) -> Filter {
+    match Filter::parse(alloc, text) {
+        Ok(filter) => filter,
+        Err(fault) => panic!(rt; "{text}: {fault:?}"),
     }
 }
 
 /// A filter's text, a name, and what that text says of it.
 type Row = (&'static str, &'static str, Verdict);
 
+/// Compares what a text says of a name, which is not malformed.
+fn compare_row(
+    rt: &impl Abort,
+    alloc: Global,
+    text: &str,
+    name: &str,
+    verdict: Verdict,
+) -> Result<(), AllocError> {
+    let units = units_of(alloc, name)?;
+    let filter = filter_of(rt, alloc, text);
+    same!(rt; judge(&filter, &units), Some(verdict), format_args!("{text} on {name}"));
+    Ok(())
+}
+
 /// Compares what texts say of names.
 fn compare(rt: &(impl Abort + AllocGlobal), rows: &[Row]) -> Result<(), Fail> {
     for (text, name, verdict) in rows {
-        let found = verdict_of(rt, rt.alloc(), text, name)?;
-        assert_eq!(rt; found, *verdict, "{text} on {name}");
+        compare_row(rt, rt.alloc(), text, name, *verdict)?;
     }
     Ok(())
 }
@@ -69,19 +70,21 @@ const NO_LIMITS: Limits = Limits {
     array: None,
 };
 
+/// A text of two patterns and two limits.
+const TEXT: &str = "a.*;!a.**;maxrefs=3;maxrefs=9";
+
+/// What that text and the empty one say of names.
+const TEXTS: [Row; 4] = [
+    (TEXT, "a.B", Verdict::Allowed(0)),
+    (TEXT, "a.b.C", Verdict::Rejected(1)),
+    (TEXT, "b.C", Verdict::Undecided),
+    ("", "a", Verdict::Undecided),
+];
+
 #[test]
 fn filter_texts(rt: HostRuntime) -> Result<(), Fail> {
-    let text = "a.*;!a.**;maxrefs=3;maxrefs=9";
-    compare(
-        &rt,
-        &[
-            (text, "a.B", Verdict::Allowed(0)),
-            (text, "a.b.C", Verdict::Rejected(1)),
-            (text, "b.C", Verdict::Undecided),
-            ("", "a", Verdict::Undecided),
-        ],
-    )?;
-    assert!(rt; Filter::parse(rt.alloc(), "m/x").is_ok());
+    compare(&rt, &TEXTS)?;
+    same!(rt; fault_of(rt.alloc(), "m/x"), None);
     Ok(())
 }
 
@@ -117,9 +120,12 @@ const FILTER_FAULTS: [(&str, usize, FilterCause); 26] = [
 
 #[test]
 fn filter_faults(rt: HostRuntime) {
-    for (text, pattern, cause) in FILTER_FAULTS {
-        let fault = FilterFault { pattern, cause };
-        assert_eq!(rt; fault_of(rt.alloc(), text), Some(fault), "{text}");
+    for (text, pattern, cause) in &FILTER_FAULTS {
+        let fault = FilterFault {
+            pattern: *pattern,
+            cause: *cause,
+        };
+        same!(rt; fault_of(rt.alloc(), text), Some(fault), text);
     }
 }
 
@@ -148,8 +154,8 @@ const LIMITS: [(&str, Limits); 3] = [
 
 #[test]
 fn filter_limits(rt: HostRuntime) -> Result<(), Fail> {
-    for (text, limits) in LIMITS {
-        assert_eq!(rt; limits_of(rt.alloc(), text)?, limits, "{text}");
+    for (text, limits) in &LIMITS {
+        same!(rt; limits_of(rt.alloc(), text)?, *limits, text);
     }
     Ok(())
 }
@@ -167,12 +173,12 @@ const DEPTHS: [(&str, u64); 7] = [
 
 #[test]
 fn filter_good_limits(rt: HostRuntime) -> Result<(), Fail> {
-    for (text, depth) in DEPTHS {
+    for (text, depth) in &DEPTHS {
         let limits = Limits {
-            depth: Some(depth),
+            depth: Some(*depth),
             ..NO_LIMITS
         };
-        assert_eq!(rt; limits_of(rt.alloc(), text)?, limits, "{text}");
+        same!(rt; limits_of(rt.alloc(), text)?, limits, text);
     }
     Ok(())
 }
@@ -196,9 +202,12 @@ const MODULES_FAULTS: [(&str, usize, ModulesCause); 8] = [
 
 #[test]
 fn modules_faults(rt: HostRuntime) {
-    for (text, line, cause) in MODULES_FAULTS {
-        let fault = ModulesFault { line, cause };
-        assert_eq!(rt; modules_fault_of(rt.alloc(), text), Some(fault), "{text}");
+    for (text, line, cause) in &MODULES_FAULTS {
+        let fault = ModulesFault {
+            line: *line,
+            cause: *cause,
+        };
+        same!(rt; modules_fault_of(rt.alloc(), text), Some(fault), text);
     }
 }
 
@@ -213,30 +222,62 @@ fn compare_module(
     let units_of_package = units_of(alloc, package)?;
     let found = table.get(&units_of_package);
     match module {
-        Some(module) => {
-            let wanted = units_of(alloc, module)?;
-            assert_eq!(rt; found, Some(wanted.as_slice()), "{package}");
-        }
-        None => assert!(rt; found.is_none(), "{package}"),
+        Some(module) => compare_found(rt, alloc, found, package, module)?,
+        None => same!(rt; found, None, package),
+    }
+    Ok(())
+}
+
+/// The module that was found for a package is this one.
+fn compare_found(
+    rt: &impl Abort,
+    alloc: Global,
+    found: Option<&[u16]>,
+    package: &str,
+    module: &str,
+) -> Result<(), AllocError> {
+    let wanted = units_of(alloc, module)?;
+    same!(rt; found, Some(wanted.as_slice()), package);
+    Ok(())
+}
+
+/// A table of modules with an empty line, and with spaces and an end of line that belong to names.
+const TWO_LINES: &str = "java.util=java.base\n\n app =shop\r";
+
+/// Tables of modules, each with a package and its module there.
+const MODULES: [(&str, &str, Option<&str>); 4] = [
+    ("", "java.util", None),
+    (TWO_LINES, "java.util", Some("java.base")),
+    (TWO_LINES, "app", None),
+    (TWO_LINES, " app ", Some("shop\r")),
+];
+
+/// A package has this module in the table of a text, or none.
+fn compare_table(
+    rt: &impl Abort,
+    alloc: Global,
+    text: &str,
+    package: &str,
+    module: Option<&str>,
+) -> Result<(), Fail> {
+    let table = Modules::parse(alloc, text)?;
+    compare_module(rt, alloc, &table, package, module)?;
+    Ok(())
+}
+
+/// Each row of the tables above.
+fn compare_tables(rt: &impl Abort, alloc: Global) -> Result<(), Fail> {
+    for (text, package, module) in &MODULES {
+        compare_table(rt, alloc, text, package, *module)?;
     }
     Ok(())
 }
 
 #[test]
 fn modules_tables(rt: HostRuntime) -> Result<(), Fail> {
-    let alloc = rt.alloc();
-    compare_module(&rt, alloc, &Modules::none(alloc), "java.util", None)?;
-    let text = "java.util=java.base\n\n app =shop\r";
-    for (text, package, module) in [
-        ("", "java.util", None),
-        (text, "java.util", Some("java.base")),
-        (text, "app", None),
-        (text, " app ", Some("shop\r")),
-    ] {
-        let table = Modules::parse(alloc, text)?;
-        compare_module(&rt, alloc, &table, package, module)?;
-    }
-    Ok(())
+    let none = Modules::none(rt.alloc());
+    compare_module(&rt, rt.alloc(), &none, "java.util", None)?;
+    compare_tables(&rt, rt.alloc())
 }
 
 /// What texts say of names, with the table of modules below.
@@ -278,7 +319,19 @@ fn filter_with_modules(alloc: Global, text: &str) -> Result<Filter, Fail> {
     Ok(filter.with_modules(table))
 }
 
-/// What the text says of the name with the table, and that it does not allow it without.
+/// That the text does not allow the name without the table.
+fn compare_without_modules(
+    rt: &impl Abort,
+    alloc: Global,
+    text: &str,
+    name: &[u16],
+) -> Result<(), Fail> {
+    let bare = Filter::parse(alloc, text)?;
+    holds!(rt; judge(&bare, name) != Some(Verdict::Allowed(0)), text);
+    Ok(())
+}
+
+/// What the text says of the name with the table.
 fn compare_with_modules(
     rt: &impl Abort,
     alloc: Global,
@@ -286,18 +339,28 @@ fn compare_with_modules(
     name: &[u16],
     verdict: Verdict,
 ) -> Result<(), Fail> {
-    let bare = Filter::parse(alloc, text)?;
-    assert!(rt; judge(&bare, name) != Some(Verdict::Allowed(0)), "{text}");
     let filter = filter_with_modules(alloc, text)?;
-    assert_eq!(rt; judge(&filter, name), Some(verdict), "{text}");
+    same!(rt; judge(&filter, name), Some(verdict), text);
     Ok(())
+}
+
+/// What the text says of the name with the table, and that it does not allow it without.
+fn compare_both(
+    rt: &impl Abort,
+    alloc: Global,
+    text: &str,
+    name: &[u16],
+    verdict: Verdict,
+) -> Result<(), Fail> {
+    compare_without_modules(rt, alloc, text, name)?;
+    compare_with_modules(rt, alloc, text, name, verdict)
 }
 
 #[test]
 fn filters_with_modules(rt: HostRuntime) -> Result<(), Fail> {
-    for (text, name, verdict) in WITH_MODULES {
+    for (text, name, verdict) in &WITH_MODULES {
         let name = units_of(rt.alloc(), name)?;
-        compare_with_modules(&rt, rt.alloc(), text, &name, verdict)?;
+        compare_both(&rt, rt.alloc(), text, &name, *verdict)?;
     }
     Ok(())
 }

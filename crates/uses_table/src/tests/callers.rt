@@ -1,8 +1,8 @@
 //! Each caller on a worked case.
-ghost use Rattle.std.specs.Prelude.{◌<◌, ◌^◌, slice_get, IsTrue, IfOk};
+ghost use Rattle.std.specs.Prelude.{◌<◌, ◌^◌, vec_len, slice_get, IsTrue, IfOk};
 ghost use Rattle.jser_table.specs.Entries.{is_closed};
 
-use super::table::{is_closed, try_close};
+use super::table::{is_closed, make_layer, try_close};
 use crate::classes::{Layout, can_be_read, holds_nothing, is_serial, layout_of, own_layer};
 use crate::data::{first_size, fits_at_once, has_annotation};
 use crate::epochs::{
@@ -43,22 +43,22 @@ fn orders(alloc: Global) -> Result<Table, Fail>
 #[test]
 fn handles(rt: HostRuntime) {
     let mut table = Table::new(rt.alloc(), 2);
-    assert!(rt; is_new(&table));
-    assert_eq!(rt; assign_again(&mut table, Kind::Text), Ok(0));
-    assert_eq!(rt;
+    holds!(rt; is_new(&table));
+    same!(rt; assign_again(&mut table, Kind::Text), Ok(0));
+    same!(rt;
         assign_or_advise(&mut table, Kind::Pending),
         Advice::GoOn(1)
     );
-    assert_eq!(rt; assign_or_advise(&mut table, Kind::Other), Advice::Refuse);
-    assert!(rt; names_text(&table, 0) && names_open_class(&table, 1) && !is_assigned(&table, 2));
-    assert_eq!(rt; next_epoch(&mut table, Kind::Other), Ok(0));
-    assert!(rt; !is_new(&table));
+    same!(rt; assign_or_advise(&mut table, Kind::Other), Advice::Refuse);
+    holds!(rt; names_text(&table, 0) && names_open_class(&table, 1) && !is_assigned(&table, 2));
+    same!(rt; next_epoch(&mut table, Kind::Other), Ok(0));
+    holds!(rt; !is_new(&table));
 }
 
 #[test]
 fn a_log_line(rt: HostRuntime) -> Result<(), Fail> {
     let line = log_line(rt.alloc(), TableFault::Full)?;
-    assert_eq!(rt; line.as_str(), "the table of handles is full");
+    same!(rt; line.as_str(), "the table of handles is full");
     Ok(())
 }
 
@@ -78,7 +78,7 @@ fn compare_fits(rt: &impl Abort, table: &Table) {
         (0, Purpose::Array, Some(Fit::WrongClass)),
         (1, Purpose::Object, None),
     ] {
-        assert_eq!(rt; class_fit(table, number, purpose), fit, "{number}");
+        same!(rt; class_fit(table, number, purpose), fit, number);
     }
 }
 
@@ -138,15 +138,15 @@ fn a_layer(rt: HostRuntime) -> Result<(), Fail> {
 #[test]
 fn its_codes(rt: HostRuntime) -> Result<(), Fail> {
     let layer = order(rt.alloc(), 0x12)?;
-    assert_eq!(rt; first_code(&layer.codes), Some(b'I'));
-    assert!(rt; is_raw(b'J') && !is_raw(b'['));
+    same!(rt; first_code(&layer.codes), Some(b'I'));
+    holds!(rt; is_raw(b'J') && !is_raw(b'['));
     Ok(())
 }
 
 #[test]
 fn codes_given_back(rt: HostRuntime) -> Result<(), Fail> {
     let codes = through_codes(vec![in rt.alloc(); b'J', b'[']?);
-    assert!(rt; codes.as_slice() == [b'J', b'['].as_slice());
+    holds!(rt; codes.as_slice() == [b'J', b'['].as_slice());
     Ok(())
 }
 
@@ -162,48 +162,65 @@ fn compare_raws(rt: &impl Abort, table: &Table) {
     assert!(rt; fits_at_once(table, last, first, 8) && !fits_at_once(table, last, first, 7));
 }
 
-#[test]
-fn raws_at_once(rt: HostRuntime) -> Result<(), Fail> {
-    let alloc = rt.alloc();
-    let mut table = Table::new(alloc, 3);
+/// Closes three classes, each with an int, under each other.
+fn close_three(rt: &impl Abort, alloc: Global, table: &mut Table) -> Result<(), Fail> {
     let mut parent = None;
     for _ in 0..3u8 {
         let number = table.assign(Kind::Pending)?;
-        let codes = Codes::new(vec![in alloc; b'I']?);
-        let layer = Layer {
-            kind: LayerKind::Other,
-            flags: 0x02,
-            codes,
-        };
-        assert!(rt; try_close(&mut table, number, layer, parent));
+        let layer = make_layer(alloc, LayerKind::Other, 0x02, b"I")?;
+        holds!(rt; try_close(table, number, layer, parent));
         parent = Some(number);
     }
+    Ok(())
+}
+
+#[test]
+fn raws_at_once(rt: HostRuntime) -> Result<(), Fail> {
+    let mut table = Table::new(rt.alloc(), 3);
+    close_three(&rt, rt.alloc(), &mut table)?;
     compare_raws(&rt, &table);
     Ok(())
 }
 
-/// A class with so many fields of a byte is closed, and the table tells its first code.
-fn compare_closed(rt: &impl Abort, alloc: Global, fields: usize) -> Result<(), Fail>
-    requires { fields < 2 ^ 15 }
+/// A class with these type codes is closed, and the table tells how many they are.
+fn compare_closed(
+    rt: &impl Abort,
+    alloc: Global,
+    table: &mut Table,
+    codes: &mut Vec<u8>,
+) -> Result<(), TableFault>
+    requires { vec_len codes.old < 2 ^ 15 }
 {
-    let mut table = Table::new(alloc, 1);
+    let fields = codes.len();
     let number = table.assign(Kind::Pending)?;
-    let mut codes = vec![in alloc; b'B'; fields]?;
-    close_class(alloc, &mut table, number, 0x02, &mut codes);
-    assert!(rt; codes.is_empty());
-    assert!(rt; is_closed(&table, number));
+    close_class(alloc, table, number, 0x02, codes);
+    holds!(rt; codes.is_empty());
+    compare_first_layer(rt, table, number, fields);
+    Ok(())
+}
+
+/// The table tells of so many fields in the first layer of this class.
+fn compare_first_layer(rt: &impl Abort, table: &Table, number: u32, fields: usize) {
+    assert!(rt; is_closed(table, number));
     assert!(rt; table.layers(number) > 0);
     let layer = table.layer(number, 0);
     assert_eq!(rt; layer.codes().len(), fields);
     assert_eq!(rt; layer.flags(), 0x02);
+}
+
+/// The same for a class with so many fields of a byte.
+fn compare_bytes(rt: &impl Abort, alloc: Global, fields: u8) -> Result<(), Fail> {
+    let mut table = Table::new(alloc, 1);
+    let mut codes = vec![in alloc; b'B'; usize::from(fields)]?;
+    compare_closed(rt, alloc, &mut table, &mut codes)?;
     Ok(())
 }
 
 /// Classes whose type codes lie in place, and some with too many for that.
 #[test]
 fn closed_classes(rt: HostRuntime) -> Result<(), Fail> {
-    for fields in [0usize, 1, 25, 26, 27, 100] {
-        compare_closed(&rt, rt.alloc(), fields)?;
+    for fields in &[0u8, 1, 25, 26, 27, 100] {
+        compare_bytes(&rt, rt.alloc(), *fields)?;
     }
     Ok(())
 }
@@ -211,9 +228,9 @@ fn closed_classes(rt: HostRuntime) -> Result<(), Fail> {
 #[test]
 fn kept_layers(rt: HostRuntime) -> Result<(), Fail> {
     let kept = kept_with_flags(order(rt.alloc(), 0x12)?, 0x02);
-    assert_eq!(rt; kept.flags(), 0x02);
-    assert_eq!(rt; kind_and_first(&kept), (LayerKind::Other, Some(b'I')));
-    assert_eq!(rt; kind_and_first(&proxy_layer()), (LayerKind::Proxy, None));
+    same!(rt; kept.flags(), 0x02);
+    same!(rt; kind_and_first(&kept), (LayerKind::Other, Some(b'I')));
+    same!(rt; kind_and_first(&proxy_layer()), (LayerKind::Proxy, None));
     Ok(())
 }
 
@@ -223,9 +240,9 @@ fn class_names(rt: HostRuntime) {
         ([0x5B, 0x49], true, LayerKind::Array(BodyKind::Prim(b'I'))),
         ([0x5B, 0x56], false, LayerKind::Other),
     ] {
-        assert!(rt; is_name(&name) == is);
-        assert_eq!(rt; kind_of(&name), kind);
+        holds!(rt; is_name(&name) == is);
+        same!(rt; kind_of(&name), kind);
     }
-    assert_eq!(rt; kind_of_judged(&[0x41]), LayerKind::Other);
-    assert!(rt; !is_string(&[0x41]));
+    same!(rt; kind_of_judged(&[0x41]), LayerKind::Other);
+    holds!(rt; !is_string(&[0x41]));
 }

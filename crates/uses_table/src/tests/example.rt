@@ -1,6 +1,7 @@
 //! The examples of the README of `jser_table`.
 
 use jser_table::{Class, Codes, Fit, Kind, Layer, LayerKind, Purpose, Sections, Table};
+use std::process::Abort;
 use std::test::Fail;
 
 #[test]
@@ -19,6 +20,12 @@ fn a_class_and_its_data(rt: HostRuntime) -> Result<(), Fail> {
     table.close(number, layer, None);
     assert_eq!(rt; table.fit(number, Purpose::Object), Fit::Fits);
     // end
+    compare_data(&rt, &table, number);
+    Ok(())
+}
+
+/// What the table tells of the data of an object of that class.
+fn compare_data(rt: &impl Abort, table: &Table, number: u32) {
     // README: jser_table
     if let Class::Closed(chain) = table.class_at(number) {
         if let Some(Sections { first, last }) = table.sections(chain) {
@@ -31,5 +38,4 @@ fn a_class_and_its_data(rt: HostRuntime) -> Result<(), Fail> {
         }
     }
     // end
-    Ok(())
 }

@@ -15,7 +15,12 @@ mod sections;
 
 const INT: u8 = b'I';
 
-fn make_layer(alloc: Global, kind: LayerKind, flags: u8, codes: &[u8]) -> Result<Layer, AllocError>
+pub(super) fn make_layer(
+    alloc: Global,
+    kind: LayerKind,
+    flags: u8,
+    codes: &[u8],
+) -> Result<Layer, AllocError>
     requires { length codes.now < 2 ^ 15 }
 {
     Ok(Layer {
@@ -86,7 +91,7 @@ fn full_table(rt: &(impl Abort + AllocGlobal)) -> Table {
         (Kind::Pending, Ok(1)),
         (Kind::Other, Err(TableFault::Full)),
     ] {
-        assert_eq!(rt; table.assign(kind), answer, "{kind:?}");
+        same!(rt; table.assign(kind), answer, format_args!("{kind:?}"));
     }
     table
 }
@@ -94,9 +99,9 @@ fn full_table(rt: &(impl Abort + AllocGlobal)) -> Table {
 #[test]
 fn table_full(rt: HostRuntime) {
     let table = full_table(&rt);
-    assert_eq!(rt; table.count(), 2);
-    assert!(rt; matches!(table.get(0), Some(Entry::Text)));
-    assert!(rt; matches!(table.get(1), Some(Entry::Pending)));
+    same!(rt; table.count(), 2);
+    holds!(rt; matches!(table.get(0), Some(Entry::Text)));
+    holds!(rt; matches!(table.get(1), Some(Entry::Pending)));
 }
 
 /// Closes the class of a full table.
@@ -119,15 +124,15 @@ fn table_full_and_close(rt: HostRuntime) -> Result<(), Fail> {
 /// A reset leaves no entry, and the next handle is number 0 again.
 fn is_new_when_reset(rt: &impl Abort, table: &mut Table) {
     table.reset();
-    assert_eq!(rt; table.count(), 0);
-    assert_eq!(rt; table.assign(Kind::Other), Ok(0));
-    assert!(rt; matches!(table.get(0), Some(Entry::Other)));
+    same!(rt; table.count(), 0);
+    same!(rt; table.assign(Kind::Other), Ok(0));
+    holds!(rt; matches!(table.get(0), Some(Entry::Other)));
 }
 
 /// An entry whose class is open is no parent of its own.
 fn pending_is_no_parent(rt: &impl Abort, table: &mut Table, layer: Layer) -> Result<(), Fail> {
     let number = table.assign(Kind::Pending)?;
-    assert!(rt; !try_close(table, number, layer, Some(number)));
+    holds!(rt; !try_close(table, number, layer, Some(number)));
     Ok(())
 }
 
@@ -163,12 +168,12 @@ const FITS: [(LayerKind, u8, Purpose, Fit); 12] = [
 
 /// Adds each class to the table, and compares how it fits.
 fn compare_fits(rt: &(impl Abort + AllocGlobal), table: &mut Table) -> Result<(), Fail> {
-    for (kind, flags, purpose, fit) in FITS {
-        let number = add_class(rt, table, kind, flags, None)?;
-        assert_eq!(rt;
-            fit_at(table, number, purpose),
-            Some(fit),
-            "{kind:?} with flags {flags} as {purpose:?}"
+    for (kind, flags, purpose, fit) in &FITS {
+        let number = add_class(rt, table, *kind, *flags, None)?;
+        same!(rt;
+            fit_at(table, number, *purpose),
+            Some(*fit),
+            format_args!("{kind:?} with flags {flags} as {purpose:?}")
         );
     }
     Ok(())
@@ -190,11 +195,16 @@ fn add_over_external(rt: &(impl Abort + AllocGlobal), table: &mut Table) -> Resu
 fn fit_parent_not_serial(rt: HostRuntime) -> Result<(), Fail> {
     let mut table = Table::new(rt.alloc(), 9);
     let number = add_over_external(&rt, &mut table)?;
-    let fit = fit_at(&table, number, Purpose::Object);
-    assert!(rt; fit == Some(Fit::NotSerializable), "{fit:?}");
-    assert!(rt; all_serial_at(&table, number) == Some(false));
-    assert!(rt; layers_at(&table, number) == Some(2));
+    compare_not_serial(&rt, &table, number);
     Ok(())
+}
+
+/// What the table tells of a class with one superclass, which is not serializable.
+fn compare_not_serial(rt: &impl Abort, table: &Table, number: u32) {
+    let fit = fit_at(table, number, Purpose::Object);
+    assert!(rt; fit == Some(Fit::NotSerializable), "{fit:?}");
+    assert!(rt; all_serial_at(table, number) == Some(false));
+    assert!(rt; layers_at(table, number) == Some(2));
 }
 
 /// The units of an ASCII text.
@@ -205,62 +215,74 @@ fn units(alloc: Global, text: &str) -> Result<Vec<u16>, AllocError> {
         .collect(alloc)
 }
 
+/// Names, each with that of its element.
+const ELEMENTS: [(&str, &str); 7] = [
+    ("[[Lx.Y;", "x.Y"),
+    ("[L;", ""),
+    ("I", "I"),
+    ("[Lint;", "int"),
+    ("[L[I;;", "[I;"),
+    ("", ""),
+    ("integer", "integer"),
+];
+
 #[test]
 fn element_names(rt: HostRuntime) -> Result<(), Fail> {
-    for (name, element) in [
-        ("[[Lx.Y;", "x.Y"),
-        ("[L;", ""),
-        ("I", "I"),
-        ("[Lint;", "int"),
-        ("[L[I;;", "[I;"),
-        ("", ""),
-        ("integer", "integer"),
-    ] {
+    for (name, element) in &ELEMENTS {
         let units_of_name = units(rt.alloc(), name)?;
         let wanted = units(rt.alloc(), element)?;
-        assert_eq!(rt;
+        same!(rt;
             element_of(&units_of_name),
             Element::Name(&wanted),
-            "{name}"
+            name
         );
     }
     Ok(())
 }
 
+/// Names whose element is no class.
+const PRIMITIVES: [&str; 11] = [
+    "boolean", "byte", "char", "double", "float", "int", "long", "short", "void", "[I", "[[Z",
+];
+
 #[test]
 fn primitive_elements(rt: HostRuntime) -> Result<(), Fail> {
-    for name in [
-        "boolean", "byte", "char", "double", "float", "int", "long", "short", "void", "[I", "[[Z",
-    ] {
+    for name in &PRIMITIVES {
         let element = units(rt.alloc(), name)?;
-        assert_eq!(rt; element_of(&element), Element::Primitive, "{name}");
+        same!(rt; element_of(&element), Element::Primitive, name);
     }
     Ok(())
 }
+
+/// Names that no class can have.
+const MALFORMED: [&str; 6] = ["[", "[V", "[II", "[Lx", "[x;", "[["];
 
 #[test]
 fn malformed_names(rt: HostRuntime) -> Result<(), Fail> {
-    for name in ["[", "[V", "[II", "[Lx", "[x;", "[["] {
+    for name in &MALFORMED {
         let malformed = units(rt.alloc(), name)?;
-        assert_eq!(rt; element_of(&malformed), Element::Malformed, "{name}");
-        assert_eq!(rt; layer_kind_of(&malformed), None, "{name}");
+        same!(rt; element_of(&malformed), Element::Malformed, name);
+        same!(rt; layer_kind_of(&malformed), None, name);
     }
     Ok(())
 }
 
+/// Names, each with the kind of the class that has it.
+const KINDS: [(&str, LayerKind); 7] = [
+    ("[I", INTS),
+    ("[[I", LayerKind::Array(BodyKind::Values)),
+    ("[Lx;", LayerKind::Array(BodyKind::Values)),
+    ("[[Lx;", LayerKind::Array(BodyKind::Values)),
+    ("int", LayerKind::Other),
+    ("x.Y", LayerKind::Other),
+    ("", LayerKind::Other),
+];
+
 #[test]
 fn layer_kinds(rt: HostRuntime) -> Result<(), Fail> {
-    for (name, kind) in [
-        ("[I", INTS),
-        ("[[I", LayerKind::Array(BodyKind::Values)),
-        ("[Lx;", LayerKind::Array(BodyKind::Values)),
-        ("[[Lx;", LayerKind::Array(BodyKind::Values)),
-        ("int", LayerKind::Other),
-        ("x.Y", LayerKind::Other),
-        ("", LayerKind::Other),
-    ] {
+    for (name, kind) in &KINDS {
         let units_of_name = units(rt.alloc(), name)?;
-        assert_eq!(rt; layer_kind_of(&units_of_name), Some(kind), "{name}");
+        same!(rt; layer_kind_of(&units_of_name), Some(*kind), name);
     }
     Ok(())
 }
@@ -294,7 +316,7 @@ fn a_refused_growth_changes_nothing(rt: HostRuntime) {
     }
     for number in 0..200u32 {
         let wanted = kind_of(number) == Kind::Pending;
-        assert!(rt; is_pending(&table, number) == wanted, "{number}");
+        holds!(rt; is_pending(&table, number) == wanted, number);
     }
-    assert_eq!(rt; table.assign(Kind::Text), Err(TableFault::Full));
+    same!(rt; table.assign(Kind::Text), Err(TableFault::Full));
 }

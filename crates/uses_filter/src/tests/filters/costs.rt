@@ -15,34 +15,33 @@ const LINES: u32 = 50_000;
 
 const CALLS: u32 = 200_000;
 
-/// Appends an exact name and the end of its piece.
-fn push_name(text: &mut String, number: u32) -> Result<(), AllocError> {
-    write!(text, "com.example.shop.model.Item{number};")?;
-    Ok(())
+/// Appends many exact names, each with the end of its piece, and `!*`.
+fn push_names(text: &mut String) -> Result<(), AllocError> {
+    for number in 0..NAMES {
+        write!(text, "com.example.shop.model.Item{number};")?;
+    }
+    text.push_str("!*")
 }
 
 /// A filter's text of many exact names, and `!*` at its end.
 fn exact_names(alloc: Global) -> Result<String, AllocError> {
     let mut text = String::new(alloc);
-    for number in 0..NAMES {
-        push_name(&mut text, number)?;
-    }
-    text.push_str("!*")?;
+    push_names(&mut text)?;
     Ok(text)
 }
 
-/// Appends a line for one package.
-fn push_line(text: &mut String, number: u32) -> Result<(), AllocError> {
-    write!(text, "com.example.part{number}=shop{number}\n")?;
+/// Appends lines for many packages.
+fn push_lines(text: &mut String) -> Result<(), AllocError> {
+    for number in 0..LINES {
+        write!(text, "com.example.part{number}=shop{number}\n")?;
+    }
     Ok(())
 }
 
 /// A table with many lines.
 fn many_lines(alloc: Global) -> Result<String, AllocError> {
     let mut text = String::new(alloc);
-    for number in 0..LINES {
-        push_line(&mut text, number)?;
-    }
+    push_lines(&mut text)?;
     Ok(text)
 }
 
@@ -55,8 +54,8 @@ fn cost_of_judge(
 ) -> io::Result<u128> {
     let start = Instant::now(rt)?;
     for _ in 0..CALLS {
-        assert!(rt; judge(filter, last) == Some(Verdict::Allowed(1999)));
-        assert!(rt; judge(filter, lacking) == Some(Verdict::Rejected(2000)));
+        holds!(rt; judge(filter, last) == Some(Verdict::Allowed(1999)));
+        holds!(rt; judge(filter, lacking) == Some(Verdict::Rejected(2000)));
     }
     let spent = start.elapsed(rt)?.as_nanos();
     Ok(spent / (2 * u128::from(CALLS)))
@@ -95,7 +94,7 @@ fn timed_table(rt: &impl Clock, alloc: Global, text: &str) -> Result<(Modules, u
 fn assert_last_line(rt: &impl Abort, alloc: Global, table: &Modules) -> Result<(), AllocError> {
     let package = units_of(alloc, "com.example.part49999")?;
     let module = units_of(alloc, "shop49999")?;
-    assert!(rt; table.get(&package) == Some(module.as_slice()));
+    holds!(rt; table.get(&package) == Some(module.as_slice()));
     Ok(())
 }
 

@@ -1,7 +1,7 @@
 //! What is answered where memory runs out. `tools/refuse-allocations` runs these tests with each allocation
 //! refused in turn, and reads the lines that they print.
 use super::{fault_of, modules_fault_of};
-use jser_filter::{Filter, FilterCause, FilterFault, Modules, ModulesCause, ModulesFault};
+use jser_filter::{FilterCause, FilterFault, ModulesCause, ModulesFault};
 use std::test::Fail;
 
 /// One piece of each kind. All but the limit and the empty one allocate.
@@ -10,20 +10,30 @@ const PIECES: &str = "a.B;c.*;d.**;e*;m/f.G;maxdepth=3;;!h.I";
 /// Of these lines the second is empty.
 const LINES: &str = "a=b\n\nc=d\ne=f";
 
+/// Texts of filters, each with the number of its faulty piece.
+const FAULTY_PIECES: [(&str, usize); 3] = [
+    ("a;b;max=1", 2),
+    ("a;b;m/c.*;!d*;max=1", 4),
+    ("max=1", 0),
+];
+
+/// Tables of modules, each with the number of its faulty line.
+const FAULTY_LINES: [(&str, usize); 2] = [("a=b\na=c", 1), ("a=b\nc=d\n\ne=f\na=g", 4)];
+
 /// A refused allocation is reported at its piece, before the faulty one; otherwise the right fault is.
 #[test]
 fn out_of_memory_or_the_fault(rt: HostRuntime) {
-    for (text, faulty) in [("a;b;max=1", 2), ("a;b;m/c.*;!d*;max=1", 4), ("max=1", 0)] {
+    for (text, faulty) in &FAULTY_PIECES {
         match fault_of(rt.alloc(), text) {
             Some(FilterFault { pattern, cause }) if cause == FilterCause::OutOfMemory => {
-                assert!(rt; pattern < faulty || pattern == 0, "{text}");
+                holds!(rt; pattern < *faulty || pattern == 0, text);
             }
             fault => {
                 let wanted = FilterFault {
-                    pattern: faulty,
+                    pattern: *faulty,
                     cause: FilterCause::UnknownLimit,
                 };
-                assert_eq!(rt; fault, Some(wanted), "{text}");
+                same!(rt; fault, Some(wanted), text);
             }
         }
     }
@@ -32,17 +42,17 @@ fn out_of_memory_or_the_fault(rt: HostRuntime) {
 /// The same of a table of modules, at its lines.
 #[test]
 fn out_of_memory_or_the_faulty_line(rt: HostRuntime) {
-    for (text, faulty) in [("a=b\na=c", 1), ("a=b\nc=d\n\ne=f\na=g", 4)] {
+    for (text, faulty) in &FAULTY_LINES {
         match modules_fault_of(rt.alloc(), text) {
             Some(ModulesFault { line, cause }) if cause == ModulesCause::OutOfMemory => {
-                assert!(rt; line < faulty, "{text}");
+                holds!(rt; line < *faulty, text);
             }
             fault => {
                 let wanted = ModulesFault {
-                    line: faulty,
+                    line: *faulty,
                     cause: ModulesCause::PackageTwice,
                 };
-                assert_eq!(rt; fault, Some(wanted), "{text}");
+                same!(rt; fault, Some(wanted), text);
             }
         }
     }
@@ -51,10 +61,10 @@ fn out_of_memory_or_the_faulty_line(rt: HostRuntime) {
 /// Prints the piece for which memory ran out.
 #[test]
 fn refused_piece(rt: HostRuntime) -> Result<(), Fail> {
-    match Filter::parse(rt.alloc(), PIECES) {
-        Ok(_) => eprintln!(rt; "every piece was read")?,
-        Err(fault) => {
-            assert_eq!(rt; fault.cause, FilterCause::OutOfMemory);
+    match fault_of(rt.alloc(), PIECES) {
+        None => eprintln!(rt; "every piece was read")?,
+        Some(fault) => {
+            same!(rt; fault.cause, FilterCause::OutOfMemory);
             let piece = fault.pattern;
             eprintln!(rt; "refused at piece {piece}")?;
         }
@@ -65,10 +75,10 @@ fn refused_piece(rt: HostRuntime) -> Result<(), Fail> {
 /// Prints the line for which memory ran out.
 #[test]
 fn refused_line(rt: HostRuntime) -> Result<(), Fail> {
-    match Modules::parse(rt.alloc(), LINES) {
-        Ok(_) => eprintln!(rt; "every line was read")?,
-        Err(fault) => {
-            assert_eq!(rt; fault.cause, ModulesCause::OutOfMemory);
+    match modules_fault_of(rt.alloc(), LINES) {
+        None => eprintln!(rt; "every line was read")?,
+        Some(fault) => {
+            same!(rt; fault.cause, ModulesCause::OutOfMemory);
             let line = fault.line;
             eprintln!(rt; "refused at line {line}")?;
         }

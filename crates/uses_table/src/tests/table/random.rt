@@ -127,9 +127,9 @@ fn compare_layer(rt: &impl Abort, table: &Table, number: u32, index: usize, mark
 /// Compares an entry with what the model says of it.
 fn compare_entry(rt: &impl Abort, table: &Table, number: u32, expected: &Expected) {
     match expected {
-        Expected::Text => assert!(rt; matches!(table.get(number), Some(Entry::Text))),
-        Expected::Other => assert!(rt; matches!(table.get(number), Some(Entry::Other))),
-        Expected::Pending => assert!(rt; is_pending(table, number)),
+        Expected::Text => holds!(rt; matches!(table.get(number), Some(Entry::Text))),
+        Expected::Other => holds!(rt; matches!(table.get(number), Some(Entry::Other))),
+        Expected::Pending => holds!(rt; is_pending(table, number)),
         Expected::Closed(chain) => compare_chain(rt, table, number, chain.as_slice()),
     }
 }
@@ -144,12 +144,28 @@ fn close_both(
     mark: Mark,
     parent: Option<usize>,
 ) -> Result<(), Fail> {
+    close_in_table(rt, alloc, table, number, mark, parent)?;
+    let chain = chain_under(alloc, expected.as_slice(), parent, mark)?;
+    if let Some(entry) = expected.get_mut(number) {
+        *entry = Expected::Closed(chain);
+    }
+    Ok(())
+}
+
+/// Adds a layer of this mark under that parent, to the table.
+fn close_in_table(
+    rt: &impl Abort,
+    alloc: Global,
+    table: &mut Table,
+    number: usize,
+    mark: Mark,
+    parent: Option<usize>,
+) -> Result<(), Fail> {
     let own = u32::try_from(number)?;
     let above = match parent {
         None => None,
         Some(parent) => Some(u32::try_from(parent)?),
     };
-    let chain = chain_under(alloc, expected.as_slice(), parent, mark)?;
     let codes = [b'L'; 2];
     let layer = make_layer(
         alloc,
@@ -157,10 +173,7 @@ fn close_both(
         mark.flags,
         &codes[..mark.codes.min(2)],
     )?;
-    assert!(rt; try_close(table, own, layer, above));
-    if let Some(entry) = expected.get_mut(number) {
-        *entry = Expected::Closed(chain);
-    }
+    assert!(rt; try_close(table, own, layer, above), "number {number}");
     Ok(())
 }
 
@@ -175,10 +188,10 @@ fn assign_both(
     let number = expected.len();
     let answer = table.assign(kind);
     if number == room {
-        assert_eq!(rt; answer, Err(TableFault::Full));
+        same!(rt; answer, Err(TableFault::Full));
         return Ok(());
     }
-    assert_eq!(rt; answer, Ok(u32::try_from(number)?));
+    same!(rt; answer, Ok(u32::try_from(number)?));
     expected.push(match kind {
         Kind::Text => Expected::Text,
         Kind::Other => Expected::Other,
@@ -204,20 +217,35 @@ fn add_both(
     close_both(rt, rt.alloc(), table, expected, number, mark, parent)
 }
 
-#[test]
-fn long_random_chains(rt: HostRuntime) -> Result<(), Fail> {
+/// Adds 2400 random layers to the table and to the model.
+fn add_many(
+    rt: &(impl Abort + AllocGlobal),
+    table: &mut Table,
+    expected: &mut Vec<Expected>,
+) -> Result<(), Fail> {
     let mut random = Random(7);
-    let mut table = Table::new(rt.alloc(), 3000);
-    let mut expected = Vec::new(rt.alloc());
     for _ in 0..2400 {
-        add_both(&rt, &mut random, &mut table, &mut expected)?;
+        add_both(rt, &mut random, table, expected)?;
     }
+    Ok(())
+}
+
+/// Compares some of these entries, and the last ten.
+fn compare_some(rt: &impl Abort, table: &Table, expected: &[Expected]) -> Result<(), Fail> {
     for (number, entry) in expected.iter().enumerate() {
         if number % 97 == 0 || number >= 2390 {
-            compare_entry(&rt, &table, u32::try_from(number)?, entry);
+            compare_entry(rt, table, u32::try_from(number)?, entry);
         }
     }
     Ok(())
+}
+
+#[test]
+fn long_random_chains(rt: HostRuntime) -> Result<(), Fail> {
+    let mut table = Table::new(rt.alloc(), 3000);
+    let mut expected = Vec::new(rt.alloc());
+    add_many(&rt, &mut table, &mut expected)?;
+    compare_some(&rt, &table, expected.as_slice())
 }
 
 /// How many handles there may be at once in the test below.
@@ -269,7 +297,7 @@ fn compare_any(
     table: &Table,
     expected: &[Expected],
 ) -> Result<(), Fail> {
-    assert_eq!(rt; table.count() as usize, expected.len());
+    same!(rt; table.count() as usize, expected.len());
     if let Some(number) = random_number(random, expected) {
         if let Some(entry) = expected.get(number) {
             compare_entry(rt, table, u32::try_from(number)?, entry);
@@ -278,16 +306,25 @@ fn compare_any(
     Ok(())
 }
 
-#[test]
-fn random_operations(rt: HostRuntime) -> Result<(), Fail> {
+/// Does 3000 things that are chosen at random, and compares an entry after each.
+fn operate_often(
+    rt: &(impl Abort + AllocGlobal),
+    table: &mut Table,
+    expected: &mut Vec<Expected>,
+) -> Result<(), Fail> {
     let mut random = Random(11);
-    let mut table = Table::new(rt.alloc(), 200);
-    let mut expected: Vec<Expected> = Vec::new(rt.alloc());
     for _ in 0..3000 {
-        operate(&rt, &mut random, &mut table, &mut expected)?;
-        compare_any(&rt, &mut random, &table, expected.as_slice())?;
+        operate(rt, &mut random, table, expected)?;
+        compare_any(rt, &mut random, table, expected.as_slice())?;
     }
     Ok(())
+}
+
+#[test]
+fn random_operations(rt: HostRuntime) -> Result<(), Fail> {
+    let mut table = Table::new(rt.alloc(), 200);
+    let mut expected: Vec<Expected> = Vec::new(rt.alloc());
+    operate_often(&rt, &mut table, &mut expected)
 }
 
 /// The same number of classes, all with nothing to read, under one another.
@@ -351,18 +388,26 @@ fn cost_of_next_filled(
     Ok(spent.as_nanos() / u128::from(CALLS))
 }
 
+/// How many classes the long chain has whose cost is told.
+const CLASSES: u32 = 60_000;
+
+/// The nanoseconds of a call of `layer` and of one of `next_filled`, in the long chain of this table.
+fn costs_of_chain(rt: &(impl Abort + Clock), table: &Table) -> io::Result<(u128, u128)> {
+    let own = CLASSES - 1;
+    assert!(rt; is_closed(table, own));
+    assert!(rt; table.layers(own) == CLASSES as usize);
+    let mut random = Random(3);
+    let layer = cost_of_layer(rt, &mut random, table, own, CLASSES)?;
+    let next = cost_of_next_filled(rt, &mut random, table, own, CLASSES)?;
+    Ok((layer, next))
+}
+
 /// What a chain of 60,000 empty classes costs: the times go to standard error.
 #[test]
 fn cost_of_a_long_chain(rt: HostRuntime) -> Result<(), Fail> {
-    const CLASSES: u32 = 60_000;
     let mut table = Table::new(rt.alloc(), CLASSES);
     empty_chain(&rt, rt.alloc(), &mut table, CLASSES)?;
-    let own = CLASSES - 1;
-    assert!(rt; is_closed(&table, own));
-    assert_eq!(rt; table.layers(own), CLASSES as usize);
-    let mut random = Random(3);
-    let layer = cost_of_layer(&rt, &mut random, &table, own, CLASSES)?;
-    let next = cost_of_next_filled(&rt, &mut random, &table, own, CLASSES)?;
+    let (layer, next) = costs_of_chain(&rt, &table)?;
     eprintln!(rt; "layer: {layer} ns a call; next_filled: {next} ns a call")?;
     Ok(())
 }

@@ -140,15 +140,21 @@ fn compare_sections(
     classes: &[Plain],
     number: usize,
 ) -> Result<(), Fail> {
+    let number_in_table = u32::try_from(number)?;
     let filled = filled_classes(alloc, classes, number)?;
-    let Class::Closed(chain) = table.class_at(u32::try_from(number)?) else {
-        return Err("no closed class".into());
+    compare_with_filled(rt, table, number_in_table, &filled);
+    Ok(())
+}
+
+/// Compares the sections of an object of the class with this number with the filled classes of its chain.
+fn compare_with_filled(rt: &impl Abort, table: &Table, number: u32, filled: &[Plain]) {
+    let Class::Closed(chain) = table.class_at(number) else {
+        panic!(rt; "{number} is no closed class");
     };
     match table.sections(chain) {
-        Some(sections) => compare_each(rt, table, sections, &filled),
-        None => assert!(rt; filled.is_empty()),
+        Some(sections) => compare_each(rt, table, sections, filled),
+        None => assert!(rt; filled.is_empty(), "number {number}"),
     }
-    Ok(())
 }
 
 /// Compares the sections with the filled classes, in order.
@@ -193,6 +199,20 @@ fn full_class(parent: Option<usize>) -> Plain {
     }
 }
 
+/// Closes 100,000 classes, each under the one that stands so many numbers before it.
+fn close_full_classes(
+    rt: &(impl Abort + AllocGlobal),
+    table: &mut Table,
+    classes: &mut Vec<Plain>,
+    step: usize,
+) -> Result<(), Fail> {
+    for number in 0..100_000usize {
+        let class = full_class(number.checked_sub(step));
+        add(rt, rt.alloc(), table, classes, class)?;
+    }
+    Ok(())
+}
+
 /// Closes 100,000 classes, each under the one that stands so many numbers before it, and compares the sections of some.
 fn compare_full_classes(
     rt: &(impl Abort + AllocGlobal),
@@ -201,12 +221,19 @@ fn compare_full_classes(
 ) -> Result<(), Fail> {
     let mut table = Table::new(rt.alloc(), 100_000);
     let mut classes = Vec::new(rt.alloc());
-    for number in 0..100_000usize {
-        let class = full_class(number.checked_sub(step));
-        add(rt, rt.alloc(), &mut table, &mut classes, class)?;
-    }
+    close_full_classes(rt, &mut table, &mut classes, step)?;
+    compare_some(rt, &table, &classes, compared)
+}
+
+/// Compares the sections of the classes with these numbers.
+fn compare_some(
+    rt: &(impl Abort + AllocGlobal),
+    table: &Table,
+    classes: &[Plain],
+    compared: &[usize],
+) -> Result<(), Fail> {
     for number in compared {
-        compare_sections(rt, rt.alloc(), &table, &classes, *number)?;
+        compare_sections(rt, rt.alloc(), table, classes, *number)?;
     }
     Ok(())
 }
@@ -221,13 +248,13 @@ fn sections_of_chains_closed_by_turns(rt: HostRuntime) -> Result<(), Fail> {
     compare_full_classes(&rt, 3, &[0, 2, 49_999, 99_998, 99_999])
 }
 
-/// Closes up to 60 classes, each under one before it or under none, and compares the sections of all.
-fn compare_random_classes(
+/// Closes up to 60 classes, each under one before it or under none.
+fn close_random_classes(
     rt: &(impl Abort + AllocGlobal),
     random: &mut Random,
     table: &mut Table,
+    classes: &mut Vec<Plain>,
 ) -> Result<(), Fail> {
-    let mut classes = Vec::new(rt.alloc());
     for number in 0..(1 + random.below(60)) as usize {
         let parent = match random.below(4) {
             0 if number > 0 => Some(random.below(number as u64) as usize),
@@ -235,24 +262,53 @@ fn compare_random_classes(
             _ => number.checked_sub(1),
         };
         let class = random_class(random, parent);
-        add(rt, rt.alloc(), table, &mut classes, class)?;
+        add(rt, rt.alloc(), table, classes, class)?;
     }
+    Ok(())
+}
+
+/// Closes random classes, and compares the sections of all.
+fn compare_random_classes(
+    rt: &(impl Abort + AllocGlobal),
+    random: &mut Random,
+    table: &mut Table,
+) -> Result<(), Fail> {
+    let mut classes = Vec::new(rt.alloc());
+    close_random_classes(rt, random, table, &mut classes)?;
+    compare_all(rt, table, &classes)
+}
+
+/// Compares the sections of all classes.
+fn compare_all(
+    rt: &(impl Abort + AllocGlobal),
+    table: &Table,
+    classes: &[Plain],
+) -> Result<(), Fail> {
     for number in 0..classes.len() {
-        compare_sections(rt, rt.alloc(), table, &classes, number)?;
+        compare_sections(rt, rt.alloc(), table, classes, number)?;
+    }
+    Ok(())
+}
+
+/// Compares random classes in so many rounds, each in the table that the round before it left empty.
+fn compare_rounds(
+    rt: &(impl Abort + AllocGlobal),
+    table: &mut Table,
+    rounds: u32,
+) -> Result<(), Fail> {
+    let mut random = Random(23);
+    for round in 0..rounds {
+        compare_random_classes(rt, &mut random, table)?;
+        table.reset();
+        same!(rt; table.count(), 0, format_args!("round {round}"));
     }
     Ok(())
 }
 
 #[test]
 fn sections_of_random_chains(rt: HostRuntime) -> Result<(), Fail> {
-    let mut random = Random(23);
     let mut table = Table::new(rt.alloc(), 1000);
-    for round in 0..300u32 {
-        compare_random_classes(&rt, &mut random, &mut table)?;
-        table.reset();
-        assert_eq!(rt; table.count(), 0, "round {round}");
-    }
-    Ok(())
+    compare_rounds(&rt, &mut table, 300)
 }
 
 /// A table with a text, an object, and a class whose superclass has not been read.
@@ -264,18 +320,20 @@ fn three_entries(alloc: Global) -> Result<Table, Fail> {
     Ok(table)
 }
 
-/// What a number names, as a class.
+/// What each number names in the table of the test below, as a class.
+const CLASSES: [(u32, Class); 5] = [
+    (0, Class::NoClass),
+    (1, Class::NoClass),
+    (2, Class::Open),
+    (3, Class::NotThere),
+    (u32::MAX, Class::NotThere),
+];
+
 #[test]
 fn class_at(rt: HostRuntime) -> Result<(), Fail> {
     let table = three_entries(rt.alloc())?;
-    for (number, class) in [
-        (0, Class::NoClass),
-        (1, Class::NoClass),
-        (2, Class::Open),
-        (3, Class::NotThere),
-        (u32::MAX, Class::NotThere),
-    ] {
-        assert_eq!(rt; table.class_at(number), class, "number {number}");
+    for (number, class) in &CLASSES {
+        same!(rt; table.class_at(*number), *class, format_args!("number {number}"));
     }
     Ok(())
 }
@@ -286,13 +344,18 @@ fn class_of_an_array(rt: HostRuntime) -> Result<(), Fail> {
     let mut table = three_entries(rt.alloc())?;
     let doubles = LayerKind::Array(BodyKind::Prim(b'D'));
     let layer = make_layer(rt.alloc(), doubles, 0x06, &[])?;
-    assert!(rt; try_close(&mut table, 2, layer, None));
+    holds!(rt; try_close(&mut table, 2, layer, None));
+    compare_doubles(&rt, &table);
+    Ok(())
+}
+
+/// What the table tells of that class.
+fn compare_doubles(rt: &impl Abort, table: &Table) {
     let Class::Closed(chain) = table.class_at(2) else {
-        return Err("no closed class".into());
+        panic!(rt; "no closed class");
     };
     assert_eq!(rt; table.chain_fit(chain, Purpose::Array), Fit::Fits);
     assert_eq!(rt; table.element_size(chain), Some(8));
     assert!(rt; table.is_external(chain));
     assert!(rt; table.sections(chain).is_none());
-    Ok(())
 }
