@@ -2,6 +2,7 @@
 ghost use Rattle.std.specs.Prelude.{◌≡◌, ◌^◌, ◌-◌, ◌==◌, min, get_or, if◌then◌else◌};
 ghost use Rattle.jser_verdict.specs.Gates.{pass, rejected, unmatched};
 
+use crate::tests::asserted::same;
 use crate::tests::{answer_under, totals};
 use jser_reader::{Answer, Gate, OpenGate, Reader, Reason, Refusal, Stop, Totals};
 use std::alloc::AllocGlobal;
@@ -95,10 +96,9 @@ fn assert_refused(
         reason,
     };
     for size in [1, 3, bytes.len()] {
-        assert_eq!(rt;
-            answer_under(rt.alloc(), gate, bytes, size),
-            Err(Stop::Refused(refusal))
-        );
+        let found = answer_under(rt.alloc(), gate, bytes, size);
+        let text = format_args!("{size} bytes a piece");
+        same(rt, &found, &Err(Stop::Refused(refusal)), text);
     }
     Ok(())
 }
@@ -111,7 +111,13 @@ fn assert_accepted(
     totals: Totals,
 ) -> Result<(), Fail> {
     for size in [1, 3, bytes.len()] {
-        assert_eq!(rt; answer_under(rt.alloc(), gate, bytes, size), Ok(totals));
+        let found = answer_under(rt.alloc(), gate, bytes, size);
+        same(
+            rt,
+            &found,
+            &Ok(totals),
+            format_args!("{size} bytes a piece"),
+        );
     }
     Ok(())
 }
@@ -213,14 +219,14 @@ fn reject_at_name_end(rt: HostRuntime) -> Result<(), Fail> {
     let mut reader = Reader::new(rt.alloc(), rejects(b'j'));
     let (name, _) = ARRAY_LIST.split_at(26);
     for byte in name.chunks(1) {
-        assert!(rt; reader.next(byte).is_ok());
+        holds!(rt; reader.next(byte).is_ok());
     }
     let refusal = Refusal {
         from_byte: 6,
         to_byte: 27,
         reason: Reason::ClassRejected,
     };
-    assert_eq!(rt; reader.next(b"\x74"), Err(Stop::Refused(refusal)));
+    same!(rt; reader.next(b"\x74"), Err(Stop::Refused(refusal)));
     Ok(())
 }
 
@@ -259,6 +265,6 @@ fn handle_space_tie(rt: HostRuntime) -> Result<(), Fail> {
 
 #[test]
 fn greatest_limits(rt: HostRuntime) {
-    assert_eq!(rt; OpenGate.max_bytes(), 1_099_511_627_776);
-    assert_eq!(rt; OpenGate.max_depth(), 65_535);
+    same!(rt; OpenGate.max_bytes(), 1_099_511_627_776);
+    same!(rt; OpenGate.max_depth(), 65_535);
 }

@@ -1,6 +1,7 @@
 //! To be run with each allocation refused in turn: a reader answers the right counts, or out of memory and then, to
 //! each call, that it is spent.
 
+use crate::tests::asserted::same;
 use crate::tests::totals;
 use jser_reader::{OpenGate, Reader, Step, Stop};
 use std::alloc::AllocGlobal;
@@ -12,13 +13,19 @@ fn reads(rt: &(impl Abort + AllocGlobal), size: usize) -> bool {
     let mut reader = Reader::new(rt.alloc(), OpenGate);
     for piece in LINKED_PAIR.chunks(size.max(1)) {
         if let Err(stop) = reader.skip(piece) {
-            assert_eq!(rt; stop, Stop::OutOfMemory);
-            assert_eq!(rt; reader.skip(&[0x70]), Err(Stop::Spent));
-            assert_eq!(rt; reader.finish(), Err(Stop::Spent));
+            same(rt, &stop, &Stop::OutOfMemory, "out of memory");
+            same(rt, &reader.skip(&[0x70]), &Err(Stop::Spent), "then spent");
+            same(rt, &reader.finish(), &Err(Stop::Spent), "and at the end");
             return false;
         }
     }
-    assert_eq!(rt; reader.finish(), Ok(totals(69, 2, 5, 3, 4)));
+    let answer = reader.finish();
+    same(
+        rt,
+        &answer,
+        &Ok(totals(69, 2, 5, 3, 4)),
+        "all of the stream",
+    );
     true
 }
 
@@ -43,6 +50,6 @@ fn raw_without_memory(rt: HostRuntime) {
         return;
     }
     for _ in 0..100 {
-        assert!(rt; matches!(reader.next(&[0x55]), Ok(Step::Item { used: 1, .. })));
+        holds!(rt; matches!(reader.next(&[0x55]), Ok(Step::Item { used: 1, .. })));
     }
 }
