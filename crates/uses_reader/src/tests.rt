@@ -68,6 +68,11 @@ fn answer_under<G: Gate + Drop>(
     size: usize,
 ) -> Result<Totals, Stop> {
     let mut reader = Reader::new(alloc, gate);
+    answer_from(&mut reader, bytes, size)
+}
+
+/// What this reader answers to the bytes in pieces of this size.
+fn answer_from<G: Gate>(reader: &mut Reader<G>, bytes: &[u8], size: usize) -> Result<Totals, Stop> {
     for piece in bytes.chunks(size.max(1)) {
         reader.skip(piece)?;
     }

@@ -1,7 +1,7 @@
 //! To be run with each allocation refused in turn: a reader answers the right counts, or out of memory and then, to
 //! each call, that it is spent.
 
-use crate::tests::asserted::same;
+use crate::tests::asserted::{holds, same};
 use crate::tests::totals;
 use jser_reader::{OpenGate, Reader, Step, Stop};
 use std::alloc::AllocGlobal;
@@ -10,7 +10,11 @@ use test_support::streams::LINKED_PAIR;
 
 /// Reads the stream in pieces of this size; whether there was memory.
 fn reads(rt: &(impl Abort + AllocGlobal), size: usize) -> bool {
-    let mut reader = Reader::new(rt.alloc(), OpenGate);
+    reads_by(rt, &mut Reader::new(rt.alloc(), OpenGate), size)
+}
+
+/// The same by this reader, which is new.
+fn reads_by(rt: &impl Abort, reader: &mut Reader<OpenGate>, size: usize) -> bool {
     for piece in LINKED_PAIR.chunks(size.max(1)) {
         if let Err(stop) = reader.skip(piece) {
             same(rt, &stop, &Stop::OutOfMemory, "out of memory");
@@ -45,11 +49,18 @@ const INT_ARRAY_FRONT: &[u8] =
 #[test]
 fn raw_without_memory(rt: HostRuntime) {
     let mut reader = Reader::new(rt.alloc(), OpenGate);
-    if reader.skip(INT_ARRAY_FRONT).is_err() {
+    if reader.skip(INT_ARRAY_FRONT).is_ok() {
+        takes_raw_bytes(&rt, &mut reader);
+    } else {
         let _ = println!(rt; "refused");
-        return;
     }
-    for _ in 0..100 {
-        holds!(rt; matches!(reader.next(&[0x55]), Ok(Step::Item { used: 1, .. })));
+}
+
+/// The reader takes a hundred bytes of raw values, one at a time.
+fn takes_raw_bytes(rt: &impl Abort, reader: &mut Reader<OpenGate>) {
+    for count in 0..100 {
+        let step = reader.next(&[0x55]);
+        let taken = matches!(step, Ok(Step::Item { used: 1, .. }));
+        holds(rt, taken, format_args!("a byte is taken after {count}"));
     }
 }
