@@ -4,6 +4,7 @@
 //! reading.
 ghost use Rattle.std.specs.Prelude.{true};
 
+use crate::tests::asserted::same;
 use jser_check::{CheckFault, Options, Reason, Refusal, Report, Stop, check_bytes, check_reader};
 use jser_filter::Filter;
 use jser_prim::{Failed, FromRead, Source};
@@ -12,6 +13,7 @@ use std::process::Abort;
 use std::test::Fail;
 use test_support::Pieces;
 
+mod asserted;
 mod cuts;
 mod devices;
 mod example;
@@ -87,6 +89,12 @@ fn digit_of(byte: u8) -> Option<u8> {
 /// The bytes of a stream that is written down.
 fn stream(alloc: Global, text: &str) -> Result<Vec<u8>, AllocError> {
     let mut bytes = Vec::new(alloc);
+    push_written(&mut bytes, text)?;
+    Ok(bytes)
+}
+
+/// Puts what is written down behind the bytes.
+fn push_written(bytes: &mut Vec<u8>, text: &str) -> Result<(), AllocError> {
     let mut quoted = false;
     let mut high = None;
     for byte in text.bytes() {
@@ -104,7 +112,15 @@ fn stream(alloc: Global, text: &str) -> Result<Vec<u8>, AllocError> {
             };
         }
     }
-    Ok(bytes)
+    Ok(())
+}
+
+/// Puts so many copies of one byte behind the bytes.
+fn push_copies(bytes: &mut Vec<u8>, byte: u8, count: usize) -> Result<(), AllocError> {
+    for _ in 0..count {
+        bytes.push(byte)?;
+    }
+    Ok(())
 }
 
 fn report(bytes: u64, contents: u64, refs: u64, depth: u64, handles: u64) -> Report {
@@ -147,13 +163,14 @@ fn assert_answer(
     answer: Result<Report, Stop>,
 ) {
     let found = check_bytes(rt.alloc(), bytes, filter, options);
-    assert_eq!(rt; found, answer, "{name}");
+    same(rt, &found, &answer, name);
     let answer = answer.map_err(CheckFault::Stop);
     let whole = check_reader(rt.alloc(), &mut FromRead::new(bytes), filter, options);
-    assert_eq!(rt; whole, answer, "{name}");
+    same(rt, &whole, &answer, name);
     for most in [1, 3] {
         let pieced = answer_in_pieces(rt.alloc(), bytes, most, filter, options);
-        assert_eq!(rt; pieced, answer, "{name}: {most} bytes a call");
+        let text = format_args!("{name}: {most} bytes a call");
+        same(rt, &pieced, &answer, text);
     }
 }
 

@@ -1,10 +1,33 @@
 //! Streams from the format, whole and in pieces, and what the reader answers to them.
 
+use crate::tests::asserted::same;
 use jser_reader::{Gate, OpenGate, Reader, Reason, Refusal, Stop, Totals};
 use std::alloc::{AllocError, AllocGlobal, Global};
 use std::process::Abort;
 use std::test::Fail;
 
+/// Stops the test unless a fact holds: `holds!(rt; fact)`, or `holds!(rt; fact, text)` with the name of what is looked at.
+macro_rules! holds {
+    ($rt:expr; $fact:expr $(,)?) => {
+        $crate::tests::asserted::holds(&$rt, $fact, stringify!($fact))
+    };
+    ($rt:expr; $fact:expr, $text:expr $(,)?) => {
+        $crate::tests::asserted::holds(&$rt, $fact, $text)
+    };
+}
+
+/// Stops the test unless two values are the same: `same!(rt; found, wanted)`, or `same!(rt; found, wanted, text)` with the
+/// name of what is looked at.
+macro_rules! same {
+    ($rt:expr; $found:expr, $wanted:expr $(,)?) => {
+        $crate::tests::asserted::same(&$rt, &$found, &$wanted, stringify!($found))
+    };
+    ($rt:expr; $found:expr, $wanted:expr, $text:expr $(,)?) => {
+        $crate::tests::asserted::same(&$rt, &$found, &$wanted, $text)
+    };
+}
+
+mod asserted;
 mod example;
 mod gates;
 mod memory;
@@ -45,6 +68,11 @@ fn answer_under<G: Gate + Drop>(
     size: usize,
 ) -> Result<Totals, Stop> {
     let mut reader = Reader::new(alloc, gate);
+    answer_from(&mut reader, bytes, size)
+}
+
+/// What this reader answers to the bytes in pieces of this size.
+fn answer_from<G: Gate>(reader: &mut Reader<G>, bytes: &[u8], size: usize) -> Result<Totals, Stop> {
     for piece in bytes.chunks(size.max(1)) {
         reader.skip(piece)?;
     }
@@ -58,7 +86,8 @@ fn assert_accepted(
     totals: Totals,
 ) -> Result<(), Fail> {
     for size in [1, 3, bytes.len()] {
-        assert_eq!(rt; answer_of(rt.alloc(), bytes, size), Ok(totals));
+        let text = format_args!("{bytes:?}, {size} bytes a piece");
+        same(rt, &answer_of(rt.alloc(), bytes, size), &Ok(totals), text);
     }
     Ok(())
 }
@@ -77,10 +106,9 @@ fn assert_refused(
         reason,
     };
     for size in [1, 3, bytes.len()] {
-        assert_eq!(rt;
-            answer_of(rt.alloc(), bytes, size),
-            Err(Stop::Refused(refusal))
-        );
+        let found = answer_of(rt.alloc(), bytes, size);
+        let text = format_args!("{bytes:?}, {size} bytes a piece");
+        same(rt, &found, &Err(Stop::Refused(refusal)), text);
     }
     Ok(())
 }

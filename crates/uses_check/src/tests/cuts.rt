@@ -1,5 +1,6 @@
 //! Streams that are cut after each byte, and streams with one byte replaced.
 
+use crate::tests::asserted::{holds, same};
 use crate::tests::{
     ABC_NULL_REF, ARRAY_LIST, ENUM_CONSTANT, INT_ARRAY, LAX, LINKED_PAIR, PROXY, RESET_EPOCHS,
     Wanted, answer_in_pieces, assert_answer, stream, wanted_answer,
@@ -26,26 +27,38 @@ fn assert_cuts(rt: &(impl Abort + AllocGlobal), filter: &Filter, text: &str, byt
     for cut in 0..bytes.len() {
         let (front, _) = bytes.split_at(cut);
         let answer = check_bytes(rt.alloc(), front, filter, LAX);
-        assert!(rt; is_cut_at(answer, cut), "{text} cut after {cut} bytes");
+        holds(
+            rt,
+            is_cut_at(answer, cut),
+            format_args!("{text} cut after {cut} bytes"),
+        );
         assert_answer(rt, text, front, filter, LAX, answer);
     }
+}
+
+/// The streams that are cut.
+const CUT_STREAMS: [&str; 7] = [
+    ABC_NULL_REF,
+    LINKED_PAIR,
+    INT_ARRAY,
+    ENUM_CONSTANT,
+    PROXY,
+    RESET_EPOCHS,
+    ARRAY_LIST,
+];
+
+/// The same of each of the streams.
+fn assert_each_cut(rt: &(impl Abort + AllocGlobal), filter: &Filter) -> Result<(), Fail> {
+    for text in CUT_STREAMS {
+        assert_cuts(rt, filter, text, &stream(rt.alloc(), text)?);
+    }
+    Ok(())
 }
 
 #[test]
 fn cuts(rt: HostRuntime) -> Result<(), Fail> {
     let filter = Filter::parse(rt.alloc(), "")?;
-    for text in [
-        ABC_NULL_REF,
-        LINKED_PAIR,
-        INT_ARRAY,
-        ENUM_CONSTANT,
-        PROXY,
-        RESET_EPOCHS,
-        ARRAY_LIST,
-    ] {
-        assert_cuts(&rt, &filter, text, &stream(rt.alloc(), text)?);
-    }
-    Ok(())
+    assert_each_cut(&rt, &filter)
 }
 
 /// The row `linked-pair-cuts`: where the linked pair may end, and where its fields are cut.
@@ -58,15 +71,20 @@ const LINKED_PAIR_CUTS: [(usize, Wanted); 6] = [
     (68, Err((Reason::Truncated, 65, 68))),
 ];
 
+/// Each of these cuts of the bytes of the linked pair is answered as it is wanted.
+fn assert_linked_pair_cuts(rt: &(impl Abort + AllocGlobal), filter: &Filter, bytes: &[u8]) {
+    for (cut, wanted) in LINKED_PAIR_CUTS {
+        let (front, _) = bytes.split_at(bytes.len().min(cut));
+        let answer = wanted_answer(wanted);
+        assert_answer(rt, "linked-pair-cuts", front, filter, LAX, answer);
+    }
+}
+
 #[test]
 fn linked_pair_cuts(rt: HostRuntime) -> Result<(), Fail> {
     let bytes = stream(rt.alloc(), LINKED_PAIR)?;
     let filter = Filter::parse(rt.alloc(), "")?;
-    for (cut, wanted) in LINKED_PAIR_CUTS {
-        let (front, _) = bytes.as_slice().split_at(bytes.len().min(cut));
-        let answer = wanted_answer(wanted);
-        assert_answer(&rt, "linked-pair-cuts", front, &filter, LAX, answer);
-    }
+    assert_linked_pair_cuts(&rt, &filter, &bytes);
     Ok(())
 }
 
@@ -80,13 +98,17 @@ fn assert_decided(
     let end = bytes.len().min(refusal.to_byte as usize);
     let (front, _) = bytes.split_at(end.saturating_sub(1));
     let answer = check_bytes(rt.alloc(), front, filter, LAX);
-    assert!(rt; is_cut_at(answer, front.len()));
+    holds(
+        rt,
+        is_cut_at(answer, front.len()),
+        "is cut before the deciding byte",
+    );
     let (decided, _) = bytes.split_at(end);
     let mut other = decided.to_vec(rt.alloc())?;
     for tail in [0x00, 0x70, 0xFF] {
         other.push(tail)?;
         let answer = check_bytes(rt.alloc(), &other, filter, LAX);
-        assert_eq!(rt; answer, Err(Stop::Refused(refusal)));
+        same(rt, &answer, &Err(Stop::Refused(refusal)), "with a tail");
     }
     Ok(())
 }
@@ -101,17 +123,15 @@ fn assert_agree(
     let answer = check_bytes(rt.alloc(), bytes, filter, LAX);
     for size in [1, 3] {
         let pieced = answer_in_pieces(rt.alloc(), bytes, size, filter, LAX);
-        assert_eq!(rt; pieced, answer.map_err(CheckFault::Stop));
+        let text = format_args!("{size} bytes a call");
+        same(rt, &pieced, &answer.map_err(CheckFault::Stop), text);
     }
     match answer {
         Err(Stop::Refused(refusal)) if refusal.reason != Reason::Truncated => {
             assert_decided(rt, filter, bytes, refusal)
         }
         Err(Stop::Refused(_)) | Ok(_) => Ok(()),
-        Err(_) => {
-            assert!(rt; false, "out of memory");
-            Ok(())
-        }
+        Err(_) => panic!(rt; "out of memory"),
     }
 }
 
@@ -123,11 +143,21 @@ fn assert_replaced(
     at: usize,
 ) -> Result<(), Fail> {
     let mut replaced = bytes.to_vec(rt.alloc())?;
+    assert_each_byte(rt, filter, &mut replaced, at)
+}
+
+/// Each byte in turn, at this place of the bytes.
+fn assert_each_byte(
+    rt: &(impl Abort + AllocGlobal),
+    filter: &Filter,
+    bytes: &mut [u8],
+    at: usize,
+) -> Result<(), Fail> {
     for other in 0..=u8::MAX {
-        if let Some(byte) = replaced.get_mut(at) {
+        if let Some(byte) = bytes.get_mut(at) {
             *byte = other;
         }
-        assert_agree(rt, filter, &replaced)?;
+        assert_agree(rt, filter, bytes)?;
     }
     Ok(())
 }
@@ -144,11 +174,17 @@ fn assert_each_replaced(
     Ok(())
 }
 
+/// Each byte of each of the streams.
+fn assert_streams_replaced(rt: &(impl Abort + AllocGlobal), filter: &Filter) -> Result<(), Fail> {
+    for text in [LINKED_PAIR, ENUM_CONSTANT, ARRAY_LIST] {
+        let bytes = stream(rt.alloc(), text)?;
+        assert_each_replaced(rt, filter, &bytes)?;
+    }
+    Ok(())
+}
+
 #[test]
 fn replaced_bytes(rt: HostRuntime) -> Result<(), Fail> {
     let filter = Filter::parse(rt.alloc(), "")?;
-    for text in [LINKED_PAIR, ENUM_CONSTANT, ARRAY_LIST] {
-        assert_each_replaced(&rt, &filter, &stream(rt.alloc(), text)?)?;
-    }
-    Ok(())
+    assert_streams_replaced(&rt, &filter)
 }

@@ -1,6 +1,7 @@
 //! Sources that fail, and how many bytes are taken.
 
-use crate::tests::{LAX, LINKED_PAIR, LINKED_PAIR_TAIL, refused, stream};
+use crate::tests::asserted::{holds, same};
+use crate::tests::{LAX, LINKED_PAIR, LINKED_PAIR_TAIL, push_copies, refused, stream};
 use jser_check::{CheckFault, Reason, Report, check_reader};
 use jser_filter::Filter;
 use jser_prim::Source;
@@ -20,42 +21,62 @@ fn assert_failing(
 ) {
     let mut source = Pieces::failing(bytes, most);
     let found = check_reader(rt.alloc(), &mut source, filter, LAX);
-    assert_eq!(rt; found, answer);
-    assert!(rt; source.failed() == (found == Err(CheckFault::ReadFault)));
+    let count = bytes.len();
+    same(
+        rt,
+        &found,
+        &answer,
+        format_args!("fails after {count} bytes"),
+    );
+    let told = found == Err(CheckFault::ReadFault);
+    same(
+        rt,
+        &source.failed(),
+        &told,
+        format_args!("has failed after {count} bytes"),
+    );
+}
+
+/// A failed read after any number of these bytes is told.
+fn assert_failing_anywhere(rt: &(impl Abort + AllocGlobal), filter: &Filter, bytes: &[u8]) {
+    for count in 0..70 {
+        for most in [1, 1000] {
+            let (front, _) = bytes.split_at(count.min(bytes.len()));
+            assert_failing(rt, filter, front, most, Err(CheckFault::ReadFault));
+        }
+    }
 }
 
 /// A read that fails after any number of bytes is told, and never taken for the end.
 #[test]
 fn read_fails_anywhere(rt: HostRuntime) -> Result<(), Fail> {
-    let filter = Filter::parse(rt.alloc(), "")?;
     let bytes = stream(rt.alloc(), LINKED_PAIR)?;
-    for count in 0..70 {
-        for most in [1, 1000] {
-            let (front, _) = bytes.as_slice().split_at(count.min(bytes.len()));
-            assert_failing(&rt, &filter, front, most, Err(CheckFault::ReadFault));
-        }
-    }
+    let filter = Filter::parse(rt.alloc(), "")?;
+    assert_failing_anywhere(&rt, &filter, &bytes);
     Ok(())
 }
 
 /// A refusal that the bytes before a failed read decide is told in place of the failure.
 #[test]
 fn read_fails_after_refusal(rt: HostRuntime) -> Result<(), Fail> {
-    let filter = Filter::parse(rt.alloc(), "")?;
     let bytes = stream(rt.alloc(), LINKED_PAIR_TAIL)?;
-    let (front, _) = bytes.as_slice().split_at(bytes.len().min(69));
-    assert_failing(&rt, &filter, front, 7, Err(CheckFault::ReadFault));
-    let answer = Err(CheckFault::Stop(refused(Reason::BadTag, 69, 70)));
-    assert_failing(&rt, &filter, &bytes, 7, answer);
+    let filter = Filter::parse(rt.alloc(), "")?;
+    assert_refusal_is_told(&rt, &filter, &bytes);
     Ok(())
+}
+
+/// The first 69 of the bytes decide nothing, and the 70th is refused.
+fn assert_refusal_is_told(rt: &(impl Abort + AllocGlobal), filter: &Filter, bytes: &[u8]) {
+    let (front, _) = bytes.split_at(bytes.len().min(69));
+    assert_failing(rt, filter, front, 7, Err(CheckFault::ReadFault));
+    let answer = Err(CheckFault::Stop(refused(Reason::BadTag, 69, 70)));
+    assert_failing(rt, filter, bytes, 7, answer);
 }
 
 /// `LINKED_PAIR_TAIL`, and 200,000 zeros.
 fn tail_and_zeros(alloc: Global) -> Result<Vec<u8>, AllocError> {
     let mut bytes = stream(alloc, LINKED_PAIR_TAIL)?;
-    for _ in 0..200_000 {
-        bytes.push(0)?;
-    }
+    push_copies(&mut bytes, 0, 200_000)?;
     Ok(bytes)
 }
 
@@ -64,15 +85,16 @@ fn assert_tail_is_left(rt: &(impl Abort + AllocGlobal), filter: &Filter, bytes: 
     let mut source = Pieces::new(bytes, bytes.len());
     let found = check_reader(rt.alloc(), &mut source, filter, LAX);
     let answer = Err(CheckFault::Stop(refused(Reason::BadTag, 69, 70)));
-    assert_eq!(rt; found, answer);
+    same(rt, &found, &answer, "a refusal, and zeros");
     let taken = bytes.len().saturating_sub(source.left());
-    assert!(rt; taken <= 65_605, "{taken} bytes");
+    holds(rt, taken <= 65_605, format_args!("{taken} bytes are few"));
 }
 
 /// After a refusal nothing is read but the rest of the read that has the deciding byte.
 #[test]
 fn tail_then_zeros(rt: HostRuntime) -> Result<(), Fail> {
+    let bytes = tail_and_zeros(rt.alloc())?;
     let filter = Filter::parse(rt.alloc(), "")?;
-    assert_tail_is_left(&rt, &filter, &tail_and_zeros(rt.alloc())?);
+    assert_tail_is_left(&rt, &filter, &bytes);
     Ok(())
 }

@@ -17,15 +17,22 @@ fn holds_only_utilities(alloc: Global, bytes: &[u8]) -> Result<Result<bool, Stop
 }
 // end
 
+use crate::tests::asserted::same;
 use crate::tests::{ARRAY_LIST, LINKED_PAIR, stream};
+use std::alloc::AllocGlobal;
+use std::process::Abort;
 use std::test::Fail;
+
+/// What the example answers of the stream that is written down.
+fn assert_utilities(rt: &(impl Abort + AllocGlobal), text: &str, wanted: bool) -> Result<(), Fail> {
+    let bytes = stream(rt.alloc(), text)?;
+    let found = holds_only_utilities(rt.alloc(), &bytes);
+    same(rt, &found, &Ok(Ok(wanted)), text);
+    Ok(())
+}
 
 #[test]
 fn utilities(rt: HostRuntime) -> Result<(), Fail> {
-    let alloc = rt.alloc();
-    let list = stream(alloc, ARRAY_LIST)?;
-    assert!(rt; matches!(holds_only_utilities(alloc, &list), Ok(Ok(true))));
-    let pair = stream(alloc, LINKED_PAIR)?;
-    assert!(rt; matches!(holds_only_utilities(alloc, &pair), Ok(Ok(false))));
-    Ok(())
+    assert_utilities(&rt, ARRAY_LIST, true)?;
+    assert_utilities(&rt, LINKED_PAIR, false)
 }

@@ -1,5 +1,6 @@
 //! The worked streams under filters, tables of modules and limits.
 
+use crate::tests::asserted::same;
 use crate::tests::{
     ARRAY_LIST, ENUM_CONSTANT, INT_ARRAY, LAX, LINKED_PAIR, PROXY, STRICT, Wanted, assert_row,
 };
@@ -181,11 +182,27 @@ const WITH_MODULES: [Row; 4] = [
 
 /// The filter of a text, with a table of modules if there is one.
 fn filter_with(alloc: Global, text: &str, modules: Option<&str>) -> Result<Filter, Fail> {
-    let filter = Filter::parse(alloc, text)?;
     match modules {
-        Some(modules) => Ok(filter.with_modules(Modules::parse(alloc, modules)?)),
-        None => Ok(filter),
+        Some(modules) => filter_with_modules(alloc, text, modules),
+        None => Ok(Filter::parse(alloc, text)?),
     }
+}
+
+/// The filter of a text, with this table of modules.
+fn filter_with_modules(alloc: Global, text: &str, modules: &str) -> Result<Filter, Fail> {
+    let modules = Modules::parse(alloc, modules)?;
+    Ok(Filter::parse(alloc, text)?.with_modules(modules))
+}
+
+/// Both checks answer to this row what it wants, with the table of modules of this text, if there is one.
+fn assert_row_with(
+    rt: &(impl Abort + AllocGlobal),
+    modules: Option<&str>,
+    (name, text, stream, options, wanted): &Row,
+) -> Result<(), Fail> {
+    let filter = filter_with(rt.alloc(), text, modules)?;
+    assert_row(rt, name, stream, &filter, *options, *wanted)?;
+    Ok(())
 }
 
 /// Both checks answer to each row what it wants, with the table of modules of this text, if there is one.
@@ -194,9 +211,8 @@ fn assert_rows(
     modules: Option<&str>,
     rows: &[Row],
 ) -> Result<(), Fail> {
-    for (name, text, stream, options, wanted) in rows {
-        let filter = filter_with(rt.alloc(), text, modules)?;
-        assert_row(rt, name, stream, &filter, *options, *wanted)?;
+    for row in rows {
+        assert_row_with(rt, modules, row)?;
     }
     Ok(())
 }
@@ -214,19 +230,24 @@ fn rows_under_filters(rt: HostRuntime) -> Result<(), Fail> {
 fn assert_limits(
     rt: &(impl Abort + AllocGlobal),
     text: &str,
-    [bytes, depth, refs, array]: [u64; 4],
+    limits: [u64; 4],
 ) -> Result<(), Fail> {
     let filter = Filter::parse(rt.alloc(), text)?;
-    let gate = FilterGate::new(&filter, LAX);
+    assert_limits_under(rt, text, &filter, limits);
+    Ok(())
+}
+
+/// The same of the filter that this text is.
+fn assert_limits_under(rt: &impl Abort, text: &str, filter: &Filter, limits: [u64; 4]) {
+    let gate = FilterGate::new(filter, LAX);
     let found = [
         gate.max_bytes(),
         u64::from(gate.max_depth()),
         gate.max_refs(),
         u64::from(gate.max_array()),
     ];
-    assert_eq!(rt; found, [bytes, depth, refs, array], "{text}");
-    assert_eq!(rt; gate.max_handles(), 2_139_226_112, "{text}");
-    Ok(())
+    same(rt, &found, &limits, text);
+    same(rt, &gate.max_handles(), &2_139_226_112, text);
 }
 
 /// A filter, and its limits as a gate.
@@ -246,20 +267,25 @@ fn gate_limits(rt: HostRuntime) -> Result<(), Fail> {
     Ok(())
 }
 
-#[test]
-fn gate_names(rt: HostRuntime) -> Result<(), Fail> {
-    let filter = Filter::parse(
-        rt.alloc(),
-        "a;!b;maxdepth=70000;maxbytes=3;maxrefs=4;maxarray=5",
-    )?;
+/// What the gate of this filter answers to names of one unit.
+fn assert_names(rt: &impl Abort, filter: &Filter) {
     for (unit, options, answer) in [
         (0x61, STRICT, Answer::Pass),
         (0x62, STRICT, Answer::Rejected),
         (0x63, STRICT, Answer::Unmatched),
         (0x63, LAX, Answer::Pass),
     ] {
-        let gate = FilterGate::new(&filter, options);
-        assert_eq!(rt; gate.name(&[unit]), answer, "{unit}");
+        let gate = FilterGate::new(filter, options);
+        same(rt, &gate.name(&[unit]), &answer, unit);
     }
+}
+
+#[test]
+fn gate_names(rt: HostRuntime) -> Result<(), Fail> {
+    let filter = Filter::parse(
+        rt.alloc(),
+        "a;!b;maxdepth=70000;maxbytes=3;maxrefs=4;maxarray=5",
+    )?;
+    assert_names(&rt, &filter);
     Ok(())
 }

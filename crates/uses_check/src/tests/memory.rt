@@ -1,6 +1,7 @@
 //! What is answered where memory runs out: `tools/refuse-allocations` runs these tests with each allocation
 //! refused in turn.
 
+use crate::tests::asserted::holds;
 use crate::tests::{ARRAY_LIST, ENUM_CONSTANT, LAX, LINKED_PAIR, report, stream};
 use jser_check::{CheckFault, Report, Stop, check_bytes, check_reader};
 use jser_filter::Filter;
@@ -19,14 +20,32 @@ fn setting(alloc: Global, text: &str) -> Result<(Vec<u8>, Filter), AllocError> {
 
 /// Both checks answer these counts, or that memory ran out.
 fn assert_counts_or_out_of_memory(rt: &(impl Abort + AllocGlobal), text: &str, counts: Report) {
-    let Ok((bytes, filter)) = setting(rt.alloc(), text) else {
-        return;
-    };
-    let answer = check_bytes(rt.alloc(), &bytes, &filter, LAX);
-    assert!(rt; answer == Ok(counts) || answer == Err(Stop::OutOfMemory));
-    let mut source = FromRead::new(bytes.as_slice());
-    let answer = check_reader(rt.alloc(), &mut source, &filter, LAX);
-    assert!(rt; answer == Ok(counts) || answer == Err(CheckFault::Stop(Stop::OutOfMemory)));
+    if let Ok((bytes, filter)) = setting(rt.alloc(), text) {
+        assert_both_answer(rt, &bytes, &filter, counts);
+    }
+}
+
+/// Both checks of the bytes answer these counts, or that memory ran out.
+fn assert_both_answer(
+    rt: &(impl Abort + AllocGlobal),
+    bytes: &[u8],
+    filter: &Filter,
+    counts: Report,
+) {
+    let answer = check_bytes(rt.alloc(), bytes, filter, LAX);
+    let right = answer == Ok(counts) || answer == Err(Stop::OutOfMemory);
+    holds(
+        rt,
+        right,
+        format_args!("{counts:?} or out of memory: {answer:?}"),
+    );
+    let answer = check_reader(rt.alloc(), &mut FromRead::new(bytes), filter, LAX);
+    let right = answer == Ok(counts) || answer == Err(CheckFault::Stop(Stop::OutOfMemory));
+    holds(
+        rt,
+        right,
+        format_args!("{counts:?} or out of memory: {answer:?}"),
+    );
 }
 
 #[test]

@@ -1,5 +1,6 @@
 //! Arrays inside arrays, as deep as the cap allows and one deeper.
 
+use crate::tests::asserted::same;
 use crate::tests::{LAX, answer_in_pieces, refused, report};
 use jser_check::{CheckFault, Reason, Report, Stop, check_bytes};
 use jser_filter::Filter;
@@ -16,10 +17,26 @@ fn assert_nest(
 ) -> Result<(), Fail> {
     let bytes = nest(rt.alloc(), arrays)?;
     let filter = Filter::parse(rt.alloc(), "")?;
-    assert_eq!(rt; check_bytes(rt.alloc(), &bytes, &filter, LAX), answer);
-    let pieced = answer_in_pieces(rt.alloc(), &bytes, 4096, &filter, LAX);
-    assert_eq!(rt; pieced, answer.map_err(CheckFault::Stop));
+    assert_both_answer(rt, &bytes, &filter, answer);
     Ok(())
+}
+
+/// Both checks answer this to the bytes.
+fn assert_both_answer(
+    rt: &(impl Abort + AllocGlobal),
+    bytes: &[u8],
+    filter: &Filter,
+    answer: Result<Report, Stop>,
+) {
+    let found = check_bytes(rt.alloc(), bytes, filter, LAX);
+    same(rt, &found, &answer, "the check of a slice");
+    let pieced = answer_in_pieces(rt.alloc(), bytes, 4096, filter, LAX);
+    same(
+        rt,
+        &pieced,
+        &answer.map_err(CheckFault::Stop),
+        "4096 bytes a call",
+    );
 }
 
 #[test]

@@ -2,7 +2,7 @@
 
 use crate::tests::{
     ABC_NULL_REF, ARRAY_LIST, ENUM_CONSTANT, INT_ARRAY, LAX, LINKED_PAIR, LINKED_PAIR_TAIL, PROXY,
-    RESET_EPOCHS, Wanted, assert_answer, assert_row, report, stream,
+    RESET_EPOCHS, Wanted, assert_answer, assert_row, push_copies, report, stream,
 };
 use jser_check::Reason;
 use jser_filter::Filter;
@@ -231,8 +231,17 @@ const REFUSED_CLASSES: [Row; 14] = [
 /// Both checks answer to each row what it wants.
 fn assert_rows(rt: &(impl Abort + AllocGlobal), rows: &[Row]) -> Result<(), Fail> {
     let filter = Filter::parse(rt.alloc(), "")?;
+    assert_rows_under(rt, &filter, rows)
+}
+
+/// Both checks answer to each row under this filter what it wants.
+fn assert_rows_under(
+    rt: &(impl Abort + AllocGlobal),
+    filter: &Filter,
+    rows: &[Row],
+) -> Result<(), Fail> {
     for (name, text, wanted) in rows {
-        assert_row(rt, name, text, &filter, LAX, *wanted)?;
+        assert_row(rt, name, text, filter, LAX, *wanted)?;
     }
     Ok(())
 }
@@ -248,31 +257,37 @@ fn refused_streams(rt: HostRuntime) -> Result<(), Fail> {
     assert_rows(&rt, &REFUSED_CLASSES)
 }
 
-/// A block of so many bytes is accepted, with so many bytes in all.
+/// The head of a block, how many bytes are in it, and how many bytes there are in all.
+type Block = (&'static str, usize, u64);
+
+const BLOCKS: [Block; 2] = [
+    ("ACED0005 77FF", 255, 261),
+    ("ACED0005 7A00000100", 256, 265),
+];
+
+/// The block is accepted, with so many bytes in all.
 fn assert_block(
     rt: &(impl Abort + AllocGlobal),
     filter: &Filter,
-    head: &str,
-    size: usize,
-    all: u64,
+    (head, size, all): Block,
 ) -> Result<(), Fail> {
     let mut bytes = stream(rt.alloc(), head)?;
-    for _ in 0..size {
-        bytes.push(0x2A)?;
-    }
+    push_copies(&mut bytes, 0x2A, size)?;
     let counts = Ok(report(all, 1, 0, 0, 0));
     assert_answer(rt, head, &bytes, filter, LAX, counts);
+    Ok(())
+}
+
+/// Each of the blocks is accepted.
+fn assert_blocks(rt: &(impl Abort + AllocGlobal), filter: &Filter) -> Result<(), Fail> {
+    for block in BLOCKS {
+        assert_block(rt, filter, block)?;
+    }
     Ok(())
 }
 
 #[test]
 fn blocks(rt: HostRuntime) -> Result<(), Fail> {
     let filter = Filter::parse(rt.alloc(), "")?;
-    for (head, size, all) in [
-        ("ACED0005 77FF", 255, 261),
-        ("ACED0005 7A00000100", 256, 265),
-    ] {
-        assert_block(&rt, &filter, head, size, all)?;
-    }
-    Ok(())
+    assert_blocks(&rt, &filter)
 }

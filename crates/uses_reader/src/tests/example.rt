@@ -16,5 +16,5 @@ fn counts_of(alloc: Global, first: &[u8], second: &[u8]) -> Result<Totals, Stop>
 #[test]
 fn a_stream_in_two_pieces(rt: HostRuntime) {
     let counts = counts_of(rt.alloc(), &[0xAC, 0xED, 0x00], &[0x05, 0x70]);
-    assert_eq!(rt; counts, Ok(crate::tests::totals(5, 1, 1, 1, 0)));
+    same!(rt; counts, Ok(crate::tests::totals(5, 1, 1, 1, 0)));
 }

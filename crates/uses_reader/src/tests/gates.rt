@@ -2,6 +2,7 @@
 ghost use Rattle.std.specs.Prelude.{◌≡◌, ◌^◌, ◌-◌, ◌==◌, min, get_or, if◌then◌else◌};
 ghost use Rattle.jser_verdict.specs.Gates.{pass, rejected, unmatched};
 
+use crate::tests::asserted::{holds, same};
 use crate::tests::{answer_under, totals};
 use jser_reader::{Answer, Gate, OpenGate, Reader, Reason, Refusal, Stop, Totals};
 use std::alloc::AllocGlobal;
@@ -95,10 +96,9 @@ fn assert_refused(
         reason,
     };
     for size in [1, 3, bytes.len()] {
-        assert_eq!(rt;
-            answer_under(rt.alloc(), gate, bytes, size),
-            Err(Stop::Refused(refusal))
-        );
+        let found = answer_under(rt.alloc(), gate, bytes, size);
+        let text = format_args!("{size} bytes a piece");
+        same(rt, &found, &Err(Stop::Refused(refusal)), text);
     }
     Ok(())
 }
@@ -111,7 +111,13 @@ fn assert_accepted(
     totals: Totals,
 ) -> Result<(), Fail> {
     for size in [1, 3, bytes.len()] {
-        assert_eq!(rt; answer_under(rt.alloc(), gate, bytes, size), Ok(totals));
+        let found = answer_under(rt.alloc(), gate, bytes, size);
+        same(
+            rt,
+            &found,
+            &Ok(totals),
+            format_args!("{size} bytes a piece"),
+        );
     }
     Ok(())
 }
@@ -209,19 +215,24 @@ fn name_unmatched(rt: HostRuntime) -> Result<(), Fail> {
 
 /// Fed byte by byte, the call that takes the last byte of the name refuses it, and none before.
 #[test]
-fn reject_at_name_end(rt: HostRuntime) -> Result<(), Fail> {
+fn reject_at_name_end(rt: HostRuntime) {
     let mut reader = Reader::new(rt.alloc(), rejects(b'j'));
+    assert_rejected_at_name_end(&rt, &mut reader);
+}
+
+/// The reader takes the name up to its last byte, and with that it refuses the name.
+fn assert_rejected_at_name_end(rt: &impl Abort, reader: &mut Reader<Limited>) {
     let (name, _) = ARRAY_LIST.split_at(26);
     for byte in name.chunks(1) {
-        assert!(rt; reader.next(byte).is_ok());
+        holds(rt, reader.next(byte).is_ok(), "no refusal before the end");
     }
     let refusal = Refusal {
         from_byte: 6,
         to_byte: 27,
         reason: Reason::ClassRejected,
     };
-    assert_eq!(rt; reader.next(b"\x74"), Err(Stop::Refused(refusal)));
-    Ok(())
+    let found = reader.next(b"\x74");
+    same(rt, &found, &Err(Stop::Refused(refusal)), "the last byte");
 }
 
 /// A gate under which an epoch has so many handles at most.
@@ -259,6 +270,6 @@ fn handle_space_tie(rt: HostRuntime) -> Result<(), Fail> {
 
 #[test]
 fn greatest_limits(rt: HostRuntime) {
-    assert_eq!(rt; OpenGate.max_bytes(), 1_099_511_627_776);
-    assert_eq!(rt; OpenGate.max_depth(), 65_535);
+    same!(rt; OpenGate.max_bytes(), 1_099_511_627_776);
+    same!(rt; OpenGate.max_depth(), 65_535);
 }

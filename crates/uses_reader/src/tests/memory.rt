@@ -1,6 +1,7 @@
 //! To be run with each allocation refused in turn: a reader answers the right counts, or out of memory and then, to
 //! each call, that it is spent.
 
+use crate::tests::asserted::{holds, same};
 use crate::tests::totals;
 use jser_reader::{OpenGate, Reader, Step, Stop};
 use std::alloc::AllocGlobal;
@@ -9,16 +10,26 @@ use test_support::streams::LINKED_PAIR;
 
 /// Reads the stream in pieces of this size; whether there was memory.
 fn reads(rt: &(impl Abort + AllocGlobal), size: usize) -> bool {
-    let mut reader = Reader::new(rt.alloc(), OpenGate);
+    reads_by(rt, &mut Reader::new(rt.alloc(), OpenGate), size)
+}
+
+/// The same by this reader, which is new.
+fn reads_by(rt: &impl Abort, reader: &mut Reader<OpenGate>, size: usize) -> bool {
     for piece in LINKED_PAIR.chunks(size.max(1)) {
         if let Err(stop) = reader.skip(piece) {
-            assert_eq!(rt; stop, Stop::OutOfMemory);
-            assert_eq!(rt; reader.skip(&[0x70]), Err(Stop::Spent));
-            assert_eq!(rt; reader.finish(), Err(Stop::Spent));
+            same(rt, &stop, &Stop::OutOfMemory, "out of memory");
+            same(rt, &reader.skip(&[0x70]), &Err(Stop::Spent), "then spent");
+            same(rt, &reader.finish(), &Err(Stop::Spent), "and at the end");
             return false;
         }
     }
-    assert_eq!(rt; reader.finish(), Ok(totals(69, 2, 5, 3, 4)));
+    let answer = reader.finish();
+    same(
+        rt,
+        &answer,
+        &Ok(totals(69, 2, 5, 3, 4)),
+        "all of the stream",
+    );
     true
 }
 
@@ -38,11 +49,18 @@ const INT_ARRAY_FRONT: &[u8] =
 #[test]
 fn raw_without_memory(rt: HostRuntime) {
     let mut reader = Reader::new(rt.alloc(), OpenGate);
-    if reader.skip(INT_ARRAY_FRONT).is_err() {
+    if reader.skip(INT_ARRAY_FRONT).is_ok() {
+        takes_raw_bytes(&rt, &mut reader);
+    } else {
         let _ = println!(rt; "refused");
-        return;
     }
-    for _ in 0..100 {
-        assert!(rt; matches!(reader.next(&[0x55]), Ok(Step::Item { used: 1, .. })));
+}
+
+/// The reader takes a hundred bytes of raw values, one at a time.
+fn takes_raw_bytes(rt: &impl Abort, reader: &mut Reader<OpenGate>) {
+    for count in 0..100 {
+        let step = reader.next(&[0x55]);
+        let taken = matches!(step, Ok(Step::Item { used: 1, .. }));
+        holds(rt, taken, format_args!("a byte is taken after {count}"));
     }
 }

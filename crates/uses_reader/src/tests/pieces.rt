@@ -1,5 +1,6 @@
 //! Items, states and cut streams, piece by piece.
 
+use crate::tests::asserted::{holds, same};
 use crate::tests::{answer_of, totals};
 use jser_reader::{Item, OpenGate, Reader, Reason, Refusal, Step, Stop, Whole};
 use std::alloc::Global;
@@ -23,60 +24,67 @@ fn assert_item(
     item: Item,
     used: usize,
 ) {
-    assert_eq!(rt; reader.next(piece), Ok(Step::Item { item, used }));
+    same(
+        rt,
+        &reader.next(piece),
+        &Ok(Step::Item { item, used }),
+        format_args!("{item:?}"),
+    );
 }
 
 #[test]
 fn pieces_of_three(rt: HostRuntime) {
     let mut reader = Reader::new(rt.alloc(), OpenGate);
-    assert_eq!(rt; reader.next(b"\xAC\xED\x00"), Ok(Step::More));
+    same!(rt; reader.next(b"\xAC\xED\x00"), Ok(Step::More));
     assert_item(&rt, &mut reader, b"\x05\x74\x00", Item::Header, 1);
     assert_item(&rt, &mut reader, b"\x74\x00", Item::Tag(0x74), 1);
-    assert_eq!(rt; reader.next(b"\x00"), Ok(Step::More));
+    same!(rt; reader.next(b"\x00"), Ok(Step::More));
     assert_item(&rt, &mut reader, b"\x03ab", Item::TextLength(3), 1);
     assert_item(&rt, &mut reader, b"ab", Item::TextPart(b"ab"), 2);
     assert_item(&rt, &mut reader, b"c\x70\x71", Item::TextPart(b"c"), 1);
     assert_item(&rt, &mut reader, b"\x70\x71", Item::Tag(0x70), 1);
     assert_item(&rt, &mut reader, b"\x71", Item::Tag(0x71), 1);
-    assert_eq!(rt; reader.next(b"\x00\x7E\x00"), Ok(Step::More));
+    same!(rt; reader.next(b"\x00\x7E\x00"), Ok(Step::More));
     assert_item(&rt, &mut reader, b"\x00", Item::Handle(0x7E_0000), 1);
-    assert_eq!(rt; reader.finish(), Ok(totals(16, 3, 3, 1, 1)));
-    assert_eq!(rt; reader.finish(), Err(Stop::Spent));
-    assert_eq!(rt; reader.next(b""), Err(Stop::Spent));
-    assert_eq!(rt; reader.next(b"\x70"), Err(Stop::Spent));
+    same!(rt; reader.finish(), Ok(totals(16, 3, 3, 1, 1)));
+    same!(rt; reader.finish(), Err(Stop::Spent));
+    same!(rt; reader.next(b""), Err(Stop::Spent));
+    same!(rt; reader.next(b"\x70"), Err(Stop::Spent));
 }
 
 #[test]
 fn refused_for_good(rt: HostRuntime) {
     let mut reader = Reader::new(rt.alloc(), OpenGate);
     let wrong = refused(Reason::BadHeader, 0, 1);
-    assert_eq!(rt; reader.next(b"\x00"), Err(wrong));
-    assert_eq!(rt; reader.next(b"\xAC"), Err(wrong));
-    assert_eq!(rt; reader.skip(b""), Err(wrong));
-    assert_eq!(rt; reader.finish(), Err(wrong));
+    same!(rt; reader.next(b"\x00"), Err(wrong));
+    same!(rt; reader.next(b"\xAC"), Err(wrong));
+    same!(rt; reader.skip(b""), Err(wrong));
+    same!(rt; reader.finish(), Err(wrong));
 }
 
 #[test]
 fn finish_at_once(rt: HostRuntime) {
     let mut reader = Reader::new(rt.alloc(), OpenGate);
-    assert_eq!(rt; reader.next(b""), Ok(Step::More));
-    assert_eq!(rt; reader.finish(), Err(refused(Reason::Truncated, 0, 0)));
+    same!(rt; reader.next(b""), Ok(Step::More));
+    same!(rt; reader.finish(), Err(refused(Reason::Truncated, 0, 0)));
 }
 
 /// The stream cut after so many bytes: Truncated, but where only the header is left or the first object.
 fn assert_cut(rt: &impl Abort, alloc: Global, cut: usize) {
     let (front, _) = LINKED_PAIR.split_at(cut.min(LINKED_PAIR.len()));
-    match (cut, answer_of(alloc, front, 1)) {
-        (4, answer) => assert_eq!(rt; answer, Ok(totals(4, 0, 0, 0, 0))),
-        (64, answer) => assert_eq!(rt; answer, Ok(totals(64, 1, 4, 3, 4))),
+    let answer = answer_of(alloc, front, 1);
+    let text = format_args!("cut after {cut} bytes");
+    match (cut, answer) {
+        (4, answer) => same(rt, &answer, &Ok(totals(4, 0, 0, 0, 0)), &text),
+        (64, answer) => same(rt, &answer, &Ok(totals(64, 1, 4, 3, 4)), &text),
         (_, Err(Stop::Refused(refusal))) => {
-            assert_eq!(rt; refusal.reason, Reason::Truncated);
-            assert_eq!(rt; refusal.to_byte, cut as u64);
-            assert!(rt; cut > 3 || refusal.from_byte == 0);
-            assert!(rt; cut != 10 || refusal.from_byte == 6);
-            assert!(rt; cut < 65 || refusal.from_byte == 65);
+            same(rt, &refusal.reason, &Reason::Truncated, &text);
+            same(rt, &refusal.to_byte, &(cut as u64), &text);
+            holds(rt, cut > 3 || refusal.from_byte == 0, &text);
+            holds(rt, cut != 10 || refusal.from_byte == 6, &text);
+            holds(rt, cut < 65 || refusal.from_byte == 65, &text);
         }
-        (_, answer) => assert!(rt; answer.is_err(), "accepted after {cut} bytes"),
+        (_, answer) => holds(rt, answer.is_err(), &text),
     }
 }
 
@@ -91,13 +99,13 @@ fn linked_pair_cuts(rt: HostRuntime) {
 #[test]
 fn whole_values(rt: HostRuntime) {
     let mut reader = Reader::new(rt.alloc(), OpenGate);
-    assert_eq!(rt; reader.skip(&[0xAC, 0xED, 0x00, 0x05]), Ok(()));
+    same!(rt; reader.skip(&[0xAC, 0xED, 0x00, 0x05]), Ok(()));
     let text = reader.next_whole(&[0x74, 0x00, 0x01, 0x61]);
-    assert_eq!(rt; text, Ok(Some(Whole::String(&[0x61]))));
+    same!(rt; text, Ok(Some(Whole::String(&[0x61]))));
     let half = reader.next_whole(&[0x71, 0x00, 0x7E]);
-    assert_eq!(rt; half, Ok(None));
+    same!(rt; half, Ok(None));
     let back = reader.next_whole(&[0x71, 0x00, 0x7E, 0x00, 0x00]);
-    assert_eq!(rt; back, Ok(Some(Whole::Reference(0x7E_0000))));
+    same!(rt; back, Ok(Some(Whole::Reference(0x7E_0000))));
 }
 
 /// A stream up to the values of an object with a byte and an int, and the byte.
@@ -111,9 +119,9 @@ const TWO_RAW_VALUES: [u8; 31] = [
 fn raw_values(rt: HostRuntime) {
     let mut reader = Reader::new(rt.alloc(), OpenGate);
     let (class, byte) = TWO_RAW_VALUES.split_at(30);
-    assert_eq!(rt; reader.skip(class), Ok(()));
-    assert_eq!(rt; reader.skip_raws(byte), Some(1));
-    assert_eq!(rt; reader.skip_raws(&[0x00, 0x00, 0x00]), None);
-    assert_eq!(rt; reader.skip_raws(&[0x00, 0x00, 0x00, 0x07, 0x70]), Some(4));
-    assert_eq!(rt; reader.skip_raws(&[0x70]), None);
+    same!(rt; reader.skip(class), Ok(()));
+    same!(rt; reader.skip_raws(byte), Some(1));
+    same!(rt; reader.skip_raws(&[0x00, 0x00, 0x00]), None);
+    same!(rt; reader.skip_raws(&[0x00, 0x00, 0x00, 0x07, 0x70]), Some(4));
+    same!(rt; reader.skip_raws(&[0x70]), None);
 }

@@ -14,12 +14,13 @@ fn content_count(alloc: Global, bytes: &[u8]) -> Result<Option<usize>, Stop> {
 }
 // end
 
+use crate::tests::asserted::same;
+
 #[test]
 fn contents_counted(rt: HostRuntime) {
     let alloc = rt.alloc();
-    assert_eq!(rt;
-        content_count(alloc, &[0xAC, 0xED, 0, 5, 0x70, 0x79]),
-        Ok(Some(2))
-    );
-    assert_eq!(rt; content_count(alloc, &[0xAC, 0xED, 0, 5, 0x78]), Ok(None));
+    let found = content_count(alloc, &[0xAC, 0xED, 0, 5, 0x70, 0x79]);
+    same(&rt, &found, &Ok(Some(2)), "null and a reset");
+    let found = content_count(alloc, &[0xAC, 0xED, 0, 5, 0x78]);
+    same(&rt, &found, &Ok(None), "no tag");
 }

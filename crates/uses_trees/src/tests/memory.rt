@@ -1,5 +1,6 @@
 //! To be run with each allocation refused in turn: the answer is out of memory, or the right one.
 
+use crate::tests::asserted::{holds, same};
 use jser_trees::{OpenGate, Stop, read_all};
 use jser_value::encode;
 use test_support::Compared;
@@ -16,11 +17,11 @@ fn right_or_out_of_memory(rt: HostRuntime) {
     match read_all(rt.alloc(), STREAM, &OpenGate) {
         Ok(contents) => {
             let mut sink = Compared::new(STREAM);
-            assert!(rt; encode(&contents, &mut sink).is_ok());
-            assert!(rt; sink.is_whole());
+            holds(&rt, encode(&contents, &mut sink).is_ok(), "it is written");
+            holds(&rt, sink.is_whole(), "it is written as it was read");
         }
         Err(stop) => {
-            assert_eq!(rt; stop, Stop::OutOfMemory);
+            same(&rt, &stop, &Stop::OutOfMemory, "what stops it");
             let _ = println!(rt; "refused");
         }
     }

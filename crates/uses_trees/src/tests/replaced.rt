@@ -1,7 +1,6 @@
 //! Worked streams with one byte replaced by each other one: what is still read is written as the same bytes.
 
-use crate::tests::writes;
-use jser_trees::{OpenGate, Stop, read_all};
+use crate::tests::{put, writes_what_it_reads};
 use std::alloc::AllocGlobal;
 use std::process::Abort;
 use std::test::Fail;
@@ -10,20 +9,21 @@ use test_support::streams::{ARRAY_LIST, ENUM_CONSTANT, LINKED_PAIR};
 /// Each byte in turn is replaced by each of the 256.
 fn each_replaced(rt: &(impl Abort + AllocGlobal), bytes: &[u8]) -> Result<(), Fail> {
     let mut changed = bytes.to_vec(rt.alloc())?;
+    each_replaced_in(rt, &mut changed, bytes)
+}
+
+/// Each byte in turn is replaced in this copy of the bytes, and put back.
+fn each_replaced_in(
+    rt: &(impl Abort + AllocGlobal),
+    changed: &mut [u8],
+    bytes: &[u8],
+) -> Result<(), Fail> {
     for (place, own) in bytes.iter().enumerate() {
         for byte in 0..=255u8 {
-            if let Some(slot) = changed.get_mut(place) {
-                *slot = byte;
-            }
-            match read_all(rt.alloc(), &changed, &OpenGate) {
-                Ok(contents) => writes(rt, &contents, &changed)?,
-                Err(Stop::Refused(_)) => {}
-                Err(_) => panic!(rt; "no memory"),
-            }
+            put(changed, place, byte);
+            writes_what_it_reads(rt, changed)?;
         }
-        if let Some(slot) = changed.get_mut(place) {
-            *slot = *own;
-        }
+        put(changed, place, *own);
     }
     Ok(())
 }

@@ -1,11 +1,12 @@
 //! Which lists `Contents::new` takes, and what it answers of the others. The lists are worked examples of
 //! the format; deep ones are nested arrays.
 
+use crate::tests::asserted::holds;
 use crate::tests::trees::{
     Build, abc_null_ref, array_list, enum_constant, external_over_serial, int_array, linked_pair,
     plain, proxy, reset_epochs, superclass_first,
 };
-use jser_value::{Body, ClassPlace, Content, Contents, Desc, Value, ValueCause, ValueFault};
+use jser_value::{Body, ClassPlace, Content, Contents, Desc, Value, ValueCause};
 use std::alloc::{AllocError, AllocGlobal, Global};
 use std::process::Abort;
 use std::test::Fail;
@@ -74,6 +75,13 @@ fn take_apart(value: Value, arrays: u32) {
     }
 }
 
+/// Drops a list of nested arrays, with no recursion.
+fn take_list_apart(mut list: Vec<Content>, arrays: u32) {
+    if let Some(Content::Value(value)) = list.pop() {
+        take_apart(value, arrays);
+    }
+}
+
 /// That the answer is right, or out of memory, and that it has the same list.
 fn assert_answer(
     rt: &impl Abort,
@@ -84,12 +92,18 @@ fn assert_answer(
 ) {
     match Contents::new(alloc, list) {
         Ok(contents) => {
-            assert!(rt; cause.is_none());
-            assert!(rt; contents.list() == same);
+            holds(rt, cause.is_none(), "accepted where no cause is wanted");
+            holds(rt, contents.list() == same, "the contents are the list");
         }
         Err(fault) => {
-            assert!(rt; fault.list.as_slice() == same);
-            assert!(rt; cause == Some(fault.cause) || fault.cause == ValueCause::OutOfMemory);
+            holds(rt, fault.list.as_slice() == same, "the list comes back");
+            let right = cause == Some(fault.cause) || fault.cause == ValueCause::OutOfMemory;
+            let found = fault.cause;
+            holds(
+                rt,
+                right,
+                format_args!("{cause:?} or out of memory: {found:?}"),
+            );
         }
     }
 }
@@ -101,7 +115,7 @@ fn assert_accepted(
     list: Build,
 ) -> Result<(), AllocError> {
     let list = list?;
-    assert!(rt; Contents::new(rt.alloc(), list).is_ok(), "{name}");
+    holds(rt, Contents::new(rt.alloc(), list).is_ok(), name);
     Ok(())
 }
 
@@ -123,7 +137,7 @@ fn worked_streams_are_accepted(rt: HostRuntime) -> Result<(), Fail> {
 #[test]
 fn tree_empty(rt: HostRuntime) {
     let alloc = rt.alloc();
-    assert!(rt; Contents::new(alloc, Vec::new(alloc)).is_ok());
+    holds!(rt; Contents::new(alloc, Vec::new(alloc)).is_ok());
 }
 
 #[test]
@@ -201,16 +215,10 @@ fn a_million_arrays_are_too_deep(rt: HostRuntime) -> Result<(), Fail> {
     let alloc = rt.alloc();
     let arrays = 1_000_000;
     match Contents::new(alloc, nest(alloc, arrays, Value::Null)?) {
-        Ok(_contents) => assert!(rt; false),
+        Ok(_contents) => holds!(rt; false, "a million arrays are refused"),
         Err(fault) => {
-            let ValueFault { mut list, cause } = fault;
-            assert_eq!(rt; cause, ValueCause::TooDeep);
-            if let Some(content) = list.pop() {
-                match content {
-                    Content::Value(value) => take_apart(value, arrays),
-                    _other => {}
-                }
-            }
+            same!(rt; fault.cause, ValueCause::TooDeep);
+            take_list_apart(fault.list, arrays);
         }
     }
     Ok(())

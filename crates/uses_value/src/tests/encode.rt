@@ -1,6 +1,7 @@
 //! What goes out of worked streams, to sinks that take all, take little, fail and take nothing.
 ghost use Rattle.std.specs.Prelude.{true};
 
+use super::asserted::{holds, same};
 use super::contents::nest;
 use super::trees::{self, Build};
 use jser_prim::{Failed, Sink, ToWrite};
@@ -40,12 +41,22 @@ fn contents_of(alloc: Global, list: Build) -> Result<Contents, Fail> {
 /// The stream of these contents is these bytes, however the sink takes them.
 fn writes(rt: &(impl Abort + AllocGlobal), list: Build, bytes: &[u8]) -> Result<(), Fail> {
     let contents = contents_of(rt.alloc(), list)?;
-    for most in [1, 1000] {
-        let mut page = Page::new(rt.alloc(), most, 10_000);
-        let count = encode(&contents, &mut page)?;
-        assert!(rt; page.bytes.as_slice() == bytes);
-        assert_eq!(rt; count, bytes.len() as u64);
-    }
+    writes_by(rt, &contents, bytes, 1)?;
+    writes_by(rt, &contents, bytes, 1000)
+}
+
+/// The stream of these contents is these bytes, where the sink takes at most so many a call.
+fn writes_by(
+    rt: &(impl Abort + AllocGlobal),
+    contents: &Contents,
+    bytes: &[u8],
+    most: usize,
+) -> Result<(), Fail> {
+    let mut page = Page::new(rt.alloc(), most, 10_000);
+    let count = encode(contents, &mut page)?;
+    let text = format_args!("{most} bytes a call");
+    same(rt, &page.bytes.as_slice(), &bytes, &text);
+    same(rt, &count, &(bytes.len() as u64), &text);
     Ok(())
 }
 
@@ -72,9 +83,19 @@ fn worked_streams(rt: HostRuntime) -> Result<(), Fail> {
 #[test]
 fn tree_nest_999(rt: HostRuntime) -> Result<(), Fail> {
     let contents = contents_of(rt.alloc(), nest(rt.alloc(), 999, Value::Null))?;
+    has_length(&rt, &contents, 10_010)
+}
+
+/// The stream of these contents has so many bytes.
+fn has_length(
+    rt: &(impl Abort + AllocGlobal),
+    contents: &Contents,
+    length: usize,
+) -> Result<(), Fail> {
     let mut page = Page::new(rt.alloc(), 4096, 20_000);
-    assert_eq!(rt; encode(&contents, &mut page)?, 10_010);
-    assert_eq!(rt; page.bytes.len(), 10_010);
+    let count = encode(contents, &mut page)?;
+    same(rt, &count, &(length as u64), "how many bytes are told");
+    same(rt, &page.bytes.len(), &length, "how many bytes came");
     Ok(())
 }
 
@@ -83,17 +104,23 @@ fn tree_nest_999(rt: HostRuntime) -> Result<(), Fail> {
 fn write_fails_anywhere(rt: HostRuntime) -> Result<(), Fail> {
     let contents = contents_of(rt.alloc(), trees::linked_pair(rt.alloc()))?;
     for written in 0..69 {
-        let fault = Err(EncodeFault::Write {
-            written: written as u64,
-        });
-        let mut page = Page::new(rt.alloc(), 7, written);
-        assert!(rt; encode(&contents, &mut page) == fault, "after {written}");
-        let (front, _) = trees::LINKED_PAIR.split_at(written);
-        assert!(rt; page.bytes.as_slice() == front);
-        let mut stuck = ToWrite::new(Stuck { room: written });
-        assert!(rt; encode(&contents, &mut stuck) == fault, "after {written}");
+        fails_behind(&rt, &contents, written);
     }
     Ok(())
+}
+
+/// Of the linked pair just so many bytes go out to a writer that takes no more.
+fn fails_behind(rt: &(impl Abort + AllocGlobal), contents: &Contents, written: usize) {
+    let fault = Err(EncodeFault::Write {
+        written: written as u64,
+    });
+    let text = format_args!("after {written}");
+    let mut page = Page::new(rt.alloc(), 7, written);
+    same(rt, &encode(contents, &mut page), &fault, &text);
+    let (front, _) = trees::LINKED_PAIR.split_at(written.min(trees::LINKED_PAIR.len()));
+    same(rt, &page.bytes.as_slice(), &front, &text);
+    let mut stuck = ToWrite::new(Stuck { room: written });
+    same(rt, &encode(contents, &mut stuck), &fault, &text);
 }
 
 /// The contents go out as so many bytes, in so many calls.
@@ -102,10 +129,11 @@ fn goes_out_in(
     contents: &Contents,
     bytes: u64,
     calls: usize,
-) -> Result<(), EncodeFault> {
+) -> Result<(), Fail> {
     let mut page = Page::new(rt.alloc(), 10_000, 10_000);
     let count = encode(contents, &mut page)?;
-    assert!(rt; count == bytes && page.calls == calls);
+    same(rt, &count, &bytes, "how many bytes");
+    same(rt, &page.calls, &calls, "how many calls");
     Ok(())
 }
 
@@ -119,14 +147,12 @@ fn long_block(alloc: Global) -> Build {
 #[test]
 fn sensible_pieces(rt: HostRuntime) -> Result<(), Fail> {
     let contents = contents_of(rt.alloc(), trees::linked_pair(rt.alloc()))?;
-    goes_out_in(&rt, &contents, 69, 1)?;
-    Ok(())
+    goes_out_in(&rt, &contents, 69, 1)
 }
 
 /// A long block goes out as it is.
 #[test]
 fn long_block_as_it_is(rt: HostRuntime) -> Result<(), Fail> {
     let contents = contents_of(rt.alloc(), long_block(rt.alloc()))?;
-    goes_out_in(&rt, &contents, 5009, 2)?;
-    Ok(())
+    goes_out_in(&rt, &contents, 5009, 2)
 }

@@ -26,7 +26,7 @@ fn a_list_of_null(rt: HostRuntime) -> Result<(), Fail> {
     let mut page = [0u8; 5];
     let list = vec![in alloc; Content::Value(Value::Null)]?;
     let written = write_list(alloc, list, &mut ToWrite::new(&mut page[..]));
-    assert!(rt; matches!(written, Ok(Ok(5))));
-    assert_eq!(rt; page, *b"\xAC\xED\x00\x05\x70");
+    holds!(rt; matches!(written, Ok(Ok(5))));
+    same!(rt; page, *b"\xAC\xED\x00\x05\x70");
     Ok(())
 }

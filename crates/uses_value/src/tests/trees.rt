@@ -61,6 +61,25 @@ fn one(alloc: Global, value: Value) -> Build {
     Ok(vec![in alloc; Content::Value(value)]?)
 }
 
+/// A list of one object.
+fn one_object(alloc: Global, descr: ClassPlace, sections: Vec<Section>) -> Build {
+    one(alloc, Value::Object { descr, sections })
+}
+
+/// One field of a primitive type.
+fn one_field(alloc: Global, code: u8, name: &str) -> Result<Vec<Field>, AllocError> {
+    let field = field(alloc, code, name, None)?;
+    Ok(vec![in alloc; field]?)
+}
+
+/// A block of these bytes.
+fn block(alloc: Global, bytes: &[u8]) -> Result<Content, AllocError> {
+    Ok(Content::Block {
+        long: false,
+        bytes: bytes.to_vec(alloc)?,
+    })
+}
+
 /// A string, NULL and a reference to the string.
 pub fn abc_null_ref(alloc: Global) -> Build {
     Ok(vec![in alloc;
@@ -72,28 +91,38 @@ pub fn abc_null_ref(alloc: Global) -> Build {
 
 pub const ABC_NULL_REF: &[u8] = b"\xAC\xED\x00\x05\x74\x00\x03abc\x70\x71\x00\x7E\x00\x00";
 
-/// Two linked objects of one class, and a reference to the second.
-pub fn linked_pair(alloc: Global) -> Build {
+/// The class `List`.
+fn list_class(alloc: Global) -> Result<ClassPlace, AllocError> {
     let value = field(alloc, b'I', "value", None)?;
     let next = field(alloc, b'L', "next", Some("LList;"))?;
-    let list = plain(
+    let fields = vec![in alloc; value, next]?;
+    plain(
         alloc,
         "List",
         0x69C8_8A15_4016_AE68,
         2,
-        vec![in alloc; value, next]?,
+        fields,
         ClassPlace::Null,
-    )?;
-    let second = Value::Object {
-        descr: ClassPlace::Back(0),
-        sections: vec![in alloc;
-            section(vec![in alloc; Prim::I(0x13)]?, vec![in alloc; Value::Null]?),
-        ]?,
-    };
-    let first = Value::Object {
-        descr: list,
-        sections: vec![in alloc; section(vec![in alloc; Prim::I(0x11)]?, vec![in alloc; second]?)]?,
-    };
+    )
+}
+
+/// An object of the class `List`.
+fn list_object(
+    alloc: Global,
+    descr: ClassPlace,
+    value: u32,
+    next: Value,
+) -> Result<Value, AllocError> {
+    let values = vec![in alloc; next]?;
+    let prims = vec![in alloc; Prim::I(value)]?;
+    let sections = vec![in alloc; section(prims, values)]?;
+    Ok(Value::Object { descr, sections })
+}
+
+/// Two linked objects of one class, and a reference to the second.
+pub fn linked_pair(alloc: Global) -> Build {
+    let second = list_object(alloc, ClassPlace::Back(0), 0x13, Value::Null)?;
+    let first = list_object(alloc, list_class(alloc)?, 0x11, second)?;
     Ok(vec![in alloc; Content::Value(first), Content::Value(Value::Back(3))]?)
 }
 
@@ -139,36 +168,42 @@ pub const ENUM_CONSTANT: &[u8] =
     b"\xAC\xED\x00\x05\x7E\x72\x00\x01E\x00\x00\x00\x00\x00\x00\x00\x00\x12\x00\x00\x78\
     \x72\x00\x0Ejava.lang.Enum\x00\x00\x00\x00\x00\x00\x00\x00\x12\x00\x00\x78\x70\x74\x00\x01A";
 
-/// A dynamic proxy of the interface `I` with no handler.
-pub fn proxy(alloc: Global) -> Build {
+/// The class `java.lang.reflect.Proxy`.
+fn proxy_parent(alloc: Global) -> Result<ClassPlace, AllocError> {
     let handler = field(
         alloc,
         b'L',
         "h",
         Some("Ljava/lang/reflect/InvocationHandler;"),
     )?;
-    let parent = plain(
+    let fields = vec![in alloc; handler]?;
+    plain(
         alloc,
         "java.lang.reflect.Proxy",
         0xE127_DA20_CC10_43CB,
         2,
-        vec![in alloc; handler]?,
+        fields,
         ClassPlace::Null,
-    )?;
+    )
+}
+
+/// The class of proxies of the interface `I`.
+fn proxy_class(alloc: Global) -> Result<ClassPlace, AllocError> {
+    let parent = proxy_parent(alloc)?;
     let desc = Desc::Proxy {
         interfaces: vec![in alloc; units_of(alloc, "I")?]?,
         notes: Vec::new(alloc),
         parent,
     };
+    Ok(ClassPlace::New(Box::new(alloc, desc)?))
+}
+
+/// A dynamic proxy of the interface `I` with no handler.
+pub fn proxy(alloc: Global) -> Build {
     let above = section(Vec::new(alloc), vec![in alloc; Value::Null]?);
     let own = section(Vec::new(alloc), Vec::new(alloc));
-    one(
-        alloc,
-        Value::Object {
-            descr: ClassPlace::New(Box::new(alloc, desc)?),
-            sections: vec![in alloc; above, own]?,
-        },
-    )
+    let sections = vec![in alloc; above, own]?;
+    one_object(alloc, proxy_class(alloc)?, sections)
 }
 
 pub const PROXY: &[u8] =
@@ -188,86 +223,82 @@ pub fn reset_epochs(alloc: Global) -> Build {
 pub const RESET_EPOCHS: &[u8] =
     b"\xAC\xED\x00\x05\x74\x00\x01a\x79\x74\x00\x01b\x71\x00\x7E\x00\x00";
 
+/// The externalizable class `A`, whose superclass `B` is serializable.
+fn external_class(alloc: Global) -> Result<ClassPlace, AllocError> {
+    let n = one_field(alloc, b'I', "n")?;
+    let parent = plain(alloc, "B", 2, 2, n, ClassPlace::Null)?;
+    plain(alloc, "A", 1, 0x0C, Vec::new(alloc), parent)
+}
+
 /// An externalizable class over a serializable one: one section, an annotation.
 pub fn external_over_serial(alloc: Global) -> Build {
-    let n = field(alloc, b'I', "n", None)?;
-    let parent = plain(alloc, "B", 2, 2, vec![in alloc; n]?, ClassPlace::Null)?;
-    let descr = plain(alloc, "A", 1, 0x0C, Vec::new(alloc), parent)?;
-    let block = Content::Block {
-        long: false,
-        bytes: vec![in alloc; 5u8]?,
-    };
+    let block = block(alloc, &[5])?;
     let written = Section {
         prims: Vec::new(alloc),
         values: Vec::new(alloc),
         notes: Some(vec![in alloc; block]?),
     };
-    one(
-        alloc,
-        Value::Object {
-            descr,
-            sections: vec![in alloc; written]?,
-        },
-    )
+    let sections = vec![in alloc; written]?;
+    one_object(alloc, external_class(alloc)?, sections)
 }
 
 pub const EXTERNAL_OVER_SERIAL: &[u8] =
     b"\xAC\xED\x00\x05\x73\x72\x00\x01A\x00\x00\x00\x00\x00\x00\x00\x01\x0C\x00\x00\x78\
     \x72\x00\x01B\x00\x00\x00\x00\x00\x00\x00\x02\x02\x00\x01I\x00\x01n\x78\x70\x77\x01\x05\x78";
 
-/// An `ArrayList` that holds a string.
-pub fn array_list(alloc: Global) -> Build {
-    let size = field(alloc, b'I', "size", None)?;
-    let descr = plain(
+/// The class `java.util.ArrayList`.
+fn array_list_class(alloc: Global) -> Result<ClassPlace, AllocError> {
+    let size = one_field(alloc, b'I', "size")?;
+    plain(
         alloc,
         "java.util.ArrayList",
         0x7881_D21D_99C7_619D,
         3,
-        vec![in alloc; size]?,
+        size,
         ClassPlace::Null,
-    )?;
-    let block = Content::Block {
-        long: false,
-        bytes: vec![in alloc; 0u8, 0, 0, 1]?,
-    };
+    )
+}
+
+/// The annotation of an `ArrayList` that holds a string.
+fn array_list_notes(alloc: Global) -> Build {
     let held = Content::Value(Value::Text(text(alloc, "a")?));
+    let capacity = block(alloc, &[0, 0, 0, 1])?;
+    Ok(vec![in alloc; capacity, held]?)
+}
+
+/// An `ArrayList` that holds a string.
+pub fn array_list(alloc: Global) -> Build {
+    let notes = array_list_notes(alloc)?;
     let written = Section {
         prims: vec![in alloc; Prim::I(1)]?,
         values: Vec::new(alloc),
-        notes: Some(vec![in alloc; block, held]?),
+        notes: Some(notes),
     };
-    one(
-        alloc,
-        Value::Object {
-            descr,
-            sections: vec![in alloc; written]?,
-        },
-    )
+    let sections = vec![in alloc; written]?;
+    one_object(alloc, array_list_class(alloc)?, sections)
 }
 
 pub const ARRAY_LIST: &[u8] =
     b"\xAC\xED\x00\x05\x73\x72\x00\x13java.util.ArrayList\x78\x81\xD2\x1D\x99\xC7\x61\x9D\x03\x00\x01\
     I\x00\x04size\x78\x70\x00\x00\x00\x01\x77\x04\x00\x00\x00\x01\x74\x00\x01a\x78";
 
+/// The class `B`, whose superclass is `A`.
+fn superclass_first_class(alloc: Global) -> Result<ClassPlace, AllocError> {
+    let b = one_field(alloc, b'B', "b")?;
+    let parent = plain(alloc, "A", 1, 3, b, ClassPlace::Null)?;
+    plain(alloc, "B", 2, 2, one_field(alloc, b'I', "i")?, parent)
+}
+
 /// The data of the superclass comes first.
 pub fn superclass_first(alloc: Global) -> Build {
-    let b = field(alloc, b'B', "b", None)?;
-    let parent = plain(alloc, "A", 1, 3, vec![in alloc; b]?, ClassPlace::Null)?;
-    let i = field(alloc, b'I', "i", None)?;
-    let descr = plain(alloc, "B", 2, 2, vec![in alloc; i]?, parent)?;
     let above = Section {
         prims: vec![in alloc; Prim::B(7)]?,
         values: Vec::new(alloc),
         notes: Some(Vec::new(alloc)),
     };
     let own = section(vec![in alloc; Prim::I(9)]?, Vec::new(alloc));
-    one(
-        alloc,
-        Value::Object {
-            descr,
-            sections: vec![in alloc; above, own]?,
-        },
-    )
+    let sections = vec![in alloc; above, own]?;
+    one_object(alloc, superclass_first_class(alloc)?, sections)
 }
 
 pub const SUPERCLASS_FIRST: &[u8] =
