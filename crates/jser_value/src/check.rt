@@ -6,6 +6,7 @@ ghost use Rattle.jser_value.specs.Tests.{obeys_contents, Judges};
 ghost use Rattle.jser_value.specs.View.{view_contents};
 
 mod classes;
+mod descriptors;
 mod fault;
 mod layers;
 mod texts;

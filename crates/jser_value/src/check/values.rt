@@ -10,13 +10,11 @@ ghost use Rattle.jser_value.specs.Tests.{obeys_value, obeys_desc, obeys_class, o
 ghost use Rattle.jser_value.specs.View.{view_value, view_desc, view_class_place, view_body, view_values, view_section, view_sections, view_contents};
 
 use crate::check::classes::{begin_object, check_back_class, check_enum_constant, is_back};
+use crate::check::descriptors::{begin_plain, end_plain};
 use crate::check::fault::{Fault, assign, require};
-use crate::check::layers::{element_code, is_section_at, plain_layer, proxy_layer};
-use crate::check::texts::check_fields;
+use crate::check::layers::{element_code, is_section_at, proxy_layer};
 use crate::handles::Handles;
-use crate::parts::{
-    are_elements, are_interfaces, are_value_elements, is_bare, is_block, is_head, is_text,
-};
+use crate::parts::{are_elements, are_interfaces, are_value_elements, is_bare, is_block, is_text};
 use crate::tree::{Body, ClassPlace, Content, Desc, Section, Value};
 use jser_table::{Fit, Kind, Purpose};
 use std::alloc::Global;
@@ -123,13 +121,10 @@ fn check_desc(alloc: Global, table: &mut Handles, desc: &Desc) -> Result<u32, Fa
             notes,
             parent,
         } => {
-            let number = assign(table, Kind::Pending)?;
-            require(is_head(name, *suid, *flags, fields))?;
-            check_fields(table, fields)?;
+            let number = begin_plain(table, name, *suid, *flags, fields)?;
             check_notes(alloc, table, notes)?;
             let above = check_superclass(alloc, table, parent)?;
-            let layer = plain_layer(alloc, name, *flags, fields)?;
-            table.close(number, layer, above);
+            end_plain(alloc, table, number, name, *flags, fields, above)?;
             Ok(number)
         }
         Desc::Proxy {

@@ -1,7 +1,9 @@
-use Rattle.std.proofs.Common.{map, slice_get, arith, rules}
+use Rattle.std.proofs.Common.{map, refl, slice_get, arith, rules}
 use Rattle.std.proofs.lemmas.Grind.{common_steps}
 use Rattle.jser_value.proofs.KeepLemmas.{class_plain, class_proxy}
-use Rattle.jser_table.specs.Entries.{chain_at}
+use Rattle.jser_value.proofs.DescLemmas.{plain_judged, plain_room_fields, plain_spent, proxy_judged, proxy_spent}
+use Rattle.jser_grammar.specs.TableAfter.{add, plain_layer}
+use Rattle.jser_table.specs.Entries.{chain_at, pending_entry}
 use Rattle.jser_value.specs.Tests.{after_section}
 use Rattle.jser_value.proofs.CheckLemmas.{sections_next, sections_spent, sections_failed, judged_alone, judged_failed, judged_section}
 use Rattle.jser_value.proofs.check.values.+check.Goals as goal
@@ -9,21 +11,53 @@ use Rattle.jser_value.specs.declared.tree.Desc.{the_lemmas}
 use Rattle.jser_value.specs.declared.tree.Section.{the_lemmas as section_lemmas}
 use Rattle.jser_value.specs.View.{view_field, view_prim, view_values, view_section, view_contents, view_class_place, view_desc}
 
-pub check_desc-returns-in_ok-layer-in-Plain-clause-class : goal.check_desc-returns-in_ok-layer-in-Plain-clause-class
-check_desc-returns-in_ok-layer-in-Plain-clause-class t c =
-    class_plain c.args.table.now.entries c.assign.new.table.entries c.check_fields.new.table.entries c.check_notes.new.table.entries
-    c.check_superclass.new.table.entries c.close.new.self.entries c.in_ok-number-in-Plain.number c.in_ok-above-in-Plain.above c.in_ok-layer-in-Plain.layer
+pub check_desc-begin_plain-requires : goal.check_desc-begin_plain-requires
+check_desc-begin_plain-requires t c =
+    record {
+      room = plain_room_fields c.args.table.now.entries c.in-Plain.name.items c.in-Plain.suid c.in-Plain.flags (map view_field c.deref-in-Plain.result.now) (view_contents c.in-Plain.notes.items)
+          (view_class_place c.in-Plain.parent) (view_desc c.args.desc.now)
+          (search (rules, the_lemmas)) (search rules);
+    }
+
+pub check_desc-returns-in_ok-end_plain-in-Plain-clause-judged : goal.check_desc-returns-in_ok-end_plain-in-Plain-clause-judged
+check_desc-returns-in_ok-end_plain-in-Plain-clause-judged t c =
+    plain_judged c.args.table.now.entries c.begin_plain.new.table.entries c.check_notes.new.table.entries c.check_superclass.new.table.entries c.end_plain.new.table.entries c.in_ok-number-in-Plain.number c.in_ok-above-in-Plain.above
     c.in-Plain.name.items c.in-Plain.suid c.in-Plain.flags (map view_field c.in-Plain.fields.items) (view_contents c.in-Plain.notes.items)
     (view_class_place c.in-Plain.parent) (view_desc c.args.desc.now)
-    (search rules) (search rules) (search rules) (search rules) (search rules) (search rules) (search rules) (search rules) (search (rules, the_lemmas))
+    (search rules) (search rules) (search rules) (search rules) (search rules) (search rules) (search rules) (search rules) (search rules) (search (rules, the_lemmas))
+
+pub check_desc-returns-in_ok-end_plain-in-Plain-clause-class : goal.check_desc-returns-in_ok-end_plain-in-Plain-clause-class
+check_desc-returns-in_ok-end_plain-in-Plain-clause-class t c =
+    class_plain c.args.table.now.entries (add c.args.table.now.entries pending_entry) c.begin_plain.new.table.entries c.check_notes.new.table.entries c.check_superclass.new.table.entries c.end_plain.new.table.entries c.in_ok-number-in-Plain.number c.in_ok-above-in-Plain.above
+    (plain_layer c.in-Plain.name.items c.in-Plain.flags (map view_field c.in-Plain.fields.items)) c.in-Plain.name.items c.in-Plain.suid c.in-Plain.flags (map view_field c.in-Plain.fields.items) (view_contents c.in-Plain.notes.items)
+    (view_class_place c.in-Plain.parent) (view_desc c.args.desc.now)
+    (search rules) refl (search rules) (search rules) (search rules) (search rules) refl (search rules) (search (rules, the_lemmas))
+
+pub check_desc-returns-in_ok-end_plain-in-Plain-clause-spent : goal.check_desc-returns-in_ok-end_plain-in-Plain-clause-spent
+check_desc-returns-in_ok-end_plain-in-Plain-clause-spent t c =
+    plain_spent c.args.table.now.entries c.begin_plain.new.table.entries c.check_notes.new.table.entries c.check_superclass.new.table.entries c.end_plain.new.table.entries c.in-Plain.name.items c.in-Plain.suid c.in-Plain.flags (map view_field c.in-Plain.fields.items) (view_contents c.in-Plain.notes.items)
+    (view_class_place c.in-Plain.parent) (view_desc c.args.desc.now)
+    (search (rules, the_lemmas)) (search rules) (search rules) (search rules) (search rules)
+
+pub check_desc-returns-in_ok-above-in-Proxy-clause-judged : goal.check_desc-returns-in_ok-above-in-Proxy-clause-judged
+check_desc-returns-in_ok-above-in-Proxy-clause-judged t c =
+    proxy_judged c.args.table.now.entries c.check_notes-in-Proxy.new.table.entries c.check_superclass-in-Proxy.new.table.entries c.close.new.self.entries c.in_ok-number-in-Proxy.number c.in_ok-above-in-Proxy.above c.proxy_layer.result
+    (map (λ name. name.items) c.in-Proxy.interfaces.items) (view_contents c.in-Proxy.notes.items)
+    (view_class_place c.in-Proxy.parent) (view_desc c.args.desc.now)
+    (search rules) (search rules) (search rules) (search rules) (search rules) (search rules) (search rules) (search rules) (search rules) (search (rules, the_lemmas))
 
 pub check_desc-returns-in_ok-above-in-Proxy-clause-class : goal.check_desc-returns-in_ok-above-in-Proxy-clause-class
 check_desc-returns-in_ok-above-in-Proxy-clause-class t c =
-    class_proxy c.args.table.now.entries c.assign-in-Proxy.new.table.entries c.check_notes-in-Proxy.new.table.entries
-    c.check_superclass-in-Proxy.new.table.entries c.close-in-Proxy.new.self.entries c.in_ok-number-in-Proxy.number c.in_ok-above-in-Proxy.above c.proxy_layer.result
+    class_proxy c.args.table.now.entries c.assign.new.table.entries c.check_notes-in-Proxy.new.table.entries c.check_superclass-in-Proxy.new.table.entries c.close.new.self.entries c.in_ok-number-in-Proxy.number c.in_ok-above-in-Proxy.above c.proxy_layer.result
     (map (λ name. name.items) c.in-Proxy.interfaces.items) (view_contents c.in-Proxy.notes.items)
     (view_class_place c.in-Proxy.parent) (view_desc c.args.desc.now)
     (search rules) (search rules) (search rules) (search rules) (search rules) (search rules) (search rules) (search (rules, the_lemmas))
+
+pub check_desc-returns-in_ok-above-in-Proxy-clause-spent : goal.check_desc-returns-in_ok-above-in-Proxy-clause-spent
+check_desc-returns-in_ok-above-in-Proxy-clause-spent t c =
+    proxy_spent c.args.table.now.entries c.assign.new.table.entries c.check_notes-in-Proxy.new.table.entries c.check_superclass-in-Proxy.new.table.entries c.close.new.self.entries (map (λ name. name.items) c.in-Proxy.interfaces.items) (view_contents c.in-Proxy.notes.items)
+    (view_class_place c.in-Proxy.parent) (view_desc c.args.desc.now)
+    (search (rules, the_lemmas)) (search rules) (search rules) (search rules) (search rules)
 
 pub check_sections-sections-preserved : goal.check_sections-sections-preserved
 check_sections-sections-preserved t c = (
