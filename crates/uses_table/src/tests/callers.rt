@@ -2,7 +2,7 @@
 ghost use Rattle.std.specs.Prelude.{◌<◌, ◌^◌, vec_len, slice_get, IsTrue, IfOk};
 ghost use Rattle.jser_table.specs.Entries.{is_closed};
 
-use super::table::{is_closed, make_layer, try_close};
+use super::table::{add_with_fields, flags_and_fields, is_closed};
 use crate::classes::{Layout, can_be_read, holds_nothing, is_serial, layout_of, own_layer};
 use crate::data::{first_size, fits_at_once, has_annotation};
 use crate::epochs::{
@@ -19,7 +19,7 @@ use jser_table::{
     BodyKind, Class, Codes, Fit, KeptLayer, Kind, Layer, LayerKind, Purpose, Sections, Table,
     TableFault,
 };
-use std::alloc::{AllocError, Global};
+use std::alloc::{AllocError, AllocGlobal, Global};
 use std::process::Abort;
 use std::test::Fail;
 
@@ -40,19 +40,31 @@ fn orders(alloc: Global) -> Result<Table, Fail>
     Ok(with_class(alloc, 1, layer)?)
 }
 
+/// The handles of an epoch, in a table that has room for two.
+fn assign_two(rt: &impl Abort, table: &mut Table) {
+    holds!(rt; is_new(table));
+    same!(rt; assign_again(table, Kind::Text), Ok(0));
+    same!(rt; assign_or_advise(table, Kind::Pending), Advice::GoOn(1));
+    same!(rt; assign_or_advise(table, Kind::Other), Advice::Refuse);
+}
+
+/// What those two name, and that there is no third.
+fn compare_two(rt: &impl Abort, table: &Table) {
+    holds!(rt; names_text(table, 0) && names_open_class(table, 1) && !is_assigned(table, 2));
+}
+
+/// The first handle of the next epoch.
+fn begin_again(rt: &impl Abort, table: &mut Table) {
+    same!(rt; next_epoch(table, Kind::Other), Ok(0));
+    holds!(rt; !is_new(table));
+}
+
 #[test]
 fn handles(rt: HostRuntime) {
     let mut table = Table::new(rt.alloc(), 2);
-    holds!(rt; is_new(&table));
-    same!(rt; assign_again(&mut table, Kind::Text), Ok(0));
-    same!(rt;
-        assign_or_advise(&mut table, Kind::Pending),
-        Advice::GoOn(1)
-    );
-    same!(rt; assign_or_advise(&mut table, Kind::Other), Advice::Refuse);
-    holds!(rt; names_text(&table, 0) && names_open_class(&table, 1) && !is_assigned(&table, 2));
-    same!(rt; next_epoch(&mut table, Kind::Other), Ok(0));
-    holds!(rt; !is_new(&table));
+    assign_two(&rt, &mut table);
+    compare_two(&rt, &table);
+    begin_again(&rt, &mut table);
 }
 
 #[test]
@@ -66,9 +78,9 @@ fn a_log_line(rt: HostRuntime) -> Result<(), Fail> {
 fn compare_class(rt: &impl Abort, table: &Table)
     requires { IsTrue (is_closed (slice_get table.now.entries 0)) }
 {
-    assert!(rt; names_class(table, 0));
-    assert!(rt; can_be_read(table, 0) && is_serial(table, 0));
-    assert!(rt; !holds_nothing(table, 0) && own_layer(table, 0).is_some());
+    holds!(rt; names_class(table, 0));
+    holds!(rt; can_be_read(table, 0) && is_serial(table, 0));
+    holds!(rt; !holds_nothing(table, 0) && own_layer(table, 0).is_some());
 }
 
 /// For what that class fits, and another number.
@@ -95,12 +107,12 @@ fn compare_data(rt: &impl Abort, table: &Table) {
     let Class::Closed(chain) = table.class_at(0) else {
         return;
     };
-    assert_eq!(rt; layout_of(table, chain), Layout::Values);
-    assert!(rt; has_annotation(table, chain));
+    same!(rt; layout_of(table, chain), Layout::Values);
+    holds!(rt; has_annotation(table, chain));
     let sections = table.sections(chain);
-    assert!(rt; sections.is_some());
+    holds!(rt; sections.is_some());
     if let Some(Sections { first, last: _ }) = sections {
-        assert_eq!(rt; first_size(table, first), Some(4));
+        same!(rt; first_size(table, first), Some(4));
     }
 }
 
@@ -119,7 +131,7 @@ fn compare_flags(rt: &impl Abort, layer: &KeptLayer, wanted: [bool; 4]) {
         writes_blocks(layer),
         loses_fields(layer),
     ];
-    assert_eq!(rt; found, wanted);
+    same!(rt; found, wanted);
 }
 
 #[test]
@@ -158,18 +170,15 @@ fn compare_raws(rt: &impl Abort, table: &Table) {
     let Some(Sections { first, last }) = table.sections(chain) else {
         panic!(rt; "the class has sections");
     };
-    assert_eq!(rt; table.raws_between(last, first), Some(8));
-    assert!(rt; fits_at_once(table, last, first, 8) && !fits_at_once(table, last, first, 7));
+    same!(rt; table.raws_between(last, first), Some(8));
+    holds!(rt; fits_at_once(table, last, first, 8) && !fits_at_once(table, last, first, 7));
 }
 
 /// Closes three classes, each with an int, under each other.
-fn close_three(rt: &impl Abort, alloc: Global, table: &mut Table) -> Result<(), Fail> {
+fn close_three(rt: &(impl Abort + AllocGlobal), table: &mut Table) -> Result<(), Fail> {
     let mut parent = None;
     for _ in 0..3u8 {
-        let number = table.assign(Kind::Pending)?;
-        let layer = make_layer(alloc, LayerKind::Other, 0x02, b"I")?;
-        holds!(rt; try_close(table, number, layer, parent));
-        parent = Some(number);
+        parent = Some(add_with_fields(rt, table, 0x02, b"I", parent)?);
     }
     Ok(())
 }
@@ -177,7 +186,7 @@ fn close_three(rt: &impl Abort, alloc: Global, table: &mut Table) -> Result<(), 
 #[test]
 fn raws_at_once(rt: HostRuntime) -> Result<(), Fail> {
     let mut table = Table::new(rt.alloc(), 3);
-    close_three(&rt, rt.alloc(), &mut table)?;
+    close_three(&rt, &mut table)?;
     compare_raws(&rt, &table);
     Ok(())
 }
@@ -201,11 +210,9 @@ fn compare_closed(
 
 /// The table tells of so many fields in the first layer of this class.
 fn compare_first_layer(rt: &impl Abort, table: &Table, number: u32, fields: usize) {
-    assert!(rt; is_closed(table, number));
-    assert!(rt; table.layers(number) > 0);
-    let layer = table.layer(number, 0);
-    assert_eq!(rt; layer.codes().len(), fields);
-    assert_eq!(rt; layer.flags(), 0x02);
+    holds!(rt; is_closed(table, number));
+    holds!(rt; table.layers(number) > 0);
+    same!(rt; flags_and_fields(table.layer(number, 0)), (0x02, fields));
 }
 
 /// The same for a class with so many fields of a byte.

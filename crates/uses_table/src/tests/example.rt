@@ -1,6 +1,6 @@
 //! The examples of the README of `jser_table`.
 
-use jser_table::{Class, Codes, Fit, Kind, Layer, LayerKind, Purpose, Sections, Table};
+use jser_table::{Class, Codes, Fit, Kind, Layer, LayerKind, Purpose, Section, Sections, Table};
 use std::process::Abort;
 use std::test::Fail;
 
@@ -24,18 +24,25 @@ fn a_class_and_its_data(rt: HostRuntime) -> Result<(), Fail> {
     Ok(())
 }
 
-/// What the table tells of the data of an object of that class.
+// README: jser_table
+/// What the first section of an object's data holds, and whether another section comes after it.
+fn first_section(table: &Table, number: u32) -> Option<(Section, bool)> {
+    let Class::Closed(chain) = table.class_at(number) else {
+        return None;
+    };
+    let Sections { first, last } = table.sections(chain)?;
+    // None after the last.
+    let next = table.next_section(last, first);
+    Some((table.section(first), next.is_some()))
+}
+// end
+
+/// What the table tells of the data of an object of that class: one raw value, no other value, and no annotation.
 fn compare_data(rt: &impl Abort, table: &Table, number: u32) {
-    // README: jser_table
-    if let Class::Closed(chain) = table.class_at(number) {
-        if let Some(Sections { first, last }) = table.sections(chain) {
-            // How many raw values there are, how many values, and whether an annotation comes.
-            let section = table.section(first);
-            assert_eq!(rt; (section.prims, section.values), (1, 0));
-            assert!(rt; !section.is_annotated);
-            // None after the last.
-            assert!(rt; table.next_section(last, first).is_none());
-        }
-    }
-    // end
+    let Some((section, comes_another)) = first_section(table, number) else {
+        panic!(rt; "the class has no sections");
+    };
+    same!(rt; (section.prims, section.values), (1, 0));
+    holds!(rt; !section.is_annotated);
+    holds!(rt; !comes_another);
 }

@@ -3,8 +3,8 @@ ghost use Rattle.std.specs.Prelude.{◌≡◌, ◌<◌, ◌^◌, length, slice_g
 ghost use Rattle.jser_table.specs.Entries.{is_pending, is_closed};
 
 use jser_table::{
-    BodyKind, Codes, Element, Entry, Fit, Kind, Layer, LayerKind, Purpose, Table, TableFault,
-    element_of, layer_kind_of,
+    BodyKind, Codes, Element, Entry, Fit, KeptLayer, Kind, Layer, LayerKind, Purpose, Table,
+    TableFault, element_of, layer_kind_of,
 };
 use std::alloc::{AllocError, AllocGlobal, Global};
 use std::process::Abort;
@@ -15,7 +15,7 @@ mod sections;
 
 const INT: u8 = b'I';
 
-pub(super) fn make_layer(
+fn make_layer(
     alloc: Global,
     kind: LayerKind,
     flags: u8,
@@ -42,8 +42,13 @@ pub(super) fn is_closed(table: &Table, number: u32) -> bool
     matches!(table.get(number), Some(Entry::Closed(_)))
 }
 
+/// The flags of a layer, and how many fields it has.
+pub(super) fn flags_and_fields(layer: &KeptLayer) -> (u8, usize) {
+    (layer.flags(), layer.codes().len())
+}
+
 /// Closes an entry, where it is pending and its parent closed.
-pub(super) fn try_close(table: &mut Table, number: u32, layer: Layer, parent: Option<u32>) -> bool {
+fn try_close(table: &mut Table, number: u32, layer: Layer, parent: Option<u32>) -> bool {
     if !is_pending(table, number) {
         return false;
     }
@@ -56,6 +61,20 @@ pub(super) fn try_close(table: &mut Table, number: u32, layer: Layer, parent: Op
     true
 }
 
+/// Adds a class with fields of these type codes, and gives its number.
+pub(super) fn add_with_fields(
+    rt: &(impl Abort + AllocGlobal),
+    table: &mut Table,
+    flags: u8,
+    codes: &[u8],
+    parent: Option<u32>,
+) -> Result<u32, Fail>
+    requires { length codes.now < 2 ^ 15 }
+{
+    let layer = make_layer(rt.alloc(), LayerKind::Other, flags, codes)?;
+    add_layer(rt, table, layer, parent)
+}
+
 /// Adds a class with no fields, and gives its number.
 fn add_class(
     rt: &(impl Abort + AllocGlobal),
@@ -64,23 +83,53 @@ fn add_class(
     flags: u8,
     parent: Option<u32>,
 ) -> Result<u32, Fail> {
-    let number = table.assign(Kind::Pending)?;
     let layer = make_layer(rt.alloc(), kind, flags, &[])?;
-    assert!(rt; try_close(table, number, layer, parent));
+    add_layer(rt, table, layer, parent)
+}
+
+/// Adds a class with this layer, and gives its number.
+fn add_layer(
+    rt: &impl Abort,
+    table: &mut Table,
+    layer: Layer,
+    parent: Option<u32>,
+) -> Result<u32, Fail> {
+    let number = table.assign(Kind::Pending)?;
+    holds!(rt; try_close(table, number, layer, parent));
     Ok(number)
+}
+
+/// The number of an entry by its place in a list, if there is one.
+fn number_of(place: Option<usize>) -> Result<Option<u32>, Fail> {
+    match place {
+        None => Ok(None),
+        Some(place) => Ok(Some(u32::try_from(place)?)),
+    }
 }
 
 /// Whether the class fits, where the entry is closed.
 fn fit_at(table: &Table, number: u32, purpose: Purpose) -> Option<Fit> {
-    is_closed(table, number).then(|| table.fit(number, purpose))
+    if is_closed(table, number) {
+        Some(table.fit(number, purpose))
+    } else {
+        None
+    }
 }
 
 fn all_serial_at(table: &Table, number: u32) -> Option<bool> {
-    is_closed(table, number).then(|| table.all_serial(number))
+    if is_closed(table, number) {
+        Some(table.all_serial(number))
+    } else {
+        None
+    }
 }
 
 fn layers_at(table: &Table, number: u32) -> Option<usize> {
-    is_closed(table, number).then(|| table.layers(number))
+    if is_closed(table, number) {
+        Some(table.layers(number))
+    } else {
+        None
+    }
 }
 
 /// A table that is full: it has a text and a class whose superclass has not been read.
@@ -106,10 +155,10 @@ fn table_full(rt: HostRuntime) {
 
 /// Closes the class of a full table.
 fn close_in_full(rt: &impl Abort, table: &mut Table, layer: Layer) {
-    assert!(rt; try_close(table, 1, layer, None));
-    assert_eq!(rt; layers_at(table, 1), Some(1));
-    assert!(rt; matches!(table.get(1), Some(Entry::Closed(_))));
-    assert!(rt; table.get(2).is_none());
+    holds!(rt; try_close(table, 1, layer, None));
+    same!(rt; layers_at(table, 1), Some(1));
+    holds!(rt; matches!(table.get(1), Some(Entry::Closed(_))));
+    holds!(rt; table.get(2).is_none());
 }
 
 #[test]
@@ -201,18 +250,18 @@ fn fit_parent_not_serial(rt: HostRuntime) -> Result<(), Fail> {
 
 /// What the table tells of a class with one superclass, which is not serializable.
 fn compare_not_serial(rt: &impl Abort, table: &Table, number: u32) {
-    let fit = fit_at(table, number, Purpose::Object);
-    assert!(rt; fit == Some(Fit::NotSerializable), "{fit:?}");
-    assert!(rt; all_serial_at(table, number) == Some(false));
-    assert!(rt; layers_at(table, number) == Some(2));
+    same!(rt; fit_at(table, number, Purpose::Object), Some(Fit::NotSerializable));
+    same!(rt; all_serial_at(table, number), Some(false));
+    same!(rt; layers_at(table, number), Some(2));
 }
 
 /// The units of an ASCII text.
 fn units(alloc: Global, text: &str) -> Result<Vec<u16>, AllocError> {
-    text.as_bytes()
-        .iter()
-        .map(|byte| u16::from(*byte))
-        .collect(alloc)
+    let mut units = Vec::new(alloc);
+    for byte in text.as_bytes() {
+        units.push(u16::from(*byte))?;
+    }
+    Ok(units)
 }
 
 /// Names, each with that of its element.
@@ -261,10 +310,15 @@ const MALFORMED: [&str; 6] = ["[", "[V", "[II", "[Lx", "[x;", "[["];
 fn malformed_names(rt: HostRuntime) -> Result<(), Fail> {
     for name in &MALFORMED {
         let malformed = units(rt.alloc(), name)?;
-        same!(rt; element_of(&malformed), Element::Malformed, name);
-        same!(rt; layer_kind_of(&malformed), None, name);
+        compare_malformed(&rt, &malformed, name);
     }
     Ok(())
+}
+
+/// No class has this name.
+fn compare_malformed(rt: &impl Abort, malformed: &[u16], name: &str) {
+    same!(rt; element_of(malformed), Element::Malformed, name);
+    same!(rt; layer_kind_of(malformed), None, name);
 }
 
 /// Names, each with the kind of the class that has it.
@@ -300,10 +354,10 @@ fn kind_of(number: u32) -> Kind {
 fn assign_again(rt: &impl Abort, table: &mut Table, number: u32) {
     let mut answer = table.assign(kind_of(number));
     if answer == Err(TableFault::OutOfMemory) {
-        assert!(rt; table.count() == number);
+        same!(rt; table.count(), number);
         answer = table.assign(kind_of(number));
     }
-    assert_eq!(rt; answer, Ok(number));
+    same!(rt; answer, Ok(number));
 }
 
 /// Run with each allocation refused in turn: a refused growth leaves the table as it was, and the next

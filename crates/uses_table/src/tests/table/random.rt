@@ -2,7 +2,7 @@
 ghost use Rattle.std.specs.Prelude.{◌<◌, ◌≡◌, length, slice_get, IsTrue};
 ghost use Rattle.jser_table.specs.Entries.{is_closed, chain_at};
 
-use super::{is_closed, is_pending, make_layer, try_close};
+use super::{add_class, flags_and_fields, is_closed, is_pending, make_layer, number_of, try_close};
 use jser_table::{Entry, Kind, LayerKind, Table, TableFault};
 use std::alloc::{AllocError, AllocGlobal, Global};
 use std::io;
@@ -98,30 +98,52 @@ fn random_parent(random: &mut Random, expected: &[Expected]) -> Option<usize> {
 
 /// Compares all that the table tells of a closed entry.
 fn compare_chain(rt: &impl Abort, table: &Table, number: u32, chain: &[Mark]) {
-    assert!(rt; is_closed(table, number));
-    assert_eq!(rt; table.layers(number), chain.len());
-    let all_serial = chain.iter().all(|mark| mark.is_serial());
-    assert_eq!(rt; table.all_serial(number), all_serial);
+    holds!(rt; is_closed(table, number));
+    compare_whole_chain(rt, table, number, chain);
+    compare_layers(rt, table, number, chain);
+}
+
+/// Whether each of these layers is serializable.
+fn all_serial(chain: &[Mark]) -> bool {
+    for mark in chain {
+        if !mark.is_serial() {
+            return false;
+        }
+    }
+    true
+}
+
+/// Compares what the table tells of the whole chain of a closed entry.
+fn compare_whole_chain(rt: &impl Abort, table: &Table, number: u32, chain: &[Mark])
+    requires { IsTrue (is_closed (slice_get table.now.entries number)) }
+{
+    same!(rt; table.layers(number), chain.len());
+    same!(rt; table.all_serial(number), all_serial(chain));
+    same!(rt; table.next_filled(number, chain.len()), None);
+    same!(rt; table.next_filled(number, usize::MAX), None);
+}
+
+/// Compares the layers of a closed entry, and for each of them where the next filled one is.
+fn compare_layers(rt: &impl Abort, table: &Table, number: u32, chain: &[Mark])
+    requires { IsTrue (is_closed (slice_get table.now.entries number)) }
+{
     let mut next = None;
     for (index, mark) in chain.iter().enumerate().rev() {
         if mark.is_filled() {
             next = Some(index);
         }
-        assert_eq!(rt; table.next_filled(number, index), next);
+        same!(rt; table.next_filled(number, index), next);
         compare_layer(rt, table, number, index, *mark);
     }
-    assert_eq!(rt; table.next_filled(number, chain.len()), None);
-    assert_eq!(rt; table.next_filled(number, usize::MAX), None);
 }
 
 /// Compares one layer of a closed entry.
 fn compare_layer(rt: &impl Abort, table: &Table, number: u32, index: usize, mark: Mark)
     requires { IsTrue (is_closed (slice_get table.now.entries number)) }
 {
-    assert!(rt; index < table.layers(number));
+    holds!(rt; index < table.layers(number));
     let layer = table.layer(number, index);
-    assert_eq!(rt; layer.flags(), mark.flags);
-    assert_eq!(rt; layer.codes().len(), mark.codes);
+    same!(rt; flags_and_fields(layer), (mark.flags, mark.codes));
 }
 
 /// Compares an entry with what the model says of it.
@@ -162,10 +184,7 @@ fn close_in_table(
     parent: Option<usize>,
 ) -> Result<(), Fail> {
     let own = u32::try_from(number)?;
-    let above = match parent {
-        None => None,
-        Some(parent) => Some(u32::try_from(parent)?),
-    };
+    let above = number_of(parent)?;
     let codes = [b'L'; 2];
     let layer = make_layer(
         alloc,
@@ -173,7 +192,7 @@ fn close_in_table(
         mark.flags,
         &codes[..mark.codes.min(2)],
     )?;
-    assert!(rt; try_close(table, own, layer, above), "number {number}");
+    holds!(rt; try_close(table, own, layer, above), format_args!("number {number}"));
     Ok(())
 }
 
@@ -240,12 +259,21 @@ fn compare_some(rt: &impl Abort, table: &Table, expected: &[Expected]) -> Result
     Ok(())
 }
 
+/// Adds those layers, and compares some entries.
+fn add_and_compare(
+    rt: &(impl Abort + AllocGlobal),
+    table: &mut Table,
+    expected: &mut Vec<Expected>,
+) -> Result<(), Fail> {
+    add_many(rt, table, expected)?;
+    compare_some(rt, table, expected.as_slice())
+}
+
 #[test]
 fn long_random_chains(rt: HostRuntime) -> Result<(), Fail> {
     let mut table = Table::new(rt.alloc(), 3000);
     let mut expected = Vec::new(rt.alloc());
-    add_many(&rt, &mut table, &mut expected)?;
-    compare_some(&rt, &table, expected.as_slice())
+    add_and_compare(&rt, &mut table, &mut expected)
 }
 
 /// How many handles there may be at once in the test below.
@@ -329,15 +357,13 @@ fn random_operations(rt: HostRuntime) -> Result<(), Fail> {
 
 /// The same number of classes, all with nothing to read, under one another.
 fn empty_chain(
-    rt: &impl Abort,
-    alloc: Global,
+    rt: &(impl Abort + AllocGlobal),
     table: &mut Table,
     classes: u32,
 ) -> Result<(), Fail> {
     for number in 0..classes {
-        assert_eq!(rt; table.assign(Kind::Pending), Ok(number));
-        let layer = make_layer(alloc, LayerKind::Other, 0x02, &[])?;
-        assert!(rt; try_close(table, number, layer, number.checked_sub(1)));
+        let own = add_class(rt, table, LayerKind::Other, 0x02, number.checked_sub(1))?;
+        same!(rt; own, number);
     }
     Ok(())
 }
@@ -364,7 +390,7 @@ fn cost_of_layer(
         flags = flags.wrapping_add(u64::from(table.layer(own, index).flags()));
     }
     let spent = start.elapsed(rt)?;
-    assert_eq!(rt; flags, 2 * u64::from(CALLS));
+    same!(rt; flags, 2 * u64::from(CALLS));
     Ok(spent.as_nanos() / u128::from(CALLS))
 }
 
@@ -382,7 +408,7 @@ fn cost_of_next_filled(
     let start = Instant::now(rt)?;
     for _ in 0..CALLS {
         let index = random.below(u64::from(layers)) as usize;
-        assert!(rt; table.next_filled(own, index).is_none());
+        holds!(rt; table.next_filled(own, index).is_none());
     }
     let spent = start.elapsed(rt)?;
     Ok(spent.as_nanos() / u128::from(CALLS))
@@ -394,8 +420,8 @@ const CLASSES: u32 = 60_000;
 /// The nanoseconds of a call of `layer` and of one of `next_filled`, in the long chain of this table.
 fn costs_of_chain(rt: &(impl Abort + Clock), table: &Table) -> io::Result<(u128, u128)> {
     let own = CLASSES - 1;
-    assert!(rt; is_closed(table, own));
-    assert!(rt; table.layers(own) == CLASSES as usize);
+    holds!(rt; is_closed(table, own));
+    holds!(rt; table.layers(own) == CLASSES as usize);
     let mut random = Random(3);
     let layer = cost_of_layer(rt, &mut random, table, own, CLASSES)?;
     let next = cost_of_next_filled(rt, &mut random, table, own, CLASSES)?;
@@ -406,7 +432,7 @@ fn costs_of_chain(rt: &(impl Abort + Clock), table: &Table) -> io::Result<(u128,
 #[test]
 fn cost_of_a_long_chain(rt: HostRuntime) -> Result<(), Fail> {
     let mut table = Table::new(rt.alloc(), CLASSES);
-    empty_chain(&rt, rt.alloc(), &mut table, CLASSES)?;
+    empty_chain(&rt, &mut table, CLASSES)?;
     let (layer, next) = costs_of_chain(&rt, &table)?;
     eprintln!(rt; "layer: {layer} ns a call; next_filled: {next} ns a call")?;
     Ok(())

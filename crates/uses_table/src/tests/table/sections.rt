@@ -4,8 +4,11 @@ ghost use Rattle.std.specs.Option.{ForSome};
 ghost use Rattle.jser_table.specs.Sections.{HasSection, IsOn, layer_of, HoldsFor};
 
 use super::random::Random;
-use super::{make_layer, try_close};
-use jser_table::{BodyKind, Class, Fit, Kind, LayerKind, Purpose, SectionNumber, Sections, Table};
+use super::{add_with_fields, make_layer, number_of, try_close};
+use jser_table::{
+    BodyKind, Class, Fit, Kind, LayerKind, Purpose, Section, SectionNumber, Sections, Table,
+    TableFault,
+};
 use std::alloc::{AllocGlobal, Global};
 use std::process::Abort;
 use std::test::Fail;
@@ -73,19 +76,13 @@ impl Plain {
 
 /// Closes one more class, in the table and in the list.
 fn add(
-    rt: &impl Abort,
-    alloc: Global,
+    rt: &(impl Abort + AllocGlobal),
     table: &mut Table,
     classes: &mut Vec<Plain>,
     class: Plain,
 ) -> Result<(), Fail> {
-    let number = table.assign(Kind::Pending)?;
-    let parent = match class.parent {
-        None => None,
-        Some(parent) => Some(u32::try_from(parent)?),
-    };
-    let layer = make_layer(alloc, LayerKind::Other, class.flags, class.fields.codes())?;
-    assert!(rt; try_close(table, number, layer, parent));
+    let parent = number_of(class.parent)?;
+    add_with_fields(rt, table, class.flags, class.fields.codes(), parent)?;
     classes.push(class)?;
     Ok(())
 }
@@ -95,7 +92,10 @@ fn filled_classes(alloc: Global, classes: &[Plain], number: usize) -> Result<Vec
     let mut filled = Vec::new(alloc);
     let mut at = Some(number);
     for _ in 0..classes.len() {
-        let Some(class) = at.and_then(|number| classes.get(number)) else {
+        let Some(number) = at else {
+            break;
+        };
+        let Some(class) = classes.get(number) else {
             break;
         };
         if class.is_filled() {
@@ -111,25 +111,47 @@ fn filled_classes(alloc: Global, classes: &[Plain], number: usize) -> Result<Vec
 fn compare_section(rt: &impl Abort, table: &Table, number: SectionNumber, class: Plain)
     requires { HasSection table.now.chains number }
 {
-    let section = table.section(number);
-    assert_eq!(rt; section.values, class.fields.values());
-    assert_eq!(rt; section.is_annotated, class.flags & 0x01 != 0);
+    compare_counts(rt, table.section(number), class);
     compare_raw_values(rt, table, number, class.fields.sizes());
 }
 
-/// Compares the raw values of a section with these sizes.
+/// Compares what a section holds with its class.
+fn compare_counts(rt: &impl Abort, section: Section, class: Plain) {
+    let sizes = class.fields.sizes();
+    same!(rt; section.values, class.fields.values());
+    same!(rt; section.is_annotated, class.flags & 0x01 != 0);
+    same!(rt; section.prims as usize, sizes.len());
+    same!(rt; u64::from(section.raw_bytes), sum_of(sizes));
+}
+
+/// The sum of these sizes.
+fn sum_of(sizes: &[u8]) -> u64 {
+    let mut sum = 0u64;
+    for size in sizes {
+        sum = sum.wrapping_add(u64::from(*size));
+    }
+    sum
+}
+
+/// The size of the raw value at this place of a section, if it has one there.
+fn raw_size(table: &Table, number: SectionNumber, pos: u16) -> Option<u8>
+    requires { HasSection table.now.chains number }
+{
+    if pos < table.section(number).prims {
+        Some(table.prim_size(number, pos))
+    } else {
+        None
+    }
+}
+
+/// Compares the raw values of a section with these sizes, which are fewer than ten, and that there are no more.
 fn compare_raw_values(rt: &impl Abort, table: &Table, number: SectionNumber, sizes: &[u8])
     requires { HasSection table.now.chains number }
 {
-    let section = table.section(number);
-    assert_eq!(rt; section.prims as usize, sizes.len());
-    let mut raw_bytes = 0u64;
-    for pos in 0..section.prims {
-        let size = table.prim_size(number, pos);
-        assert_eq!(rt; Some(&size), sizes.get(pos as usize));
-        raw_bytes = raw_bytes.wrapping_add(u64::from(size));
+    for pos in 0..10u16 {
+        let wanted = sizes.get(pos as usize).copied();
+        same!(rt; raw_size(table, number, pos), wanted, pos);
     }
-    assert_eq!(rt; u64::from(section.raw_bytes), raw_bytes);
 }
 
 /// Compares the sections of an object of this class, from the first to the last.
@@ -153,7 +175,7 @@ fn compare_with_filled(rt: &impl Abort, table: &Table, number: u32, filled: &[Pl
     };
     match table.sections(chain) {
         Some(sections) => compare_each(rt, table, sections, filled),
-        None => assert!(rt; filled.is_empty(), "number {number}"),
+        None => holds!(rt; filled.is_empty(), format_args!("number {number}")),
     }
 }
 
@@ -164,13 +186,13 @@ fn compare_each(rt: &impl Abort, table: &Table, sections: Sections, filled: &[Pl
     let Sections { first, last } = sections;
     let mut next = Some(first);
     'sections: for class in filled {
-        assert!(rt; next.is_some());
+        holds!(rt; next.is_some());
         if let Some(section) = next {
             compare_section(rt, table, section, *class);
             next = table.next_section(last, section);
         }
     }
-    assert!(rt; next.is_none());
+    holds!(rt; next.is_none());
 }
 
 /// A class with fields of random kinds, mostly few.
@@ -208,7 +230,7 @@ fn close_full_classes(
 ) -> Result<(), Fail> {
     for number in 0..100_000usize {
         let class = full_class(number.checked_sub(step));
-        add(rt, rt.alloc(), table, classes, class)?;
+        add(rt, table, classes, class)?;
     }
     Ok(())
 }
@@ -262,7 +284,7 @@ fn close_random_classes(
             _ => number.checked_sub(1),
         };
         let class = random_class(random, parent);
-        add(rt, rt.alloc(), table, classes, class)?;
+        add(rt, table, classes, class)?;
     }
     Ok(())
 }
@@ -314,10 +336,16 @@ fn sections_of_random_chains(rt: HostRuntime) -> Result<(), Fail> {
 /// A table with a text, an object, and a class whose superclass has not been read.
 fn three_entries(alloc: Global) -> Result<Table, Fail> {
     let mut table = Table::new(alloc, 9);
+    assign_three(&mut table)?;
+    Ok(table)
+}
+
+/// Assigns the handles of these three.
+fn assign_three(table: &mut Table) -> Result<(), TableFault> {
     for kind in [Kind::Text, Kind::Other, Kind::Pending] {
         table.assign(kind)?;
     }
-    Ok(table)
+    Ok(())
 }
 
 /// What each number names in the table of the test below, as a class.
@@ -354,8 +382,8 @@ fn compare_doubles(rt: &impl Abort, table: &Table) {
     let Class::Closed(chain) = table.class_at(2) else {
         panic!(rt; "no closed class");
     };
-    assert_eq!(rt; table.chain_fit(chain, Purpose::Array), Fit::Fits);
-    assert_eq!(rt; table.element_size(chain), Some(8));
-    assert!(rt; table.is_external(chain));
-    assert!(rt; table.sections(chain).is_none());
+    same!(rt; table.chain_fit(chain, Purpose::Array), Fit::Fits);
+    same!(rt; table.element_size(chain), Some(8));
+    holds!(rt; table.is_external(chain));
+    holds!(rt; table.sections(chain).is_none());
 }
