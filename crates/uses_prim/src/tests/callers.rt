@@ -44,13 +44,22 @@ fn whole_texts(rt: HostRuntime) -> Result<(), Fail> {
 
 #[test]
 fn texts_in_pieces(rt: HostRuntime) {
-    let mut scan = TextScan::new(0);
-    same!(rt; push_more(&mut scan, 0x61), None);
+    same!(rt; push_more(&mut TextScan::new(0), 0x61), None);
     same!(rt; own_bytes(&TextScan::new(2), b"abc"), 2);
     same!(rt; own_bytes(&TextScan::new(4), b"abc"), 3);
     holds!(rt; ends_with(&mut TextScan::new(1), 0x61) && !ends_with(&mut TextScan::new(2), 0x61));
+}
+
+#[test]
+fn whole_units_in_pieces(rt: HostRuntime) {
     holds!(rt; push_pair(&mut TextScan::new(2), 0xC3, 0xA9));
     same!(rt; push_again(&mut TextScan::new(1), 0xC3), Err(TextFault));
+    holds!(rt; is_complete_after(&mut TextScan::new(1), b"a"));
+    holds!(rt; !is_complete_after(&mut TextScan::new(2), b"a"));
+}
+
+#[test]
+fn faulty_texts_in_pieces(rt: HostRuntime) {
     same!(rt; faulty_byte(&mut TextScan::new(2), &[0x61, 0x00]), Some(0x00));
     holds!(rt; !goes_on_after_fault(&mut TextScan::new(2), &[0x61, 0x00], 0x61));
     let mut scan = TextScan::new(3);
@@ -59,8 +68,6 @@ fn texts_in_pieces(rt: HostRuntime) {
         holds!(rt; !is_mended(&mut scan, 0x61));
         holds!(rt; !is_complete_after(&mut scan, b""));
     }
-    holds!(rt; is_complete_after(&mut TextScan::new(1), b"a"));
-    holds!(rt; !is_complete_after(&mut TextScan::new(2), b"a"));
 }
 
 #[test]
@@ -80,6 +87,10 @@ fn sinks(rt: HostRuntime) {
     holds!(rt; is_lost(&mut ToWrite::new(&mut [][..]), b"a"));
     holds!(rt; is_delivered(&mut ToWrite::new(&mut [0u8; 2][..]), b"ab"));
     same!(rt; given(&mut ToWrite::new(&mut [0u8; 2][..]), b"abc"), 2);
+}
+
+#[test]
+fn a_sink_that_is_full(rt: HostRuntime) {
     let mut page = [0u8; 2];
     let Some(mut sink) = begun(&mut page[..], b'a') else {
         return;

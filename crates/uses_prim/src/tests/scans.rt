@@ -1,6 +1,8 @@
 //! Scans of texts, byte by byte and in slices.
+ghost use Rattle.std.specs.Prelude.{◌<◌, ◌≤◌};
 
 use jser_prim::{TextFault, TextFaultAfter, TextScan, text_bytes};
+use std::alloc::{AllocError, Global};
 use std::process::Abort;
 use std::test::Fail;
 
@@ -20,55 +22,73 @@ fn push(rt: &impl Abort, scan: &mut TextScan, byte: u8) -> Result<Option<u16>, T
     scan.push(byte)
 }
 
-#[test]
-fn scan_empty(rt: HostRuntime) {
-    holds!(rt; TextScan::new(0).is_done());
+/// A byte, and what the scan answers to it.
+type Push = (u8, Result<Option<u16>, TextFault>);
+
+/// Texts: how many bytes each has, its first bytes with what the scan answers to them, and whether the scan is then done.
+const PUSHES: [(&str, u64, &[Push], bool); 6] = [
+    ("empty", 0, &[], true),
+    (
+        "lone_c3",
+        1,
+        &[(0xC3, Err(TextFault)), (0x61, Err(TextFault))],
+        false,
+    ),
+    (
+        "c080",
+        2,
+        &[(0xC0, Ok(None)), (0x80, Ok(Some(0x0000)))],
+        true,
+    ),
+    (
+        "surrogate",
+        3,
+        &[(0xED, Ok(None)), (0xA0, Ok(None)), (0x80, Ok(Some(0xD800)))],
+        true,
+    ),
+    (
+        "never: too long for what is left",
+        2,
+        &[(0xE0, Err(TextFault))],
+        false,
+    ),
+    ("never: a zero byte", 1, &[(0x00, Err(TextFault))], false),
+];
+
+/// The scan of a text of so many bytes answers this to its first bytes, and is then done, or not.
+fn compare_pushes(rt: &impl Abort, name: &str, len: u64, pushes: &[Push], is_done: bool) {
+    let mut scan = TextScan::new(len);
+    for (byte, answer) in pushes {
+        same!(rt; push(rt, &mut scan, *byte), *answer, name);
+    }
+    same!(rt; scan.is_done(), is_done, name);
 }
 
 #[test]
-fn scan_lone_c3(rt: HostRuntime) {
-    let mut scan = TextScan::new(1);
-    same!(rt; push(&rt, &mut scan, 0xC3), Err(TextFault));
-    same!(rt; push(&rt, &mut scan, 0x61), Err(TextFault));
-    holds!(rt; !scan.is_done());
-}
-
-#[test]
-fn scan_c080(rt: HostRuntime) {
-    let mut scan = TextScan::new(2);
-    same!(rt; push(&rt, &mut scan, 0xC0), Ok(None));
-    same!(rt; push(&rt, &mut scan, 0x80), Ok(Some(0x0000)));
-    holds!(rt; scan.is_done());
-}
-
-#[test]
-fn scan_surrogate(rt: HostRuntime) {
-    let mut scan = TextScan::new(3);
-    same!(rt; push(&rt, &mut scan, 0xED), Ok(None));
-    same!(rt; push(&rt, &mut scan, 0xA0), Ok(None));
-    same!(rt; push(&rt, &mut scan, 0x80), Ok(Some(0xD800)));
-    holds!(rt; scan.is_done());
-}
-
-#[test]
-fn scan_never(rt: HostRuntime) {
-    same!(rt; push(&rt, &mut TextScan::new(2), 0xE0), Err(TextFault));
-    same!(rt; push(&rt, &mut TextScan::new(1), 0x00), Err(TextFault));
+fn scans_byte_by_byte(rt: HostRuntime) {
+    for (name, len, pushes, is_done) in &PUSHES {
+        compare_pushes(&rt, name, *len, pushes, *is_done);
+    }
 }
 
 /// Whether a byte may stand after these bytes of its unit, with `left` bytes left in the text, itself
 /// included: the rows of a table that was made by hand from the layout of modified UTF-8.
 fn may_stand(unit: &[u8], byte: u8, left: usize) -> bool {
     match unit {
-        [] => match byte {
-            0x01..=0x7F => true,
-            0xC0 | 0xC2..=0xDF => left >= 2,
-            0xE0..=0xEF => left >= 3,
-            _ => false,
-        },
+        [] => may_begin(byte, left),
         [0xC0] => byte == 0x80,
         [0xE0] => matches!(byte, 0xA0..=0xBF),
         _ => matches!(byte, 0x80..=0xBF),
+    }
+}
+
+/// The rows of that table for a byte that begins its unit.
+fn may_begin(byte: u8, left: usize) -> bool {
+    match byte {
+        0x01..=0x7F => true,
+        0xC0 | 0xC2..=0xDF => left >= 2,
+        0xE0..=0xEF => left >= 3,
+        _ => false,
     }
 }
 
@@ -153,23 +173,41 @@ const ODD_BYTES: [u8; 16] = [
     0x00, 0x01, 0x7F, 0x80, 0x9F, 0xA0, 0xBF, 0xC0, 0xC1, 0xC2, 0xDF, 0xE0, 0xE1, 0xED, 0xEF, 0xF0,
 ];
 
+/// A text that repeats a pattern.
+fn repeated(pattern: [u8; 6]) -> [u8; 72] {
+    let mut text = [0u8; 72];
+    for (at, byte) in text.iter_mut().enumerate() {
+        *byte = pattern[at % 6];
+    }
+    text
+}
+
+/// The text in two slices, cut nowhere and at this place, means its bytes one by one.
+fn compare_slices(rt: &impl Abort, text: &[u8], place: usize, odd: u8) {
+    let accepted = pushed_alone(text);
+    for cut in [0, place] {
+        same!(rt; pushed_in_two(text, cut), accepted, format_args!("{} {place} {odd:02x} {cut}", text.len()));
+    }
+}
+
+/// The first bytes of a text, with each odd byte at this place, mean their bytes one by one.
+fn compare_odd_bytes(rt: &impl Abort, mut text: [u8; 72], len: usize, place: usize)
+    requires place { place < len }
+    requires len { len ≤ 72 }
+{
+    for odd in ODD_BYTES {
+        text[place] = odd;
+        compare_slices(rt, &text[..len], place, odd);
+    }
+}
+
 #[test]
 fn slices_mean_the_bytes_one_by_one(rt: HostRuntime) {
     for pattern in PATTERNS {
-        let mut text = [0u8; 70];
-        for (at, byte) in text.iter_mut().enumerate() {
-            *byte = pattern[at % 6];
-        }
-        for len in 0..=text.len() {
+        let text = repeated(pattern);
+        for len in 0..=70 {
             for place in 0..len {
-                let usual = text[place];
-                for odd in ODD_BYTES {
-                    text[place] = odd;
-                    let accepted = pushed_alone(&text[..len]);
-                    same!(rt; pushed_in_two(&text[..len], 0), accepted, format_args!("{len} {place} {odd:02x}"));
-                    same!(rt; pushed_in_two(&text[..len], place), accepted, format_args!("{len} {place} {odd:02x}"));
-                }
-                text[place] = usual;
+                compare_odd_bytes(&rt, text, len, place);
             }
         }
     }
@@ -178,34 +216,49 @@ fn slices_mean_the_bytes_one_by_one(rt: HostRuntime) {
 #[test]
 fn each_cut_of_a_text_gives_the_same(rt: HostRuntime) {
     for pattern in PATTERNS {
-        let mut text = [0u8; 72];
-        for (at, byte) in text.iter_mut().enumerate() {
-            *byte = pattern[at % 6];
-        }
+        let text = repeated(pattern);
         for cut in 0..=text.len() {
             same!(rt; pushed_in_two(&text, cut), text.len(), cut);
         }
     }
 }
 
-#[test]
-fn each_unit_comes_back_from_its_spelling(rt: HostRuntime) -> Result<(), Fail> {
-    let mut units = Vec::new(rt.alloc());
-    for unit in 0..=u16::MAX {
-        units.push(unit)?;
-    }
-    let bytes = text_bytes(rt.alloc(), &units)?;
-    same!(rt; bytes.len(), 2 + 127 + 2 * 1920 + 3 * 63488);
+/// All units, in order.
+fn all_units(alloc: Global) -> Result<Vec<u16>, AllocError> {
+    (0..=u16::MAX).collect(alloc)
+}
+
+/// Appends the units that a scan of the bytes gives.
+fn read_back(rt: &impl Abort, bytes: &[u8], units: &mut Vec<u16>) -> Result<(), Fail> {
     let mut scan = TextScan::new(bytes.len() as u64);
-    let mut read = Vec::new(rt.alloc());
-    for byte in &bytes {
-        if let Some(unit) = push(&rt, &mut scan, *byte)? {
-            read.push(unit)?;
+    for byte in bytes {
+        if let Some(unit) = push(rt, &mut scan, *byte)? {
+            units.push(unit)?;
         }
     }
     holds!(rt; scan.is_done());
-    same!(rt; read, units);
     Ok(())
+}
+
+/// The units that a scan of the bytes gives are these.
+fn compare_read(rt: &impl Abort, alloc: Global, bytes: &[u8], units: &[u16]) -> Result<(), Fail> {
+    let mut read = Vec::new(alloc);
+    read_back(rt, bytes, &mut read)?;
+    same!(rt; read.as_slice(), units);
+    Ok(())
+}
+
+/// The spelling of these units, which has so many bytes, gives them back.
+fn compare_spelled(rt: &impl Abort, alloc: Global, units: &[u16], len: usize) -> Result<(), Fail> {
+    let bytes = text_bytes(alloc, units)?;
+    same!(rt; bytes.len(), len);
+    compare_read(rt, alloc, &bytes, units)
+}
+
+#[test]
+fn each_unit_comes_back_from_its_spelling(rt: HostRuntime) -> Result<(), Fail> {
+    let units = all_units(rt.alloc())?;
+    compare_spelled(&rt, rt.alloc(), &units, 2 + 127 + 2 * 1920 + 3 * 63488)
 }
 
 #[test]

@@ -1,6 +1,8 @@
 //! The spelling of units and of texts.
 
 use jser_prim::{spell_unit, text_bytes, units_of};
+use std::alloc::Global;
+use std::process::Abort;
 use std::test::Fail;
 
 #[test]
@@ -35,24 +37,35 @@ fn units_of_two(rt: HostRuntime) -> Result<(), Fail> {
     Ok(())
 }
 
+/// Texts, each with its spelling.
+const SPELLINGS: [(&str, &[u8]); 4] = [
+    ("", b""),
+    ("a", b"a"),
+    ("serial", b"serial"),
+    (
+        "\u{0}\u{e9}\u{4e00}\u{1F600}",
+        b"\xC0\x80\xC3\xA9\xE4\xB8\x80\xED\xA0\xBD\xED\xB8\x80",
+    ),
+];
+
+/// The bytes of a text, where memory suffices.
+fn bytes_of(alloc: Global, text: &str) -> Option<Vec<u8>> {
+    let units = units_of(alloc, text).ok()?;
+    text_bytes(alloc, &units).ok()
+}
+
+/// The text has this spelling, or memory ran out.
+fn compare_spelling(rt: &impl Abort, alloc: Global, text: &str, spelling: &[u8]) {
+    if let Some(bytes) = bytes_of(alloc, text) {
+        same!(rt; bytes.as_slice(), spelling, format_args!("{text:?}"));
+    }
+}
+
 /// Where an allocation is refused, the answer is that memory ran out, and no other answer changes. (Where
 /// memory suffices this shows nothing beyond the tests above: run it with refused allocations.)
 #[test]
-fn refused_growth_changes_no_answer(rt: HostRuntime) -> Result<(), Fail> {
-    for text in ["", "a", "serial", "\u{0}\u{e9}\u{4e00}\u{1F600}"] {
-        let Ok(units) = units_of(rt.alloc(), text) else {
-            return Ok(());
-        };
-        let Ok(bytes) = text_bytes(rt.alloc(), &units) else {
-            return Ok(());
-        };
-        let spelling: &[u8] = match text {
-            "" => b"",
-            "a" => b"a",
-            "serial" => b"serial",
-            _ => b"\xC0\x80\xC3\xA9\xE4\xB8\x80\xED\xA0\xBD\xED\xB8\x80",
-        };
-        same!(rt; bytes.as_slice(), spelling, format_args!("{text:?}"));
+fn refused_growth_changes_no_answer(rt: HostRuntime) {
+    for (text, spelling) in &SPELLINGS {
+        compare_spelling(&rt, rt.alloc(), text, spelling);
     }
-    Ok(())
 }
