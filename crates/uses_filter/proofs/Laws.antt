@@ -1,5 +1,5 @@
 -- What the laws of filters say of one verdict.
-use Rattle.std.proofs.Common.{◌≡◌, ◌≢◌, ◌==◌, ◌∙◌, sym, subst, ℕ, List, [], ◌∷◌, ◌++◌, false}
+use Rattle.std.proofs.Common.{◌≡◌, ◌≢◌, ◌==◌, ◌∙◌, sym, ℕ, List, [], ◌∷◌, ◌++◌, false}
 use Rattle.std.specs.List.{list_any}
 use Rattle.jser_filter.specs.declared.Verdict.{Verdict}
 use Rattle.jser_filter.specs.declared.Verdict.TheVariants as verdict

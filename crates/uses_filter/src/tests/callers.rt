@@ -96,11 +96,15 @@ fn compare_loaded(rt: &impl Abort, filter: &Filter) {
 
 #[test]
 fn loaded_settings(rt: HostRuntime) {
-    let alloc = rt.alloc();
-    let Ok(filter) = load(alloc, "!shop/a.*;maxdepth=20", "a=shop") else {
+    let Ok(filter) = load(rt.alloc(), "!shop/a.*;maxdepth=20", "a=shop") else {
         return;
     };
     compare_loaded(&rt, &filter);
+    compare_without_modules(&rt, rt.alloc(), filter);
+}
+
+/// The filter admits the classes of the module once the table is forgotten.
+fn compare_without_modules(rt: &impl Abort, alloc: Global, filter: Filter) {
     let bare = forget_modules(alloc, filter);
     holds!(rt; admits(&bare, &IN_SHOP));
 }

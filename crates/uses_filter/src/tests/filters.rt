@@ -20,12 +20,10 @@ fn judge(filter: &Filter, name: &[u16]) -> Option<Verdict> {
     }
 }
 
-/// The filter of a text that has no fault.
-fn filter_of(rt: &impl Abort, alloc: Global, text: &str) -> Filter {
-    match Filter::parse(alloc, text) {
-        Ok(filter) => filter,
-        Err(fault) => panic!(rt; "{text}: {fault:?}"),
-    }
+/// What a filter's text says of a name, or `None` for a malformed one.
+fn judge_by(alloc: Global, text: &str, name: &[u16]) -> Result<Option<Verdict>, FilterFault> {
+    let filter = Filter::parse(alloc, text)?;
+    Ok(judge(&filter, name))
 }
 
 /// A filter's text, a name, and what that text says of it.
@@ -40,8 +38,7 @@ fn compare_row(
     verdict: Verdict,
 ) -> Result<(), AllocError> {
     let units = units_of(alloc, name)?;
-    let filter = filter_of(rt, alloc, text);
-    same!(rt; judge(&filter, &units), Some(verdict), format_args!("{text} on {name}"));
+    same!(rt; judge_by(alloc, text, &units), Ok(Some(verdict)), format_args!("{text} on {name}"));
     Ok(())
 }
 
@@ -55,7 +52,8 @@ fn compare(rt: &(impl Abort + AllocGlobal), rows: &[Row]) -> Result<(), Fail> {
 
 /// The limits of a text.
 fn limits_of(alloc: Global, text: &str) -> Result<Limits, FilterFault> {
-    Ok(Filter::parse(alloc, text)?.limits())
+    let filter = Filter::parse(alloc, text)?;
+    Ok(filter.limits())
 }
 
 /// The fault of a text, if it has one.
@@ -319,6 +317,12 @@ fn filter_with_modules(alloc: Global, text: &str) -> Result<Filter, Fail> {
     Ok(filter.with_modules(table))
 }
 
+/// What the text says of a name with the table, or `None` for a malformed one.
+fn judge_with_modules(alloc: Global, text: &str, name: &[u16]) -> Result<Option<Verdict>, Fail> {
+    let filter = filter_with_modules(alloc, text)?;
+    Ok(judge(&filter, name))
+}
+
 /// That the text does not allow the name without the table.
 fn compare_without_modules(
     rt: &impl Abort,
@@ -326,8 +330,8 @@ fn compare_without_modules(
     text: &str,
     name: &[u16],
 ) -> Result<(), Fail> {
-    let bare = Filter::parse(alloc, text)?;
-    holds!(rt; judge(&bare, name) != Some(Verdict::Allowed(0)), text);
+    let verdict = judge_by(alloc, text, name)?;
+    holds!(rt; verdict != Some(Verdict::Allowed(0)), text);
     Ok(())
 }
 
@@ -339,8 +343,8 @@ fn compare_with_modules(
     name: &[u16],
     verdict: Verdict,
 ) -> Result<(), Fail> {
-    let filter = filter_with_modules(alloc, text)?;
-    same!(rt; judge(&filter, name), Some(verdict), text);
+    let found = judge_with_modules(alloc, text, name)?;
+    same!(rt; found, Some(verdict), text);
     Ok(())
 }
 

@@ -15,25 +15,41 @@ const LINES: u32 = 50_000;
 
 const CALLS: u32 = 200_000;
 
-/// Appends many exact names, each with the end of its piece, and `!*`.
+/// Appends an exact name with the end of its piece.
+fn push_name(text: &mut String, number: u32) -> Result<(), AllocError> {
+    write!(text, "com.example.shop.model.Item{number};")
+}
+
+/// Appends many exact names.
 fn push_names(text: &mut String) -> Result<(), AllocError> {
     for number in 0..NAMES {
-        write!(text, "com.example.shop.model.Item{number};")?;
+        push_name(text, number)?;
     }
+    Ok(())
+}
+
+/// Appends many exact names, and a piece that rejects all others.
+fn push_pieces(text: &mut String) -> Result<(), AllocError> {
+    push_names(text)?;
     text.push_str("!*")
 }
 
 /// A filter's text of many exact names, and `!*` at its end.
 fn exact_names(alloc: Global) -> Result<String, AllocError> {
     let mut text = String::new(alloc);
-    push_names(&mut text)?;
+    push_pieces(&mut text)?;
     Ok(text)
+}
+
+/// Appends the line for a package.
+fn push_line(text: &mut String, number: u32) -> Result<(), AllocError> {
+    write!(text, "com.example.part{number}=shop{number}\n")
 }
 
 /// Appends lines for many packages.
 fn push_lines(text: &mut String) -> Result<(), AllocError> {
     for number in 0..LINES {
-        write!(text, "com.example.part{number}=shop{number}\n")?;
+        push_line(text, number)?;
     }
     Ok(())
 }
@@ -45,6 +61,12 @@ fn many_lines(alloc: Global) -> Result<String, AllocError> {
     Ok(text)
 }
 
+/// The filter of many exact names allows the last one, and rejects one that it lacks.
+fn judge_two(rt: &impl Abort, filter: &Filter, last: &[u16], lacking: &[u16]) {
+    holds!(rt; judge(filter, last) == Some(Verdict::Allowed(1999)));
+    holds!(rt; judge(filter, lacking) == Some(Verdict::Rejected(2000)));
+}
+
 /// The nanoseconds of a call of `judge` for these two names, the last one of the filter and one that it lacks.
 fn cost_of_judge(
     rt: &(impl Abort + Clock),
@@ -54,8 +76,7 @@ fn cost_of_judge(
 ) -> io::Result<u128> {
     let start = Instant::now(rt)?;
     for _ in 0..CALLS {
-        holds!(rt; judge(filter, last) == Some(Verdict::Allowed(1999)));
-        holds!(rt; judge(filter, lacking) == Some(Verdict::Rejected(2000)));
+        judge_two(rt, filter, last, lacking);
     }
     let spent = start.elapsed(rt)?.as_nanos();
     Ok(spent / (2 * u128::from(CALLS)))
