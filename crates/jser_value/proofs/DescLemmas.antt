@@ -1,5 +1,5 @@
 -- A new descriptor: what was told of its parts tells of the whole.
-use Rattle.std.proofs.Common.{◌≡◌, ◌≤◌, ◌<◌, ◌&&◌, ◌+◌, true, false, ℕ, suc, List, [], ◌∷◌, ◌++◌, length, length-append, sym, ap, ◌∙◌, arith, Option, Some, None, slice_set, subst}
+use Rattle.std.proofs.Common.{◌≡◌, ◌≤◌, ◌&&◌, ◌+◌, true, false, ℕ, suc, List, [], ◌∷◌, ◌++◌, length, length-append, sym, ap, ◌∙◌, arith, Option, Some, None, slice_set, subst}
 use Rattle.jser_grammar.proofs.Vocabulary.{pending_entry, closed_entry, Layer, FieldTree, DescTree, plain, proxy, ClassPlaceTree, ContentTrees, Entries, add, plain_layer, proxy_layer, after_fields, after_desc, after_class, after_contents, chain_of_class}
 use Rattle.jser_grammar.proofs.Bools.{and_left, and_right, and_both}
 use Rattle.jser_prim.specs.Bytes.{big_bytes}
