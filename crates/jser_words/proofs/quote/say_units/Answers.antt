@@ -1,5 +1,8 @@
-use Rattle.jser_words.proofs.SaysLemmas.{says_on}
+use Rattle.jser_words.proofs.SaysLemmas.{says_none, says_on}
 use Rattle.jser_words.proofs.quote.say_units.Goals as goal
+
+pub runs-init : goal.runs-init
+runs-init g c = says_none _ _ _
 
 pub runs-preserved : goal.runs-preserved
 runs-preserved g c = says_on _ _ _ _ _ _ _ _ _ c.runs.invariant c.say_run-rest.ensures.said
