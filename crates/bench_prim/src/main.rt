@@ -3,7 +3,7 @@
 //! nothing, as the gate runs it.
 #![tactic(auto)]
 
-use anyhow::{Result, ensure};
+use anyhow::{Error, Result};
 use jser_prim::TextScan;
 use std::alloc::{AllocError, Global};
 use std::env;
@@ -14,7 +14,7 @@ use std::time::Instant;
 const REPEATS: usize = 8192;
 
 /// The kinds of text: a name, and the bytes that it repeats.
-const KINDS: [(&str, [u8; 6]); 4] = [
+static KINDS: [(&str, [u8; 6]); 4] = [
     ("units of one byte", *b"serial"),
     ("units of two bytes", [0xC3, 0xA9, 0xC3, 0xA9, 0xC3, 0xA9]),
     ("units of three bytes", [0xE4, 0xB8, 0x80, 0xE4, 0xB8, 0x80]),
@@ -32,19 +32,39 @@ enum Way {
 
 fn main(rt: HostRuntime) -> Result<()> {
     let asked = env::args(&rt)?.nth(1);
-    let megabytes = match &asked {
-        Some(text) => text.parse::<u32>()?,
-        None => 1,
-    };
-    for (name, pattern) in KINDS {
-        let text = repeated(rt.alloc(), &pattern)?;
-        let alone = speed(&rt, &text, megabytes, Way::Alone)?;
-        let together = speed(&rt, &text, megabytes, Way::Together)?;
-        if asked.is_some() {
+    scan(&rt, asked.as_ref())
+}
+
+/// Scans what is asked for, and prints how fast, or scans a little.
+fn scan(rt: &HostRuntime, asked: Option<&String>) -> Result<()> {
+    match asked {
+        Some(text) => scan_kinds(rt, text.parse::<u32>()?, true),
+        None => scan_kinds(rt, 1, false),
+    }
+}
+
+/// Scans so many megabytes of each kind of text, and prints how fast, if that is wanted.
+fn scan_kinds(rt: &HostRuntime, megabytes: u32, prints: bool) -> Result<()> {
+    for (name, pattern) in &KINDS {
+        let (alone, together) = speeds_of(rt, rt.alloc(), pattern, megabytes)?;
+        if prints {
             println!(rt; "{name}: push {alone} MB/s, push_all {together} MB/s")?;
         }
     }
     Ok(())
+}
+
+/// How many megabytes of the bytes, repeated, are scanned in a second: alone, and together.
+fn speeds_of(rt: &impl Clock, alloc: Global, pattern: &[u8], megabytes: u32) -> Result<(u64, u64)> {
+    let text = repeated(alloc, pattern)?;
+    both_speeds(rt, &text, megabytes)
+}
+
+/// The same of a text.
+fn both_speeds(rt: &impl Clock, text: &[u8], megabytes: u32) -> Result<(u64, u64)> {
+    let alone = speed(rt, text, megabytes, Way::Alone)?;
+    let together = speed(rt, text, megabytes, Way::Together)?;
+    Ok((alone, together))
 }
 
 /// The bytes, repeated.
@@ -61,15 +81,25 @@ fn speed(rt: &impl Clock, text: &[u8], megabytes: u32, way: Way) -> Result<u64> 
     let len = text.len() as u64;
     let turns = u64::from(megabytes) * 1_000_000 / len.max(1);
     let start = Instant::now(rt)?;
+    if !accepts(text, turns, way) {
+        return Err(Error::msg("a right text was refused"));
+    }
+    let micros = u64::try_from(start.elapsed(rt)?.as_micros())?;
+    Ok(turns.saturating_mul(len) / micros.max(1))
+}
+
+/// Whether the text is accepted in this way, so many times.
+fn accepts(text: &[u8], turns: u64, way: Way) -> bool {
     for _ in 0..turns {
         let accepted = match way {
             Way::Alone => accepts_alone(text),
             Way::Together => accepts_together(text),
         };
-        ensure!(accepted, "a right text was refused");
+        if !accepted {
+            return false;
+        }
     }
-    let micros = u64::try_from(start.elapsed(rt)?.as_micros())?;
-    Ok(turns.saturating_mul(len) / micros.max(1))
+    true
 }
 
 /// Whether each byte of the text is accepted, one by one.
