@@ -6,14 +6,14 @@
 ghost use Rattle.std.specs.Prelude.{◌≢◌};
 ghost use Rattle.jser_table.specs.Names.{element_of, malformed_element};
 
-use anyhow::{Result, bail, ensure};
+use anyhow::{Error, Result, bail};
 use jser_filter::{Filter, Modules, Verdict};
 use jser_prim::units_of;
 use jser_table::{Element, element_of};
 use std::alloc::{AllocError, Global};
+use std::env;
 use std::rt::Clock;
 use std::time::Instant;
-use std::{env, fmt};
 
 /// A form of pattern: what stands before the number of a pattern, and what after it.
 #[derive(Clone, Copy)]
@@ -23,7 +23,7 @@ struct Form {
     back: &'static str,
 }
 
-const FORMS: [Form; 8] = [
+static FORMS: [Form; 8] = [
     Form {
         name: "P.X",
         front: "org.sample.shop.K",
@@ -67,7 +67,7 @@ const FORMS: [Form; 8] = [
 ];
 
 /// How many patterns a filter has.
-const COUNTS: [u32; 5] = [1, 10, 100, 1000, 10_000];
+static COUNTS: [u32; 5] = [1, 10, 100, 1000, 10_000];
 
 /// Names of 1, 20 and 60 units; the longer ones begin as the patterns do.
 const NAMES: [&str; 3] = [
@@ -80,73 +80,95 @@ const NAMES: [&str; 3] = [
 const MODULES: &str = "org.sample.shop=shop";
 
 fn main(rt: HostRuntime) -> Result<()> {
-    let Some(text) = env::args(&rt)?.nth(1) else {
-        return try_all(&rt, rt.alloc());
-    };
-    let calls = u32::from(text.parse::<u16>()?) * 1000;
-    for form in FORMS {
-        for count in COUNTS {
-            let costs = measure(&rt, rt.alloc(), form, count, calls)?;
-            let name = form.name;
-            println!(rt; "{count} of {name}: {costs} ns")?;
-        }
+    let asked = env::args(&rt)?.nth(1);
+    judge_names(&rt, asked.as_ref())
+}
+
+/// Judges each name as often as is asked for, and prints what it takes, or judges it a few times.
+fn judge_names(rt: &HostRuntime, asked: Option<&String>) -> Result<()> {
+    match asked {
+        Some(text) => print_costs(rt, u32::from(text.parse::<u16>()?) * 1000),
+        None => try_all(rt, rt.alloc()),
     }
-    Ok(())
 }
 
 /// Judges each name once, by 1 and by 10 patterns of each form.
 fn try_all(rt: &impl Clock, alloc: Global) -> Result<()> {
-    for form in FORMS {
-        for count in [1, 10] {
-            measure(rt, alloc, form, count, 1)?;
-        }
+    for form in &FORMS {
+        measure(rt, alloc, form, 1, 1)?;
+        measure(rt, alloc, form, 10, 1)?;
+    }
+    Ok(())
+}
+
+/// Judges each name so many times by patterns of each form, and prints what it takes.
+fn print_costs(rt: &HostRuntime, calls: u32) -> Result<()> {
+    for form in &FORMS {
+        print_form(rt, form, calls)?;
+    }
+    Ok(())
+}
+
+/// The same for one form.
+fn print_form(rt: &HostRuntime, form: &Form, calls: u32) -> Result<()> {
+    for count in &COUNTS {
+        let Costs {
+            short,
+            middle,
+            long,
+        } = measure(rt, rt.alloc(), form, *count, calls)?;
+        let name = form.name;
+        println!(rt; "{count} of {name}: {short}, {middle}, {long} ns")?;
     }
     Ok(())
 }
 
 /// Nanoseconds that it takes to judge each of the names.
 #[derive(Clone, Copy)]
-struct Costs([u64; 3]);
-
-impl fmt::Display for Costs {
-    fn fmt<W: fmt::Write>(&self, f: &mut fmt::Formatter<W>) -> fmt::Result {
-        let [short, middle, long] = self.0;
-        write!(f, "{short}, {middle}, {long}")
-    }
+struct Costs {
+    short: u64,
+    middle: u64,
+    long: u64,
 }
 
 /// What it takes to judge each of the names by so many patterns of this form.
-fn measure(rt: &impl Clock, alloc: Global, form: Form, count: u32, calls: u32) -> Result<Costs> {
+fn measure(rt: &impl Clock, alloc: Global, form: &Form, count: u32, calls: u32) -> Result<Costs> {
     let filter = filter_with(alloc, form, count)?;
     measure_by(rt, alloc, &filter, calls)
 }
 
 /// What it takes to judge each of the names by this filter.
 fn measure_by(rt: &impl Clock, alloc: Global, filter: &Filter, calls: u32) -> Result<Costs> {
-    let mut costs = [0; 3];
-    for (place, name) in costs.iter_mut().zip(NAMES) {
-        *place = cost(rt, alloc, filter, name, calls)?;
-    }
-    Ok(Costs(costs))
+    let [short, middle, long] = NAMES;
+    Ok(Costs {
+        short: cost(rt, alloc, filter, short, calls)?,
+        middle: cost(rt, alloc, filter, middle, calls)?,
+        long: cost(rt, alloc, filter, long, calls)?,
+    })
 }
 
 /// A filter of so many patterns of this form, none of which matches a name of `NAMES`.
-fn filter_with(alloc: Global, form: Form, count: u32) -> Result<Filter> {
+fn filter_with(alloc: Global, form: &Form, count: u32) -> Result<Filter> {
     let text = text_of(alloc, form, count)?;
+    filter_of(alloc, text.as_str())
+}
+
+/// The filter of this text, with the table of modules.
+fn filter_of(alloc: Global, text: &str) -> Result<Filter> {
     let Ok(modules) = Modules::parse(alloc, MODULES) else {
-        bail!("the table of modules was refused");
+        return Err(Error::msg("the table of modules was refused"));
     };
-    match Filter::parse(alloc, text.as_str()) {
+    match Filter::parse(alloc, text) {
         Ok(filter) => Ok(filter.with_modules(modules)),
         Err(fault) => bail!("the filter was refused: {fault}"),
     }
 }
 
 /// The text of so many patterns of this form.
-fn text_of(alloc: Global, form: Form, count: u32) -> Result<String, AllocError> {
+fn text_of(alloc: Global, form: &Form, count: u32) -> Result<String, AllocError> {
     let mut text = String::new(alloc);
     for number in 0..count {
-        let Form { front, back, .. } = form;
+        let Form { front, back, .. } = *form;
         let pattern = format!(in alloc; "{front}{number}{back};")?;
         text.push_str(pattern.as_str())?;
     }
@@ -157,7 +179,7 @@ fn text_of(alloc: Global, form: Form, count: u32) -> Result<String, AllocError> 
 fn cost(rt: &impl Clock, alloc: Global, filter: &Filter, name: &str, calls: u32) -> Result<u64> {
     let units = units_of(alloc, name)?;
     match element_of(&units) {
-        Element::Malformed => bail!("the name is malformed"),
+        Element::Malformed => Err(Error::msg("the name is malformed")),
         _ => time_judging(rt, filter, &units, calls),
     }
 }
@@ -167,12 +189,21 @@ fn time_judging(rt: &impl Clock, filter: &Filter, name: &[u16], calls: u32) -> R
     requires { element_of name.now ≢ malformed_element }
 {
     let start = Instant::now(rt)?;
-    for _ in 0..calls {
-        ensure!(
-            filter.judge(name) == Verdict::Undecided,
-            "a pattern matched that should not"
-        );
+    if !stays_undecided(filter, name, calls) {
+        return Err(Error::msg("a pattern matched that should not"));
     }
     let nanos = u64::try_from(start.elapsed(rt)?.as_nanos())?;
     Ok(nanos / u64::from(calls).max(1))
+}
+
+/// Whether no pattern matches the name, which is judged so many times.
+fn stays_undecided(filter: &Filter, name: &[u16], calls: u32) -> bool
+    requires { element_of name.now ≢ malformed_element }
+{
+    for _ in 0..calls {
+        if filter.judge(name) != Verdict::Undecided {
+            return false;
+        }
+    }
+    true
 }
