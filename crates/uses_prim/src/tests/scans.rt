@@ -27,32 +27,37 @@ type Push = (u8, Result<Option<u16>, TextFault>);
 
 /// Texts: how many bytes each has, its first bytes with what the scan answers to them, and whether the scan is then done.
 const PUSHES: [(&str, u64, &[Push], bool); 6] = [
-    ("empty", 0, &[], true),
+    ("scan-empty", 0, &[], true),
     (
-        "lone_c3",
+        "scan-lone-c3",
         1,
         &[(0xC3, Err(TextFault)), (0x61, Err(TextFault))],
         false,
     ),
     (
-        "c080",
+        "scan-c080",
         2,
         &[(0xC0, Ok(None)), (0x80, Ok(Some(0x0000)))],
         true,
     ),
     (
-        "surrogate",
+        "scan-surrogate",
         3,
         &[(0xED, Ok(None)), (0xA0, Ok(None)), (0x80, Ok(Some(0xD800)))],
         true,
     ),
     (
-        "never: too long for what is left",
+        "scan-never, too long for what is left",
         2,
         &[(0xE0, Err(TextFault))],
         false,
     ),
-    ("never: a zero byte", 1, &[(0x00, Err(TextFault))], false),
+    (
+        "scan-never, a zero byte",
+        1,
+        &[(0x00, Err(TextFault))],
+        false,
+    ),
 ];
 
 /// The scan of a text of so many bytes answers this to its first bytes, and is then done, or not.
