@@ -15,12 +15,7 @@ mod sections;
 
 const INT: u8 = b'I';
 
-fn make_layer(
-    alloc: Global,
-    kind: LayerKind,
-    flags: u8,
-    codes: &[u8],
-) -> Result<Layer, AllocError>
+fn make_layer(alloc: Global, kind: LayerKind, flags: u8, codes: &[u8]) -> Result<Layer, AllocError>
     requires { length codes.now < 2 ^ 15 }
 {
     Ok(Layer {
