@@ -1,5 +1,5 @@
 -- What the place says of the byte, said of the text. `held` is what the scan has accepted, said of its fields.
-use Rattle.std.proofs.Common.{◌<◌, sym, subst, refl}
+use Rattle.std.proofs.Common.{◌<◌, sym, subst, refl, rules}
 use Rattle.jser_prim.specs.Texts.{HasAccepted}
 use Rattle.jser_prim.proofs.ScanLemmas.{accepts_unit, accepts_part, refuses_byte}
 use Rattle.jser_prim.proofs.scan.TextScan.push.Goals as goal
@@ -37,3 +37,9 @@ returns-in-Refused-clause-accepts c = λ len bytes units accepted.
     let held = subst (HasAccepted len bytes units) (sym c.self.view_is) accepted in
     let none = c.in-Refused.ensures.takes held.going in
     (λ ok. absurd cc, λ begins. absurd (refuses_byte len bytes units _ c.args.byte held none begins))
+
+pub returns-in-Refused-clause-fault : goal.returns-in-Refused-clause-fault
+returns-in-Refused-clause-fault c = search rules
+
+pub returns-in-Refused-clause-failed : goal.returns-in-Refused-clause-failed
+returns-in-Refused-clause-failed c = search rules

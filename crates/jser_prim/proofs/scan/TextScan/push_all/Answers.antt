@@ -1,4 +1,5 @@
 -- The bytes pushed before this turn, and those of the turn.
+use Rattle.std.proofs.lemmas.Grind.{common_steps}
 use Rattle.std.proofs.Common.{refl, arith, rules, tests}
 use Rattle.jser_prim.proofs.PushLemmas.{pushed_more, pushed_to_fault, pushed_all}
 use Rattle.jser_prim.proofs.TextLemmas.{no_text}
@@ -26,3 +27,6 @@ pub returns-clause-accepts : goal.returns-clause-accepts
 returns-clause-accepts c = λ len before units accepted.
     let all = pushed_all _ _ _ _ c.bytes.invariant.pushed (search (rules, tests)) in
     (λ _. (all.all refl len before units accepted).accepted.begins, λ _. refl)
+
+pub bytes-init : goal.bytes-init
+bytes-init c = grind (arith, common_steps)

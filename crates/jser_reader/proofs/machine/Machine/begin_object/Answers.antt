@@ -10,3 +10,6 @@ returns-in_default c =
     let none : AreSections c.args.self.now.table.chains chain None = search rules in
     let bare : is_external chain ≡ false = search rules in
     bare_object c.args.self.now.table.chains chain _ _ _ none refl bare c.value_done.ensures.ready c.value_done.ensures.meter c.value_done.ensures.kept
+
+pub begin_section-requires-clause-on : goal.begin_section-requires-clause-on
+begin_section-requires-clause-on c = search rules

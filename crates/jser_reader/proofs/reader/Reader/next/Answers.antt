@@ -54,3 +54,12 @@ returns-then-is_empty-2-clause-memory g c =
     subst (λ r. MemoryFree (g.G.Gate.told r.gate) c.args.piece.now (Err c.exceed.result) r.machine r.tally) c.self.view_is
     (free_full c.exceed.result c.args.piece.now c.within-front.result.now _ _ _ _ c.within-front.ensures (all_bytes c.args.piece.now (λ k. omega (arith, c.type_inv.piece k)))
     (search rules) c.exceed.ensures (search rules))
+
+pub returns-clause-tells : goal.returns-clause-tells
+returns-clause-tells g c = search rules
+
+pub returns-clause-items : goal.returns-clause-items
+returns-clause-items g c = search rules
+
+pub returns-clause-memory : goal.returns-clause-memory
+returns-clause-memory g c = search rules
