@@ -17,7 +17,7 @@ most_refs = 2 ^ 63 - 1
 abbrev pub most_array : ℕ
 most_array = 2 ^ 31 - 1
 
--- the handles of an epoch: those from 0x7E0000 to 0x7FFFFFFF
+-- the handles of an epoch: those from BASE_WIRE_HANDLE to 2 ^ 31 - 1
 abbrev pub most_handles : ℕ
 most_handles = 2139226112
 

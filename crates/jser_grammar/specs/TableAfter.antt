@@ -1,6 +1,6 @@
 -- The table of handles after a tree (Java Object Serialization Specification, section 6.4.1: "newHandle:
 -- the next number in sequence is assigned to the object being serialized or deserialized"). An entry is
--- added at the end of the list; its number is the handle less 0x7E0000.
+-- added at the end of the list; its number is the handle less BASE_WIRE_HANDLE.
 use Rattle.std.specs.Prelude.{ℕ, List, [], ◌∷◌, ◌++◌, length, slice_set, Option, Some, None}
 use Rattle.jser_table.specs.declared.layer.Layer.{Layer}
 use Rattle.jser_table.specs.declared.layer.LayerKind.TheVariants as kind

@@ -26,7 +26,7 @@ pub record PrimTree : Type 0 where
   pub bits : ℕ
 
 mutual
-  -- object: `back n` is prevObject, the handle 0x7E0000 + n
+  -- object: `back n` is prevObject, the handle BASE_WIRE_HANDLE + n
   pub data ValueTree : Type 0 where
     null : ValueTree
     back : ℕ → ValueTree

@@ -8,7 +8,7 @@ pub const MOST_DEPTH: u32 = 65_535;
 pub const MOST_REFS: u64 = 0x7FFF_FFFF_FFFF_FFFF;
 /// The length of an array: 2^31 - 1.
 pub const MOST_ARRAY: u32 = 0x7FFF_FFFF;
-/// The handles of an epoch: those from 0x7E0000 to 0x7FFFFFFF.
+/// The handles of an epoch: those from `BASE_WIRE_HANDLE` to 2^31 - 1.
 pub const MOST_HANDLES: u32 = 2_139_226_112;
 /// The bytes of a stream that is kept as a tree: 2^31 - 1.
 pub const MOST_TREE_BYTES: u64 = 0x7FFF_FFFF;

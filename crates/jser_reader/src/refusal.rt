@@ -11,9 +11,9 @@ pub enum Reason {
     BadHeader,
     /// No tag that may stand there.
     BadTag,
-    /// The tag 0x7B, `TC_EXCEPTION`.
+    /// `TC_EXCEPTION`.
     ExceptionTag,
-    /// The tag 0x79, `TC_RESET`, below the top.
+    /// `TC_RESET` below the top.
     ResetInside,
     /// No modified UTF-8 of the text's length.
     BadText,

@@ -34,7 +34,7 @@ pub(crate) enum Tag {
     Exception,
 }
 
-/// The tag that a byte is, if it is one: the bytes 0x70 to 0x7E are.
+/// The tag that a byte is, if it is one: the bytes from `TC_NULL` to `TC_ENUM` are.
 #[inline(always)]
 pub(crate) fn tag_of(byte: u8) -> Option<Tag>
     ensures { IsTagOf byte result }

@@ -27,7 +27,7 @@ pub enum Content {
 pub enum Value {
     /// TC_NULL.
     Null,
-    /// TC_REFERENCE: `Back(n)` is the handle 0x7E0000 + n.
+    /// TC_REFERENCE: `Back(n)` is the handle `BASE_WIRE_HANDLE` + n.
     Back(u32),
     /// A string.
     Text(Text),
@@ -72,7 +72,7 @@ pub struct Text {
 pub enum TextPlace {
     /// A new string.
     New(Text),
-    /// A reference to an earlier one, by the handle 0x7E0000 + n.
+    /// A reference to an earlier one, by the handle `BASE_WIRE_HANDLE` + n.
     Back(u32),
 }
 
@@ -82,7 +82,7 @@ pub enum TextPlace {
 pub enum ClassPlace {
     /// A new descriptor.
     New(Box<Desc>),
-    /// A reference to an earlier one, by the handle 0x7E0000 + n.
+    /// A reference to an earlier one, by the handle `BASE_WIRE_HANDLE` + n.
     Back(u32),
     /// TC_NULL: no class. It stands for a superclass only.
     Null,

@@ -74,7 +74,7 @@ impl Machine {
         }
     }
 
-    /// The tag 0x79, `TC_RESET`: the table of handles is emptied. Nothing is open there.
+    /// `TC_RESET`: the table of handles is emptied. Nothing is open there.
     #[tactic(auto, using(crate::proofs::TagLemmas::resets, crate::proofs::LayerLemmas::no_layers))]
     fn reset(&mut self) -> bool
         ensures reset { self.old.frames ≡ [] → Comes self.old self.new (after_content self.old (Some reset_tag_field)) }
@@ -86,7 +86,7 @@ impl Machine {
         self.done(Phase::Top)
     }
 
-    /// The tag 0x78, `TC_ENDBLOCKDATA`: the annotation on top has ended.
+    /// `TC_ENDBLOCKDATA`: the annotation on top has ended.
     #[tactic(auto, using(crate::proofs::TagLemmas::descriptor_ends, crate::proofs::TagLemmas::external_ends, crate::proofs::TagLemmas::section_ends, crate::proofs::TagLemmas::sections_end, crate::proofs::PartLemmas::fits_tail, crate::proofs::LayerLemmas::other_is_part, crate::proofs::LayerLemmas::layers_of_tail))]
     fn end_notes(&mut self) -> bool
         ensures end { HasNotes self.old.frames → Comes self.old self.new (after_end self.old) }
