@@ -12,7 +12,7 @@ use Rattle.jser_table.specs.declared.section.Sections.{Sections}
 use Rattle.jser_table.specs.declared.descriptor.Counted.TheVariants as counted
 use Rattle.jser_table.specs.Codes.{AreLeading, primitive_codes, raw_size}
 use Rattle.jser_table.specs.Chains.{own_layer, is_filled, chain_in, IsFront}
-use Rattle.jser_table.specs.Sections.{filled_layers, sections_of, HasSection, down_to, or_no_layer, layer_of, under, IsOn, HoldsFor, IsNext, AreSections, AreRaws, raws_after}
+use Rattle.jser_table.specs.Sections.{filled_layers, sections_of, HasSection, down_to, or_no_layer, layer_of, under, IsOn, HoldsFor, IsNext, AreSections, AreRaws}
 use Rattle.jser_table.specs.Descriptors.{chain_above, chain_of_parent, chains_of, IsTold, IsUnder, IsLast, IsRun, RunsOn, IsRawRun, RawsOn, IsFiled, AreFiled, FilesIf, Files, AreShelved, IsHighest}
 use Rattle.jser_table.proofs.LayerLemmas.{IsFront-from, count_by_push, own_layer_push}
 use Rattle.jser_table.proofs.SectionLemmas.{sections_none, sections_push, sections_same, filled_push, length_filled, down_to_grows, layer_of_grows, new_down_to, new_layer_of}

@@ -1,14 +1,12 @@
 -- Sections with raw values alone that stand under each other: how many bytes these have.
-use Rattle.std.proofs.Common.{◌≡◌, ℕ, zero, suc, ◌+◌, ◌-◌, ◌<◌, ◌≤◌, List, [], ◌∷◌, ◌++◌, length, Option, Some, false, refl, ap, sym, ◌∙◌, subst, arith, inl, inr}
+use Rattle.std.proofs.Common.{◌≡◌, ℕ, zero, suc, ◌+◌, ◌-◌, ◌<◌, ◌≤◌, List, [], ◌∷◌, ◌++◌, length, Option, Some, false, refl, sym, ◌∙◌, subst, arith, inl, inr}
 use Rattle.std.proofs.lemmas.Bool.{cases_lt}
 use Rattle.jser_table.specs.declared.layer.Layer.{Layer}
 use Rattle.jser_table.specs.declared.section.Section.{Section}
-use Rattle.jser_table.specs.declared.descriptor.Descriptor.{Descriptor}
-use Rattle.jser_table.specs.declared.descriptor.Filed.{Filed}
 use Rattle.jser_table.specs.declared.descriptor.RawRun.{RawRun}
 use Rattle.jser_table.specs.Codes.{primitive_codes, raw_size}
-use Rattle.jser_table.specs.Sections.{sections_of, HasSection, layer_of, HoldsFor, HoldsRaws, raws_after, IsOn}
-use Rattle.jser_table.specs.Descriptors.{IsLast, IsRun, IsRawRun, RawsOn}
+use Rattle.jser_table.specs.Sections.{sections_of, HasSection, layer_of, HoldsFor, HoldsRaws, raws_after}
+use Rattle.jser_table.specs.Descriptors.{IsRun, IsRawRun, RawsOn}
 use Rattle.jser_table.proofs.SectionLemmas.{layer_of_grows, new_layer_of}
 use Rattle.jser_table.proofs.RunLemmas.{run_grows, run_starts, run_goes_on}
 

@@ -1,6 +1,6 @@
 -- How far the links of a class lead, so that a walk up a chain takes steps in the order of its logarithm: the links are those
 -- of a skew-binary list, and a walk takes the longest one that does not lead too far.
-use Rattle.std.specs.Prelude.{ℕ, ◌≡◌, ◌+◌, ◌*◌, ◌<◌, List, Option, Some, slice_get}
+use Rattle.std.specs.Prelude.{ℕ, ◌≡◌, ◌+◌, ◌*◌, ◌<◌, List, Some, slice_get}
 use Rattle.jser_table.specs.declared.descriptor.Descriptor.{Descriptor}
 use Rattle.jser_table.specs.declared.descriptor.Links.{Links}
 use Rattle.jser_table.specs.declared.descriptor.Counted.{Counted}

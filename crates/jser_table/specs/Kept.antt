@@ -1,5 +1,5 @@
 -- How a table keeps a layer: with its type codes in place where they are few, and else in a list of their own.
-use Rattle.std.specs.Prelude.{ℕ, ◌^◌, ◌<◌, ◌≤◌, length, take}
+use Rattle.std.specs.Prelude.{◌^◌, ◌<◌, ◌≤◌, length, take}
 use Rattle.jser_table.specs.declared.layer.Layer.{Layer}
 use Rattle.jser_table.specs.declared.kept.Form.{Form}
 use Rattle.jser_table.specs.declared.kept.Form.TheVariants as form

@@ -59,6 +59,12 @@ view_entry chains kept.Other = other_entry
 view_entry chains kept.Pending = pending_entry
 view_entry chains (kept.Closed chain) = closed_entry (chain_in chains chain)
 
+abbrev pub is_text_kept : Kept → Bool
+is_text_kept kept.Text = true
+is_text_kept kept.Other = false
+is_text_kept kept.Pending = false
+is_text_kept (kept.Closed chain) = false
+
 abbrev pub is_pending_kept : Kept → Bool
 is_pending_kept kept.Text = false
 is_pending_kept kept.Other = false

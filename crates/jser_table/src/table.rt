@@ -9,7 +9,7 @@ ghost use Rattle.jser_table.specs.Codes.{size_of, primitive_codes};
 ghost use Rattle.jser_table.specs.Sections.{HasSection, layer_of, HoldsFor, IsOn, IsNext, AreSections, AreRaws};
 ghost use Rattle.jser_table.specs.Entries.{is_text, is_pending, is_closed, chain_at};
 ghost use Rattle.jser_table.specs.Fits.{fit_of};
-ghost use Rattle.jser_table.specs.Tables.{new_entry, closed_under, is_text_entry, is_pending_entry, is_closed_entry, is_closed_slot, closed_kept, parent_chain, IsClass, IsNumberOf, text_of};
+ghost use Rattle.jser_table.specs.Tables.{new_entry, closed_under, is_text_entry, is_pending_entry, is_closed_entry, is_text_kept, is_pending_kept, is_closed_kept, is_closed_slot, closed_kept, parent_chain, IsClass, IsNumberOf, text_of};
 
 use crate::chains::Chains;
 use crate::class::{ChainNumber, Class};
@@ -74,6 +74,20 @@ impl fmt::Debug for Table {
             .field("count", &self.entries.len())
             .field("max", &self.max)
             .finish_non_exhaustive()
+    }
+}
+
+/// What callers see of what a slot keeps.
+fn entry_of(kept: Kept) -> &'static Entry
+    ensures text { is_text_entry (Some result.now) ≡ is_text_kept kept }
+    ensures pending { is_pending_entry (Some result.now) ≡ is_pending_kept kept }
+    ensures closed { is_closed_entry (Some result.now) ≡ is_closed_kept kept }
+{
+    match kept {
+        Kept::Text => &Entry::Text,
+        Kept::Other => &Entry::Other,
+        Kept::Pending => &Entry::Pending,
+        Kept::Closed(_) => &Entry::Closed(Closed { nothing: () }),
     }
 }
 
@@ -164,12 +178,7 @@ impl Table {
         ensures pending { is_pending_entry (option_copied result) ≡ is_pending (slice_get self.now.entries number) }
         ensures closed { is_closed_entry (option_copied result) ≡ is_closed (slice_get self.now.entries number) }
     {
-        match self.entries.get(number as usize)?.kept() {
-            Kept::Text => Some(&Entry::Text),
-            Kept::Other => Some(&Entry::Other),
-            Kept::Pending => Some(&Entry::Pending),
-            Kept::Closed(_) => Some(&Entry::Closed(Closed { nothing: () })),
-        }
+        Some(entry_of(self.entries.get(number as usize)?.kept()))
     }
 
     /// What the number names, as a class. The other calls find the chain of a closed descriptor at once by

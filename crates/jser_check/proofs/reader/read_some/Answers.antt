@@ -8,6 +8,8 @@ returns-in-Err-skip-clause-tells g c =
     read_stopped g.G.Gate.told c.args.reader.now c.skip.new.self _ _ c.take.new.buf c.split_at.result.0.now c.in-Ok.count (length c.args.buffer.now)
     c.in-Err-skip.stop c.split_at.ensures.front c.in-Ok.ensures.within (search rules) c.in-Ok.ensures.bytes.0 (stops_skip g.G.Gate.told c.args.reader.now c.skip.new.self c.split_at.result.0.now c.in-Err-skip.stop c.in-Err-skip.ensures.tells)
 
+-- The check finds what follows with no answer too; with one, it refuses a wrong body sooner.
+
 pub returns-in-Err-clause-end : goal.returns-in-Err-clause-end
 returns-in-Err-clause-end g c = search rules
 

@@ -17,5 +17,7 @@ names-preserved c =
     counts_on (tallies_of c.names.counts.entries) (tallies_of c.count_name.new.counts.entries) c.args.graph.now.names c.names.number c.in-Some.name
     (omega (arith, c.names-test.true, c.name_count-number-end.ensures)) c.in-Some.ensures c.names.invariant c.in_ok-count_name-in-Some.ensures
 
+-- The check finds what follows with no answer too; with one, it refuses a wrong body sooner.
+
 pub names-init : goal.names-init
 names-init c = search rules

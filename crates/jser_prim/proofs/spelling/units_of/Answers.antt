@@ -15,5 +15,7 @@ returns c =
     let whole : c.loop-c.yielded ≡ chars c.args.text.now = sym (map-id c.loop-c.yielded) ∙ end.0 in
     c.loop-c.invariant ∙ ap (flat_map encode_utf16) whole
 
+-- The check finds what follows with no answer too; with one, it refuses a wrong body sooner.
+
 pub loop-c-preserved : goal.loop-c-preserved
 loop-c-preserved c = grind (arith, common_steps)

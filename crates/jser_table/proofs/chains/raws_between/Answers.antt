@@ -1,4 +1,4 @@
-use Rattle.std.proofs.Common.{sym, arith}
+use Rattle.std.proofs.Common.{arith}
 use Rattle.jser_table.proofs.RawRunLemmas.{raws_apart}
 use Rattle.jser_table.proofs.FiledLemmas.{raws_found}
 use Rattle.jser_table.proofs.chains.raws_between.Goals as goal

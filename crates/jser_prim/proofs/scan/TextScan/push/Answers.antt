@@ -38,6 +38,8 @@ returns-in-Refused-clause-accepts c = λ len bytes units accepted.
     let none = c.in-Refused.ensures.takes held.going in
     (λ ok. absurd cc, λ begins. absurd (refuses_byte len bytes units _ c.args.byte held none begins))
 
+-- The check finds what follows with no answer too; with one, it refuses a wrong body sooner.
+
 pub returns-in-Refused-clause-fault : goal.returns-in-Refused-clause-fault
 returns-in-Refused-clause-fault c = search rules
 

@@ -28,5 +28,7 @@ returns-clause-accepts c = λ len before units accepted.
     let all = pushed_all _ _ _ _ c.bytes.invariant.pushed (search (rules, tests)) in
     (λ _. (all.all refl len before units accepted).accepted.begins, λ _. refl)
 
+-- The check finds what follows with no answer too; with one, it refuses a wrong body sooner.
+
 pub bytes-init : goal.bytes-init
 bytes-init c = grind (arith, common_steps)

@@ -11,5 +11,7 @@ returns-in_default c =
     let bare : is_external chain ≡ false = search rules in
     bare_object c.args.self.now.table.chains chain _ _ _ none refl bare c.value_done.ensures.ready c.value_done.ensures.meter c.value_done.ensures.kept
 
+-- The check finds what follows with no answer too; with one, it refuses a wrong body sooner.
+
 pub begin_section-requires-clause-on : goal.begin_section-requires-clause-on
 begin_section-requires-clause-on c = search rules

@@ -55,6 +55,8 @@ returns-then-is_empty-2-clause-memory g c =
     (free_full c.exceed.result c.args.piece.now c.within-front.result.now _ _ _ _ c.within-front.ensures (all_bytes c.args.piece.now (λ k. omega (arith, c.type_inv.piece k)))
     (search rules) c.exceed.ensures (search rules))
 
+-- The check finds what follows with no answer too; with one, it refuses a wrong body sooner.
+
 pub returns-clause-tells : goal.returns-clause-tells
 returns-clause-tells g c = search rules
 

@@ -1,7 +1,7 @@
 use Rattle.std.proofs.Common.{◌≡◌, ◌<◌, ◌^◌, ◌-◌, ℕ, length, arith, rules, ap, subst}
 use Rattle.jser_table.specs.Stored.{ChainList}
 use Rattle.jser_table.specs.Descriptors.{IsUnder, IsLast, RunsOn, RawsOn, Files, chains_of, chain_of_parent}
-use Rattle.jser_table.proofs.ChainLemmas.{length_chains_of}
+use Rattle.jser_table.proofs.ChainLemmas.{length_chains_of, chains_push, told_push}
 use Rattle.jser_table.proofs.SectionLemmas.{sections_fewer}
 use Rattle.jser_table.proofs.FiledLemmas.{shelved_push}
 use Rattle.jser_table.proofs.chains.Chains.add.Goals as goal
@@ -28,3 +28,77 @@ invariant_of-self c =
     let go_on : RawsOn (chains_of own.descriptors.items) c.last_of-above.result c.section-held.result.raw_bytes c.raws_under.result = rw (← c.deref-4.ensures.value) c.raws_under.ensures in
     let few : length own.descriptors.items < 2 ^ 32 - 3 = omega (arith, ap (λ (v : ChainList). v.room) c.self.view_is, c.requires.room) in
     shelved_push own.descriptors.items c.push.new.self.items made.result c.args.parent c.args.layer c.last_of-above.result c.run_under.result c.section-held.result.raw_bytes c.raws_under.result own.sections.items c.file.new.sections.items c.self.invariant few c.in-Ok.ensures.items under at_last runs go_on c.section-held.ensures.raw_bytes files
+
+-- The check finds what follows with no answer too; with one, it refuses a wrong body sooner.
+
+pub codes-requires : goal.codes-requires
+codes-requires c = search rules
+
+pub descriptor_under-descriptor-requires-clause-fewer : goal.descriptor_under-descriptor-requires-clause-fewer
+descriptor_under-descriptor-requires-clause-fewer c = search rules
+
+pub descriptor_under-descriptor-requires-clause-parent_in : goal.descriptor_under-descriptor-requires-clause-parent_in
+descriptor_under-descriptor-requires-clause-parent_in c = search (rules, length_chains_of, told_push, chains_push)
+
+pub descriptor_under-descriptor-requires-clause-section : goal.descriptor_under-descriptor-requires-clause-section
+descriptor_under-descriptor-requires-clause-section c = search rules
+
+pub descriptor_under-descriptor-requires-clause-told : goal.descriptor_under-descriptor-requires-clause-told
+descriptor_under-descriptor-requires-clause-told c = search rules
+
+pub file-requires-clause-holds : goal.file-requires-clause-holds
+file-requires-clause-holds c = search rules
+
+pub file-requires-clause-leading : goal.file-requires-clause-leading
+file-requires-clause-leading c = search rules
+
+pub file-requires-clause-room : goal.file-requires-clause-room
+file-requires-clause-room c = search rules
+
+pub last_of-above-requires-clause-parent_in : goal.last_of-above-requires-clause-parent_in
+last_of-above-requires-clause-parent_in c = search (rules, length_chains_of, told_push, chains_push)
+
+pub last_of-above-requires-clause-told : goal.last_of-above-requires-clause-told
+last_of-above-requires-clause-told c = search rules
+
+pub leading_of-requires : goal.leading_of-requires
+leading_of-requires c = search rules
+
+pub len-number-requires : goal.len-number-requires
+len-number-requires c = search rules
+
+pub len-section-requires : goal.len-section-requires
+len-section-requires c = search rules
+
+pub push-requires : goal.push-requires
+push-requires c = search rules
+
+pub raws_under-requires-clause-above_in : goal.raws_under-requires-clause-above_in
+raws_under-requires-clause-above_in c = search rules
+
+pub raws_under-requires-clause-shelved : goal.raws_under-requires-clause-shelved
+raws_under-requires-clause-shelved c = search rules
+
+pub returns-clause-added : goal.returns-clause-added
+returns-clause-added c = search (rules, length_chains_of, told_push, chains_push)
+
+pub returns-clause-most : goal.returns-clause-most
+returns-clause-most c = search rules
+
+pub returns-clause-number : goal.returns-clause-number
+returns-clause-number c = search (rules, length_chains_of, told_push, chains_push)
+
+pub returns-clause-room : goal.returns-clause-room
+returns-clause-room c = search rules
+
+pub run_under-requires-clause-above_in : goal.run_under-requires-clause-above_in
+run_under-requires-clause-above_in c = search rules
+
+pub run_under-requires-clause-shelved : goal.run_under-requires-clause-shelved
+run_under-requires-clause-shelved c = search rules
+
+pub section-held-requires : goal.section-held-requires
+section-held-requires c = search rules
+
+pub unreachable-requires : goal.unreachable-requires
+unreachable-requires c = search rules
