@@ -1,4 +1,6 @@
-use Rattle.jser_words.proofs.SaysLemmas.{says_none, says_on}
+use Rattle.std.proofs.Common.{arith}
+use Rattle.std.proofs.lemmas.Grind.{common_steps}
+use Rattle.jser_words.proofs.SaysLemmas.{says_none, says_on, says_no_units}
 use Rattle.jser_words.proofs.quote.say_units.Goals as goal
 
 pub runs-init : goal.runs-init
@@ -6,3 +8,6 @@ runs-init g c = says_none _ _ _
 
 pub runs-preserved : goal.runs-preserved
 runs-preserved g c = says_on _ _ _ _ _ _ _ _ _ c.runs.invariant c.say_run-rest.ensures.said
+
+pub returns : goal.returns
+returns g c = says_no_units _ _ _ _ _ c.runs.rest.now c.runs.invariant (grind (arith, common_steps))
