@@ -1,9 +1,10 @@
 //! Bytes to trees.
-ghost use Rattle.std.specs.Prelude.{IfOk, IfErr, ◌≡◌, ◌≤◌, length};
+ghost use Rattle.std.specs.Prelude.{IfOk, IfErr, ◌≡◌, ◌≤◌, [], length};
 ghost use Rattle.jser_grammar.specs.Streams.{IsStreamOf};
 ghost use Rattle.jser_grammar.specs.Caps.{most_tree_bytes};
 ghost use Rattle.jser_value.specs.View.{view_contents};
 ghost use Rattle.jser_verdict.specs.Passing.{Passes};
+ghost use Rattle.jser_reader.specs.ReaderStates.{StandsFor};
 ghost use Rattle.jser_trees.specs.Answers.{tree_gate, IfRefused, Refuses, CarriesFirst, Tells, IsTreeStream};
 ghost use Rattle.jser_trees.specs.Building.{list_in};
 ghost use Rattle.jser_trees.specs.Found.{FindsAll};
@@ -44,6 +45,14 @@ fn check_under<G: Gate + Drop>(alloc: Global, bytes: &[u8], gate: G) -> Result<T
     ensures { Tells (G.told gate) bytes.now result }
 {
     let mut reader = Reader::new(alloc, gate);
+    read_to_end(&mut reader, bytes)
+}
+
+/// Reads bytes to their end, with a reader that has taken none.
+fn read_to_end<G: Gate>(reader: &mut Reader<G>, bytes: &[u8]) -> Result<Totals, Stop>
+    requires { StandsFor (G.told reader.old.gate) [] reader.old.machine reader.old.tally }
+    ensures { Tells (G.told reader.old.gate) bytes.now result }
+{
     match reader.skip(bytes) {
         Ok(()) => reader.finish(),
         Err(stop) => Err(stop),
