@@ -1,6 +1,6 @@
 //! The program's command line, as clap reads it.
 ghost use Rattle.std.specs.Prelude.{◌≡◌, IfOk, codes, false};
-ghost use Rattle.clap.specs.Words.{app_of, new_app, rule_of};
+ghost use Rattle.clap.specs.Words.{app_of, new_app, rule_of, with_rule, with_subcommand};
 ghost use Rattle.clap.specs.declared.Command.{out-Command};
 ghost use Rattle.jser_commands.specs.App.{filter_rule, modules_rule, strict_rule, file_rule, check_app, show_app, list_app, versioned, the_app};
 
@@ -12,14 +12,12 @@ fn check_command<'a>(alloc: Global) -> Result<Command<'a>, AllocError>
     ensures app { IfOk result (λ command. app_of command ≡ check_app) }
     ensures local { IfOk result (λ command. (out-Command command).has_globals ≡ false) }
 {
-    Command::new(alloc, "check")
-        .about(
-            "Checks whether a file is one Java serialization stream that the filter admits, and prints its counts",
-        )
-        .arg(filter_arg(alloc))?
-        .arg(modules_arg(alloc))?
-        .arg(strict_arg(alloc))?
-        .arg(file_arg(alloc))
+    let check = Command::new(alloc, "check").about(
+        "Checks whether a file is one Java serialization stream that the filter admits, and prints its counts",
+    );
+    let filtered = with_filter(alloc, check)?;
+    let strict = filtered.arg(strict_arg(alloc))?;
+    strict.arg(file_arg(alloc))
 }
 
 /// `serialcheck show FILE`.
@@ -39,13 +37,21 @@ fn list_command<'a>(alloc: Global) -> Result<Command<'a>, AllocError>
     ensures app { IfOk result (λ command. app_of command ≡ list_app) }
     ensures local { IfOk result (λ command. (out-Command command).has_globals ≡ false) }
 {
-    Command::new(alloc, "list")
-        .about(
-            "Prints a line for each class name in a Java serialization stream: how often it stands there, what the filter says of it, and the name. The filter refuses nothing here",
-        )
-        .arg(filter_arg(alloc))?
-        .arg(modules_arg(alloc))?
-        .arg(file_arg(alloc))
+    let list = Command::new(alloc, "list").about(
+        "Prints a line for each class name in a Java serialization stream: how often it stands there, what the filter says of it, and the name. The filter refuses nothing here",
+    );
+    let filtered = with_filter(alloc, list)?;
+    filtered.arg(file_arg(alloc))
+}
+
+/// The command, with the arguments that say which class names are admitted.
+fn with_filter<'a>(alloc: Global, command: Command<'a>) -> Result<Command<'a>, AllocError>
+    requires local { (out-Command command).has_globals ≡ false }
+    ensures app { IfOk result (λ filtered. app_of filtered ≡ with_rule (with_rule (app_of command.entry) filter_rule) modules_rule) }
+    ensures local { IfOk result (λ filtered. (out-Command filtered).has_globals ≡ false) }
+{
+    let filtered = command.arg(filter_arg(alloc))?;
+    filtered.arg(modules_arg(alloc))
 }
 
 /// The filter's text.
@@ -101,12 +107,38 @@ fn bare_command<'a>(alloc: Global) -> Command<'a>
         .version(VERSION)
 }
 
+/// The command, with `check` as one more subcommand.
+#[tactic(auto, using(crate::proofs::WordLemmas::subcommand_added))]
+fn with_check<'a>(alloc: Global, command: Command<'a>) -> Result<Command<'a>, AllocError>
+    ensures { IfOk result (λ all. app_of all ≡ with_subcommand (app_of command.entry) check_app.top) }
+{
+    let check = check_command(alloc)?;
+    command.subcommand(check)
+}
+
+/// The command, with `show` as one more subcommand.
+#[tactic(auto, using(crate::proofs::WordLemmas::subcommand_added))]
+fn with_show<'a>(alloc: Global, command: Command<'a>) -> Result<Command<'a>, AllocError>
+    ensures { IfOk result (λ all. app_of all ≡ with_subcommand (app_of command.entry) show_app.top) }
+{
+    let show = show_command(alloc)?;
+    command.subcommand(show)
+}
+
+/// The command, with `list` as one more subcommand.
+#[tactic(auto, using(crate::proofs::WordLemmas::subcommand_added))]
+fn with_list<'a>(alloc: Global, command: Command<'a>) -> Result<Command<'a>, AllocError>
+    ensures { IfOk result (λ all. app_of all ≡ with_subcommand (app_of command.entry) list_app.top) }
+{
+    let list = list_command(alloc)?;
+    command.subcommand(list)
+}
+
 /// The program's command, with its subcommands.
 pub(crate) fn command<'a>(alloc: Global) -> Result<Command<'a>, AllocError>
     ensures { IfOk result (λ command. app_of command ≡ the_app) }
 {
-    let one = bare_command(alloc).subcommand(check_command(alloc)?)?;
-    let two = one.subcommand(show_command(alloc)?)?;
-    let all = two.subcommand(list_command(alloc)?)?;
-    Ok(all)
+    let one = with_check(alloc, bare_command(alloc))?;
+    let two = with_show(alloc, one)?;
+    with_list(alloc, two)
 }
