@@ -29,58 +29,93 @@ fn main(rt: HostRuntime) -> ExitCode {
 fn status_of<W: Sink, E: Sink>(rt: &HostRuntime, output: &mut W, faults: &mut E) -> u8
     ensures { result ≤ 3 }
 {
-    let alloc = rt.alloc();
+    match words_of_line(rt, faults) {
+        Ok(words) => on_words(rt, &words, output, faults),
+        Err(status) => status,
+    }
+}
+
+/// The words of the command line, the name of the program first.
+fn words_of_line<E: Sink>(rt: &HostRuntime, faults: &mut E) -> Result<Vec<String>, u8>
+    ensures { IfErr result (λ status. (status ≡ 2) ⊎ (status ≡ 3)) }
+{
     let args = match env::args(rt) {
         Ok(args) => args,
         Err(error) => {
-            return match error.kind() {
+            return Err(match error.kind() {
                 ErrorKind::OutOfMemory => tell_failure(faults, "out of memory\n"),
                 _ => tell_misuse(faults, "the command line is not text\n"),
-            };
+            });
         }
     };
-    let mut owned: Vec<String> = Vec::new(alloc);
+    let mut words: Vec<String> = Vec::new(rt.alloc());
     for arg in args {
-        if owned.push(arg).is_err() {
-            return tell_failure(faults, "out of memory\n");
+        if words.push(arg).is_err() {
+            return Err(tell_failure(faults, "out of memory\n"));
         }
     }
-    let Ok(words) = borrowed(alloc, &owned) else {
+    Ok(words)
+}
+
+/// Does what these words ask for.
+fn on_words<W: Sink, E: Sink>(
+    rt: &HostRuntime,
+    words: &[String],
+    output: &mut W,
+    faults: &mut E,
+) -> u8
+    ensures { result ≤ 3 }
+{
+    let alloc = rt.alloc();
+    let Ok(words) = borrowed(alloc, words) else {
         return tell_failure(faults, "out of memory\n");
     };
     match line_of(alloc, &words) {
-        Ok(
-            Some(
-                Line::Check {
-                    filter,
-                    strict,
-                    modules,
-                    file,
-                },
-            ),
-        ) => match filter_with(rt, filter.as_str(), modules, faults) {
+        Ok(Some(line)) => on_line(rt, &line, output, faults),
+        Ok(None) => tell_misuse(faults, "no command\n"),
+        Err(fault) => tell_line_fault(alloc, &fault, faults),
+    }
+}
+
+/// Does what a line with a command says.
+fn on_line<W: Sink, E: Sink>(rt: &HostRuntime, line: &Line, output: &mut W, faults: &mut E) -> u8
+    ensures { result ≤ 3 }
+{
+    match line {
+        Line::Check {
+            filter,
+            strict,
+            modules,
+            file,
+        } => match filter_with(rt, filter.as_str(), modules, faults) {
             Ok(filter) => {
-                let job = Job::Check { filter, strict };
+                let job = Job::Check {
+                    filter,
+                    strict: *strict,
+                };
                 on_file(rt, &job, file.as_str(), output, faults)
             }
             Err(status) => status,
         },
-        Ok(Some(Line::Show { file })) => on_file(rt, &Job::Show, file.as_str(), output, faults),
-        Ok(
-            Some(
-                Line::List {
-                    filter,
-                    modules,
-                    file,
-                },
-            ),
-        ) => match filter_with(rt, filter.as_str(), modules, faults) {
+        Line::Show { file } => on_file(rt, &Job::Show, file.as_str(), output, faults),
+        Line::List {
+            filter,
+            modules,
+            file,
+        } => match filter_with(rt, filter.as_str(), modules, faults) {
             Ok(filter) => on_file(rt, &Job::List { filter }, file.as_str(), output, faults),
             Err(status) => status,
         },
-        Ok(None) => tell_misuse(faults, "no command\n"),
-        Err(LineFault::OutOfMemory) => tell_failure(faults, "out of memory\n"),
-        Err(LineFault::Clap(error)) => match error.to_string(alloc) {
+    }
+}
+
+/// Says why a line is none of the commands.
+fn tell_line_fault<E: Sink>(alloc: Global, fault: &LineFault, faults: &mut E) -> u8
+    ensures { (result ≡ 2) ⊎ (result ≡ 3) }
+{
+    match fault {
+        LineFault::OutOfMemory => tell_failure(faults, "out of memory\n"),
+        LineFault::Clap(error) => match error.to_string(alloc) {
             Ok(text) => tell_misuse(faults, text.as_str()),
             Err(_) => tell_failure(faults, "out of memory\n"),
         },
@@ -102,7 +137,7 @@ fn borrowed<'a>(alloc: Global, owned: &'a [String]) -> Result<Vec<&'a str>, Allo
 fn filter_with<E: Sink>(
     rt: &HostRuntime,
     text: &str,
-    modules: Option<String>,
+    modules: &Option<String>,
     faults: &mut E,
 ) -> Result<Filter, u8>
     ensures pieces { IfOk result (λ filter. filter.pieces ≡ pieces_of (utf16_units text.now)) }
