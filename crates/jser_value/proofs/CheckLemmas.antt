@@ -1,6 +1,6 @@
 -- A list of parts on the way to being tested: of the whole, each part so far passed, and what is left
 -- decides, with the table as it is now.
-use Rattle.std.proofs.Common.{◌≡◌, ◌==◌, ◌<◌, ◌≤◌, ℕ, zero, suc, ◌+◌, Bool, true, false, ◌&&◌, not, true≢false, eq-eqb, eqb-true, add-one, List, [], ◌∷◌, ◌++◌, length, length-append, refl, sym, ap, ◌∙◌, arith, Option, Some, None, slice_get, map, drop, get_or, subst, Err}
+use Rattle.std.proofs.Common.{◌≡◌, ◌==◌, ◌<◌, ◌≤◌, ℕ, zero, suc, ◌+◌, Bool, true, false, ◌&&◌, not, true≢false, eq-eqb, eqb-true, if◌then◌else◌, add-one, List, [], ◌∷◌, ◌++◌, length, length-append, refl, sym, ap, ◌∙◌, arith, Option, Some, None, slice_get, map, drop, get_or, subst, Err}
 use Rattle.jser_table.specs.Chains.{own_layer, has_write_method}
 use Rattle.jser_table.specs.declared.layer.Layer.{Layer}
 use Rattle.jser_value.specs.declared.tree.Value.{Value}
@@ -9,15 +9,18 @@ use Rattle.jser_value.specs.declared.check.fault.Fault.{Fault}
 use Rattle.jser_value.specs.declared.check.fault.Fault.TheVariants as fault
 use Rattle.jser_value.specs.declared.tree.Raw.{Raw}
 use Rattle.jser_value.specs.declared.tree.Section.{Section}
-use Rattle.jser_table.specs.Entries.{chain_at}
+use Rattle.jser_table.specs.Entries.{chain_at, other_entry}
+use Rattle.jser_table.specs.Fits.{fits}
+use Rattle.jser_table.specs.declared.layer.Purpose.TheVariants as purpose
+use Rattle.jser_grammar.specs.Parts.{is_external}
 use Rattle.jser_grammar.proofs.Bools.{and_right}
 use Rattle.jser_value.proofs.KeepLemmas.{class_behind_section}
-use Rattle.jser_grammar.specs.TableAfter.{Entries, after_values, after_sections, after_contents}
-use Rattle.jser_value.specs.Tests.{Judges, is_bare, obeys_layer, obeys_frame, obeys_held, obeys_alone, obeys_values, obeys_notes, obeys_external, obeys_section, obeys_section_at, obeys_sections, after_section, IsClassAt}
+use Rattle.jser_grammar.specs.TableAfter.{Entries, add, after_values, after_sections, after_contents}
+use Rattle.jser_value.specs.Tests.{Judges, is_bare, obeys_layer, obeys_frame, obeys_held, obeys_alone, obeys_values, obeys_notes, obeys_external, obeys_section, obeys_section_at, obeys_sections, obeys_data, obeys_object, after_section, IsClassAt}
 use Rattle.jser_grammar.specs.Trees.{PrimTree, ValueTrees, no_values, value_and, value_count, SectionTrees, no_sections, section_and, SectionTree, section, no_notes, annotation, ContentTrees}
-use Rattle.jser_grammar.specs.Spelling.{prims_spelling, values_spelling, notes_spelling, sections_spelling}
-use Rattle.jser_value.specs.Rooms.{Spends}
-use Rattle.jser_value.specs.View.{view_prim, view_values, view_section, view_sections}
+use Rattle.jser_grammar.specs.Spelling.{prims_spelling, value_spelling, values_spelling, notes_spelling, sections_spelling}
+use Rattle.jser_value.specs.Rooms.{HasRoom, Spends}
+use Rattle.jser_value.specs.View.{view_prim, view_value, view_values, view_section, view_sections}
 
 pub record Awaits (left whole : Bool) (after_left after_whole : Entries) : Type 0 where
   pub passes : left ≡ whole
@@ -84,10 +87,10 @@ after_sections_and T (section ps vs n) ss = refl
 
 -- at the next section of a chain
 
-sections_at : (sections : List Section) (k : ℕ) (s : Section) → k < length sections → s ≡ get_or sections k s → drop k sections ≡ s ∷ drop (suc k) sections
-sections_at [] k s h e = absurd (omega arith)
-sections_at (r ∷ sections) zero s h e = ap (λ x. x ∷ sections) (sym e)
-sections_at (r ∷ sections) (suc k) s h e = sections_at sections k s (omega arith) e
+pub item_at : {X : Type 0} → (xs : List X) (k : ℕ) (x : X) → k < length xs → x ≡ get_or xs k x → drop k xs ≡ x ∷ drop (suc k) xs
+item_at [] k x h e = absurd (omega arith)
+item_at (y ∷ xs) zero x h e = ap (λ z. z ∷ xs) (sym e)
+item_at (y ∷ xs) (suc k) x h e = item_at xs k x (omega arith) e
 
 layers_at : (chain : List Layer) (k : ℕ) → k < length chain → (l : Layer) × (slice_get chain k ≡ Some l) × (drop k chain ≡ l ∷ drop (suc k) chain)
 layers_at [] k h = absurd (omega arith)
@@ -136,7 +139,7 @@ sections_failed T n k chain sections s whole A awaits h e fails =
     let l = there.0 in
     let first : obeys_section T (view_section s) l ≡ false = sym (layer_there T n k chain l s awaits.class.chain_is there.1) ∙ fails in
     sym awaits.awaits.passes
-    ∙ at_next T sections chain k s l (sections_at sections k s h e) there.2
+    ∙ at_next T sections chain k s l (item_at sections k s h e) there.2
     ∙ ap (λ b. b && obeys_sections (after_section T (view_section s)) (view_sections (drop (suc k) sections)) (drop (suc k) chain)) first
 
 pub sections_next : (T U : Entries) (n k : ℕ) (chain : List Layer) (sections : List Section) (s : Section) (whole : Bool) (A : Entries)
@@ -146,7 +149,7 @@ pub sections_next : (T U : Entries) (n k : ℕ) (chain : List Layer) (sections :
 sections_next T U n k chain sections s whole A awaits h e passes after =
     let there = layers_at chain k (omega (arith, awaits.layers)) in
     let l = there.0 in
-    let next = sections_at sections k s h e in
+    let next = item_at sections k s h e in
     let first : obeys_section T (view_section s) l ≡ true = sym (layer_there T n k chain l s awaits.class.chain_is there.1) ∙ passes in
     let left : obeys_sections U (view_sections (drop (suc k) sections)) (drop (suc k) chain) ≡ whole =
     ap (λ (V : Entries). obeys_sections V (view_sections (drop (suc k) sections)) (drop (suc k) chain)) after
@@ -220,15 +223,55 @@ one_section (section ps vs n) ss =
       length-append (notes_spelling n) [],
     )
 
+-- the bytes of the sections from one on are its own and those behind it
+section_bytes : (sections : List Section) (k : ℕ) (s : Section) → k < length sections → s ≡ get_or sections k s
+    → length (sections_spelling (view_sections (drop k sections)))
+    ≡ length (sections_spelling (view_sections (s ∷ []))) + length (sections_spelling (view_sections (drop (suc k) sections)))
+section_bytes sections k s h e =
+    ap (λ (xs : List Section). length (sections_spelling (view_sections xs))) (item_at sections k s h e)
+    ∙ one_section (view_section s) (view_sections (drop (suc k) sections))
+
+-- so there is room for it
+pub sections_room : (T U : Entries) (sections : List Section) (k : ℕ) (s : Section) → HasRoom T (sections_spelling (view_sections sections))
+    → Spends T (sections_spelling (view_sections sections)) U (sections_spelling (view_sections (drop k sections))) → k < length sections
+    → s ≡ get_or sections k s → HasRoom U (sections_spelling (view_sections (s ∷ [])))
+sections_room T U sections k s room before h e = omega (arith, room, before, section_bytes sections k s h e)
+
 -- behind one more section
 pub sections_spent : (T U V : Entries) (sections : List Section) (k : ℕ) (s : Section)
     → Spends T (sections_spelling (view_sections sections)) U (sections_spelling (view_sections (drop k sections))) → k < length sections
     → s ≡ get_or sections k s → Spends U (sections_spelling (view_sections (s ∷ []))) V []
     → Spends T (sections_spelling (view_sections sections)) V (sections_spelling (view_sections (drop (k + 1) sections)))
-sections_spent T U V sections k s before h e spent =
-    let next = sections_at sections k s h e in
-    let bytes : length (sections_spelling (view_sections (drop k sections)))
-    ≡ length (sections_spelling (view_sections (s ∷ []))) + length (sections_spelling (view_sections (drop (suc k) sections))) =
-    ap (λ (xs : List Section). length (sections_spelling (view_sections xs))) next
-    ∙ one_section (view_section s) (view_sections (drop (suc k) sections)) in
-    rw add-one (omega (arith, before, spent, bytes))
+sections_spent T U V sections k s before h e spent = rw add-one (omega (arith, before, spent, section_bytes sections k s h e))
+
+-- and for the next of a list of values
+pub values_room : (T U : Entries) (values : List Value) (k : ℕ) (v : Value) → HasRoom T (values_spelling (view_values values))
+    → Spends T (values_spelling (view_values values)) U (values_spelling (view_values (drop k values))) → k < length values
+    → v ≡ get_or values k v → HasRoom U (value_spelling (view_value v))
+values_room T U values k v room before h e =
+    let left = view_values (drop (suc k) values) in
+    let bytes : length (values_spelling (view_values (drop k values))) ≡ length (value_spelling (view_value v)) + length (values_spelling left) =
+    ap (λ (xs : List Value). length (values_spelling (view_values xs))) (item_at values k v h e) ∙ length-append (value_spelling (view_value v)) (values_spelling left) in
+    omega (arith, room, before, bytes)
+
+-- and a layer for it
+pub sections_layer : (T : Entries) (n k : ℕ) (chain : List Layer) (count : ℕ) (left whole : Bool) (A B : Entries) → AwaitsSections T n chain count left whole A B
+    → k < count → k < length (chain_at T n)
+sections_layer T n k chain count left whole A B awaits h =
+    subst (λ (layers : List Layer). k < length layers) (sym awaits.class.chain_is) (omega (arith, awaits.layers))
+
+-- an object that is not externalizable is judged by its sections
+pub object_judged : {X : Type 0} → (r : Result X Fault) (T U V : Entries) (n : ℕ) (ss : SectionTrees) → fits purpose.Object (chain_at T n) ≡ true
+    → is_external (chain_at T n) ≡ false → U ≡ add T other_entry → IsClassAt U n (chain_at T n)
+    → Judges r (obeys_sections U ss (chain_at U n)) (after_sections U ss) V
+    → Judges r (obeys_object T ss (chain_at T n)) (after_sections (add T other_entry) ss) V
+object_judged {X} r T U V n ss fit external after class h =
+    let chain = chain_at T n in
+    let inside = add T other_entry in
+    let test : obeys_object T ss chain ≡ obeys_sections U ss (chain_at U n) =
+    ap (λ b. b && obeys_data inside ss chain) fit
+    ∙ ap (λ b. if b then obeys_external inside ss else obeys_sections inside ss chain) external
+    ∙ sym (ap (λ (W : Entries). obeys_sections W ss chain) after)
+    ∙ sym (ap (λ (c : List Layer). obeys_sections U ss c) class.chain_is) in
+    subst (λ (b : Bool). Judges r b (after_sections inside ss) V) (sym test)
+    (subst (λ (W : Entries). Judges r (obeys_sections U ss (chain_at U n)) (after_sections W ss) V) after h)

@@ -1,8 +1,9 @@
 -- A new descriptor: what was told of its parts tells of the whole.
-use Rattle.std.proofs.Common.{◌≡◌, ◌≤◌, ◌&&◌, ◌+◌, true, false, ℕ, suc, List, [], ◌∷◌, ◌++◌, length, length-append, sym, ap, ◌∙◌, arith, Option, Some, None, slice_set, subst}
-use Rattle.jser_grammar.proofs.Vocabulary.{pending_entry, closed_entry, Layer, FieldTree, DescTree, plain, proxy, ClassPlaceTree, ContentTrees, Entries, add, plain_layer, proxy_layer, after_fields, after_desc, after_class, after_contents, chain_of_class}
+use Rattle.std.proofs.Common.{◌≡◌, ◌≤◌, ◌&&◌, ◌+◌, Bool, true, false, refl, ℕ, suc, List, [], ◌∷◌, ◌++◌, length, length-append, sym, ap, ◌∙◌, arith, Option, Some, None, slice_get, slice_set, IsTrue, subst}
+use Rattle.jser_grammar.proofs.Vocabulary.{pending_entry, is_pending, closed_entry, Layer, FieldTree, DescTree, plain, proxy, ClassPlaceTree, ContentTrees, Entries, add, plain_layer, proxy_layer, after_fields, after_desc, after_class, after_contents, chain_of_class}
 use Rattle.jser_grammar.proofs.Bools.{and_left, and_right, and_both}
 use Rattle.jser_prim.specs.Bytes.{big_bytes}
+use Rattle.jser_value.proofs.KeepLemmas.{pending_plain, pending_proxy}
 use Rattle.jser_grammar.specs.Spelling.{utf, fields_spelling, interfaces_spelling, annotation_spelling, class_spelling, desc_spelling}
 use Rattle.jser_table.specs.Tables.{closed_under}
 use Rattle.jser_value.specs.PartTests.{obeys_fields}
@@ -63,6 +64,41 @@ proxy_judged T T3 T4 T5 n above layer interfaces notes parent x number head note
     let entry : closed_under T4 above layer ≡ closed_entry (chain_of_class T3 parent ++ (layer ∷ [])) = closed_parent T4 above layer (chain_of_class T3 parent) p in
     let after : T5 ≡ after_desc T (proxy interfaces notes parent) = cc in
     (subst (λ (y : DescTree). obeys_desc T y ≡ true) (sym ex) test, subst (λ (y : DescTree). T5 ≡ after_desc T y) (sym ex) after)
+
+-- and it is wrong where its superclass place is
+fails_last : (a b c d : Bool) → d ≡ false → (a && (b && (c && d))) ≡ false
+fails_last true true true d h = h
+fails_last true true false d h = refl
+fails_last true false c d h = refl
+fails_last false b c d h = refl
+
+pub plain_above_failed : (T T2 T3 : Entries) (name : List ℕ) (suid flags : ℕ) (fields : List FieldTree) (notes : ContentTrees) (parent : ClassPlaceTree)
+    (x : DescTree)
+    → T2 ≡ after_fields (add T pending_entry) fields → T3 ≡ after_contents T2 notes → x ≡ plain name suid flags fields notes parent
+    → obeys_superclass T3 parent ≡ false → obeys_desc T x ≡ false
+plain_above_failed T T2 T3 name suid flags fields notes parent x e2 e3 ex h =
+    let behind = after_fields (add T pending_entry) fields in
+    let inside = after_contents behind notes in
+    let reached : T3 ≡ inside = e3 ∙ ap (λ (V : Entries). after_contents V notes) e2 in
+    let above : obeys_superclass inside parent ≡ false = subst (λ (V : Entries). obeys_superclass V parent ≡ false) reached h in
+    ap (obeys_desc T) ex
+    ∙ fails_last (obeys_head name suid flags fields) (obeys_fields (add T pending_entry) false fields) (obeys_notes behind notes) (obeys_superclass inside parent) above
+
+-- its handle is pending until its superclass place was read
+pub plain_pending : (T T2 T3 T4 : Entries) (n : ℕ) (fields : List FieldTree) (notes : ContentTrees) (parent : ClassPlaceTree)
+    → n ≡ length T → T2 ≡ after_fields (add T pending_entry) fields → T3 ≡ after_contents T2 notes → T4 ≡ after_class T3 parent
+    → IsTrue (is_pending (slice_get T4 n))
+plain_pending T T2 T3 T4 n fields notes parent number e2 e3 e4 =
+    let kept = pending_plain T fields notes parent in
+    let same : is_pending (slice_get T4 n) ≡ true = cc in
+    same
+
+pub proxy_pending : (T T3 T4 : Entries) (n : ℕ) (notes : ContentTrees) (parent : ClassPlaceTree)
+    → n ≡ length T → T3 ≡ after_contents (add T pending_entry) notes → T4 ≡ after_class T3 parent → IsTrue (is_pending (slice_get T4 n))
+proxy_pending T T3 T4 n notes parent number e3 e4 =
+    let kept = pending_proxy T notes parent in
+    let same : is_pending (slice_get T4 n) ≡ true = cc in
+    same
 
 -- ---- handles and bytes
 

@@ -1,9 +1,10 @@
-use Rattle.std.proofs.Common.{arith, ap, get_or, map, length, ◌∙◌}
+use Rattle.jser_prim.proofs.OutgoingLemmas.{puts_none}
+use Rattle.std.proofs.Common.{arith, ap, get_or, map, length, rules, ◌∙◌}
 use Rattle.jser_value.specs.Encoding.{section_spelling}
 use Rattle.jser_grammar.specs.Spelling.{value_spelling, content_spelling, class_spelling, body_spelling, sections_spelling, text_place_spelling}
 use Rattle.jser_value.specs.View.{view_value, view_values, view_content, view_contents, view_section, view_sections, view_class_place, view_body, view_text_place, view_field, view_prim}
 use Rattle.jser_prim.proofs.OutgoingLemmas.{puts_tagged}
-use Rattle.jser_value.proofs.EncodeLemmas.{puts_next, puts_all, values_flat, sections_flat, contents_flat, puts_classed, puts_plain, puts_proxy, puts_raw_body, puts_value_body, puts_section, puts_bare_section, puts_block}
+use Rattle.jser_value.proofs.EncodeLemmas.{puts_annotation, puts_next, puts_all, values_flat, sections_flat, contents_flat, puts_classed, puts_plain, puts_proxy, puts_raw_body, puts_value_body, puts_section, puts_bare_section, puts_block}
 use Rattle.jser_value.proofs.ViewLemmas.{view_class_object, view_array, view_enum_constant, view_object, view_raw_body, view_value_body, view_block, view_plain, view_proxy, view_section_of, no_notes_of}
 use Rattle.jser_value.specs.declared.tree.Section.{out-Section}
 use Rattle.jser_value.proofs.encoder.+encode.Goals as goal
@@ -94,3 +95,15 @@ put_value-returns-in-Object g t c =
     rw (c.in-Object.is, view_object c.in-Object.descr c.in-Object.sections)
     (puts_classed _ _ _ _ _ _ _ _ 0x73 (class_spelling (view_class_place c.in-Object.descr)) (sections_spelling (view_sections c.in-Object.sections.items)) c.put_u8-in-Object.ensures
     c.put_class-in-Object.ensures c.put_sections.ensures)
+
+pub put_contents-loop-content-init : goal.put_contents-loop-content-init
+put_contents-loop-content-init g t c = search (rules, puts_none)
+
+pub put_sections-loop-section-init : goal.put_sections-loop-section-init
+put_sections-loop-section-init g t c = search (rules, puts_none)
+
+pub put_values-loop-value-init : goal.put_values-loop-value-init
+put_values-loop-value-init g t c = search (rules, puts_none)
+
+pub put_annotation-returns : goal.put_annotation-returns
+put_annotation-returns g t c = search (rules, puts_annotation)
