@@ -1,7 +1,9 @@
 -- What comes before the frames of a walk.
 use Rattle.std.specs.Prelude.{ℕ, ◌≡◌, true, false, List, ◌∷◌, reverse}
-use Rattle.jser_shown.specs.Known.{NamedField as ToldField}
+use Rattle.jser_shown.specs.Known.{Known, NamedField as ToldField}
+use Rattle.jser_shown.specs.Owners.{OwnerNode as ToldNode}
 use Rattle.jser_shown.specs.Cues.{Cue, header_cue, handle_cue, string_cue, text_place_cue, block_length_cue, block_cue, name_cue, length_cue, class_cue, class_handle_cue, class_name_cue, suid_cue, flags_cue, field_count_cue, fields_cue, field_name_cue, type_cue, interface_count_cue, interfaces_cue, Teller, teller}
+use Rattle.jser_shown.specs.Telling.{SeenField, goes_in}
 use Rattle.jser_walk.specs.declared.phase.Over.{Over}
 use Rattle.jser_walk.specs.declared.phase.Over.TheVariants as over
 use Rattle.jser_walk.specs.declared.phase.Phase.{Phase}
@@ -49,6 +51,12 @@ in_phase phase name done s = teller s.epoch s.known s.owners (phase_cues phase n
 -- whatever the name and the fields are
 abbrev pub StandsIn : Phase → (now whole : Teller) → Type 0
 StandsIn phase now whole = (name : List ℕ) (done : List ToldField) → whole ≡ in_phase phase name done now
+
+-- From one phase a field leads to another, whatever is known and comes behind; it changes nothing else.
+abbrev pub Leads : (from to : Phase) → SeenField → Type 0
+Leads from to field =
+    (e : ℕ) (known : Known) (os : List ToldNode) (cues : List Cue) (name : List ℕ) (done : List ToldField)
+    → teller e known os (phase_cues to name done cues) ≡ goes_in e known os (phase_cues from name done cues) field
 
 -- the fields of a descriptor, the last one first
 abbrev pub done_of : List NamedField → List ToldField

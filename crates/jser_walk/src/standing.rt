@@ -10,6 +10,7 @@ ghost use Rattle.jser_walk.specs.Seen.{told_tag};
 ghost use Rattle.jser_walk.specs.Phases.{StandsIn};
 
 mod passing;
+mod places;
 mod sections;
 mod taking;
 mod waiting;

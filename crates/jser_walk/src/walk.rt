@@ -8,6 +8,7 @@ ghost use Rattle.jser_walk.specs.Steps.{due, pass};
 ghost use Rattle.jser_walk.specs.Prompts.{handle_prompt, prompt_of, string_prompt};
 ghost use Rattle.jser_walk.specs.Views.{view_due, view_prompt};
 
+mod descriptors;
 mod passing;
 mod sections;
 mod taking;

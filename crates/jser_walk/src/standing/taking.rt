@@ -1,8 +1,9 @@
 //! Fields that a frame belongs to.
-ghost use Rattle.std.specs.Prelude.{◌≡◌, ◌∷◌, ◌+◌, ◌<◌, [], length, option_map, None, OnOk, IfOk};
+ghost use Rattle.std.specs.Prelude.{◌≡◌, ◌∷◌, ◌+◌, ◌<◌, ℕ, List, [], length, option_map, None, OnOk, IfOk};
+ghost use Rattle.jser_shown.specs.Owners.{OwnerNode as ToldNode};
 ghost use Rattle.jser_shown.specs.Cues.{teller, top_cue, note_cue, elements_cue};
 ghost use Rattle.jser_shown.specs.Telling.{goes_in};
-ghost use Rattle.jser_walk.specs.Frames.{FramesFit, FirstIs, TakesPart, tail_of};
+ghost use Rattle.jser_walk.specs.Frames.{FramesFit, FirstIs, TakesPart, cues_of, tail_of};
 ghost use Rattle.jser_walk.specs.Sections.{PassesPart};
 ghost use Rattle.jser_walk.specs.Seen.{told_seen, told_tag};
 ghost use Rattle.jser_walk.specs.Phases.{StandsIn};
@@ -88,13 +89,101 @@ pub(crate) fn pass_part(
     });
 }
 
+/// The tag in the superclass place of the class with this number and this layer, which is on top.
+#[tactic(auto, using(crate::proofs::TakeLemmas::goes_first, crate::proofs::PassLemmas::close_fits, crate::proofs::FrameLemmas::tail_fits))]
+#[inline(always)]
+fn take_superclass(
+    table: &mut Table,
+    frames: &mut Stack,
+    level: u64,
+    number: usize,
+    layer: u32,
+    seen: Seen<'_>,
+) -> Result<Phase, AllocError>
+    requires layer_in { layer < length table.old.layers }
+    requires fit { FramesFit (length table.old.layers) (length table.old.chains) frames.old }
+    requires top { frames.old ≡ Frame.Super level number layer ∷ tail_of frames.old }
+    ensures fit { FramesFit (length table.new.layers) (length table.new.chains) frames.new }
+    ensures takes { IfOk result (λ phase. (e : ℕ) (os : List ToldNode) → StandsIn phase (teller e table.new.known os (cues_of table.new.layers table.new.chains frames.new)) (goes_in e table.old.known os (cues_of table.old.layers table.old.chains frames.old) (told_seen seen.entry))) }
+{
+    let Seen::Tag(tag) = seen else {
+        return Ok(Phase::Frames);
+    };
+    match tag {
+        Tag::Null => {
+            table.close(number, None, layer)?;
+            frames.pop();
+            Ok(Phase::Frames)
+        }
+        Tag::ClassDesc => {
+            let inner = deeper(level)?;
+            frames.set_top(Frame::Close {
+                number,
+                parent: table.count(),
+                layer,
+            });
+            Ok(Phase::ClassName { level: inner })
+        }
+        Tag::ProxyDesc => {
+            let inner = deeper(level)?;
+            let parent = table.count();
+            frames.set_top(Frame::Close {
+                number,
+                parent,
+                layer,
+            });
+            table.add_pending()?;
+            Ok(Phase::InterfaceCount {
+                head: Head {
+                    level: inner,
+                    number: parent,
+                },
+            })
+        }
+        _ => {
+            frames.set_top(Frame::SuperHandle {
+                level,
+                number,
+                layer,
+            });
+            Ok(Phase::Frames)
+        }
+    }
+}
+
+/// The handle of a reference in the superclass place of the class with this number and this layer. That is on top.
+#[tactic(auto, using(crate::proofs::TakeLemmas::goes_first, crate::proofs::FrameLemmas::tail_fits))]
+#[inline(always)]
+fn take_superclass_handle(
+    table: &Table,
+    frames: &mut Stack,
+    level: u64,
+    number: usize,
+    layer: u32,
+    seen: Seen<'_>,
+)
+    requires layer_in { layer < length table.now.layers }
+    requires fit { FramesFit (length table.now.layers) (length table.now.chains) frames.old }
+    requires top { frames.old ≡ Frame.SuperHandle level number layer ∷ tail_of frames.old }
+    ensures fit { FramesFit (length table.now.layers) (length table.now.chains) frames.new }
+    ensures takes { TakesPart table.now.layers table.now.chains level frames.old frames.new (told_seen seen.entry) None }
+{
+    if let Seen::Handle(parent) = seen {
+        frames.set_top(Frame::Close {
+            number,
+            parent,
+            layer,
+        });
+    }
+}
+
 impl<'a> Standing<'a> {
     /// Goes past a field.
     ///
     /// # Errors
     ///
     /// Where memory runs out.
-    #[tactic(auto, using(crate::proofs::TakeLemmas::goes_first, crate::proofs::PassLemmas::close_fits, crate::proofs::FrameLemmas::top_fits, crate::proofs::FrameLemmas::tail_fits))]
+    #[tactic(auto, using(crate::proofs::TakeLemmas::goes_first, crate::proofs::FrameLemmas::top_fits))]
     #[inline(always)]
     pub(crate) fn take(&mut self, seen: Seen<'_>) -> Result<Phase, AllocError>
         ensures { IfOk result (λ phase. StandsIn phase self.new (goes_in self.old.epoch self.old.known self.old.owners self.old.cues (told_seen seen.entry))) }
@@ -133,60 +222,22 @@ impl<'a> Standing<'a> {
                     number,
                     layer,
                 },
+            ) => take_superclass(
+                &mut self.table,
+                &mut self.frames,
+                level,
+                number,
+                layer,
+                seen,
+            ),
+            Some(
+                Frame::SuperHandle {
+                    level,
+                    number,
+                    layer,
+                },
             ) => {
-                let Seen::Tag(tag) = seen else {
-                    return Ok(Phase::Frames);
-                };
-                match tag {
-                    Tag::Null => {
-                        self.table.close(number, None, layer)?;
-                        self.frames.pop();
-                        Ok(Phase::Frames)
-                    }
-                    Tag::ClassDesc => {
-                        let inner = deeper(level)?;
-                        let parent = self.table.count();
-                        self.frames.set_top(Frame::Close {
-                            number,
-                            parent,
-                            layer,
-                        });
-                        Ok(Phase::ClassName { level: inner })
-                    }
-                    Tag::ProxyDesc => {
-                        let inner = deeper(level)?;
-                        let parent = self.table.count();
-                        self.frames.set_top(Frame::Close {
-                            number,
-                            parent,
-                            layer,
-                        });
-                        let number = self.add_descriptor()?;
-                        Ok(Phase::InterfaceCount {
-                            head: Head {
-                                level: inner,
-                                number,
-                            },
-                        })
-                    }
-                    _ => {
-                        self.frames.set_top(Frame::SuperHandle {
-                            level,
-                            number,
-                            layer,
-                        });
-                        Ok(Phase::Frames)
-                    }
-                }
-            }
-            Some(Frame::SuperHandle { number, layer, .. }) => {
-                if let Seen::Handle(parent) = seen {
-                    self.frames.set_top(Frame::Close {
-                        number,
-                        parent,
-                        layer,
-                    });
-                }
+                take_superclass_handle(&self.table, &mut self.frames, level, number, layer, seen);
                 Ok(Phase::Frames)
             }
             Some(Frame::External { .. }) => Ok(Phase::Frames),

@@ -1,4 +1,5 @@
-use Rattle.std.proofs.Common.{rules}
+use Rattle.std.proofs.Common.{rules, arith}
+use Rattle.std.proofs.lemmas.Grind.{common_steps}
 use Rattle.jser_walk.proofs.TableLemmas.{known_closed, known_unclosed, sound_closed, sound_named}
 use Rattle.jser_walk.proofs.table.Table.close.Goals as goal
 
@@ -21,3 +22,12 @@ invariant_of-self-then-number-len c =
 pub invariant_of-self-else-number-len : goal.invariant_of-self-else-number-len
 invariant_of-self-else-number-len c =
     sound_closed _ _ _ _ _ _ _ _ c.self.view_is c.self.invariant c.chain_above-above.ensures c.requires c.in_ok-chain.ensures.added
+
+pub add-requires : goal.add-requires
+add-requires c = grind (arith, common_steps)
+
+pub returns-else-number-len-clause-chains : goal.returns-else-number-len-clause-chains
+returns-else-number-len-clause-chains c = grind (arith, common_steps)
+
+pub returns-then-number-len-clause-chains : goal.returns-then-number-len-clause-chains
+returns-then-number-len-clause-chains c = grind (arith, common_steps)
