@@ -23,14 +23,19 @@ use std::test::Fail;
 fn a_filter_with_modules(rt: HostRuntime) -> Result<(), Fail> {
     let alloc = rt.alloc();
     // README: jser_filter
-    let filter = Filter::parse(alloc, "java.util.*;!*;maxdepth=20")?;
-    assert!(rt; allows(&filter, &units_of(alloc, "java.util.ArrayList")?));
-    assert_eq!(rt; filter.limits().depth, Some(20));
     let table = Modules::parse(alloc, "java.util=java.base")?;
-    let filter = filter.with_modules(table);
+    let filter = Filter::parse(alloc, "java.util.*;!*;maxdepth=20")?.with_modules(table);
     // end
-    judges_in_module(&rt, alloc, &filter)?;
-    Ok(())
+    Ok(judges_by_text(&rt, alloc, &filter)?)
+}
+
+/// What the filter of the example says of a name in its package, and its limit.
+fn judges_by_text(rt: &impl Abort, alloc: Global, filter: &Filter) -> Result<(), AllocError> {
+    // README: jser_filter
+    assert!(rt; allows(filter, &units_of(alloc, "java.util.ArrayList")?));
+    assert_eq!(rt; filter.limits().depth, Some(20));
+    // end
+    judges_in_module(rt, alloc, filter)
 }
 
 /// What the filter of the example says of a name outside of the module, and of an array of no class.

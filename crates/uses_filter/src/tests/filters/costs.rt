@@ -95,10 +95,15 @@ fn cost_for_names(rt: &(impl Abort + Clock), alloc: Global, filter: &Filter) -> 
     Ok(cost_of_judge(rt, filter, &last, &lacking)?)
 }
 
+/// The nanoseconds of a call of the filter of many exact names.
+fn cost_by_names(rt: &(impl Abort + Clock), alloc: Global) -> Result<u128, Fail> {
+    let filter = filter_of_names(alloc)?;
+    cost_for_names(rt, alloc, &filter)
+}
+
 #[test]
 fn cost_of_many_exact_names(rt: HostRuntime) -> Result<(), Fail> {
-    let filter = filter_of_names(rt.alloc())?;
-    let spent = cost_for_names(&rt, rt.alloc(), &filter)?;
+    let spent = cost_by_names(&rt, rt.alloc())?;
     eprintln!(rt; "judge among {NAMES} exact names: {spent} ns a call")?;
     Ok(())
 }

@@ -428,12 +428,17 @@ fn costs_of_chain(rt: &(impl Abort + Clock), table: &Table) -> io::Result<(u128,
     Ok((layer, next))
 }
 
+/// The same, in a new table with the long chain.
+fn costs_of_long_chain(rt: &(impl Abort + AllocGlobal + Clock)) -> Result<(u128, u128), Fail> {
+    let mut table = Table::new(rt.alloc(), CLASSES);
+    empty_chain(rt, &mut table, CLASSES)?;
+    Ok(costs_of_chain(rt, &table)?)
+}
+
 /// What a chain of 60,000 empty classes costs: the times go to standard error.
 #[test]
 fn cost_of_a_long_chain(rt: HostRuntime) -> Result<(), Fail> {
-    let mut table = Table::new(rt.alloc(), CLASSES);
-    empty_chain(&rt, &mut table, CLASSES)?;
-    let (layer, next) = costs_of_chain(&rt, &table)?;
+    let (layer, next) = costs_of_long_chain(&rt)?;
     eprintln!(rt; "layer: {layer} ns a call; next_filled: {next} ns a call")?;
     Ok(())
 }
