@@ -130,7 +130,7 @@ pub(crate) fn say_mark_line<W: Sink>(outbox: &mut Outbox, sink: &mut W, epoch: u
 /// Says a handle as it is written, in hexadecimal without zeros at the beginning.
 #[inline(always)]
 fn say_handle<W: Sink>(outbox: &mut Outbox, sink: &mut W, number: u64)
-    ensures { SaysTo W.gone_out W.has_failed outbox.old outbox.new sink.old sink.new (λ k. without_zeros (encode_lower (big_bytes 4 (0x7E0000 + number))) ++ k) }
+    ensures { SaysTo W.gone_out W.has_failed outbox.old outbox.new sink.old sink.new (λ k. without_zeros (encode_lower (big_bytes 4 (BASE_WIRE_HANDLE + number))) ++ k) }
 {
     let mut bytes = [0; 4];
     BigEndian::write_u32(&mut bytes, handle_written(number));
@@ -167,7 +167,7 @@ fn is_significant(text: &[u8]) -> bool
 
 /// A handle as it is written, in 32 bits.
 fn handle_written(number: u64) -> u32
-    ensures { big_bytes 4 result ≡ big_bytes 4 (0x7E0000 + number) }
+    ensures { big_bytes 4 result ≡ big_bytes 4 (BASE_WIRE_HANDLE + number) }
 {
     (u64::from(BASE_WIRE_HANDLE).wrapping_add(number) % (1 << 32)) as u32
 }
