@@ -93,6 +93,31 @@ fn stream(alloc: Global, text: &str) -> Result<Vec<u8>, AllocError> {
     Ok(bytes)
 }
 
+/// Hands the bytes of a stream that is written down to what tests them. Each place that makes bytes drops them too, and both
+/// are proved there: here for all such tests.
+fn with_stream<R: Abort + AllocGlobal, F: FnOnce(&R, &[u8]) -> Result<(), Fail>>(
+    rt: &R,
+    text: &str,
+    test: F,
+) -> Result<(), Fail>
+    requires { F.IsAlwaysCallable test }
+{
+    let bytes = stream(rt.alloc(), text)?;
+    test(rt, &bytes)
+}
+
+/// Hands the filter of a text to what tests it.
+fn with_filter<R: Abort + AllocGlobal, F: FnOnce(&R, &Filter) -> Result<(), Fail>>(
+    rt: &R,
+    text: &str,
+    test: F,
+) -> Result<(), Fail>
+    requires { F.IsAlwaysCallable test }
+{
+    let filter = Filter::parse(rt.alloc(), text)?;
+    test(rt, &filter)
+}
+
 /// Puts what is written down behind the bytes.
 fn push_written(bytes: &mut Vec<u8>, text: &str) -> Result<(), AllocError> {
     let mut quoted = false;
@@ -182,8 +207,9 @@ fn assert_row(
     filter: &Filter,
     options: Options,
     wanted: Wanted,
-) -> Result<(), AllocError> {
-    let bytes = stream(rt.alloc(), text)?;
-    assert_answer(rt, name, &bytes, filter, options, wanted_answer(wanted));
-    Ok(())
+) -> Result<(), Fail> {
+    with_stream(rt, text, |rt, bytes| {
+        assert_answer(rt, name, bytes, filter, options, wanted_answer(wanted));
+        Ok(())
+    })
 }

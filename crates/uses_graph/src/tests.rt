@@ -28,6 +28,15 @@ fn graph_of(rt: &(impl Abort + AllocGlobal), bytes: &[u8]) -> Graph {
     }
 }
 
+/// Hands the graph of a stream that is accepted to what tests it. Each place that makes a graph drops it too, and both are
+/// proved there: here for all such tests.
+fn with_graph<R: Abort + AllocGlobal, F: FnOnce(&R, &Graph)>(rt: &R, bytes: &[u8], test: F)
+    requires { F.IsAlwaysCallable test }
+{
+    let graph = graph_of(rt, bytes);
+    test(rt, &graph)
+}
+
 /// Writes the graph.
 fn write<W: Sink>(rt: &impl AllocGlobal, graph: &Graph, sink: &mut W) -> Result<u64, GraphFault> {
     graph.write_to(rt.alloc(), sink)
@@ -45,9 +54,15 @@ fn write_tree<W: Sink>(contents: &Contents, sink: &mut W) -> bool {
 
 /// The graph hands out the bytes from which it was read, and its tree is written as these bytes too.
 fn hands_out(rt: &(impl Abort + AllocGlobal), name: &str, bytes: &[u8]) {
-    let graph = graph_of(rt, bytes);
-    is_written(rt, name, &graph, bytes);
-    match tree_of(rt, &graph) {
+    with_graph(rt, bytes, |rt, graph| {
+        is_written(rt, name, graph, bytes);
+        has_tree(rt, name, graph, bytes);
+    });
+}
+
+/// The tree of the graph is written as these bytes.
+fn has_tree(rt: &(impl Abort + AllocGlobal), name: &str, graph: &Graph, bytes: &[u8]) {
+    match tree_of(rt, graph) {
         Ok(contents) => is_encoded(rt, name, &contents, bytes),
         Err(cause) => panic!(rt; "{name}: {cause:?}"),
     }
@@ -108,29 +123,37 @@ fn node(kind: NodeKind, tag_byte: u64) -> Option<Node> {
     Some(Node { kind, tag_byte })
 }
 
+/// What the handles of the linked pair name.
+fn is_linked_pair(rt: &impl Abort, graph: &Graph) {
+    names(rt, graph, 0, 0x7E_0000, node(NodeKind::PlainDesc, 5));
+    names(rt, graph, 0, 0x7E_0002, node(NodeKind::Object, 4));
+    names(rt, graph, 0, 0x7E_0003, node(NodeKind::Object, 53));
+    names(rt, graph, 0, 0x7E_0004, None);
+    names(rt, graph, 0, 0x7D_FFFF, None);
+    names(rt, graph, 1, 0x7E_0000, None);
+    let text = [0x4C, 0x4C, 0x69, 0x73, 0x74, 0x3B];
+    has_text(rt, graph, 0, 0x7E_0001, Some(&text));
+    has_text(rt, graph, 0, 0x7E_0000, None);
+    has_names(rt, graph, &[&[0x4C, 0x69, 0x73, 0x74]]);
+}
+
 #[test]
 fn graph_of_linked_pair(rt: HostRuntime) {
-    let graph = graph_of(&rt, LINKED_PAIR);
-    names(&rt, &graph, 0, 0x7E_0000, node(NodeKind::PlainDesc, 5));
-    names(&rt, &graph, 0, 0x7E_0002, node(NodeKind::Object, 4));
-    names(&rt, &graph, 0, 0x7E_0003, node(NodeKind::Object, 53));
-    names(&rt, &graph, 0, 0x7E_0004, None);
-    names(&rt, &graph, 0, 0x7D_FFFF, None);
-    names(&rt, &graph, 1, 0x7E_0000, None);
-    let text = [0x4C, 0x4C, 0x69, 0x73, 0x74, 0x3B];
-    has_text(&rt, &graph, 0, 0x7E_0001, Some(&text));
-    has_text(&rt, &graph, 0, 0x7E_0000, None);
-    has_names(&rt, &graph, &[&[0x4C, 0x69, 0x73, 0x74]]);
+    with_graph(&rt, LINKED_PAIR, |rt, graph| is_linked_pair(rt, graph));
+}
+
+/// What the handles of the two epochs name.
+fn has_two_epochs(rt: &impl Abort, graph: &Graph) {
+    names(rt, graph, 1, 0x7E_0000, node(NodeKind::Text, 9));
+    has_text(rt, graph, 1, 0x7E_0000, Some(&[0x62]));
+    has_text(rt, graph, 0, 0x7E_0000, Some(&[0x61]));
+    names(rt, graph, 2, 0x7E_0000, None);
+    has_names(rt, graph, &[]);
 }
 
 #[test]
 fn graph_of_reset_epochs(rt: HostRuntime) {
-    let graph = graph_of(&rt, RESET_EPOCHS);
-    names(&rt, &graph, 1, 0x7E_0000, node(NodeKind::Text, 9));
-    has_text(&rt, &graph, 1, 0x7E_0000, Some(&[0x62]));
-    has_text(&rt, &graph, 0, 0x7E_0000, Some(&[0x61]));
-    names(&rt, &graph, 2, 0x7E_0000, None);
-    has_names(&rt, &graph, &[]);
+    with_graph(&rt, RESET_EPOCHS, |rt, graph| has_two_epochs(rt, graph));
 }
 
 #[test]
@@ -155,20 +178,19 @@ fn refused(rt: HostRuntime) {
     }
 }
 
+/// The graph of arrays 1,000 deep, which are these bytes.
+fn is_nest_of_1000(rt: &(impl Abort + AllocGlobal), graph: &Graph, bytes: &[u8]) {
+    let innermost = node(NodeKind::Array, 10_009);
+    names(rt, graph, 0, 0x7E_0000 + 1000, innermost);
+    has_length(rt, bytes, 10_020);
+    is_written(rt, "arrays 1,000 deep", graph, bytes);
+    has_no_tree(rt, graph);
+}
+
 #[test]
 fn nest_1000(rt: HostRuntime) -> Result<(), Fail> {
     let bytes = nest(rt.alloc(), 1000)?;
-    let graph = graph_of(&rt, &bytes);
-    names(
-        &rt,
-        &graph,
-        0,
-        0x7E_0000 + 1000,
-        node(NodeKind::Array, 10_009),
-    );
-    has_length(&rt, &bytes, 10_020);
-    is_written(&rt, "arrays 1,000 deep", &graph, &bytes);
-    has_no_tree(&rt, &graph);
+    with_graph(&rt, &bytes, |rt, graph| is_nest_of_1000(rt, graph, &bytes));
     Ok(())
 }
 
@@ -185,15 +207,19 @@ fn has_no_tree(rt: &(impl Abort + AllocGlobal), graph: &Graph) {
     }
 }
 
-#[test]
-fn write_fails_anywhere(rt: HostRuntime) {
-    let graph = graph_of(&rt, LINKED_PAIR);
+/// To a page that has room for so many of its bytes, just these are written, and all to one that has room for all.
+fn writes_fronts(rt: &(impl Abort + AllocGlobal), graph: &Graph) {
     for room in 0..69_usize {
-        writes_front(&rt, &graph, &LINKED_PAIR[..room]);
+        writes_front(rt, graph, &LINKED_PAIR[..room]);
     }
     let mut page = Page::new(rt.alloc(), 1, 69);
-    let count = write(&rt, &graph, &mut page);
-    page_has(&rt, &page, count, LINKED_PAIR);
+    let count = write(rt, graph, &mut page);
+    page_has(rt, &page, count, LINKED_PAIR);
+}
+
+#[test]
+fn write_fails_anywhere(rt: HostRuntime) {
+    with_graph(&rt, LINKED_PAIR, |rt, graph| writes_fronts(rt, graph));
 }
 
 /// To a page that has no room for more than these bytes, they are written, and then the fault counts them.

@@ -1,7 +1,10 @@
 //! Streams from the format, whole and in pieces, and what the reader answers to them.
+//!
+//! Each call of a reader has a function of its own here, with no contract: what a test compares is then proved without all
+//! that the reader promises, which takes minutes less.
 
 use crate::tests::asserted::same;
-use jser_reader::{Gate, OpenGate, Reader, Reason, Refusal, Stop, Totals};
+use jser_reader::{Gate, OpenGate, Reader, Reason, Refusal, Step, Stop, Totals};
 use std::alloc::{AllocError, AllocGlobal, Global};
 use std::process::Abort;
 use std::test::Fail;
@@ -55,6 +58,28 @@ fn with_zeros(alloc: Global, front: &[u8], zeros: usize) -> Result<Vec<u8>, Allo
     Ok(bytes)
 }
 
+/// The next item.
+fn next<'p, G: Gate>(reader: &mut Reader<G>, piece: &'p [u8]) -> Result<Step<'p>, Stop> {
+    reader.next(piece)
+}
+
+/// Takes the whole piece.
+fn skip<G: Gate>(reader: &mut Reader<G>, piece: &[u8]) -> Result<(), Stop> {
+    reader.skip(piece)
+}
+
+/// The end of the input.
+fn finish<G: Gate>(reader: &mut Reader<G>) -> Result<Totals, Stop> {
+    reader.finish()
+}
+
+/// Hands a new reader to what tests it. Each place that makes a reader drops it too, and both are proved there.
+fn with_reader<R: Abort + AllocGlobal, F: FnOnce(&R, &mut Reader<OpenGate>)>(rt: &R, test: F)
+    requires { F.IsAlwaysCallable test }
+{
+    test(rt, &mut Reader::new(rt.alloc(), OpenGate))
+}
+
 /// What a reader answers to the bytes in pieces of this size.
 fn answer_of(alloc: Global, bytes: &[u8], size: usize) -> Result<Totals, Stop> {
     answer_under(alloc, OpenGate, bytes, size)
@@ -74,9 +99,9 @@ fn answer_under<G: Gate + Drop>(
 /// What this reader answers to the bytes in pieces of this size.
 fn answer_from<G: Gate>(reader: &mut Reader<G>, bytes: &[u8], size: usize) -> Result<Totals, Stop> {
     for piece in bytes.chunks(size.max(1)) {
-        reader.skip(piece)?;
+        skip(reader, piece)?;
     }
-    reader.finish()
+    finish(reader)
 }
 
 /// The bytes are a stream with these counts, in pieces of one byte, of three, and whole.

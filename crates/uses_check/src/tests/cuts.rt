@@ -3,7 +3,7 @@
 use crate::tests::asserted::{holds, same};
 use crate::tests::{
     ABC_NULL_REF, ARRAY_LIST, ENUM_CONSTANT, INT_ARRAY, LAX, LINKED_PAIR, PROXY, RESET_EPOCHS,
-    Wanted, answer_in_pieces, assert_answer, stream, wanted_answer,
+    Wanted, answer_in_pieces, assert_answer, wanted_answer, with_filter, with_stream,
 };
 use jser_check::{CheckFault, Reason, Refusal, Report, Stop, check_bytes};
 use jser_filter::Filter;
@@ -50,15 +50,17 @@ const CUT_STREAMS: [&str; 7] = [
 /// The same of each of the streams.
 fn assert_each_cut(rt: &(impl Abort + AllocGlobal), filter: &Filter) -> Result<(), Fail> {
     for text in CUT_STREAMS {
-        assert_cuts(rt, filter, text, &stream(rt.alloc(), text)?);
+        with_stream(rt, text, |rt, bytes| {
+            assert_cuts(rt, filter, text, bytes);
+            Ok(())
+        })?;
     }
     Ok(())
 }
 
 #[test]
 fn cuts(rt: HostRuntime) -> Result<(), Fail> {
-    let filter = Filter::parse(rt.alloc(), "")?;
-    assert_each_cut(&rt, &filter)
+    with_filter(&rt, "", |rt, filter| assert_each_cut(rt, filter))
 }
 
 /// The row `linked-pair-cuts`: where the linked pair may end, and where its fields are cut.
@@ -72,20 +74,26 @@ const LINKED_PAIR_CUTS: [(usize, Wanted); 6] = [
 ];
 
 /// Each of these cuts of the bytes of the linked pair is answered as it is wanted.
-fn assert_linked_pair_cuts(rt: &(impl Abort + AllocGlobal), filter: &Filter, bytes: &[u8]) {
+fn assert_linked_pair_cuts(
+    rt: &(impl Abort + AllocGlobal),
+    filter: &Filter,
+    bytes: &[u8],
+) -> Result<(), Fail> {
     for (cut, wanted) in LINKED_PAIR_CUTS {
         let (front, _) = bytes.split_at(bytes.len().min(cut));
         let answer = wanted_answer(wanted);
         assert_answer(rt, "linked-pair-cuts", front, filter, LAX, answer);
     }
+    Ok(())
 }
 
 #[test]
 fn linked_pair_cuts(rt: HostRuntime) -> Result<(), Fail> {
-    let bytes = stream(rt.alloc(), LINKED_PAIR)?;
-    let filter = Filter::parse(rt.alloc(), "")?;
-    assert_linked_pair_cuts(&rt, &filter, &bytes);
-    Ok(())
+    with_filter(&rt, "", |rt, filter| {
+        with_stream(rt, LINKED_PAIR, |rt, bytes| {
+            assert_linked_pair_cuts(rt, filter, bytes)
+        })
+    })
 }
 
 /// The bytes before the deciding one are no refusal but Truncated, and the bytes after it change nothing.
@@ -177,14 +185,16 @@ fn assert_each_replaced(
 /// Each byte of each of the streams.
 fn assert_streams_replaced(rt: &(impl Abort + AllocGlobal), filter: &Filter) -> Result<(), Fail> {
     for text in [LINKED_PAIR, ENUM_CONSTANT, ARRAY_LIST] {
-        let bytes = stream(rt.alloc(), text)?;
-        assert_each_replaced(rt, filter, &bytes)?;
+        with_stream(
+            rt,
+            text,
+            |rt, bytes| assert_each_replaced(rt, filter, bytes),
+        )?;
     }
     Ok(())
 }
 
 #[test]
 fn replaced_bytes(rt: HostRuntime) -> Result<(), Fail> {
-    let filter = Filter::parse(rt.alloc(), "")?;
-    assert_streams_replaced(&rt, &filter)
+    with_filter(&rt, "", |rt, filter| assert_streams_replaced(rt, filter))
 }

@@ -37,6 +37,20 @@ fn assert_failing(
     );
 }
 
+/// Hands the empty filter, and the bytes of a stream that is written down, to what tests a source of them.
+fn with_setting<R: Abort + AllocGlobal, F: FnOnce(&R, &Filter, &[u8])>(
+    rt: &R,
+    text: &str,
+    test: F,
+) -> Result<(), Fail>
+    requires { F.IsAlwaysCallable test }
+{
+    let bytes = stream(rt.alloc(), text)?;
+    let filter = Filter::parse(rt.alloc(), "")?;
+    test(rt, &filter, &bytes);
+    Ok(())
+}
+
 /// A failed read after any number of these bytes is told.
 fn assert_failing_anywhere(rt: &(impl Abort + AllocGlobal), filter: &Filter, bytes: &[u8]) {
     for count in 0..70 {
@@ -50,19 +64,17 @@ fn assert_failing_anywhere(rt: &(impl Abort + AllocGlobal), filter: &Filter, byt
 /// A read that fails after any number of bytes is told, and never taken for the end.
 #[test]
 fn read_fails_anywhere(rt: HostRuntime) -> Result<(), Fail> {
-    let bytes = stream(rt.alloc(), LINKED_PAIR)?;
-    let filter = Filter::parse(rt.alloc(), "")?;
-    assert_failing_anywhere(&rt, &filter, &bytes);
-    Ok(())
+    with_setting(&rt, LINKED_PAIR, |rt, filter, bytes| {
+        assert_failing_anywhere(rt, filter, bytes)
+    })
 }
 
 /// A refusal that the bytes before a failed read decide is told in place of the failure.
 #[test]
 fn read_fails_after_refusal(rt: HostRuntime) -> Result<(), Fail> {
-    let bytes = stream(rt.alloc(), LINKED_PAIR_TAIL)?;
-    let filter = Filter::parse(rt.alloc(), "")?;
-    assert_refusal_is_told(&rt, &filter, &bytes);
-    Ok(())
+    with_setting(&rt, LINKED_PAIR_TAIL, |rt, filter, bytes| {
+        assert_refusal_is_told(rt, filter, bytes)
+    })
 }
 
 /// The first 69 of the bytes decide nothing, and the 70th is refused.

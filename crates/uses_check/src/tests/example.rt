@@ -18,17 +18,18 @@ fn holds_only_utilities(alloc: Global, bytes: &[u8]) -> Result<Result<bool, Stop
 // end
 
 use crate::tests::asserted::same;
-use crate::tests::{ARRAY_LIST, LINKED_PAIR, stream};
+use crate::tests::{ARRAY_LIST, LINKED_PAIR, with_stream};
 use std::alloc::AllocGlobal;
 use std::process::Abort;
 use std::test::Fail;
 
 /// What the example answers of the stream that is written down.
 fn assert_utilities(rt: &(impl Abort + AllocGlobal), text: &str, wanted: bool) -> Result<(), Fail> {
-    let bytes = stream(rt.alloc(), text)?;
-    let found = holds_only_utilities(rt.alloc(), &bytes);
-    same(rt, &found, &Ok(Ok(wanted)), text);
-    Ok(())
+    with_stream(rt, text, |rt, bytes| {
+        let found = holds_only_utilities(rt.alloc(), bytes);
+        same(rt, &found, &Ok(Ok(wanted)), text);
+        Ok(())
+    })
 }
 
 #[test]

@@ -3,6 +3,7 @@
 use crate::tests::asserted::same;
 use crate::tests::{
     ARRAY_LIST, ENUM_CONSTANT, INT_ARRAY, LAX, LINKED_PAIR, PROXY, STRICT, Wanted, assert_row,
+    with_filter,
 };
 use jser_check::{FilterGate, Options, Reason};
 use jser_filter::{Filter, Modules};
@@ -201,8 +202,7 @@ fn assert_row_with(
     (name, text, stream, options, wanted): &Row,
 ) -> Result<(), Fail> {
     let filter = filter_with(rt.alloc(), text, modules)?;
-    assert_row(rt, name, stream, &filter, *options, *wanted)?;
-    Ok(())
+    assert_row(rt, name, stream, &filter, *options, *wanted)
 }
 
 /// Both checks answer to each row what it wants, with the table of modules of this text, if there is one.
@@ -232,9 +232,10 @@ fn assert_limits(
     text: &str,
     limits: [u64; 4],
 ) -> Result<(), Fail> {
-    let filter = Filter::parse(rt.alloc(), text)?;
-    assert_limits_under(rt, text, &filter, limits);
-    Ok(())
+    with_filter(rt, text, |rt, filter| {
+        assert_limits_under(rt, text, filter, limits);
+        Ok(())
+    })
 }
 
 /// The same of the filter that this text is.
@@ -282,10 +283,9 @@ fn assert_names(rt: &impl Abort, filter: &Filter) {
 
 #[test]
 fn gate_names(rt: HostRuntime) -> Result<(), Fail> {
-    let filter = Filter::parse(
-        rt.alloc(),
-        "a;!b;maxdepth=70000;maxbytes=3;maxrefs=4;maxarray=5",
-    )?;
-    assert_names(&rt, &filter);
-    Ok(())
+    let text = "a;!b;maxdepth=70000;maxbytes=3;maxrefs=4;maxarray=5";
+    with_filter(&rt, text, |rt, filter| {
+        assert_names(rt, filter);
+        Ok(())
+    })
 }

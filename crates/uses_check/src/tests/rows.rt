@@ -2,7 +2,7 @@
 
 use crate::tests::{
     ABC_NULL_REF, ARRAY_LIST, ENUM_CONSTANT, INT_ARRAY, LAX, LINKED_PAIR, LINKED_PAIR_TAIL, PROXY,
-    RESET_EPOCHS, Wanted, assert_answer, assert_row, push_copies, report, stream,
+    RESET_EPOCHS, Wanted, assert_answer, assert_row, push_copies, report, stream, with_filter,
 };
 use jser_check::Reason;
 use jser_filter::Filter;
@@ -230,8 +230,7 @@ const REFUSED_CLASSES: [Row; 14] = [
 
 /// Both checks answer to each row what it wants.
 fn assert_rows(rt: &(impl Abort + AllocGlobal), rows: &[Row]) -> Result<(), Fail> {
-    let filter = Filter::parse(rt.alloc(), "")?;
-    assert_rows_under(rt, &filter, rows)
+    with_filter(rt, "", |rt, filter| assert_rows_under(rt, filter, rows))
 }
 
 /// Both checks answer to each row under this filter what it wants.
@@ -288,6 +287,5 @@ fn assert_blocks(rt: &(impl Abort + AllocGlobal), filter: &Filter) -> Result<(),
 
 #[test]
 fn blocks(rt: HostRuntime) -> Result<(), Fail> {
-    let filter = Filter::parse(rt.alloc(), "")?;
-    assert_blocks(&rt, &filter)
+    with_filter(&rt, "", |rt, filter| assert_blocks(rt, filter))
 }

@@ -1,6 +1,6 @@
 //! The texts of `show` of worked streams, and what goes out of them where the sink fails.
 
-use crate::tests::{graph_of, page_has, page_is_full};
+use crate::tests::{page_has, page_is_full, with_graph};
 use jser_graph::{Graph, GraphFault};
 use jser_prim::Sink;
 use std::alloc::AllocGlobal;
@@ -43,9 +43,10 @@ fn shows_by(rt: &(impl Abort + AllocGlobal), graph: &Graph, text: &[u8], step: u
 
 /// The stream is shown as this text.
 fn shows(rt: &(impl Abort + AllocGlobal), bytes: &[u8], text: &[u8]) {
-    let graph = graph_of(rt, bytes);
-    shows_by(rt, &graph, text, 4096);
-    shows_by(rt, &graph, text, 1);
+    with_graph(rt, bytes, |rt, graph| {
+        shows_by(rt, graph, text, 4096);
+        shows_by(rt, graph, text, 1);
+    });
 }
 
 #[test]
@@ -109,14 +110,20 @@ fn show_nothing(rt: HostRuntime) {
 /// version before them, 2 for each other array, indented by its level, and one for the null in the last one.
 const NEST_999_LENGTH: u64 = 2_047_027;
 
+/// The text has so many bytes.
+fn shows_as_many(rt: &(impl Abort + AllocGlobal), graph: &Graph, length: u64) {
+    let mut page = Page::new(rt.alloc(), 4096, 10_000_000);
+    let count = show(rt, graph, &mut page);
+    is_as_long(rt, &page, count, length);
+}
+
 /// Its lines go as deep as the arrays.
 #[test]
 fn show_nest_999(rt: HostRuntime) -> Result<(), Fail> {
     let bytes = nest(rt.alloc(), 999)?;
-    let graph = graph_of(&rt, &bytes);
-    let mut page = Page::new(rt.alloc(), 4096, 10_000_000);
-    let count = show(&rt, &graph, &mut page);
-    is_as_long(&rt, &page, count, NEST_999_LENGTH);
+    with_graph(&rt, &bytes, |rt, graph| {
+        shows_as_many(rt, graph, NEST_999_LENGTH)
+    });
     Ok(())
 }
 
@@ -126,15 +133,19 @@ fn is_as_long(rt: &impl Abort, page: &Page, count: Result<u64, GraphFault>, leng
     assert_eq!(rt; page.bytes.len() as u64, length);
 }
 
+/// To a page that has room for so much of the text of the linked pair, just this is shown.
+fn shows_fronts(rt: &(impl Abort + AllocGlobal), graph: &Graph) {
+    for room in 0..LINKED_PAIR_TEXT.len() {
+        shows_front(rt, graph, &LINKED_PAIR_TEXT[..room]);
+    }
+    shows_by(rt, graph, LINKED_PAIR_TEXT, 7);
+}
+
 /// What went out is the beginning of the text that the fault counts, wherever the sink fails, and the graph still
 /// answers.
 #[test]
 fn show_fails_anywhere(rt: HostRuntime) {
-    let graph = graph_of(&rt, LINKED_PAIR);
-    for room in 0..LINKED_PAIR_TEXT.len() {
-        shows_front(&rt, &graph, &LINKED_PAIR_TEXT[..room]);
-    }
-    shows_by(&rt, &graph, LINKED_PAIR_TEXT, 7);
+    with_graph(&rt, LINKED_PAIR, |rt, graph| shows_fronts(rt, graph));
 }
 
 /// To a page that has no room for more than this text, it is shown, and then the fault counts it.

@@ -2,7 +2,7 @@
 //! each call, that it is spent.
 
 use crate::tests::asserted::{holds, same};
-use crate::tests::totals;
+use crate::tests::{finish, next, skip, totals};
 use jser_reader::{OpenGate, Reader, Step, Stop};
 use std::alloc::AllocGlobal;
 use std::process::Abort;
@@ -16,14 +16,14 @@ fn reads(rt: &(impl Abort + AllocGlobal), size: usize) -> bool {
 /// The same by this reader, which is new.
 fn reads_by(rt: &impl Abort, reader: &mut Reader<OpenGate>, size: usize) -> bool {
     for piece in LINKED_PAIR.chunks(size.max(1)) {
-        if let Err(stop) = reader.skip(piece) {
+        if let Err(stop) = skip(reader, piece) {
             same(rt, &stop, &Stop::OutOfMemory, "out of memory");
-            same(rt, &reader.skip(&[0x70]), &Err(Stop::Spent), "then spent");
-            same(rt, &reader.finish(), &Err(Stop::Spent), "and at the end");
+            same(rt, &skip(reader, &[0x70]), &Err(Stop::Spent), "then spent");
+            same(rt, &finish(reader), &Err(Stop::Spent), "and at the end");
             return false;
         }
     }
-    let answer = reader.finish();
+    let answer = finish(reader);
     same(
         rt,
         &answer,
@@ -46,12 +46,18 @@ fn right_or_out_of_memory(rt: HostRuntime) {
 const INT_ARRAY_FRONT: &[u8] =
     b"\xAC\xED\x00\x05\x75\x72\x00\x02[I\x4D\xBA\x60\x26\x76\xEA\xB2\xA5\x02\x00\x00\x78\x70\x7F\xFF\xFF\xFF";
 
+/// Whether there was memory for the class; then the reader takes raw values, which need none.
+fn takes_raw_values(rt: &impl Abort, reader: &mut Reader<OpenGate>) -> bool {
+    if skip(reader, INT_ARRAY_FRONT).is_err() {
+        return false;
+    }
+    takes_raw_bytes(rt, reader);
+    true
+}
+
 #[test]
 fn raw_without_memory(rt: HostRuntime) {
-    let mut reader = Reader::new(rt.alloc(), OpenGate);
-    if reader.skip(INT_ARRAY_FRONT).is_ok() {
-        takes_raw_bytes(&rt, &mut reader);
-    } else {
+    if !takes_raw_values(&rt, &mut Reader::new(rt.alloc(), OpenGate)) {
         let _ = println!(rt; "refused");
     }
 }
@@ -59,7 +65,7 @@ fn raw_without_memory(rt: HostRuntime) {
 /// The reader takes a hundred bytes of raw values, one at a time.
 fn takes_raw_bytes(rt: &impl Abort, reader: &mut Reader<OpenGate>) {
     for count in 0..100 {
-        let step = reader.next(&[0x55]);
+        let step = next(reader, &[0x55]);
         let taken = matches!(step, Ok(Step::Item { used: 1, .. }));
         holds(rt, taken, format_args!("a byte is taken after {count}"));
     }

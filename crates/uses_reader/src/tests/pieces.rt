@@ -1,7 +1,7 @@
 //! Items, states and cut streams, piece by piece.
 
 use crate::tests::asserted::{holds, same};
-use crate::tests::{answer_of, totals};
+use crate::tests::{answer_of, finish, next, skip, totals, with_reader};
 use jser_reader::{Item, OpenGate, Reader, Reason, Refusal, Step, Stop, Whole};
 use std::alloc::Global;
 use std::process::Abort;
@@ -16,57 +16,72 @@ fn refused(reason: Reason, from_byte: u64, to_byte: u64) -> Stop {
     })
 }
 
-/// The reader answers this item to the piece, and takes so many bytes of it.
-fn assert_item(
-    rt: &impl Abort,
-    reader: &mut Reader<OpenGate>,
-    piece: &[u8],
-    item: Item,
-    used: usize,
-) {
-    same(
-        rt,
-        &reader.next(piece),
-        &Ok(Step::Item { item, used }),
-        format_args!("{item:?}"),
-    );
+/// An item and how many bytes of the piece it has, or nothing where more bytes are wanted.
+type Found = Option<(Item<'static>, usize)>;
+
+/// Pieces, and what a reader finds in them, one after another.
+const FOUND: [(&[u8], Found); 11] = [
+    (b"\xAC\xED\x00", None),
+    (b"\x05\x74\x00", Some((Item::Header, 1))),
+    (b"\x74\x00", Some((Item::Tag(0x74), 1))),
+    (b"\x00", None),
+    (b"\x03ab", Some((Item::TextLength(3), 1))),
+    (b"ab", Some((Item::TextPart(b"ab"), 2))),
+    (b"c\x70\x71", Some((Item::TextPart(b"c"), 1))),
+    (b"\x70\x71", Some((Item::Tag(0x70), 1))),
+    (b"\x71", Some((Item::Tag(0x71), 1))),
+    (b"\x00\x7E\x00", None),
+    (b"\x00", Some((Item::Handle(0x7E_0000), 1))),
+];
+
+/// The step of which this is found.
+fn step_of(found: Found) -> Step<'static> {
+    match found {
+        Some((item, used)) => Step::Item { item, used },
+        None => Step::More,
+    }
+}
+
+/// A reader finds all this, and then tells the counts; then it is spent.
+fn finds_all(rt: &impl Abort, reader: &mut Reader<OpenGate>) {
+    for (piece, found) in FOUND {
+        let step = Ok(step_of(found));
+        same!(rt; next(reader, piece), step, format_args!("{piece:?}"));
+    }
+    same!(rt; finish(reader), Ok(totals(16, 3, 3, 1, 1)));
+    same!(rt; finish(reader), Err(Stop::Spent));
+    same!(rt; next(reader, b""), Err(Stop::Spent));
+    same!(rt; next(reader, b"\x70"), Err(Stop::Spent));
 }
 
 #[test]
 fn pieces_of_three(rt: HostRuntime) {
-    let mut reader = Reader::new(rt.alloc(), OpenGate);
-    same!(rt; reader.next(b"\xAC\xED\x00"), Ok(Step::More));
-    assert_item(&rt, &mut reader, b"\x05\x74\x00", Item::Header, 1);
-    assert_item(&rt, &mut reader, b"\x74\x00", Item::Tag(0x74), 1);
-    same!(rt; reader.next(b"\x00"), Ok(Step::More));
-    assert_item(&rt, &mut reader, b"\x03ab", Item::TextLength(3), 1);
-    assert_item(&rt, &mut reader, b"ab", Item::TextPart(b"ab"), 2);
-    assert_item(&rt, &mut reader, b"c\x70\x71", Item::TextPart(b"c"), 1);
-    assert_item(&rt, &mut reader, b"\x70\x71", Item::Tag(0x70), 1);
-    assert_item(&rt, &mut reader, b"\x71", Item::Tag(0x71), 1);
-    same!(rt; reader.next(b"\x00\x7E\x00"), Ok(Step::More));
-    assert_item(&rt, &mut reader, b"\x00", Item::Handle(0x7E_0000), 1);
-    same!(rt; reader.finish(), Ok(totals(16, 3, 3, 1, 1)));
-    same!(rt; reader.finish(), Err(Stop::Spent));
-    same!(rt; reader.next(b""), Err(Stop::Spent));
-    same!(rt; reader.next(b"\x70"), Err(Stop::Spent));
+    with_reader(&rt, |rt, reader| finds_all(rt, reader));
+}
+
+/// A header is refused, and so is each call after it.
+fn refuses_for_good(rt: &impl Abort, reader: &mut Reader<OpenGate>) {
+    let wrong = refused(Reason::BadHeader, 0, 1);
+    same!(rt; next(reader, b"\x00"), Err(wrong));
+    same!(rt; next(reader, b"\xAC"), Err(wrong));
+    same!(rt; skip(reader, b""), Err(wrong));
+    same!(rt; finish(reader), Err(wrong));
 }
 
 #[test]
 fn refused_for_good(rt: HostRuntime) {
-    let mut reader = Reader::new(rt.alloc(), OpenGate);
-    let wrong = refused(Reason::BadHeader, 0, 1);
-    same!(rt; reader.next(b"\x00"), Err(wrong));
-    same!(rt; reader.next(b"\xAC"), Err(wrong));
-    same!(rt; reader.skip(b""), Err(wrong));
-    same!(rt; reader.finish(), Err(wrong));
+    with_reader(&rt, |rt, reader| refuses_for_good(rt, reader));
+}
+
+/// No byte is no stream.
+fn finishes_at_once(rt: &impl Abort, reader: &mut Reader<OpenGate>) {
+    same!(rt; next(reader, b""), Ok(Step::More));
+    same!(rt; finish(reader), Err(refused(Reason::Truncated, 0, 0)));
 }
 
 #[test]
 fn finish_at_once(rt: HostRuntime) {
-    let mut reader = Reader::new(rt.alloc(), OpenGate);
-    same!(rt; reader.next(b""), Ok(Step::More));
-    same!(rt; reader.finish(), Err(refused(Reason::Truncated, 0, 0)));
+    with_reader(&rt, |rt, reader| finishes_at_once(rt, reader));
 }
 
 /// The stream cut after so many bytes: Truncated, but where only the header is left or the first object.
@@ -95,33 +110,59 @@ fn linked_pair_cuts(rt: HostRuntime) {
     }
 }
 
-/// A string, and a reference to it, are lent at once where they are whole in the piece; half a reference is not.
-#[test]
-fn whole_values(rt: HostRuntime) {
-    let mut reader = Reader::new(rt.alloc(), OpenGate);
-    same!(rt; reader.skip(&[0xAC, 0xED, 0x00, 0x05]), Ok(()));
-    let text = reader.next_whole(&[0x74, 0x00, 0x01, 0x61]);
+/// A value that is lent at once.
+fn next_whole<'p>(
+    reader: &mut Reader<OpenGate>,
+    piece: &'p [u8],
+) -> Result<Option<Whole<'p>>, Stop> {
+    reader.next_whole(piece)
+}
+
+/// A string and a reference to it are lent at once, and half a reference is not.
+fn lends_whole_values(rt: &impl Abort, reader: &mut Reader<OpenGate>) {
+    same!(rt; skip(reader, &[0xAC, 0xED, 0x00, 0x05]), Ok(()));
+    let text = next_whole(reader, &[0x74, 0x00, 0x01, 0x61]);
     same!(rt; text, Ok(Some(Whole::String(&[0x61]))));
-    let half = reader.next_whole(&[0x71, 0x00, 0x7E]);
+    let half = next_whole(reader, &[0x71, 0x00, 0x7E]);
     same!(rt; half, Ok(None));
-    let back = reader.next_whole(&[0x71, 0x00, 0x7E, 0x00, 0x00]);
+    let back = next_whole(reader, &[0x71, 0x00, 0x7E, 0x00, 0x00]);
     same!(rt; back, Ok(Some(Whole::Reference(0x7E_0000))));
 }
 
-/// A stream up to the values of an object with a byte and an int, and the byte.
-const TWO_RAW_VALUES: [u8; 31] = [
+#[test]
+fn whole_values(rt: HostRuntime) {
+    with_reader(&rt, |rt, reader| lends_whole_values(rt, reader));
+}
+
+/// A stream up to the values of an object with a byte and an int.
+const TWO_RAW_VALUES: [u8; 30] = [
     0xAC, 0xED, 0x00, 0x05, 0x73, 0x72, 0x00, 0x01, 0x41, 0x00, 0x00, 0x00, 0x00, 0x00, 0x00, 0x00,
-    0x01, 0x02, 0x00, 0x02, 0x42, 0x00, 0x01, 0x78, 0x49, 0x00, 0x01, 0x79, 0x78, 0x70, 0x05,
+    0x01, 0x02, 0x00, 0x02, 0x42, 0x00, 0x01, 0x78, 0x49, 0x00, 0x01, 0x79, 0x78, 0x70,
 ];
 
-/// Raw values are skipped where they are whole in the piece: here the last bytes of one are not, and a null is none.
+/// Pieces, and how many of their bytes are raw values that are whole in the piece: here the last bytes of one are not, and a
+/// null is none.
+const RAW_VALUES: [(&[u8], Option<usize>); 4] = [
+    (&[0x05], Some(1)),
+    (&[0x00, 0x00, 0x00], None),
+    (&[0x00, 0x00, 0x00, 0x07, 0x70], Some(4)),
+    (&[0x70], None),
+];
+
+/// Takes the raw values that come next.
+fn skip_raws(reader: &mut Reader<OpenGate>, piece: &[u8]) -> Option<usize> {
+    reader.skip_raws(piece)
+}
+
+/// Raw values are skipped where they are whole in the piece.
+fn skips_raw_values(rt: &impl Abort, reader: &mut Reader<OpenGate>) {
+    same!(rt; skip(reader, &TWO_RAW_VALUES), Ok(()));
+    for (piece, count) in RAW_VALUES {
+        same!(rt; skip_raws(reader, piece), count, format_args!("{piece:?}"));
+    }
+}
+
 #[test]
 fn raw_values(rt: HostRuntime) {
-    let mut reader = Reader::new(rt.alloc(), OpenGate);
-    let (class, byte) = TWO_RAW_VALUES.split_at(30);
-    same!(rt; reader.skip(class), Ok(()));
-    same!(rt; reader.skip_raws(byte), Some(1));
-    same!(rt; reader.skip_raws(&[0x00, 0x00, 0x00]), None);
-    same!(rt; reader.skip_raws(&[0x00, 0x00, 0x00, 0x07, 0x70]), Some(4));
-    same!(rt; reader.skip_raws(&[0x70]), None);
+    with_reader(&rt, |rt, reader| skips_raw_values(rt, reader));
 }
