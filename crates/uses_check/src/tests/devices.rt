@@ -1,7 +1,9 @@
 //! Sources that fail, and how many bytes are taken.
 
 use crate::tests::asserted::{holds, same};
-use crate::tests::{LAX, LINKED_PAIR, LINKED_PAIR_TAIL, push_copies, refused, stream};
+use crate::tests::{
+    LAX, LINKED_PAIR, LINKED_PAIR_TAIL, push_copies, refused, stream, with_filter, with_stream,
+};
 use jser_check::{CheckFault, Reason, Report, check_reader};
 use jser_filter::Filter;
 use jser_prim::Source;
@@ -37,20 +39,6 @@ fn assert_failing(
     );
 }
 
-/// Hands the empty filter, and the bytes of a stream that is written down, to what tests a source of them.
-fn with_setting<R: Abort + AllocGlobal, F: FnOnce(&R, &Filter, &[u8])>(
-    rt: &R,
-    text: &str,
-    test: F,
-) -> Result<(), Fail>
-    requires { F.IsAlwaysCallable test }
-{
-    let bytes = stream(rt.alloc(), text)?;
-    let filter = Filter::parse(rt.alloc(), "")?;
-    test(rt, &filter, &bytes);
-    Ok(())
-}
-
 /// A failed read after any number of these bytes is told.
 fn assert_failing_anywhere(rt: &(impl Abort + AllocGlobal), filter: &Filter, bytes: &[u8]) {
     for count in 0..70 {
@@ -64,16 +52,22 @@ fn assert_failing_anywhere(rt: &(impl Abort + AllocGlobal), filter: &Filter, byt
 /// A read that fails after any number of bytes is told, and never taken for the end.
 #[test]
 fn read_fails_anywhere(rt: HostRuntime) -> Result<(), Fail> {
-    with_setting(&rt, LINKED_PAIR, |rt, filter, bytes| {
-        assert_failing_anywhere(rt, filter, bytes)
+    with_filter(&rt, "", |rt, filter| {
+        with_stream(rt, LINKED_PAIR, |rt, bytes| {
+            assert_failing_anywhere(rt, filter, bytes);
+            Ok(())
+        })
     })
 }
 
 /// A refusal that the bytes before a failed read decide is told in place of the failure.
 #[test]
 fn read_fails_after_refusal(rt: HostRuntime) -> Result<(), Fail> {
-    with_setting(&rt, LINKED_PAIR_TAIL, |rt, filter, bytes| {
-        assert_refusal_is_told(rt, filter, bytes)
+    with_filter(&rt, "", |rt, filter| {
+        with_stream(rt, LINKED_PAIR_TAIL, |rt, bytes| {
+            assert_refusal_is_told(rt, filter, bytes);
+            Ok(())
+        })
     })
 }
 
