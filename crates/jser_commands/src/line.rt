@@ -51,7 +51,8 @@ pub enum LineFault {
 ///
 /// # Errors
 ///
-/// `LineFault::Clap` with clap's own text where clap does not take the words, help included.
+/// `LineFault::Clap` with clap's own text where clap does not take the words, help included; `LineFault::OutOfMemory` where
+/// memory ran out.
 pub fn line_of<'a>(alloc: Global, words: &'a [&'a str]) -> Result<Option<Line>, LineFault>
     ensures asked { IfOk result (λ line. option_map line_asks line ≡ asked_in (map (λ word. word.now) words.entry.now)) }
     ensures mistake { IfErr result (IsMistake (map (λ word. word.now) words.entry.now)) }

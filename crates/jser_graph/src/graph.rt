@@ -17,9 +17,10 @@ use std::marker::Model;
 /// A Java object serialization stream, by its handles: what each of them names, the units of every string, the checked
 /// names, and the bytes as they were read.
 ///
-/// It holds the bytes, 12 bytes for each handle, 8 for each object, array, enum constant and class object, and two for
-/// each unit of a string or a checked name; besides, room that is made ready for at most 32,768 units, and what each vector
-/// holds in reserve as it grows. It holds no tree, and nothing in it goes as deep as the stream.
+/// It holds the bytes, 12 bytes for each handle, 8 for each object, array, enum constant and class object, 8 for each
+/// checked name, each reset and each string that has a list of its own, and two for each unit of a string or a checked name;
+/// besides, room that is made ready for fewer than 163,840 units, and what each vector holds in reserve as it grows. It holds
+/// no tree, and nothing in it goes as deep as the stream.
 #[derive(Drop)]
 pub struct Graph {
     pub(crate) bytes: Vec<u8>,
@@ -55,7 +56,8 @@ fn copied(alloc: Global, bytes: &[u8]) -> Result<Vec<u8>, AllocError>
 }
 
 impl Graph {
-    /// Reads bytes that are one stream of at most 2^40 bytes, and at most 65,535 deep. No class names are refused.
+    /// Reads bytes that are one stream within the greatest limits: at most 2^40 bytes, 65,535 levels, and 2,139,226,112
+    /// handles in an epoch. No class names are refused.
     ///
     /// # Errors
     ///

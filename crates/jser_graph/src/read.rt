@@ -1,4 +1,4 @@
-//! The first walk along the bytes of a stream.
+//! Goes along the bytes of a stream, and finds what a graph keeps of it.
 ghost use Rattle.std.specs.Prelude.{◌≡◌, ◌≤◌, length, IfOk};
 ghost use Rattle.jser_shown.specs.Finding.{begin_finding};
 ghost use Rattle.jser_graph.specs.Along.{BeginsAt};
@@ -11,7 +11,7 @@ use jser_reading::laws::one_reading;
 use jser_shown::laws::{finds_fronts, found, places_are_counted};
 use std::alloc::{AllocError, Global};
 
-/// What a first walk along a stream finds, and its counts.
+/// What is found along a stream, and its counts.
 #[derive(Drop)]
 pub(crate) struct Found {
     pub(crate) survey: Survey,
@@ -26,7 +26,7 @@ pub(crate) fn survey(alloc: Global, bytes: &[u8]) -> Result<Found, Stop>
     let mut reader = Reader::new(alloc, OpenGate);
     let mut survey = Survey::new(alloc);
     let mut units = Vec::new(alloc);
-    match walk_along(&mut reader, &mut survey, &mut units, bytes) {
+    match survey_along(&mut reader, &mut survey, &mut units, bytes) {
         Ok(totals) => Ok(Found { survey, totals }),
         Err(stop) => Err(stop),
     }
@@ -81,7 +81,7 @@ fn pass_behind<'b>(
 }
 
 /// Goes along the bytes with a new reader, and lets the survey go along their fields.
-fn walk_along(
+fn survey_along(
     reader: &mut Reader<OpenGate>,
     survey: &mut Survey,
     units: &mut Vec<u16>,

@@ -1,4 +1,4 @@
-//! A first walk along the fields of a stream, which finds its nodes, owners and checked names.
+//! Finds the nodes, owners and checked names of a stream, field by field.
 ghost use Rattle.std.specs.Prelude.{◌≡◌, ◌+◌, ◌<◌, ◌≤◌, ◌^◌, true, false, length, OnOk};
 ghost use Rattle.jser_reading.specs.FieldBytes.{bytes_of, tag_byte};
 ghost use Rattle.jser_reading.specs.Labels.{StreamField, Tag};
@@ -24,7 +24,7 @@ use jser_walk::{Field, OwnerNode};
 use std::alloc::{AllocError, Global};
 use std::marker::Model;
 
-/// What a first walk has found so far.
+/// What was found so far.
 ///
 /// It is told of each field how many handles of the epoch were assigned before it, which the reader knows: so it needs
 /// no stack of what is open. A tag's node is made at the first field before which its handle is assigned.

@@ -1,5 +1,5 @@
 -- Texts that are said one after another.
-use Rattle.std.proofs.Common.{◌≡◌, ℕ, ◌+◌, ◌<◌, ◌≤◌, List, [], ◌∷◌, ◌++◌, refl, sym, ap, ◌∙◌, append_assoc, take, drop, length, get_or, arith}
+use Rattle.std.proofs.Common.{◌≡◌, ℕ, ◌+◌, ◌<◌, ◌≤◌, true, List, [], ◌∷◌, ◌++◌, refl, sym, ap, ◌∙◌, append_assoc, take, drop, length, get_or, arith}
 use Rattle.std.proofs.lemmas.Grind.{flat_map-append}
 use Rattle.std.proofs.lemmas.List.{take_more, flat_map_more, take-append-drop, append-nil}
 use Rattle.std.specs.List.{flat_map}
@@ -8,7 +8,7 @@ use Rattle.std.specs.Prelude.{codes}
 use Rattle.hex.specs.Hex.{encode_lower}
 use Rattle.jser_prim.specs.Bytes.{big_bytes}
 use Rattle.jser_prim.specs.Outgoing.{Outgoing, SinkState, Puts}
-use Rattle.jser_prim.proofs.OutgoingLemmas.{puts_none, puts_both}
+use Rattle.jser_prim.proofs.OutgoingLemmas.{puts_none, puts_both, puts_stopped}
 use Rattle.jser_shown.specs.Words.{quoted, quoted_unit, without_zeros}
 use Rattle.jser_words.specs.Says.{Saying, Says}
 
@@ -26,6 +26,11 @@ says_on a b c d e f all middle left h g = record {
   puts = puts_both a b c d e f h.bytes g.bytes h.puts g.puts;
   is = λ k. h.is k ∙ ap (λ x. h.bytes ++ x) (g.is k) ∙ sym (append_assoc h.bytes g.bytes (left k));
 }
+
+-- after a failure nothing more goes out, so what is left is said
+pub says_stopped : (a b : Outgoing) (d e : SinkState) (all : List ℕ → List ℕ) (rest : List ℕ) → Saying a b d e all (λ k. rest ++ k) → b.failed ≡ true
+    → Says a b d e all
+says_stopped a b d e all rest h off = says_on a b b d e e all (λ k. rest ++ k) (λ k. k) h (says_bytes b b e e rest (puts_stopped b e rest off))
 
 -- a text, where another one is to follow
 pub says_before : (a b : Outgoing) (d e : SinkState) (text after : List ℕ → List ℕ) → Says a b d e text

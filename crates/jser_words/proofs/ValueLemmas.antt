@@ -1,10 +1,11 @@
 -- Raw elements one after another, and the lengths of blocks.
-use Rattle.std.proofs.Common.{◌≡◌, ℕ, zero, suc, ◌+◌, ◌-◌, ◌<◌, ◌≤◌, min, List, [], ◌∷◌, ◌++◌, sym, ap, ◌∙◌, take, drop, length, arith}
+use Rattle.std.proofs.Common.{◌≡◌, ℕ, zero, suc, ◌+◌, ◌-◌, ◌<◌, ◌≤◌, min, true, List, [], ◌∷◌, ◌++◌, refl, sym, ap, ◌∙◌, append_assoc, take, drop, length, arith}
 use Rattle.std.proofs.lemmas.List.{take_min, drop_min}
 use Rattle.std.specs.Fmt.{decimal}
 use Rattle.std.specs.List.{flat_map}
+use Rattle.hex.specs.Hex.{encode_lower}
 use Rattle.jser_prim.specs.Outgoing.{Outgoing, SinkState}
-use Rattle.jser_prim.proofs.OutgoingLemmas.{puts_none}
+use Rattle.jser_prim.proofs.OutgoingLemmas.{puts_none, puts_stopped}
 use Rattle.jser_shown.specs.Words.{begin_line, quoted_unit}
 use Rattle.jser_shown.specs.Shown.{element_at, field_named, name_text}
 use Rattle.jser_shown.specs.Telling.{raw_line, raw_lines, raw_elements_lines, block_length_says, seen_block_length}
@@ -42,6 +43,32 @@ says_element a b c d e f all L first size n i index rest element next h g inside
       puts = g.puts;
       is = λ k. raw-lines-step L first size n i index rest element next k inside at is left
           ∙ g.is (raw_lines L (first + (i + 1)) size (n - (i + 1)) next k);
+    })
+
+begin-append : (L : ℕ) (s k : List ℕ) → begin_line L (s ++ k) ≡ begin_line L s ++ k
+begin-append zero s k = refl
+begin-append (suc L) s k = ap (λ x. 0x20 ∷ 0x20 ∷ x) (begin-append L s k)
+
+raw-line-append : (L i : ℕ) (bytes s k : List ℕ) → raw_line L (element_at i) bytes (s ++ k) ≡ raw_line L (element_at i) bytes s ++ k
+raw-line-append L i bytes s k =
+    ap (λ x. begin_line L (name_text (element_at i) x)) (sym (append_assoc (encode_lower bytes) (0x0A ∷ s) k))
+    ∙ ap (λ x. begin_line L (0x5B ∷ x)) (sym (append_assoc (decimal i) (0x5D ∷ 0x20 ∷ (encode_lower bytes ++ (0x0A ∷ s))) k))
+    ∙ begin-append L (name_text (element_at i) (encode_lower bytes ++ (0x0A ∷ s))) k
+
+raw-lines-front : (L i size n : ℕ) (bytes k : List ℕ) → raw_lines L i size n bytes k ≡ raw_lines L i size n bytes [] ++ k
+raw-lines-front L i size zero bytes k = refl
+raw-lines-front L i size (suc n) bytes k =
+    ap (raw_line L (element_at i) (take size bytes)) (raw-lines-front L (suc i) size n (drop size bytes) k)
+    ∙ raw-line-append L i (take size bytes) (raw_lines L (suc i) size n (drop size bytes) []) k
+
+-- after a failure the elements that are left are said, since nothing more goes out
+pub says_no_more : (a b : Outgoing) (d e : SinkState) (all : List ℕ → List ℕ) (L i size n : ℕ) (rest : List ℕ)
+    → Saying a b d e all (λ k. raw_lines L i size n rest k) → b.failed ≡ true → Says a b d e all
+says_no_more a b d e all L i size n rest h off =
+    says_on a b b d e e all (λ k. raw_lines L i size n rest k) (λ k. k) h (record {
+      bytes = raw_lines L i size n rest [];
+      puts = puts_stopped b e (raw_lines L i size n rest []) off;
+      is = λ k. raw-lines-front L i size n rest k;
     })
 
 -- all elements

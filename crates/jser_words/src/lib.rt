@@ -1,4 +1,5 @@
-//! The words of the text of `show`, put into an outbox one after another. Nothing here takes memory.
+//! The words of the text of `show`, put into an outbox one after another. Nothing here takes memory but what the walk
+//! takes, which a call that passes a field on to it answers with `AllocError`.
 #![tactic(auto)]
 
 mod descriptor;

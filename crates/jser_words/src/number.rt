@@ -68,6 +68,9 @@ fn say_hex_pieces<W: Sink>(outbox: &mut Outbox, sink: &mut W, bytes: &[u8])
 {
     let mut rest = bytes;
     'pieces: while rest.len() > PIECE {
+        if outbox.has_failed() {
+            return;
+        }
         let (piece, after) = rest.split_at(PIECE);
         say_hex_piece(outbox, sink, piece);
         rest = after;

@@ -48,6 +48,9 @@ fn say_units<W: Sink>(outbox: &mut Outbox, sink: &mut W, units: &[u16])
 {
     let mut rest = units;
     'runs: while !rest.is_empty() {
+        if outbox.has_failed() {
+            return;
+        }
         rest = say_run(outbox, sink, rest);
     }
 }

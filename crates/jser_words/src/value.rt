@@ -79,7 +79,7 @@ pub(crate) fn say_raw_elements<W: Sink>(
     say_pieces(outbox, sink, level, first, count, size, bytes);
 }
 
-/// Says the lines of so many raw elements of this size.
+/// Says the lines of so many raw elements of this size. After a failure no more lines are made, which nobody would get.
 fn say_pieces<W: Sink>(
     outbox: &mut Outbox,
     sink: &mut W,
@@ -93,6 +93,9 @@ fn say_pieces<W: Sink>(
 {
     let mut rest = bytes;
     'elements: for index in 0..count {
+        if outbox.has_failed() {
+            return;
+        }
         let (element, after) = rest.split_at(size.min(rest.len()));
         say_raw_element(outbox, sink, level, first as u64 + index as u64, element);
         rest = after;

@@ -1,6 +1,6 @@
 use Rattle.std.proofs.Common.{rules}
 use Rattle.jser_words.proofs.LineLemmas.{says_piece}
-use Rattle.jser_words.proofs.SaysLemmas.{says_on}
+use Rattle.jser_words.proofs.SaysLemmas.{says_on, says_stopped}
 use Rattle.jser_words.proofs.number.say_hex_pieces.Goals as goal
 
 pub pieces-preserved : goal.pieces-preserved
@@ -8,3 +8,6 @@ pieces-preserved g c = says_piece _ _ _ _ _ _ _ _ _ _ 64 c.pieces.invariant c.sa
 
 pub returns : goal.returns
 returns g c = says_on _ _ _ _ _ _ _ _ _ c.pieces.invariant c.say_hex_piece-2.ensures
+
+pub returns-then-has_failed : goal.returns-then-has_failed
+returns-then-has_failed g c = says_stopped _ _ _ _ _ _ c.pieces.invariant (search rules)

@@ -1,5 +1,5 @@
 use Rattle.std.proofs.Common.{rules, refl}
-use Rattle.jser_words.proofs.ValueLemmas.{says_no_elements, says_element, says_all_elements}
+use Rattle.jser_words.proofs.ValueLemmas.{says_no_elements, says_element, says_all_elements, says_no_more}
 use Rattle.jser_words.proofs.value.say_pieces.Goals as goal
 
 pub elements-init : goal.elements-init
@@ -11,3 +11,6 @@ elements-preserved g c =
 
 pub returns : goal.returns
 returns g c = says_all_elements _ _ _ _ _ _ _ _ _ _ _ c.elements.invariant (search rules)
+
+pub returns-then-has_failed : goal.returns-then-has_failed
+returns-then-has_failed g c = says_no_more _ _ _ _ _ _ _ _ _ _ c.elements.invariant (search rules)

@@ -8,7 +8,7 @@ use Rattle.jser_graph.specs.Surveying.{IsAt}
 use Rattle.jser_graph.proofs.TurnLemmas.{wants_more, turns, takes_item}
 use Rattle.jser_graph.proofs.ReadLemmas.{memory_out, next_stops, finish_walks, meets, Meets, does, took, laws_of}
 use Rattle.jser_graph.proofs.WholeLemmas.{nothing_done, past_whole}
-use Rattle.jser_graph.proofs.read.walk_along.Goals as goal
+use Rattle.jser_graph.proofs.read.survey_along.Goals as goal
 
 pub returns-in-Err : goal.returns-in-Err
 returns-in-Err c =
