@@ -93,8 +93,8 @@ fn stream(alloc: Global, text: &str) -> Result<Vec<u8>, AllocError> {
     Ok(bytes)
 }
 
-/// Hands the bytes of a stream that is written down to what tests them. Each place that makes bytes drops them too, and both
-/// are proved there: here for all such tests.
+/// Hands the bytes of a stream that is written down to what tests them, so that making and dropping them is proved once and
+/// not in each test.
 fn with_stream<R: Abort + AllocGlobal, F: FnOnce(&R, &[u8]) -> Result<(), Fail>>(
     rt: &R,
     text: &str,

@@ -28,8 +28,8 @@ fn graph_of(rt: &(impl Abort + AllocGlobal), bytes: &[u8]) -> Graph {
     }
 }
 
-/// Hands the graph of a stream that is accepted to what tests it. Each place that makes a graph drops it too, and both are
-/// proved there: here for all such tests.
+/// Hands the graph of a stream that is accepted to what tests it, so that making and dropping one is proved once and not in
+/// each test.
 fn with_graph<R: Abort + AllocGlobal, F: FnOnce(&R, &Graph)>(rt: &R, bytes: &[u8], test: F)
     requires { F.IsAlwaysCallable test }
 {

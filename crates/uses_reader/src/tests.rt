@@ -1,7 +1,7 @@
 //! Streams from the format, whole and in pieces, and what the reader answers to them.
 //!
-//! Each call of a reader has a function of its own here, with no contract: what a test compares is then proved without all
-//! that the reader promises, which takes minutes less.
+//! Each call of a reader that several tests make has a function of its own here, with no contract: what a test compares is
+//! then proved without all that the reader promises.
 
 use crate::tests::asserted::same;
 use jser_reader::{Gate, OpenGate, Reader, Reason, Refusal, Step, Stop, Totals};
@@ -73,7 +73,7 @@ fn finish<G: Gate>(reader: &mut Reader<G>) -> Result<Totals, Stop> {
     reader.finish()
 }
 
-/// Hands a new reader to what tests it. Each place that makes a reader drops it too, and both are proved there.
+/// Hands a new reader to what tests it, so that making and dropping one is proved once and not in each test.
 fn with_reader<R: Abort + AllocGlobal, F: FnOnce(&R, &mut Reader<OpenGate>)>(rt: &R, test: F)
     requires { F.IsAlwaysCallable test }
 {
