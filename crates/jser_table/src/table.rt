@@ -319,9 +319,19 @@ impl Table {
         ensures chains { self.new.chains ≡ [] }
         ensures max { self.new.max ≡ self.old.max }
     {
+        self.restart(self.max);
+    }
+
+    /// Forgets all entries, of which there may be up to `max` from now on, and keeps the memory for them.
+    pub fn restart(&mut self, max: u32)
+        ensures entries { self.new.entries ≡ [] }
+        ensures chains { self.new.chains ≡ [] }
+        ensures max { self.new.max ≡ max }
+    {
         self.entries.clear();
         self.chains.clear();
         self.pending = 0;
+        self.max = max;
     }
 }
 

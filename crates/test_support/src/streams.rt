@@ -97,3 +97,77 @@ pub fn nest(alloc: Global, arrays: usize) -> Result<Vec<u8>, AllocError> {
     bytes.push(0x70)?;
     Ok(bytes)
 }
+
+/// A stream of 93,836 bytes: class descriptors with 300 names of 200 units, as `large_name` has them, and one of 20,000
+/// units, and then arrays of the class `[LA;`, 900 deep.
+///
+/// By the definitions it has 302 contents; two places for each of the 301 descriptors, itself and its superclass, and 902 in
+/// the arrays, so 1,504; depth 901; and 301 handles of descriptors and 901 of arrays and their class, so 1,202.
+///
+/// # Errors
+///
+/// Where memory runs out.
+pub fn large(alloc: Global) -> Result<Vec<u8>, AllocError> {
+    let mut bytes = EMPTY_STREAM.to_vec(alloc)?;
+    for high in LARGE_NAMES_HIGH {
+        for low in LARGE_NAMES_LOW {
+            push_large_descriptor(&mut bytes, *high, *low)?;
+        }
+    }
+    bytes.extend_from_slice(b"\x72\x4E\x20")?;
+    push_copies(&mut bytes, b'y', 20_000)?;
+    bytes.extend_from_slice(DESCRIPTOR_TAIL)?;
+    push_nest_of_900(&mut bytes)?;
+    Ok(bytes)
+}
+
+/// The first letters of the names of `large`.
+pub const LARGE_NAMES_HIGH: &[u8] = b"abcdefghijklmno";
+
+/// Their second letters.
+pub const LARGE_NAMES_LOW: &[u8] = b"abcdefghijklmnopqrst";
+
+/// The rest of a class descriptor of a serializable class without fields, behind its name.
+const DESCRIPTOR_TAIL: &[u8] = b"\x00\x00\x00\x00\x00\x00\x00\x01\x02\x00\x00\x78\x70";
+
+/// Puts a descriptor with a name of 200 units behind the bytes.
+fn push_large_descriptor(bytes: &mut Vec<u8>, high: u8, low: u8) -> Result<(), AllocError> {
+    bytes.extend_from_slice(b"\x72\x00\xC8")?;
+    push_large_name(bytes, high, low)?;
+    bytes.extend_from_slice(DESCRIPTOR_TAIL)
+}
+
+/// Puts a name of 200 units behind the bytes: these two, and 198 times `x`.
+///
+/// # Errors
+///
+/// Where memory runs out.
+pub fn push_large_name(bytes: &mut Vec<u8>, high: u8, low: u8) -> Result<(), AllocError> {
+    bytes.push(high)?;
+    bytes.push(low)?;
+    push_copies(bytes, b'x', 198)
+}
+
+/// Puts so many copies of one byte behind the bytes.
+///
+/// # Errors
+///
+/// Where memory runs out.
+pub fn push_copies(bytes: &mut Vec<u8>, byte: u8, count: usize) -> Result<(), AllocError> {
+    for _ in 0..count {
+        bytes.push(byte)?;
+    }
+    Ok(())
+}
+
+/// Puts arrays behind the bytes, 900 deep, the first with the descriptor of their class, which has the handle 0x7E012D.
+fn push_nest_of_900(bytes: &mut Vec<u8>) -> Result<(), AllocError> {
+    bytes.extend_from_slice(b"\x75\x72\x00\x04[LA;")?;
+    bytes.extend_from_slice(DESCRIPTOR_TAIL)?;
+    bytes.extend_from_slice(b"\x00\x00\x00\x01")?;
+    for _ in 1..900 {
+        bytes.extend_from_slice(b"\x75\x71\x00\x7E\x01\x2D\x00\x00\x00\x01")?;
+    }
+    bytes.push(0x70)?;
+    Ok(())
+}

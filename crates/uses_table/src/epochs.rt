@@ -77,6 +77,23 @@ pub fn next_epoch(table: &mut Table, kind: Kind) -> Result<u32, TableFault>
     table.assign(kind)
 }
 
+/// Takes the table again for the next stream, which may have up to `max` handles in an epoch, and gives the first of
+/// them.
+///
+/// # Errors
+///
+/// That of the table, which has then no entries.
+pub fn next_stream(table: &mut Table, max: u32, kind: Kind) -> Result<u32, TableFault>
+    ensures number { IfOk result (λ number. number ≡ 0) }
+    ensures entries { IfOk result (λ _. table.new.entries ≡ new_entry kind ∷ []) }
+    ensures chains { table.new.chains ≡ [] }
+    ensures max { table.new.max ≡ max }
+    ensures refuse { (result ≡ Err TableFault.Full) ↔ (max ≡ 0) }
+{
+    table.restart(max);
+    table.assign(kind)
+}
+
 /// Whether no handle of the epoch has been assigned.
 pub fn is_new(table: &Table) -> bool
     ensures { IsTrue result ↔ (table.now.entries ≡ []) }

@@ -165,12 +165,15 @@ fn table_full_and_close(rt: HostRuntime) -> Result<(), Fail> {
     Ok(())
 }
 
-/// A reset leaves no entry, and the next handle is number 0 again.
+/// A reset leaves no entry, and the next handle is number 0 again. A table that begins anew has as many as it is told.
 fn is_new_when_reset(rt: &impl Abort, table: &mut Table) {
     table.reset();
     same!(rt; table.count(), 0);
     same!(rt; table.assign(Kind::Other), Ok(0));
     holds!(rt; matches!(table.get(0), Some(Entry::Other)));
+    table.restart(1);
+    same!(rt; table.assign(Kind::Text), Ok(0));
+    same!(rt; table.assign(Kind::Text), Err(TableFault::Full));
 }
 
 /// An entry whose class is open is no parent of its own.

@@ -3,7 +3,10 @@
 use crate::tests::asserted::{holds, same};
 use jser_trees::{OpenGate, Stop, read_all};
 use jser_value::encode;
+use std::alloc::AllocGlobal;
+use std::process::Abort;
 use test_support::Compared;
+use test_support::streams::STREAMS;
 
 /// Two linked objects, an annotation with block data and a string, and an array of ints.
 const STREAM: &[u8] =
@@ -12,17 +15,26 @@ const STREAM: &[u8] =
     \x73\x72\x00\x01A\x00\x00\x00\x00\x00\x00\x00\x01\x03\x00\x00\x78\x70\x77\x01\x05\x74\x00\x01a\x78\
     \x75\x72\x00\x02[I\x4D\xBA\x60\x26\x76\xEA\xB2\xA5\x02\x00\x00\x78\x70\x00\x00\x00\x01\x00\x00\x00\x07";
 
+/// The tree of the stream is written as it was read, or memory ran out.
+fn is_read(rt: &(impl Abort + AllocGlobal), name: &str, bytes: &[u8]) {
+    match read_all(rt.alloc(), bytes, &OpenGate) {
+        Ok(contents) => {
+            let mut sink = Compared::new(bytes);
+            holds(rt, encode(&contents, &mut sink).is_ok(), name);
+            holds(rt, sink.is_whole(), name);
+        }
+        Err(stop) => same(rt, &stop, &Stop::OutOfMemory, name),
+    }
+}
+
 #[test]
 fn right_or_out_of_memory(rt: HostRuntime) {
-    match read_all(rt.alloc(), STREAM, &OpenGate) {
-        Ok(contents) => {
-            let mut sink = Compared::new(STREAM);
-            holds(&rt, encode(&contents, &mut sink).is_ok(), "it is written");
-            holds(&rt, sink.is_whole(), "it is written as it was read");
-        }
-        Err(stop) => {
-            same(&rt, &stop, &Stop::OutOfMemory, "what stops it");
-            let _ = println!(rt; "refused");
-        }
+    is_read(&rt, "three objects and an array", STREAM);
+}
+
+#[test]
+fn each_stream_or_out_of_memory(rt: HostRuntime) {
+    for (name, bytes) in STREAMS {
+        is_read(&rt, name, bytes);
     }
 }
