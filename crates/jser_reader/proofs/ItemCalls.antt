@@ -24,7 +24,7 @@ use Rattle.jser_reader.specs.declared.phase.Phase.TheVariants as phase
 use Rattle.jser_reader.specs.declared.refusal.Stop.{Stop}
 use Rattle.jser_reader.specs.declared.tally.Tally.{Tally}
 use Rattle.jser_reader.specs.Readers.{Seen}
-use Rattle.jser_reader.specs.States.{HasLimits, IsWithin}
+use Rattle.jser_reader.specs.States.{HasLimits, AreLimitsOf, IsWithin}
 use Rattle.jser_reader.specs.Walks.{size_of_phase, open_phase, cut_of, Stands, Takes, Keeps, IsNew}
 use Rattle.jser_reader.specs.Tallies.{no_tally, mark_of, tally_after, HasCounted}
 use Rattle.jser_reader.specs.Takes.{IsWholeLength, TakenCases, TakesFromFor}
@@ -274,11 +274,10 @@ tells_stop given why gate old new before after = λ fields cut st. tt
 -- ---- the beginning and the end
 
 pub fields_begin : (gate : Gate) (limits : MachineLimits) (handles : ℕ) (r : Seen) → IsNew r → HasLimits limits handles r
-    → limits.bytes ≡ gate.bytes → limits.depth ≡ gate.depth → limits.refs ≡ gate.refs → limits.array ≡ gate.array → handles ≡ gate.handles
-    → StandsIn gate [] [] r no_tally
+    → AreLimitsOf gate limits → handles ≡ gate.handles → StandsIn gate [] [] r no_tally
 unfolding new_counts new_stands
-fields_begin gate limits handles r n l eb ed er ea eh =
-    let c = new_counts gate r n (limits_are gate limits handles r l eb ed er ea eh) in
+fields_begin gate limits handles r n l e eh =
+    let c = new_counts gate r n (limits_are gate limits handles r l e eh) in
     record { counted = c; fields_are = refl; cut_is = refl; within = omega arith }
 
 pub tells_fields : (totals : Totals) (gate : Gate) (r : Seen) (tally : Tally) → r.phase ≡ phase.Top → TellsFields gate (Ok totals) r tally

@@ -60,5 +60,15 @@ mod RawJumps
 pub mod RunItems
 pub mod NameSteps
 pub mod RunLemmas
+pub mod ManyLemmas
+pub mod ManyPlain
+pub mod ManySections
+pub mod ManyEnds
+pub mod ManyObjects
+pub mod ManyBare
+pub mod ManyConstants
+pub mod ManyNotes
+pub mod ManyArrays
+pub mod ManyPasses
 pub mod FlatLemmas
 pub mod NestLemmas

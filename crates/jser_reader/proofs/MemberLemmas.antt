@@ -1,8 +1,8 @@
 -- A field of a descriptor that is taken in one step: the machines between its type code, its name and its type are named
 -- here alone, and no code makes them.
-use Rattle.std.proofs.Common.{◌≡◌, ℕ, ◌+◌, ◌-◌, ◌^◌, ◌<◌, ◌≤◌, Bool, true, false, List, ◌++◌, length, get_or, take, drop, Option, Some, None, refl, sym, ◌∙◌, ap, subst, arith}
+use Rattle.std.proofs.Common.{◌≡◌, ℕ, ◌+◌, ◌<◌, ◌≤◌, Bool, true, false, List, length, get_or, take, drop, Some, refl, sym, ◌∙◌, ap, subst, arith}
 use Rattle.std.proofs.lemmas.List.{length-drop, length-take-le}
-use Rattle.jser_reading.specs.Goals.{State, settle}
+use Rattle.jser_reading.specs.Goals.{settle}
 use Rattle.jser_verdict.specs.Gates.{Gate}
 use Rattle.jser_reader.specs.declared.machine.taken.Taken.TheVariants as taken
 use Rattle.jser_reader.specs.declared.phase.Phase.TheVariants as phase
@@ -11,7 +11,7 @@ use Rattle.jser_reader.specs.declared.tag.ValueTag.TheVariants as value
 use Rattle.jser_reader.specs.declared.tally.Tally.{Tally}
 use Rattle.jser_reader.specs.Fitting.{HasDescriptor}
 use Rattle.jser_reader.specs.Readers.{Seen, Header, Ready, moment_of, fields_goals, text_rest}
-use Rattle.jser_reader.specs.Handlers.{Comes, TellsSurely, IsNext, moved}
+use Rattle.jser_reader.specs.Handlers.{Comes, TellsSurely, moved}
 use Rattle.jser_reader.specs.Descriptors.{GoesOnFields}
 use Rattle.jser_reader.specs.Takes.{counted_on, farther, TakesByte}
 use Rattle.jser_reader.specs.Passes.{Passes, CanPass}

@@ -21,7 +21,7 @@ use Rattle.jser_reader.specs.Tallies.{no_tally, mark_of, tally_after, HasCounted
 use Rattle.jser_reader.specs.Takes.{TakenCases, TakesFromFor}
 use Rattle.jser_reader.specs.declared.machine.taken.Taken.{Taken}
 use Rattle.jser_reader.specs.declared.machine.taken.Taken.TheVariants as taken
-use Rattle.jser_reader.specs.States.{HasLimits, IsWithin, AnswersStop, stop_after, exceeded}
+use Rattle.jser_reader.specs.States.{HasLimits, AreLimitsOf, IsWithin, AnswersStop, stop_after, exceeded}
 use Rattle.jser_reader.specs.ReaderStates.{IsItem, HasProgress, StandsFor, HasRefused, IsSpent, NextCases, NextTells, StaysStopped, FinishCases, FinishTells}
 use Rattle.jser_reader.proofs.JoinLemmas.{kept_none}
 use Rattle.jser_reader.proofs.StreamWalks.{ends_only_at_top}
@@ -256,13 +256,11 @@ stopped_finishes why gate old new tally e = λ bytes st. absurd (no_bytes gate b
 -- ---- a new reader
 
 pub limits_are : (gate : Gate) (limits : MachineLimits) (handles : ℕ) (r : Seen) → HasLimits limits handles r
-    → limits.bytes ≡ gate.bytes → limits.depth ≡ gate.depth → limits.refs ≡ gate.refs → limits.array ≡ gate.array → handles ≡ gate.handles
-    → gate_with r gate.answer ≡ gate
-limits_are gate limits handles r l eb ed er ea eh =
-    rw (l.bytes) (rw (l.depth) (rw (l.refs) (rw (l.array) (rw (l.handles_are) (rw eb (rw ed (rw er (rw ea (rw eh refl)))))))))
+    → AreLimitsOf gate limits → handles ≡ gate.handles → gate_with r gate.answer ≡ gate
+limits_are gate limits handles r l e eh =
+    rw (l.bytes) (rw (l.depth) (rw (l.refs) (rw (l.array) (rw (l.handles_are) (rw (e.bytes) (rw (e.depth) (rw (e.refs) (rw (e.array) (rw eh refl)))))))))
 
 pub reader_begins : (gate : Gate) (limits : MachineLimits) (handles : ℕ) (r : Seen) → IsNew r → HasLimits limits handles r
-    → limits.bytes ≡ gate.bytes → limits.depth ≡ gate.depth → limits.refs ≡ gate.refs → limits.array ≡ gate.array → handles ≡ gate.handles
-    → StandsFor gate [] r no_tally
+    → AreLimitsOf gate limits → handles ≡ gate.handles → StandsFor gate [] r no_tally
 unfolding StandsFor
-reader_begins gate limits handles r n l eb ed er ea eh = (new_counts gate r n (limits_are gate limits handles r l eb ed er ea eh), omega arith)
+reader_begins gate limits handles r n l e eh = (new_counts gate r n (limits_are gate limits handles r l e eh), omega arith)

@@ -12,6 +12,7 @@ pub mod Fitting
 pub mod Tags
 pub mod Reasons
 pub mod ReasonNames
+pub mod StopTexts
 pub mod Steps
 pub mod Handlers
 pub mod Classes
@@ -23,6 +24,7 @@ pub mod FieldLists
 pub mod ReaderStates
 pub mod Passes
 pub mod Wholes
+pub mod Many
 pub mod Members
 pub mod ClassNames
 pub mod Bounds

@@ -1,5 +1,5 @@
 -- Fields of a descriptor of which all bytes are in a piece.
-use Rattle.std.specs.Prelude.{◌≡◌, ℕ, ◌+◌, ◌-◌, ◌^◌, ◌<◌, ◌++◌, ◌∷◌, [], ◌||◌, Bool, true, List, get_or, slice_get, Option, None, option_map}
+use Rattle.std.specs.Prelude.{◌≡◌, ℕ, ◌-◌, ◌^◌, ◌<◌, ◌++◌, ◌∷◌, [], ◌||◌, Bool, true, List, get_or, slice_get, None, option_map}
 use Rattle.jser_table.specs.Codes.{is_object_code}
 use Rattle.jser_table.specs.Entries.{is_text}
 use Rattle.jser_grammar.specs.Wire.{TC_REFERENCE}

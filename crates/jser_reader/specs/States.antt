@@ -1,5 +1,6 @@
 -- A machine that has stopped, or may take no more bytes.
 use Rattle.std.specs.Prelude.{◌≡◌, ℕ, ◌+◌, ◌-◌, ◌≤◌, ◌<◌, ◌^◌, List, length, take}
+use Rattle.jser_verdict.specs.Gates.{Gate}
 use Rattle.jser_reader.specs.declared.machine.Limits.{Limits as MachineLimits}
 use Rattle.jser_reader.specs.declared.refusal.Reason.TheVariants as reason
 use Rattle.jser_reader.specs.declared.refusal.Stop.{Stop}
@@ -13,6 +14,13 @@ pub record HasLimits (limits : MachineLimits) (handles : ℕ) (r : Seen) : Type 
   pub refs : r.meter.limits.refs ≡ limits.refs
   pub array : r.meter.limits.array ≡ limits.array
   pub handles_are : r.table.max ≡ handles
+
+-- those of a gate
+pub record AreLimitsOf (gate : Gate) (limits : MachineLimits) : Type 0 where
+  pub bytes : limits.bytes ≡ gate.bytes
+  pub depth : limits.depth ≡ gate.depth
+  pub refs : limits.refs ≡ gate.refs
+  pub array : limits.array ≡ gate.array
 
 -- that memory ran out is answered once
 abbrev pub stop_after : Stop → Stop

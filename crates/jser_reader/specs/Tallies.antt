@@ -68,6 +68,10 @@ run_tally first items places tally = record {
   depth = max tally.depth (number_if (nat_lt 0 places) first.depth);
 }
 
+-- So many contents have begun, no epoch has ended, and this is the greatest depth.
+abbrev pub all_counted : Tally → (contents depth : ℕ) → Tally
+all_counted tally contents depth = record { contents = tally.contents + contents; earlier = tally.earlier; depth = depth }
+
 -- ---- a machine with its tally
 
 -- the machine stands for these bytes, and the tally tells the fields that it took

@@ -21,6 +21,7 @@ mod ends;
 mod fields;
 mod flat_objects;
 pub(crate) mod items;
+mod many;
 mod members;
 mod names;
 mod numbers;

@@ -4,7 +4,7 @@ ghost use Rattle.jser_reader.specs.ReaderStates.{IsItem, HasProgress, StandsFor,
 ghost use Rattle.jser_reader.specs.Bounds.{FramesAreBounded, AreAssigned, MemoryFree, SkipMemoryFree};
 ghost use Rattle.jser_reader.specs.ItemsMade.{MakesStep};
 ghost use Rattle.jser_reader.specs.ItemsTold.{StandsIn, TellsItems, TellsFields};
-ghost use Rattle.jser_reader.specs.States.{IsWithin};
+ghost use Rattle.jser_reader.specs.States.{AreLimitsOf, IsWithin};
 ghost use Rattle.jser_reader.specs.RawsTold.{RawsCases};
 ghost use Rattle.jser_reader.specs.WholesTold.{WholeCases};
 
@@ -35,6 +35,18 @@ fn lend<'p>(field: Phase, kept: Kept, front: &'p [u8], used: usize) -> Step<'p>
     }
 }
 
+/// The limits that a gate sets.
+fn limits_of<G: Gate>(gate: &G) -> Limits
+    ensures { AreLimitsOf (G.told gate.now) result }
+{
+    Limits {
+        bytes: gate.max_bytes(),
+        depth: gate.max_depth(),
+        refs: gate.max_refs(),
+        array: gate.max_array(),
+    }
+}
+
 /// Takes a Java object serialization stream in pieces of any sizes, and lends its fields one by one.
 ///
 /// It keeps no tree and no text but the one class name that is being read. What it allocates is the table of handles
@@ -61,18 +73,25 @@ impl<G: Gate> Reader<G> {
         ensures stands { StandsFor (G.told gate) [] result.machine result.tally }
         ensures begins { StandsIn (G.told gate) [] [] result.machine result.tally }
     {
-        let limits = Limits {
-            bytes: gate.max_bytes(),
-            depth: gate.max_depth(),
-            refs: gate.max_refs(),
-            array: gate.max_array(),
-        };
-        let machine = Machine::new(alloc, limits, gate.max_handles());
+        let machine = Machine::new(alloc, limits_of(&gate), gate.max_handles());
         Reader {
             gate,
             machine,
             tally: Tally::new(),
         }
+    }
+
+    /// Makes it a reader that has taken nothing, under the same gate, whatever it took or answered before. It keeps the
+    /// memory that it has, and takes none.
+    pub fn restart(&mut self)
+        ensures gate { self.new.gate ≡ self.old.gate }
+        ensures stands { StandsFor (G.told self.old.gate) [] self.new.machine self.new.tally }
+        ensures begins { StandsIn (G.told self.old.gate) [] [] self.new.machine self.new.tally }
+    {
+        let limits = limits_of(&self.gate);
+        let handles = self.gate.max_handles();
+        self.machine.restart(limits, handles);
+        self.tally = Tally::new();
     }
 
     /// Takes some of the front of the piece, which is not empty and within the limit.
@@ -145,7 +164,7 @@ impl<G: Gate> Reader<G> {
     ///
     /// # Errors
     ///
-    /// As `next`, where a class is refused or memory runs out. A reader that has stopped answers `None`.
+    /// As `next`, where a class is refused or memory runs out.
     #[inline(always)]
     pub fn next_whole<'p>(&mut self, piece: &'p [u8]) -> Result<Option<Whole<'p>>, Stop>
         ensures tells { WholeCases (G.told self.old.gate) piece.now result self.old.machine self.old.tally self.new.machine self.new.tally }
@@ -215,6 +234,14 @@ impl<G: Gate> Reader<G> {
         let totals = self.machine.totals(self.tally);
         self.machine.end();
         Ok(totals)
+    }
+
+    /// The gate under which it reads.
+    #[inline(always)]
+    pub fn gate(&self) -> &G
+        ensures { result.now ≡ self.now.gate }
+    {
+        &self.gate
     }
 
     /// How many frames are open: arrays, objects and descriptors. The layers of descriptors that are kept beside them

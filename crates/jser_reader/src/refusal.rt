@@ -1,5 +1,6 @@
 //! Why bytes are refused: the reasons, and the bytes that decide.
 
+use std::error::Error;
 use std::fmt;
 
 /// A reason for which bytes are not a stream, or not one that the gate passes.
@@ -106,7 +107,7 @@ impl fmt::Display for Reason {
     }
 }
 
-/// The bytes that are refused.
+/// The bytes that are refused. Its text is `at A to E: REASON`, as `check` prints it after `no `.
 #[derive(Clone, Copy, PartialEq, Eq, Debug)]
 pub struct Refusal {
     /// Where the faulty field starts, counted from 0.
@@ -117,7 +118,21 @@ pub struct Refusal {
     pub reason: Reason,
 }
 
-/// Why a reader stopped.
+impl fmt::Display for Refusal {
+    ghost use Rattle.std.specs.Prelude.{Some};
+    ghost use Rattle.jser_reader.specs.StopTexts.{refusal_text};
+
+    ghost output = { λ refusal. Some (refusal_text refusal) };
+
+    fn fmt<W: fmt::Write>(&self, f: &mut fmt::Formatter<W>) -> fmt::Result {
+        let (from_byte, to_byte, reason) = (self.from_byte, self.to_byte, self.reason);
+        write!(f, "at {from_byte} to {to_byte}: {reason}")
+    }
+}
+
+impl Error for Refusal {}
+
+/// Why a reader stopped. Its text is that of the refusal, `out of memory` or `stopped before`.
 #[derive(Clone, Copy, PartialEq, Eq, Debug)]
 pub enum Stop {
     /// The bytes are refused.
@@ -127,3 +142,20 @@ pub enum Stop {
     /// The reader had stopped before: memory ran out, or the stream has ended.
     Spent,
 }
+
+impl fmt::Display for Stop {
+    ghost use Rattle.std.specs.Prelude.{Some};
+    ghost use Rattle.jser_reader.specs.StopTexts.{stop_text};
+
+    ghost output = { λ stop. Some (stop_text stop) };
+
+    fn fmt<W: fmt::Write>(&self, f: &mut fmt::Formatter<W>) -> fmt::Result {
+        match self {
+            Stop::Refused(refusal) => write!(f, "{refusal}"),
+            Stop::OutOfMemory => f.write_str("out of memory"),
+            Stop::Spent => f.write_str("stopped before"),
+        }
+    }
+}
+
+impl Error for Stop {}

@@ -1,7 +1,7 @@
 //! The counts of a stream that its fields tell, kept while it is read.
 ghost use Rattle.std.specs.Prelude.{◌≡◌, ◌+◌, ◌<◌, ◌^◌};
 ghost use Rattle.jser_reader.specs.FlatObjects.{value_tally};
-ghost use Rattle.jser_reader.specs.Tallies.{tally_after, run_tally, no_tally};
+ghost use Rattle.jser_reader.specs.Tallies.{tally_after, run_tally, all_counted, no_tally};
 
 /// What a tally asks of the machine before and after a field.
 #[derive(Clone, Copy)]
@@ -77,5 +77,14 @@ impl Tally {
             first.depth
         };
         self.depth = self.depth.max(deepest);
+    }
+
+    /// So many contents have begun, and this is the greatest depth of a place.
+    #[inline(always)]
+    pub(crate) fn count_all(&mut self, contents: u64, depth: u64)
+        ensures { self.old.contents + contents < 2 ^ 64 → self.new ≡ all_counted self.old contents depth }
+    {
+        self.contents = self.contents.wrapping_add(contents);
+        self.depth = depth;
     }
 }

@@ -30,6 +30,7 @@ macro_rules! same {
     };
 }
 
+mod anew;
 mod asserted;
 mod example;
 mod gates;
@@ -104,7 +105,31 @@ fn answer_from<G: Gate>(reader: &mut Reader<G>, bytes: &[u8], size: usize) -> Re
     finish(reader)
 }
 
-/// The bytes are a stream with these counts, in pieces of one byte, of three, and whole.
+/// What a reader answers to the items of the bytes, one after another, in pieces of this size.
+fn answer_to_items(alloc: Global, bytes: &[u8], size: usize) -> Result<Totals, Stop> {
+    let mut reader = Reader::new(alloc, OpenGate);
+    for piece in bytes.chunks(size.max(1)) {
+        take_items(&mut reader, piece)?;
+    }
+    finish(&mut reader)
+}
+
+/// Takes the items of a piece, one after another.
+fn take_items<G: Gate>(reader: &mut Reader<G>, piece: &[u8]) -> Result<(), Stop> {
+    let mut rest = piece;
+    for _ in 0..=piece.len() {
+        match next(reader, rest)? {
+            Step::More => return Ok(()),
+            Step::Item { used, .. } => {
+                let (_, after) = rest.split_at(used.min(rest.len()));
+                rest = after;
+            }
+        }
+    }
+    Ok(())
+}
+
+/// The bytes are a stream with these counts, at once and item by item, in pieces of one byte, of three, and whole.
 fn assert_accepted(
     rt: &(impl Abort + AllocGlobal),
     bytes: &[u8],
@@ -113,11 +138,14 @@ fn assert_accepted(
     for size in [1, 3, bytes.len()] {
         let text = format_args!("{bytes:?}, {size} bytes a piece");
         same(rt, &answer_of(rt.alloc(), bytes, size), &Ok(totals), text);
+        let found = answer_to_items(rt.alloc(), bytes, size);
+        let text = format_args!("{bytes:?}, {size} bytes a piece, item by item");
+        same(rt, &found, &Ok(totals), text);
     }
     Ok(())
 }
 
-/// The bytes are refused for this reason, in pieces of one byte, of three, and whole.
+/// The bytes are refused for this reason, at once and item by item, in pieces of one byte, of three, and whole.
 fn assert_refused(
     rt: &(impl Abort + AllocGlobal),
     bytes: &[u8],
@@ -133,6 +161,9 @@ fn assert_refused(
     for size in [1, 3, bytes.len()] {
         let found = answer_of(rt.alloc(), bytes, size);
         let text = format_args!("{bytes:?}, {size} bytes a piece");
+        same(rt, &found, &Err(Stop::Refused(refusal)), text);
+        let found = answer_to_items(rt.alloc(), bytes, size);
+        let text = format_args!("{bytes:?}, {size} bytes a piece, item by item");
         same(rt, &found, &Err(Stop::Refused(refusal)), text);
     }
     Ok(())

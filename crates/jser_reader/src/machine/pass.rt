@@ -146,7 +146,8 @@ impl Machine {
             return self.pass_to_limit(gate, tally, piece);
         }
         match self.phase {
-            Phase::Value | Phase::Top | Phase::Note => self.pass_value(tally, piece),
+            Phase::Top => self.pass_value(tally, piece),
+            Phase::Value | Phase::Note => self.pass_values(tally, piece),
             Phase::Prims => self.pass_prims(piece),
             Phase::TypeCode | Phase::Length2 | Phase::Text | Phase::Suid => {
                 self.pass_classes(gate, tally, piece)

@@ -144,4 +144,21 @@ impl Machine {
             _ => self.pass_tag_alone(tally, piece),
         }
     }
+
+    /// Takes contents and values, as many as are common and have all their bytes in the piece; else the one that comes next, or the
+    /// beginning of it.
+    #[inline(always)]
+    pub(super) fn pass_values(&mut self, tally: &mut Tally, piece: &[u8]) -> Option<usize>
+        requires can { CanPass self.old piece.now }
+        requires some { 0 < length piece.now }
+        requires place { IsPlace self.old.phase }
+        ensures passes { (gate : ToldGate) → IsGate gate → Passes gate piece.now result self.old tally.old self.new tally.new }
+        ensures progress { HasPassed piece.now result }
+    {
+        let used = self.pass_many(tally, piece);
+        if used == 0 {
+            return self.pass_value(tally, piece);
+        }
+        Some(used)
+    }
 }

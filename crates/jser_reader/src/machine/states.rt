@@ -53,6 +53,23 @@ impl Machine {
         }
     }
 
+    /// The machine as `new` makes it, whatever it was, with these limits and so many handles in an epoch. It keeps its memory;
+    /// what it holds besides is set again before it is asked.
+    #[tactic(auto, using(crate::proofs::LayerLemmas::no_layers))]
+    pub(crate) fn restart(&mut self, limits: Limits, handles: u32)
+        ensures new { IsNew self.new }
+        ensures limits { HasLimits limits handles self.new }
+    {
+        self.phase = Phase::Header;
+        self.at = 0;
+        self.from = 0;
+        self.refs = 0;
+        self.limits = limits;
+        self.frames.clear();
+        self.outer.clear();
+        self.table.restart(handles);
+    }
+
     /// Whether it has stopped.
     #[inline(always)]
     pub(crate) fn is_stopped(&self) -> bool

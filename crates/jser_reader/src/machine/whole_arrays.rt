@@ -62,10 +62,10 @@ impl Machine {
             .is_ok()
     }
 
-    /// Takes the array off that is on top.
+    /// Takes off what is on top.
     #[tactic(auto, using(crate::proofs::LayerLemmas::layers_of_tail, crate::proofs::PartLemmas::fits_tail))]
     #[inline(always)]
-    fn drop_elements(&mut self)
+    pub(super) fn drop_frame(&mut self)
         requires { HasParts self.old.frames }
         ensures { self.new ≡ without_top self.old }
     {
@@ -84,7 +84,7 @@ impl Machine {
         if self.assign_other() {
             return true;
         }
-        self.drop_elements();
+        self.drop_frame();
         false
     }
 

@@ -48,7 +48,7 @@ pub(super) fn reference_after(piece: &[u8]) -> Option<u32>
 
 /// How many bytes the text has whose length comes after a tag, where all of them are there and are one.
 #[inline(always)]
-fn text_after(piece: &[u8]) -> Option<usize>
+pub(super) fn text_after(piece: &[u8]) -> Option<usize>
     ensures { IfSome result (λ len. HasText piece.now len) }
 {
     if piece.len() < 3 {

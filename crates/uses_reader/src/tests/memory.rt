@@ -2,11 +2,18 @@
 //! each call, that it is spent.
 
 use crate::tests::asserted::{holds, same};
-use crate::tests::{finish, next, skip, totals};
+use crate::tests::{answer_from, finish, next, skip, totals};
 use jser_reader::{OpenGate, Reader, Step, Stop};
 use std::alloc::AllocGlobal;
 use std::process::Abort;
 use test_support::streams::LINKED_PAIR;
+
+/// A reader that ran out of memory is restarted, and reads the stream, since there is memory again.
+fn assert_reads_anew(rt: &impl Abort, reader: &mut Reader<OpenGate>, size: usize) {
+    reader.restart();
+    let answer = answer_from(reader, LINKED_PAIR, size);
+    same(rt, &answer, &Ok(totals(69, 2, 5, 3, 4)), "once more");
+}
 
 /// Reads the stream in pieces of this size; whether there was memory.
 fn reads(rt: &(impl Abort + AllocGlobal), size: usize) -> bool {
@@ -20,6 +27,7 @@ fn reads_by(rt: &impl Abort, reader: &mut Reader<OpenGate>, size: usize) -> bool
             same(rt, &stop, &Stop::OutOfMemory, "out of memory");
             same(rt, &skip(reader, &[0x70]), &Err(Stop::Spent), "then spent");
             same(rt, &finish(reader), &Err(Stop::Spent), "and at the end");
+            assert_reads_anew(rt, reader, size);
             return false;
         }
     }

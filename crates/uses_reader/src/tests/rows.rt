@@ -1,7 +1,8 @@
 //! Worked streams, and what each of them is: the counts of a stream, or the refusal of bytes that are none.
 
-use crate::tests::{assert_accepted, assert_refused, totals, with_zeros};
-use jser_reader::Reason;
+use crate::tests::asserted::{holds, same};
+use crate::tests::{answer_of, assert_accepted, assert_refused, totals, with_zeros};
+use jser_reader::{Reason, Stop};
 use std::alloc::AllocGlobal;
 use std::process::Abort;
 use std::test::Fail;
@@ -40,6 +41,29 @@ fn accepted_streams(rt: HostRuntime) -> Result<(), Fail> {
         assert_accepted(&rt, bytes, counts)?;
     }
     Ok(())
+}
+
+/// A beginning of a stream is one, or it is refused for its end alone.
+fn assert_cut(rt: &(impl Abort + AllocGlobal), front: &[u8]) {
+    let end = front.len() as u64;
+    match answer_of(rt.alloc(), front, 3) {
+        Ok(found) => holds(rt, found.bytes == end, "the bytes of a stream"),
+        Err(Stop::Refused(found)) => {
+            same(rt, &found.reason, &Reason::Truncated, "the reason");
+            same(rt, &found.to_byte, &end, "the end");
+        }
+        Err(_) => panic!(rt; "no memory"),
+    }
+}
+
+#[test]
+fn each_stream_cut_after_each_byte(rt: HostRuntime) {
+    for (bytes, _) in ACCEPTED {
+        for cut in 0..bytes.len() {
+            let (front, _) = bytes.split_at(cut);
+            assert_cut(&rt, front);
+        }
+    }
 }
 
 /// Bytes that are refused, the reason, and the two places.

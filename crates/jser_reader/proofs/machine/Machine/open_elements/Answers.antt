@@ -10,10 +10,10 @@ pub returns-then-assign_other : goal.returns-then-assign_other
 returns-then-assign_other c =
     opens_elements c.args.count _ _ _ (has_put c.args.count _ _ _ c.put_elements.ensures (search rules)) (other_assigned _ _ _ c.assign_other.ensures (search rules))
 
-pub drop_elements-requires : goal.drop_elements-requires
-drop_elements-requires c =
+pub drop_frame-requires : goal.drop_frame-requires
+drop_frame-requires c =
     put_parts c.args.count _ _ _ (has_put c.args.count _ _ _ c.put_elements.ensures (search rules)) (no_other _ _ _ c.assign_other.ensures (search rules))
 
 pub returns : goal.returns
 returns c =
-    opens_nothing c.args.count _ _ _ _ (has_put c.args.count _ _ _ c.put_elements.ensures (search rules)) (no_other _ _ _ c.assign_other.ensures (search rules)) c.drop_elements.ensures
+    opens_nothing c.args.count _ _ _ _ (has_put c.args.count _ _ _ c.put_elements.ensures (search rules)) (no_other _ _ _ c.assign_other.ensures (search rules)) c.drop_frame.ensures

@@ -1,4 +1,4 @@
-use Rattle.std.proofs.Common.{rules, ◌+◌, arith}
+use Rattle.std.proofs.Common.{rules, ◌+◌}
 use Rattle.jser_reader.proofs.MemberLemmas.{raw_member_passes, member_can}
 use Rattle.jser_reader.proofs.machine.Machine.raw_member.Goals as goal
 

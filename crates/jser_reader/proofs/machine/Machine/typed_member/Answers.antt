@@ -1,4 +1,4 @@
-use Rattle.std.proofs.Common.{rules, ◌+◌, arith}
+use Rattle.std.proofs.Common.{rules, ◌+◌}
 use Rattle.jser_reader.proofs.MemberLemmas.{typed_member_passes, member_can}
 use Rattle.jser_reader.proofs.machine.Machine.typed_member.Goals as goal
 

@@ -1,0 +1,160 @@
+-- The loop over whole values: values without a class.
+use Rattle.std.proofs.Common.{◌≡◌, ℕ, ◌+◌, ◌-◌, ◌^◌, ◌<◌, ◌≤◌, true, List, [], ◌∷◌, length, get_or, take, drop, refl, sym, ◌∙◌, ap, subst, arith}
+use Rattle.std.proofs.Common.{get_or-drop}
+use Rattle.std.proofs.lemmas.List.{length-drop, length-append, drop-drop}
+use Rattle.jser_prim.specs.Bytes.{big_bytes}
+use Rattle.jser_table.specs.Entries.{text_entry}
+use Rattle.jser_reading.specs.Labels.{null_tag}
+use Rattle.jser_reader.specs.declared.machine.many.counts.Counts.{Counts}
+use Rattle.jser_reader.specs.declared.machine.many.counts.Turn.TheVariants as turn
+use Rattle.jser_reader.specs.declared.tag.ValueTag.TheVariants as value
+use Rattle.jser_reader.specs.Handlers.{Comes, added, counted}
+use Rattle.jser_reader.specs.Many.{seen_at, tally_at, Holds, with_place, LeadsTo, Ends, Turns}
+use Rattle.jser_reader.specs.Readers.{Seen}
+use Rattle.jser_reader.specs.Steps.{after_value}
+use Rattle.jser_reader.specs.Takes.{counted_on, farther}
+use Rattle.jser_reader.specs.Tallies.{mark_of}
+use Rattle.jser_reader.specs.Wholes.{HasPlace, HasNumber, HasText, AssignsText, placed}
+use Rattle.jser_reader.proofs.ManyLemmas.{place_on, rest_can, meter_there, place_counted, place_holds}
+use Rattle.jser_reader.proofs.ValueLemmas.{null_begun, counted_tag}
+use Rattle.jser_reader.proofs.WholeLemmas.{same_end, tag_passes, reference_passes, string_passes}
+
+-- ---- what is at a place of the piece
+
+pub number_is : (piece rest number : List ℕ) (at n : ℕ) → at + 5 ≤ length piece → rest ≡ drop (at + 1) piece → number ≡ take 4 rest → big_bytes 4 n ≡ number → HasNumber (drop at piece) n
+number_is piece rest number at n enough er en e =
+    let l = length-drop at piece in
+    record {
+      within = omega arith;
+      spelled = e ∙ en ∙ ap (take 4) (er ∙ sym (drop-drop 1 at piece));
+    }
+
+pub tag_there : (piece : List ℕ) (at tag : ℕ) → tag ≡ get_or piece at 0 → tag ≡ get_or (drop at piece) 0 0
+tag_there piece at tag e =
+    let same : at + 0 ≡ at = omega arith in
+    e ∙ ap (λ n. get_or piece n 0) (sym same) ∙ sym (get_or-drop at piece 0 0)
+
+pub has_place_there : (piece : List ℕ) (r : Seen) (k : Counts) (depth : ℕ) → Holds piece r k → (r.meter.limits.refs ≤ k.refs → ⊥) → k.depth < depth → depth ≤ r.meter.limits.depth → HasPlace (seen_at r k)
+has_place_there piece r k depth h few low high =
+    let d = h.depth in
+    record { shallow = omega arith; few = omega arith }
+
+-- ---- after a value without a class
+
+-- the machine that has counted the value, and the one with the counters
+pub ends_there : (old far new next : Seen) (k j : Counts) (size : ℕ) → j.used ≡ k.used + size → j.refs ≡ far.refs → far.meter ≡ counted_on (seen_at old k).meter size
+    → new.meter ≡ old.meter → new.frames ≡ far.frames → new.layers ≡ far.layers → new.table ≡ far.table
+    → Comes (seen_at new j) next (after_value (seen_at new j)) → Comes far next (after_value far)
+ends_there old far new next k j size eu er em enm ef ey et comes =
+    same_end (seen_at new j) far next comes
+    (ap (λ m. record { at = m.at; from = m.at; limits = m.limits; stop = m.stop; cut_phase = m.cut_phase; kept = m.kept }) em ∙ meter_there old k size j.used eu
+    ∙ ap (λ m. record { at = m.at + j.used; from = m.at + j.used; limits = m.limits; stop = m.stop; cut_phase = m.cut_phase; kept = m.kept }) (sym enm))
+    (sym ef) (sym ey) (sym et) (sym er)
+
+pub null_ends : (piece : List ℕ) (old : Seen) (k j : Counts) → Holds piece old k → HasPlace (seen_at old k) → k.used < length piece → 0x70 ≡ get_or piece k.used 0
+    → j ≡ with_place k 1 → Ends piece old k old j
+unfolding Ends
+null_ends piece old k j h p more tag ej = subst (λ j. LeadsTo piece old k old j (after_value (seen_at old j))) (sym ej) (record {
+  size = 1;
+  some = omega arith;
+  used = refl;
+  can = rest_can piece old k h more;
+  meter = refl;
+  to = λ gate g before next comes kept.
+      let r : Seen = seen_at old k in
+      let far : Seen = counted (farther r 1) in
+      let deep = p.shallow in
+      let few = p.few in
+      let l = length-drop k.used piece in
+      tag_passes gate value.Null (drop k.used piece) r next (tally_at before k) (tally_at before (with_place k 1)) g (rest_can piece old k h more) (place_on old.frames)
+      (omega arith) (tag_there piece k.used 0x70 tag)
+      (counted_tag null_tag true (farther r 1) far next
+      (null_begun true far next (ends_there old far old next k (with_place k 1) 1 refl refl refl refl refl refl refl comes) refl) refl (λ over. absurd (omega arith)) (λ over. absurd (omega arith)))
+      (λ _ _. place_counted before old next k 1 h.depth kept.refs (λ none. sym (ap (λ t. length t.entries) kept.table) ∙ none));
+})
+
+pub back_ends : (piece : List ℕ) (n : ℕ) (old : Seen) (k j : Counts) → Holds piece old k → HasPlace (seen_at old k) → k.used < length piece → 0x71 ≡ get_or piece k.used 0
+    → HasNumber (drop k.used piece) n → n < 2 ^ 32 → (n < 0x7E0000 → ⊥) → (length old.table.entries ≤ n - 0x7E0000 → ⊥) → j ≡ with_place k 5 → Ends piece old k old j
+unfolding Ends
+back_ends piece n old k j h p more tag is small low high ej = subst (λ j. LeadsTo piece old k old j (after_value (seen_at old j))) (sym ej) (record {
+  size = 5;
+  some = omega arith;
+  used = refl;
+  can = rest_can piece old k h more;
+  meter = refl;
+  to = λ gate g before next comes kept.
+      let r : Seen = seen_at old k in
+      reference_passes gate n (drop k.used piece) r (placed r 5) next (mark_of r) (mark_of (placed r 5)) (tally_at before k) (tally_at before (with_place k 5)) g
+      (rest_can piece old k h more) (place_on old.frames) (tag_there piece k.used 0x71 tag) is small p low high refl
+      (ends_there old (placed r 5) old next k (with_place k 5) 5 refl refl refl refl refl refl refl comes) refl refl
+      (λ _ _. place_counted before old (placed r 5) k 5 h.depth refl (λ none. none));
+})
+
+no_entry_lost : (r : Seen) → length (added r text_entry).table.entries ≡ 0 → length r.table.entries ≡ 0
+no_entry_lost r none =
+    let b = length-append r.table.entries (text_entry ∷ []) in
+    omega arith
+
+pub string_ends : (piece rest : List ℕ) (len : ℕ) (old new : Seen) (k j : Counts) → Holds piece old k → HasPlace (seen_at old k) → k.used < length piece → 0x74 ≡ get_or piece k.used 0
+    → rest ≡ drop k.used piece → HasText rest len → AssignsText true old new → j ≡ with_place k (len + 3) → Ends piece old k new j
+unfolding Ends AssignsText
+string_ends piece rest len old new k j h p more tag er is assigns ej =
+    let r : Seen = seen_at old k in
+    let mid : Seen = added r text_entry in
+    let far : Seen = placed mid (len + 3) in
+    subst (λ j. LeadsTo piece old k new j (after_value (seen_at new j))) (sym ej)
+    (subst (λ x. LeadsTo piece old k x (with_place k (len + 3)) (after_value (seen_at x (with_place k (len + 3))))) (sym assigns.1)
+    (record {
+      size = len + 3;
+      some = omega arith;
+      used = refl;
+      can = rest_can piece old k h more;
+      meter = refl;
+      to = λ gate g before next comes kept.
+          string_passes gate len (drop k.used piece) r mid far next (mark_of r) (mark_of far) (tally_at before k) (tally_at before (with_place k (len + 3))) g
+          (rest_can piece old k h more) (place_on old.frames) (tag_there piece k.used 0x74 tag) (subst (λ xs. HasText xs len) er is) p (assigns.0, refl) refl
+          (ends_there old far (added old text_entry) next k (with_place k (len + 3)) (len + 3) refl refl refl refl refl refl refl comes) refl refl
+          (λ _ _. place_counted before old far k (len + 3) h.depth refl (no_entry_lost r));
+    }))
+
+-- ---- the turns
+
+pub nothing_done : (piece : List ℕ) (old new : Seen) (k j : Counts) → new ≡ old → j ≡ k → Turns piece turn.Nothing old k new j
+unfolding Turns
+nothing_done piece old new k j e ek = (e, ek)
+
+value_ended : (piece : List ℕ) (old new : Seen) (k j : Counts) (size : ℕ) → Ends piece old k new j → Holds piece old k → HasPlace (seen_at old k) → 0 < size → k.used + size ≤ length piece
+    → new.meter ≡ old.meter → new.frames ≡ old.frames → j ≡ with_place k size → Turns piece turn.Ended old k new j
+unfolding Turns
+value_ended piece old new k j size ends h p some enough em ef e =
+    let used : j.used ≡ k.used + size = ap (λ x. x.used) e in
+    (ends, place_holds piece old new k j size h p some enough em ef e, omega arith)
+
+pub null_turn : (piece : List ℕ) (old : Seen) (k j : Counts) → Holds piece old k → k.used + 6 ≤ length piece → 0x70 ≡ get_or piece k.used 0 → HasPlace (seen_at old k)
+    → j ≡ with_place k 1 → Turns piece turn.Ended old k old j
+null_turn piece old k j h room tag p e =
+    value_ended piece old old k j 1 (null_ends piece old k j h p (omega arith) tag e) h p (omega arith) (omega arith) refl refl e
+
+pub back_turn : (piece : List ℕ) (n : ℕ) (old : Seen) (k j : Counts) → Holds piece old k → k.used + 6 ≤ length piece → 0x71 ≡ get_or piece k.used 0 → HasNumber (drop k.used piece) n
+    → n < 2 ^ 32 → (n < 0x7E0000 → ⊥) → (length old.table.entries ≤ n - 0x7E0000 → ⊥) → HasPlace (seen_at old k) → j ≡ with_place k 5 → Turns piece turn.Ended old k old j
+back_turn piece n old k j h room tag is small low high p e =
+    value_ended piece old old k j 5 (back_ends piece n old k j h p (omega arith) tag is small low high e) h p (omega arith) (omega arith) refl refl e
+
+pub string_turn : (piece rest : List ℕ) (len : ℕ) (old new : Seen) (k j : Counts) → Holds piece old k → k.used + 6 ≤ length piece → 0x74 ≡ get_or piece k.used 0 → rest ≡ drop k.used piece
+    → HasText rest len → HasPlace (seen_at old k) → AssignsText true old new → j ≡ with_place k (len + 3) → Turns piece turn.Ended old k new j
+unfolding AssignsText
+string_turn piece rest len old new k j h room tag er is p assigns e =
+    let within = is.within in
+    let l = length-drop k.used piece in
+    let lr : length rest ≡ length (drop k.used piece) = ap length er in
+    value_ended piece old new k j (len + 3) (string_ends piece rest len old new k j h p (omega arith) tag er is assigns e) h p (omega arith) (omega arith)
+    (ap (λ r. r.meter) assigns.1) (ap (λ r. r.frames) assigns.1) e
+
+-- what the counters may hold
+
+pub text_inside : (piece rest : List ℕ) (len used : ℕ) → used ≤ length piece → rest ≡ drop used piece → HasText rest len → used + (len + 3) ≤ length piece
+text_inside piece rest len used le er is =
+    let within = is.within in
+    let l = length-drop used piece in
+    let lr : length rest ≡ length (drop used piece) = ap length er in
+    omega arith

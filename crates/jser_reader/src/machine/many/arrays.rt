@@ -1,0 +1,166 @@
+//! Arrays of a class that is a reference: those of raw values with all of them, the others as far as their first value.
+ghost use Rattle.std.specs.Prelude.{◌≡◌, ◌+◌, ◌-◌, ◌<◌, ◌≤◌, ◌^◌, get_or, drop, length, take, Some, None, IfSome, option_map};
+ghost use Rattle.jser_prim.specs.Bytes.{big_bytes};
+ghost use Rattle.jser_table.specs.Chains.{chain_in, elements_of};
+ghost use Rattle.jser_table.specs.Codes.{size_of};
+ghost use Rattle.jser_grammar.specs.Wire.{TC_ARRAY};
+ghost use Rattle.jser_reader.specs.Many.{Holds, Turns, IsArrayClass, ArrayBegins};
+
+use crate::frame::Frame;
+use crate::machine::Machine;
+use crate::machine::many::counts::{Counts, Turn};
+use crate::machine::many::objects::reference_at;
+use jser_grammar::wire::BASE_WIRE_HANDLE;
+use jser_prim::read_u32;
+use jser_table::{ChainNumber, Class, Fit, Purpose};
+
+/// The number in the four bytes at this place.
+#[inline(always)]
+fn length_at(piece: &[u8], at: usize) -> u32
+    requires { at + 4 ≤ length piece.now }
+    ensures { big_bytes 4 result ≡ take 4 (drop at piece.now) }
+{
+    let (_, rest) = piece.split_at(at);
+    let (number, _) = rest.split_at(4);
+    read_u32(number)
+}
+
+impl Machine {
+    /// The chain of the class with this handle, where it is closed and an array's.
+    #[tactic(auto, using(crate::proofs::ManyArrays::is_array_class))]
+    #[inline(always)]
+    fn array_class(&self, n: u32) -> Option<ChainNumber>
+        ensures { IfSome result (λ chain. IsArrayClass self.now n chain × (chain < length self.now.table.chains)) }
+    {
+        if n < BASE_WIRE_HANDLE {
+            return None;
+        }
+        match self.table.class_at(n - BASE_WIRE_HANDLE) {
+            Class::Closed(chain) => {
+                if self.table.chain_fit(chain, Purpose::Array) == Fit::Fits {
+                    Some(chain)
+                } else {
+                    None
+                }
+            }
+            Class::NotThere | Class::NoClass | Class::Open => None,
+        }
+    }
+
+    /// Takes an array of so many raw values, of this size each; or does nothing.
+    #[tactic(auto, using(crate::proofs::ManyPlain::nothing_done))]
+    #[inline(always)]
+    fn raw_array(
+        &mut self,
+        counts: &mut Counts,
+        piece: &[u8],
+        n: u32,
+        chain: ChainNumber,
+        count: u32,
+        size: u8,
+    ) -> Turn
+        requires begins { ArrayBegins piece.now n chain count self.old counts.old }
+        requires elements { option_map size_of (elements_of (chain_in self.old.table.chains chain)) ≡ Some size }
+        requires some { 0 < count }
+        requires refs { counts.old.refs + 1 < 2 ^ 64 }
+        requires depth { counts.old.depth + 1 < 2 ^ 64 }
+        ensures { Turns piece.now result self.old counts.old self.new counts.new }
+    {
+        let _ = n;
+        let _ = chain;
+        let bytes = u64::from(count) * u64::from(size);
+        if bytes == 0 {
+            return Turn::Nothing;
+        }
+        if bytes > (piece.len() - counts.used - 10) as u64 {
+            return Turn::Nothing;
+        }
+        if !self.assign_other() {
+            return Turn::Nothing;
+        }
+        counts.place(bytes as usize + 10);
+        Turn::Ended
+    }
+
+    /// Takes the beginning of an array of so many values; or does nothing.
+    #[tactic(auto, using(crate::proofs::ManyPlain::nothing_done))]
+    #[inline(always)]
+    fn value_array(
+        &mut self,
+        counts: &mut Counts,
+        piece: &[u8],
+        n: u32,
+        chain: ChainNumber,
+        count: u32,
+    ) -> Turn
+        requires begins { ArrayBegins piece.now n chain count self.old counts.old }
+        requires elements { option_map size_of (elements_of (chain_in self.old.table.chains chain)) ≡ None }
+        requires some { 0 < count }
+        requires refs { counts.old.refs + 1 < 2 ^ 64 }
+        requires depth { counts.old.depth + 1 < 2 ^ 64 }
+        ensures { Turns piece.now result self.old counts.old self.new counts.new }
+    {
+        let _ = n;
+        let _ = chain;
+        let _ = piece;
+        if !self.open_frame(Frame::Elements { left: count - 1 }) {
+            return Turn::Nothing;
+        }
+        counts.place(10);
+        counts.open();
+        Turn::Next
+    }
+
+    /// Takes an array with no elements; or does nothing.
+    #[tactic(auto, using(crate::proofs::ManyPlain::nothing_done))]
+    #[inline(always)]
+    fn empty_array(&mut self, counts: &mut Counts, piece: &[u8], n: u32, chain: ChainNumber) -> Turn
+        requires begins { ArrayBegins piece.now n chain 0 self.old counts.old }
+        requires refs { counts.old.refs + 1 < 2 ^ 64 }
+        requires depth { counts.old.depth + 1 < 2 ^ 64 }
+        ensures { Turns piece.now result self.old counts.old self.new counts.new }
+    {
+        let _ = n;
+        let _ = chain;
+        let _ = piece;
+        if !self.assign_other() {
+            return Turn::Nothing;
+        }
+        counts.place(10);
+        Turn::Ended
+    }
+
+    /// Takes an array with its raw values, or as far as its first value; or does nothing.
+    #[tactic(auto, using(crate::proofs::ManyPlain::nothing_done))]
+    #[inline(always)]
+    pub(super) fn array_at(&mut self, counts: &mut Counts, piece: &[u8]) -> Turn
+        requires holds { Holds piece.now self.old counts.old }
+        requires room { counts.old.used + 6 ≤ length piece.now }
+        requires tag { TC_ARRAY ≡ get_or piece.now counts.old.used 0 }
+        ensures { Turns piece.now result self.old counts.old self.new counts.new }
+    {
+        let Some(n) = reference_at(piece, counts.used) else {
+            return Turn::Nothing;
+        };
+        if piece.len() - counts.used < 10 {
+            return Turn::Nothing;
+        }
+        let count = length_at(piece, counts.used + 6);
+        if count >= 0x8000_0000 || count > self.limits.array {
+            return Turn::Nothing;
+        }
+        let Some(chain) = self.array_class(n) else {
+            return Turn::Nothing;
+        };
+        if !self.has_place_at(counts, piece) {
+            return Turn::Nothing;
+        }
+        if count == 0 {
+            return self.empty_array(counts, piece, n, chain);
+        }
+        match self.table.element_size(chain) {
+            Some(size) => self.raw_array(counts, piece, n, chain, count, size),
+            None => self.value_array(counts, piece, n, chain, count),
+        }
+    }
+}

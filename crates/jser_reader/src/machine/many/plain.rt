@@ -1,0 +1,126 @@
+//! Values without a class, of which all bytes are in the piece: nulls, references and strings.
+ghost use Rattle.std.specs.Prelude.{◌≡◌, ◌+◌, ◌^◌, ◌<◌, ◌≤◌, true, get_or, drop, length, IfSome};
+ghost use Rattle.jser_grammar.specs.Wire.{TC_NULL, TC_REFERENCE, TC_STRING};
+ghost use Rattle.jser_reader.specs.Many.{seen_at, Holds, Turns};
+ghost use Rattle.jser_reader.specs.Wholes.{HasPlace, HasNumber, HasText};
+
+use crate::machine::Machine;
+use crate::machine::many::counts::{Counts, Turn};
+use crate::machine::run_items::is_plain_between;
+use crate::machine::wholes::text_after;
+use jser_grammar::wire::BASE_WIRE_HANDLE;
+use jser_prim::{read_u16, read_u32};
+
+/// The number in the four bytes after the byte at this place.
+#[tactic(auto, using(crate::proofs::ManyPlain::number_is))]
+#[inline(always)]
+pub(super) fn number_at(piece: &[u8], at: usize) -> u32
+    requires { at + 5 ≤ length piece.now }
+    ensures { HasNumber (drop at piece.now) result }
+{
+    let (_, rest) = piece.split_at(at + 1);
+    let (number, _) = rest.split_at(4);
+    read_u32(number)
+}
+
+/// How many bytes the text has whose length comes after a tag, where all of them are there and are one.
+#[inline(never)]
+fn any_text(rest: &[u8]) -> Option<usize>
+    ensures { IfSome result (λ len. HasText rest.now len) }
+{
+    text_after(rest)
+}
+
+/// The same. Texts whose units have one byte each are looked at in line.
+#[inline(always)]
+fn text_here(rest: &[u8]) -> Option<usize>
+    requires { 3 ≤ length rest.now }
+    ensures { IfSome result (λ len. HasText rest.now len) }
+{
+    let (_, more) = rest.split_at(1);
+    let (number, _) = more.split_at(2);
+    let len = read_u16(number) as usize;
+    if is_plain_between(rest, 3, len + 3) {
+        return Some(len);
+    }
+    any_text(rest)
+}
+
+impl Machine {
+    /// Whether a place may begin here: it is not too deep, nor one too many.
+    #[tactic(auto, using(crate::proofs::ManyPlain::has_place_there))]
+    #[inline(always)]
+    pub(super) fn has_place_at(&self, counts: &Counts, piece: &[u8]) -> bool
+        requires { Holds piece.now self.now counts.now }
+        ensures place { result ≡ true → HasPlace (seen_at self.now counts.now) }
+        ensures small { result ≡ true → (counts.now.refs + 1 < 2 ^ 64) × (counts.now.depth + 1 < 2 ^ 64) }
+    {
+        let _ = piece;
+        if counts.refs >= self.limits.refs {
+            return false;
+        }
+        if counts.depth < counts.deepest {
+            return true;
+        }
+        counts.depth < u64::from(self.limits.depth)
+    }
+
+    /// Takes a null.
+    #[tactic(auto, using(crate::proofs::ManyPlain::nothing_done))]
+    #[inline(always)]
+    pub(super) fn null_at(&mut self, counts: &mut Counts, piece: &[u8]) -> Turn
+        requires holds { Holds piece.now self.old counts.old }
+        requires room { counts.old.used + 6 ≤ length piece.now }
+        requires tag { TC_NULL ≡ get_or piece.now counts.old.used 0 }
+        ensures { Turns piece.now result self.old counts.old self.new counts.new }
+    {
+        if !self.has_place_at(counts, piece) {
+            return Turn::Nothing;
+        }
+        counts.place(1);
+        Turn::Ended
+    }
+
+    /// Takes a reference; or does nothing.
+    #[tactic(auto, using(crate::proofs::ManyPlain::nothing_done))]
+    #[inline(always)]
+    pub(super) fn reference_at(&mut self, counts: &mut Counts, piece: &[u8]) -> Turn
+        requires holds { Holds piece.now self.old counts.old }
+        requires room { counts.old.used + 6 ≤ length piece.now }
+        requires tag { TC_REFERENCE ≡ get_or piece.now counts.old.used 0 }
+        ensures { Turns piece.now result self.old counts.old self.new counts.new }
+    {
+        let n = number_at(piece, counts.used);
+        if n < BASE_WIRE_HANDLE || n - BASE_WIRE_HANDLE >= self.table.count() {
+            return Turn::Nothing;
+        }
+        if !self.has_place_at(counts, piece) {
+            return Turn::Nothing;
+        }
+        counts.place(5);
+        Turn::Ended
+    }
+
+    /// Takes a string; or does nothing.
+    #[tactic(auto, using(crate::proofs::ManyPlain::nothing_done))]
+    #[inline(always)]
+    pub(super) fn string_at(&mut self, counts: &mut Counts, piece: &[u8]) -> Turn
+        requires holds { Holds piece.now self.old counts.old }
+        requires room { counts.old.used + 6 ≤ length piece.now }
+        requires tag { TC_STRING ≡ get_or piece.now counts.old.used 0 }
+        ensures { Turns piece.now result self.old counts.old self.new counts.new }
+    {
+        let (_, rest) = piece.split_at(counts.used);
+        let Some(len) = text_here(rest) else {
+            return Turn::Nothing;
+        };
+        if !self.has_place_at(counts, piece) {
+            return Turn::Nothing;
+        }
+        if !self.assign_text() {
+            return Turn::Nothing;
+        }
+        counts.place(len + 3);
+        Turn::Ended
+    }
+}
