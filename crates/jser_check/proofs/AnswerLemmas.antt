@@ -1,4 +1,5 @@
 -- From what a reader tells under a gate to what a check answers of a filter.
+use Rattle.std.specs.Prelude.{IfOk, IfErr}
 use Rattle.std.proofs.Common.{◌≡◌, ◌≢◌, ℕ, ◌+◌, ◌≤◌, List, [], ◌∷◌, ◌++◌, length, take, drop, Result, Ok, Err, inl, inr, refl, sym, ◌∙◌, ap, subst, arith, append-nil, length-append, length-take-le, take-append-drop}
 use Rattle.jser_grammar.specs.Parts.{IsBytes}
 use Rattle.jser_grammar.specs.Trees.{ContentTrees}
@@ -15,14 +16,12 @@ use Rattle.jser_reader.specs.declared.Stop.TheVariants as stop
 use Rattle.jser_reader.specs.declared.Totals.{Totals}
 use Rattle.jser_reader.specs.Reasons.{named}
 use Rattle.jser_reader.specs.Streams.{AreRefused, AreTruncated}
-use Rattle.jser_reader.specs.declared.tally.Tally.{Tally}
-use Rattle.jser_reader.specs.Readers.{Seen}
-use Rattle.jser_reader.specs.ReaderStates.{Reading, StandsFor, FinishTells}
+use Rattle.jser_reader.specs.ReaderStates.{Reading, StandsFor}
 use Rattle.jser_filter.specs.Filters.{FilterView}
 use Rattle.jser_check.specs.declared.gate.Options.{Options}
 use Rattle.jser_check.specs.Admitted.{AreAdmitted, FilterWith, gate_of_filter}
-use Rattle.jser_check.specs.Feeding.{Fed, StopsIn}
-use Rattle.jser_check.specs.Answers.{report_of, Reports, CarriesFirst, Refuses, IfRefused, FrontRefused, IsRightOf, Tells}
+use Rattle.jser_check.specs.Feeding.{Fed, StopsIn, EndTells}
+use Rattle.jser_check.specs.Answers.{Reports, CarriesFirst, Refuses, IfRefused, FrontRefused, IsRightOf, PassesWith, Tells}
 use Rattle.jser_check.proofs.SpelledBytes.{stream_bytes}
 use Rattle.jser_check.proofs.AdmittedLemmas.{admits_exactly}
 
@@ -82,23 +81,16 @@ stop_tells told gate old new bytes (stop.Refused refusal) same st s =
 stop_tells told gate old new bytes stop.OutOfMemory same st s = tt
 stop_tells told gate old new bytes stop.Spent same st s = s [] (subst (λ g. StandsFor (told g) [] old.machine old.tally) (sym same) st)
 
-finish_cases : (gate : Gate) (bytes : List ℕ) (result : Result Totals Stop) (old : Seen) (tally : Tally) (new : Seen) → StandsFor gate bytes old tally
-    → FinishTells gate result old tally new → Tells gate bytes result
-unfolding FinishTells
-finish_cases gate bytes (Ok totals) old tally new st t = (t bytes st).0
-finish_cases gate bytes (Err (stop.Refused refusal)) old tally new st t = inr (t bytes st).0
-finish_cases gate bytes (Err stop.OutOfMemory) old tally new st t = tt
-finish_cases gate bytes (Err stop.Spent) old tally new st t = t bytes st
-
 pub finish_tells : {G : Type 0} (told : G → Gate) (gate : G) (old mid new : Reading G) (bytes : List ℕ) (result : Result Totals Stop) → old.gate ≡ gate
-    → StandsFor (told gate) [] old.machine old.tally → Fed told old mid bytes [] → FinishTells (told mid.gate) result mid.machine mid.tally new.machine
+    → StandsFor (told gate) [] old.machine old.tally → Fed told old mid bytes [] → EndTells (told mid.gate) result mid.machine mid.tally new.machine
     → Tells (told gate) bytes result
+unfolding EndTells
 finish_tells told gate old mid new bytes result same st f t =
     let whole : bytes ≡ f.front = f.split ∙ append-nil f.front in
     let stands : StandsFor (told old.gate) f.front mid.machine mid.tally = f.stands [] (subst (λ g. StandsFor (told g) [] old.machine old.tally) (sym same) st) in
-    finish_cases (told gate) bytes result mid.machine mid.tally new.machine
-    (subst (λ xs. StandsFor (told gate) xs mid.machine mid.tally) (sym whole) (subst (λ g. StandsFor (told g) f.front mid.machine mid.tally) same stands))
-    (subst (λ g. FinishTells (told g) result mid.machine mid.tally new.machine) (f.same ∙ same) t)
+    subst (λ g. Tells (told g) bytes result) (f.same ∙ same)
+    (t bytes (subst (λ xs. StandsFor (told mid.gate) xs mid.machine mid.tally) (sym whole)
+    (subst (λ g. StandsFor (told g) f.front mid.machine mid.tally) (sym f.same) stands))).tells
 
 -- ---- under the gate of a filter
 
@@ -107,13 +99,9 @@ pub told_of_filter : (gate : FilterWith) (filter : FilterView) (options : Option
 told_of_filter gate filter options bytes result ef eo t =
     subst (λ o. Tells (gate_of_filter filter o) bytes result) eo (subst (λ f. Tells (gate_of_filter f gate.options) bytes result) ef t)
 
-pub tells_report : (filter : FilterView) (options : Options) (bytes : List ℕ) (totals : Totals) → Tells (gate_of_filter filter options) bytes (Ok totals)
-    → Reports filter options bytes (report_of totals)
-tells_report filter options bytes totals (list, passes, are) = (
-  list,
-  (admits_exactly filter options bytes list).1 passes,
-  record { all_bytes = are.all_bytes; contents = are.contents; refs = are.refs; depth = are.depth; handles = are.handles },
-)
+pub reports : (filter : FilterView) (options : Options) (bytes : List ℕ) (totals : Totals) → PassesWith (gate_of_filter filter options) bytes totals
+    → Reports filter options bytes totals
+reports filter options bytes totals (list, passes, are) = (list, (admits_exactly filter options bytes list).1 passes, are)
 
 fault_ordered : (gate : Gate) (bytes : List ℕ) (at end : ℕ) (r : ToldReason) → IsFirstFault gate bytes at end r → at ≤ end
 fault_ordered gate bytes at end r f = let e = f.0.4 in omega arith
@@ -170,14 +158,21 @@ right_first gate bytes refusal h (inl f) =
     }
 right_first gate bytes refusal h (inr t) = record { reason = truncated; is_named = t.is_named; is_first = t.is_first }
 
-pub tells_refused : (filter : FilterView) (options : Options) (bytes : List ℕ) (why : Stop) → Tells (gate_of_filter filter options) bytes (Err why)
-    → IfRefused (Refuses filter options bytes) why
-tells_refused filter options bytes (stop.Refused refusal) t = right_refuses filter options bytes refusal t
-tells_refused filter options bytes stop.OutOfMemory t = tt
-tells_refused filter options bytes stop.Spent t = t
+pub tells_accepted : (filter : FilterView) (options : Options) (bytes : List ℕ) (result : Result Totals Stop) → Tells (gate_of_filter filter options) bytes result
+    → IfOk result (Reports filter options bytes)
+tells_accepted filter options bytes (Ok totals) t = reports filter options bytes totals t
+tells_accepted filter options bytes (Err why) t = tt
 
-pub tells_first : (gate : Gate) (bytes : List ℕ) (why : Stop) → IsBytes bytes → Tells gate bytes (Err why)
-    → IfRefused (CarriesFirst gate bytes) why
-tells_first gate bytes (stop.Refused refusal) h t = right_first gate bytes refusal h t
-tells_first gate bytes stop.OutOfMemory h t = tt
-tells_first gate bytes stop.Spent h t = t
+pub tells_refused : (filter : FilterView) (options : Options) (bytes : List ℕ) (result : Result Totals Stop) → Tells (gate_of_filter filter options) bytes result
+    → IfErr result (IfRefused (Refuses filter options bytes))
+tells_refused filter options bytes (Ok totals) t = tt
+tells_refused filter options bytes (Err (stop.Refused refusal)) t = right_refuses filter options bytes refusal t
+tells_refused filter options bytes (Err stop.OutOfMemory) t = tt
+tells_refused filter options bytes (Err stop.Spent) t = t
+
+pub tells_first : (gate : Gate) (bytes : List ℕ) (result : Result Totals Stop) → IsBytes bytes → Tells gate bytes result
+    → IfErr result (IfRefused (CarriesFirst gate bytes))
+tells_first gate bytes (Ok totals) h t = tt
+tells_first gate bytes (Err (stop.Refused refusal)) h t = right_first gate bytes refusal h t
+tells_first gate bytes (Err stop.OutOfMemory) h t = tt
+tells_first gate bytes (Err stop.Spent) h t = t

@@ -4,3 +4,4 @@ pub mod FeedLemmas
 pub mod AnswerLemmas
 pub mod SourceLemmas
 pub mod ReaderLemmas
+pub mod CheckLemmas

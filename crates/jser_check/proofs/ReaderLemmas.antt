@@ -1,5 +1,5 @@
 -- From what the reads of a source tell to what a check answers of it.
-use Rattle.std.specs.Prelude.{IfSome}
+use Rattle.std.specs.Prelude.{IfOk, IfErr, IfSome}
 use Rattle.std.specs.Io.KnownBytes.{Consumes, IsAtEnd}
 use Rattle.std.specs.declared.option.Option.{Option}
 use Rattle.std.proofs.Common.{◌≡◌, ◌≢◌, ℕ, ◌+◌, ◌≤◌, List, [], ◌++◌, length, take, drop, Result, Ok, Err, Some, None, inl, inr, refl, sym, ap, subst, ◌∙◌, arith, append_assoc, append-nil, length-append, take-append-drop}
@@ -16,7 +16,7 @@ use Rattle.jser_reader.specs.declared.Stop.TheVariants as stop
 use Rattle.jser_reader.specs.declared.Totals.{Totals}
 use Rattle.jser_reader.specs.declared.tally.Tally.{Tally}
 use Rattle.jser_reader.specs.Readers.{Seen}
-use Rattle.jser_reader.specs.ReaderStates.{Reading, StandsFor, FinishTells}
+use Rattle.jser_reader.specs.ReaderStates.{Reading, StandsFor}
 use Rattle.jser_reader.specs.Streams.{AreRefused}
 use Rattle.jser_filter.specs.Filters.{FilterView}
 use Rattle.jser_check.specs.declared.answer.CheckFault.{CheckFault}
@@ -24,11 +24,11 @@ use Rattle.jser_check.specs.declared.answer.CheckFault.TheVariants as fault
 use Rattle.jser_check.specs.declared.gate.Options.{Options}
 use Rattle.jser_grammar.specs.Caps.{most_bytes}
 use Rattle.jser_check.specs.Admitted.{FilterWith, gate_of_filter}
-use Rattle.jser_check.specs.Feeding.{RefusesIn, StopCases}
-use Rattle.jser_check.specs.Answers.{report_of, Reports, CarriesFirst, Refuses, IfRefused, IsRightOf, Tells}
+use Rattle.jser_check.specs.Feeding.{RefusesIn, StopCases, EndTells}
+use Rattle.jser_check.specs.Answers.{Reports, CarriesFirst, Refuses, DecideNothing, IfRefused, IsRightOf, Tells}
 use Rattle.jser_check.specs.Sources.{read_bytes, TakesAtMost, Taken, Stopped, TakenAll, ReadsTell}
 use Rattle.jser_check.specs.SourceAnswers.{IfFaultRefused, Undecided, TakesFew, SourceTells}
-use Rattle.jser_check.proofs.AnswerLemmas.{front_refused, finish_tells, tells_report, right_refuses, right_first}
+use Rattle.jser_check.proofs.AnswerLemmas.{front_refused, finish_tells, reports, right_refuses, right_first}
 use Rattle.jser_check.proofs.SourceLemmas.{taken_stands}
 
 -- ---- the reader stopped
@@ -78,8 +78,7 @@ stopped_prompt told gate old had has total stop.Spent same st s = tt
 
 -- ---- a read failed
 
-stands_undecided : (gate : Gate) (bytes : List ℕ) (r : Seen) (tally : Tally) → StandsFor gate bytes r tally → (at end : ℕ) (reason : ToldReason) → IsFault gate bytes at end reason
-    → reason ≡ truncated
+pub stands_undecided : (gate : Gate) (bytes : List ℕ) (r : Seen) (tally : Tally) → StandsFor gate bytes r tally → DecideNothing gate bytes
 unfolding StandsFor
 stands_undecided gate bytes r tally s =
     let k = s.0.taken in refuses_promptly gate bytes k.cut (left begin_state k.fields) k.all_bytes s.1 k.walked
@@ -141,13 +140,13 @@ source_tells gate (Some all) has bytes (Err stop.OutOfMemory) e t = tt
 source_tells gate (Some all) has bytes (Err stop.Spent) e t = t
 
 all_tell : {G : Type 0} (told : G → Gate) (gate : G) (old mid new : Reading G) (had has : Option (List ℕ)) (result : Result Totals Stop) → old.gate ≡ gate
-    → StandsFor (told gate) [] old.machine old.tally → TakenAll told old mid had has → FinishTells (told mid.gate) result mid.machine mid.tally new.machine
+    → StandsFor (told gate) [] old.machine old.tally → TakenAll told old mid had has → EndTells (told mid.gate) result mid.machine mid.tally new.machine
     → (bytes : List ℕ) × Consumes had has bytes × Tells (told gate) bytes result
 all_tell told gate old mid new had has result same st t f =
     (t.taken.bytes, t.taken.off, finish_tells told gate old mid new t.taken.bytes result same st t.taken.fed f)
 
 pub end_tells : {G : Type 0} (told : G → Gate) (gate : G) (old mid new : Reading G) (had has : Option (List ℕ)) (result : Result Totals Stop) → old.gate ≡ gate
-    → StandsFor (told gate) [] old.machine old.tally → TakenAll told old mid had has → IsAtEnd has → FinishTells (told mid.gate) result mid.machine mid.tally new.machine
+    → StandsFor (told gate) [] old.machine old.tally → TakenAll told old mid had has → IsAtEnd has → EndTells (told mid.gate) result mid.machine mid.tally new.machine
     → SourceTells (told gate) had has (as_fault result)
 end_tells told gate old mid new had has result same st t e f =
     let x = all_tell told gate old mid new had has result same st t f in
@@ -155,14 +154,14 @@ end_tells told gate old mid new had has result same st t e f =
 
 -- what is refused at the end is refused for its end
 end_prompt : (gate : Gate) (bytes : List ℕ) (old : Seen) (tally : Tally) (new : Seen) (had has : Option (List ℕ)) (why : Stop) → StandsFor gate bytes old tally
-    → FinishTells gate (Err why) old tally new → TakesFew had has {X = Totals} (Err (fault.Stop why))
-unfolding FinishTells
-end_prompt gate bytes old tally new had has (stop.Refused refusal) st f = λ e. absurd (e (f bytes st).0.is_named)
+    → EndTells gate (Err why) old tally new → TakesFew had has {X = Totals} (Err (fault.Stop why))
+unfolding EndTells
+end_prompt gate bytes old tally new had has (stop.Refused refusal) st f = λ e. absurd (e ((f bytes st).cut refusal refl))
 end_prompt gate bytes old tally new had has stop.OutOfMemory st f = tt
 end_prompt gate bytes old tally new had has stop.Spent st f = tt
 
 pub end_takes_few : {G : Type 0} (told : G → Gate) (gate : G) (old mid new : Reading G) (had has : Option (List ℕ)) (why : Stop) → old.gate ≡ gate
-    → StandsFor (told gate) [] old.machine old.tally → TakenAll told old mid had has → FinishTells (told mid.gate) (Err why) mid.machine mid.tally new.machine
+    → StandsFor (told gate) [] old.machine old.tally → TakenAll told old mid had has → EndTells (told mid.gate) (Err why) mid.machine mid.tally new.machine
     → TakesFew had has {X = Totals} (Err (fault.Stop why))
 end_takes_few told gate old mid new had has why same st t f =
     end_prompt (told mid.gate) t.taken.bytes mid.machine mid.tally new.machine had has why
@@ -176,30 +175,43 @@ pub source_of_filter : (gate : FilterWith) (filter : FilterView) (options : Opti
 source_of_filter gate filter options had has result ef eo t =
     subst (λ o. SourceTells (gate_of_filter filter o) had has result) eo (subst (λ f. SourceTells (gate_of_filter f gate.options) had has result) ef t)
 
-pub source_reported : (filter : FilterView) (options : Options) (had has : Option (List ℕ)) (totals : Totals)
-    → SourceTells (gate_of_filter filter options) had has (Ok totals) → IfSome had (λ bytes. Reports filter options bytes (report_of totals))
-source_reported filter options None has totals t = tt
-source_reported filter options (Some bytes) has totals t = tells_report filter options bytes totals t
+pub source_accepted : (filter : FilterView) (options : Options) (had has : Option (List ℕ)) (result : Result Totals CheckFault)
+    → SourceTells (gate_of_filter filter options) had has result → IfOk result (λ report. IfSome had (λ bytes. Reports filter options bytes report))
+source_accepted filter options None has (Ok totals) t = tt
+source_accepted filter options (Some bytes) has (Ok totals) t = reports filter options bytes totals t
+source_accepted filter options had has (Err why) t = tt
 
-pub source_refused : (filter : FilterView) (options : Options) (had has : Option (List ℕ)) (why : CheckFault)
+fault_refused : (filter : FilterView) (options : Options) (had has : Option (List ℕ)) (why : CheckFault)
     → SourceTells (gate_of_filter filter options) had has (Err why) → IfSome had (λ bytes. IfFaultRefused (Refuses filter options bytes) why)
-source_refused filter options None has why t = tt
-source_refused filter options (Some bytes) has (fault.Stop (stop.Refused refusal)) t = right_refuses filter options bytes refusal t
-source_refused filter options (Some bytes) has (fault.Stop stop.OutOfMemory) t = tt
-source_refused filter options (Some bytes) has (fault.Stop stop.Spent) t = t
-source_refused filter options (Some bytes) has fault.ReadFault t = tt
+fault_refused filter options None has why t = tt
+fault_refused filter options (Some bytes) has (fault.Stop (stop.Refused refusal)) t = right_refuses filter options bytes refusal t
+fault_refused filter options (Some bytes) has (fault.Stop stop.OutOfMemory) t = tt
+fault_refused filter options (Some bytes) has (fault.Stop stop.Spent) t = t
+fault_refused filter options (Some bytes) has fault.ReadFault t = tt
 
-pub source_first : (gate : Gate) (had has : Option (List ℕ)) (why : CheckFault) → SourceTells gate had has (Err why)
+pub source_refused : (filter : FilterView) (options : Options) (had has : Option (List ℕ)) (result : Result Totals CheckFault)
+    → SourceTells (gate_of_filter filter options) had has result
+    → IfErr result (λ fault. IfSome had (λ bytes. IfFaultRefused (Refuses filter options bytes) fault))
+source_refused filter options had has (Ok totals) t = tt
+source_refused filter options had has (Err why) t = fault_refused filter options had has why t
+
+fault_first : (gate : Gate) (had has : Option (List ℕ)) (why : CheckFault) → SourceTells gate had has (Err why)
     → IfSome had (λ bytes. IsBytes bytes → IfFaultRefused (CarriesFirst gate bytes) why)
-source_first gate None has why t = tt
-source_first gate (Some bytes) has (fault.Stop (stop.Refused refusal)) t = λ h. right_first gate bytes refusal h t
-source_first gate (Some bytes) has (fault.Stop stop.OutOfMemory) t = λ h. tt
-source_first gate (Some bytes) has (fault.Stop stop.Spent) t = λ h. t
-source_first gate (Some bytes) has fault.ReadFault t = λ h. tt
+fault_first gate None has why t = tt
+fault_first gate (Some bytes) has (fault.Stop (stop.Refused refusal)) t = λ h. right_first gate bytes refusal h t
+fault_first gate (Some bytes) has (fault.Stop stop.OutOfMemory) t = λ h. tt
+fault_first gate (Some bytes) has (fault.Stop stop.Spent) t = λ h. t
+fault_first gate (Some bytes) has fault.ReadFault t = λ h. tt
 
-pub source_undecided : (gate : Gate) (had has : Option (List ℕ)) (why : CheckFault) → SourceTells gate had has (Err why) → why ≡ fault.ReadFault
-    → Undecided gate had has
-source_undecided gate had has why t e = subst (λ w. SourceTells gate had has (Err w)) e t
+pub source_first : (gate : Gate) (had has : Option (List ℕ)) (result : Result Totals CheckFault) → SourceTells gate had has result
+    → IfErr result (λ fault. IfSome had (λ bytes. IsBytes bytes → IfFaultRefused (CarriesFirst gate bytes) fault))
+source_first gate had has (Ok totals) t = tt
+source_first gate had has (Err why) t = fault_first gate had has why t
 
-pub source_unspent : (gate : Gate) (had has : Option (List ℕ)) (why : CheckFault) → SourceTells gate had has (Err why) → why ≢ fault.Stop stop.Spent
-source_unspent gate had has why t = λ e. subst (λ w. SourceTells gate had has (Err w)) e t
+pub source_undecided : (gate : Gate) (had has : Option (List ℕ)) (result : Result Totals CheckFault) → SourceTells gate had has result
+    → result ≡ Err fault.ReadFault → Undecided gate had has
+source_undecided gate had has result t e = subst (λ r. SourceTells gate had has r) e t
+
+pub source_unspent : (gate : Gate) (had has : Option (List ℕ)) (result : Result Totals CheckFault) → SourceTells gate had has result
+    → result ≢ Err (fault.Stop stop.Spent)
+source_unspent gate had has result t = λ e. subst (λ r. SourceTells gate had has r) e t

@@ -2,11 +2,11 @@
 use Rattle.std.specs.Prelude.{◌≡◌, ◌≢◌, ◌⊎◌, ℕ, ◌≤◌, List, ◌++◌, length, take, Result, Ok, Err}
 use Rattle.jser_grammar.specs.Parts.{IsBytes}
 use Rattle.jser_grammar.specs.Trees.{ContentTrees}
-use Rattle.jser_grammar.specs.Counts.{content_count, refs_of, depth_of, handle_count}
+use Rattle.jser_verdict.specs.Reasons.{truncated}
 use Rattle.jser_verdict.specs.Reasons.{Reason as ToldReason}
 use Rattle.jser_verdict.specs.Gates.{Gate}
 use Rattle.jser_verdict.specs.Passing.{Passes}
-use Rattle.jser_verdict.specs.FirstFault.{IsFirstFault}
+use Rattle.jser_verdict.specs.FirstFault.{IsFault, IsFirstFault}
 use Rattle.jser_reader.specs.declared.Reason.TheVariants as reason
 use Rattle.jser_reader.specs.declared.Refusal.{Refusal}
 use Rattle.jser_reader.specs.declared.Stop.{Stop}
@@ -16,32 +16,22 @@ use Rattle.jser_reader.specs.Reasons.{named}
 use Rattle.jser_reader.specs.Tallies.{AreTotals}
 use Rattle.jser_reader.specs.Streams.{AreRefused, AreTruncated}
 use Rattle.jser_filter.specs.Filters.{FilterView}
-use Rattle.jser_check.specs.declared.answer.Report.{Report}
 use Rattle.jser_check.specs.declared.gate.Options.{Options}
 use Rattle.jser_check.specs.Admitted.{IsAdmitted, AreAdmitted, gate_of_filter}
 
--- what a reader counted, as a report
-abbrev pub report_of : Totals → Report
-report_of totals =
-    record { bytes = totals.bytes; contents = totals.contents; refs = totals.refs; depth = totals.depth; handles = totals.handles }
-
--- the report has the counts of a stream of this list
-pub record AreCounts (bytes : List ℕ) (list : ContentTrees) (report : Report) : Type 0 where
-  pub all_bytes : report.bytes ≡ length bytes
-  pub contents : report.contents ≡ content_count list
-  pub refs : report.refs ≡ refs_of list
-  pub depth : report.depth ≡ depth_of list
-  pub handles : report.handles ≡ handle_count list
-
 -- some list is spelled by the bytes and admitted, and the report has its counts
-abbrev pub Reports : FilterView → Options → List ℕ → Report → Type 0
-Reports filter options bytes report = (list : ContentTrees) × IsAdmitted filter options bytes list × AreCounts bytes list report
+abbrev pub Reports : FilterView → Options → List ℕ → Totals → Type 0
+Reports filter options bytes report = (list : ContentTrees) × IsAdmitted filter options bytes list × AreTotals bytes list report
 
 -- the refusal names the first fault of the bytes
 pub record CarriesFirst (gate : Gate) (bytes : List ℕ) (refusal : Refusal) : Type 0 where
   pub reason : ToldReason
   pub is_named : refusal.reason ≡ named reason
   pub is_first : IsFirstFault gate bytes refusal.from_byte refusal.to_byte reason
+
+-- the bytes decide no refusal: they hold no fault but that they end
+abbrev pub DecideNothing : Gate → List ℕ → Type 0
+DecideNothing gate bytes = (at end : ℕ) (reason : ToldReason) → IsFault gate bytes at end reason → reason ≡ truncated
 
 -- The refusal is right of the bytes: the filter admits no stream that they spell, and none that begins with the first
 -- `to_byte` of them, which decide, whatever comes after them. Truncated speaks of all the bytes.

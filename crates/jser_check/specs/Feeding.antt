@@ -1,12 +1,16 @@
 -- What it does to a reader to be given bytes. `told` is what a gate is, as the definitions see it.
-use Rattle.std.specs.Prelude.{◌≡◌, ℕ, ◌≤◌, List, ◌++◌, length, take}
+use Rattle.std.specs.Prelude.{◌≡◌, ◌≢◌, ℕ, ◌<◌, ◌≤◌, List, [], ◌++◌, length, take, Result, Ok, Err}
 use Rattle.jser_verdict.specs.Gates.{Gate}
+use Rattle.jser_reader.specs.declared.Reason.TheVariants as reason
 use Rattle.jser_reader.specs.declared.Refusal.{Refusal}
 use Rattle.jser_reader.specs.declared.Stop.{Stop}
 use Rattle.jser_reader.specs.declared.Stop.TheVariants as stop
+use Rattle.jser_reader.specs.declared.Totals.{Totals}
+use Rattle.jser_reader.specs.declared.tally.Tally.{Tally}
 use Rattle.jser_reader.specs.Readers.{Seen}
-use Rattle.jser_reader.specs.ReaderStates.{Reading, StandsFor}
+use Rattle.jser_reader.specs.ReaderStates.{Reading, StandsFor, HasRefused, IsSpent}
 use Rattle.jser_reader.specs.Streams.{AreRefused}
+use Rattle.jser_check.specs.Answers.{Tells}
 
 -- it took the front of these bytes, up to the rest, and has not stopped
 pub record Fed {G : Type 0} (told : G → Gate) (old new : Reading G) (bytes rest : List ℕ) : Type 0 where
@@ -18,6 +22,7 @@ pub record Fed {G : Type 0} (told : G → Gate) (old new : Reading G) (bytes res
 -- it refused the bytes up to one of these, after those that it took before
 pub record RefusesIn (gate : Gate) (before bytes : List ℕ) (refusal : Refusal) : Type 0 where
   pub used : ℕ
+  pub some : 0 < used
   pub within : used ≤ length bytes
   pub refused : AreRefused gate (before ++ take used bytes) refusal
 
@@ -30,3 +35,30 @@ StopCases gate before bytes stop.Spent = ⊥
 unfoldable pub StopsIn : {G : Type 0} → (G → Gate) → (old new : Reading G) → (bytes : List ℕ) → Stop → Type 0
 StopsIn told old new bytes stop =
     (before : List ℕ) → StandsFor (told old.gate) before old.machine old.tally → StopCases (told old.gate) before bytes stop
+
+-- what a check answers from now on that has answered this: the same refusal, or Spent
+abbrev pub HasStopped : Stop → Seen → Type 0
+HasStopped (stop.Refused refusal) r = HasRefused refusal r
+HasStopped stop.OutOfMemory r = IsSpent r
+HasStopped stop.Spent r = IsSpent r
+
+-- it took the whole piece, or stopped in it
+abbrev pub FeedTells : {G : Type 0} → (G → Gate) → (old new : Reading G) → (piece : List ℕ) → Result (Unit {0}) Stop → Type 0
+FeedTells told old new piece (Ok _) = Fed told old new piece []
+FeedTells told old new piece (Err why) = StopsIn told old new piece why
+
+-- after the end: Spent where the bytes were a stream
+abbrev pub HasEnded : Result Totals Stop → Seen → Type 0
+HasEnded (Ok totals) r = IsSpent r
+HasEnded (Err why) r = HasStopped why r
+
+-- What it answers at the end of the bytes that it took. It never runs out of memory there, and refuses nothing but that
+-- they end too early.
+pub record Ends (gate : Gate) (taken : List ℕ) (result : Result Totals Stop) (new : Seen) : Type 0 where
+  pub tells : Tells gate taken result
+  pub ended : HasEnded result new
+  pub sure : result ≢ Err stop.OutOfMemory
+  pub cut : (refusal : Refusal) → result ≡ Err (stop.Refused refusal) → refusal.reason ≡ reason.Truncated
+
+unfoldable pub EndTells : Gate → Result Totals Stop → Seen → Tally → Seen → Type 0
+EndTells gate result old tally new = (taken : List ℕ) → StandsFor gate taken old tally → Ends gate taken result new

@@ -2,17 +2,14 @@
 -- them, `has` those after.
 use Rattle.std.specs.Prelude.{◌≡◌, ◌≢◌, ℕ, ◌+◌, List, Option, Result, Ok, Err, IfSome}
 use Rattle.std.specs.Io.KnownBytes.{Consumes}
-use Rattle.jser_verdict.specs.Reasons.{truncated}
-use Rattle.jser_verdict.specs.Reasons.{Reason as ToldReason}
 use Rattle.jser_verdict.specs.Gates.{Gate}
-use Rattle.jser_verdict.specs.FirstFault.{IsFault}
 use Rattle.jser_reader.specs.declared.Reason.TheVariants as reason
 use Rattle.jser_reader.specs.declared.Refusal.{Refusal}
 use Rattle.jser_reader.specs.declared.Stop.TheVariants as stop
 use Rattle.jser_reader.specs.declared.Totals.{Totals}
 use Rattle.jser_check.specs.declared.answer.CheckFault.{CheckFault}
 use Rattle.jser_check.specs.declared.answer.CheckFault.TheVariants as fault
-use Rattle.jser_check.specs.Answers.{IfRefused, IsRightOf, PassesWith}
+use Rattle.jser_check.specs.Answers.{IfRefused, DecideNothing, IsRightOf, PassesWith}
 use Rattle.jser_check.specs.Sources.{read_bytes, TakesAtMost}
 
 -- what holds of the refusal, where that is the fault; it is never that the reader was spent
@@ -20,11 +17,11 @@ abbrev pub IfFaultRefused : (Refusal → Type 0) → CheckFault → Type 0
 IfFaultRefused P (fault.Stop why) = IfRefused P why
 IfFaultRefused P fault.ReadFault = Unit {0}
 
--- the bytes that came decide no refusal: they hold no fault but that they end
+-- the bytes that came decide no refusal
 pub record Undecided (gate : Gate) (had has : Option (List ℕ)) : Type 0 where
   pub bytes : List ℕ
   pub off : Consumes had has bytes
-  pub none : (at end : ℕ) (reason : ToldReason) → IsFault gate bytes at end reason → reason ≡ truncated
+  pub none : DecideNothing gate bytes
 
 -- where bytes are refused, though not for their end, no more bytes came than those that decide and the rest of a read
 abbrev pub TakesFew : (had has : Option (List ℕ)) → {X : Type 0} → Result X CheckFault → Type 0

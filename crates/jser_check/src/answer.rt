@@ -1,44 +1,40 @@
-//! What a check answers: the counts of a stream, or why there are none.
-ghost use Rattle.std.specs.Prelude.{◌≡◌};
-ghost use Rattle.jser_check.specs.Answers.{report_of};
+//! Why the check of a source stopped.
+use jser_reader::Stop;
+use std::error::Error;
+use std::fmt;
 
-use jser_reader::{Stop, Totals};
-
-/// The counts of an admitted stream.
-#[derive(Clone, Copy, PartialEq, Eq, Debug)]
-pub struct Report {
-    /// How many bytes it has.
-    pub bytes: u64,
-    /// How many contents: values, blocks and resets at the top.
-    pub contents: u64,
-    /// How many places: values, and superclass places.
-    pub refs: u64,
-    /// The greatest depth of a place, 1 at the top; 0 without places.
-    pub depth: u64,
-    /// How many handles were assigned, in all epochs.
-    pub handles: u64,
-}
-
-impl Report {
-    /// The report of what a reader counted.
-    pub(crate) fn of(totals: Totals) -> Report
-        ensures { result ≡ report_of totals }
-    {
-        Report {
-            bytes: totals.bytes,
-            contents: totals.contents,
-            refs: totals.refs,
-            depth: totals.depth,
-            handles: totals.handles,
-        }
-    }
-}
-
-/// Why the check of a source stopped without a report.
+/// Why the check of a source stopped without a report. Its text is that of `Stop`, or `read failed`.
 #[derive(Clone, Copy, PartialEq, Eq, Debug)]
 pub enum CheckFault {
     /// The check stopped.
     Stop(Stop),
     /// A read failed, and the bytes before it decide nothing.
     ReadFault,
+}
+
+impl fmt::Display for CheckFault {
+    ghost use Rattle.std.specs.Prelude.{Some};
+    ghost use Rattle.jser_check.specs.FaultTexts.{check_fault_text};
+
+    ghost output = { λ fault. Some (check_fault_text fault) };
+
+    fn fmt<W: fmt::Write>(&self, f: &mut fmt::Formatter<W>) -> fmt::Result {
+        match self {
+            CheckFault::Stop(stop) => write!(f, "{stop}"),
+            CheckFault::ReadFault => f.write_str("read failed"),
+        }
+    }
+}
+
+impl Error for CheckFault {}
+
+impl From<Stop> for CheckFault {
+    ghost use Rattle.std.specs.Prelude.{◌≡◌};
+    ghost use Rattle.jser_check.specs.declared.answer.CheckFault.TheVariants as variant;
+
+    ghost from_gives = { λ stop fault. fault ≡ variant.Stop stop };
+
+    fn from(stop: Stop) -> CheckFault {
+        CheckFault::Stop(stop)
+    }
 }

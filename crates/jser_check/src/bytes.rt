@@ -1,12 +1,12 @@
-//! The check of a slice, over one reader.
+//! The check of a slice: the check in pieces, of one piece.
 ghost use Rattle.std.specs.Prelude.{IfOk, IfErr};
 ghost use Rattle.jser_check.specs.Admitted.{gate_of_filter};
 ghost use Rattle.jser_check.specs.Answers.{IfRefused, Reports, Refuses, CarriesFirst, Tells};
 
-use crate::answer::Report;
+use crate::check::Check;
 use crate::gate::{FilterGate, Options};
 use jser_filter::Filter;
-use jser_reader::{Gate, Reader, Stop, Totals};
+use jser_reader::{Gate, Stop, Totals};
 use std::alloc::Global;
 
 /// Checks whether bytes are one stream that the filter admits, and returns its counts.
@@ -23,24 +23,21 @@ pub fn check_bytes(
     bytes: &[u8],
     filter: &Filter,
     options: Options,
-) -> Result<Report, Stop>
+) -> Result<Totals, Stop>
     ensures accepted { IfOk result (Reports filter.now options bytes.now) }
     ensures refused { IfErr result (IfRefused (Refuses filter.now options bytes.now)) }
     ensures first { IfErr result (IfRefused (CarriesFirst (gate_of_filter filter.now options) bytes.now)) }
 {
-    match check_under(alloc, bytes, FilterGate::new(filter, options)) {
-        Ok(totals) => Ok(Report::of(totals)),
-        Err(stop) => Err(stop),
-    }
+    check_under(alloc, bytes, FilterGate::new(filter, options))
 }
 
 /// Checks bytes under any gate.
 fn check_under<G: Gate + Drop>(alloc: Global, bytes: &[u8], gate: G) -> Result<Totals, Stop>
     ensures { Tells (G.told gate) bytes.now result }
 {
-    let mut reader = Reader::new(alloc, gate);
-    match reader.skip(bytes) {
-        Ok(()) => reader.finish(),
+    let mut check = Check::new(alloc, gate);
+    match check.feed(bytes) {
+        Ok(()) => check.finish(),
         Err(stop) => Err(stop),
     }
 }

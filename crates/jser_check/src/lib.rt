@@ -1,13 +1,18 @@
-//! Whether bytes are a Java serialization stream that a filter admits: the checks of a slice and of a source.
+//! Whether bytes are a Java serialization stream that a filter admits: the checks of a slice, of a source, and of a stream
+//! that comes in pieces.
 #![tactic(auto)]
 
 mod answer;
 mod bytes;
+mod check;
+mod checker;
 mod gate;
+mod owned;
 mod reader;
 
-pub use answer::{CheckFault, Report};
+pub use answer::CheckFault;
 pub use bytes::check_bytes;
+pub use checker::Checker;
 pub use gate::{FilterGate, Options};
-pub use jser_reader::{Reason, Refusal, Stop};
+pub use jser_reader::{Reason, Refusal, Stop, Totals as Report};
 pub use reader::check_reader;

@@ -1,4 +1,4 @@
-//! The check of a source: what each read gives goes to one reader at once.
+//! The check of a source: the check in pieces, of what each read gives.
 ghost use Rattle.std.specs.Prelude.{◌≡◌, ◌≢◌, ◌+◌, ◌<◌, ◌≤◌, [], length, vec_len, IfOk, IfErr, IfSome};
 ghost use Rattle.std.specs.Io.KnownBytes.{IsAtEnd};
 ghost use Rattle.jser_grammar.specs.Parts.{IsBytes};
@@ -9,12 +9,13 @@ ghost use Rattle.jser_check.specs.Answers.{Reports, Refuses, CarriesFirst};
 ghost use Rattle.jser_check.specs.Sources.{TakesAtMost, ReadTells, ReadsTell, FailsWith};
 ghost use Rattle.jser_check.specs.SourceAnswers.{IfFaultRefused, Undecided, TakesFew, SourceTells};
 
-use crate::answer::{CheckFault, Report};
+use crate::answer::CheckFault;
+use crate::check::Check;
 use crate::gate::{FilterGate, Options};
 use jser_filter::Filter;
 use jser_grammar::caps::MOST_BYTES;
 use jser_prim::Source;
-use jser_reader::{Gate, Reader, Stop, Totals};
+use jser_reader::{Gate, Stop, Totals};
 use std::alloc::{AllocError, Global};
 
 /// How many bytes a read asks for at most: 14 pages of 4 KiB, so that each read of a file begins at a page.
@@ -34,7 +35,7 @@ pub fn check_reader<R: Source>(
     source: &mut R,
     filter: &Filter,
     options: Options,
-) -> Result<Report, CheckFault>
+) -> Result<Totals, CheckFault>
     ensures accepted { IfOk result (λ report. IfSome (R.to_come source.old) (λ bytes. Reports filter.now options bytes report)) }
     ensures refused { IfErr result (λ fault. IfSome (R.to_come source.old) (λ bytes. IfFaultRefused (Refuses filter.now options bytes) fault)) }
     ensures first { IfErr result (λ fault. IfSome (R.to_come source.old) (λ bytes. IsBytes bytes
@@ -45,10 +46,7 @@ pub fn check_reader<R: Source>(
     ensures within { TakesAtMost (most_bytes + 1) (R.to_come source.old) (R.to_come source.new) }
     ensures prompt { TakesFew (R.to_come source.old) (R.to_come source.new) result }
 {
-    match check_under(alloc, source, FilterGate::new(filter, options)) {
-        Ok(totals) => Ok(Report::of(totals)),
-        Err(fault) => Err(fault),
-    }
+    check_under(alloc, source, FilterGate::new(filter, options))
 }
 
 /// Checks the bytes of a source under any gate.
@@ -62,9 +60,9 @@ fn check_under<R: Source, G: Gate + Drop>(
     ensures within { TakesAtMost (most_bytes + 1) (R.to_come source.old) (R.to_come source.new) }
     ensures prompt { TakesFew (R.to_come source.old) (R.to_come source.new) result }
 {
-    let mut reader = Reader::new(alloc, gate);
-    match read_whole(alloc, source, &mut reader) {
-        Ok(()) => match reader.finish() {
+    let mut check = Check::new(alloc, gate);
+    match read_whole(alloc, source, &mut check) {
+        Ok(()) => match check.finish() {
             Ok(totals) => Ok(totals),
             Err(stop) => Err(CheckFault::Stop(stop)),
         },
@@ -72,20 +70,20 @@ fn check_under<R: Source, G: Gate + Drop>(
     }
 }
 
-/// Reads a source to its end, into the reader.
+/// Reads a source to its end, into the check.
 ///
 /// # Errors
 ///
-/// `CheckFault::Stop` where the reader stopped, or where there was no memory for the bytes of a read;
+/// `CheckFault::Stop` where the check stopped, or where there was no memory for the bytes of a read;
 /// `CheckFault::ReadFault` where a read failed.
 #[tactic(auto, using(crate::proofs::SourceLemmas::taken_none, crate::proofs::SourceLemmas::taken_more, crate::proofs::SourceLemmas::stopped_after))]
 fn read_whole<R: Source, G: Gate>(
     alloc: Global,
     source: &mut R,
-    reader: &mut Reader<G>,
+    check: &mut Check<G>,
 ) -> Result<(), CheckFault>
-    requires { StandsFor (G.told reader.old.gate) [] reader.old.machine reader.old.tally }
-    ensures tells { ReadsTell (λ gate. G.told gate) reader.old reader.new (R.to_come source.old) (R.to_come source.new) result }
+    requires { StandsFor (G.told check.old.gate) [] check.old.machine check.old.tally }
+    ensures tells { ReadsTell (λ gate. G.told gate) check.old check.new (R.to_come source.old) (R.to_come source.new) result }
     ensures fails { FailsWith result (R.has_failed source.old) (R.has_failed source.new) }
 {
     let Ok(mut buffer) = new_buffer(alloc, BUFFER_LEN) else {
@@ -94,7 +92,7 @@ fn read_whole<R: Source, G: Gate>(
     let mut taken: u64 = 0;
     'reads: loop {
         let room = (MOST_BYTES + 1 - taken).min(buffer.len() as u64) as usize;
-        match read_some(source, reader, &mut buffer[..room]) {
+        match read_some(source, check, &mut buffer[..room]) {
             Ok(0) => return Ok(()),
             Ok(count) => taken += count as u64,
             Err(fault) => return Err(fault),
@@ -109,15 +107,15 @@ fn new_buffer(alloc: Global, len: usize) -> Result<Vec<u8>, AllocError>
     vec![in alloc; 0u8; len]
 }
 
-/// One read, whose bytes go to the reader; returns how many. None are the end.
-#[tactic(auto, using(crate::proofs::FeedLemmas::fed_skip, crate::proofs::SourceLemmas::read_took, crate::proofs::SourceLemmas::read_stopped, crate::proofs::SourceLemmas::read_failed))]
+/// One read, whose bytes go to the check; returns how many. None are the end.
+#[tactic(auto, using(crate::proofs::SourceLemmas::read_took, crate::proofs::SourceLemmas::read_stopped, crate::proofs::SourceLemmas::read_failed))]
 fn read_some<R: Source, G: Gate>(
     source: &mut R,
-    reader: &mut Reader<G>,
+    check: &mut Check<G>,
     buffer: &mut [u8],
 ) -> Result<usize, CheckFault>
     requires { 0 < length buffer.old }
-    ensures tells { ReadTells (λ gate. G.told gate) reader.old reader.new (R.to_come source.old) (R.to_come source.new) (length buffer.old) result }
+    ensures tells { ReadTells (λ gate. G.told gate) check.old check.new (R.to_come source.old) (R.to_come source.new) (length buffer.old) result }
     ensures few { IfOk result (λ count. count ≤ length buffer.old) }
     ensures end { result ≡ Ok 0 → IsAtEnd (R.to_come source.new) }
     ensures fails { FailsWith result (R.has_failed source.old) (R.has_failed source.new) }
@@ -127,7 +125,7 @@ fn read_some<R: Source, G: Gate>(
         Err(_) => return Err(CheckFault::ReadFault),
     };
     let (bytes, _) = buffer.split_at(count);
-    match reader.skip(bytes) {
+    match check.feed(bytes) {
         Ok(()) => Ok(count),
         Err(stop) => Err(CheckFault::Stop(stop)),
     }

@@ -1,7 +1,7 @@
 //! The worked streams through both checks, and sources that fail or return few bytes a call.
 //!
-//! A stream is written as the format's rows are: hexadecimal digits, ASCII text between quotes, and spaces for
-//! reading.
+//! A stream is written as hexadecimal digits, ASCII text between quotes, and spaces for reading; `stream` makes its
+//! bytes.
 ghost use Rattle.std.specs.Prelude.{true};
 
 use crate::tests::asserted::same;
@@ -18,6 +18,7 @@ mod cuts;
 mod devices;
 mod example;
 mod filters;
+mod large;
 mod memory;
 mod nests;
 mod rows;

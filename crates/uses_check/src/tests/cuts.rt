@@ -2,14 +2,15 @@
 
 use crate::tests::asserted::{holds, same};
 use crate::tests::{
-    ABC_NULL_REF, ARRAY_LIST, ENUM_CONSTANT, INT_ARRAY, LAX, LINKED_PAIR, PROXY, RESET_EPOCHS,
-    Wanted, answer_in_pieces, assert_answer, wanted_answer, with_filter, with_stream,
+    ARRAY_LIST, ENUM_CONSTANT, LAX, LINKED_PAIR, Wanted, answer_in_pieces, assert_answer,
+    wanted_answer, with_filter, with_stream,
 };
 use jser_check::{CheckFault, Reason, Refusal, Report, Stop, check_bytes};
 use jser_filter::Filter;
 use std::alloc::AllocGlobal;
 use std::process::Abort;
 use std::test::Fail;
+use test_support::streams::{STREAMS, nest};
 
 /// The answer is yes, or Truncated at so many bytes.
 fn is_cut_at(answer: Result<Report, Stop>, cut: usize) -> bool {
@@ -22,38 +23,24 @@ fn is_cut_at(answer: Result<Report, Stop>, cut: usize) -> bool {
     }
 }
 
-/// Each beginning of the bytes of this text is a stream, or Truncated at its end.
-fn assert_cuts(rt: &(impl Abort + AllocGlobal), filter: &Filter, text: &str, bytes: &[u8]) {
+/// Each beginning of these bytes is a stream, or Truncated at its end.
+fn assert_cuts(rt: &(impl Abort + AllocGlobal), filter: &Filter, name: &str, bytes: &[u8]) {
     for cut in 0..bytes.len() {
         let (front, _) = bytes.split_at(cut);
         let answer = check_bytes(rt.alloc(), front, filter, LAX);
         holds(
             rt,
             is_cut_at(answer, cut),
-            format_args!("{text} cut after {cut} bytes"),
+            format_args!("{name} cut after {cut} bytes"),
         );
-        assert_answer(rt, text, front, filter, LAX, answer);
+        assert_answer(rt, name, front, filter, LAX, answer);
     }
 }
 
-/// The streams that are cut.
-const CUT_STREAMS: [&str; 7] = [
-    ABC_NULL_REF,
-    LINKED_PAIR,
-    INT_ARRAY,
-    ENUM_CONSTANT,
-    PROXY,
-    RESET_EPOCHS,
-    ARRAY_LIST,
-];
-
-/// The same of each of the streams.
+/// The same of each of the worked streams.
 fn assert_each_cut(rt: &(impl Abort + AllocGlobal), filter: &Filter) -> Result<(), Fail> {
-    for text in CUT_STREAMS {
-        with_stream(rt, text, |rt, bytes| {
-            assert_cuts(rt, filter, text, bytes);
-            Ok(())
-        })?;
+    for (name, bytes) in STREAMS {
+        assert_cuts(rt, filter, name, bytes);
     }
     Ok(())
 }
@@ -61,6 +48,28 @@ fn assert_each_cut(rt: &(impl Abort + AllocGlobal), filter: &Filter) -> Result<(
 #[test]
 fn cuts(rt: HostRuntime) -> Result<(), Fail> {
     with_filter(&rt, "", |rt, filter| assert_each_cut(rt, filter))
+}
+
+/// Each beginning of these bytes is a stream, or Truncated at its end, for the check of a slice.
+fn assert_slices_cut(rt: &(impl Abort + AllocGlobal), filter: &Filter, bytes: &[u8]) {
+    for cut in 0..bytes.len() {
+        let (front, _) = bytes.split_at(cut);
+        let answer = check_bytes(rt.alloc(), front, filter, LAX);
+        holds(
+            rt,
+            is_cut_at(answer, cut),
+            format_args!("arrays 999 deep, cut after {cut} bytes"),
+        );
+    }
+}
+
+#[test]
+fn cuts_of_nest_999(rt: HostRuntime) -> Result<(), Fail> {
+    let bytes = nest(rt.alloc(), 999)?;
+    with_filter(&rt, "", |rt, filter| {
+        assert_slices_cut(rt, filter, &bytes);
+        Ok(())
+    })
 }
 
 /// The row `linked-pair-cuts`: where the linked pair may end, and where its fields are cut.

@@ -2,7 +2,8 @@
 //! refused in turn.
 
 use crate::tests::asserted::holds;
-use crate::tests::{ARRAY_LIST, ENUM_CONSTANT, LAX, LINKED_PAIR, report, stream};
+use crate::tests::rows::{ACCEPTED, REFUSED};
+use crate::tests::{LAX, stream, wanted_answer};
 use jser_check::{CheckFault, Report, Stop, check_bytes, check_reader};
 use jser_filter::Filter;
 use jser_prim::FromRead;
@@ -18,39 +19,51 @@ fn setting(alloc: Global, text: &str) -> Result<(Vec<u8>, Filter), AllocError> {
     }
 }
 
-/// Both checks answer these counts, or that memory ran out.
-fn assert_counts_or_out_of_memory(rt: &(impl Abort + AllocGlobal), text: &str, counts: Report) {
+/// Both checks answer this, or that memory ran out.
+fn right_or_out_of_memory(
+    rt: &(impl Abort + AllocGlobal),
+    text: &str,
+    wanted: Result<Report, Stop>,
+) {
     if let Ok((bytes, filter)) = setting(rt.alloc(), text) {
-        assert_both_answer(rt, &bytes, &filter, counts);
+        assert_both_answer(rt, &bytes, &filter, wanted);
     }
 }
 
-/// Both checks of the bytes answer these counts, or that memory ran out.
+/// Both checks of the bytes answer this, or that memory ran out.
 fn assert_both_answer(
     rt: &(impl Abort + AllocGlobal),
     bytes: &[u8],
     filter: &Filter,
-    counts: Report,
+    wanted: Result<Report, Stop>,
 ) {
     let answer = check_bytes(rt.alloc(), bytes, filter, LAX);
-    let right = answer == Ok(counts) || answer == Err(Stop::OutOfMemory);
+    let right = answer == wanted || answer == Err(Stop::OutOfMemory);
     holds(
         rt,
         right,
-        format_args!("{counts:?} or out of memory: {answer:?}"),
+        format_args!("{wanted:?} or out of memory: {answer:?}"),
     );
     let answer = check_reader(rt.alloc(), &mut FromRead::new(bytes), filter, LAX);
-    let right = answer == Ok(counts) || answer == Err(CheckFault::Stop(Stop::OutOfMemory));
+    let right = answer == wanted.map_err(CheckFault::Stop)
+        || answer == Err(CheckFault::Stop(Stop::OutOfMemory));
     holds(
         rt,
         right,
-        format_args!("{counts:?} or out of memory: {answer:?}"),
+        format_args!("{wanted:?} or out of memory: {answer:?}"),
     );
 }
 
 #[test]
-fn counts_or_out_of_memory(rt: HostRuntime) {
-    assert_counts_or_out_of_memory(&rt, LINKED_PAIR, report(69, 2, 5, 3, 4));
-    assert_counts_or_out_of_memory(&rt, ENUM_CONSTANT, report(55, 1, 3, 3, 4));
-    assert_counts_or_out_of_memory(&rt, ARRAY_LIST, report(62, 1, 3, 2, 3));
+fn accepted_or_out_of_memory(rt: HostRuntime) {
+    for (_, text, wanted) in ACCEPTED {
+        right_or_out_of_memory(&rt, text, wanted_answer(wanted));
+    }
+}
+
+#[test]
+fn refused_or_out_of_memory(rt: HostRuntime) {
+    for (_, text, wanted) in REFUSED {
+        right_or_out_of_memory(&rt, text, wanted_answer(wanted));
+    }
 }

@@ -11,10 +11,10 @@ use std::process::Abort;
 use std::test::Fail;
 
 /// The name of a row, its stream, and what is wanted.
-type Row = (&'static str, &'static str, Wanted);
+pub(crate) type Row = (&'static str, &'static str, Wanted);
 
 /// Streams that are accepted.
-const ACCEPTED: [Row; 16] = [
+pub(crate) const ACCEPTED: [Row; 16] = [
     ("empty-stream", "ACED0005", Ok([4, 0, 0, 0, 0])),
     ("abc-null-ref", ABC_NULL_REF, Ok([16, 3, 3, 1, 1])),
     ("linked-pair", LINKED_PAIR, Ok([69, 2, 5, 3, 4])),
@@ -64,7 +64,7 @@ const ACCEPTED: [Row; 16] = [
 ];
 
 /// Bytes whose refusal is by the header, by a tag, by a handle or by a length.
-const REFUSED: [Row; 18] = [
+pub(crate) const REFUSED: [Row; 18] = [
     ("empty-stream, no bytes", "", Err((Reason::Truncated, 0, 0))),
     (
         "empty-stream, one byte",

@@ -1,12 +1,11 @@
 use Rattle.std.proofs.Common.{length, rules}
-use Rattle.jser_check.proofs.FeedLemmas.{stops_skip}
 use Rattle.jser_check.proofs.SourceLemmas.{read_stopped}
 use Rattle.jser_check.proofs.reader.read_some.Goals as goal
 
-pub returns-in-Err-skip-clause-tells : goal.returns-in-Err-skip-clause-tells
-returns-in-Err-skip-clause-tells g c =
-    read_stopped g.G.Gate.told c.args.reader.now c.skip.new.self _ _ c.take.new.buf c.split_at.result.0.now c.in-Ok.count (length c.args.buffer.now)
-    c.in-Err-skip.stop c.split_at.ensures.front c.in-Ok.ensures.within (search rules) c.in-Ok.ensures.bytes.0 (stops_skip g.G.Gate.told c.args.reader.now c.skip.new.self c.split_at.result.0.now c.in-Err-skip.stop c.in-Err-skip.ensures.tells)
+pub returns-in-Err-feed-clause-tells : goal.returns-in-Err-feed-clause-tells
+returns-in-Err-feed-clause-tells g c =
+    read_stopped g.G.Gate.told c.args.check.now c.feed.new.self _ _ c.take.new.buf c.split_at.result.0.now c.in-Ok.count (length c.args.buffer.now)
+    c.in-Err-feed.stop c.split_at.ensures.front c.in-Ok.ensures.within (search rules) c.in-Ok.ensures.bytes.0 c.in-Err-feed.ensures.tells
 
 -- The check finds what follows with no answer too; with one, it refuses a wrong body sooner.
 

@@ -6,7 +6,7 @@ use Rattle.jser_check.proofs.reader.read_whole.Given as goal
 -- what was read came off the source and was taken, and no read has failed
 abbrev pub invariant-reads : goal.invariant-reads
 invariant-reads g l = record {
-  taken : Taken g.G.Gate.told l.fn.reader l.reader (g.R.Source.to_come l.fn.source) (g.R.Source.to_come l.source) l.taken;
+  taken : Taken g.G.Gate.told l.fn.check l.check (g.R.Source.to_come l.fn.source) (g.R.Source.to_come l.source) l.taken;
   short : l.taken ≤ most_bytes;
   room : vec_len l.buffer ≡ read_bytes;
   failed : g.R.Source.has_failed l.source ≡ g.R.Source.has_failed l.fn.source;

@@ -1,0 +1,71 @@
+//! Streams that come in pieces, one after another.
+ghost use Rattle.std.specs.Prelude.{◌≡◌, ℕ, List, ◌++◌, true, string_bytes, IfOk, IfErr, IfSome};
+ghost use Rattle.jser_check.specs.Answers.{IfRefused, Reports, Refuses, CarriesFirst, DecideNothing};
+ghost use Rattle.jser_check.specs.Checks.{gate_in, HasTaken, Repeats, IsOver};
+ghost use Rattle.jser_reader.specs.declared.Refusal.{Refusal};
+ghost use Rattle.jser_check.specs.FaultTexts.{check_fault_text};
+
+use jser_check::{CheckFault, Checker, Report, Stop};
+use std::alloc::{AllocError, Global};
+
+/// Checks the next message of a connection, which came whole. Whatever the one before it was, the answer is that of
+/// `check_bytes`.
+///
+/// # Errors
+///
+/// As `check_bytes`.
+pub fn check_message(checker: &mut Checker, message: &[u8]) -> Result<Report, Stop>
+    ensures accepted { IfOk result (Reports checker.old.gate.filter checker.old.gate.options message.now) }
+    ensures refused { IfErr result (IfRefused (Refuses checker.old.gate.filter checker.old.gate.options message.now)) }
+    ensures first { IfErr result (IfRefused (CarriesFirst (gate_in checker.old) message.now)) }
+{
+    checker.restart();
+    match checker.feed(message) {
+        Ok(()) => checker.finish(),
+        Err(stop) => Err(stop),
+    }
+}
+
+/// Takes the piece, and returns whether the stream may go on.
+pub fn may_go_on(checker: &mut Checker, piece: &[u8]) -> bool
+    ensures takes { (taken : List ℕ) → HasTaken checker.old taken → result ≡ true → HasTaken checker.new (taken ++ piece.now) }
+    ensures undecided { (taken : List ℕ) → HasTaken checker.old taken → result ≡ true → DecideNothing (gate_in checker.old) (taken ++ piece.now) }
+{
+    match checker.feed(piece) {
+        Ok(()) => true,
+        Err(_) => false,
+    }
+}
+
+/// What a check answers to a piece and then at the end that has refused bytes before.
+pub fn answers_again(
+    checker: &mut Checker,
+    piece: &[u8],
+) -> (Result<(), Stop>, Result<Report, Stop>)
+    ensures refused { (refusal : Refusal) → Repeats checker.old refusal → result ≡ (Err (Stop.Refused refusal), Err (Stop.Refused refusal)) }
+    ensures over { IsOver checker.old → result ≡ (Err Stop.Spent, Err Stop.Spent) }
+{
+    let fed = checker.feed(piece);
+    (fed, checker.finish())
+}
+
+/// Takes the piece; of a refusal, what the check answers at the end.
+pub fn refused_at_end(checker: &mut Checker, piece: &[u8]) -> Option<Result<Report, Stop>>
+    ensures { (taken : List ℕ) → HasTaken checker.old taken → IfSome result (λ answer. IfErr answer (IfRefused (Repeats checker.new))) }
+{
+    match checker.feed(piece) {
+        Err(Stop::Refused(_)) => Some(checker.finish()),
+        _ => None,
+    }
+}
+
+/// The line of a log that tells why a check stopped.
+///
+/// # Errors
+///
+/// `AllocError` where there was no memory for the line.
+pub fn log_line(alloc: Global, stop: Stop) -> Result<String, AllocError>
+    ensures { IfOk result (λ line. string_bytes line ≡ check_fault_text (CheckFault.Stop stop)) }
+{
+    CheckFault::from(stop).to_string(alloc)
+}
