@@ -1,0 +1,228 @@
+-- Past bytes that begin no name, where none is being read.
+use Rattle.std.proofs.Common.{◌≡◌, ℕ, zero, suc, ◌+◌, ◌-◌, ◌<◌, ◌≤◌, ◌∙◌, ap, sym, subst, Bool, true, false, ◌&&◌, ◌||◌, ◌==◌, ◌⊎◌, inl, inr, Option, Some, None, List, [], ◌∷◌, ◌++◌, length, take, reverse, refl, arith, length-append, append_assoc, get_or}
+use Rattle.std.specs.Prelude.{nat_le, IfSome}
+use Rattle.std.specs.Option.{is_some}
+use Rattle.std.proofs.lemmas.Bool.{cases_lt}
+use Rattle.std.proofs.lemmas.Bool.Decides.{nat_tests}
+use Rattle.std.proofs.lemmas.List.{length-reverse, reverse-append, take_more, length-take-le, get_or-take, get_or-reverse, get_or_append_left, get_or_default}
+use Rattle.jser_anywhere.specs.Standing.{AllPass}
+use Rattle.jser_anywhere.specs.Stages.{Stage, nothing, in_text, next, ended}
+use Rattle.jser_anywhere.specs.Slots.{Slot, slots_of, ago, new_name, new_row, is_hidden, lower_of, hidden_place}
+use Rattle.jser_anywhere.specs.declared.recent.Recent.{Recent}
+use Rattle.jser_anywhere.specs.Steps.{Scanning, is_busy, recent_of, may_begin, IsQuiet, recent_in, past}
+use Rattle.jser_anywhere.specs.Scans.{AreBytes, Fed, name_stage, row_stage, SkipFits, HasScanned, TakesBytes, Hurries, most_taken}
+use Rattle.jser_anywhere.proofs.StageLemmas.{high_out}
+use Rattle.jser_anywhere.proofs.SlotLemmas.{NewName, NewRow, new_name_cases, new_row_cases}
+use Rattle.jser_anywhere.proofs.SlotLemmas as slot
+use Rattle.jser_anywhere.proofs.ScanLemmas.{TellsByte, tells_byte, all_pass_more}
+use Rattle.jser_anywhere.proofs.TakeLemmas.{back_more, fed_more}
+
+-- ---- no name begins
+
+abbrev Begins : List ℕ → Bool
+Begins back = nat_le (ago back 0) 4 && (ago back 1 == 0x72 || ago back 5 == 0x7D)
+
+small_is : (high : ℕ) → in_text high ≡ false → nat_le high 4 ≡ true
+small_is high e = grind (arith, nat_tests, e)
+
+with_mark : (high : ℕ) (b : Bool) → nat_le high 4 ≡ true → (nat_le high 4 && (true || b)) ≡ true
+with_mark high b e = cc
+
+with_row : (high : ℕ) (b : Bool) → nat_le high 4 ≡ true → (nat_le high 4 && (b || true)) ≡ true
+with_row high true e = cc
+with_row high false e = cc
+
+clash : (b : Bool) → b ≡ true → b ≡ false → ⊥
+clash b e f = let g : true ≡ false = sym e ∙ f in absurd cc
+
+no_name : (back : List ℕ) (byte : ℕ) → Begins back ≡ false → new_name back byte ≡ nothing
+no_name back byte quiet = elim (new_name_cases back byte) [
+  | inl none ↦ none
+  | inr new ↦ absurd (clash (Begins back) (ap Begins new.split ∙ with_mark new.high (ago (new.high ∷ 0x72 ∷ new.rest) 5 == 0x7D) (small_is new.high (high_out new.high byte new.is))) quiet)
+]
+
+no_row : (back : List ℕ) (byte : ℕ) → Begins back ≡ false → new_row back byte ≡ nothing
+no_row back byte quiet = elim (new_row_cases back byte) [
+  | inl none ↦ none
+  | inr new ↦ absurd (clash (Begins back) (ap Begins new.split ∙ with_row new.high (new.count_low == 0x72) (small_is new.high (high_out new.high byte new.is))) quiet)
+]
+
+-- ---- one byte
+
+record Quiet (passes : List ℕ → Bool) (taken : List ℕ) : Type 0 where
+  pub are : AreBytes (reverse taken)
+  pub pass : AllPass passes taken
+  pub name : (slots_of (reverse taken)).name.stage ≡ nothing
+  pub row : (slots_of (reverse taken)).row.stage ≡ nothing
+
+none_ends : (passes : List ℕ → Bool) (byte : ℕ) (stage : Stage) → stage ≡ nothing → is_hidden passes (ended stage byte) ≡ false
+none_ends passes byte stage e = ap (λ s. is_hidden passes (ended s byte)) e
+
+quiet_byte : (passes : List ℕ → Bool) (taken : List ℕ) (byte : ℕ) → Quiet passes taken → byte < 256 → Begins (reverse taken) ≡ false → Quiet passes (taken ++ byte ∷ [])
+quiet_byte passes taken byte q small begins =
+    let back = reverse taken in
+    let slots = slots_of back in
+    let none : hidden_place passes slots byte ≡ None =
+    ap (λ b. lower_of b (is_hidden passes (ended slots.row.stage byte)) slots.name.place slots.row.place) (none_ends passes byte slots.name.stage q.name)
+    ∙ ap (λ b. lower_of false b slots.name.place slots.row.place) (none_ends passes byte slots.row.stage q.row) in
+    record {
+      are = subst (λ (bs : List ℕ). AreBytes bs) (back_more taken byte) (small, q.are);
+      pass = all_pass_more passes taken byte q.pass (subst (λ o. TellsByte passes taken byte o) none (tells_byte passes taken byte q.are));
+      name = subst (λ (bs : List ℕ). (slots_of bs).name.stage ≡ nothing) (back_more taken byte)
+          (ap (λ (s : Slot). s.stage) (slot.name_moved back byte slots.name (no_name back byte begins)) ∙ ap (λ s. next s byte) q.name);
+      row = subst (λ (bs : List ℕ). (slots_of bs).row.stage ≡ nothing) (back_more taken byte)
+          (ap (λ (s : Slot). s.stage) (slot.row_moved back byte slots.row (no_row back byte begins)) ∙ ap (λ s. next s byte) q.row);
+    }
+
+-- ---- the last bytes are those of the piece
+
+ago_in : (taken piece : List ℕ) (at k d : ℕ) → at ≤ length piece → k < at → get_or (reverse (taken ++ take at piece)) k d ≡ get_or piece (at - 1 - k) 0
+ago_in taken piece at k d within inside =
+    let long = length-take-le at piece within in
+    ap (λ (xs : List ℕ). get_or xs k d) (reverse-append taken (take at piece))
+    ∙ get_or_append_left (reverse (take at piece)) (reverse taken) d k (omega (arith, length-reverse (take at piece), long, inside))
+    ∙ get_or-reverse (take at piece) k d (omega (arith, long, inside))
+    ∙ ap (λ (n : ℕ). get_or (take at piece) (n - 1 - k) d) long
+    ∙ get_or-take at piece (at - 1 - k) d (omega (arith, inside))
+    ∙ get_or_default piece (at - 1 - k) d 0 (omega (arith, inside, within))
+
+less_less : (at k m : ℕ) → m ≡ k + 1 → at - 1 - k ≡ at - m
+less_less at k m e = omega arith
+
+begins_in : (taken piece : List ℕ) (at : ℕ) → at ≤ length piece → 6 ≤ at → Begins (reverse (taken ++ take at piece)) ≡ may_begin piece at
+begins_in taken piece at within six =
+    let back = reverse (taken ++ take at piece) in
+    ap (λ (n : ℕ). nat_le n 4 && (ago back 1 == 0x72 || ago back 5 == 0x7D)) (ago_in taken piece at 0 0xFF within (omega arith) ∙ ap (λ (n : ℕ). get_or piece n 0) (less_less at 0 1 (omega arith)))
+    ∙ ap (λ (n : ℕ). nat_le (get_or piece (at - 1) 0) 4 && (n == 0x72 || ago back 5 == 0x7D)) (ago_in taken piece at 1 0xFF within (omega arith) ∙ ap (λ (n : ℕ). get_or piece n 0) (less_less at 1 2 (omega arith)))
+    ∙ ap (λ (n : ℕ). nat_le (get_or piece (at - 1) 0) 4 && (get_or piece (at - 2) 0 == 0x72 || n == 0x7D)) (ago_in taken piece at 5 0xFF within (omega arith) ∙ ap (λ (n : ℕ). get_or piece n 0) (less_less at 5 6 (omega arith)))
+
+quiet_run : (passes : List ℕ → Bool) (taken piece : List ℕ) (from k : ℕ) → Quiet passes (taken ++ take from piece) → 6 ≤ from → from + k ≤ length piece
+    → ((at : ℕ) → from ≤ at → at < from + k → may_begin piece at ≡ false) → ((at : ℕ) → from ≤ at → at < from + k → get_or piece at 0 < 256)
+    → Quiet passes (taken ++ take (from + k) piece)
+quiet_run passes taken piece from zero q six within none small = subst (λ (n : ℕ). Quiet passes (taken ++ take n piece)) (omega arith) q
+quiet_run passes taken piece from (suc k) q six within none small =
+    let before = quiet_run passes taken piece from k q six (omega arith) (λ at lower upper. none at lower (omega arith)) (λ at lower upper. small at lower (omega arith)) in
+    let here = from + k in
+    let more = quiet_byte passes (taken ++ take here piece) (get_or piece here 0) before (small here (omega arith) (omega arith))
+    (begins_in taken piece here (omega arith) (omega arith) ∙ none here (omega arith) (omega arith)) in
+    subst (λ (xs : List ℕ). Quiet passes xs) (append_assoc taken (take here piece) (get_or piece here 0 ∷ [])
+    ∙ ap (λ (xs : List ℕ). taken ++ xs) (sym (take_more piece here 0 (omega arith))) ∙ ap (λ (n : ℕ). taken ++ take n piece) (omega arith)) more
+
+-- ---- the bytes that are passed
+
+pub quiet_none : (piece : List ℕ) (from : ℕ) → from ≤ length piece → IsQuiet piece from from
+quiet_none piece from within = record {
+  ordered = omega arith;
+  within = within;
+  none = λ at lower upper. absurd (omega (arith, lower, upper));
+  bytes = λ at lower upper. absurd (omega (arith, lower, upper));
+}
+
+before_or_at : (at to : ℕ) → at < to + 1 → (at < to) ⊎ (at ≡ to)
+before_or_at at to less = elim (cases_lt at to) [ inl l ↦ inl l | inr not ↦ inr (omega arith) ]
+
+pub quiet_more : (piece : List ℕ) (from to : ℕ) (begins : Bool) → IsQuiet piece from to → to < length piece → begins ≡ may_begin piece to → begins ≡ false → get_or piece to 0 < 256
+    → IsQuiet piece from (to + 1)
+quiet_more piece from to begins q less is quiet small = record {
+  ordered = omega (arith, q.ordered);
+  within = omega arith;
+  none = λ at lower upper. elim (before_or_at at to upper) [
+    | inl l ↦ q.none at lower l
+    | inr e ↦ ap (λ (n : ℕ). may_begin piece n) e ∙ sym is ∙ quiet
+  ];
+  bytes = λ at lower upper. elim (before_or_at at to upper) [
+    | inl l ↦ q.bytes at lower l
+    | inr e ↦ subst (λ (n : ℕ). get_or piece n 0 < 256) (sym e) small
+  ];
+}
+
+pub quiet_whole : (piece : List ℕ) (from to : ℕ) → IsQuiet piece from to → length piece ≤ to → IsQuiet piece from (length piece)
+quiet_whole piece from to q all = subst (λ (n : ℕ). IsQuiet piece from n) (omega (arith, q.within)) q
+
+quiet_of : (passes : List ℕ → Bool) (taken : List ℕ) (scan : Scanning) → HasScanned passes taken scan → scan.name ≡ None → scan.row ≡ None → Quiet passes taken
+quiet_of passes taken scan s no_name no_row = record {
+  are = s.bytes;
+  pass = s.pass;
+  name = s.follows.name ∙ ap (λ n. name_stage n scan.kept) no_name;
+  row = s.follows.row ∙ ap (λ r. row_stage r scan.kept) no_row;
+}
+
+abbrev the_recent : (a b c d e f : ℕ) → Recent
+the_recent a b c d e f = record { last = a; second = b; third = c; fourth = d; fifth = e; sixth = f }
+
+same_recent : (a b c d e f u v w x y z : ℕ) → a ≡ u → b ≡ v → c ≡ w → d ≡ x → e ≡ y → f ≡ z
+    → the_recent a b c d e f ≡ the_recent u v w x y z
+same_recent a b c d e f u v w x y z p q r s t o = cc
+
+recent_same : (taken piece : List ℕ) (to : ℕ) → to ≤ length piece → 6 ≤ to → recent_in piece to ≡ recent_of (reverse (taken ++ take to piece))
+recent_same taken piece to within six =
+    let back = reverse (taken ++ take to piece) in
+    let a : get_or piece (to - 1) 0 ≡ ago back 0 = ap (λ (n : ℕ). get_or piece n 0) (sym (less_less to 0 1 (omega arith))) ∙ sym (ago_in taken piece to 0 0xFF within (omega arith)) in
+    let b : get_or piece (to - 2) 0 ≡ ago back 1 = ap (λ (n : ℕ). get_or piece n 0) (sym (less_less to 1 2 (omega arith))) ∙ sym (ago_in taken piece to 1 0xFF within (omega arith)) in
+    let c : get_or piece (to - 3) 0 ≡ ago back 2 = ap (λ (n : ℕ). get_or piece n 0) (sym (less_less to 2 3 (omega arith))) ∙ sym (ago_in taken piece to 2 0xFF within (omega arith)) in
+    let d : get_or piece (to - 4) 0 ≡ ago back 3 = ap (λ (n : ℕ). get_or piece n 0) (sym (less_less to 3 4 (omega arith))) ∙ sym (ago_in taken piece to 3 0xFF within (omega arith)) in
+    let e : get_or piece (to - 5) 0 ≡ ago back 4 = ap (λ (n : ℕ). get_or piece n 0) (sym (less_less to 4 5 (omega arith))) ∙ sym (ago_in taken piece to 4 0xFF within (omega arith)) in
+    let f : get_or piece (to - 6) 0 ≡ ago back 5 = ap (λ (n : ℕ). get_or piece n 0) (sym (less_less to 5 6 (omega arith))) ∙ sym (ago_in taken piece to 5 0xFF within (omega arith)) in
+    same_recent (get_or piece (to - 1) 0) (get_or piece (to - 2) 0) (get_or piece (to - 3) 0) (get_or piece (to - 4) 0) (get_or piece (to - 5) 0) (get_or piece (to - 6) 0)
+    (ago back 0) (ago back 1) (ago back 2) (ago back 3) (ago back 4) (ago back 5) a b c d e f
+
+past_scanned : (passes : List ℕ → Bool) (taken piece : List ℕ) (old : Scanning) (at to : ℕ) → 6 ≤ at → old.name ≡ None → old.row ≡ None → IsQuiet piece at to
+    → length taken + length (take to piece) ≤ most_taken → HasScanned passes (taken ++ take at piece) old → HasScanned passes (taken ++ take to piece) (past old piece at to)
+past_scanned passes taken piece old at to six no_name no_row q fits s =
+    let long_at = length-take-le at piece (omega (arith, q.ordered, q.within)) in
+    let long_to = length-take-le to piece q.within in
+    let run = quiet_run passes taken piece at (to - at) (quiet_of passes (taken ++ take at piece) old s no_name no_row) six (omega (arith, q.ordered, q.within))
+    (λ n lower upper. q.none n lower (omega (arith, upper, q.ordered))) (λ n lower upper. q.bytes n lower (omega (arith, upper, q.ordered))) in
+    let there = subst (λ (n : ℕ). Quiet passes (taken ++ take n piece)) (omega (arith, q.ordered)) run in
+    record {
+      bytes = there.are;
+      pass = there.pass;
+      follows = record {
+        count = omega (arith, s.follows.count, fits, q.ordered, long_at, long_to, length-reverse (taken ++ take at piece), length-reverse (taken ++ take to piece), length-append taken (take at piece), length-append taken (take to piece));
+        recent = recent_same taken piece to q.within (omega (arith, q.ordered, six));
+        name = there.name ∙ sym (ap (λ n. name_stage n []) no_name);
+        name_place = subst (λ n. IfSome n (λ x. (slots_of (reverse (taken ++ take to piece))).name.place ≡ x.place)) (sym no_name) tt;
+        row = there.row ∙ sym (ap (λ r. row_stage r []) no_row);
+        row_place = subst (λ r. IfSome r (λ x. (slots_of (reverse (taken ++ take to piece))).row.place ≡ x.place)) (sym no_row) tt;
+        skips = subst (λ r. IfSome r (λ x. SkipFits x.at [])) (sym no_row) tt;
+      };
+    }
+
+none_of : {A : Type 0} → (o : Option A) → is_some o ≡ false → o ≡ None
+none_of None e = refl
+none_of (Some x) e = absurd cc
+
+pub hurries_none : (scan : Scanning) (piece : List ℕ) (at : ℕ) → at ≤ length piece → Hurries scan scan piece at at
+hurries_none scan piece at within = record { ordered = omega arith; within = within; takes = λ passes start t. t }
+
+takes_past : (old : Scanning) (piece : List ℕ) (at to : ℕ) → 6 ≤ at → old.name ≡ None → old.row ≡ None → IsQuiet piece at to
+    → (passes : List ℕ → Bool) (start : Scanning) → TakesBytes passes start old (take at piece) None → TakesBytes passes start (past old piece at to) (take to piece) None
+unfolding TakesBytes
+takes_past old piece at to six no_name no_row q passes start t = λ taken fits s.
+    let long_at = length-take-le at piece (omega (arith, q.ordered, q.within)) in
+    let long_to = length-take-le to piece q.within in
+    past_scanned passes taken piece old at to six no_name no_row q fits (t taken (omega (arith, fits, q.ordered, long_at, long_to)) s)
+
+both_none : (a b : Bool) → (a || b) ≡ false → (a ≡ false) × (b ≡ false)
+both_none true b e = absurd cc
+both_none false b e = (refl, e)
+
+pub hurried : (old new : Scanning) (piece : List ℕ) (at to : ℕ) (busy : Bool) → 6 ≤ at → busy ≡ is_busy old → busy ≡ false → IsQuiet piece at to
+    → new ≡ past old piece at to → Hurries old new piece at to
+hurried old new piece at to busy six b idle q e =
+    let none = both_none (is_some old.name) (is_some old.row) (sym b ∙ idle) in
+    record {
+      ordered = q.ordered;
+      within = q.within;
+      takes = λ passes start t. subst (λ (x : Scanning). TakesBytes passes start x (take to piece) None) (sym e)
+          (takes_past old piece at to six (none_of old.name none.0) (none_of old.row none.1) q passes start t);
+    }
+
+-- one byte, and then those that begin no name
+pub fed_on : (passes : List ℕ → Bool) (start old between new : Scanning) (piece : List ℕ) (at next_at to byte : ℕ) → Fed passes start old piece at → at < length piece → byte ≡ get_or piece at 0
+    → TakesBytes passes old between (byte ∷ []) None → next_at ≡ at + 1 → Hurries between new piece next_at to → Fed passes start new piece to
+fed_on passes start old between new piece at next_at to byte fed less is took after h = record {
+  within = h.within;
+  takes = h.takes passes start (subst (λ (n : ℕ). TakesBytes passes start between (take n piece) None) (sym after)
+      (fed_more passes start old between piece at fed.takes less (subst (λ (n : ℕ). TakesBytes passes old between (n ∷ []) None) is took)));
+}

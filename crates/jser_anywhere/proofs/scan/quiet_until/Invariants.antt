@@ -1,0 +1,5 @@
+use Rattle.jser_anywhere.specs.Steps.{IsQuiet}
+use Rattle.jser_anywhere.proofs.scan.quiet_until.Given as goal
+
+abbrev pub invariant-bytes : goal.invariant-bytes
+invariant-bytes l = IsQuiet l.piece l.from l.at

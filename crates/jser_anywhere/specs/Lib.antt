@@ -1,0 +1,12 @@
+pub mod Texts
+pub mod Names
+pub mod LoadableNames
+pub mod Standing
+pub mod Search
+pub mod Worked
+pub mod Laws
+pub mod LooseText
+pub mod Stages
+pub mod Slots
+pub mod Steps
+pub mod Scans

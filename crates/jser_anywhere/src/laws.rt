@@ -1,0 +1,25 @@
+//! Laws of the definitions alone.
+ghost use Rattle.jser_anywhere.specs.Laws.{StandsForGood};
+ghost use Rattle.jser_anywhere.specs.LoadableNames.{ReadsLoadable};
+ghost use Rattle.jser_anywhere.specs.LooseText.{ReadsLoose};
+ghost use Rattle.jser_anywhere.specs.Worked.{WorkedRows};
+
+/// What stands in some short bytes.
+pub fn worked_rows()
+    ensures { WorkedRows }
+{}
+
+/// What stands in some bytes stands in all that begin with them.
+pub fn stands_for_good()
+    ensures { StandsForGood }
+{}
+
+/// The reader of loose text tells the units of each row of groups, and of nothing else.
+pub fn reads_loose()
+    ensures { ReadsLoose }
+{}
+
+/// The reader of names takes each loadable name, and nothing else.
+pub fn reads_loadable()
+    ensures { ReadsLoadable }
+{}

@@ -1,0 +1,96 @@
+//! The last bytes, and what begins with the next one.
+ghost use Rattle.std.specs.Prelude.{◌≡◌};
+ghost use Rattle.jser_anywhere.specs.Steps.{left_of, name_left, no_recent, row_left, with_byte};
+
+/// The last six bytes. Where there were not so many, 0xFF stands for those that are missing: no name begins with it.
+#[derive(Clone, Copy, Debug)]
+pub(crate) struct Recent {
+    pub(crate) last: u8,
+    pub(crate) second: u8,
+    pub(crate) third: u8,
+    pub(crate) fourth: u8,
+    pub(crate) fifth: u8,
+    pub(crate) sixth: u8,
+}
+
+/// A name whose length was just read.
+#[derive(Clone, Copy, Debug)]
+pub(crate) struct Begun {
+    /// How many names of its row may follow it.
+    pub(crate) more: u16,
+    /// How many bytes follow the next one.
+    pub(crate) left: u16,
+}
+
+/// How many bytes follow the next one of a name of this length, if it is the length of a name.
+pub(crate) fn left_of(high: u8, low: u8) -> Option<u16>
+    ensures { result ≡ left_of high low }
+{
+    let len = u16::from(high) * 256 + u16::from(low);
+    if len >= 1 && len <= 1279 {
+        Some(len - 1)
+    } else {
+        None
+    }
+}
+
+impl Recent {
+    /// No bytes.
+    pub(crate) fn none() -> Recent
+        ensures { result ≡ no_recent }
+    {
+        Recent {
+            last: 0xFF,
+            second: 0xFF,
+            third: 0xFF,
+            fourth: 0xFF,
+            fifth: 0xFF,
+            sixth: 0xFF,
+        }
+    }
+
+    /// One byte more.
+    pub(crate) fn with_byte(self, byte: u8) -> Recent
+        ensures { result ≡ with_byte self byte }
+    {
+        Recent {
+            last: byte,
+            second: self.last,
+            third: self.second,
+            fourth: self.third,
+            fifth: self.fourth,
+            sixth: self.fifth,
+        }
+    }
+
+    /// The descriptor's name whose length ends with the next byte.
+    pub(crate) fn name_left(self, byte: u8) -> Option<u16>
+        ensures { result ≡ name_left self byte }
+    {
+        if self.second == 0x72 {
+            left_of(self.last, byte)
+        } else {
+            None
+        }
+    }
+
+    /// The first name of a row, whose length ends with the next byte.
+    pub(crate) fn row_left(self, byte: u8) -> Option<Begun>
+        ensures { result ≡ row_left self byte }
+    {
+        if self.sixth != 0x7D || self.fifth != 0 || self.fourth != 0 {
+            return None;
+        }
+        let count = u16::from(self.third) * 256 + u16::from(self.second);
+        if count == 0 {
+            return None;
+        }
+        match left_of(self.last, byte) {
+            Some(left) => Some(Begun {
+                more: count - 1,
+                left,
+            }),
+            None => None,
+        }
+    }
+}

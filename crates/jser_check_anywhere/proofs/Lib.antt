@@ -1,0 +1,3 @@
+pub mod AnywhereLemmas
+pub mod SourceLemmas
+pub mod JudgedLemmas

@@ -1,0 +1,336 @@
+-- Reads of a source, one after another, what the check took of them, and what it answers.
+use Rattle.std.specs.Prelude.{IfSome}
+use Rattle.std.specs.Io.KnownBytes.{Consumes, Keeps, IsAtEnd}
+use Rattle.std.proofs.KnownBytes.{Consumes-nil, Consumes-trans, Consumes-kept}
+use Rattle.std.proofs.Common.{◌≡◌, ◌≢◌, ◌⊎◌, Bool, ℕ, ◌+◌, ◌≤◌, ◌<◌, ◌∙◌, List, [], ◌∷◌, ◌++◌, length, take, drop, Result, Ok, Err, Option, Some, None, inl, inr, refl, sym, ap, subst, arith, append_assoc, append-nil, length-append, length-take-le, take-append-drop}
+use Rattle.std.proofs.lemmas.Bool.{cases_lt}
+use Rattle.jser_grammar.specs.Caps.{most_bytes}
+use Rattle.jser_reading.specs.Labels.{Label}
+use Rattle.jser_reading.specs.FieldBytes.{joined}
+use Rattle.jser_verdict.specs.Reasons.{truncated}
+use Rattle.jser_verdict.specs.Reasons.{Reason as ToldReason}
+use Rattle.jser_verdict.specs.Gates.{Gate}
+use Rattle.jser_verdict.specs.FirstFault.{IsFault, OpenAt}
+use Rattle.jser_filter.specs.Filters.{FilterView}
+use Rattle.jser_reader.specs.declared.Refusal.{Refusal}
+use Rattle.jser_reader.specs.declared.Stop.TheVariants as stop
+use Rattle.jser_reader.specs.declared.Totals.{Totals}
+use Rattle.jser_check.specs.declared.Options.{Options}
+use Rattle.jser_check.specs.Admitted.{FilterWith, gate_of_filter}
+use Rattle.jser_check.specs.Answers.{IsRightOf}
+use Rattle.jser_check.specs.Checks.{DecidesIn}
+use Rattle.jser_check.specs.Sources.{TakesAtMost, read_bytes}
+use Rattle.jser_check.proofs.AnswerLemmas.{front_refused, right_refuses, right_first}
+use Rattle.jser_anywhere.specs.Standing.{HiddenAt, IsFirstHidden}
+use Rattle.jser_anywhere.proofs.ScanLemmas.{front_of, hidden_shorter, hidden_within, first_longer}
+use Rattle.jser_check_anywhere.specs.Passing.{passes_name}
+use Rattle.jser_check_anywhere.specs.declared.fault.AnywhereFault.{AnywhereFault}
+use Rattle.jser_check_anywhere.specs.declared.fault.AnywhereFault.TheVariants as fault
+use Rattle.jser_check_anywhere.specs.Answers.{ReportsAnywhere, NoneSooner, NoFaultBy, TellsHidden, TellsFault, Checking, HasTaken, EndTells}
+use Rattle.jser_check_anywhere.specs.SourceAnswers.{HiddenIn, RefusedIn, FaultOf, SourceTells, Undecided, TakesFew, Answered, FailsWith, Came, StopsIn, SomeTells, Stopped, CameAll, WholeTells}
+use Rattle.jser_check_anywhere.proofs.AnywhereLemmas.{never_admitted, few_taken, taken_undecided}
+
+-- ---- one read
+
+pub some_came : (new : Checking) (taken buffer bytes : List ℕ) (had has : Option (List ℕ)) (count : ℕ) → bytes ≡ take count buffer → count ≤ length buffer
+    → Consumes had has (take count buffer) → HasTaken new (taken ++ bytes) → Came new taken had has count
+some_came new taken buffer bytes had has count e few off all = record {
+  bytes = bytes;
+  size = ap length e ∙ length-take-le count buffer few;
+  off = subst (Consumes had has) (sym e) off;
+  all = all;
+}
+
+pub none_came : (check : Checking) (taken : List ℕ) (had has : Option (List ℕ)) → Keeps had has → HasTaken check taken → Came check taken had has 0
+none_came check taken had has keeps h = record {
+  bytes = [];
+  size = refl;
+  off = Consumes-kept had had has [] (Consumes-nil had) keeps;
+  all = subst (λ (bs : List ℕ). HasTaken check bs) (sym (append-nil taken)) h;
+}
+
+stops_by : (filter : FilterView) (options : Options) (taken buffer bytes : List ℕ) (had has : Option (List ℕ)) (count : ℕ) (why : AnywhereFault) → bytes ≡ take count buffer → count ≤ length buffer
+    → Consumes had has (take count buffer) → TellsFault filter options taken bytes why → StopsIn filter options taken had has (length buffer) why
+stops_by filter options taken buffer bytes had has count why e few off tells =
+    let n : length bytes ≡ count = ap length e ∙ length-take-le count buffer few in
+    record { bytes = bytes; few = omega arith; off = subst (Consumes had has) (sym e) off; tells = tells }
+
+pub some_stops : (filter : FilterView) (options : Options) (new : Checking) (taken buffer bytes : List ℕ) (had has : Option (List ℕ)) (count : ℕ) (why : AnywhereFault) → bytes ≡ take count buffer → count ≤ length buffer
+    → Consumes had has (take count buffer) → TellsFault filter options taken bytes why → SomeTells filter options taken new had has (length buffer) (Err why)
+some_stops filter options new taken buffer bytes had has count (fault.Stop why) e few off tells = stops_by filter options taken buffer bytes had has count (fault.Stop why) e few off tells
+some_stops filter options new taken buffer bytes had has count fault.ReadFault e few off tells = absurd tells
+some_stops filter options new taken buffer bytes had has count (fault.Hidden from to) e few off tells = stops_by filter options taken buffer bytes had has count (fault.Hidden from to) e few off tells
+
+-- ---- several
+
+pub came_none : (check : Checking) (had : Option (List ℕ)) → HasTaken check [] → Came check [] had had 0
+came_none check had h = record { bytes = []; size = refl; off = Consumes-nil had; all = h }
+
+pub came_more : (mid new : Checking) (had middle has : Option (List ℕ)) (n m : ℕ) → (c : Came mid [] had middle n) → Came new c.bytes middle has m → Came new [] had has (n + m)
+came_more mid new had middle has n m c d = record {
+  bytes = c.bytes ++ d.bytes;
+  size = length-append c.bytes d.bytes ∙ ap (λ (k : ℕ). k + length d.bytes) c.size ∙ ap (λ (k : ℕ). n + k) d.size;
+  off = Consumes-trans had middle has c.bytes d.bytes c.off d.off;
+  all = d.all;
+}
+
+pub came_short : (check : Checking) (had has : Option (List ℕ)) (n : ℕ) → Came check [] had has n → n ≤ most_bytes
+came_short check had has n c = omega (arith, c.size, few_taken check c.bytes c.all)
+
+came_all : (mid new : Checking) (had middle has : Option (List ℕ)) (n m : ℕ) → (c : Came mid [] had middle n) → Came new c.bytes middle has m → CameAll new had has
+came_all mid new had middle has n m c d =
+    let all = came_more mid new had middle has n m c d in record { count = n + m; came = all; few = came_short new had has (n + m) all }
+
+stopped_by : (filter : FilterView) (options : Options) (mid : Checking) (had middle has : Option (List ℕ)) (n room : ℕ) (why : AnywhereFault) → (c : Came mid [] had middle n)
+    → StopsIn filter options c.bytes middle has room why → room ≤ read_bytes → n + room ≤ most_bytes + 1 → Stopped filter options had has why
+stopped_by filter options mid had middle has n room why c s few all = record {
+  before = c.bytes;
+  last = s.bytes;
+  few = omega (arith, s.few, few);
+  all = omega (arith, c.size, s.few, all);
+  off = Consumes-trans had middle has c.bytes s.bytes c.off s.off;
+  tells = s.tells;
+}
+
+whole_stops : (filter : FilterView) (options : Options) (mid new : Checking) (had middle has : Option (List ℕ)) (n room : ℕ) (why : AnywhereFault) → (c : Came mid [] had middle n)
+    → SomeTells filter options c.bytes new middle has room (Err why) → room ≤ read_bytes → n + room ≤ most_bytes + 1 → WholeTells filter options new had has (Err why)
+whole_stops filter options mid new had middle has n room (fault.Stop why) c s few all = stopped_by filter options mid had middle has n room (fault.Stop why) c s few all
+whole_stops filter options mid new had middle has n room fault.ReadFault c s few all = came_all mid new had middle has n 0 c s
+whole_stops filter options mid new had middle has n room (fault.Hidden from to) c s few all = stopped_by filter options mid had middle has n room (fault.Hidden from to) c s few all
+
+-- of the filter that the check began with
+pub whole_stops_as : (made mid new : Checking) (had middle has : Option (List ℕ)) (n room : ℕ) (why : AnywhereFault) → mid.reader.gate ≡ made.reader.gate → (c : Came mid [] had middle n)
+    → SomeTells mid.reader.gate.filter mid.reader.gate.options c.bytes new middle has room (Err why) → room ≤ read_bytes → n + room ≤ most_bytes + 1
+    → WholeTells made.reader.gate.filter made.reader.gate.options new had has (Err why)
+whole_stops_as made mid new had middle has n room why same c s few all =
+    whole_stops made.reader.gate.filter made.reader.gate.options mid new had middle has n room why c
+    (subst (λ (g : FilterWith). SomeTells g.filter g.options c.bytes new middle has room (Err why)) same s) few all
+
+pub whole_ends : (filter : FilterView) (options : Options) (mid new : Checking) (had middle has : Option (List ℕ)) (n m : ℕ) → (c : Came mid [] had middle n)
+    → Came new c.bytes middle has m → IsAtEnd has → WholeTells filter options new had has (Ok tt)
+whole_ends filter options mid new had middle has n m c d e = (came_all mid new had middle has n m c d, e)
+
+pub stopped_at_start : (filter : FilterView) (options : Options) (check : Checking) (had : Option (List ℕ)) → WholeTells filter options check had had (Err (fault.Stop stop.OutOfMemory))
+stopped_at_start filter options check had = record { before = []; last = []; few = omega arith; all = omega arith; off = Consumes-nil had; tells = tt }
+
+-- ---- of all bytes
+
+-- a field that is open in all bytes, and ends in a front of them, is open in the front
+open_shorter : (front rest bytes : List ℕ) (at : ℕ) (label : Label) (some after : List ℕ) → bytes ≡ front ++ rest → (o : OpenAt bytes at label some after)
+    → length (joined o.front) + length some ≤ length front → (left : List ℕ) × OpenAt front at label some left
+open_shorter front rest bytes at label some after split o within =
+    let fields = joined o.front in
+    let f = front_of (fields ++ some) after front rest (sym split ∙ o.split ∙ sym (append_assoc fields some after)) (omega (arith, within, length-append fields some)) in
+    (f.0, record { front = o.front; next = o.next; split = f.1 ∙ append_assoc fields some f.0; begins = o.begins; no_field = o.no_field })
+
+-- a fault of all bytes that ends in a front of them is one of the front, save that the bytes end
+fault_shorter : (gate : Gate) (front rest bytes : List ℕ) (at end : ℕ) (reason : ToldReason) → bytes ≡ front ++ rest → end ≤ length front → IsFault gate bytes at end reason
+    → (reason ≡ truncated) ⊎ IsFault gate front at end reason
+fault_shorter gate front rest bytes at end reason split within (label, some, after, here, ends, inl holds) =
+    let o = open_shorter front rest bytes at label some after split here (omega (arith, here.begins, ends, within)) in inr (label, some, o.0, o.1, ends, inl holds)
+fault_shorter gate front rest bytes at end reason split within (label, some, after, here, ends, inr (inl long)) =
+    let o = open_shorter front rest bytes at label some after split here (omega (arith, here.begins, ends, within)) in inr (label, some, o.0, o.1, ends, inr (inl long))
+fault_shorter gate front rest bytes at end reason split within (label, some, after, here, ends, inr (inr cut)) = inl cut.0
+
+none_more : (filter : FilterView) (options : Options) (front rest bytes : List ℕ) (end : ℕ) → bytes ≡ front ++ rest → end ≤ length front → NoneSooner filter options front end → NoneSooner filter options bytes end
+none_more filter options front rest bytes end split within none = λ from to hidden. elim (cases_lt to end) [
+  | inl less ↦
+      let here = hidden_shorter (passes_name filter options) front rest from to (subst (λ (xs : List ℕ). HiddenAt (passes_name filter options) xs from to) split hidden) (omega (arith, less, within)) in
+      none from to here
+  | inr not ↦ omega (arith, not)
+]
+
+refused_more : (filter : FilterView) (options : Options) (front rest bytes : List ℕ) (before last : List ℕ) (refusal : Refusal) → front ≡ before ++ last → bytes ≡ front ++ rest
+    → DecidesIn filter options before last refusal → NoneSooner filter options (before ++ last) refusal.to_byte → RefusedIn filter options bytes refusal
+refused_more filter options front rest bytes before last refusal whole split d none =
+    let gate = gate_of_filter filter options in
+    let here = before ++ last in
+    let right = d.right in
+    let cut = take refusal.to_byte here in
+    let all : bytes ≡ cut ++ (drop refusal.to_byte here ++ rest) =
+    split ∙ ap (λ (xs : List ℕ). xs ++ rest) (whole ∙ sym (take-append-drop refusal.to_byte here)) ∙ append_assoc cut (drop refusal.to_byte here) rest in
+    let is_right : IsRightOf gate bytes refusal = inl (front_refused gate cut (drop refusal.to_byte here ++ rest) bytes refusal all (right.front d.whole)) in
+    record {
+      right = right_refuses filter options bytes refusal is_right;
+      first = λ b. right_first gate bytes refusal b is_right;
+      names = none_more filter options here rest bytes refusal.to_byte (split ∙ ap (λ (xs : List ℕ). xs ++ rest) whole) right.within none;
+    }
+
+later_in : (filter : FilterView) (options : Options) (front : List ℕ) (to at end : ℕ) (reason : ToldReason) → NoFaultBy filter options front to
+    → (reason ≡ truncated) ⊎ IsFault (gate_of_filter filter options) front at end reason → (reason ≡ truncated) ⊎ (to < end)
+later_in filter options front to at end reason none (inl cut) = inl cut
+later_in filter options front to at end reason none (inr f) = none at end reason f
+
+no_fault_more : (filter : FilterView) (options : Options) (front rest bytes : List ℕ) (to : ℕ) → bytes ≡ front ++ rest → to ≤ length front → NoFaultBy filter options front to
+    → NoFaultBy filter options bytes to
+no_fault_more filter options front rest bytes to split within none = λ at end reason f. elim (cases_lt to end) [
+  | inl less ↦ inr less
+  | inr not ↦
+      later_in filter options front to at end reason none
+      (fault_shorter (gate_of_filter filter options) front rest bytes at end reason split (omega (arith, not, within)) f)
+]
+
+hidden_more : (filter : FilterView) (options : Options) (front rest bytes : List ℕ) (from to : ℕ) → bytes ≡ front ++ rest → TellsHidden filter options front from to → HiddenIn filter options bytes from to
+hidden_more filter options front rest bytes from to split h =
+    let passes = passes_name filter options in
+    let first = subst (λ (xs : List ℕ). IsFirstHidden passes xs from to) (sym split) (first_longer passes front rest from to h.first) in
+    let within = hidden_within passes bytes from to first.hidden in
+    let long = length-take-le to bytes within in
+    let cut = hidden_shorter passes (take to bytes) (drop to bytes) from to (subst (λ (xs : List ℕ). HiddenAt passes xs from to) (sym (take-append-drop to bytes)) first.hidden) (omega (arith, long)) in
+    record {
+      first = first;
+      begins = λ after a. never_admitted filter options (take to bytes) after from to cut a;
+      sooner = no_fault_more filter options front rest bytes to split (hidden_within passes front from to h.first.hidden) h.sooner;
+    }
+
+fault_of : (filter : FilterView) (options : Options) (before last rest bytes : List ℕ) (why : AnywhereFault) → bytes ≡ (before ++ last) ++ rest → TellsFault filter options before last why → FaultOf filter options bytes why
+fault_of filter options before last rest bytes (fault.Stop (stop.Refused refusal)) split t = refused_more filter options (before ++ last) rest bytes before last refusal refl split t.0 t.1
+fault_of filter options before last rest bytes (fault.Stop stop.OutOfMemory) split t = tt
+fault_of filter options before last rest bytes (fault.Stop stop.Spent) split t = t
+fault_of filter options before last rest bytes fault.ReadFault split t = tt
+fault_of filter options before last rest bytes (fault.Hidden from to) split t = hidden_more filter options (before ++ last) rest bytes from to split t.0
+
+source_stopped : (filter : FilterView) (options : Options) (had has : Option (List ℕ)) (why : AnywhereFault) → Stopped filter options had has why → IfSome had (λ bytes. FaultOf filter options bytes why)
+source_stopped filter options None has why s = tt
+source_stopped filter options (Some all) None why s = absurd s.off
+source_stopped filter options (Some all) (Some rest) why s = fault_of filter options s.before s.last rest all why s.off s.tells
+
+source_failed : (filter : FilterView) (options : Options) (had : Option (List ℕ)) → IfSome had (λ bytes. FaultOf filter options bytes fault.ReadFault)
+source_failed filter options None = tt
+source_failed filter options (Some all) = tt
+
+whole_read : (had has : Option (List ℕ)) (bytes : List ℕ) → Consumes had has bytes → IsAtEnd has → IfSome had (λ all. bytes ≡ all)
+whole_read None has bytes off e = tt
+whole_read (Some all) None bytes off e = absurd off
+whole_read (Some all) (Some rest) bytes off e = sym (off ∙ ap (λ (xs : List ℕ). bytes ++ xs) e ∙ append-nil bytes)
+
+ends_by : (filter : FilterView) (options : Options) (had : Option (List ℕ)) (bytes : List ℕ) (result : Result Totals AnywhereFault) → IfSome had (λ all. bytes ≡ all) → EndTells filter options bytes result
+    → SourceTells filter options had result
+ends_by filter options None bytes (Ok totals) e t = tt
+ends_by filter options None bytes (Err why) e t = tt
+ends_by filter options (Some all) bytes (Ok totals) e t = subst (λ (xs : List ℕ). ReportsAnywhere filter options xs totals) e t
+ends_by filter options (Some all) bytes (Err (fault.Stop (stop.Refused refusal))) e t =
+    subst (λ (xs : List ℕ). RefusedIn filter options xs refusal) e
+    (record { right = t.right; first = λ b. t.first; names = λ from to hidden. absurd (t.passes from to hidden) })
+ends_by filter options (Some all) bytes (Err (fault.Stop stop.OutOfMemory)) e t = tt
+ends_by filter options (Some all) bytes (Err (fault.Stop stop.Spent)) e t = t
+ends_by filter options (Some all) bytes (Err fault.ReadFault) e t = tt
+ends_by filter options (Some all) bytes (Err (fault.Hidden from to)) e t = absurd t
+
+-- ---- all that is answered
+
+-- bytes that a fault decides, and the rest of the last read
+few_read : (had has : Option (List ℕ)) (before last : List ℕ) (to : ℕ) → Consumes had has (before ++ last) → length before < to → length last ≤ read_bytes
+    → TakesAtMost (to + read_bytes) had has
+few_read had has before last to off prompt few = record { bytes = before ++ last; few = omega (arith, prompt, few, length-append before last); off = off }
+
+stopped_few : (filter : FilterView) (options : Options) (had has : Option (List ℕ)) (why : AnywhereFault) → Stopped filter options had has why → TakesAtMost (most_bytes + 1) had has
+stopped_few filter options had has why s =
+    record { bytes = s.before ++ s.last; few = omega (arith, s.all, length-append s.before s.last); off = s.off }
+
+answered_stop : (filter : FilterView) (options : Options) (had has : Option (List ℕ)) (why : AnywhereFault) → Stopped filter options had has why → Answered filter options had has (Err why)
+answered_stop filter options had has (fault.Stop (stop.Refused refusal)) s = record {
+  tells = source_stopped filter options had has (fault.Stop (stop.Refused refusal)) s;
+  undecided = λ e. absurd (cc);
+  unspent = λ e. absurd (cc);
+  within = stopped_few filter options had has (fault.Stop (stop.Refused refusal)) s;
+  prompt = λ e. few_read had has s.before s.last refusal.to_byte s.off s.tells.0.prompt s.few;
+}
+answered_stop filter options had has (fault.Stop stop.OutOfMemory) s = record {
+  tells = source_stopped filter options had has (fault.Stop stop.OutOfMemory) s;
+  undecided = λ e. absurd (cc);
+  unspent = λ e. absurd (cc);
+  within = stopped_few filter options had has (fault.Stop stop.OutOfMemory) s;
+  prompt = tt;
+}
+answered_stop filter options had has (fault.Stop stop.Spent) s = absurd s.tells
+answered_stop filter options had has fault.ReadFault s = absurd s.tells
+answered_stop filter options had has (fault.Hidden from to) s = record {
+  tells = source_stopped filter options had has (fault.Hidden from to) s;
+  undecided = λ e. absurd (cc);
+  unspent = λ e. absurd (cc);
+  within = stopped_few filter options had has (fault.Hidden from to) s;
+  prompt = few_read had has s.before s.last to s.off s.tells.1 s.few;
+}
+
+came_few : (check : Checking) (had has : Option (List ℕ)) → CameAll check had has → TakesAtMost (most_bytes + 1) had has
+came_few check had has c = record { bytes = c.came.bytes; few = omega (arith, c.few, c.came.size); off = c.came.off }
+
+answered_failed : (check : Checking) (had has : Option (List ℕ)) → CameAll check had has
+    → Answered check.reader.gate.filter check.reader.gate.options had has (Err fault.ReadFault)
+answered_failed check had has c = record {
+  tells = source_failed check.reader.gate.filter check.reader.gate.options had;
+  undecided = λ e. record { bytes = c.came.bytes; off = c.came.off; are = taken_undecided check c.came.bytes c.came.all };
+  unspent = λ e. absurd (cc);
+  within = came_few check had has c;
+  prompt = tt;
+}
+
+answered_by : (filter : FilterView) (options : Options) (check : Checking) (had has : Option (List ℕ)) (why : AnywhereFault) → check.reader.gate.filter ≡ filter → check.reader.gate.options ≡ options
+    → WholeTells filter options check had has (Err why) → Answered filter options had has (Err why)
+answered_by filter options check had has (fault.Stop why) e f w = answered_stop filter options had has (fault.Stop why) w
+answered_by filter options check had has fault.ReadFault e f w =
+    subst (λ (o : Options). Answered filter o had has (Err fault.ReadFault)) f
+    (subst (λ (x : FilterView). Answered x check.reader.gate.options had has (Err fault.ReadFault)) e (answered_failed check had has w))
+answered_by filter options check had has (fault.Hidden from to) e f w = answered_stop filter options had has (fault.Hidden from to) w
+
+pub answered_fault : (made check : Checking) (had has : Option (List ℕ)) (why : AnywhereFault) → check.reader.gate ≡ made.reader.gate
+    → WholeTells made.reader.gate.filter made.reader.gate.options check had has (Err why) → Answered made.reader.gate.filter made.reader.gate.options had has (Err why)
+answered_fault made check had has why same w =
+    answered_by made.reader.gate.filter made.reader.gate.options check had has why (ap (λ (g : FilterWith). g.filter) same) (ap (λ (g : FilterWith). g.options) same) w
+
+end_undecided : (filter : FilterView) (options : Options) (had has : Option (List ℕ)) (taken : List ℕ) (result : Result Totals AnywhereFault) → EndTells filter options taken result
+    → result ≡ Err fault.ReadFault → Undecided filter options had has
+end_undecided filter options had has taken (Ok totals) t e = absurd (cc)
+end_undecided filter options had has taken (Err (fault.Stop why)) t e = absurd (cc)
+end_undecided filter options had has taken (Err fault.ReadFault) t e = absurd t
+end_undecided filter options had has taken (Err (fault.Hidden from to)) t e = absurd t
+
+end_unspent : (filter : FilterView) (options : Options) (taken : List ℕ) (result : Result Totals AnywhereFault) → EndTells filter options taken result
+    → result ≢ Err (fault.Stop stop.Spent)
+end_unspent filter options taken (Ok totals) t = λ e. absurd (cc)
+end_unspent filter options taken (Err (fault.Stop (stop.Refused refusal))) t = λ e. absurd (cc)
+end_unspent filter options taken (Err (fault.Stop stop.OutOfMemory)) t = absurd t
+end_unspent filter options taken (Err (fault.Stop stop.Spent)) t = absurd t
+end_unspent filter options taken (Err fault.ReadFault) t = absurd t
+end_unspent filter options taken (Err (fault.Hidden from to)) t = absurd t
+
+end_prompt : (filter : FilterView) (options : Options) (had has : Option (List ℕ)) (taken : List ℕ) (result : Result Totals AnywhereFault) → EndTells filter options taken result
+    → TakesFew had has result
+end_prompt filter options had has taken (Ok totals) t = tt
+end_prompt filter options had has taken (Err (fault.Stop (stop.Refused refusal))) t = λ e. absurd (e t.cut)
+end_prompt filter options had has taken (Err (fault.Stop stop.OutOfMemory)) t = tt
+end_prompt filter options had has taken (Err (fault.Stop stop.Spent)) t = tt
+end_prompt filter options had has taken (Err fault.ReadFault) t = tt
+end_prompt filter options had has taken (Err (fault.Hidden from to)) t = absurd t
+
+answered_end : (filter : FilterView) (options : Options) (check : Checking) (had has : Option (List ℕ)) (c : CameAll check had has) (result : Result Totals AnywhereFault) → IsAtEnd has
+    → EndTells filter options c.came.bytes result → Answered filter options had has result
+answered_end filter options check had has c result e t = record {
+  tells = ends_by filter options had c.came.bytes result (whole_read had has c.came.bytes c.came.off e) t;
+  undecided = end_undecided filter options had has c.came.bytes result t;
+  unspent = end_unspent filter options c.came.bytes result t;
+  within = came_few check had has c;
+  prompt = end_prompt filter options had has c.came.bytes result t;
+}
+
+pub answered_whole : (made check : Checking) (had has : Option (List ℕ)) (result : Result Totals AnywhereFault) → check.reader.gate ≡ made.reader.gate
+    → WholeTells made.reader.gate.filter made.reader.gate.options check had has (Ok tt)
+    → ((taken : List ℕ) → HasTaken check taken → EndTells check.reader.gate.filter check.reader.gate.options taken result)
+    → Answered made.reader.gate.filter made.reader.gate.options had has result
+answered_whole made check had has result same w tells =
+    answered_end made.reader.gate.filter made.reader.gate.options check had has w.0 result w.1
+    (subst (λ (g : FilterWith). EndTells g.filter g.options w.0.came.bytes result) same (tells w.0.came.bytes w.0.came.all))
+
+-- of the filter that the check was made with
+pub as_made : (filter : FilterView) (options : Options) (made : Checking) (had has : Option (List ℕ)) (result : Result Totals AnywhereFault) → made.reader.gate.filter ≡ filter
+    → made.reader.gate.options ≡ options → Answered made.reader.gate.filter made.reader.gate.options had has result → Answered filter options had has result
+as_made filter options made had has result e f a =
+    subst (λ (o : Options). Answered filter o had has result) f (subst (λ (x : FilterView). Answered x made.reader.gate.options had has result) e a)
+
+-- a piece never answers that a read failed
+pub never_read : (filter : FilterView) (options : Options) (taken bytes : List ℕ) (why : AnywhereFault) (before after : Bool) → TellsFault filter options taken bytes why → after ≡ before
+    → FailsWith {X = ℕ} (Err why) before after
+never_read filter options taken bytes (fault.Stop why) before after t e = e
+never_read filter options taken bytes fault.ReadFault before after t e = absurd t
+never_read filter options taken bytes (fault.Hidden from to) before after t e = e

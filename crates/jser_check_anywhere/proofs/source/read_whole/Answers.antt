@@ -1,0 +1,28 @@
+use Rattle.std.proofs.Common.{◌∙◌, rules}
+use Rattle.jser_check_anywhere.proofs.SourceLemmas.{came_more, came_short, whole_ends, whole_stops_as}
+use Rattle.jser_check_anywhere.proofs.source.read_whole.Goals as goal
+
+pub returns-in-Ok-eq0-clause-tells : goal.returns-in-Ok-eq0-clause-tells
+returns-in-Ok-eq0-clause-tells g c =
+    let came = c.reads.invariant.came in
+    whole_ends c.args.checker.now.reader.gate.filter c.args.checker.now.reader.gate.options c.reads.checker c.read_some.new.checker _ _ _ c.reads.taken _ came
+    (c.in-Ok-eq0.ensures.tells came.bytes came.all) (search rules)
+
+pub reads-preserved : goal.reads-preserved
+reads-preserved g c =
+    let came = c.reads.invariant.came in
+    let more = c.in-Ok-read_some.ensures.tells came.bytes came.all in
+    let all = came_more c.reads.checker c.read_some.new.checker _ _ _ c.reads.taken c.in-Ok-read_some.count came more in
+    record {
+      came = all;
+      short = came_short c.read_some.new.checker _ _ _ all;
+      gate = c.in-Ok-read_some.ensures.filter ∙ c.reads.invariant.gate;
+      room = c.reads.invariant.room;
+      failed = c.in-Ok-read_some.ensures.fails came.bytes came.all ∙ c.reads.invariant.failed;
+    }
+
+pub returns-in-Err-clause-tells : goal.returns-in-Err-clause-tells
+returns-in-Err-clause-tells g c =
+    let came = c.reads.invariant.came in
+    whole_stops_as c.args.checker.now c.reads.checker c.read_some.new.checker _ _ _ c.reads.taken _ c.in-Err.fault c.reads.invariant.gate came
+    (c.in-Err.ensures.tells came.bytes came.all) (search rules) (search rules)

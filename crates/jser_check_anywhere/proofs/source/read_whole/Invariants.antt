@@ -1,0 +1,17 @@
+use Rattle.std.proofs.Common.{◌≡◌, ◌≤◌, ◌+◌, ◌-◌, [], vec_len}
+use Rattle.jser_grammar.specs.Caps.{most_bytes}
+use Rattle.jser_check_anywhere.specs.SourceAnswers.{Came}
+use Rattle.jser_check_anywhere.proofs.source.read_whole.Given as goal
+
+-- what was read came off the source and was taken, and no read has failed
+abbrev pub invariant-reads : goal.invariant-reads
+invariant-reads g l = record {
+  came : Came l.checker [] (g.R.Source.to_come l.fn.source) (g.R.Source.to_come l.source) l.taken;
+  short : l.taken ≤ most_bytes;
+  gate : l.checker.reader.gate ≡ l.fn.checker.reader.gate;
+  room : vec_len l.buffer ≡ 57344;
+  failed : g.R.Source.has_failed l.source ≡ g.R.Source.has_failed l.fn.source;
+}
+
+abbrev pub decreases-reads : goal.decreases-reads
+decreases-reads g l = most_bytes + 1 - l.taken

@@ -1,0 +1,120 @@
+-- What the answers of the check of a source mean. `had` are the bytes that were to come from it before, if it tells them,
+-- `has` those after.
+use Rattle.std.specs.Prelude.{◌≡◌, ◌≢◌, ℕ, ◌+◌, ◌≤◌, Bool, true, List, [], ◌++◌, length, take, Option, IfSome, Result, Ok, Err}
+use Rattle.std.specs.Io.KnownBytes.{Consumes, IsAtEnd}
+use Rattle.jser_grammar.specs.Caps.{most_bytes}
+use Rattle.jser_grammar.specs.Parts.{IsBytes}
+use Rattle.jser_reader.specs.declared.Reason.TheVariants as reason
+use Rattle.jser_reader.specs.declared.Refusal.{Refusal}
+use Rattle.jser_reader.specs.declared.Stop.TheVariants as stop
+use Rattle.jser_reader.specs.declared.Totals.{Totals}
+use Rattle.jser_filter.specs.Filters.{FilterView}
+use Rattle.jser_check.specs.declared.Options.{Options}
+use Rattle.jser_check.specs.Admitted.{gate_of_filter}
+use Rattle.jser_check.specs.Answers.{CarriesFirst, Refuses}
+use Rattle.jser_check.specs.Sources.{TakesAtMost, read_bytes}
+use Rattle.jser_anywhere.specs.Standing.{IsFirstHidden}
+use Rattle.jser_check_anywhere.specs.Passing.{passes_name, AreAdmittedAnywhere}
+use Rattle.jser_check_anywhere.specs.declared.fault.AnywhereFault.{AnywhereFault}
+use Rattle.jser_check_anywhere.specs.declared.fault.AnywhereFault.TheVariants as fault
+use Rattle.jser_check_anywhere.specs.Answers.{ReportsAnywhere, AreUndecided, NoneSooner, NoFaultBy, TellsFault, Checking, HasTaken}
+
+-- A hidden name of these bytes, the first of them, and no fault of the check ends before it or with it, save that the bytes
+-- end. No stream that begins with the bytes up to its end is admitted anywhere.
+pub record HiddenIn (filter : FilterView) (options : Options) (bytes : List ℕ) (from to : ℕ) : Type 0 where
+  pub first : IsFirstHidden (passes_name filter options) bytes from to
+  pub sooner : NoFaultBy filter options bytes to
+  pub begins : (after : List ℕ) → AreAdmittedAnywhere filter options (take to bytes ++ after) → ⊥
+
+-- The refusal is right of the bytes and names their first fault, and no hidden name ends before it.
+pub record RefusedIn (filter : FilterView) (options : Options) (bytes : List ℕ) (refusal : Refusal) : Type 0 where
+  pub right : Refuses filter options bytes refusal
+  pub first : IsBytes bytes → CarriesFirst (gate_of_filter filter options) bytes refusal
+  pub names : NoneSooner filter options bytes refusal.to_byte
+
+abbrev pub FaultOf : FilterView → Options → (bytes : List ℕ) → AnywhereFault → Type 0
+FaultOf filter options bytes (fault.Stop (stop.Refused refusal)) = RefusedIn filter options bytes refusal
+FaultOf filter options bytes (fault.Stop stop.OutOfMemory) = Unit {0}
+FaultOf filter options bytes (fault.Stop stop.Spent) = ⊥
+FaultOf filter options bytes fault.ReadFault = Unit {0}
+FaultOf filter options bytes (fault.Hidden from to) = HiddenIn filter options bytes from to
+
+-- what a check answers of a source
+abbrev pub SourceTells : FilterView → Options → (had : Option (List ℕ)) → Result Totals AnywhereFault → Type 0
+SourceTells filter options had (Ok report) = IfSome had (λ bytes. ReportsAnywhere filter options bytes report)
+SourceTells filter options had (Err why) = IfSome had (λ bytes. FaultOf filter options bytes why)
+
+-- the bytes that came decide nothing
+pub record Undecided (filter : FilterView) (options : Options) (had has : Option (List ℕ)) : Type 0 where
+  pub bytes : List ℕ
+  pub off : Consumes had has bytes
+  pub are : AreUndecided filter options bytes
+
+-- where bytes are refused, though not for their end, no more bytes came than those that decide and the rest of a read
+abbrev pub TakesFew : (had has : Option (List ℕ)) → Result Totals AnywhereFault → Type 0
+TakesFew had has (Ok totals) = Unit {0}
+TakesFew had has (Err (fault.Stop (stop.Refused refusal))) = refusal.reason ≢ reason.Truncated → TakesAtMost (refusal.to_byte + read_bytes) had has
+TakesFew had has (Err (fault.Stop stop.OutOfMemory)) = Unit {0}
+TakesFew had has (Err (fault.Stop stop.Spent)) = Unit {0}
+TakesFew had has (Err fault.ReadFault) = Unit {0}
+TakesFew had has (Err (fault.Hidden from to)) = TakesAtMost (to + read_bytes) had has
+
+-- all of it
+pub record Answered (filter : FilterView) (options : Options) (had has : Option (List ℕ)) (result : Result Totals AnywhereFault) : Type 0 where
+  pub tells : SourceTells filter options had result
+  pub undecided : result ≡ Err fault.ReadFault → Undecided filter options had has
+  pub unspent : result ≢ Err (fault.Stop stop.Spent)
+  pub within : TakesAtMost (most_bytes + 1) had has
+  pub prompt : TakesFew had has result
+
+-- a read failed where that is the answer, and nowhere else
+abbrev pub FailsWith : {X : Type 0} → Result X AnywhereFault → (failed_before failed_after : Bool) → Type 0
+FailsWith (Ok x) failed_before failed_after = failed_after ≡ failed_before
+FailsWith (Err (fault.Stop why)) failed_before failed_after = failed_after ≡ failed_before
+FailsWith (Err (fault.Hidden from to)) failed_before failed_after = failed_after ≡ failed_before
+FailsWith (Err fault.ReadFault) failed_before failed_after = failed_after ≡ true
+
+-- ---- read by read
+
+-- so many bytes came off, and the check took them
+pub record Came (new : Checking) (taken : List ℕ) (had has : Option (List ℕ)) (count : ℕ) : Type 0 where
+  pub bytes : List ℕ
+  pub size : length bytes ≡ count
+  pub off : Consumes had has bytes
+  pub all : HasTaken new (taken ++ bytes)
+
+-- it stopped in bytes that came off
+pub record StopsIn (filter : FilterView) (options : Options) (taken : List ℕ) (had has : Option (List ℕ)) (most : ℕ) (why : AnywhereFault) : Type 0 where
+  pub bytes : List ℕ
+  pub few : length bytes ≤ most
+  pub off : Consumes had has bytes
+  pub tells : TellsFault filter options taken bytes why
+
+-- one read
+abbrev pub SomeTells : FilterView → Options → (taken : List ℕ) → Checking → (had has : Option (List ℕ)) → (most : ℕ) → Result ℕ AnywhereFault → Type 0
+SomeTells filter options taken new had has most (Ok count) = Came new taken had has count
+SomeTells filter options taken new had has most (Err fault.ReadFault) = Came new taken had has 0
+SomeTells filter options taken new had has most (Err (fault.Stop why)) = StopsIn filter options taken had has most (fault.Stop why)
+SomeTells filter options taken new had has most (Err (fault.Hidden from to)) = StopsIn filter options taken had has most (fault.Hidden from to)
+
+-- it stopped in the last bytes that came off, those of one read
+pub record Stopped (filter : FilterView) (options : Options) (had has : Option (List ℕ)) (why : AnywhereFault) : Type 0 where
+  pub before : List ℕ
+  pub last : List ℕ
+  pub few : length last ≤ read_bytes
+  pub all : length before + length last ≤ most_bytes + 1
+  pub off : Consumes had has (before ++ last)
+  pub tells : TellsFault filter options before last why
+
+-- bytes came off, no more than a stream may have, and the check took them
+pub record CameAll (new : Checking) (had has : Option (List ℕ)) : Type 0 where
+  pub count : ℕ
+  pub came : Came new [] had has count
+  pub few : count ≤ most_bytes
+
+-- read after read, to the end
+abbrev pub WholeTells : FilterView → Options → Checking → (had has : Option (List ℕ)) → Result (Unit {0}) AnywhereFault → Type 0
+WholeTells filter options new had has (Ok _) = CameAll new had has × IsAtEnd has
+WholeTells filter options new had has (Err fault.ReadFault) = CameAll new had has
+WholeTells filter options new had has (Err (fault.Stop why)) = Stopped filter options had has (fault.Stop why)
+WholeTells filter options new had has (Err (fault.Hidden from to)) = Stopped filter options had has (fault.Hidden from to)

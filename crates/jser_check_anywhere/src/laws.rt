@@ -1,0 +1,13 @@
+//! Laws of the definitions alone.
+ghost use Rattle.jser_check_anywhere.specs.Passing.{AnywhereIsStronger, NamesAreJudged};
+
+/// A stream that is admitted with each name that stands anywhere is admitted by the check without names, under the same
+/// filter.
+pub fn anywhere_is_stronger()
+    ensures { AnywhereIsStronger }
+{}
+
+/// Each name that stands anywhere is one that the gate judges, by its element where it is an array's.
+pub fn names_are_judged()
+    ensures { NamesAreJudged }
+{}

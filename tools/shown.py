@@ -1,0 +1,191 @@
+"""A second writer of the text of `serialcheck show`, which shares no code with serialcheck.
+
+`python3 tools/shown.py FILE` prints the text of an accepted stream, by docs/FORMAT.md (what the bytes are) and
+crates/jser_shown/README.md (how they are written). It checks next to nothing, and calls itself for each level.
+"""
+import sys
+from pathlib import Path
+
+SIZES = {"B": 1, "C": 2, "D": 8, "F": 4, "I": 4, "J": 8, "S": 2, "Z": 1}
+
+
+def units_of(data):
+    """The UTF-16 units of modified UTF-8."""
+    units, at = [], 0
+    while at < len(data):
+        first = data[at]
+        size = 1 if first < 0x80 else 2 if first < 0xE0 else 3
+        unit = first & (0x7F, 0x1F, 0x0F)[size - 1]
+        for byte in data[at + 1 : at + size]:
+            unit = unit << 6 | byte & 0x3F
+        units.append(unit)
+        at += size
+    return units
+
+
+def quoted(data):
+    """The quoted text of modified UTF-8."""
+    texts = {0x22: '\\"', 0x5C: "\\\\"}
+    return '"' + "".join(texts.get(it, chr(it)) if 0x20 <= it <= 0x7E else f"\\u{it:04x}" for it in units_of(data)) + '"'
+
+
+class Descriptor:
+    """A class: what a section needs to know of it."""
+
+    def __init__(self, name):
+        self.name, self.flags, self.fields, self.parent = name, 0, [], None
+
+    def chain(self):
+        """Its superclasses, the highest first, and itself."""
+        return [*(self.parent.chain() if self.parent else []), self]
+
+    def sections(self):
+        """The classes of which an object of it has sections."""
+        return [self] if self.flags & 4 else self.chain()
+
+
+class Stream:
+    """A stream that is read from its front; each form becomes its line and the lines under it, a level deeper."""
+
+    def __init__(self, data):
+        self.data, self.at, self.epoch, self.handles = data, 0, 0, []
+
+    def take(self, size):
+        self.at += size
+        if self.at > len(self.data):
+            raise ValueError("the stream ends early")
+        return self.data[self.at - size : self.at]
+
+    def number(self, size):
+        return int.from_bytes(self.take(size), "big")
+
+    def assign(self, thing):
+        """The mark of the next handle, which names this."""
+        self.handles.append(thing)
+        return f"#{self.epoch}.{0x7E0000 + len(self.handles) - 1:x}"
+
+    def contents(self):
+        """The lines of the stream."""
+        if self.take(4) != bytes.fromhex("aced0005"):
+            raise ValueError("not a stream")
+        lines = ["stream version 5"]
+        while self.at < len(self.data):
+            if self.data[self.at] == 0x79:
+                self.take(1)
+                self.epoch, self.handles = self.epoch + 1, []
+                lines.append("reset")
+            else:
+                lines += self.content()
+        return lines
+
+    def content(self):
+        """A value or a block: its lines, of which the first has no words before it."""
+        if self.data[self.at] in (0x77, 0x7A):
+            word, size = ("block", 1) if self.number(1) == 0x77 else ("longblock", 4)
+            data = self.take(self.number(size))
+            return [f"{word} {len(data)}:" + (f" {data.hex()}" if data else "")]
+        return self.value()[0]
+
+    def notes(self):
+        """The lines of an annotation."""
+        lines = []
+        while self.data[self.at] != 0x78:
+            lines += before("note ", self.content())
+        self.take(1)
+        return lines
+
+    def value(self):
+        """The lines of a value, and what it is: a descriptor, or anything else."""
+        tag = self.number(1)
+        if tag == 0x70:
+            return ["null"], None
+        if tag == 0x71:
+            handle = self.number(4)
+            return [f"ref #{self.epoch}.{handle:x}"], self.handles[handle - 0x7E0000]
+        if tag in (0x74, 0x7C):
+            mark = self.assign("text")
+            word, size = ("text", 2) if tag == 0x74 else ("longtext", 8)
+            return [f"{word} {mark} {quoted(self.take(self.number(size)))}"], "text"
+        if tag == 0x72:
+            return self.plain_descriptor()
+        if tag == 0x7D:
+            return self.proxy_descriptor()
+        lines, described = self.value()
+        under = before("class ", lines)
+        if tag == 0x76:
+            line = f"classobject {self.assign('class')}"
+        elif tag == 0x73:
+            line = f"object {self.assign('object')}"
+            for it in described.sections():
+                under += self.section(it)
+        elif tag == 0x75:
+            mark = self.assign("array")
+            length = self.number(4)
+            line = f"array {mark} length {length}"
+            for index in range(length):
+                under += self.raw_or_value(f"[{index}] ", chr(described.name[1]))
+        elif tag == 0x7E:
+            line = f"enum {self.assign('enum')}"
+            under += before("name ", self.value()[0])
+        else:
+            raise ValueError(f"the tag {tag:x} before {self.at}")
+        return [line, *deeper(under)], "value"
+
+    def plain_descriptor(self):
+        described = Descriptor(self.take(self.number(2)))
+        suid = self.take(8).hex()
+        mark = self.assign(described)
+        described.flags = self.number(1)
+        under = []
+        for _ in range(self.number(2)):
+            code, name = chr(self.number(1)), self.take(self.number(2))
+            described.fields.append((code, name))
+            line = f"field {code} {quoted(name)}"
+            under += [line] if code in SIZES else before(f"{line} type ", self.value()[0])
+        under += self.notes()
+        lines, described.parent = self.value()
+        under += before("super ", lines)
+        return [f"desc {mark} {quoted(described.name)} suid {suid} flags {described.flags:02x}", *deeper(under)], described
+
+    def proxy_descriptor(self):
+        described = Descriptor(None)
+        mark = self.assign(described)
+        under = [f"interface {quoted(self.take(self.number(2)))}" for _ in range(self.number(4))]
+        under += self.notes()
+        lines, described.parent = self.value()
+        return [f"proxy {mark}", *deeper(under + before("super ", lines))], described
+
+    def section(self, described):
+        if described.name is None:
+            return ["data proxy"]
+        if described.flags & 4:
+            return [f"external {quoted(described.name)}", *deeper(self.notes())]
+        under = []
+        for raw in (True, False):
+            for code, name in described.fields:
+                if (code in SIZES) == raw:
+                    under += self.raw_or_value(f"{quoted(name)} = ", code)
+        if described.flags & 1:
+            under += self.notes()
+        return [f"data {quoted(described.name)}", *deeper(under)]
+
+    def raw_or_value(self, words, code):
+        return [words + self.take(SIZES[code]).hex()] if code in SIZES else before(words, self.value()[0])
+
+
+def before(words, lines):
+    """The lines, with words before the first."""
+    return [words + lines[0], *lines[1:]]
+
+
+def deeper(lines):
+    return [f"  {it}" for it in lines]
+
+
+def main(file):
+    sys.setrecursionlimit(20000)
+    sys.stdout.write("".join(f"{it}\n" for it in Stream(Path(file).read_bytes()).contents()))
+
+
+if __name__ == "__main__":
+    main(*sys.argv[1:])
