@@ -1,4 +1,4 @@
--- What a graph hands out is of the list for which it stands.
+-- The tree of a graph is the list for which it stands.
 use Rattle.std.proofs.Common.{◌<◌, ◌≤◌, subst, arith}
 use Rattle.jser_reading.specs.ByteLaws.{OneReading}
 use Rattle.jser_verdict.specs.Passing.{Passes}
@@ -7,7 +7,7 @@ use Rattle.jser_value.specs.declared.Contents.{Contents}
 use Rattle.jser_value.specs.declared.ValueCause.TheVariants as cause
 use Rattle.jser_value.specs.View.{view_contents}
 use Rattle.jser_trees.specs.Answers.{tree_gate}
-use Rattle.jser_graph.specs.Graphs.{GraphView}
+use Rattle.jser_index.specs.Graphs.{GraphView}
 use Rattle.jser_graph.specs.Outputs.{IsOf, HasCause}
 
 pub is_of : (graph : GraphView) (contents : Contents) → OneReading → Passes (tree_gate open_gate) graph.bytes (view_contents contents) → IsOf graph contents
@@ -26,6 +26,9 @@ too_large graph within over = λ bytes list h.
     let b = h.totals_are.all_bytes in
     (omega arith, omega arith)
 
-pub memory_out : (graph : GraphView) → HasCause graph cause.OutOfMemory
+pub memory_out : (graph : GraphView) → graph.totals.depth ≤ 1000 → graph.totals.bytes ≤ 2147483647 → HasCause graph cause.OutOfMemory
 unfolding HasCause
-memory_out graph = λ bytes list h. tt
+memory_out graph shallow short = λ bytes list h.
+    let d = h.totals_are.depth in
+    let b = h.totals_are.all_bytes in
+    (omega arith, omega arith)

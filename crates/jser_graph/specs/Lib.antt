@@ -1,11 +1,1 @@
-pub mod Listed
-pub mod Keeping
-pub mod StoredNodes
-pub mod Decoding
-pub mod Along
-pub mod Surveying
-pub mod Reading
-pub mod Graphs
 pub mod Outputs
-pub mod SaidItems
-pub mod Showing

@@ -1,58 +1,38 @@
-//! A stream by its handles.
-ghost use Rattle.std.specs.Prelude.{◌≡◌, length, slice_get, IfOk, IfErr};
-ghost use Rattle.jser_graph.specs.Graphs.{StandsForSome, IfRefused, node_at, IsNode, text_of};
-ghost use Rattle.jser_graph.specs.Listed.{IsList};
-ghost use Rattle.jser_graph.specs.Reading.{IsRefused};
+//! A graph: an index, whose calls it hands on, and the tree of the stream.
+ghost use Rattle.std.specs.Prelude.{◌≡◌, true, length, slice_get, IfOk, IfErr, OnOk, OnErr};
+ghost use Rattle.std.specs.Io.KnownBytes.{Appends};
+ghost use Rattle.jser_index.specs.Graphs.{IsGraph, StandsForSome, IfRefused, node_at, IsNode, text_of};
+ghost use Rattle.jser_index.specs.Listed.{IsList};
+ghost use Rattle.jser_index.specs.Outputs.{WroteFirst};
+ghost use Rattle.jser_index.specs.Reading.{IsRefused};
+ghost use Rattle.jser_index.specs.Showing.{CountsText, WroteText, WroteFront, FailedIf};
+ghost use Rattle.jser_graph.specs.Outputs.{IsOf, HasCause};
 
-use crate::node::Node;
-use crate::nodes::Nodes;
-use crate::read::{Found, survey};
-use crate::texts::Texts;
-use jser_grammar::wire::BASE_WIRE_HANDLE;
-use jser_reader::{Stop, Totals};
-use jser_walk::OwnerNode;
-use std::alloc::{AllocError, Global};
+use jser_grammar::caps::{MOST_TREE_BYTES, MOST_TREE_DEPTH};
+use jser_index::{GraphFault, Index, Node};
+use jser_prim::Sink;
+use jser_reader::{OpenGate, Stop};
+use jser_reading::laws::one_reading;
+use jser_trees::read_all;
+use jser_value::{Contents, ValueCause};
+use std::alloc::Global;
 use std::marker::Model;
 
 /// A Java object serialization stream, by its handles: what each of them names, the units of every string, the checked
-/// names, and the bytes as they were read.
+/// names, the bytes as they were read, the text of `show`, and the tree.
 ///
-/// It holds the bytes, 12 bytes for each handle, 8 for each object, array, enum constant and class object, 8 for each
-/// checked name, each reset and each string that has a list of its own, and two for each unit of a string or a checked name;
-/// besides, room that is made ready for fewer than 163,840 units, and what each vector holds in reserve as it grows. It holds
-/// no tree, and nothing in it goes as deep as the stream.
+/// It holds an `Index`, which says what that takes. It holds no tree: `contents` makes one.
 #[derive(Drop)]
 pub struct Graph {
-    pub(crate) bytes: Vec<u8>,
-    nodes: Nodes,
-    names: Texts,
-    pub(crate) owners: Vec<OwnerNode>,
-    pub(crate) totals: Totals,
+    index: Index,
 }
 
 impl Model for Graph {
-    ghost use Rattle.jser_walk.specs.Given.{told_nodes};
-    ghost use Rattle.jser_graph.specs.Graphs.{GraphView};
-    ghost use Rattle.jser_graph.specs.Listed.{all_lists};
+    ghost use Rattle.jser_index.specs.Graphs.{GraphView};
 
     ghost Value = { GraphView };
 
-    ghost view = { λ a. record {
-      bytes = a.bytes.items;
-      nodes = all_lists a.nodes;
-      names = a.names;
-      owners = told_nodes a.owners.items;
-      totals = a.totals;
-    } };
-}
-
-/// A copy of the bytes.
-fn copied(alloc: Global, bytes: &[u8]) -> Result<Vec<u8>, AllocError>
-    ensures { IfOk result (λ copy. copy.items ≡ bytes.now) }
-{
-    let mut copy = Vec::new(alloc);
-    copy.extend_from_slice(bytes)?;
-    Ok(copy)
+    ghost view = { λ a. a.index };
 }
 
 impl Graph {
@@ -63,23 +43,14 @@ impl Graph {
     ///
     /// `Refused` where the bytes are no such stream, with the first fault. `OutOfMemory` where memory ran out. Never
     /// `Spent`.
-    #[tactic(auto, using(crate::proofs::GraphLemmas::stands_for, crate::proofs::GraphLemmas::is_refused))]
     pub fn read(alloc: Global, bytes: &[u8]) -> Result<Graph, Stop>
         ensures accepted { IfOk result (StandsForSome bytes.now) }
         ensures refused { IfErr result (IfRefused (IsRefused bytes.now)) }
     {
-        let Found { survey, totals } = survey(alloc, bytes)?;
-        let Ok(copy) = copied(alloc, bytes) else {
-            return Err(Stop::OutOfMemory);
-        };
-        let found = survey.into_found();
-        Ok(Graph {
-            bytes: copy,
-            nodes: found.nodes,
-            names: found.names,
-            owners: found.owners,
-            totals,
-        })
+        match Index::read(alloc, bytes) {
+            Ok(index) => Ok(Graph { index }),
+            Err(stop) => Err(stop),
+        }
     }
 
     /// What a handle names, as it is written in the stream; the first handle of an epoch is `BASE_WIRE_HANDLE`, and each
@@ -87,35 +58,86 @@ impl Graph {
     pub fn node(&self, epoch: u64, handle: u32) -> Option<Node>
         ensures { IsNode (node_at self.now.nodes epoch handle) result }
     {
-        if handle < BASE_WIRE_HANDLE {
-            return None;
-        }
-        self.nodes
-            .node(epoch as usize, (handle - BASE_WIRE_HANDLE) as usize)
+        self.index.node(epoch, handle)
     }
 
     /// The UTF-16 units of the string that a handle names; `None` where it names none.
     pub fn text(&self, epoch: u64, handle: u32) -> Option<&[u16]>
         ensures { IsList (text_of (node_at self.now.nodes epoch handle)) result }
     {
-        if handle < BASE_WIRE_HANDLE {
-            return None;
-        }
-        self.nodes
-            .text(epoch as usize, (handle - BASE_WIRE_HANDLE) as usize)
+        self.index.text(epoch, handle)
     }
 
     /// How many checked names the stream has: those of classes and of the interfaces of proxies.
     pub fn name_count(&self) -> usize
         ensures { result ≡ length self.now.names }
     {
-        self.names.count()
+        self.index.name_count()
     }
 
     /// The checked name with this number, counted from 0 in the order of the stream.
     pub fn name_at(&self, number: usize) -> Option<&[u16]>
         ensures { IsList (slice_get self.now.names number) result }
     {
-        self.names.get(number)
+        self.index.name_at(number)
+    }
+
+    /// Writes the bytes of the stream, and returns their number. Takes no memory.
+    ///
+    /// # Errors
+    ///
+    /// `Write` where the sink failed, with how many of the first bytes went out before.
+    pub fn write_to<W: Sink>(&self, alloc: Global, sink: &mut W) -> Result<u64, GraphFault>
+        ensures length { IfOk result (λ count. count ≡ length self.now.bytes) }
+        ensures out { OnOk result (Appends (W.gone_out sink.old) (W.gone_out sink.new) self.now.bytes) }
+        ensures written { IfErr result (WroteFirst (W.gone_out sink.old) (W.gone_out sink.new) self.now.bytes) }
+        ensures kept { OnOk result (W.has_failed sink.new ≡ W.has_failed sink.old) }
+        ensures failed { OnErr result (W.has_failed sink.new ≡ true) }
+        ensures stands { IsGraph self.now }
+    {
+        self.index.write_to(alloc, sink)
+    }
+
+    /// Writes the text of `show`, and returns its length, which is exact up to 2^64 - 1 and stays there. `Index::show` says
+    /// what memory it takes.
+    ///
+    /// # Errors
+    ///
+    /// `Write` where the sink failed; nothing more is read then. `OutOfMemory` where memory ran out. Both say how many
+    /// of the first bytes of the text went out.
+    pub fn show<W: Sink>(&self, alloc: Global, sink: &mut W) -> Result<u64, GraphFault>
+        ensures length { IfOk result (CountsText self.now) }
+        ensures out { OnOk result (WroteText self.now (W.gone_out sink.old) (W.gone_out sink.new)) }
+        ensures written { IfErr result (WroteFront self.now (W.gone_out sink.old) (W.gone_out sink.new)) }
+        ensures kept { OnOk result (W.has_failed sink.new ≡ W.has_failed sink.old) }
+        ensures failed { IfErr result (FailedIf (W.has_failed sink.old) (W.has_failed sink.new)) }
+    {
+        self.index.show(alloc, sink)
+    }
+
+    /// The contents of the stream, as a tree.
+    ///
+    /// # Errors
+    ///
+    /// `TooDeep` where the stream is more than 1,000 deep, else `TooLarge` where it has more than 2^31 - 1 bytes.
+    /// `OutOfMemory` where memory ran out.
+    #[tactic(auto, using(crate::proofs::OutputLemmas::is_of, crate::proofs::OutputLemmas::too_deep, crate::proofs::OutputLemmas::too_large, crate::proofs::OutputLemmas::memory_out))]
+    pub fn contents(&self, alloc: Global) -> Result<Contents, ValueCause>
+        ensures list { IfOk result (λ contents. IsOf self.now contents) }
+        ensures cause { IfErr result (HasCause self.now) }
+    {
+        one_reading();
+        let totals = self.index.totals();
+        if totals.depth > u64::from(MOST_TREE_DEPTH) {
+            return Err(ValueCause::TooDeep);
+        }
+        if totals.bytes > MOST_TREE_BYTES {
+            return Err(ValueCause::TooLarge);
+        }
+        // The bytes were accepted before, under a gate that passes more, so nothing is refused here.
+        match read_all(alloc, self.index.bytes(), &OpenGate) {
+            Ok(contents) => Ok(contents),
+            Err(_) => Err(ValueCause::OutOfMemory),
+        }
     }
 }

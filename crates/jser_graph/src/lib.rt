@@ -1,24 +1,7 @@
-//! A stream kept by its handles: what each handle names, the text of every string, the checked names, the text of show,
-//! and the bytes as they were read.
+//! A stream by its handles, with its tree: the index of jser_index, and the contents of the stream as a value.
 #![tactic(auto)]
 
-mod begun;
-mod decode;
 mod graph;
-mod lists;
-mod node;
-mod nodes;
-mod output;
-mod owners;
-mod part;
-mod read;
-mod show;
-mod spot;
-mod strings;
-mod survey;
-mod texts;
-mod units;
 
 pub use graph::Graph;
-pub use node::{Node, NodeKind};
-pub use output::GraphFault;
+pub use jser_index::{GraphFault, Node, NodeKind};

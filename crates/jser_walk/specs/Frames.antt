@@ -41,7 +41,8 @@ cue_of layers chains (frame.Sections level chain index stage) =
     parts_cue level (parts_from (layers_in chains chain) index stage)
 cue_of layers chains (frame.External level chain) =
     parts_cue level (external_part (own_class_of (layers_in chains chain)) ∷ note_part ∷ [])
-cue_of layers chains (frame.ExternalNotes level) = parts_cue level (note_part ∷ [])
+cue_of layers chains (frame.ExternalNotes level chain) = parts_cue level (note_part ∷ [])
+cue_of layers chains (frame.ExternalEnd level chain) = parts_cue level []
 cue_of layers chains (frame.End level) = parts_cue level []
 cue_of layers chains (frame.Made owner level number) = made_cue (told_owner owner) level number
 cue_of layers chains (frame.Super level number layer) = super_cue level number (layer_in layers layer)
@@ -57,6 +58,8 @@ cues_of layers chains (f ∷ frames) = cue_of layers chains f ∷ cues_of layers
 abbrev pub FrameFits : (layers chains : ℕ) → Frame → Type 0
 FrameFits layers chains (frame.Sections level chain index stage) = chain < chains
 FrameFits layers chains (frame.External level chain) = chain < chains
+FrameFits layers chains (frame.ExternalNotes level chain) = chain < chains
+FrameFits layers chains (frame.ExternalEnd level chain) = chain < chains
 FrameFits layers chains (frame.Super level number layer) = layer < layers
 FrameFits layers chains (frame.SuperHandle level number layer) = layer < layers
 FrameFits layers chains (frame.Close number parent layer) = layer < layers

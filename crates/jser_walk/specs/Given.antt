@@ -1,5 +1,5 @@
 -- What the calls of a walk are given, and what it stands for: the fields of a stream as a reader lends them, the owners
--- of class places, and the nodes that an earlier walk found for them.
+-- of class places, and the nodes of these.
 use Rattle.std.specs.Prelude.{◌≡◌, ◌+◌, true, false, List, map}
 use Rattle.jser_grammar.specs.Spelling.{prims_spelling}
 use Rattle.jser_grammar.specs.Wire.{TC_BLOCKDATA, TC_ENDBLOCKDATA, TC_RESET, TC_BLOCKDATALONG, BASE_WIRE_HANDLE}

@@ -82,6 +82,14 @@ impl Chains {
         Ok(number)
     }
 
+    /// How many chains there are.
+    #[tactic(auto, using(crate::proofs::ChainLemmas::length_chains_of))]
+    pub(crate) fn count(&self) -> usize
+        ensures { result ≡ length self.now }
+    {
+        self.kept.len()
+    }
+
     /// How many layers the chain has.
     #[tactic(auto, using(crate::proofs::ChainLemmas::length_chains_of))]
     #[inline(always)]

@@ -47,6 +47,13 @@ impl Draft {
         Ok(())
     }
 
+    /// The name.
+    pub(crate) fn name(&self) -> &Name
+        ensures { result.now ≡ self.now.name }
+    {
+        &self.name
+    }
+
     /// The fields come.
     pub(crate) fn begin_fields(&mut self)
         ensures name { self.new.name ≡ self.old.name }

@@ -41,6 +41,12 @@ pub(crate) enum Frame {
     /// The annotation of that.
     ExternalNotes {
         level: u64,
+        chain: u32,
+    },
+    /// The end of that.
+    ExternalEnd {
+        level: u64,
+        chain: u32,
     },
     /// The end of all sections.
     End {

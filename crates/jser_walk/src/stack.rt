@@ -47,6 +47,11 @@ impl Stack {
         self.top
     }
 
+    /// The frames below the innermost one, the outermost first.
+    pub(crate) fn below(&self) -> &[Frame] {
+        self.below.as_slice()
+    }
+
     /// Puts a frame on top. The stack is as it was where memory runs out.
     #[inline(always)]
     pub(crate) fn push(&mut self, frame: Frame) -> Result<(), AllocError>

@@ -189,4 +189,38 @@ impl Table {
         let own = self.chains.own(chain);
         &self.layers[own.layer as usize]
     }
+
+    /// The layer with this number, if there is one.
+    pub(crate) fn layer_at(&self, number: u32) -> Option<&Layer> {
+        self.layers.get(number as usize)
+    }
+
+    /// How many layers the chain with this number has; 0 where there is none.
+    pub(crate) fn layers_of(&self, chain: u32) -> usize
+        ensures { chain < length self.now.chains → result ≡ length (layers_in self.now.chains chain) }
+    {
+        if (chain as usize) < self.chains.count() {
+            self.layers(chain)
+        } else {
+            0
+        }
+    }
+
+    /// The layer of a chain at this index, if there is one.
+    pub(crate) fn layer_of(&self, chain: u32, index: usize) -> Option<&Layer> {
+        if (chain as usize) < self.chains.count() && index < self.layers(chain) {
+            Some(self.layer(chain, index))
+        } else {
+            None
+        }
+    }
+
+    /// The own layer of a class, if there is a chain with this number.
+    pub(crate) fn own_of(&self, chain: u32) -> Option<&Layer> {
+        if (chain as usize) < self.chains.count() {
+            Some(self.own(chain))
+        } else {
+            None
+        }
+    }
 }

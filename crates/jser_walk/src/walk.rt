@@ -48,8 +48,7 @@ impl<'a> Model for Walk<'a> {
 impl<'a> Walk<'a> {
     /// A walk that has gone along no field. Takes no memory.
     ///
-    /// `owners` are the nodes of all owners of the stream in the order of their tags, as an earlier walk found them;
-    /// none for the first walk.
+    /// `owners` are the nodes of all owners of the stream in the order of their tags.
     pub fn new(alloc: Global, owners: &'a [OwnerNode]) -> Walk<'a>
         ensures { result ≡ begin_telling (told_nodes owners.now) }
     {

@@ -18,7 +18,7 @@ mod value;
 
 pub use due::say_due;
 pub use line::say;
-pub use number::say_decimal;
+pub use number::{say_decimal, say_hex};
 pub use owner::{say_class_handle, say_class_reference, say_enum_name, say_top_reference};
 pub use plain::{say_plain_handle, say_plain_string};
 pub use quote::say_quoted;

@@ -24,7 +24,7 @@ pub fn say_decimal<W: Sink>(outbox: &mut Outbox, sink: &mut W, number: u64)
 }
 
 /// Says bytes in lower-case hexadecimal, two digits a byte.
-pub(crate) fn say_hex<W: Sink>(outbox: &mut Outbox, sink: &mut W, bytes: &[u8])
+pub fn say_hex<W: Sink>(outbox: &mut Outbox, sink: &mut W, bytes: &[u8])
     ensures { SaysTo W.gone_out W.has_failed outbox.old outbox.new sink.old sink.new (λ k. encode_lower bytes.now ++ k) }
 {
     match bytes.len() {

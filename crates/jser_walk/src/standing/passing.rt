@@ -106,14 +106,15 @@ impl<'a> Standing<'a> {
                     stage,
                 },
             ) => pass_sections(&self.table, &mut self.frames, level, chain, index, stage)?,
-            Some(Frame::External { level, .. }) => {
-                self.frames.set_top(Frame::ExternalNotes { level });
+            Some(Frame::External { level, chain }) => {
+                self.frames.set_top(Frame::ExternalNotes { level, chain });
             }
-            Some(Frame::ExternalNotes { level }) => {
+            Some(Frame::ExternalNotes { level, chain }) => {
                 let inner = deeper(level)?;
-                self.frames.set_top(Frame::End { level });
+                self.frames.set_top(Frame::ExternalEnd { level, chain });
                 self.frames.push(Frame::Notes { level: inner })?;
             }
+            Some(Frame::ExternalEnd { .. }) => self.frames.pop(),
             Some(Frame::End { .. }) => self.frames.pop(),
             Some(Frame::Elements { left, .. }) => {
                 if left == 0 {

@@ -242,6 +242,7 @@ impl<'a> Standing<'a> {
             }
             Some(Frame::External { .. }) => Ok(Phase::Frames),
             Some(Frame::ExternalNotes { .. }) => Ok(Phase::Frames),
+            Some(Frame::ExternalEnd { .. }) => Ok(Phase::Frames),
             Some(Frame::End { .. }) => Ok(Phase::Frames),
             Some(Frame::Made { .. }) => Ok(Phase::Frames),
             Some(Frame::Close { .. }) => Ok(Phase::Frames),

@@ -63,6 +63,7 @@ impl<'a> Standing<'a> {
                 name: self.table.own(chain).name(),
             }),
             Some(Frame::ExternalNotes { .. }) => Some(Due::Quiet),
+            Some(Frame::ExternalEnd { .. }) => Some(Due::Quiet),
             Some(Frame::End { .. }) => Some(Due::Quiet),
             Some(Frame::Elements { left, .. }) => {
                 if left == 0 { Some(Due::Quiet) } else { None }
@@ -97,6 +98,7 @@ impl<'a> Standing<'a> {
             Some(Frame::SuperHandle { .. }) => Prompt::Handle,
             Some(Frame::External { .. }) => Prompt::Due,
             Some(Frame::ExternalNotes { .. }) => Prompt::Due,
+            Some(Frame::ExternalEnd { .. }) => Prompt::Due,
             Some(Frame::End { .. }) => Prompt::Due,
             Some(Frame::Made { .. }) => Prompt::Due,
             Some(Frame::Close { .. }) => Prompt::Due,

@@ -8,7 +8,7 @@ use jser_value::ValueCause;
 use std::alloc::AllocGlobal;
 use std::process::Abort;
 use test_support::Compared;
-use test_support::streams::LINKED_PAIR;
+use test_support::streams::{LINKED_PAIR, STREAMS};
 
 /// The text of `show`, or a beginning of it of which the fault tells the length.
 fn shows(rt: &(impl Abort + AllocGlobal), graph: &Graph) -> bool {
@@ -28,11 +28,11 @@ fn shows(rt: &(impl Abort + AllocGlobal), graph: &Graph) -> bool {
     }
 }
 
-/// The tree of the stream.
-fn hands_out_the_tree(rt: &(impl Abort + AllocGlobal), graph: &Graph) -> bool {
+/// The tree of the stream, which has these bytes.
+fn hands_out_the_tree(rt: &(impl Abort + AllocGlobal), graph: &Graph, bytes: &[u8]) -> bool {
     match tree_of(rt, graph) {
         Ok(contents) => {
-            is_encoded(rt, "the tree", &contents, LINKED_PAIR);
+            is_encoded(rt, "the tree", &contents, bytes);
             true
         }
         Err(cause) => {
@@ -47,7 +47,7 @@ fn right_or_out_of_memory(rt: HostRuntime) {
     match Graph::read(rt.alloc(), LINKED_PAIR) {
         Ok(graph) => {
             let shown = shows(&rt, &graph);
-            let handed_out = hands_out_the_tree(&rt, &graph);
+            let handed_out = hands_out_the_tree(&rt, &graph, LINKED_PAIR);
             is_name(&rt, &graph, 0, Some(&[0x4C, 0x69, 0x73, 0x74]));
             is_written(&rt, "the bytes", &graph, LINKED_PAIR);
             if !shown || !handed_out {
@@ -57,6 +57,19 @@ fn right_or_out_of_memory(rt: HostRuntime) {
         Err(stop) => {
             assert_eq!(rt; stop, Stop::OutOfMemory);
             let _ = println!(rt; "refused");
+        }
+    }
+}
+
+#[test]
+fn each_stream_or_out_of_memory(rt: HostRuntime) {
+    for (name, bytes) in STREAMS {
+        match Graph::read(rt.alloc(), bytes) {
+            Ok(graph) => {
+                is_written(&rt, name, &graph, bytes);
+                hands_out_the_tree(&rt, &graph, bytes);
+            }
+            Err(stop) => assert_eq!(rt; stop, Stop::OutOfMemory),
         }
     }
 }

@@ -1,0 +1,295 @@
+-- From the item that a reader lends to the field that it ends, or to where the field goes on.
+use denote.Bor.{Bor}
+use Rattle.std.proofs.Common.{◌≡◌, ◌⊎◌, inl, inr, ℕ, suc, ◌+◌, ◌<◌, ◌^◌, Bool, true, false, List, [], ◌∷◌, ◌++◌, length, take, refl, sym, ◌∙◌, ap, subst, arith, append-nil, length-append}
+use Rattle.jser_prim.specs.Bytes.{big_bytes}
+use Rattle.jser_prim.specs.ModifiedUtf8.{modified_utf8}
+use Rattle.jser_prim.proofs.TextLemmas.{one_text}
+use Rattle.jser_grammar.specs.Parts.{IsText}
+use Rattle.jser_grammar.specs.Spelling.{prims_spelling}
+use Rattle.jser_reading.specs.Moments.{Moment}
+use Rattle.jser_reading.specs.Labels.{StreamField, header_field, tag_field, block_tag_field, end_tag_field, reset_tag_field, handle_field, suid_field, flags_field, field_count_field, interface_count_field, array_length_field, code_field, text_field, block_length_field, prims_field, bytes_field, Position, nowhere, header_at, top_at, annotation_at, value_at, text_place_at, class_place_at, superclass_place_at, back_handle_at, text_handle_at, class_handle_at, superclass_handle_at, string_at, class_name_at, field_name_at, interface_name_at, suid_at, field_count_at, interface_count_at, array_length_at, flags_at, type_code_at, block_length_at, raw_at, bytes_at, Label, Piece}
+use Rattle.jser_reading.specs.FieldBytes.{tag_byte, bytes_of}
+use Rattle.jser_reading.specs.FieldsFromBytes.{number_of, head_size}
+use Rattle.jser_reading.specs.Accepts.{AcceptsAt, Accepts}
+use Rattle.jser_reading.specs.ComesNext.{ComesNext}
+use Rattle.jser_reading.proofs.Next.{next_law}
+use Rattle.jser_reading.proofs.Decoding.{number_1, number_2, number_4, number_8, length-big_bytes}
+use Rattle.jser_verdict.specs.Gates.{Gate}
+use Rattle.jser_reader.specs.declared.Item.{Item}
+use Rattle.jser_reader.specs.declared.Item.TheVariants as item
+use Rattle.jser_reader.specs.declared.tally.Tally.{Tally}
+use Rattle.jser_reader.specs.Readers.{Seen}
+use Rattle.jser_reader.specs.Items.{Items, text_items, items_at, IsOfText, IsRawPart, IsLent}
+use Rattle.jser_reader.specs.ItemsTold.{StandsIn, FieldEnds, IsFull, MayGoOn, FieldGoesOn, Lends}
+use Rattle.jser_index.specs.Along.{Ends, IsLength, InText, Between, IsStuck, Moves}
+
+-- ---- a field that one item is, from its beginning
+
+one_byte : (b : ℕ) → number_of (b ∷ []) ≡ b
+one_byte b = omega arith
+
+tag_is : (told : StreamField) (b : ℕ) (lent : Item) → lent ≡ item.Tag (number_of (b ∷ [])) → Ends (item.Tag b) told → Ends lent told
+tag_is told b lent e h = subst (λ i. Ends i told) (ap item.Tag (sym (one_byte b)) ∙ sym e) h
+
+handle_is : (n : ℕ) (lent : Item) → 0x7E0000 + n < 2 ^ 32 → lent ≡ item.Handle (number_of (big_bytes 4 (0x7E0000 + n))) → Ends lent (handle_field n)
+handle_is n lent fits e = subst (λ i. Ends i (handle_field n)) (ap item.Handle (sym (number_4 (0x7E0000 + n) fits)) ∙ sym e) refl
+
+-- a text of no bytes
+no_bytes : (long : Bool) (units : List ℕ) (lent : Item) → IsText long units → (bytes : List ℕ)
+    → bytes ≡ big_bytes (head_size long) (length (modified_utf8 units)) ++ modified_utf8 units → IsOfText long [] bytes lent → Ends lent (text_field long units)
+no_bytes long units (item.TextLength n) t bytes is h =
+    let a = ap length is in
+    let b = length-append (big_bytes (head_size long) (length (modified_utf8 units))) (modified_utf8 units) in
+    let c = length-big_bytes (head_size long) (length (modified_utf8 units)) in
+    let d = h.0 in
+    let none : modified_utf8 units ≡ [] = empty (modified_utf8 units) (omega arith) in
+    let number : number_of bytes ≡ 0 = ap number_of (is ∙ ap (λ m. big_bytes (head_size long) (length m) ++ m) none) ∙ zero_number long in
+    (h.1 ∙ number, one_text units [] t.0 refl none)
+  where
+    empty : {A : Type 0} (xs : List A) → length xs ≡ 0 → xs ≡ []
+    empty [] e = refl
+    empty (x ∷ xs) e = absurd (omega arith)
+
+    zero_number : (long : Bool) → number_of (big_bytes (head_size long) 0 ++ []) ≡ 0
+    zero_number false = ap number_of (append-nil (big_bytes 2 0)) ∙ number_2 0 (omega arith)
+    zero_number true = ap number_of (append-nil (big_bytes 8 0)) ∙ number_8 0 (omega arith)
+no_bytes true units (item.TextPart part) t bytes is h = let a = h.0 in absurd (omega arith)
+no_bytes false units (item.TextPart part) t bytes is h = let a = h.0 in absurd (omega arith)
+no_bytes long units _ t bytes is h = absurd h
+
+raw_is : (told : StreamField) (bytes : List ℕ) (lent : Item) → ((part : Bor (List ℕ)) → part.now ≡ bytes → Ends (item.RawPart part) told)
+    → IsRawPart bytes lent → Ends lent told
+raw_is told bytes (item.RawPart part) f h = f part h
+raw_is told bytes _ f h = absurd h
+
+whole_field : (p : Position) (m : Moment) (told : StreamField) (lent : Item) → AcceptsAt p m told → IsLent (items_at p) [] (bytes_of told) lent → Ends lent told
+whole_field header_at m header_field lent a h = subst (λ i. Ends i header_field) (sym h.1) tt
+whole_field top_at m (tag_field tag) lent a h = tag_is (tag_field tag) (tag_byte tag) lent h.1 refl
+whole_field top_at m (block_tag_field false) lent a h = tag_is (block_tag_field false) 0x77 lent h.1 refl
+whole_field top_at m (block_tag_field true) lent a h = tag_is (block_tag_field true) 0x7A lent h.1 refl
+whole_field top_at m reset_tag_field lent a h = tag_is reset_tag_field 0x79 lent h.1 refl
+whole_field annotation_at m (tag_field tag) lent a h = tag_is (tag_field tag) (tag_byte tag) lent h.1 refl
+whole_field annotation_at m (block_tag_field false) lent a h = tag_is (block_tag_field false) 0x77 lent h.1 refl
+whole_field annotation_at m (block_tag_field true) lent a h = tag_is (block_tag_field true) 0x7A lent h.1 refl
+whole_field annotation_at m end_tag_field lent a h = tag_is end_tag_field 0x78 lent h.1 refl
+whole_field value_at m (tag_field tag) lent a h = tag_is (tag_field tag) (tag_byte tag) lent h.1 refl
+whole_field (class_place_at owner) m (tag_field tag) lent a h = tag_is (tag_field tag) (tag_byte tag) lent h.1 refl
+whole_field (superclass_place_at owner strict) m (tag_field tag) lent a h = tag_is (tag_field tag) (tag_byte tag) lent h.1 refl
+whole_field text_place_at m (tag_field tag) lent a h = tag_is (tag_field tag) (tag_byte tag) lent h.1 refl
+whole_field back_handle_at m (handle_field n) lent a h = handle_is n lent a.1 h.1
+whole_field text_handle_at m (handle_field n) lent a h = handle_is n lent a.1 h.1
+whole_field (class_handle_at owner) m (handle_field n) lent a h = handle_is n lent a.0.1 h.1
+whole_field (superclass_handle_at owner strict) m (handle_field n) lent a h = handle_is n lent a.0.1 h.1
+whole_field (string_at false) m (text_field false units) lent a h = no_bytes false units lent a (bytes_of (text_field false units)) refl h
+whole_field (string_at true) m (text_field true units) lent a h = no_bytes true units lent a (bytes_of (text_field true units)) refl h
+whole_field (class_name_at role) m (text_field false units) lent a h = no_bytes false units lent a.0.0 (bytes_of (text_field false units)) refl h
+whole_field field_name_at m (text_field false units) lent a h = no_bytes false units lent a (bytes_of (text_field false units)) refl h
+whole_field interface_name_at m (text_field false units) lent a h = no_bytes false units lent a.0 (bytes_of (text_field false units)) refl h
+whole_field suid_at m (suid_field n) lent a h = subst (λ i. Ends i (suid_field n)) (ap item.Suid (sym (number_8 n a)) ∙ sym h.1) refl
+whole_field (flags_at role) m (flags_field n) lent a h = subst (λ i. Ends i (flags_field n)) (ap item.Flags (sym (one_byte n)) ∙ sym h.1) refl
+whole_field field_count_at m (field_count_field n) lent a h =
+    subst (λ i. Ends i (field_count_field n)) (ap item.FieldCount (sym (number_2 n (omega arith))) ∙ sym h.1) refl
+whole_field interface_count_at m (interface_count_field n) lent a h =
+    subst (λ i. Ends i (interface_count_field n)) (ap item.InterfaceCount (sym (number_4 n (omega arith))) ∙ sym h.1) refl
+whole_field array_length_at m (array_length_field n) lent a h =
+    subst (λ i. Ends i (array_length_field n)) (ap item.ArrayLength (sym (number_4 n (omega arith))) ∙ sym h.1) refl
+whole_field (type_code_at seen) m (code_field n) lent a h = subst (λ i. Ends i (code_field n)) (ap item.TypeCode (sym (one_byte n)) ∙ sym h.1) refl
+whole_field (block_length_at false) m (block_length_field false n) lent a h =
+    subst (λ i. Ends i (block_length_field false n)) (ap item.BlockLength (sym (number_1 n (omega arith))) ∙ sym h.1) refl
+whole_field (block_length_at true) m (block_length_field true n) lent a h =
+    subst (λ i. Ends i (block_length_field true n)) (ap item.BlockLength (sym (number_4 n (omega arith))) ∙ sym h.1) refl
+whole_field (raw_at c (suc n)) m (prims_field ps) lent a h = raw_is (prims_field ps) (prims_spelling ps) lent (λ part e. e) h
+whole_field (bytes_at (suc n)) m (bytes_field bytes) lent a h = raw_is (bytes_field bytes) bytes lent (λ part e. e) h
+whole_field _ m told lent a h = absurd a
+
+-- ---- the bytes of a text, after its length
+
+abbrev IsTexts : Items → Type 0
+IsTexts (text_items long) = Unit {0}
+IsTexts _ = ⊥
+
+abbrev long_in : Items → Bool
+long_in (text_items long) = long
+long_in _ = false
+
+-- a text of this form, which obeys the format
+pub record TextTold (told : StreamField) (long : Bool) : Type 0 where
+  units : List ℕ
+  is_text : IsText long units
+  is : told ≡ text_field long units
+
+text_of : (at long : Bool) (units : List ℕ) → text_items at ≡ text_items long → IsText at units → TextTold (text_field at units) long
+text_of at long units e t =
+    let same = ap long_in e in
+    record { units = units; is_text = subst (λ l. IsText l units) same t; is = ap (λ l. text_field l units) same }
+
+pub text_told : (p : Position) (m : Moment) (told : StreamField) (long : Bool) → AcceptsAt p m told → items_at p ≡ text_items long → TextTold told long
+text_told (string_at false) m (text_field false units) long a e = text_of false long units e a
+text_told (string_at true) m (text_field true units) long a e = text_of true long units e a
+text_told (class_name_at role) m (text_field false units) long a e = text_of false long units e a.0.0
+text_told field_name_at m (text_field false units) long a e = text_of false long units e a
+text_told interface_name_at m (text_field false units) long a e = text_of false long units e a.0
+text_told nowhere m told long a e = absurd (subst IsTexts (sym e) tt)
+text_told header_at m told long a e = absurd (subst IsTexts (sym e) tt)
+text_told top_at m told long a e = absurd (subst IsTexts (sym e) tt)
+text_told annotation_at m told long a e = absurd (subst IsTexts (sym e) tt)
+text_told value_at m told long a e = absurd (subst IsTexts (sym e) tt)
+text_told text_place_at m told long a e = absurd (subst IsTexts (sym e) tt)
+text_told (class_place_at owner) m told long a e = absurd (subst IsTexts (sym e) tt)
+text_told (superclass_place_at owner strict) m told long a e = absurd (subst IsTexts (sym e) tt)
+text_told back_handle_at m told long a e = absurd (subst IsTexts (sym e) tt)
+text_told text_handle_at m told long a e = absurd (subst IsTexts (sym e) tt)
+text_told (class_handle_at owner) m told long a e = absurd (subst IsTexts (sym e) tt)
+text_told (superclass_handle_at owner strict) m told long a e = absurd (subst IsTexts (sym e) tt)
+text_told suid_at m told long a e = absurd (subst IsTexts (sym e) tt)
+text_told field_count_at m told long a e = absurd (subst IsTexts (sym e) tt)
+text_told interface_count_at m told long a e = absurd (subst IsTexts (sym e) tt)
+text_told array_length_at m told long a e = absurd (subst IsTexts (sym e) tt)
+text_told (flags_at role) m told long a e = absurd (subst IsTexts (sym e) tt)
+text_told (type_code_at seen) m told long a e = absurd (subst IsTexts (sym e) tt)
+text_told (block_length_at false) m told long a e = absurd (subst IsTexts (sym e) tt)
+text_told (block_length_at true) m told long a e = absurd (subst IsTexts (sym e) tt)
+text_told (raw_at c n) m told long a e = absurd (subst IsTexts (sym e) tt)
+text_told (bytes_at n) m told long a e = absurd (subst IsTexts (sym e) tt)
+text_told _ m told long a e = absurd a
+
+pub same_rest : (xs zs ys ws : List ℕ) → xs ++ ys ≡ zs ++ ws → length xs ≡ length zs → ys ≡ ws
+same_rest [] [] ys ws e n = e
+same_rest [] (z ∷ zs) ys ws e n = absurd (omega arith)
+same_rest (x ∷ xs) [] ys ws e n = absurd (omega arith)
+same_rest (x ∷ xs) (z ∷ zs) ys ws e n = same_rest xs zs ys ws (tails e) (omega arith)
+  where
+    tails : {x y : ℕ} {xs ys : List ℕ} → x ∷ xs ≡ y ∷ ys → xs ≡ ys
+    tails e = cc
+
+pub text_bytes : (told : StreamField) (long : Bool) → TextTold told long
+    → (units : List ℕ) × IsText long units × (told ≡ text_field long units)
+    × (bytes_of told ≡ big_bytes (head_size long) (length (modified_utf8 units)) ++ modified_utf8 units)
+text_bytes told false t = (t.units, t.is_text, t.is, ap bytes_of t.is)
+text_bytes told true t = (t.units, t.is_text, t.is, ap bytes_of t.is)
+
+text_part : (long : Bool) (cut taken : List ℕ) (lent : Item) (told : StreamField) → TextTold told long → length cut ≡ head_size long → 0 < length taken
+    → bytes_of told ≡ cut ++ taken → IsOfText long cut taken lent → Ends lent told
+text_part long cut taken (item.TextPart part) told t size some b h =
+    let x = text_bytes told long t in
+    let rest : modified_utf8 x.0 ≡ taken =
+    same_rest (big_bytes (head_size long) (length (modified_utf8 x.0))) cut (modified_utf8 x.0) taken (sym x.3 ∙ b)
+    (length-big_bytes (head_size long) (length (modified_utf8 x.0)) ∙ sym size) in
+    subst (λ f. Ends (item.TextPart part) f) (sym x.2) (x.1.0, rest ∙ sym h.1)
+text_part long cut taken (item.TextLength n) told t size some b h =
+    let a = h.0 in
+    let c = length-append cut taken in
+    absurd (omega arith)
+text_part long cut taken _ told t size some b h = absurd h
+
+-- ---- what one item does
+
+same_label : (front : List Piece) (a b : Label) → ComesNext front a → ComesNext front b → a ≡ b
+same_label front a b h i = ((next_law front a).0 h).1 ∙ sym ((next_law front b).0 i).1
+
+field_ends : (front : List Piece) (cut taken : List ℕ) (lent : Item) (label : Label) (told : StreamField) → Between front cut → ComesNext front label
+    → Accepts label told → bytes_of told ≡ cut ++ taken → 0 < length taken → IsLent (items_at label.position) cut taken lent → Ends lent told
+field_ends front cut taken lent label told (inl none) comes a b some h =
+    whole_field label.position label.moment told lent a
+    (subst (λ t. IsLent (items_at label.position) [] t lent) (sym (b ∙ ap (λ c. c ++ taken) none)) (subst (λ c. IsLent (items_at label.position) c taken lent) none h))
+field_ends front cut taken lent label told (inr t) comes a b some h =
+    let same : items_at label.position ≡ text_items t.long = ap (λ l. items_at l.position) (same_label front label t.label comes t.comes) ∙ t.is_text in
+    text_part t.long cut taken lent told (text_told label.position label.moment told t.long a same) t.size some b
+    (subst (λ i. IsLent i cut taken lent) same h)
+
+no_bytes_left : (given : List ℕ) (used : ℕ) → used ≡ length given → (front back : List ℕ) → given ≡ front ++ back → length front ≡ used → back ≡ []
+no_bytes_left given used all front back split n =
+    let a = ap length split in
+    let b = length-append front back in
+    empty back (omega arith)
+  where
+    empty : {A : Type 0} (xs : List A) → length xs ≡ 0 → xs ≡ []
+    empty [] e = refl
+    empty (x ∷ xs) e = absurd (omega arith)
+
+stuck : (gate : Gate) (front : List Piece) (cut taken rest given : List ℕ) (used : ℕ) → 0 < used → taken ≡ take used given → length taken ≡ used
+    → given ≡ taken ++ rest → IsFull gate front (cut ++ taken) given used → IsStuck gate front (cut ++ taken) rest
+stuck gate front cut taken rest given used some is n split (inl all) =
+    record { some = λ e. not_none cut taken used some n e; at_end = inl (no_bytes_left given used all taken rest split n) }
+  where
+    not_none : (cut taken : List ℕ) (used : ℕ) → 0 < used → length taken ≡ used → cut ++ taken ≡ [] → ⊥
+    not_none cut taken used some n e = let a = ap length e in let b = length-append cut taken in omega arith
+stuck gate front cut taken rest given used some is n split (inr full) =
+    record { some = λ e. not_none cut taken used some n e; at_end = inr full }
+  where
+    not_none : (cut taken : List ℕ) (used : ℕ) → 0 < used → length taken ≡ used → cut ++ taken ≡ [] → ⊥
+    not_none cut taken used some n e = let a = ap length e in let b = length-append cut taken in omega arith
+
+-- the length of a text
+
+abbrev IsNoText : Item → Type 0
+IsNoText (item.TextLength n) = ⊥
+IsNoText _ = Unit {0}
+
+text_at : (p : Position) (cut taken : List ℕ) (n : ℕ) → IsLent (items_at p) cut taken (item.TextLength n)
+    → (long : Bool) × (items_at p ≡ text_items long) × (length (cut ++ taken) ≡ head_size long)
+text_at (string_at long) cut taken n h = (long, refl, h.0)
+text_at (class_name_at role) cut taken n h = (false, refl, h.0)
+text_at field_name_at cut taken n h = (false, refl, h.0)
+text_at interface_name_at cut taken n h = (false, refl, h.0)
+text_at nowhere cut taken n h = absurd h
+text_at (raw_at c m) cut taken n h = absurd h
+text_at (bytes_at m) cut taken n h = absurd h
+text_at header_at cut taken n h = absurd (subst IsNoText (sym h.1) tt)
+text_at top_at cut taken n h = absurd (subst IsNoText (sym h.1) tt)
+text_at annotation_at cut taken n h = absurd (subst IsNoText (sym h.1) tt)
+text_at value_at cut taken n h = absurd (subst IsNoText (sym h.1) tt)
+text_at text_place_at cut taken n h = absurd (subst IsNoText (sym h.1) tt)
+text_at (class_place_at owner) cut taken n h = absurd (subst IsNoText (sym h.1) tt)
+text_at (superclass_place_at owner strict) cut taken n h = absurd (subst IsNoText (sym h.1) tt)
+text_at back_handle_at cut taken n h = absurd (subst IsNoText (sym h.1) tt)
+text_at text_handle_at cut taken n h = absurd (subst IsNoText (sym h.1) tt)
+text_at (class_handle_at owner) cut taken n h = absurd (subst IsNoText (sym h.1) tt)
+text_at (superclass_handle_at owner strict) cut taken n h = absurd (subst IsNoText (sym h.1) tt)
+text_at suid_at cut taken n h = absurd (subst IsNoText (sym h.1) tt)
+text_at field_count_at cut taken n h = absurd (subst IsNoText (sym h.1) tt)
+text_at interface_count_at cut taken n h = absurd (subst IsNoText (sym h.1) tt)
+text_at array_length_at cut taken n h = absurd (subst IsNoText (sym h.1) tt)
+text_at (flags_at role) cut taken n h = absurd (subst IsNoText (sym h.1) tt)
+text_at (type_code_at seen) cut taken n h = absurd (subst IsNoText (sym h.1) tt)
+text_at (block_length_at false) cut taken n h = absurd (subst IsNoText (sym h.1) tt)
+text_at (block_length_at true) cut taken n h = absurd (subst IsNoText (sym h.1) tt)
+
+goes_on : (gate : Gate) (front : List Piece) (label : Label) (cut taken rest given : List ℕ) (used : ℕ) (lent : Item) → ComesNext front label → 0 < used
+    → taken ≡ take used given → length taken ≡ used → given ≡ taken ++ rest → IsLent (items_at label.position) cut taken lent
+    → MayGoOn lent (IsFull gate front (cut ++ taken) given used) → (IsLength lent × InText front (cut ++ taken)) ⊎ IsStuck gate front (cut ++ taken) rest
+goes_on gate front label cut taken rest given used (item.TextLength n) comes some is size split h may =
+    let t = text_at label.position cut taken n h in
+    inl (may, record { label = label; comes = comes; long = t.0; is_text = t.1; size = t.2 })
+goes_on gate front label cut taken rest given used (item.TextPart part) comes some is size split h may =
+    inr (stuck gate front cut taken rest given used some is size split may)
+goes_on gate front label cut taken rest given used (item.RawPart part) comes some is size split h may =
+    inr (stuck gate front cut taken rest given used some is size split may)
+goes_on gate front label cut taken rest given used _ comes some is size split h may = absurd may
+
+pub moves : (gate : Gate) (front : List Piece) (cut given taken rest : List ℕ) (lent : Item) (used : ℕ) (r : Seen) (tally : Tally) → Between front cut
+    → 0 < used → taken ≡ take used given → length taken ≡ used → given ≡ taken ++ rest → Lends gate front cut given lent used r tally
+    → Moves gate front cut taken rest lent r tally
+moves gate front cut given taken rest lent used r tally b some is size split h =
+    let lent_now = subst (λ t. IsLent (items_at h.label.position) cut t lent) (sym is) h.is in
+    cases h.after lent_now
+  where
+    cases : FieldEnds gate front h.label (cut ++ take used given) r tally ⊎ FieldGoesOn gate front (cut ++ take used given) given used lent r tally
+        → IsLent (items_at h.label.position) cut taken lent → Moves gate front cut taken rest lent r tally
+    cases (inl e) l =
+        let bytes : bytes_of e.field ≡ cut ++ taken = e.spelled ∙ ap (λ t. cut ++ t) (sym is) in
+        inl (record {
+          label = h.label;
+          comes = h.comes;
+          told = e.field;
+          ends = field_ends front cut taken lent h.label e.field b h.comes e.accepted bytes (subst (λ n. 0 < n) (sym size) some) l;
+          bytes = bytes;
+          stands = e.stands;
+        })
+    cases (inr o) l =
+        inr (record {
+          stands = subst (λ t. StandsIn gate front (cut ++ t) r tally) (sym is) o.stands;
+          goes_on =
+              goes_on gate front h.label cut taken rest given used lent h.comes some is size split l
+              (subst (λ t. MayGoOn lent (IsFull gate front (cut ++ t) given used)) (sym is) o.full);
+        })

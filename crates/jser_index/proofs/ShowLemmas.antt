@@ -1,0 +1,191 @@
+-- The text of show, said field by field along the bytes.
+use Rattle.std.proofs.Common.{◌≡◌, ◌⊎◌, inl, inr, ℕ, Bool, true, Option, List, [], ◌∷◌, ◌++◌, length, Result, Ok, Err, OnOk, OnErr, refl, sym, ◌∙◌, ap, subst, append_assoc, append-nil}
+use Rattle.jser_prim.specs.Outgoing.{Outgoing, SinkState, Puts, sink_state}
+use Rattle.jser_prim.proofs.OutgoingLemmas.{puts_both, puts_stopped}
+use Rattle.jser_grammar.specs.Trees.{ContentTrees}
+use Rattle.jser_reading.specs.Labels.{StreamField, Label, Piece, piece}
+use Rattle.jser_reading.specs.Fields.{fields_of}
+use Rattle.jser_shown.specs.Cues.{Teller}
+use Rattle.jser_shown.specs.Fronts.{teller_at, said}
+use Rattle.jser_shown.specs.FrontLaws.{TellsFronts, OneMore}
+use Rattle.jser_shown.specs.Laws.{Told}
+use Rattle.jser_shown.specs.Owners.{owners_of}
+use Rattle.jser_shown.specs.Shown.{shown}
+use Rattle.jser_shown.specs.Telling.{begin_telling, settled, settle_says, goes, tell}
+use Rattle.jser_verdict.specs.Passing.{Passes}
+use Rattle.jser_reader.specs.Gates.{open_gate}
+use Rattle.jser_reader.specs.declared.Item.{Item}
+use Rattle.jser_reader.specs.declared.tally.Tally.{Tally}
+use Rattle.jser_reader.specs.Readers.{Seen}
+use Rattle.jser_words.specs.Passing.{says_next}
+use Rattle.jser_words.specs.Says.{Says, Begins, BeginsTo}
+use Rattle.jser_words.proofs.SaysLemmas.{says_none, says_both, says_same}
+use Rattle.jser_index.specs.Along.{Ends, IsLength, InText, IsStuck, GoesAlong}
+use Rattle.jser_index.specs.Showing.{PutsText, PutsSome, PutsFront}
+use Rattle.jser_index.proofs.TurnLemmas.{Turn, Does}
+use Rattle.jser_index.proofs.PassLemmas.{begins_list, not_stuck, reached, reached_all}
+
+-- these fields were said, and the walk is where the teller is after them
+pub record HasSaid (start : Teller) (old now : Outgoing) (before after : SinkState) (walk : Teller) (front : List Piece) : Type 0 where
+  pub walk_is : walk ≡ teller_at start front
+  pub text : Says old now before after (λ k. said start front k)
+
+pub said_none : (start : Teller) (out : Outgoing) (sink : SinkState) → HasSaid start out out sink sink start []
+said_none start out sink = record { walk_is = refl; text = says_none out sink (λ k. k) }
+
+-- so far along the bytes
+abbrev pub SaysAlong : (bytes rest : List ℕ) → Seen → Tally → Teller → (old now : Outgoing) → (before after : SinkState) → Teller → Type 0
+SaysAlong bytes rest r tally start old now before after walk = GoesAlong open_gate bytes rest r tally (HasSaid start old now before after walk)
+
+pub begins_none : (out : Outgoing) (sink : SinkState) (all : List ℕ → List ℕ) → Begins out out sink sink all
+begins_none out sink all = record { left = all; said = says_none out sink all }
+
+pub begins_same : {S : Type 0} (gone_out : S → Option (List ℕ)) (has_failed : S → Bool) (old new : Outgoing) (before after : S) (all : List ℕ → List ℕ)
+    → new ≡ old → after ≡ before → BeginsTo gone_out has_failed old new before after all
+begins_same gone_out has_failed old new before after all out sink =
+    subst (λ o. BeginsTo gone_out has_failed old o before after all) (sym out)
+    (subst (λ s. BeginsTo gone_out has_failed old old before s all) (sym sink)
+    (begins_none old (sink_state (gone_out before) (has_failed before)) all))
+
+pub ok_by : {T E P Q : Type 0} (r : Result T E) → OnOk r P → (P → Q) → OnOk r Q
+ok_by (Ok x) p f = f p
+ok_by (Err e) p f = tt
+
+pub err_by : {T E P Q : Type 0} (r : Result T E) → OnErr r P → (P → Q) → OnErr r Q
+err_by (Ok x) p f = tt
+err_by (Err e) p f = f p
+
+pub err_any : {T E Q : Type 0} (r : Result T E) → Q → OnErr r Q
+err_any (Ok x) q = tt
+err_any (Err e) q = q
+
+-- ---- a turn
+
+says_one : (start walk next : Teller) (front : List Piece) (label : Label) (told : StreamField) (a b c : Outgoing) (d e f : SinkState) → OneMore
+    → HasSaid start a b d e walk front → Says b c e f (λ k. says_next walk told k) → next ≡ goes (settled walk) told
+    → HasSaid start a c d f next (front ++ (piece label told ∷ []))
+says_one start walk next front label told a b c d e f more h says_it goes_on =
+    let one = more start front label told in
+    let here = subst (λ w. Says b c e f (λ k. says_next w told k)) h.walk_is says_it in
+    record {
+      walk_is = goes_on ∙ ap (λ w. goes (settled w) told) h.walk_is ∙ sym one.0;
+      text =
+          says_same a c d f (λ k. said start front (says_next (teller_at start front) told k)) (λ k. said start (front ++ (piece label told ∷ [])) k) one.1
+          (says_both a b c d e f (λ k. said start front k) (λ k. says_next (teller_at start front) told k) h.text here);
+    }
+
+pub does_say : (bytes rest : List ℕ) (lent : Item) (start walk next : Teller) (a b c : Outgoing) (d e f : SinkState) → OneMore
+    → ((told : StreamField) → Ends lent told → Says b c e f (λ k. says_next walk told k)) → ((told : StreamField) → Ends lent told → next ≡ goes (settled walk) told)
+    → (IsLength lent → Says b c e f (λ k. k) × (next ≡ walk)) → Does bytes rest lent (HasSaid start a b d e walk) (HasSaid start a c d f next)
+does_say bytes rest lent start walk next a b c d e f more says_it goes_on same = record {
+  ended = λ front label told comes ends size h.
+      says_one start walk next front label told a b c d e f more h (says_it told ends) (goes_on told ends);
+  same = λ l front h. record {
+    walk_is = (same l).1 ∙ h.walk_is;
+    text = says_both a b c d e f (λ k. said start front k) (λ k. k) h.text (same l).0;
+  };
+}
+
+-- ---- what was said of a stream
+
+-- after a failure any text counts as put
+put_behind : (a b : Outgoing) (d e : SinkState) (xs ys : List ℕ) → Puts a b d e xs → b.failed ≡ true → Puts a b d e (xs ++ ys)
+put_behind a b d e xs ys h off = puts_both a b b d e e xs ys h (puts_stopped b e ys off)
+
+-- the laws by which what is said is the text
+pub record ShowLaws : Type 0 where
+  pub told : Told
+  pub fronts : TellsFronts
+
+pub show_laws : Told → TellsFronts → ShowLaws
+show_laws t f = record { told = t; fronts = f }
+
+-- what is left of the text after some first fields
+text_after : (start : Teller) (list : ContentTrees) (bytes : List ℕ) (front later : List Piece) → ShowLaws → Passes open_gate bytes list → start ≡ begin_telling (owners_of list)
+    → fields_of list ≡ front ++ later → shown list ≡ said start front (tell (teller_at start front) later)
+text_after start list bytes front later laws p begin is =
+    sym (laws.told list p.0.1) ∙ ap (λ s. tell s (fields_of list)) (sym begin) ∙ ap (tell start) is ∙ laws.fronts start front later
+
+-- the sink has failed
+pub says_stopped : (bytes rest : List ℕ) (r : Seen) (tally : Tally) (start walk : Teller) (a b : Outgoing) (d e : SinkState) → ShowLaws
+    → SaysAlong bytes rest r tally start a b d e walk → b.failed ≡ true → PutsText bytes start a b d e
+unfolding PutsText
+says_stopped bytes rest r tally start walk a b d e laws h off = λ list p begin.
+    let x = reached bytes rest r tally (HasSaid start a b d e walk) list h p in
+    let left = tell (teller_at start x.front) x.begins.later in
+    let is = text_after start list bytes x.front x.begins.later laws p begin x.begins.is ∙ x.holds.text.is left in
+    subst (Puts a b d e) (sym is) (put_behind a b d e x.holds.text.bytes left x.holds.text.puts off)
+
+-- nothing more is read
+pub says_front : (bytes rest : List ℕ) (r : Seen) (tally : Tally) (start walk : Teller) (a b : Outgoing) (d e : SinkState) → ShowLaws
+    → SaysAlong bytes rest r tally start a b d e walk → PutsFront bytes start a b d e
+unfolding PutsFront
+says_front bytes rest r tally start walk a b d e laws h = λ list p begin.
+    let x = reached bytes rest r tally (HasSaid start a b d e walk) list h p in
+    let left = tell (teller_at start x.front) x.begins.later in
+    record {
+      front = x.holds.text.bytes;
+      left = left;
+      split = text_after start list bytes x.front x.begins.later laws p begin x.begins.is ∙ x.holds.text.is left;
+      puts = x.holds.text.puts;
+    }
+
+-- memory ran out within an item
+pub item_front : (bytes rest : List ℕ) (lent : Item) (r : Seen) (tally : Tally) (start walk : Teller) (a b c : Outgoing) (d e f : SinkState) → OneMore → ShowLaws
+    → Turn bytes rest lent r tally (HasSaid start a b d e walk) → ((told : StreamField) → Ends lent told → Begins b c e f (λ k. says_next walk told k))
+    → (IsLength lent → ⊥) → PutsFront bytes start a c d f
+unfolding PutsFront
+item_front bytes rest lent r tally start walk a b c d e f more laws (inl x) part none = λ list p begin.
+    let all = x.front ++ (piece x.label x.told ∷ []) in
+    let h = x.before in
+    let begun = part x.told x.ends in
+    let so_far = begins_list bytes rest all [] r tally list x.split x.stands p in
+    let one = more start x.front x.label x.told in
+    let to_come = tell (teller_at start all) so_far.later in
+    record {
+      front = h.text.bytes ++ begun.said.bytes;
+      left = begun.left to_come;
+      split =
+          text_after start list bytes all so_far.later laws p begin so_far.is ∙ one.1 to_come
+          ∙ ap (λ w. said start x.front (says_next w x.told to_come)) (sym h.walk_is)
+          ∙ h.text.is (says_next walk x.told to_come)
+          ∙ ap (λ xs. h.text.bytes ++ xs) (begun.said.is to_come) ∙ sym (append_assoc h.text.bytes begun.said.bytes (begun.left to_come));
+      puts = puts_both a b c d e f h.text.bytes begun.said.bytes h.text.puts begun.said.puts;
+    }
+item_front bytes rest lent r tally start walk a b c d e f more laws (inr x) part none = λ list p begin. goes list p x.goes_on
+  where
+    goes : (list : ContentTrees) → Passes open_gate bytes list → (IsLength lent × InText x.front x.cut × HasSaid start a b d e walk x.front) ⊎ IsStuck open_gate x.front x.cut rest
+        → PutsSome a c d f (shown list)
+    goes list p (inl y) = absurd (none y.0)
+    goes list p (inr s) = absurd (not_stuck bytes rest x.front x.cut r tally list x.split x.stands p s)
+
+-- ---- the end
+
+last_text : (start : Teller) (list : ContentTrees) (bytes : List ℕ) → ShowLaws → Passes open_gate bytes list → start ≡ begin_telling (owners_of list)
+    → let now = teller_at start (fields_of list) in shown list ≡ said start (fields_of list) (settle_says now.known now.cues [])
+last_text start list bytes laws p begin = text_after start list bytes (fields_of list) [] laws p begin (sym (append-nil (fields_of list)))
+
+pub says_all : (bytes rest : List ℕ) (r : Seen) (tally : Tally) (start walk : Teller) (a b c : Outgoing) (d e f : SinkState) → ShowLaws
+    → SaysAlong bytes rest r tally start a b d e walk → length rest ≡ 0 → Says b c e f (λ k. settle_says walk.known walk.cues k) → PutsText bytes start a c d f
+unfolding PutsText
+says_all bytes rest r tally start walk a b c d e f laws h n due = λ list p begin.
+    let x = reached_all bytes rest r tally (HasSaid start a b d e walk) list h p n in
+    let is : shown list ≡ x.text.bytes ++ due.bytes =
+    last_text start list bytes laws p begin ∙ ap (λ w. said start (fields_of list) (settle_says w.known w.cues [])) (sym x.walk_is)
+    ∙ x.text.is (settle_says walk.known walk.cues []) ∙ ap (λ xs. x.text.bytes ++ xs) (due.is [] ∙ append-nil due.bytes) in
+    subst (Puts a c d f) (sym is) (puts_both a b c d e f x.text.bytes due.bytes x.text.puts due.puts)
+
+pub due_front : (bytes rest : List ℕ) (r : Seen) (tally : Tally) (start walk : Teller) (a b c : Outgoing) (d e f : SinkState) → ShowLaws
+    → SaysAlong bytes rest r tally start a b d e walk → length rest ≡ 0 → Begins b c e f (λ k. settle_says walk.known walk.cues k) → PutsFront bytes start a c d f
+unfolding PutsFront
+due_front bytes rest r tally start walk a b c d e f laws h n due = λ list p begin.
+    let x = reached_all bytes rest r tally (HasSaid start a b d e walk) list h p n in
+    record {
+      front = x.text.bytes ++ due.said.bytes;
+      left = due.left [];
+      split =
+          last_text start list bytes laws p begin ∙ ap (λ w. said start (fields_of list) (settle_says w.known w.cues [])) (sym x.walk_is)
+          ∙ x.text.is (settle_says walk.known walk.cues []) ∙ ap (λ xs. x.text.bytes ++ xs) (due.said.is [])
+          ∙ sym (append_assoc x.text.bytes due.said.bytes (due.left []));
+      puts = puts_both a b c d e f x.text.bytes due.said.bytes x.text.puts due.said.puts;
+    }

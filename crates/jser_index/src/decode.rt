@@ -1,0 +1,158 @@
+//! The units of a text from its bytes.
+ghost use Rattle.std.specs.Prelude.{ℕ, List, ◌≡◌, ◌+◌, ◌≤◌, true, length, OnOk, IfOk};
+ghost use Rattle.jser_prim.specs.ModifiedUtf8.{IsUnits, modified_utf8};
+ghost use Rattle.jser_index.specs.Decoding.{AreNarrow, TakesByte, Widens};
+
+use jser_prim::TextScan;
+use std::alloc::AllocError;
+use std::simd::prelude::*;
+
+/// How many bytes are put together in a long text.
+const LANES: usize = 16;
+
+/// How many are put together where there are fewer.
+const HALF: usize = 8;
+
+/// How many are put together where there are fewer than that.
+const QUARTER: usize = 4;
+
+/// The UTF-16 units of a text in modified UTF-8, lent from `room`. Bytes that are no such text have others.
+#[tactic(auto, using(crate::proofs::DecodeLemmas::narrow_text))]
+#[inline(always)]
+pub(crate) fn decode<'r>(bytes: &[u8], room: &'r mut Vec<u16>) -> Result<&'r [u16], AllocError>
+    ensures { IfOk result (λ units. (told : List ℕ) → IsUnits told → modified_utf8 told ≡ bytes.now → units.now ≡ told) }
+{
+    if widen(bytes, room)? {
+        let (units, _) = room.split_at(bytes.len());
+        return Ok(units);
+    }
+    decode_each(bytes, room)?;
+    Ok(room.as_slice())
+}
+
+/// Puts the bytes as units at the front of `room`, which is made longer where it is too short. False where the units of
+/// a text may be others, since not each of them is one byte.
+#[inline(always)]
+fn widen(bytes: &[u8], room: &mut Vec<u16>) -> Result<bool, AllocError>
+    ensures { IfOk result (λ narrow. narrow ≡ true → AreNarrow bytes.now room.new.items) }
+{
+    if room.len() < bytes.len() {
+        room.resize(bytes.len(), 0)?;
+    }
+    Ok(widen_all(bytes, room))
+}
+
+/// The same, where there is room. The last bytes of a text, where they are too few for all lanes, are put with some that
+/// were put before.
+#[inline(always)]
+pub(crate) fn widen_all(bytes: &[u8], room: &mut [u16]) -> bool
+    requires { length bytes.now ≤ length room.old }
+    ensures { result ≡ true → AreNarrow bytes.now room.new }
+{
+    if bytes.len() >= LANES {
+        return widen_loads(bytes, room);
+    }
+    if bytes.len() >= HALF {
+        return widen_ends::<HALF>(bytes, room);
+    }
+    if bytes.len() >= QUARTER {
+        return widen_ends::<QUARTER>(bytes, room);
+    }
+    widen_few(bytes, room)
+}
+
+/// The same of a long text.
+#[tactic(auto, using(crate::proofs::DecodeLemmas::none_widened, crate::proofs::DecodeLemmas::more_widened, crate::proofs::DecodeLemmas::all_widened))]
+#[inline(never)]
+fn widen_loads(bytes: &[u8], room: &mut [u16]) -> bool
+    requires some { LANES ≤ length bytes.now }
+    requires room { length bytes.now ≤ length room.old }
+    ensures { result ≡ true → AreNarrow bytes.now room.new }
+{
+    let mut at = 0;
+    'loads: while bytes.len() - at > LANES {
+        if !widen_lanes::<LANES>(bytes, room, at) {
+            return false;
+        }
+        at += LANES;
+    }
+    widen_lanes::<LANES>(bytes, room, bytes.len() - LANES)
+}
+
+/// The same of as many bytes as there are lanes, or up to twice as many.
+#[tactic(auto, using(crate::proofs::DecodeLemmas::none_widened, crate::proofs::DecodeLemmas::more_widened, crate::proofs::DecodeLemmas::all_widened))]
+#[inline(always)]
+fn widen_ends<const N: usize>(bytes: &[u8], room: &mut [u16]) -> bool
+    requires few { N ≤ 64 }
+    requires some { N ≤ length bytes.now }
+    requires most { length bytes.now ≤ N + N }
+    requires room { length bytes.now ≤ length room.old }
+    ensures { result ≡ true → AreNarrow bytes.now room.new }
+{
+    let front = widen_lanes::<N>(bytes, room, 0);
+    let back = widen_lanes::<N>(bytes, room, bytes.len() - N);
+    front && back
+}
+
+/// Puts the bytes of one load as units at the same place of the room. False where one of them is not below 0x80.
+#[inline(always)]
+fn widen_lanes<const N: usize>(bytes: &[u8], room: &mut [u16], at: usize) -> bool
+    requires few { N ≤ 64 }
+    requires bytes { at + N ≤ length bytes.now }
+    requires room { at + N ≤ length room.old }
+    ensures { Widens N bytes.now at result room.old room.new }
+{
+    let lanes = Simd::<u8, N>::from_slice(&bytes[at..]);
+    lanes.cast::<u16>().copy_to_slice(&mut room[at..]);
+    lanes.simd_ge(Simd::splat(0x80)).to_bitmask() == 0
+}
+
+/// The same, byte by byte.
+#[inline(always)]
+fn widen_few(bytes: &[u8], room: &mut [u16]) -> bool
+    requires { length bytes.now ≤ length room.old }
+    ensures { result ≡ true → AreNarrow bytes.now room.new }
+{
+    let mut narrow = true;
+    for (place, byte) in bytes.iter().enumerate() {
+        room[place] = u16::from(*byte);
+        if *byte >= 0x80 {
+            narrow = false;
+        }
+    }
+    narrow
+}
+
+/// Puts the UTF-16 units of a text in modified UTF-8 in place of those that are there. Bytes that are no such text
+/// leave others.
+#[tactic(auto, using(crate::proofs::DecodeLemmas::decodes_none, crate::proofs::DecodeLemmas::decodes_more, crate::proofs::DecodeLemmas::decodes_stopped, crate::proofs::DecodeLemmas::decodes_all))]
+#[inline(never)]
+fn decode_each(bytes: &[u8], units: &mut Vec<u16>) -> Result<(), AllocError>
+    ensures { OnOk result ((told : List ℕ) → IsUnits told → modified_utf8 told ≡ bytes.now → units.new.items ≡ told) }
+{
+    units.clear();
+    let mut scan = TextScan::new(bytes.len() as u64);
+    for byte in bytes {
+        if !take_byte(&mut scan, *byte, units)? {
+            return Ok(());
+        }
+    }
+    Ok(())
+}
+
+/// Takes a byte of the text, and adds the unit that it ends, if it ends one. False where no text goes on with it.
+fn take_byte(scan: &mut TextScan, byte: u8, units: &mut Vec<u16>) -> Result<bool, AllocError>
+    ensures { IfOk result (λ goes_on. TakesByte byte goes_on scan.old scan.new units.old.items units.new.items) }
+{
+    if scan.left() == 0 {
+        return Ok(false);
+    }
+    match scan.push(byte) {
+        Ok(Some(unit)) => match units.push(unit) {
+            Ok(()) => Ok(true),
+            Err(_) => Err(AllocError),
+        },
+        Ok(None) => Ok(true),
+        Err(_) => Ok(false),
+    }
+}

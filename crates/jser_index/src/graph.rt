@@ -1,0 +1,129 @@
+//! A stream by its handles.
+ghost use Rattle.std.specs.Prelude.{◌≡◌, length, slice_get, IfOk, IfErr};
+ghost use Rattle.jser_index.specs.Graphs.{StandsForSome, IfRefused, node_at, IsNode, text_of};
+ghost use Rattle.jser_index.specs.Listed.{IsList};
+ghost use Rattle.jser_index.specs.Reading.{IsRefused};
+
+use crate::node::Node;
+use crate::nodes::Nodes;
+use crate::read::{Found, survey};
+use crate::texts::Texts;
+use jser_grammar::wire::BASE_WIRE_HANDLE;
+use jser_reader::{Stop, Totals};
+use jser_walk::OwnerNode;
+use std::alloc::{AllocError, Global};
+use std::marker::Model;
+
+/// A Java object serialization stream, by its handles: what each of them names, the units of every string, the checked
+/// names, and the bytes as they were read.
+///
+/// It holds the bytes, 12 bytes for each handle, 8 for each object, array, enum constant and class object, 8 for each
+/// checked name, each reset and each string that has a list of its own, and two for each unit of a string or a checked name;
+/// besides, room that is made ready for fewer than 163,840 units, and what each vector holds in reserve as it grows. It holds
+/// no tree, and nothing in it goes as deep as the stream.
+#[derive(Drop)]
+pub struct Index {
+    pub(crate) bytes: Vec<u8>,
+    nodes: Nodes,
+    names: Texts,
+    pub(crate) owners: Vec<OwnerNode>,
+    pub(crate) totals: Totals,
+}
+
+impl Model for Index {
+    ghost use Rattle.jser_walk.specs.Given.{told_nodes};
+    ghost use Rattle.jser_index.specs.Graphs.{GraphView, IsGraph};
+    ghost use Rattle.jser_index.specs.Listed.{all_lists};
+
+    ghost Value = { GraphView };
+
+    ghost view = { λ a. record {
+      bytes = a.bytes.items;
+      nodes = all_lists a.nodes;
+      names = a.names;
+      owners = told_nodes a.owners.items;
+      totals = a.totals;
+    } };
+
+    ghost invariant = { λ a. IsGraph (record {
+      bytes = a.bytes.items;
+      nodes = all_lists a.nodes;
+      names = a.names;
+      owners = told_nodes a.owners.items;
+      totals = a.totals;
+    }) };
+}
+
+/// A copy of the bytes.
+fn copied(alloc: Global, bytes: &[u8]) -> Result<Vec<u8>, AllocError>
+    ensures { IfOk result (λ copy. copy.items ≡ bytes.now) }
+{
+    let mut copy = Vec::new(alloc);
+    copy.extend_from_slice(bytes)?;
+    Ok(copy)
+}
+
+impl Index {
+    /// Reads bytes that are one stream within the greatest limits: at most 2^40 bytes, 65,535 levels, and 2,139,226,112
+    /// handles in an epoch. No class names are refused.
+    ///
+    /// # Errors
+    ///
+    /// `Refused` where the bytes are no such stream, with the first fault. `OutOfMemory` where memory ran out. Never
+    /// `Spent`.
+    #[tactic(auto, using(crate::proofs::GraphLemmas::stands_for, crate::proofs::GraphLemmas::is_graph, crate::proofs::GraphLemmas::is_refused))]
+    pub fn read(alloc: Global, bytes: &[u8]) -> Result<Index, Stop>
+        ensures accepted { IfOk result (StandsForSome bytes.now) }
+        ensures refused { IfErr result (IfRefused (IsRefused bytes.now)) }
+    {
+        let Found { survey, totals } = survey(alloc, bytes)?;
+        let Ok(copy) = copied(alloc, bytes) else {
+            return Err(Stop::OutOfMemory);
+        };
+        let found = survey.into_found();
+        Ok(Index {
+            bytes: copy,
+            nodes: found.nodes,
+            names: found.names,
+            owners: found.owners,
+            totals,
+        })
+    }
+
+    /// What a handle names, as it is written in the stream; the first handle of an epoch is `BASE_WIRE_HANDLE`, and each
+    /// reset begins the next epoch, counted from 0. `None` where the epoch has no such handle.
+    pub fn node(&self, epoch: u64, handle: u32) -> Option<Node>
+        ensures { IsNode (node_at self.now.nodes epoch handle) result }
+    {
+        if handle < BASE_WIRE_HANDLE {
+            return None;
+        }
+        self.nodes
+            .node(epoch as usize, (handle - BASE_WIRE_HANDLE) as usize)
+    }
+
+    /// The UTF-16 units of the string that a handle names; `None` where it names none.
+    pub fn text(&self, epoch: u64, handle: u32) -> Option<&[u16]>
+        ensures { IsList (text_of (node_at self.now.nodes epoch handle)) result }
+    {
+        if handle < BASE_WIRE_HANDLE {
+            return None;
+        }
+        self.nodes
+            .text(epoch as usize, (handle - BASE_WIRE_HANDLE) as usize)
+    }
+
+    /// How many checked names the stream has: those of classes and of the interfaces of proxies.
+    pub fn name_count(&self) -> usize
+        ensures { result ≡ length self.now.names }
+    {
+        self.names.count()
+    }
+
+    /// The checked name with this number, counted from 0 in the order of the stream.
+    pub fn name_at(&self, number: usize) -> Option<&[u16]>
+        ensures { IsList (slice_get self.now.names number) result }
+    {
+        self.names.get(number)
+    }
+}

@@ -1,0 +1,433 @@
+//! Finds the nodes, owners and checked names of a stream, field by field.
+ghost use Rattle.std.specs.Prelude.{◌≡◌, ◌+◌, ◌<◌, ◌≤◌, ◌^◌, true, false, length, OnOk};
+ghost use Rattle.jser_reading.specs.FieldBytes.{bytes_of, tag_byte};
+ghost use Rattle.jser_reading.specs.Labels.{StreamField, Tag};
+ghost use Rattle.jser_shown.specs.Finding.{begin_finding, begun_by, find, finished, make_begun, take_field, take_name};
+ghost use Rattle.jser_shown.specs.Nodes.{place_after};
+ghost use Rattle.jser_walk.specs.Given.{IsOf, told_nodes};
+ghost use Rattle.jser_index.specs.Along.{Ends, IsLength, PartIs};
+ghost use Rattle.jser_index.specs.Surveying.{AddsString, IsPlain, IsQuiet, GoesPastRaws, GoesPastWhole};
+ghost use Rattle.jser_index.specs.Listed.{all_lists};
+
+use crate::begun::{Begun, elements_made, is_owner, kind_begun};
+use crate::decode::decode;
+use crate::node::small_number;
+use crate::nodes::Nodes;
+use crate::owners::Owners;
+use crate::part::{Part, part_of};
+use crate::texts::Texts;
+use jser_grammar::wire::{
+    TC_BLOCKDATA, TC_BLOCKDATALONG, TC_ENDBLOCKDATA, TC_REFERENCE, TC_RESET, TC_STRING,
+};
+use jser_reader::{Item, Whole};
+use jser_walk::{Field, OwnerNode};
+use std::alloc::{AllocError, Global};
+use std::marker::Model;
+
+/// What was found so far.
+///
+/// It is told of each field how many handles of the epoch were assigned before it, which the reader knows: so it needs
+/// no stack of what is open. A tag's node is made at the first field before which its handle is assigned.
+#[derive(Drop)]
+pub(crate) struct Survey {
+    /// The place of the next field.
+    place: u64,
+    /// The tags whose nodes are not made yet, the last one last.
+    begun: Vec<Begun>,
+    nodes: Nodes,
+    owners: Owners,
+    /// The checked names, in the order of the stream.
+    names: Texts,
+    /// Whether the next text is a checked name, where it is no string.
+    is_name: bool,
+}
+
+impl Model for Survey {
+    ghost use Rattle.std.specs.Prelude.{map, reverse};
+    ghost use Rattle.jser_shown.specs.Finding.{Finding};
+    ghost use Rattle.jser_index.specs.Surveying.{told_begun};
+
+    ghost Value = { Finding };
+
+    ghost view = { λ a. record {
+      place = a.place;
+      begun = reverse (map told_begun a.begun.items);
+      nodes = a.nodes.last;
+      ended = a.nodes.ended;
+      owners = a.owners;
+      names = a.names;
+      is_name = a.is_name;
+    } };
+}
+
+impl Survey {
+    /// Before the first field. Takes no memory.
+    pub(crate) fn new(alloc: Global) -> Survey
+        ensures { result ≡ begin_finding }
+    {
+        Survey {
+            place: 0,
+            begun: Vec::new(alloc),
+            nodes: Nodes::new(alloc),
+            owners: Owners::new(alloc),
+            names: Texts::new(alloc),
+            is_name: false,
+        }
+    }
+
+    /// Makes the node of the last tag that has none yet, at this field.
+    #[tactic(auto, using(crate::proofs::SurveyLemmas::begun_none, crate::proofs::SurveyLemmas::made_owner, crate::proofs::SurveyLemmas::made_other))]
+    #[inline(always)]
+    fn make(&mut self, field: Field<'_>) -> Result<(), AllocError>
+        ensures { OnOk result ((told : StreamField) → IsOf field.entry told → self.new ≡ make_begun told self.old.begun self.old) }
+    {
+        let Some(begun) = self.begun.pop() else {
+            return Ok(());
+        };
+        let number = small_number(self.nodes.count())?;
+        self.nodes.make(begun, field)?;
+        if is_owner(begun.kind) {
+            let elements = elements_made(begun.kind, field);
+            self.owners
+                .fill(begun.position, OwnerNode { number, elements });
+        }
+        Ok(())
+    }
+
+    /// Begins the node of a value's tag.
+    #[tactic(auto, using(crate::proofs::SurveyLemmas::begins_none, crate::proofs::SurveyLemmas::begins_owner, crate::proofs::SurveyLemmas::begins_other))]
+    #[inline(always)]
+    fn begin(&mut self, tag: u8) -> Result<(), AllocError>
+        ensures { OnOk result ((told : Tag) → tag ≡ tag_byte told → self.new ≡ begun_by told self.old) }
+    {
+        self.is_name = true;
+        let Some(kind) = kind_begun(tag) else {
+            return Ok(());
+        };
+        let position = self.owners.count();
+        if is_owner(kind) {
+            self.owners.begin()?;
+        }
+        let begun = Begun {
+            kind,
+            tag_byte: self.place,
+            position,
+        };
+        self.begun.reserve(1)?;
+        self.begun.push_reserved(begun);
+        Ok(())
+    }
+
+    /// Goes past a field by itself, but for its place.
+    #[inline(always)]
+    fn take(&mut self, field: Field<'_>) -> Result<(), AllocError>
+        ensures { OnOk result ((told : StreamField) → IsOf field.entry told → self.new ≡ take_field told self.old) }
+    {
+        match field {
+            Field::Tag(TC_RESET) => self.nodes.end()?,
+            Field::Tag(TC_BLOCKDATA | TC_BLOCKDATALONG | TC_ENDBLOCKDATA) => (),
+            Field::Tag(tag) => self.begin(tag)?,
+            Field::InterfaceCount(_) => self.is_name = true,
+            Field::TypeCode(_) => self.is_name = false,
+            _ => (),
+        }
+        Ok(())
+    }
+
+    /// Adds a checked name, where the field is one. It is no string.
+    #[inline(always)]
+    fn take_name(&mut self, field: Field<'_>) -> Result<(), AllocError>
+        ensures { OnOk result ((told : StreamField) → IsOf field.entry told → self.new ≡ take_name false told self.old) }
+    {
+        match field {
+            Field::Text(units) if self.is_name => self.names.add(units)?,
+            _ => (),
+        }
+        Ok(())
+    }
+
+    /// Whether a node is to be made before the next field, since so many handles are assigned.
+    #[inline(always)]
+    fn is_due(&self, assigned: usize) -> bool
+        ensures due { result ≡ true → length self.now.nodes < assigned }
+        ensures made { result ≡ false → assigned ≤ length self.now.nodes }
+    {
+        self.nodes.count() < assigned
+    }
+
+    /// Makes the node of the last tag that has none yet, at a field that is neither a text nor the length of an array.
+    #[inline(never)]
+    fn make_plain(&mut self) -> Result<(), AllocError>
+        ensures { OnOk result ((told : StreamField) → IsPlain told → self.new ≡ make_begun told self.old.begun self.old) }
+    {
+        self.make(Field::ArrayLength(0))
+    }
+
+    /// Goes past a tag.
+    #[tactic(auto, using(crate::proofs::SurveyLemmas::finds_made, crate::proofs::SurveyLemmas::finds_unmade, crate::proofs::SurveyLemmas::tag_plain, crate::proofs::SurveyLemmas::tag_no_name))]
+    #[inline(always)]
+    fn tag(&mut self, tag: u8, assigned: usize, end: u64) -> Result<(), AllocError>
+        ensures finds { OnOk result ((told : StreamField) → IsOf (Field.Tag tag) told → place_after self.old.place (bytes_of told) ≡ end
+            → self.new ≡ find assigned told self.old) }
+        ensures place { OnOk result (self.new.place ≡ end) }
+    {
+        if self.is_due(assigned) {
+            self.make_plain()?;
+        }
+        self.take(Field::Tag(tag))?;
+        self.place = end;
+        Ok(())
+    }
+
+    /// Whether at most one node is to be made before the next field, since so many handles are assigned.
+    #[inline(always)]
+    pub(crate) fn is_close(&self, assigned: usize) -> bool
+        ensures { result ≡ true → assigned ≤ length self.now.nodes + 1 }
+    {
+        assigned.saturating_sub(1) <= self.nodes.count()
+    }
+
+    /// Goes past a field with which nothing begins, and of which nothing is kept but where it ends: a handle, raw values or
+    /// the bytes of a block. Where at most one node is to be made, raw values may be several fields.
+    #[tactic(auto, using(crate::proofs::SurveyLemmas::passes_made, crate::proofs::SurveyLemmas::passes_unmade, crate::proofs::SurveyLemmas::quiet_plain, crate::proofs::RawsLemmas::raws_made, crate::proofs::RawsLemmas::raws_unmade))]
+    #[inline(always)]
+    pub(crate) fn pass(&mut self, assigned: usize, end: u64) -> Result<(), AllocError>
+        ensures finds { OnOk result ((told : StreamField) → IsQuiet told → place_after self.old.place (bytes_of told) ≡ end
+            → self.new ≡ find assigned told self.old) }
+        ensures raws { OnOk result (assigned ≤ length self.old.nodes + 1 → GoesPastRaws assigned end self.old self.new) }
+        ensures place { OnOk result (self.new.place ≡ end) }
+    {
+        if self.is_due(assigned) {
+            self.make_plain()?;
+        }
+        self.place = end;
+        Ok(())
+    }
+
+    /// Goes past a field, which ends at this place of the stream; before it so many handles of the epoch were assigned.
+    #[tactic(auto, using(crate::proofs::SurveyLemmas::finds_made, crate::proofs::SurveyLemmas::finds_unmade))]
+    #[inline(always)]
+    fn field(&mut self, field: Field<'_>, assigned: usize, end: u64) -> Result<(), AllocError>
+        ensures finds { OnOk result ((told : StreamField) → IsOf field.entry told → place_after self.old.place (bytes_of told) ≡ end
+            → self.new ≡ find assigned told self.old) }
+        ensures place { OnOk result (self.new.place ≡ end) }
+    {
+        if self.is_due(assigned) {
+            self.make(field)?;
+        } else {
+            self.take_name(field)?;
+        }
+        self.take(field)?;
+        self.place = end;
+        Ok(())
+    }
+
+    /// Goes past an item that is seldom met.
+    #[inline(never)]
+    fn rare(
+        &mut self,
+        item: Item<'_>,
+        units: &mut Vec<u16>,
+        assigned: usize,
+        end: u64,
+    ) -> Result<(), AllocError>
+        ensures finds { OnOk result ((told : StreamField) → Ends item.entry told → place_after self.old.place (bytes_of told) ≡ end
+            → self.new ≡ find assigned told self.old) }
+        ensures same { OnOk result (IsLength item.entry → self.new ≡ self.old) }
+        ensures place { OnOk result ((told : StreamField) → Ends item.entry told → self.new.place ≡ end) }
+    {
+        match part_of(item) {
+            Part::Field(field) => self.field(field, assigned, end),
+            Part::Text(bytes) => self.text(bytes, units, assigned, end),
+            Part::Length => Ok(()),
+        }
+    }
+
+    /// Goes past a text, of which these are all bytes. `units` is room for its units.
+    #[tactic(auto, using(crate::proofs::PartLemmas::decoded))]
+    #[inline(always)]
+    fn text(
+        &mut self,
+        bytes: &[u8],
+        units: &mut Vec<u16>,
+        assigned: usize,
+        end: u64,
+    ) -> Result<(), AllocError>
+        ensures finds { OnOk result ((told : StreamField) → PartIs (Part.Text bytes.entry) told → place_after self.old.place (bytes_of told) ≡ end
+            → self.new ≡ find assigned told self.old) }
+        ensures place { OnOk result (self.new.place ≡ end) }
+    {
+        let text = decode(bytes, units)?;
+        self.field(Field::Text(text), assigned, end)?;
+        Ok(())
+    }
+
+    /// Goes past an item, which ends at this place of the stream. `units` is room for those of a text.
+    #[tactic(auto, using(crate::proofs::SurveyLemmas::handle_quiet, crate::proofs::SurveyLemmas::raw_quiet))]
+    #[inline(always)]
+    pub(crate) fn item(
+        &mut self,
+        item: Item<'_>,
+        units: &mut Vec<u16>,
+        assigned: usize,
+        end: u64,
+    ) -> Result<(), AllocError>
+        ensures finds { OnOk result ((told : StreamField) → Ends item.entry told → place_after self.old.place (bytes_of told) ≡ end
+            → self.new ≡ find assigned told self.old) }
+        ensures same { OnOk result (IsLength item.entry → self.new ≡ self.old) }
+        ensures place { OnOk result ((told : StreamField) → Ends item.entry told → self.new.place ≡ end) }
+    {
+        match item {
+            Item::Tag(tag) => self.tag(tag, assigned, end),
+            Item::Handle(_) => self.pass(assigned, end),
+            Item::RawPart(_) => self.pass(assigned, end),
+            Item::TextPart(bytes) => self.text(bytes, units, assigned, end),
+            Item::TextLength(length) if length > 0 => Ok(()),
+            item => self.rare(item, units, assigned, end),
+        }
+    }
+
+    /// Goes past a value that is lent at once, and ends at this place of the stream; before it so many handles of the epoch
+    /// were assigned. `units` is room for those of a text.
+    #[inline(always)]
+    pub(crate) fn whole(
+        &mut self,
+        whole: Whole<'_>,
+        units: &mut Vec<u16>,
+        assigned: usize,
+        end: u64,
+    ) -> Result<(), AllocError>
+        requires { assigned < 2 ^ 32 }
+        ensures { OnOk result (GoesPastWhole whole.entry assigned end self.old self.new) }
+    {
+        match whole {
+            Whole::Reference(handle) => self.reference(handle, assigned, end),
+            Whole::String(text) => self.string(text, units, assigned, end),
+            Whole::Owner { tag, class } => self.owner(tag, class, assigned, end),
+        }
+    }
+
+    /// Goes past a reference.
+    #[tactic(auto, using(crate::proofs::ReferenceLemmas::reference_unmade))]
+    #[inline(always)]
+    fn reference(&mut self, handle: u32, assigned: usize, end: u64) -> Result<(), AllocError>
+        ensures { OnOk result (GoesPastWhole (Whole.Reference handle) assigned end self.old self.new) }
+    {
+        if self.is_due(assigned) {
+            return self.reference_due(handle, assigned, end);
+        }
+        self.is_name = true;
+        self.place = end;
+        Ok(())
+    }
+
+    /// Goes past the tag and the handle of a reference, one after the other.
+    #[tactic(auto, using(crate::proofs::WholeLemmas::past_reference))]
+    #[inline(never)]
+    fn reference_due(&mut self, handle: u32, assigned: usize, end: u64) -> Result<(), AllocError>
+        ensures { OnOk result (GoesPastWhole (Whole.Reference handle) assigned end self.old self.new) }
+    {
+        let _ = handle;
+        self.tag(TC_REFERENCE, assigned, end.saturating_sub(4))?;
+        self.pass(assigned, end)
+    }
+
+    /// Goes past the tag of what has a class, and the reference that is its class.
+    #[tactic(auto, using(crate::proofs::WholeLemmas::past_owner))]
+    #[inline(always)]
+    fn owner(&mut self, tag: u8, class: u32, assigned: usize, end: u64) -> Result<(), AllocError>
+        ensures { OnOk result (GoesPastWhole (Whole.Owner tag class) assigned end self.old self.new) }
+    {
+        self.tag(tag, assigned, end.saturating_sub(5))?;
+        self.reference(class, assigned, end)
+    }
+
+    /// Goes past a string. Its node is made at its text, so it is made at once, and no tag has to wait for it.
+    #[inline(always)]
+    fn string(
+        &mut self,
+        text: &[u8],
+        units: &mut Vec<u16>,
+        assigned: usize,
+        end: u64,
+    ) -> Result<(), AllocError>
+        requires { assigned < 2 ^ 32 }
+        ensures { OnOk result (GoesPastWhole (Whole.String text.entry) assigned end self.old self.new) }
+    {
+        if self.nodes.count() > assigned {
+            return self.string_ahead(text, units, assigned, end);
+        }
+        if self.is_due(assigned) {
+            self.make_plain()?;
+        }
+        self.add_string(text, units, end)
+    }
+
+    /// Makes the node of a string whose tag comes next, and which ends at this place of the stream.
+    #[inline(always)]
+    fn add_string(&mut self, text: &[u8], units: &mut Vec<u16>, end: u64) -> Result<(), AllocError>
+        ensures { OnOk result (AddsString text.now end self.old self.new) }
+    {
+        self.nodes.push_string(text, units, self.place)?;
+        self.is_name = true;
+        self.place = end;
+        Ok(())
+    }
+
+    /// Goes past the tag and the text of a string, one after the other.
+    #[cold]
+    #[inline(never)]
+    fn string_ahead(
+        &mut self,
+        text: &[u8],
+        units: &mut Vec<u16>,
+        assigned: usize,
+        end: u64,
+    ) -> Result<(), AllocError>
+        requires { assigned < 2 ^ 32 }
+        ensures { OnOk result (GoesPastWhole (Whole.String text.entry) assigned end self.old self.new) }
+    {
+        self.tag(
+            TC_STRING,
+            assigned,
+            end.saturating_sub(text.len() as u64 + 2),
+        )?;
+        self.text(text, units, assigned + 1, end)
+    }
+
+    /// The end of the stream: the last node is made, if it is not.
+    pub(crate) fn finish(&mut self) -> Result<(), AllocError>
+        ensures { OnOk result (self.new ≡ finished self.old) }
+    {
+        self.make(Field::Header)
+    }
+}
+
+/// What a walk has found, at its end.
+#[derive(Drop)]
+pub(crate) struct Finds {
+    pub(crate) nodes: Nodes,
+    pub(crate) owners: Vec<OwnerNode>,
+    pub(crate) names: Texts,
+}
+
+impl Survey {
+    /// What was found. Takes no memory.
+    pub(crate) fn into_found(self) -> Finds
+        ensures nodes { result.nodes ≡ record { ended = self.ended; last = self.nodes } }
+        ensures owners { told_nodes result.owners.items ≡ self.owners }
+        ensures names { result.names ≡ self.names }
+    {
+        let Survey {
+            nodes,
+            owners,
+            names,
+            ..
+        } = self;
+        Finds {
+            nodes,
+            owners: owners.into_vec(),
+            names,
+        }
+    }
+}

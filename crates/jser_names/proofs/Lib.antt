@@ -1,0 +1,10 @@
+pub mod CollectedLemmas
+pub mod CollectorLemmas
+pub mod ItemLemmas
+pub mod LentLemmas
+pub mod ListLemmas
+pub mod PieceLemmas
+pub mod SourceLemmas
+pub mod StepLemmas
+pub mod UnitLemmas
+pub mod WholeLemmas

@@ -1,0 +1,43 @@
+-- The checked names of a stream, collected along its fields: the text behind the tag of a plain descriptor is one, and so are
+-- as many texts behind the number of interfaces.
+use Rattle.std.specs.Prelude.{ℕ, zero, suc, ◌≡◌, List, [], ◌∷◌, ◌++◌}
+use Rattle.jser_grammar.specs.Trees.{ContentTrees}
+use Rattle.jser_grammar.specs.WellFormed.{WellFormed}
+use Rattle.jser_grammar.specs.CheckedNames.{checked_names}
+use Rattle.jser_reading.specs.Fields.{fields_of}
+use Rattle.jser_reading.specs.Labels.{Tag, class_desc_tag, StreamField, tag_field, block_tag_field, end_tag_field, reset_tag_field, interface_count_field, text_field, Piece, piece}
+
+-- the names so far, and how many of the next texts are names
+pub record Collected : Type 0 where
+  pub names : List (List ℕ)
+  pub left : ℕ
+
+abbrev pub begin_collecting : Collected
+begin_collecting = record { names = []; left = 0 }
+
+abbrev pub names_begun : Tag → ℕ
+names_begun class_desc_tag = 1
+names_begun tag = 0
+
+abbrev pub collect_text : List ℕ → (left : ℕ) → Collected → Collected
+collect_text units zero x = x
+collect_text units (suc left) x = record { names = x.names ++ (units ∷ []); left = left }
+
+-- one field more
+abbrev pub collect : StreamField → Collected → Collected
+collect (tag_field tag) x = record x { left = names_begun tag }
+collect (block_tag_field long) x = record x { left = 0 }
+collect end_tag_field x = record x { left = 0 }
+collect reset_tag_field x = record x { left = 0 }
+collect (interface_count_field n) x = record x { left = n }
+collect (text_field long units) x = collect_text units x.left x
+collect field x = x
+
+-- these fields more
+abbrev pub collected : Collected → List Piece → Collected
+collected x [] = x
+collected x (piece label field ∷ rest) = collected (collect field x) rest
+
+-- Along the fields of a list that obeys the format its checked names are collected.
+abbrev pub NamesAreCollected : Type 0
+NamesAreCollected = (list : ContentTrees) → WellFormed list → (collected begin_collecting (fields_of list)).names ≡ checked_names list

@@ -1,0 +1,7 @@
+pub mod Collecting
+pub mod Lists
+pub mod Pieces
+pub mod Sources
+pub mod Standing
+pub mod Units
+pub mod Wholes

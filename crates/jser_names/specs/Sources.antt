@@ -1,0 +1,75 @@
+-- The names of the stream of a source, and why there are none.
+use Rattle.std.specs.Prelude.{ℕ, ◌≡◌, ◌≢◌, ◌+◌, ◌≤◌, ◌⊎◌, Bool, true, List, length, map, take, Option, Result, Ok, Err, Vec}
+use Rattle.std.specs.Global.{Global}
+use Rattle.std.specs.Io.KnownBytes.{Consumes, IsAtEnd}
+use Rattle.jser_grammar.specs.Caps.{most_bytes}
+use Rattle.jser_grammar.specs.CheckedNames.{checked_names}
+use Rattle.jser_grammar.specs.Trees.{ContentTrees}
+use Rattle.jser_verdict.specs.Passing.{Passes}
+use Rattle.jser_reader.specs.declared.Refusal.{Refusal}
+use Rattle.jser_reader.specs.declared.Stop.{Stop}
+use Rattle.jser_reader.specs.declared.Stop.TheVariants as stop
+use Rattle.jser_reader.specs.declared.tally.Tally.{Tally}
+use Rattle.jser_reader.specs.Gates.{open_gate}
+use Rattle.jser_reader.specs.Readers.{Seen}
+use Rattle.jser_reader.specs.Streams.{AreRefused, AreTruncated}
+use Rattle.jser_names.specs.Standing.{Names, Stands}
+use Rattle.jser_names.specs.declared.source.Halt.{Halt}
+use Rattle.jser_names.specs.declared.source.NamesFault.{NamesFault}
+use Rattle.jser_names.specs.declared.source.NamesFault.TheVariants as fault
+
+-- the bytes are a stream within the greatest limits, and these are its checked names
+pub record HasNames (bytes : List ℕ) (names : List (List ℕ)) : Type 0 where
+  pub list : ContentTrees
+  pub passes : Passes open_gate bytes list
+  pub names_are : names ≡ checked_names list
+
+-- The first bytes, whatever comes after them, or all of them are refused, with their first fault.
+pub record FrontRefused (bytes : List ℕ) (refusal : Refusal) : Type 0 where
+  pub within : refusal.to_byte ≤ length bytes
+  pub refused : AreRefused open_gate (take refusal.to_byte bytes) refusal
+
+abbrev pub IsRefused : List ℕ → Refusal → Type 0
+IsRefused bytes refusal = FrontRefused bytes refusal ⊎ AreTruncated open_gate bytes refusal
+
+-- what holds of the refusal, where that is why there are no names
+abbrev pub IfRefused : (Refusal → Type 0) → NamesFault → Type 0
+IfRefused P (fault.Refused refusal) = P refusal
+IfRefused P fault.ReadFault = Unit {0}
+IfRefused P fault.OutOfMemory = Unit {0}
+
+-- a read failed where that is why there are none, and nowhere else
+abbrev pub FailsWith : NamesFault → (failed_before failed_after : Bool) → Type 0
+FailsWith (fault.Refused refusal) failed_before failed_after = failed_after ≡ failed_before
+FailsWith fault.ReadFault failed_before failed_after = failed_after ≡ true
+FailsWith fault.OutOfMemory failed_before failed_after = failed_after ≡ failed_before
+
+-- ---- as code reads
+
+-- one read, to the front of a buffer
+pub record TakesSome (most : ℕ) (buffer : List ℕ) (had has : Option (List ℕ)) (count : ℕ) : Type 0 where
+  pub within : count ≤ length buffer
+  pub few : count ≤ most
+  pub off : Consumes had has (take count buffer)
+  pub end : count ≡ 0 → IsAtEnd has
+
+-- why a reader stopped, as a fault
+abbrev pub Ends : Stop → NamesFault → Type 0
+Ends (stop.Refused refusal) why = why ≡ fault.Refused refusal
+Ends stop.OutOfMemory why = why ≡ fault.OutOfMemory
+Ends stop.Spent why = why ≡ fault.OutOfMemory
+
+-- the end: the names, or the bytes end too early
+abbrev pub EndCases : (taken : List ℕ) → Result (Vec (Vec ℕ Global) Global) Halt → Type 0
+EndCases taken (Ok names) = HasNames taken (map (λ name. name.items) names.items)
+EndCases taken (Err halt) = IfRefused (AreTruncated open_gate taken) halt.fault × (halt.fault ≢ fault.ReadFault)
+
+unfoldable pub EndsWith : Seen → Tally → Names → Result (Vec (Vec ℕ Global) Global) Halt → Type 0
+EndsWith r tally x result = (taken : List ℕ) → Stands taken r tally x → EndCases taken result
+
+-- what came off a source was taken, and so many bytes more may come
+pub record Reads (had has : Option (List ℕ)) (left : ℕ) (r : Seen) (tally : Tally) (x : Names) : Type 0 where
+  pub bytes : List ℕ
+  pub size : length bytes + left ≡ most_bytes + 1
+  pub off : Consumes had has bytes
+  pub stands : Stands bytes r tally x

@@ -1,0 +1,133 @@
+//! The names that are collected along the items of a stream in pieces.
+ghost use Rattle.std.specs.Prelude.{◌≡◌, [], false, OnOk, map};
+ghost use Rattle.jser_names.specs.Standing.{Adds, Closes, ClosesThen, Takes, begun};
+
+use crate::units::units_of;
+use jser_grammar::wire::TC_CLASSDESC;
+use jser_reader::Item;
+use std::alloc::{AllocError, Global};
+use std::marker::Model;
+
+/// The names so far, and the bytes of one that is being read.
+#[derive(Drop)]
+pub(crate) struct Collector {
+    names: Vec<Vec<u16>>,
+    /// How many of the next texts are names.
+    left: u32,
+    /// Whether a name is being read.
+    is_open: bool,
+    text: Vec<u8>,
+}
+
+impl Model for Collector {
+    ghost use Rattle.std.specs.Prelude.{map};
+    ghost use Rattle.jser_names.specs.Standing.{Names};
+
+    ghost Value = { Names };
+
+    ghost view = { λ a. record {
+      names = map (λ name. name.items) a.names.items;
+      left = a.left;
+      is_open = a.is_open;
+      text = a.text.items;
+    } };
+}
+
+impl Collector {
+    /// No names. Takes no memory.
+    pub(crate) fn new(alloc: Global) -> Collector
+        ensures { result ≡ record { names = []; left = 0; is_open = false; text = [] } }
+    {
+        Collector {
+            names: Vec::new(alloc),
+            left: 0,
+            is_open: false,
+            text: Vec::new(alloc),
+        }
+    }
+
+    /// Goes past an item.
+    pub(crate) fn take(&mut self, alloc: Global, item: Item<'_>) -> Result<(), AllocError>
+        ensures { OnOk result (Takes item.entry self.old self.new) }
+    {
+        match item {
+            Item::TextPart(part) => self.add(part),
+            Item::TextLength(_) => {
+                self.close(alloc)?;
+                self.begin();
+                Ok(())
+            }
+            Item::Tag(tag) => {
+                self.close(alloc)?;
+                self.left = u32::from(tag == TC_CLASSDESC);
+                Ok(())
+            }
+            Item::InterfaceCount(count) => {
+                self.close(alloc)?;
+                self.left = count;
+                Ok(())
+            }
+            Item::Header => self.close(alloc),
+            Item::Handle(_) => self.close(alloc),
+            Item::Suid(_) => self.close(alloc),
+            Item::Flags(_) => self.close(alloc),
+            Item::FieldCount(_) => self.close(alloc),
+            Item::TypeCode(_) => self.close(alloc),
+            Item::ArrayLength(_) => self.close(alloc),
+            Item::BlockLength(_) => self.close(alloc),
+            Item::RawPart(_) => self.close(alloc),
+        }
+    }
+
+    /// Goes past a value that is lent at once: no name is in it.
+    #[inline(always)]
+    pub(crate) fn pass(&mut self, alloc: Global) -> Result<(), AllocError>
+        ensures { OnOk result (ClosesThen self.old self.new (λ x. record x { left = 0 })) }
+    {
+        self.close(alloc)?;
+        self.left = 0;
+        Ok(())
+    }
+
+    /// Keeps bytes of a text, if it is a name.
+    fn add(&mut self, bytes: &[u8]) -> Result<(), AllocError>
+        ensures { OnOk result (Adds self.old.is_open bytes.now self.old self.new) }
+    {
+        if !self.is_open {
+            return Ok(());
+        }
+        self.text.extend_from_slice(bytes)
+    }
+
+    /// A text begins.
+    fn begin(&mut self)
+        ensures { self.new ≡ begun self.old }
+    {
+        if self.left != 0 {
+            self.is_open = true;
+            self.text.clear();
+        }
+    }
+
+    /// Where a name was being read, it is one of the names: other items come.
+    #[tactic(auto, using(crate::proofs::CollectorLemmas::closes_name))]
+    pub(crate) fn close(&mut self, alloc: Global) -> Result<(), AllocError>
+        ensures { OnOk result (Closes self.old.is_open self.old self.new) }
+    {
+        if !self.is_open {
+            return Ok(());
+        }
+        let name = units_of(alloc, &self.text)?;
+        self.names.push(name)?;
+        self.left = self.left.saturating_sub(1);
+        self.is_open = false;
+        Ok(())
+    }
+
+    /// The names.
+    pub(crate) fn into_names(self) -> Vec<Vec<u16>>
+        ensures { map (λ name. name.items) result.items ≡ self.names }
+    {
+        self.names
+    }
+}

@@ -1,0 +1,9 @@
+//! Laws of the definitions alone: each is the clause of an empty function, so that the check insists on its proof.
+
+ghost use Rattle.jser_names.specs.Collecting.{NamesAreCollected};
+
+/// What is collected along the fields of a list are its checked names.
+#[tactic(auto, using(crate::proofs::CollectedLemmas::collected_law))]
+pub fn names_are_collected()
+    ensures { NamesAreCollected }
+{}

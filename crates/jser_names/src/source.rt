@@ -1,0 +1,184 @@
+//! The names of the stream of a source, which is read in pieces.
+ghost use Rattle.std.specs.Prelude.{◌≡◌, ◌⊎◌, ◌<◌, ◌≤◌, length, vec_len, take, true, IfOk, IfErr, IfSome, OnOk, OnErr, map};
+ghost use Rattle.std.specs.Io.KnownBytes.{Consumes, IsAtEnd};
+ghost use Rattle.jser_names.specs.Sources.{Ends, EndsWith, FailsWith, HasNames, IfRefused, IsRefused, TakesSome};
+
+use crate::collector::Collector;
+use crate::laws::names_are_collected;
+use crate::list::NameList;
+use crate::piece::take_piece;
+use jser_grammar::caps::MOST_BYTES;
+use jser_prim::{Failed, Source};
+use jser_reader::{OpenGate, Reader, Refusal, Stop};
+use std::alloc::{AllocError, Global};
+
+/// How many bytes a read asks for at most: 14 pages of 4 KiB, so that each read of a file begins at a page.
+const BUFFER_LEN: usize = 57_344;
+
+/// Why there are no names.
+#[derive(Clone, Copy, PartialEq, Eq, Debug)]
+pub enum NamesFault {
+    /// The bytes are no stream within the greatest limits.
+    Refused(Refusal),
+    /// A read failed.
+    ReadFault,
+    /// Memory ran out.
+    OutOfMemory,
+}
+
+/// Why the reads came to no end, and how many bytes more may be read.
+#[derive(Clone, Copy)]
+pub(crate) struct Halt {
+    pub(crate) fault: NamesFault,
+    pub(crate) left: u64,
+}
+
+/// The checked names of the stream of a source, in the order of the stream, each as often as it stands there. The source is read
+/// to its end, or until one byte more than a stream may have has come, also where the bytes are refused; nothing is kept of
+/// what comes then.
+///
+/// What it allocates is the names, what a reader does, and room for the bytes of a read and of one name.
+///
+/// # Errors
+///
+/// `NamesFault`, with the reason. A failed read is told whatever came before it, unless memory ran out.
+#[tactic(auto, using(crate::proofs::SourceLemmas::none_refused, crate::proofs::SourceLemmas::told_refused, crate::proofs::SourceLemmas::told_fails))]
+pub fn names_of<R: Source>(alloc: Global, source: &mut R) -> Result<NameList, NamesFault>
+    ensures accepted { IfOk result (λ names. IfSome (R.to_come source.old) (λ bytes. HasNames bytes names)) }
+    ensures refused { IfErr result (λ why. IfSome (R.to_come source.old) (λ bytes. IfRefused (IsRefused bytes) why)) }
+    ensures unbroken { OnOk result (R.has_failed source.new ≡ R.has_failed source.old) }
+    ensures fault { IfErr result (λ why. FailsWith why (R.has_failed source.old) (R.has_failed source.new)) }
+{
+    let Ok(mut buffer) = new_buffer(alloc) else {
+        return Err(NamesFault::OutOfMemory);
+    };
+    match read_names(alloc, source, &mut buffer) {
+        Ok(names) => Ok(NameList { names }),
+        Err(halt) => Err(told(source, &mut buffer, halt)),
+    }
+}
+
+/// Room for the bytes of a read.
+pub(crate) fn new_buffer(alloc: Global) -> Result<Vec<u8>, AllocError>
+    ensures { IfOk result (λ buffer. 0 < vec_len buffer) }
+{
+    vec![in alloc; 0u8; BUFFER_LEN]
+}
+
+/// What is told of a halt: a read that fails later goes before a refusal.
+pub(crate) fn told<R: Source>(source: &mut R, buffer: &mut [u8], halt: Halt) -> NamesFault
+    requires room { 0 < length buffer.old }
+    ensures is { (result ≡ halt.fault) × (R.has_failed source.new ≡ R.has_failed source.old) ⊎ ((result ≡ NamesFault.ReadFault) × (R.has_failed source.new ≡ true)) }
+{
+    match halt.fault {
+        NamesFault::Refused(_) => match pass_rest(source, buffer, halt.left) {
+            Ok(()) => halt.fault,
+            Err(_) => NamesFault::ReadFault,
+        },
+        fault => fault,
+    }
+}
+
+/// Reads on, to the end or so many bytes, and keeps nothing.
+fn pass_rest<R: Source>(source: &mut R, buffer: &mut [u8], most: u64) -> Result<(), Failed>
+    requires { 0 < length buffer.old }
+    ensures ok { OnOk result (R.has_failed source.new ≡ R.has_failed source.old) }
+    ensures err { OnErr result (R.has_failed source.new ≡ true) }
+{
+    let mut left = most;
+    'reads: while left > 0 {
+        match read_some(source, buffer, left) {
+            Ok(0) => return Ok(()),
+            Ok(count) => left -= count as u64,
+            Err(fault) => return Err(fault),
+        }
+    }
+    Ok(())
+}
+
+/// One read of at most so many bytes, to the front of the buffer; returns how many came. None are the end.
+pub(crate) fn read_some<R: Source>(
+    source: &mut R,
+    buffer: &mut [u8],
+    most: u64,
+) -> Result<usize, Failed>
+    requires room { 0 < length buffer.old }
+    requires some { 0 < most }
+    ensures took { IfOk result (TakesSome most buffer.new (R.to_come source.old) (R.to_come source.new)) }
+    ensures size { length buffer.new ≡ length buffer.old }
+    ensures ok { OnOk result (R.has_failed source.new ≡ R.has_failed source.old) }
+    ensures err { OnErr result (R.has_failed source.new ≡ true) }
+{
+    let room = most.min(buffer.len() as u64) as usize;
+    let (front, _) = buffer.split_at_mut(room);
+    source.take(front)
+}
+
+/// Reads the source to its end, and collects the names.
+#[tactic(auto, using(crate::proofs::SourceLemmas::reads_none, crate::proofs::SourceLemmas::reads_some, crate::proofs::SourceLemmas::reads_more, crate::proofs::SourceLemmas::reads_stop, crate::proofs::SourceLemmas::stop_fails, crate::proofs::SourceLemmas::failed_refused, crate::proofs::SourceLemmas::end_accepts, crate::proofs::SourceLemmas::end_refuses, crate::proofs::SourceLemmas::end_fails))]
+fn read_names<R: Source>(
+    alloc: Global,
+    source: &mut R,
+    buffer: &mut [u8],
+) -> Result<Vec<Vec<u16>>, Halt>
+    requires { 0 < length buffer.old }
+    ensures accepted { IfOk result (λ names. IfSome (R.to_come source.old) (λ bytes. HasNames bytes (map (λ name. name.items) names.items))) }
+    ensures refused { IfErr result (λ halt. IfSome (R.to_come source.old) (λ bytes. IfRefused (IsRefused bytes) halt.fault)) }
+    ensures unbroken { OnOk result (R.has_failed source.new ≡ R.has_failed source.old) }
+    ensures fault { IfErr result (λ halt. FailsWith halt.fault (R.has_failed source.old) (R.has_failed source.new)) }
+    ensures size { length buffer.new ≡ length buffer.old }
+{
+    let mut reader = Reader::new(alloc, OpenGate);
+    let mut names = Collector::new(alloc);
+    let mut left: u64 = MOST_BYTES + 1;
+    'reads: loop {
+        match read_some(source, buffer, left) {
+            Err(_) => {
+                return Err(Halt {
+                    fault: NamesFault::ReadFault,
+                    left: 0,
+                });
+            }
+            Ok(0) => return finish(alloc, reader, names),
+            Ok(count) => {
+                let (piece, _) = buffer.split_at(count);
+                match take_piece(alloc, &mut reader, &mut names, piece) {
+                    Ok(()) => left -= count as u64,
+                    Err(stop) => return Err(halted(stop, left - count as u64)),
+                }
+            }
+        }
+    }
+}
+
+/// Where a reader stopped.
+pub(crate) fn halted(stop: Stop, left: u64) -> Halt
+    ensures { Ends stop result.fault }
+{
+    let fault = match stop {
+        Stop::Refused(refusal) => NamesFault::Refused(refusal),
+        Stop::OutOfMemory => NamesFault::OutOfMemory,
+        Stop::Spent => NamesFault::OutOfMemory,
+    };
+    Halt { fault, left }
+}
+
+/// The end of the source: the names of the stream, if it is one.
+#[tactic(auto, using(crate::proofs::SourceLemmas::no_memory, crate::proofs::SourceLemmas::ends_names, crate::proofs::SourceLemmas::ends_refused))]
+fn finish(alloc: Global, reader: Reader<OpenGate>, names: Collector) -> Result<Vec<Vec<u16>>, Halt>
+    ensures { EndsWith reader.machine reader.tally names result }
+{
+    names_are_collected();
+    let mut reader = reader;
+    let mut names = names;
+    if names.close(alloc).is_err() {
+        return Err(Halt {
+            fault: NamesFault::OutOfMemory,
+            left: 0,
+        });
+    }
+    match reader.finish() {
+        Ok(_) => Ok(names.into_names()),
+        Err(stop) => Err(halted(stop, 0)),
+    }
+}
