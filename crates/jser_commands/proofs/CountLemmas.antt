@@ -9,7 +9,7 @@ use Rattle.std.specs.Str.{bytes_eq}
 use Rattle.std.specs.Map.{lookup}
 use Rattle.indexmap.specs.IndexMap.{insert_entry}
 use Rattle.jser_shown.specs.Counting.{NameTally, name_tally, tally_one, tally_all}
-use Rattle.jser_graph.specs.Listed.{IsList}
+use Rattle.jser_names.specs.Lists.{IsName}
 use Rattle.jser_commands.specs.Counts.{tallies_of, times_in, times_found}
 
 -- ---- one name
@@ -72,23 +72,23 @@ room_for_one tallies names number count inside all few so =
     omega (arith, times_so_far tallies names number (omega (arith, inside, all)) so, inside, few)
 
 -- there is a name
-pub name_is_there : (names : List (List ℕ)) (number : ℕ) → number < length names → IsList (slice_get names number) None → ⊥
+pub name_is_there : (names : List (List ℕ)) (number : ℕ) → number < length names → IsName (slice_get names number) None → ⊥
 name_is_there names number inside none = by (slice_get names number) refl none
   where
-    by : (found : Option (List ℕ)) → slice_get names number ≡ found → IsList found None → ⊥
+    by : (found : Option (List ℕ)) → slice_get names number ≡ found → IsName found None → ⊥
     by (Some name) e h = h
     by None e h = absurd (let no : Some (get_or names number []) ≡ None = sym (slice_get-get_or names number [] inside) ∙ e in cc)
 
-name_at : (names : List (List ℕ)) (number : ℕ) (name : Bor (List ℕ)) → IsList (slice_get names number) (Some name) → slice_get names number ≡ Some name.now
+name_at : (names : List (List ℕ)) (number : ℕ) (name : Bor (List ℕ)) → IsName (slice_get names number) (Some name) → slice_get names number ≡ Some name.now
 name_at names number name is = by (slice_get names number) refl is
   where
-    by : (found : Option (List ℕ)) → slice_get names number ≡ found → IsList found (Some name) → slice_get names number ≡ Some name.now
+    by : (found : Option (List ℕ)) → slice_get names number ≡ found → IsName found (Some name) → slice_get names number ≡ Some name.now
     by (Some other) e h = e ∙ ap Some (sym h)
     by None e h = absurd h
 
 -- one more was counted
 pub counts_on : (old new : List NameTally) (names : List (List ℕ)) (number : ℕ) (name : Bor (List ℕ)) → number < length names
-    → IsList (slice_get names number) (Some name) → tally_all old (drop number names) ≡ tally_all [] names → new ≡ tally_one name.now old
+    → IsName (slice_get names number) (Some name) → tally_all old (drop number names) ≡ tally_all [] names → new ≡ tally_one name.now old
     → tally_all new (drop (number + 1) names) ≡ tally_all [] names
 counts_on old new names number name inside here so is =
     let at : get_or names number name.now ≡ name.now = get_or_from_slice_get names number name.now name.now (name_at names number name here) in

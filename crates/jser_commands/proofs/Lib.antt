@@ -1,7 +1,7 @@
 pub mod CountLemmas
 pub mod InputLemmas
+pub mod LimitLemmas
 pub mod Lines
 pub mod ListLemmas
 pub mod ShowLemmas
-pub mod WholeLemmas
-pub mod WordLemmas
+pub mod AnywhereLines

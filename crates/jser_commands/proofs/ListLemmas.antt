@@ -1,7 +1,7 @@
 -- What `list` prints.
 use denote.Bor.{Bor}
-use Rattle.std.proofs.Common.{◌≡◌, ℕ, suc, ◌+◌, ◌<◌, ◌≤◌, true, false, List, [], ◌∷◌, ◌++◌, map, length, drop, slice_get, Option, Some, None, option_map, codes, refl, sym, ap, subst, ◌∙◌, arith, append_assoc}
-use Rattle.std.proofs.Math.Seq.{drop-cons}
+use Rattle.std.proofs.Common.{◌≡◌, ℕ, suc, ◌+◌, ◌<◌, ◌≤◌, Bool, true, false, List, [], ◌∷◌, ◌++◌, map, length, take, drop, slice_get, Option, Some, None, option_map, codes, refl, sym, ap, subst, ◌∙◌, arith, append_assoc, length-append}
+use Rattle.std.proofs.Math.Seq.{drop-cons, take-append_seam}
 use Rattle.std.proofs.lemmas.List.{drop_all}
 use Rattle.std.proofs.lemmas.Option.{get_or_from_slice_get, slice_get_within, slice_get-map}
 use Rattle.std.specs.Prelude.{IfSome}
@@ -16,22 +16,36 @@ use Rattle.jser_shown.specs.Counting.{NameTally, name_tally, tally_all, tally_li
 use Rattle.jser_shown.specs.Laws.{Counted}
 use Rattle.jser_shown.specs.Listed.{listed}
 use Rattle.jser_shown.specs.Words.{quoted}
-use Rattle.jser_graph.specs.Graphs.{GraphView, StandsForSome}
+use Rattle.jser_names.specs.Sources.{HasNames}
 use Rattle.jser_words.specs.Says.{Says, Saying}
 use Rattle.jser_words.proofs.SaysLemmas.{says_before, says_on, says_same, says_both, says_five}
 use Rattle.jser_commands.specs.Counts.{tallies_of, tally_line, lines_before}
-use Rattle.jser_commands.specs.Lines.{SaysText, verdict_words, words_on}
+use Rattle.jser_commands.specs.Lines.{AppendsSome, SaysText, SaysRefusal, KeptOrCut, KeptOrSaidSome, verdict_words, words_on}
+use Rattle.jser_commands.proofs.Lines.{yes_cut}
 
--- the text of the list for which the graph stands
-pub says_listed : Counted → (told : Option (List ℕ)) (filter : FilterView) (graph : GraphView) (old new : Option (List ℕ))
-    → IfSome told (λ bytes. StandsForSome bytes graph) → Appends old new (tally_lines (words_on filter) (tally_all [] graph.names))
-    → IfSome told (λ bytes. SaysText (listed (words_on filter)) bytes old new)
-says_listed law None filter graph old new stands wrote = tt
-says_listed law (Some bytes) filter graph old new stands wrote = record {
-  list = stands.0;
-  passes = stands.1.passes;
-  printed = subst (Appends old new) (ap (λ names. tally_lines (words_on filter) (tally_all [] names)) stands.1.names_are ∙ sym (law (words_on filter) stands.0)) wrote;
+-- the text of the list that has these names
+pub says_listed : Counted → (told : Option (List ℕ)) (filter : FilterView) (names : List (List ℕ)) (Went : List ℕ → Type 0)
+    → IfSome told (λ bytes. HasNames bytes names) → Went (tally_lines (words_on filter) (tally_all [] names))
+    → IfSome told (λ bytes. SaysText (listed (words_on filter)) bytes Went)
+says_listed law None filter names Went has wrote = tt
+says_listed law (Some bytes) filter names Went has wrote = record {
+  list = has.list;
+  passes = has.passes;
+  printed = subst Went (ap (λ ns. tally_lines (words_on filter) (tally_all [] ns)) has.names_are ∙ sym (law (words_on filter) has.list)) wrote;
 }
+
+pub listed_all : Counted → (told : Option (List ℕ)) (filter : FilterView) (names : List (List ℕ)) (old new : Option (List ℕ))
+    → IfSome told (λ bytes. HasNames bytes names) → Appends old new (tally_lines (words_on filter) (tally_all [] names))
+    → IfSome told (λ bytes. SaysText (listed (words_on filter)) bytes (Appends old new))
+listed_all law told filter names old new = says_listed law told filter names (Appends old new)
+
+-- its first bytes, where the output failed
+pub listed_cut : Counted → (told : Option (List ℕ)) (filter : FilterView) (names : List (List ℕ)) (failed : Bool) (old new : Option (List ℕ))
+    → IfSome told (λ bytes. HasNames bytes names) → KeptOrCut failed old new (tally_lines (words_on filter) (tally_all [] names))
+    → KeptOrSaidSome failed old new told (SaysText (listed (words_on filter))) SaysRefusal
+listed_cut law told filter names failed old new has =
+    yes_cut failed old new told (tally_lines (words_on filter) (tally_all [] names)) (SaysText (listed (words_on filter))) SaysRefusal
+    (λ some. says_listed law told filter names (AppendsSome old new) has some)
 
 -- a word, and the index of a piece
 pub says_index : (a b c : Outgoing) (d e f : SinkState) (word : List ℕ) (index : ℕ) → Says a b d e (λ k. word ++ k) → Says b c e f (λ k. decimal index ++ k)
@@ -125,3 +139,28 @@ pub lines_failed : (start mid now : Outgoing) (before middle after : SinkState) 
 lines_failed start mid now before middle after words tallies new says flush off =
     let all = puts_both start mid now before middle after says.bytes [] says.puts flush in
     (all.going (ap (λ o. o.failed) new)).fault off
+
+-- the first bytes went out, where the sink failed
+pub lines_cut : (start mid now : Outgoing) (before middle after : SinkState) (words : List ℕ → List ℕ) (tallies : List NameTally)
+    → start ≡ nothing → Says start mid before middle (λ k. lines_before words tallies k) → Puts mid now middle after []
+    → AppendsSome before.gone_out after.gone_out (tally_lines words tallies)
+lines_cut start mid now before middle after words tallies new says flush =
+    let all = puts_both start mid now before middle after says.bytes [] says.puts flush in
+    let hands = all.going (ap (λ o. o.failed) new) in
+    let split : tally_lines words tallies ≡ hands.out ++ hands.left =
+    sym (sym (says.is []) ∙ lines_are words tallies) ∙ ap (λ o. o.waiting ++ (says.bytes ++ [])) (sym new) ∙ hands.split in
+    let front : hands.out ≡ take (length hands.out) (tally_lines words tallies) =
+    sym (ap (take (length hands.out)) split ∙ take-append_seam hands.out hands.left) in
+    record {
+      count = length hands.out;
+      within = subst (λ xs. length hands.out ≤ length xs) (sym split) (omega (arith, length-append hands.out hands.left));
+      went = subst (Appends before.gone_out after.gone_out) front hands.went;
+    }
+
+-- it did not fail
+pub lines_kept : (start mid now : Outgoing) (before middle after : SinkState) (words : List ℕ → List ℕ) (tallies : List NameTally)
+    → start ≡ nothing → Says start mid before middle (λ k. lines_before words tallies k) → Puts mid now middle after []
+    → now.failed ≡ false → after.failed ≡ before.failed
+lines_kept start mid now before middle after words tallies new says flush on =
+    let all = puts_both start mid now before middle after says.bytes [] says.puts flush in
+    (all.going (ap (λ o. o.failed) new)).kept on

@@ -1,6 +1,4 @@
-pub mod App
 pub mod Counts
 pub mod Inputs
+pub mod Limits
 pub mod Lines
-pub mod Settings
-pub mod Whole

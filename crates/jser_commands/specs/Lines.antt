@@ -2,6 +2,7 @@
 use Rattle.std.specs.Prelude.{ℕ, ◌≡◌, ◌≤◌, ◌⊎◌, Bool, true, List, ◌++◌, codes, length, take, Option, IfSome}
 use Rattle.std.specs.Fmt.{decimal}
 use Rattle.std.specs.Io.KnownBytes.{Appends, Keeps}
+use Rattle.jser_front.specs.Fronts.{CutAt}
 use Rattle.jser_grammar.specs.Parts.{IsBytes}
 use Rattle.jser_grammar.specs.Trees.{ContentTrees}
 use Rattle.jser_verdict.specs.Passing.{Passes}
@@ -13,11 +14,15 @@ use Rattle.jser_filter.specs.declared.Verdict.TheVariants as verdict
 use Rattle.jser_filter.specs.Filters.{FilterView, verdict_of}
 use Rattle.jser_shown.specs.Shown.{shown}
 use Rattle.jser_shown.specs.Listed.{listed}
-use Rattle.jser_graph.specs.Reading.{IsRefused}
+use Rattle.jser_index.specs.Reading.{IsRefused}
 use Rattle.jser_check.specs.declared.Options.{Options}
-use Rattle.jser_check.specs.declared.Report.{Report}
+use Rattle.jser_check.specs.declared.Report.{Totals as Report}
 use Rattle.jser_check.specs.Admitted.{gate_of_filter}
 use Rattle.jser_check.specs.Answers.{Reports, Refuses, CarriesFirst}
+use Rattle.jser_check_anywhere.specs.Answers.{ReportsAnywhere}
+use Rattle.jser_check_anywhere.specs.SourceAnswers.{RefusedIn, HiddenIn}
+use Rattle.jser_inputs.specs.declared.InputFault.{InputFault}
+use Rattle.jser_settings.specs.Settings.{Tells, TellsInputFault, TellsNoMemory}
 use Rattle.jser_commands.specs.declared.job.Job.{Job}
 use Rattle.jser_commands.specs.declared.job.Job.TheVariants as job
 
@@ -33,18 +38,51 @@ no_line refusal =
     codes "no at " ++ decimal refusal.from_byte ++ codes " to " ++ decimal refusal.to_byte ++ codes ": "
     ++ reason_name refusal.reason ++ codes "\n"
 
--- the line of a report that is right of the bytes went out, and nothing else
-pub record SaysYes (filter : FilterView) (options : Options) (bytes : List ℕ) (old new : Option (List ℕ)) : Type 0 where
+-- the first bytes of a text went out, and no others
+pub record AppendsSome (old new : Option (List ℕ)) (text : List ℕ) : Type 0 where
+  pub count : ℕ
+  pub within : count ≤ length text
+  pub went : Appends old new (take count text)
+
+-- What went out is said of a text by `Went`: the text and nothing else, `Appends`, or its first bytes, `AppendsSome`.
+
+-- the line of a report that is right of the bytes
+pub record SaysYes (filter : FilterView) (options : Options) (bytes : List ℕ) (Went : List ℕ → Type 0) : Type 0 where
   pub report : Report
   pub reported : Reports filter options bytes report
-  pub printed : Appends old new (yes_line report)
+  pub printed : Went (yes_line report)
 
--- the line of a refusal that is right of the bytes, and names their first fault, went out, and nothing else
-pub record SaysNo (filter : FilterView) (options : Options) (bytes : List ℕ) (old new : Option (List ℕ)) : Type 0 where
+-- the line of a refusal that is right of the bytes, and names their first fault
+pub record SaysNo (filter : FilterView) (options : Options) (bytes : List ℕ) (Went : List ℕ → Type 0) : Type 0 where
   pub refusal : Refusal
   pub refused : Refuses filter options bytes refusal
   pub first : IsBytes bytes → CarriesFirst (gate_of_filter filter options) bytes refusal
-  pub printed : Appends old new (no_line refusal)
+  pub printed : Went (no_line refusal)
+
+-- no at A to E: HiddenName
+abbrev pub hidden_line : (from to : ℕ) → List ℕ
+hidden_line from to = codes "no at " ++ decimal from ++ codes " to " ++ decimal to ++ codes ": HiddenName\n"
+
+-- The same of a check that asks about every class name that can be read at any place: the line of its report.
+pub record SaysYesAnywhere (filter : FilterView) (options : Options) (bytes : List ℕ) (Went : List ℕ → Type 0) : Type 0 where
+  pub report : Report
+  pub reported : ReportsAnywhere filter options bytes report
+  pub printed : Went (yes_line report)
+
+pub record SaysNoOf (filter : FilterView) (options : Options) (bytes : List ℕ) (Went : List ℕ → Type 0) : Type 0 where
+  pub refusal : Refusal
+  pub refused : RefusedIn filter options bytes refusal
+  pub printed : Went (no_line refusal)
+
+pub record SaysHidden (filter : FilterView) (options : Options) (bytes : List ℕ) (Went : List ℕ → Type 0) : Type 0 where
+  pub from : ℕ
+  pub to : ℕ
+  pub hidden : HiddenIn filter options bytes from to
+  pub printed : Went (hidden_line from to)
+
+-- the line of its refusal, or that of a hidden name
+abbrev pub SaysNoAnywhere : FilterView → Options → (bytes : List ℕ) → (Went : List ℕ → Type 0) → Type 0
+SaysNoAnywhere filter options bytes Went = SaysNoOf filter options bytes Went ⊎ SaysHidden filter options bytes Went
 
 -- the words of a verdict, as `list` prints them
 abbrev pub verdict_words : Verdict → List ℕ
@@ -57,48 +95,109 @@ verdict_words verdict.NoClass = codes "noclass"
 abbrev pub words_on : FilterView → List ℕ → List ℕ
 words_on filter name = verdict_words (verdict_of filter name)
 
--- The bytes are a stream of this list within the greatest limits, and its text went out, and nothing else.
-pub record SaysText (text : ContentTrees → List ℕ) (bytes : List ℕ) (old new : Option (List ℕ)) : Type 0 where
+-- the text of a list that makes the bytes a stream within the greatest limits
+pub record SaysText (text : ContentTrees → List ℕ) (bytes : List ℕ) (Went : List ℕ → Type 0) : Type 0 where
   pub list : ContentTrees
   pub passes : Passes open_gate bytes list
-  pub printed : Appends old new (text list)
+  pub printed : Went (text list)
 
--- the same of the first bytes of its text
-pub record SaysFront (text : ContentTrees → List ℕ) (bytes : List ℕ) (old new : Option (List ℕ)) : Type 0 where
-  pub list : ContentTrees
-  pub passes : Passes open_gate bytes list
+-- cut at N bytes
+abbrev pub cut_line : ℕ → List ℕ
+cut_line limit = codes "cut at " ++ decimal limit ++ codes " bytes\n"
+
+-- what is printed of a text that has more bytes than the limit allows: the most of its lines that it does allow, and a line that says so
+pub record CutText (limit : ℕ) (text printed : List ℕ) : Type 0 where
   pub count : ℕ
-  pub within : count ≤ length (text list)
-  pub printed : Appends old new (take count (text list))
+  pub cut : CutAt limit count text
+  pub is : printed ≡ take count text ++ cut_line limit
 
--- the line of a refusal that is right of the bytes under no filter, with their first fault, went out, and nothing else
-pub record SaysRefusal (bytes : List ℕ) (old new : Option (List ℕ)) : Type 0 where
+-- the text of show, where the limit allows all of it
+pub record SaysWithin (limit : ℕ) (bytes : List ℕ) (Went : List ℕ → Type 0) : Type 0 where
+  pub list : ContentTrees
+  pub passes : Passes open_gate bytes list
+  pub fits : length (shown list) ≤ limit
+  pub printed : Went (shown list)
+
+-- where it does not, what is printed of it
+pub record SaysCutShown (limit : ℕ) (bytes : List ℕ) (Went : List ℕ → Type 0) : Type 0 where
+  pub list : ContentTrees
+  pub passes : Passes open_gate bytes list
+  pub text : List ℕ
+  pub cut : CutText limit (shown list) text
+  pub printed : Went text
+
+abbrev pub SaysLimited : (limit : ℕ) → (bytes : List ℕ) → (Went : List ℕ → Type 0) → Type 0
+SaysLimited limit bytes Went = SaysWithin limit bytes Went ⊎ SaysCutShown limit bytes Went
+
+-- the line of a refusal that is right of the bytes under no filter, with their first fault
+pub record SaysRefusal (bytes : List ℕ) (Went : List ℕ → Type 0) : Type 0 where
   pub refusal : Refusal
   pub refused : IsRefused bytes refusal
-  pub printed : Appends old new (no_line refusal)
+  pub printed : Went (no_line refusal)
 
 abbrev pub options_of : (strict : Bool) → Options
 options_of strict = record { strict = strict }
 
 -- what status 0 says of the bytes, by the job
-abbrev pub SaysAccepted : Job → List ℕ → (old new : Option (List ℕ)) → Type 0
-SaysAccepted (job.Check filter strict) bytes old new = SaysYes filter (options_of strict) bytes old new
-SaysAccepted job.Show bytes old new = SaysText shown bytes old new
-SaysAccepted (job.List filter) bytes old new = SaysText (listed (words_on filter)) bytes old new
+abbrev pub SaysAccepted : Job → List ℕ → (Went : List ℕ → Type 0) → Type 0
+SaysAccepted (job.Check filter strict) bytes Went = SaysYes filter (options_of strict) bytes Went
+SaysAccepted (job.CheckAnywhere filter strict) bytes Went = SaysYesAnywhere filter (options_of strict) bytes Went
+SaysAccepted job.Show bytes Went = SaysText shown bytes Went
+SaysAccepted (job.ShowLimited limit) bytes Went = SaysWithin limit bytes Went
+SaysAccepted (job.List filter) bytes Went = SaysText (listed (words_on filter)) bytes Went
 
 -- what status 1 says of them
-abbrev pub SaysRefused : Job → List ℕ → (old new : Option (List ℕ)) → Type 0
-SaysRefused (job.Check filter strict) bytes old new = SaysNo filter (options_of strict) bytes old new
-SaysRefused job.Show bytes old new = SaysRefusal bytes old new
-SaysRefused (job.List filter) bytes old new = SaysRefusal bytes old new
+abbrev pub SaysRefused : Job → List ℕ → (Went : List ℕ → Type 0) → Type 0
+SaysRefused (job.Check filter strict) bytes Went = SaysNo filter (options_of strict) bytes Went
+SaysRefused (job.CheckAnywhere filter strict) bytes Went = SaysNoAnywhere filter (options_of strict) bytes Went
+SaysRefused job.Show bytes Went = SaysRefusal bytes Went
+SaysRefused (job.ShowLimited limit) bytes Went = SaysRefusal bytes Went
+SaysRefused (job.List filter) bytes Went = SaysRefusal bytes Went
 
--- the output failed, or nothing went out
-abbrev pub FailedOrKept : (failed : Bool) → (old new : Option (List ℕ)) → Type 0
-FailedOrKept failed old new = (failed ≡ true) ⊎ Keeps old new
+-- what status 4 says of them
+abbrev pub SaysCut : Job → List ℕ → (Went : List ℕ → Type 0) → Type 0
+SaysCut (job.Check filter strict) bytes Went = ⊥
+SaysCut (job.CheckAnywhere filter strict) bytes Went = ⊥
+SaysCut job.Show bytes Went = ⊥
+SaysCut (job.ShowLimited limit) bytes Went = SaysCutShown limit bytes Went
+SaysCut (job.List filter) bytes Went = ⊥
 
--- What status 3 says of the output: it failed, or nothing went out. Where memory ran out while a text was shown, its
--- first bytes may have gone out too.
+-- the jobs that have that status
+abbrev pub HasLimit : Job → Type 0
+HasLimit (job.Check filter strict) = ⊥
+HasLimit (job.CheckAnywhere filter strict) = ⊥
+HasLimit job.Show = ⊥
+HasLimit (job.ShowLimited limit) = Unit {0}
+HasLimit (job.List filter) = ⊥
+
+-- nothing went out; or the output failed, and the first bytes of a text went out
+abbrev pub KeptOrCut : (failed : Bool) → (old new : Option (List ℕ)) → (text : List ℕ) → Type 0
+KeptOrCut failed old new text = Keeps old new ⊎ ((failed ≡ true) × AppendsSome old new text)
+
+-- the same of the line or text that answers: an accepted stream, or a refused one
+abbrev pub KeptOrSaidSome : (failed : Bool) → (old new told : Option (List ℕ))
+    → (Yes No : List ℕ → (List ℕ → Type 0) → Type 0) → Type 0
+KeptOrSaidSome failed old new told Yes No =
+    Keeps old new ⊎ ((failed ≡ true) × IfSome told (λ bytes. Yes bytes (AppendsSome old new) ⊎ No bytes (AppendsSome old new)))
+
+-- Why an answer was not written, and the line that was told of it: the write failed, or memory ran out and it did not.
+abbrev pub SaysUnwritten : (write_before write_after : Bool) → (failed : Bool) → (old new : Option (List ℕ)) → Type 0
+SaysUnwritten write_before write_after failed old new =
+    ((write_after ≡ true) × Tells failed old new (codes "write failed\n")) ⊎ ((write_after ≡ write_before) × TellsNoMemory failed old new)
+
+-- What status 3 says of the output: nothing went out, or it failed and the first bytes of the answer went out. Where memory
+-- ran out while a text was shown, its first bytes may have gone out too.
 abbrev pub SaysFailed : Job → (told : Option (List ℕ)) → (failed : Bool) → (old new : Option (List ℕ)) → Type 0
-SaysFailed (job.Check filter strict) told failed old new = FailedOrKept failed old new
-SaysFailed job.Show told failed old new = FailedOrKept failed old new ⊎ IfSome told (λ bytes. SaysFront shown bytes old new)
-SaysFailed (job.List filter) told failed old new = FailedOrKept failed old new
+SaysFailed (job.Check filter strict) told failed old new = KeptOrSaidSome failed old new told (SaysYes filter (options_of strict)) (SaysNo filter (options_of strict))
+SaysFailed (job.CheckAnywhere filter strict) told failed old new =
+    KeptOrSaidSome failed old new told (SaysYesAnywhere filter (options_of strict)) (SaysNoAnywhere filter (options_of strict))
+SaysFailed job.Show told failed old new =
+    KeptOrSaidSome failed old new told (SaysText shown) SaysRefusal ⊎ IfSome told (λ bytes. SaysText shown bytes (AppendsSome old new))
+SaysFailed (job.ShowLimited limit) told failed old new = KeptOrSaidSome failed old new told (SaysLimited limit) SaysRefusal
+SaysFailed (job.List filter) told failed old new = KeptOrSaidSome failed old new told (SaysText (listed (words_on filter))) SaysRefusal
+
+-- Why the status is 3, and the line that was told of it: a read failed, which the fault of the input tells, a write failed, or memory ran out and no device failed.
+abbrev pub SaysWhy : InputFault → (read_before read_after write_before write_after : Bool) → (failed : Bool) → (old new : Option (List ℕ)) → Type 0
+SaysWhy why read_before read_after write_before write_after failed old new =
+    ((read_after ≡ true) × (write_after ≡ write_before) × TellsInputFault why failed old new)
+    ⊎ ((read_after ≡ read_before) × SaysUnwritten write_before write_after failed old new)

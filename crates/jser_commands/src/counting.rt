@@ -7,7 +7,7 @@ ghost use Rattle.jser_commands.specs.Counts.{tallies_of, times_in, times_found};
 
 use crate::keyed::hash_of_names;
 use indexmap::IndexMap;
-use jser_graph::Graph;
+use jser_names::NameList;
 use std::alloc::{AllocError, Global};
 use std::collections::hash_map::RandomState;
 
@@ -15,12 +15,15 @@ use std::collections::hash_map::RandomState;
 pub(crate) type NameCounts<'g> = IndexMap<&'g [u16], u64, RandomState>;
 
 /// How often each checked name stands in a stream.
-pub(crate) fn count_names<'g>(alloc: Global, graph: &'g Graph) -> Result<NameCounts<'g>, AllocError>
-    ensures { IfOk result (λ counts. tallies_of counts.entries ≡ tally_all [] graph.now.names) }
+pub(crate) fn count_names<'g>(
+    alloc: Global,
+    names: &'g NameList,
+) -> Result<NameCounts<'g>, AllocError>
+    ensures { IfOk result (λ counts. tallies_of counts.entries ≡ tally_all [] names.now) }
 {
-    let mut counts = IndexMap::with_hasher(alloc, hash_of_names(graph)?);
-    'names: for number in 0..graph.name_count() {
-        match graph.name_at(number) {
+    let mut counts = IndexMap::with_hasher(alloc, hash_of_names(names)?);
+    'names: for number in 0..names.count() {
+        match names.get(number) {
             Some(name) => count_name(&mut counts, name)?,
             None => unreachable!(),
         }

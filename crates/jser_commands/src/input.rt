@@ -1,19 +1,19 @@
-//! The stream of an input, read whole before anything is printed of it.
-ghost use Rattle.std.specs.Prelude.{◌≡◌, ◌⊎◌, IfOk, IfErr, IfSome, true};
-ghost use Rattle.std.specs.Io.KnownBytes.{Keeps};
-ghost use Rattle.jser_graph.specs.Graphs.{StandsForSome};
-ghost use Rattle.jser_graph.specs.Reading.{IsRefused};
-ghost use Rattle.jser_commands.specs.Inputs.{IfUnreadRefused, PrintsUnread, StandsForAll, RefusedOfAll};
+//! The stream of an input, read whole before anything is printed of it; and why there is none.
+ghost use Rattle.std.specs.Prelude.{◌≡◌, ◌≢◌, ◌⊎◌, IfOk, IfErr, OnOk, IfSome, true};
+ghost use Rattle.std.specs.Io.KnownBytes.{Appends, Keeps};
+ghost use Rattle.jser_index.specs.Graphs.{StandsForSome};
+ghost use Rattle.jser_index.specs.Reading.{IsRefused};
+ghost use Rattle.jser_commands.specs.Lines.{AppendsSome};
+ghost use Rattle.jser_commands.specs.Inputs.{IfUnreadRefused, PrintsUnread, WhyUnread, IsReadFault, IsUnread};
 
 use crate::answer::{print_line, text_of_refusal};
-use crate::status::{REFUSED, tell_failure};
-use crate::whole::{WholeFault, read_front};
 use jser_check::Refusal;
-use jser_grammar::caps::MOST_BYTES;
-use jser_graph::Graph;
+use jser_index::Index;
+use jser_inputs::InputFault;
+use jser_names::{NamesFault, bytes_of};
 use jser_prim::{Sink, Source};
 use jser_reader::Stop;
-use jser_verdict::laws::refuses_first_fault;
+use jser_settings::{REFUSED, tell_failure, tell_input_fault};
 use std::alloc::Global;
 
 /// Why there is no stream.
@@ -27,52 +27,70 @@ pub(crate) enum Unread {
     OutOfMemory,
 }
 
-/// The stream of a source, which is read to its end, or until one byte more than a stream may have has come.
+/// The stream of a source, which is read to its end, or until one byte more than a stream may have has come. Where it is
+/// refused nothing is kept of it.
 ///
 /// # Errors
 ///
 /// `Unread`, with the reason. A failed read is told whatever came before it.
-#[tactic(auto, using(crate::proofs::InputLemmas::unread_failed, crate::proofs::InputLemmas::unread_memory))]
-pub(crate) fn read_stream<R: Source>(alloc: Global, input: &mut R) -> Result<Graph, Unread>
+#[tactic(auto, using(crate::proofs::InputLemmas::unread_refuses, crate::proofs::InputLemmas::unread_fails))]
+pub(crate) fn read_stream<R: Source>(alloc: Global, input: &mut R) -> Result<Index, Unread>
     ensures accepted { IfOk result (λ graph. IfSome (R.to_come input.old) (λ bytes. StandsForSome bytes graph)) }
     ensures refused { IfErr result (λ unread. IfSome (R.to_come input.old) (λ bytes. IfUnreadRefused (IsRefused bytes) unread)) }
+    ensures unbroken { OnOk result (R.has_failed input.new ≡ R.has_failed input.old) }
+    ensures fault { IfErr result (λ unread. IsReadFault unread (R.has_failed input.old) (R.has_failed input.new)) }
 {
-    match read_front(alloc, input, MOST_BYTES as usize) {
-        Ok(front) => stream_of(alloc, &front),
-        Err(WholeFault::OutOfMemory) => Err(Unread::OutOfMemory),
-        Err(_) => Err(Unread::Failed),
+    match bytes_of(alloc, input) {
+        Ok(bytes) => stream_of(alloc, &bytes),
+        Err(fault) => Err(unread_of(fault)),
     }
 }
 
-/// The stream of these bytes: all of an input, or one more than a stream may have.
-fn stream_of(alloc: Global, front: &[u8]) -> Result<Graph, Unread>
-    ensures accepted { IfOk result (StandsForAll front.now) }
-    ensures refused { IfErr result (IfUnreadRefused (RefusedOfAll front.now)) }
+/// The stream of these bytes.
+fn stream_of(alloc: Global, bytes: &[u8]) -> Result<Index, Unread>
+    ensures accepted { IfOk result (StandsForSome bytes.now) }
+    ensures refused { IfErr result (IfUnreadRefused (IsRefused bytes.now)) }
+    ensures read { IfErr result (λ unread. unread ≢ Unread.Failed) }
 {
-    refuses_first_fault();
-    match Graph::read(alloc, front) {
+    match Index::read(alloc, bytes) {
         Ok(graph) => Ok(graph),
         Err(Stop::Refused(refusal)) => Err(Unread::Refused(refusal)),
         Err(_) => Err(Unread::OutOfMemory),
     }
 }
 
-/// Prints the line of a refusal, or tells why there is no stream, and returns the status.
+/// Why there are no names, or no bytes, is why there is no stream.
+pub(crate) fn unread_of(fault: NamesFault) -> Unread
+    ensures { IsUnread fault result }
+{
+    match fault {
+        NamesFault::Refused(refusal) => Unread::Refused(refusal),
+        NamesFault::ReadFault => Unread::Failed,
+        NamesFault::OutOfMemory => Unread::OutOfMemory,
+    }
+}
+
+/// Prints the line of a refusal, or tells why there is no stream, and returns the status. `fault` is that of the input.
 pub(crate) fn print_unread<W: Sink, E: Sink>(
     alloc: Global,
     unread: Unread,
+    fault: InputFault,
     output: &mut W,
     faults: &mut E,
 ) -> u8
-    ensures refused { result ≡ 1 → PrintsUnread (W.gone_out output.old) (W.gone_out output.new) unread }
-    ensures failed { result ≡ 3 → (W.has_failed output.new ≡ true) ⊎ Keeps (W.gone_out output.old) (W.gone_out output.new) }
+    ensures refused { result ≡ 1 → PrintsUnread (Appends (W.gone_out output.old) (W.gone_out output.new)) unread }
+    ensures failed { result ≡ 3 → Keeps (W.gone_out output.old) (W.gone_out output.new)
+        ⊎ ((W.has_failed output.new ≡ true) × PrintsUnread (AppendsSome (W.gone_out output.old) (W.gone_out output.new)) unread) }
     ensures status { (result ≡ 1) ⊎ (result ≡ 3) }
+    ensures why { result ≡ 3 → WhyUnread fault unread (W.has_failed output.old) (W.has_failed output.new) (E.has_failed faults.new) (E.gone_out faults.old) (E.gone_out faults.new) }
+    ensures unbroken { result ≡ 1 → W.has_failed output.new ≡ W.has_failed output.old }
+    ensures quiet { result ≡ 1 → faults.new ≡ faults.old }
 {
     match unread {
         Unread::Refused(refusal) => {
             print_line(output, faults, text_of_refusal(alloc, refusal), REFUSED)
         }
-        Unread::Failed => tell_failure(faults, "read failed\n"),
+        Unread::Failed => tell_input_fault(alloc, fault, faults),
         Unread::OutOfMemory => tell_failure(faults, "out of memory\n"),
     }
 }

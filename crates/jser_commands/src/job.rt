@@ -1,15 +1,18 @@
 //! What the program does: one job on an opened input, printed to an output; faults go to another one.
-ghost use Rattle.std.specs.Prelude.{◌≡◌, ◌⊎◌, IfSome, true};
-ghost use Rattle.std.specs.Io.KnownBytes.{Keeps};
-ghost use Rattle.jser_commands.specs.Lines.{SaysYes, SaysNo, SaysAccepted, SaysRefused, SaysFailed};
+ghost use Rattle.std.specs.Prelude.{◌≡◌, ◌≢◌, ◌⊎◌, IfSome};
+ghost use Rattle.std.specs.Io.KnownBytes.{Appends};
+ghost use Rattle.jser_commands.specs.Lines.{SaysYes, SaysNo, SaysYesAnywhere, SaysNoAnywhere, SaysAccepted, SaysRefused, SaysCut, SaysFailed, SaysWhy, KeptOrSaidSome, HasLimit};
 
-use crate::answer::{print_line, text_of_refusal, text_of_report};
+use crate::answer::{print_line, text_of_hidden, text_of_refusal, text_of_report};
+use crate::limited::show_limited;
 use crate::list::list;
 use crate::show::show;
-use crate::status::{ACCEPTED, REFUSED, tell_failure};
 use jser_check::{CheckFault, Options, Stop, check_reader};
+use jser_check_anywhere::{AnywhereFault, check_anywhere};
 use jser_filter::Filter;
-use jser_prim::{Sink, Source};
+use jser_inputs::Input;
+use jser_prim::Sink;
+use jser_settings::{ACCEPTED, REFUSED, tell_failure, tell_input_fault};
 use std::alloc::Global;
 
 /// What is to be done.
@@ -22,8 +25,20 @@ pub enum Job {
         /// Whether a name that no pattern matches is refused.
         strict: bool,
     },
+    /// The same, and whether the filter lets each class name pass that can be read at any place of the input.
+    CheckAnywhere {
+        /// The filter, with its table of modules.
+        filter: Filter,
+        /// Whether a name that no pattern matches is refused.
+        strict: bool,
+    },
     /// Print the input as text, if it is a stream.
     Show,
+    /// The same, if the text has at most so many bytes; else as many of its lines as that allows, and a line that says so.
+    ShowLimited {
+        /// How many bytes of the text are printed at most.
+        limit: u64,
+    },
     /// Print the checked names of the input, if it is a stream, with how often each stands there and what the filter
     /// says of it. The filter refuses nothing.
     List {
@@ -35,33 +50,43 @@ pub enum Job {
 /// Does the job: reads `input`, prints the answer to `output`, and returns the status. Faults of the devices
 /// and a lack of memory are reported on `faults`; a fault of `faults` itself changes nothing.
 ///
-/// Nothing is printed to `output` before the input was accepted or refused. A check reads the input in pieces; the
-/// other jobs read it whole, at most 2^40 + 1 bytes, and keep it.
-pub fn run<R: Source, W: Sink, E: Sink>(
+/// Nothing is printed to `output` before the input was accepted or refused. The input is read in pieces. A check keeps none of
+/// it, a list its names, and the others all of it until it is refused. The other jobs than a check read on then, at most
+/// 2^40 + 1 bytes in all, and keep none.
+pub fn run<R: Input, W: Sink, E: Sink>(
     alloc: Global,
     job: &Job,
     input: &mut R,
     output: &mut W,
     faults: &mut E,
 ) -> u8
-    ensures accepted { result ≡ 0 → IfSome (R.to_come input.old) (λ bytes. SaysAccepted job.now bytes (W.gone_out output.old) (W.gone_out output.new)) }
-    ensures refused { result ≡ 1 → IfSome (R.to_come input.old) (λ bytes. SaysRefused job.now bytes (W.gone_out output.old) (W.gone_out output.new)) }
+    ensures accepted { result ≡ 0 → IfSome (R.to_come input.old) (λ bytes. SaysAccepted job.now bytes (Appends (W.gone_out output.old) (W.gone_out output.new))) }
+    ensures refused { result ≡ 1 → IfSome (R.to_come input.old) (λ bytes. SaysRefused job.now bytes (Appends (W.gone_out output.old) (W.gone_out output.new))) }
+    ensures cut { result ≡ 4 → IfSome (R.to_come input.old) (λ bytes. SaysCut job.now bytes (Appends (W.gone_out output.old) (W.gone_out output.new))) }
     ensures failed { result ≡ 3 → SaysFailed job.now (R.to_come input.old) (W.has_failed output.new) (W.gone_out output.old) (W.gone_out output.new) }
-    ensures status { (result ≡ 0) ⊎ ((result ≡ 1) ⊎ (result ≡ 3)) }
+    ensures why { result ≡ 3 → SaysWhy (R.why_failed input.new) (R.has_failed input.old) (R.has_failed input.new) (W.has_failed output.old) (W.has_failed output.new) (E.has_failed faults.new) (E.gone_out faults.old) (E.gone_out faults.new) }
+    ensures unbroken { result ≢ 3 → (R.has_failed input.new ≡ R.has_failed input.old) × (W.has_failed output.new ≡ W.has_failed output.old) }
+    ensures quiet { result ≢ 3 → faults.new ≡ faults.old }
+    ensures status { (result ≡ 0) ⊎ ((result ≡ 1) ⊎ ((result ≡ 3) ⊎ ((result ≡ 4) × HasLimit job.now))) }
 {
     match job {
         Job::Check { filter, strict } => {
             let options = Options { strict: *strict };
             check(alloc, filter, options, input, output, faults)
         }
+        Job::CheckAnywhere { filter, strict } => {
+            let options = Options { strict: *strict };
+            check_names(alloc, filter, options, input, output, faults)
+        }
         Job::Show => show(alloc, input, output, faults),
+        Job::ShowLimited { limit } => show_limited(alloc, *limit, input, output, faults),
         Job::List { filter } => list(alloc, filter, input, output, faults),
     }
 }
 
 /// Checks the input, and prints the line of the answer.
 #[tactic(auto, using(crate::proofs::Lines::says_yes, crate::proofs::Lines::says_no, crate::proofs::Lines::kept))]
-fn check<R: Source, W: Sink, E: Sink>(
+fn check<R: Input, W: Sink, E: Sink>(
     alloc: Global,
     filter: &Filter,
     options: Options,
@@ -69,10 +94,13 @@ fn check<R: Source, W: Sink, E: Sink>(
     output: &mut W,
     faults: &mut E,
 ) -> u8
-    ensures accepted { result ≡ 0 → IfSome (R.to_come input.old) (λ bytes. SaysYes filter.now options bytes (W.gone_out output.old) (W.gone_out output.new)) }
-    ensures refused { result ≡ 1 → IfSome (R.to_come input.old) (λ bytes. SaysNo filter.now options bytes (W.gone_out output.old) (W.gone_out output.new)) }
-    ensures failed { result ≡ 3 → (W.has_failed output.new ≡ true) ⊎ Keeps (W.gone_out output.old) (W.gone_out output.new) }
+    ensures accepted { result ≡ 0 → IfSome (R.to_come input.old) (λ bytes. SaysYes filter.now options bytes (Appends (W.gone_out output.old) (W.gone_out output.new))) }
+    ensures refused { result ≡ 1 → IfSome (R.to_come input.old) (λ bytes. SaysNo filter.now options bytes (Appends (W.gone_out output.old) (W.gone_out output.new))) }
+    ensures failed { result ≡ 3 → KeptOrSaidSome (W.has_failed output.new) (W.gone_out output.old) (W.gone_out output.new) (R.to_come input.old) (SaysYes filter.now options) (SaysNo filter.now options) }
     ensures status { (result ≡ 0) ⊎ ((result ≡ 1) ⊎ (result ≡ 3)) }
+    ensures why { result ≡ 3 → SaysWhy (R.why_failed input.new) (R.has_failed input.old) (R.has_failed input.new) (W.has_failed output.old) (W.has_failed output.new) (E.has_failed faults.new) (E.gone_out faults.old) (E.gone_out faults.new) }
+    ensures unbroken { result ≢ 3 → (R.has_failed input.new ≡ R.has_failed input.old) × (W.has_failed output.new ≡ W.has_failed output.old) }
+    ensures quiet { result ≢ 3 → faults.new ≡ faults.old }
 {
     match check_reader(alloc, input, filter, options) {
         Ok(report) => print_line(output, faults, text_of_report(alloc, report), ACCEPTED),
@@ -80,6 +108,42 @@ fn check<R: Source, W: Sink, E: Sink>(
             print_line(output, faults, text_of_refusal(alloc, refusal), REFUSED)
         }
         Err(CheckFault::Stop(_)) => tell_failure(faults, "out of memory\n"),
-        Err(CheckFault::ReadFault) => tell_failure(faults, "read failed\n"),
+        Err(CheckFault::ReadFault) => tell_input_fault(alloc, input.fault(), faults),
+    }
+}
+
+/// Checks the input, with each class name that can be read at any place, and prints the line of the answer.
+#[tactic(auto, using(crate::proofs::Lines::says_yes_anywhere, crate::proofs::Lines::says_no_anywhere, crate::proofs::Lines::says_hidden, crate::proofs::Lines::kept))]
+fn check_names<R: Input, W: Sink, E: Sink>(
+    alloc: Global,
+    filter: &Filter,
+    options: Options,
+    input: &mut R,
+    output: &mut W,
+    faults: &mut E,
+) -> u8
+    ensures accepted { result ≡ 0 → IfSome (R.to_come input.old) (λ bytes. SaysYesAnywhere filter.now options bytes (Appends (W.gone_out output.old) (W.gone_out output.new))) }
+    ensures refused { result ≡ 1 → IfSome (R.to_come input.old) (λ bytes. SaysNoAnywhere filter.now options bytes (Appends (W.gone_out output.old) (W.gone_out output.new))) }
+    ensures failed { result ≡ 3 → KeptOrSaidSome (W.has_failed output.new) (W.gone_out output.old) (W.gone_out output.new) (R.to_come input.old) (SaysYesAnywhere filter.now options) (SaysNoAnywhere filter.now options) }
+    ensures status { (result ≡ 0) ⊎ ((result ≡ 1) ⊎ (result ≡ 3)) }
+    ensures why { result ≡ 3 → SaysWhy (R.why_failed input.new) (R.has_failed input.old) (R.has_failed input.new) (W.has_failed output.old) (W.has_failed output.new) (E.has_failed faults.new) (E.gone_out faults.old) (E.gone_out faults.new) }
+    ensures unbroken { result ≢ 3 → (R.has_failed input.new ≡ R.has_failed input.old) × (W.has_failed output.new ≡ W.has_failed output.old) }
+    ensures quiet { result ≢ 3 → faults.new ≡ faults.old }
+{
+    match check_anywhere(alloc, input, filter, options) {
+        Ok(report) => print_line(output, faults, text_of_report(alloc, report), ACCEPTED),
+        Err(AnywhereFault::Stop(Stop::Refused(refusal))) => {
+            print_line(output, faults, text_of_refusal(alloc, refusal), REFUSED)
+        }
+        Err(AnywhereFault::Hidden { from_byte, to_byte }) => {
+            print_line(
+                output,
+                faults,
+                text_of_hidden(alloc, from_byte, to_byte),
+                REFUSED,
+            )
+        }
+        Err(AnywhereFault::Stop(_)) => tell_failure(faults, "out of memory\n"),
+        Err(AnywhereFault::ReadFault) => tell_input_fault(alloc, input.fault(), faults),
     }
 }

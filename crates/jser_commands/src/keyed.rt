@@ -1,6 +1,6 @@
 //! A hash for names that whoever wrote a stream has chosen.
 
-use jser_graph::Graph;
+use jser_names::NameList;
 use std::alloc::AllocError;
 use std::collections::hash_map::{DefaultHasher, RandomState};
 use std::hash::{Hash, Hasher};
@@ -9,9 +9,9 @@ use std::random::RandomSource;
 
 /// A hash whose keys are made of all the checked names of a stream, so that names can hardly be chosen to collide: each
 /// other choice has other keys.
-pub(crate) fn hash_of_names(graph: &Graph) -> Result<RandomState, AllocError> {
-    let high = u128::from(digest(graph, 1));
-    let low = u128::from(digest(graph, 0));
+pub(crate) fn hash_of_names(names: &NameList) -> Result<RandomState, AllocError> {
+    let high = u128::from(digest(names, 1));
+    let low = u128::from(digest(names, 0));
     let keys = Keys {
         bytes: (high << 64 | low).to_le_bytes(),
     };
@@ -22,11 +22,11 @@ pub(crate) fn hash_of_names(graph: &Graph) -> Result<RandomState, AllocError> {
 }
 
 /// A number that depends on all the names, and on where it starts.
-fn digest(graph: &Graph, start: u64) -> u64 {
+fn digest(names: &NameList, start: u64) -> u64 {
     let mut hasher = DefaultHasher::new();
     hasher.write_u64(start);
-    for number in 0..graph.name_count() {
-        if let Some(name) = graph.name_at(number) {
+    for number in 0..names.count() {
+        if let Some(name) = names.get(number) {
             name.hash(&mut hasher);
         }
     }

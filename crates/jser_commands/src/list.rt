@@ -1,42 +1,69 @@
-//! The job of `list`: the checked names of a stream, with how often each stands there and what a filter says of it.
-ghost use Rattle.std.specs.Prelude.{◌≡◌, ◌⊎◌, ◌++◌, [], IfSome, true};
-ghost use Rattle.std.specs.Io.KnownBytes.{Appends, Keeps};
+//! The job of `list`: the checked names of a stream, with how often each stands there and what a filter says of it. The stream
+//! is read in pieces, and its names alone are kept.
+ghost use Rattle.std.specs.Prelude.{◌≡◌, ◌≢◌, ◌⊎◌, ◌++◌, [], IfErr, IfOk, IfSome, OnOk};
+ghost use Rattle.std.specs.Io.KnownBytes.{Appends};
 ghost use Rattle.jser_filter.specs.Filters.{verdict_of};
 ghost use Rattle.jser_shown.specs.Counting.{name_tally, tally_all, tally_lines};
 ghost use Rattle.jser_shown.specs.Listed.{listed};
+ghost use Rattle.jser_index.specs.Reading.{IsRefused};
+ghost use Rattle.jser_names.specs.Sources.{HasNames};
 ghost use Rattle.jser_words.specs.Says.{SaysTo};
 ghost use Rattle.jser_commands.specs.Counts.{tallies_of, tally_line, lines_before};
-ghost use Rattle.jser_commands.specs.Lines.{SaysText, SaysRefusal, verdict_words, words_on};
+ghost use Rattle.jser_commands.specs.Inputs.{IfUnreadRefused, IsReadFault};
+ghost use Rattle.jser_commands.specs.Lines.{SaysText, SaysRefusal, SaysWhy, SaysUnwritten, KeptOrCut, KeptOrSaidSome, verdict_words, words_on};
 
 use crate::counting::{NameCounts, count_names};
-use crate::input::{print_unread, read_stream};
-use crate::status::{ACCEPTED, tell_failure};
+use crate::input::{Unread, print_unread, unread_of};
 use jser_filter::{Filter, Verdict};
-use jser_graph::Graph;
+use jser_inputs::Input;
+use jser_names::{NameList, names_of};
 use jser_prim::{Outbox, Sink, Source};
+use jser_settings::{ACCEPTED, tell_failure};
 use jser_shown::laws::counted;
 use jser_table::{Element, element_of};
 use jser_words::{say, say_decimal, say_quoted};
 use std::alloc::Global;
 
-/// Reads the stream of the input, and prints the lines of its checked names.
-#[tactic(auto, using(crate::proofs::ListLemmas::says_listed, crate::proofs::InputLemmas::says_refusal))]
-pub(crate) fn list<R: Source, W: Sink, E: Sink>(
+/// Reads the stream of the input in pieces, and prints the lines of its checked names.
+#[tactic(auto, using(crate::proofs::ListLemmas::says_listed, crate::proofs::InputLemmas::says_refusal, crate::proofs::InputLemmas::refusal_cut, crate::proofs::InputLemmas::unbroken_refusal, crate::proofs::InputLemmas::why_unread))]
+pub(crate) fn list<R: Input, W: Sink, E: Sink>(
     alloc: Global,
     filter: &Filter,
     input: &mut R,
     output: &mut W,
     faults: &mut E,
 ) -> u8
-    ensures accepted { result ≡ 0 → IfSome (R.to_come input.old) (λ bytes. SaysText (listed (words_on filter.now)) bytes (W.gone_out output.old) (W.gone_out output.new)) }
-    ensures refused { result ≡ 1 → IfSome (R.to_come input.old) (λ bytes. SaysRefusal bytes (W.gone_out output.old) (W.gone_out output.new)) }
-    ensures failed { result ≡ 3 → (W.has_failed output.new ≡ true) ⊎ Keeps (W.gone_out output.old) (W.gone_out output.new) }
+    ensures accepted { result ≡ 0 → IfSome (R.to_come input.old) (λ bytes. SaysText (listed (words_on filter.now)) bytes (Appends (W.gone_out output.old) (W.gone_out output.new))) }
+    ensures refused { result ≡ 1 → IfSome (R.to_come input.old) (λ bytes. SaysRefusal bytes (Appends (W.gone_out output.old) (W.gone_out output.new))) }
+    ensures failed { result ≡ 3 → KeptOrSaidSome (W.has_failed output.new) (W.gone_out output.old) (W.gone_out output.new) (R.to_come input.old) (SaysText (listed (words_on filter.now))) SaysRefusal }
     ensures status { (result ≡ 0) ⊎ ((result ≡ 1) ⊎ (result ≡ 3)) }
+    ensures why { result ≡ 3 → SaysWhy (R.why_failed input.new) (R.has_failed input.old) (R.has_failed input.new) (W.has_failed output.old) (W.has_failed output.new) (E.has_failed faults.new) (E.gone_out faults.old) (E.gone_out faults.new) }
+    ensures unbroken { result ≢ 3 → (R.has_failed input.new ≡ R.has_failed input.old) × (W.has_failed output.new ≡ W.has_failed output.old) }
+    ensures quiet { result ≢ 3 → faults.new ≡ faults.old }
 {
     counted();
-    match read_stream(alloc, input) {
-        Ok(graph) => print_names(alloc, filter, &graph, output, faults),
-        Err(unread) => print_unread(alloc, unread, output, faults),
+    match read_names(alloc, input) {
+        Ok(names) => print_names(alloc, filter, &names, output, faults),
+        Err(unread) => print_unread(alloc, unread, input.fault(), output, faults),
+    }
+}
+
+/// The checked names of the stream of a source, which is read to its end, or until one byte more than a stream may have has
+/// come.
+///
+/// # Errors
+///
+/// `Unread`, with the reason. A failed read is told whatever came before it.
+#[tactic(auto, using(crate::proofs::InputLemmas::unread_refuses, crate::proofs::InputLemmas::unread_fails))]
+fn read_names<R: Source>(alloc: Global, input: &mut R) -> Result<NameList, Unread>
+    ensures accepted { IfOk result (λ names. IfSome (R.to_come input.old) (λ bytes. HasNames bytes names)) }
+    ensures refused { IfErr result (λ unread. IfSome (R.to_come input.old) (λ bytes. IfUnreadRefused (IsRefused bytes) unread)) }
+    ensures unbroken { OnOk result (R.has_failed input.new ≡ R.has_failed input.old) }
+    ensures fault { IfErr result (λ unread. IsReadFault unread (R.has_failed input.old) (R.has_failed input.new)) }
+{
+    match names_of(alloc, input) {
+        Ok(names) => Ok(names),
+        Err(fault) => Err(unread_of(fault)),
     }
 }
 
@@ -45,22 +72,25 @@ pub(crate) fn list<R: Source, W: Sink, E: Sink>(
 fn print_names<W: Sink, E: Sink>(
     alloc: Global,
     filter: &Filter,
-    graph: &Graph,
+    names: &NameList,
     output: &mut W,
     faults: &mut E,
 ) -> u8
-    ensures printed { result ≡ 0 → Appends (W.gone_out output.old) (W.gone_out output.new) (tally_lines (words_on filter.now) (tally_all [] graph.now.names)) }
-    ensures failed { result ≡ 3 → (W.has_failed output.new ≡ true) ⊎ Keeps (W.gone_out output.old) (W.gone_out output.new) }
+    ensures printed { result ≡ 0 → Appends (W.gone_out output.old) (W.gone_out output.new) (tally_lines (words_on filter.now) (tally_all [] names.now)) }
+    ensures failed { result ≡ 3 → KeptOrCut (W.has_failed output.new) (W.gone_out output.old) (W.gone_out output.new) (tally_lines (words_on filter.now) (tally_all [] names.now)) }
     ensures status { (result ≡ 0) ⊎ (result ≡ 3) }
+    ensures why { result ≡ 3 → SaysUnwritten (W.has_failed output.old) (W.has_failed output.new) (E.has_failed faults.new) (E.gone_out faults.old) (E.gone_out faults.new) }
+    ensures unbroken { result ≡ 0 → W.has_failed output.new ≡ W.has_failed output.old }
+    ensures quiet { result ≡ 0 → faults.new ≡ faults.old }
 {
-    match count_names(alloc, graph) {
+    match count_names(alloc, names) {
         Ok(counts) => print_counts(filter, &counts, output, faults),
         Err(_) => tell_failure(faults, "out of memory\n"),
     }
 }
 
 /// Prints a line for each name that was counted. Takes no memory.
-#[tactic(auto, using(crate::proofs::ListLemmas::lines_failed))]
+#[tactic(auto, using(crate::proofs::ListLemmas::lines_failed, crate::proofs::ListLemmas::lines_cut, crate::proofs::ListLemmas::lines_kept))]
 fn print_counts<W: Sink, E: Sink>(
     filter: &Filter,
     counts: &NameCounts<'_>,
@@ -68,8 +98,11 @@ fn print_counts<W: Sink, E: Sink>(
     faults: &mut E,
 ) -> u8
     ensures printed { result ≡ 0 → Appends (W.gone_out output.old) (W.gone_out output.new) (tally_lines (words_on filter.now) (tallies_of counts.now.entries)) }
-    ensures failed { result ≡ 3 → W.has_failed output.new ≡ true }
+    ensures failed { result ≡ 3 → KeptOrCut (W.has_failed output.new) (W.gone_out output.old) (W.gone_out output.new) (tally_lines (words_on filter.now) (tallies_of counts.now.entries)) }
     ensures status { (result ≡ 0) ⊎ (result ≡ 3) }
+    ensures why { result ≡ 3 → SaysUnwritten (W.has_failed output.old) (W.has_failed output.new) (E.has_failed faults.new) (E.gone_out faults.old) (E.gone_out faults.new) }
+    ensures unbroken { result ≡ 0 → W.has_failed output.new ≡ W.has_failed output.old }
+    ensures quiet { result ≡ 0 → faults.new ≡ faults.old }
 {
     let mut outbox = Outbox::new();
     say_lines(&mut outbox, output, filter, counts);

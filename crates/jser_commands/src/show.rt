@@ -1,41 +1,48 @@
 //! The job of `show`: the text of a stream.
-ghost use Rattle.std.specs.Prelude.{◌≡◌, ◌⊎◌, IfSome, true};
-ghost use Rattle.std.specs.Io.KnownBytes.{Keeps};
+ghost use Rattle.std.specs.Prelude.{◌≡◌, ◌≢◌, ◌⊎◌, IfSome};
+ghost use Rattle.std.specs.Io.KnownBytes.{Appends};
 ghost use Rattle.jser_shown.specs.Shown.{shown};
-ghost use Rattle.jser_graph.specs.Showing.{WroteText, WroteFront};
-ghost use Rattle.jser_commands.specs.Lines.{SaysText, SaysFront, SaysRefusal};
+ghost use Rattle.jser_index.specs.Showing.{WroteText, WroteFront};
+ghost use Rattle.jser_commands.specs.Lines.{AppendsSome, SaysText, SaysRefusal, SaysWhy, SaysUnwritten, KeptOrSaidSome};
 
 use crate::input::{print_unread, read_stream};
-use crate::status::{ACCEPTED, tell_failure};
-use jser_graph::{Graph, GraphFault};
-use jser_prim::{Sink, Source};
+use jser_index::{GraphFault, Index};
+use jser_inputs::Input;
+use jser_prim::Sink;
+use jser_settings::{ACCEPTED, tell_failure};
 use std::alloc::Global;
 
 /// Reads the stream of the input, and prints its text.
-#[tactic(auto, using(crate::proofs::ShowLemmas::says_shown, crate::proofs::ShowLemmas::says_front, crate::proofs::InputLemmas::says_refusal))]
-pub(crate) fn show<R: Source, W: Sink, E: Sink>(
+#[tactic(auto, using(crate::proofs::ShowLemmas::says_shown, crate::proofs::InputLemmas::says_refusal, crate::proofs::InputLemmas::refusal_cut, crate::proofs::InputLemmas::unbroken_refusal, crate::proofs::InputLemmas::why_unread))]
+pub(crate) fn show<R: Input, W: Sink, E: Sink>(
     alloc: Global,
     input: &mut R,
     output: &mut W,
     faults: &mut E,
 ) -> u8
-    ensures accepted { result ≡ 0 → IfSome (R.to_come input.old) (λ bytes. SaysText shown bytes (W.gone_out output.old) (W.gone_out output.new)) }
-    ensures refused { result ≡ 1 → IfSome (R.to_come input.old) (λ bytes. SaysRefusal bytes (W.gone_out output.old) (W.gone_out output.new)) }
-    ensures failed { result ≡ 3 → ((W.has_failed output.new ≡ true) ⊎ Keeps (W.gone_out output.old) (W.gone_out output.new))
-        ⊎ IfSome (R.to_come input.old) (λ bytes. SaysFront shown bytes (W.gone_out output.old) (W.gone_out output.new)) }
+    ensures accepted { result ≡ 0 → IfSome (R.to_come input.old) (λ bytes. SaysText shown bytes (Appends (W.gone_out output.old) (W.gone_out output.new))) }
+    ensures refused { result ≡ 1 → IfSome (R.to_come input.old) (λ bytes. SaysRefusal bytes (Appends (W.gone_out output.old) (W.gone_out output.new))) }
+    ensures failed { result ≡ 3 → KeptOrSaidSome (W.has_failed output.new) (W.gone_out output.old) (W.gone_out output.new) (R.to_come input.old) (SaysText shown) SaysRefusal
+        ⊎ IfSome (R.to_come input.old) (λ bytes. SaysText shown bytes (AppendsSome (W.gone_out output.old) (W.gone_out output.new))) }
     ensures status { (result ≡ 0) ⊎ ((result ≡ 1) ⊎ (result ≡ 3)) }
+    ensures why { result ≡ 3 → SaysWhy (R.why_failed input.new) (R.has_failed input.old) (R.has_failed input.new) (W.has_failed output.old) (W.has_failed output.new) (E.has_failed faults.new) (E.gone_out faults.old) (E.gone_out faults.new) }
+    ensures unbroken { result ≢ 3 → (R.has_failed input.new ≡ R.has_failed input.old) × (W.has_failed output.new ≡ W.has_failed output.old) }
+    ensures quiet { result ≢ 3 → faults.new ≡ faults.old }
 {
     match read_stream(alloc, input) {
         Ok(graph) => print_text(alloc, &graph, output, faults),
-        Err(unread) => print_unread(alloc, unread, output, faults),
+        Err(unread) => print_unread(alloc, unread, input.fault(), output, faults),
     }
 }
 
 /// Prints the text of a stream.
-fn print_text<W: Sink, E: Sink>(alloc: Global, graph: &Graph, output: &mut W, faults: &mut E) -> u8
+fn print_text<W: Sink, E: Sink>(alloc: Global, graph: &Index, output: &mut W, faults: &mut E) -> u8
     ensures printed { result ≡ 0 → WroteText graph.now (W.gone_out output.old) (W.gone_out output.new) }
     ensures failed { result ≡ 3 → (why : GraphFault) × WroteFront graph.now (W.gone_out output.old) (W.gone_out output.new) why }
     ensures status { (result ≡ 0) ⊎ (result ≡ 3) }
+    ensures why { result ≡ 3 → SaysUnwritten (W.has_failed output.old) (W.has_failed output.new) (E.has_failed faults.new) (E.gone_out faults.old) (E.gone_out faults.new) }
+    ensures unbroken { result ≡ 0 → W.has_failed output.new ≡ W.has_failed output.old }
+    ensures quiet { result ≡ 0 → faults.new ≡ faults.old }
 {
     match graph.show(alloc, output) {
         Ok(_) => ACCEPTED,

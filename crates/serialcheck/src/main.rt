@@ -5,14 +5,22 @@
 #![tactic(auto)]
 
 ghost use Rattle.std.specs.Prelude.{◌≡◌, ◌⊎◌, ◌≤◌, IfOk, IfErr, length, vec_len};
-ghost use Rattle.jser_prim.specs.ModifiedUtf8.{utf16_units};
-ghost use Rattle.jser_filter.specs.Pieces.{pieces_of};
+ghost use Rattle.jser_commands.specs.Lines.{HasLimit};
 
-use jser_commands::{
-    Job, Line, LineFault, filter_of, line_of, modules_of, run, tell_failure, tell_misuse,
-};
+mod explain;
+mod scan;
+mod suggest;
+
+use crate::explain::{Doubt, explain_file};
+use crate::scan::{Task, scan_paths};
+use crate::suggest::suggest_from;
+use jser_commands::{Job, run};
 use jser_filter::{Filter, Modules};
-use jser_prim::{FromRead, Sink, Source, ToWrite};
+use jser_inputs::{Decoded, Form, Input};
+use jser_line::{Clash, Filters, Line, LineFault, line_of};
+use jser_prim::{FromRead, Sink, ToWrite};
+use jser_scan::{How, Rules};
+use jser_settings::{filter_of, filter_text_in, limit_of, modules_of, tell_failure, tell_misuse};
 use std::alloc::{AllocError, Global};
 use std::env;
 use std::fs::File;
@@ -27,7 +35,7 @@ fn main(rt: HostRuntime) -> ExitCode {
 
 /// Reads the command line and does what it asks for.
 fn status_of<W: Sink, E: Sink>(rt: &HostRuntime, output: &mut W, faults: &mut E) -> u8
-    ensures { result ≤ 3 }
+    ensures { result ≤ 4 }
 {
     match words_of_line(rt, faults) {
         Ok(words) => on_words(rt, &words, output, faults),
@@ -64,14 +72,20 @@ fn on_words<W: Sink, E: Sink>(
     output: &mut W,
     faults: &mut E,
 ) -> u8
-    ensures { result ≤ 3 }
+    ensures { result ≤ 4 }
 {
     let alloc = rt.alloc();
     let Ok(words) = borrowed(alloc, words) else {
         return tell_failure(faults, "out of memory\n");
     };
     match line_of(alloc, &words) {
-        Ok(Some(line)) => on_line(rt, &line, output, faults),
+        Ok(Some(line)) => match line.clash() {
+            None => on_line(rt, &line, output, faults),
+            Some(Clash::Filters) => {
+                tell_misuse(faults, "--filter and --filter-file are both given\n")
+            }
+            Some(Clash::Forms) => tell_misuse(faults, "--hex and --base64 are both given\n"),
+        },
         Ok(None) => tell_misuse(faults, "no command\n"),
         Err(fault) => tell_line_fault(alloc, &fault, faults),
     }
@@ -79,33 +93,101 @@ fn on_words<W: Sink, E: Sink>(
 
 /// Does what a line with a command says.
 fn on_line<W: Sink, E: Sink>(rt: &HostRuntime, line: &Line, output: &mut W, faults: &mut E) -> u8
-    ensures { result ≤ 3 }
+    ensures { result ≤ 4 }
 {
     match line {
         Line::Check {
-            filter,
+            filters,
             strict,
-            modules,
+            forms,
+            anywhere,
             file,
-        } => match filter_with(rt, filter.as_str(), modules, faults) {
+        } => match filter_with(rt, filters, faults) {
             Ok(filter) => {
-                let job = Job::Check {
-                    filter,
-                    strict: *strict,
-                };
-                on_file(rt, &job, file.as_str(), output, faults)
+                let job = check_job(filter, *strict, *anywhere);
+                on_file(rt, &job, forms.form(), file.as_str(), output, faults)
             }
             Err(status) => status,
         },
-        Line::Show { file } => on_file(rt, &Job::Show, file.as_str(), output, faults),
-        Line::List {
-            filter,
-            modules,
-            file,
-        } => match filter_with(rt, filter.as_str(), modules, faults) {
-            Ok(filter) => on_file(rt, &Job::List { filter }, file.as_str(), output, faults),
+        Line::Show { forms, limit, file } => match show_job(limit, faults) {
+            Ok(job) => on_file(rt, &job, forms.form(), file.as_str(), output, faults),
             Err(status) => status,
         },
+        Line::Suggest { forms, files } => suggest_from(rt, forms.form(), files, output, faults),
+        Line::List {
+            filters,
+            forms,
+            file,
+        } => match filter_with(rt, filters, faults) {
+            Ok(filter) => {
+                let job = Job::List { filter };
+                on_file(rt, &job, forms.form(), file.as_str(), output, faults)
+            }
+            Err(status) => status,
+        },
+        Line::Explain {
+            filters,
+            strict,
+            forms,
+            anywhere,
+            file,
+        } => {
+            let doubt = Doubt {
+                strict: *strict,
+                anywhere: *anywhere,
+                form: forms.form(),
+            };
+            explain_file(rt, filters, doubt, file.as_str(), output, faults)
+        }
+        Line::Scan {
+            filters,
+            strict,
+            forms,
+            anywhere,
+            refused,
+            json,
+            paths,
+        } => match filter_with(rt, filters, faults) {
+            Ok(filter) => {
+                let rules = Rules {
+                    filter,
+                    strict: *strict,
+                    anywhere: *anywhere,
+                };
+                let task = Task {
+                    rules: &rules,
+                    form: forms.form(),
+                    how: How {
+                        refused: *refused,
+                        json: *json,
+                    },
+                };
+                scan_paths(rt, &task, paths, output, faults)
+            }
+            Err(status) => status,
+        },
+    }
+}
+
+/// The job of a check.
+fn check_job(filter: Filter, strict: bool, anywhere: bool) -> Job {
+    if anywhere {
+        Job::CheckAnywhere { filter, strict }
+    } else {
+        Job::Check { filter, strict }
+    }
+}
+
+/// The job of a text, under the limit that is named, if one is.
+fn show_job<E: Sink>(limit: &Option<String>, faults: &mut E) -> Result<Job, u8>
+    ensures { IfErr result (λ status. status ≡ 2) }
+{
+    let Some(text) = limit else {
+        return Ok(Job::Show);
+    };
+    match limit_of(text.as_str(), faults) {
+        Ok(limit) => Ok(Job::ShowLimited { limit }),
+        Err(status) => Err(status),
     }
 }
 
@@ -133,21 +215,54 @@ fn borrowed<'a>(alloc: Global, owned: &'a [String]) -> Result<Vec<&'a str>, Allo
     Ok(words)
 }
 
-/// The filter of a text, with the table of modules of a file, if one is named.
-fn filter_with<E: Sink>(
+/// The filter that the options ask for, with the table of modules of a file, if one is named.
+fn filter_with<E: Sink>(rt: &HostRuntime, filters: &Filters, faults: &mut E) -> Result<Filter, u8>
+    ensures { IfErr result (λ status. (status ≡ 2) ⊎ (status ≡ 3)) }
+{
+    match filter_text(rt, filters, faults) {
+        Ok(text) => filter_reading(rt, filters, text.as_str(), faults),
+        Err(status) => Err(status),
+    }
+}
+
+/// The text of the filter: given, or that of a file. Where neither is given, it is empty.
+pub(crate) fn filter_text<E: Sink>(
     rt: &HostRuntime,
+    filters: &Filters,
+    faults: &mut E,
+) -> Result<String, u8>
+    ensures { IfErr result (λ status. (status ≡ 2) ⊎ (status ≡ 3)) }
+{
+    let alloc = rt.alloc();
+    if let Some(text) = &filters.text {
+        return match String::from_str(alloc, text.as_str()) {
+            Ok(text) => Ok(text),
+            Err(_) => Err(tell_failure(faults, "out of memory\n")),
+        };
+    }
+    let Some(file) = &filters.file else {
+        return Ok(String::new(alloc));
+    };
+    match File::open(rt, file.as_str()) {
+        Ok(opened) => filter_text_in(alloc, &mut FromRead::new(opened), faults),
+        Err(_) => Err(tell_unopened(alloc, file.as_str(), faults)),
+    }
+}
+
+/// The filter of this text, with the table of modules of a file, if one is named.
+pub(crate) fn filter_reading<E: Sink>(
+    rt: &HostRuntime,
+    filters: &Filters,
     text: &str,
-    modules: &Option<String>,
     faults: &mut E,
 ) -> Result<Filter, u8>
-    ensures pieces { IfOk result (λ filter. filter.pieces ≡ pieces_of (utf16_units text.now)) }
-    ensures status { IfErr result (λ status. (status ≡ 2) ⊎ (status ≡ 3)) }
+    ensures { IfErr result (λ status. (status ≡ 2) ⊎ (status ≡ 3)) }
 {
     let filter = match filter_of(rt.alloc(), text, faults) {
         Ok(filter) => filter,
         Err(status) => return Err(status),
     };
-    let Some(file) = modules else {
+    let Some(file) = &filters.modules else {
         return Ok(filter);
     };
     match modules_in(rt, file.as_str(), faults) {
@@ -166,41 +281,46 @@ fn modules_in<E: Sink>(rt: &HostRuntime, file: &str, faults: &mut E) -> Result<M
     }
 }
 
-/// Does the job on a file, or on standard input where it is named `-`.
+/// Does the job on a file in this form, or on standard input where it is named `-`.
 fn on_file<W: Sink, E: Sink>(
     rt: &HostRuntime,
     job: &Job,
+    form: Form,
     file: &str,
     output: &mut W,
     faults: &mut E,
 ) -> u8
-    ensures { (result ≡ 0) ⊎ ((result ≡ 1) ⊎ (result ≡ 3)) }
+    ensures { (result ≡ 0) ⊎ ((result ≡ 1) ⊎ ((result ≡ 3) ⊎ ((result ≡ 4) × HasLimit job.now))) }
 {
     let alloc = rt.alloc();
     if file == "-" {
-        return on_input(alloc, job, &mut FromRead::new(rt.stdin()), output, faults);
+        let mut input = Decoded::new(FromRead::new(rt.stdin()), form);
+        return on_input(alloc, job, &mut input, output, faults);
     }
     match File::open(rt, file) {
-        Ok(opened) => on_input(alloc, job, &mut FromRead::new(opened), output, faults),
+        Ok(opened) => {
+            let mut input = Decoded::new(FromRead::new(opened), form);
+            on_input(alloc, job, &mut input, output, faults)
+        }
         Err(_) => tell_unopened(alloc, file, faults),
     }
 }
 
 /// Does the job on an opened input. Of what `run` promises it passes on the status alone, which is what is needed here.
-fn on_input<R: Source, W: Sink, E: Sink>(
+fn on_input<R: Input, W: Sink, E: Sink>(
     alloc: Global,
     job: &Job,
     input: &mut R,
     output: &mut W,
     faults: &mut E,
 ) -> u8
-    ensures { (result ≡ 0) ⊎ ((result ≡ 1) ⊎ (result ≡ 3)) }
+    ensures { (result ≡ 0) ⊎ ((result ≡ 1) ⊎ ((result ≡ 3) ⊎ ((result ≡ 4) × HasLimit job.now))) }
 {
     run(alloc, job, input, output, faults)
 }
 
 /// Tells that a file cannot be opened, and returns the status of a failure.
-fn tell_unopened<E: Sink>(alloc: Global, file: &str, faults: &mut E) -> u8
+pub(crate) fn tell_unopened<E: Sink>(alloc: Global, file: &str, faults: &mut E) -> u8
     ensures { result ≡ 3 }
 {
     match format!(in alloc; "cannot open {file}\n") {

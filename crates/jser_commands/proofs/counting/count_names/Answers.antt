@@ -5,17 +5,17 @@ use Rattle.jser_commands.proofs.counting.count_names.Goals as goal
 
 pub count_name-requires : goal.count_name-requires
 count_name-requires c =
-    room_for_one (tallies_of c.names.counts.entries) c.args.graph.now.names c.names.number c.name_count-number-end.result
-    c.names-test.true c.name_count-number-end.ensures (search rules) c.names.invariant
+    room_for_one (tallies_of c.names.counts.entries) c.args.names.now c.names.number c.count-number-end.result
+    c.names-test.true c.count-number-end.ensures (search rules) c.names.invariant
 
 pub unreachable-requires : goal.unreachable-requires
 unreachable-requires c =
-    name_is_there c.args.graph.now.names c.names.number (omega (arith, c.names-test.true, c.name_count-number-end.ensures)) c.in-None.ensures
+    name_is_there c.args.names.now c.names.number (omega (arith, c.names-test.true, c.count-number-end.ensures)) c.in-None.ensures
 
 pub names-preserved : goal.names-preserved
 names-preserved c =
-    counts_on (tallies_of c.names.counts.entries) (tallies_of c.count_name.new.counts.entries) c.args.graph.now.names c.names.number c.in-Some.name
-    (omega (arith, c.names-test.true, c.name_count-number-end.ensures)) c.in-Some.ensures c.names.invariant c.in_ok-count_name-in-Some.ensures
+    counts_on (tallies_of c.names.counts.entries) (tallies_of c.count_name.new.counts.entries) c.args.names.now c.names.number c.in-Some.name
+    (omega (arith, c.names-test.true, c.count-number-end.ensures)) c.in-Some.ensures c.names.invariant c.in_ok-count_name-in-Some.ensures
 
 -- The check finds what follows with no answer too; with one, it refuses a wrong body sooner.
 

@@ -5,4 +5,4 @@ use Rattle.jser_commands.proofs.counting.count_names.Given as goal
 
 -- what is left to count leads to the tallies of all
 abbrev pub invariant-names : goal.invariant-names
-invariant-names l = tally_all (tallies_of l.counts.entries) (drop l.number l.graph.names) ≡ tally_all [] l.graph.names
+invariant-names l = tally_all (tallies_of l.counts.entries) (drop l.number l.names) ≡ tally_all [] l.names

@@ -1,0 +1,129 @@
+-- What `show --limit N` printed.
+use Rattle.std.proofs.Common.{◌≡◌, ℕ, ◌≤◌, ◌<◌, Bool, true, false, List, [], ◌++◌, length, take, drop, Option, Some, None, sym, ap, subst, ◌∙◌, arith, inl, inr}
+use Rattle.std.proofs.lemmas.List.{append-nil, take-append-le, take-append-drop}
+use Rattle.std.specs.Global.{Global}
+use Rattle.std.specs.Prelude.{◌⊎◌, IfSome, Vec}
+use Rattle.std.specs.Io.KnownBytes.{Appends, Keeps}
+use Rattle.jser_front.specs.Fronts.{CutAt}
+use Rattle.jser_grammar.specs.Trees.{ContentTrees}
+use Rattle.jser_shown.specs.Shown.{shown}
+use Rattle.jser_index.specs.declared.GraphFault.{GraphFault}
+use Rattle.jser_index.specs.Graphs.{GraphView, StandsFor, StandsForSome}
+use Rattle.jser_index.specs.Showing.{WroteText, WroteFront}
+use Rattle.jser_commands.specs.declared.limited.Limited.TheVariants as limited
+use Rattle.jser_commands.specs.declared.limited.Start.{Start}
+use Rattle.jser_commands.specs.Limits.{IsFrontOf, IsLimitedText, WentCut, WentWithin, WroteCut, WroteSomeLimited, WroteWithin}
+use Rattle.jser_commands.specs.Lines.{cut_line, AppendsSome, CutText, KeptOrCut, KeptOrSaidSome, SaysCutShown, SaysLimited, SaysRefusal, SaysWithin}
+
+-- ---- the first bytes of the text
+
+pub front_whole : (graph : GraphView) (start : Start) (first kept : List ℕ) → first ≡ [] → start.bytes.items ≡ kept → WroteText graph (Some first) (Some kept)
+    → IsFrontOf graph start
+unfolding WroteText IsFrontOf
+front_whole graph start first kept none is wrote bytes list stands =
+    let same : start.bytes.items ≡ shown list = is ∙ wrote bytes list stands ∙ ap (λ xs. xs ++ shown list) none in
+    record { rest = []; begins = sym same ∙ sym (append-nil start.bytes.items); all = λ yes. same }
+
+pub front_some : (graph : GraphView) (start : Start) (first kept : List ℕ) (why : GraphFault) → start.whole ≡ false → first ≡ [] → start.bytes.items ≡ kept
+    → WroteFront graph (Some first) (Some kept) why → IsFrontOf graph start
+unfolding WroteFront IsFrontOf
+front_some graph start first kept why part none is wrote bytes list stands =
+    let some = wrote bytes list stands in
+    let same : start.bytes.items ≡ take some.count (shown list) = is ∙ some.went ∙ ap (λ xs. xs ++ take some.count (shown list)) none in
+    record {
+      rest = drop some.count (shown list);
+      begins = sym (take-append-drop some.count (shown list)) ∙ ap (λ xs. xs ++ drop some.count (shown list)) (sym same);
+      all = λ yes. absurd (cc);
+    }
+
+-- ---- what is printed of it
+
+pub all_fits : (limit : ℕ) (graph : GraphView) (start : Start) → IsFrontOf graph start → start.whole ≡ true → length start.bytes.items ≤ limit
+    → IsLimitedText limit graph (limited.Whole start.bytes)
+unfolding IsFrontOf IsLimitedText
+all_fits limit graph start front whole fits bytes list stands =
+    let same : start.bytes.items ≡ shown list = (front bytes list stands).all whole in
+    record { fits = subst (λ xs. length xs ≤ limit) same fits; is = same }
+
+pub is_cut : (limit : ℕ) (graph : GraphView) (start : Start) (text : Vec ℕ Global) → IsFrontOf graph start
+    → ((rest : List ℕ) → CutText limit (start.bytes.items ++ rest) text.items) → IsLimitedText limit graph (limited.Cut text)
+unfolding IsFrontOf IsLimitedText
+is_cut limit graph start text front cut bytes list stands =
+    let begins = front bytes list stands in
+    subst (λ all. CutText limit all text.items) (sym begins.begins) (cut begins.rest)
+
+pub cut_text : (limit count : ℕ) (bytes text : List ℕ) → limit < length bytes → ((rest : List ℕ) → CutAt limit count (bytes ++ rest))
+    → text ≡ take count bytes ++ cut_line limit → (rest : List ℕ) → CutText limit (bytes ++ rest) text
+cut_text limit count bytes text long cut is rest =
+    let at = cut rest in
+    let same : take count (bytes ++ rest) ≡ take count bytes = take-append-le count bytes rest (omega (arith, long, at.within)) in
+    record { count = count; cut = at; is = is ∙ ap (λ xs. xs ++ cut_line limit) (sym same) }
+
+-- ---- what went out
+
+pub went_within : (limit : ℕ) (graph : GraphView) (text : Vec ℕ Global) (printed : List ℕ) (old new : Option (List ℕ)) → IsLimitedText limit graph (limited.Whole text)
+    → printed ≡ text.items → Appends old new printed → WroteWithin limit graph old new
+unfolding IsLimitedText WroteWithin
+went_within limit graph text printed old new right same went bytes list stands =
+    let fits = right bytes list stands in
+    record { fits = fits.fits; went = subst (Appends old new) (same ∙ fits.is) went }
+
+pub went_cut : (limit : ℕ) (graph : GraphView) (text : Vec ℕ Global) (printed : List ℕ) (old new : Option (List ℕ)) → IsLimitedText limit graph (limited.Cut text)
+    → printed ≡ text.items → Appends old new printed → WroteCut limit graph old new
+unfolding IsLimitedText WroteCut
+went_cut limit graph text printed old new right same went bytes list stands =
+    record { printed = text.items; cut = right bytes list stands; went = subst (Appends old new) same went }
+
+pub within_failed : (limit : ℕ) (graph : GraphView) (text : Vec ℕ Global) (printed : List ℕ) (failed : Bool) (old new : Option (List ℕ))
+    → IsLimitedText limit graph (limited.Whole text) → printed ≡ text.items → KeptOrCut failed old new printed → WroteSomeLimited limit graph failed old new
+unfolding IsLimitedText WroteSomeLimited
+within_failed limit graph text printed failed old new right same (inl kept) = inl kept
+within_failed limit graph text printed failed old new right same (inr some) = inr (
+  some.0,
+  λ bytes list stands. inl (record { fits = (right bytes list stands).fits; went = subst (AppendsSome old new) (same ∙ (right bytes list stands).is) some.1 }),
+)
+
+pub cut_failed : (limit : ℕ) (graph : GraphView) (text : Vec ℕ Global) (printed : List ℕ) (failed : Bool) (old new : Option (List ℕ))
+    → IsLimitedText limit graph (limited.Cut text) → printed ≡ text.items → KeptOrCut failed old new printed → WroteSomeLimited limit graph failed old new
+unfolding IsLimitedText WroteSomeLimited
+cut_failed limit graph text printed failed old new right same (inl kept) = inl kept
+cut_failed limit graph text printed failed old new right same (inr some) = inr (
+  some.0,
+  λ bytes list stands. inr (record { printed = text.items; cut = right bytes list stands; went = subst (AppendsSome old new) same some.1 }),
+)
+
+pub nothing_went : (limit : ℕ) (graph : GraphView) (failed : Bool) (old new : Option (List ℕ)) → Keeps old new → WroteSomeLimited limit graph failed old new
+unfolding WroteSomeLimited
+nothing_went limit graph failed old new kept = inl kept
+
+-- ---- of a source
+
+pub says_within : (told : Option (List ℕ)) (limit : ℕ) (graph : GraphView) (old new : Option (List ℕ)) → IfSome told (λ bytes. StandsForSome bytes graph)
+    → WroteWithin limit graph old new → IfSome told (λ bytes. SaysWithin limit bytes (Appends old new))
+unfolding WroteWithin
+says_within None limit graph old new stands wrote = tt
+says_within (Some bytes) limit graph old new stands wrote =
+    let went = wrote bytes stands.0 stands.1 in
+    record { list = stands.0; passes = stands.1.passes; fits = went.fits; printed = went.went }
+
+pub says_cut : (told : Option (List ℕ)) (limit : ℕ) (graph : GraphView) (old new : Option (List ℕ)) → IfSome told (λ bytes. StandsForSome bytes graph)
+    → WroteCut limit graph old new → IfSome told (λ bytes. SaysCutShown limit bytes (Appends old new))
+unfolding WroteCut
+says_cut None limit graph old new stands wrote = tt
+says_cut (Some bytes) limit graph old new stands wrote =
+    let went = wrote bytes stands.0 stands.1 in
+    record { list = stands.0; passes = stands.1.passes; text = went.printed; cut = went.cut; printed = went.went }
+
+says_some : (bytes : List ℕ) (limit : ℕ) (list : ContentTrees) (graph : GraphView) (old new : Option (List ℕ)) → StandsFor graph bytes list
+    → WentWithin limit (AppendsSome old new) (shown list) ⊎ WentCut limit (AppendsSome old new) (shown list) → SaysLimited limit bytes (AppendsSome old new)
+says_some bytes limit list graph old new stands (inl went) = inl (record { list = list; passes = stands.passes; fits = went.fits; printed = went.went })
+says_some bytes limit list graph old new stands (inr went) =
+    inr (record { list = list; passes = stands.passes; text = went.printed; cut = went.cut; printed = went.went })
+
+pub limited_failed : (told : Option (List ℕ)) (limit : ℕ) (graph : GraphView) (failed : Bool) (old new : Option (List ℕ)) → IfSome told (λ bytes. StandsForSome bytes graph)
+    → WroteSomeLimited limit graph failed old new → KeptOrSaidSome failed old new told (SaysLimited limit) SaysRefusal
+unfolding WroteSomeLimited
+limited_failed told limit graph failed old new stands (inl kept) = inl kept
+limited_failed None limit graph failed old new stands (inr some) = inr (some.0, tt)
+limited_failed (Some bytes) limit graph failed old new stands (inr some) =
+    inr (some.0, inl (says_some bytes limit stands.0 graph old new stands.1 (some.1 bytes stands.0 stands.1)))

@@ -1,0 +1,4 @@
+pub mod ExplainLemmas
+pub mod OpenLemmas
+pub mod PieceLemmas
+pub mod WhyLemmas

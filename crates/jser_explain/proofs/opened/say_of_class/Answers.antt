@@ -1,0 +1,10 @@
+use Rattle.std.specs.Prelude.{◌++◌, codes}
+use Rattle.jser_walk.specs.Views.{view_name}
+use Rattle.jser_words.proofs.SaysLemmas.{says_three}
+use Rattle.jser_explain.specs.Opened.{name_words}
+use Rattle.jser_explain.proofs.opened.say_of_class.Goals as goal
+
+pub returns : goal.returns
+returns g c =
+    says_three _ _ _ _ _ _ _ _ (λ k. c.args.words.now ++ k) (λ k. name_words (view_name c.args.class) k) (λ k. codes "\n" ++ k)
+    c.say.ensures c.say_class_name.ensures c.say-2.ensures

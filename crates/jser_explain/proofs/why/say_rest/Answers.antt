@@ -1,0 +1,13 @@
+use Rattle.std.specs.Prelude.{◌++◌}
+use Rattle.jser_walk.specs.Views.{view_name}
+use Rattle.jser_words.proofs.SaysLemmas.{says_five}
+use Rattle.jser_explain.specs.Opened.{opened_words, writer_words}
+use Rattle.jser_explain.specs.Rest.{piece_words}
+use Rattle.jser_explain.specs.Whys.{class_line}
+use Rattle.jser_explain.proofs.why.say_rest.Goals as goal
+
+pub returns : goal.returns
+returns g c =
+    says_five _ _ _ _ _ _ _ _ _ _ _ _ (λ k. class_line (view_name c.args.rest.now.class) k) (λ k. piece_words c.args.rest.now.piece k)
+    (λ k. opened_words c.args.rest.now.opened.now k) (λ k. writer_words (view_name c.args.rest.now.writer) k) (λ k. c.args.rest.now.hint.now ++ k)
+    c.say_class.ensures c.say_piece.ensures c.say_opened.ensures c.say_writer.ensures c.say.ensures

@@ -1,0 +1,151 @@
+//! The bytes of a refusal, and its class.
+ghost use Rattle.std.specs.Prelude.{◌++◌, ◌≡◌, take, drop, IfSome};
+ghost use Rattle.jser_words.specs.Says.{SaysTo};
+ghost use Rattle.jser_walk.specs.Views.{view_name};
+ghost use Rattle.jser_explain.specs.Whys.{class_in, class_line, digits_end, field_line, field_of, first_bytes, hex_end, known_class_line};
+
+use jser_prim::{Outbox, Sink};
+use jser_scan::Found;
+use jser_words::{say, say_decimal, say_hex, say_quoted};
+
+/// How many bytes of a field are printed at most.
+const MOST: u64 = 32;
+
+/// The place of a refusal: its first byte, and the end of the bytes that decide.
+#[derive(Clone, Copy)]
+pub(crate) struct Spot {
+    pub(crate) from: u64,
+    pub(crate) to: u64,
+}
+
+/// The place of what was found; None where nothing is refused.
+pub(crate) fn spot_of(found: &Found) -> Option<Spot>
+    ensures { result ≡ field_of found.now }
+{
+    match found {
+        Found::Refused { refusal, .. } => Some(Spot {
+            from: refusal.from_byte,
+            to: refusal.to_byte,
+        }),
+        Found::Hidden {
+            from_byte,
+            to_byte,
+            ..
+        } => Some(Spot {
+            from: *from_byte,
+            to: *to_byte,
+        }),
+        _ => None,
+    }
+}
+
+/// The class name that the filter refused, if that is why.
+pub(crate) fn class_in(found: &Found) -> Option<&[u16]>
+    ensures { view_name result ≡ class_in found.now }
+{
+    match found {
+        Found::Refused { class, .. } | Found::Hidden { class, .. } => match class {
+            Some(units) => Some(units.as_slice()),
+            None => None,
+        },
+        _ => None,
+    }
+}
+
+/// The bytes of a place, as far as they are there.
+pub(crate) fn bytes_at(bytes: &[u8], spot: Spot) -> &[u8] {
+    front(behind(bytes, spot.from), spot.to.saturating_sub(spot.from))
+}
+
+/// Says the line of the bytes at a place, of which the first are printed.
+#[tactic(auto, using(crate::proofs::WhyLemmas::shown_said))]
+pub(crate) fn say_field<W: Sink>(outbox: &mut Outbox, sink: &mut W, bytes: &[u8], spot: Spot)
+    ensures { SaysTo W.gone_out W.has_failed outbox.old outbox.new sink.old sink.new (λ k. field_line spot (first_bytes bytes.now spot) k) }
+{
+    let shown = first_bytes(bytes, spot);
+    say_shown(outbox, sink, spot, shown);
+}
+
+/// Says the line of a place with these of its bytes.
+fn say_shown<W: Sink>(outbox: &mut Outbox, sink: &mut W, spot: Spot, shown: &[u8])
+    ensures { SaysTo W.gone_out W.has_failed outbox.old outbox.new sink.old sink.new (λ k. field_line spot shown.now k) }
+{
+    say(outbox, sink, b"  bytes ");
+    say_decimal(outbox, sink, spot.from);
+    say(outbox, sink, b" to ");
+    say_decimal(outbox, sink, spot.to);
+    say_hex_end(outbox, sink, shown);
+}
+
+/// The first bytes of a place.
+fn first_bytes(bytes: &[u8], spot: Spot) -> &[u8]
+    ensures { result.now ≡ first_bytes bytes.now spot }
+{
+    let count = MOST.min(spot.to.saturating_sub(spot.from));
+    front(behind(bytes, spot.from), count)
+}
+
+/// The bytes from this one on.
+#[tactic(auto, using(std::proofs::lemmas::List::drop_all))]
+fn behind(bytes: &[u8], at: u64) -> &[u8]
+    ensures { result.now ≡ drop at bytes.now }
+{
+    if at >= bytes.len() as u64 {
+        return &[];
+    }
+    let (_, rest) = bytes.split_at(at as usize);
+    rest
+}
+
+/// So many of the first bytes, or all.
+#[tactic(auto, using(std::proofs::lemmas::List::take_all))]
+fn front(bytes: &[u8], most: u64) -> &[u8]
+    ensures { result.now ≡ take most bytes.now }
+{
+    if most >= bytes.len() as u64 {
+        return bytes;
+    }
+    let (first, _) = bytes.split_at(most as usize);
+    first
+}
+
+/// Says the end of the line of some bytes.
+#[tactic(auto, using(crate::proofs::WhyLemmas::hex_some))]
+fn say_hex_end<W: Sink>(outbox: &mut Outbox, sink: &mut W, bytes: &[u8])
+    ensures { SaysTo W.gone_out W.has_failed outbox.old outbox.new sink.old sink.new (λ k. hex_end bytes.now k) }
+{
+    if bytes.is_empty() {
+        say(outbox, sink, b":\n");
+    } else {
+        say_digits(outbox, sink, bytes);
+    }
+}
+
+/// Says bytes in hexadecimal, and the end of the line.
+fn say_digits<W: Sink>(outbox: &mut Outbox, sink: &mut W, bytes: &[u8])
+    ensures { SaysTo W.gone_out W.has_failed outbox.old outbox.new sink.old sink.new (λ k. digits_end bytes.now k) }
+{
+    say(outbox, sink, b": ");
+    say_hex(outbox, sink, bytes);
+    say(outbox, sink, b"\n");
+}
+
+/// Says the line of a class, if one is known.
+#[tactic(auto, using(crate::proofs::WhyLemmas::class_known, crate::proofs::WhyLemmas::class_unknown))]
+pub(crate) fn say_class<W: Sink>(outbox: &mut Outbox, sink: &mut W, class: Option<&[u16]>)
+    ensures { SaysTo W.gone_out W.has_failed outbox.old outbox.new sink.old sink.new (λ k. class_line (view_name class.entry) k) }
+{
+    match class {
+        Some(units) => say_known_class(outbox, sink, units),
+        None => say(outbox, sink, b""),
+    }
+}
+
+/// Says the line of a class.
+fn say_known_class<W: Sink>(outbox: &mut Outbox, sink: &mut W, units: &[u16])
+    ensures { SaysTo W.gone_out W.has_failed outbox.old outbox.new sink.old sink.new (λ k. known_class_line units.now k) }
+{
+    say(outbox, sink, b"  class ");
+    say_quoted(outbox, sink, units);
+    say(outbox, sink, b"\n");
+}

@@ -1,0 +1,135 @@
+//! What is open where a fault is, a line each.
+ghost use Rattle.std.specs.Prelude.{◌<◌, length};
+ghost use Rattle.jser_words.specs.Says.{SaysTo, SayingTo};
+ghost use Rattle.jser_shown.specs.Words.{quoted};
+ghost use Rattle.jser_explain.specs.Opened.{class_words, element_words, field_words, name_words, opened_words, open_words, own_writer_words, writer_words};
+ghost use Rattle.jser_walk.specs.Views.{view_name};
+
+use jser_prim::{Outbox, Sink};
+use jser_walk::{Name, Open};
+use jser_words::{say, say_decimal};
+
+/// Says what is open, the outermost first.
+pub(crate) fn say_opened<W: Sink>(outbox: &mut Outbox, sink: &mut W, opened: &[Open<'_>])
+    ensures { SaysTo W.gone_out W.has_failed outbox.old outbox.new sink.old sink.new (λ k. opened_words opened.now k) }
+{
+    let mut rest = opened;
+    'opened: while !rest.is_empty() {
+        rest = say_first(outbox, sink, rest);
+    }
+}
+
+/// Says the first of what is open. The answer is the others.
+#[tactic(auto, using(crate::proofs::OpenLemmas::says_one))]
+fn say_first<'o, 'w, W: Sink>(
+    outbox: &mut Outbox,
+    sink: &mut W,
+    opened: &'o [Open<'w>],
+) -> &'o [Open<'w>]
+    requires { 0 < length opened.now }
+    ensures said { SayingTo W.gone_out W.has_failed outbox.old outbox.new sink.old sink.new (λ k. opened_words opened.now k) (λ k. opened_words result.now k) }
+    ensures shorter { length result.now < length opened.now }
+{
+    match opened {
+        [first, others @ ..] => {
+            say_open(outbox, sink, *first);
+            others
+        }
+        [] => unreachable!(),
+    }
+}
+
+/// Says the line of one that is open.
+fn say_open<W: Sink>(outbox: &mut Outbox, sink: &mut W, part: Open<'_>)
+    ensures { SaysTo W.gone_out W.has_failed outbox.old outbox.new sink.old sink.new (λ k. open_words part.entry k) }
+{
+    match part {
+        Open::Object { class, .. } => say_of_class(outbox, sink, b"  in object of ", class),
+        Open::Field { name, class } => say_field(outbox, sink, name, class),
+        Open::Element { index } => say_element(outbox, sink, index),
+        Open::Annotation { class } => say_of_class(outbox, sink, b"  in annotation of ", class),
+        Open::Descriptor { class } => say_of_class(outbox, sink, b"  in descriptor ", class),
+    }
+}
+
+/// Says the line of an element.
+fn say_element<W: Sink>(outbox: &mut Outbox, sink: &mut W, index: u32)
+    ensures { SaysTo W.gone_out W.has_failed outbox.old outbox.new sink.old sink.new (λ k. element_words index k) }
+{
+    say(outbox, sink, b"  in element ");
+    say_decimal(outbox, sink, index as u64);
+    say(outbox, sink, b"\n");
+}
+
+/// Says the line of a field.
+fn say_field<W: Sink>(outbox: &mut Outbox, sink: &mut W, name: &Name, class: Option<&Name>)
+    ensures { SaysTo W.gone_out W.has_failed outbox.old outbox.new sink.old sink.new (λ k. field_words name.now (view_name class.entry) k) }
+{
+    say(outbox, sink, b"  in field ");
+    say_name(outbox, sink, name);
+    say_of_class(outbox, sink, b" of ", class);
+}
+
+/// Says some words, a class, and the end of the line.
+fn say_of_class<W: Sink>(outbox: &mut Outbox, sink: &mut W, words: &[u8], class: Option<&Name>)
+    ensures { SaysTo W.gone_out W.has_failed outbox.old outbox.new sink.old sink.new (λ k. class_words words.now (view_name class.entry) k) }
+{
+    say(outbox, sink, words);
+    say_class_name(outbox, sink, class);
+    say(outbox, sink, b"\n");
+}
+
+/// Says a class; a proxy class has no name.
+#[tactic(auto, using(crate::proofs::OpenLemmas::class_named, crate::proofs::OpenLemmas::class_of_proxy))]
+fn say_class_name<W: Sink>(outbox: &mut Outbox, sink: &mut W, class: Option<&Name>)
+    ensures { SaysTo W.gone_out W.has_failed outbox.old outbox.new sink.old sink.new (λ k. name_words (view_name class.entry) k) }
+{
+    match class {
+        Some(name) => say_name(outbox, sink, name),
+        None => say(outbox, sink, b"a proxy class"),
+    }
+}
+
+/// Says a name, quoted.
+fn say_name<W: Sink>(outbox: &mut Outbox, sink: &mut W, name: &Name)
+    ensures { SaysTo W.gone_out W.has_failed outbox.old outbox.new sink.old sink.new (λ k. quoted name.now k) }
+{
+    say(outbox, sink, b"\"");
+    say(outbox, sink, name.quoted());
+    say(outbox, sink, b"\"");
+}
+
+/// Says that a class wrote its data by code of its own, if one did.
+#[tactic(auto, using(crate::proofs::OpenLemmas::writer_known, crate::proofs::OpenLemmas::writer_unknown))]
+pub(crate) fn say_writer<W: Sink>(outbox: &mut Outbox, sink: &mut W, writer: Option<&Name>)
+    ensures { SaysTo W.gone_out W.has_failed outbox.old outbox.new sink.old sink.new (λ k. writer_words (view_name writer.entry) k) }
+{
+    match writer {
+        Some(name) => say_own_writer(outbox, sink, name),
+        None => say(outbox, sink, b""),
+    }
+}
+
+/// Says the line of a class that wrote its data by code of its own.
+fn say_own_writer<W: Sink>(outbox: &mut Outbox, sink: &mut W, name: &Name)
+    ensures { SaysTo W.gone_out W.has_failed outbox.old outbox.new sink.old sink.new (λ k. own_writer_words name.now k) }
+{
+    say(outbox, sink, b"  ");
+    say_name(outbox, sink, name);
+    say(
+        outbox,
+        sink,
+        b" has a writeObject of its own: if it does not write its fields first, this stream cannot be read without that class\n",
+    );
+}
+
+/// The class of the innermost object that is open which has a `writeObject` of its own, if one has.
+pub(crate) fn writer_in<'w>(opened: &[Open<'w>]) -> Option<&'w Name> {
+    let mut found = None;
+    for open in opened {
+        if let Open::Object { writer, .. } = open {
+            found = *writer;
+        }
+    }
+    found
+}

@@ -1,0 +1,200 @@
+//! The lines behind that of a refusal.
+ghost use Rattle.std.specs.Prelude.{◌≡◌, ◌++◌, OnOk, IfErr, Some, true};
+ghost use Rattle.jser_words.specs.Says.{SaysTo};
+ghost use Rattle.jser_explain.specs.Rest.{rest_words};
+ghost use Rattle.jser_explain.specs.Whys.{field_of, head_words, sentence_line, SaysWhy, SaysWhyTo};
+ghost use Rattle.jser_walk.specs.Views.{view_name};
+
+use crate::field::{Spot, bytes_at, class_in, say_class, say_field, spot_of};
+use crate::hint::hint_of;
+use crate::opened::{say_opened, say_writer, writer_in};
+use crate::piece::{Piece, deciding_piece, say_piece};
+use crate::sentence::sentence_of;
+use jser_index::{text_units, walk_along};
+use jser_prim::{Outbox, Sink};
+use jser_reader::Reason;
+use jser_scan::{Found, Rules};
+use jser_walk::{Name, Open};
+use jser_words::say;
+use std::alloc::{AllocError, Global};
+
+/// Why the lines were not all printed.
+#[derive(Clone, Copy, PartialEq, Eq, Debug)]
+pub enum WhyFault {
+    /// The output failed.
+    Write,
+    /// Memory ran out.
+    OutOfMemory,
+}
+
+/// Prints why bytes are refused: what `check_file` of `jser_scan` found of them under these rules, whose filter has this text.
+/// Where nothing is refused it prints nothing.
+///
+/// Takes memory for what is open where the fault is, and for the names of the classes before it.
+///
+/// # Errors
+///
+/// `Write` where the output failed, `OutOfMemory` where memory ran out. The first lines may have gone out.
+#[tactic(auto, using(crate::proofs::WhyLemmas::why_went, crate::proofs::WhyLemmas::why_broke, crate::proofs::WhyLemmas::why_kept))]
+pub fn print_why<W: Sink>(
+    alloc: Global,
+    rules: &Rules,
+    text: &str,
+    bytes: &[u8],
+    found: &Found,
+    output: &mut W,
+) -> Result<(), WhyFault>
+    ensures printed { OnOk result (SaysWhy bytes.now found.now (W.gone_out output.old) (W.gone_out output.new)) }
+    ensures kept { OnOk result (W.has_failed output.new ≡ W.has_failed output.old) }
+    ensures failed { IfErr result (λ fault. fault ≡ WhyFault.Write → W.has_failed output.new ≡ true) }
+{
+    let mut outbox = Outbox::new();
+    if say_why(alloc, &mut outbox, output, rules, text, bytes, found).is_err() {
+        return Err(WhyFault::OutOfMemory);
+    }
+    outbox.flush(output);
+    if outbox.has_failed() {
+        Err(WhyFault::Write)
+    } else {
+        Ok(())
+    }
+}
+
+/// Says why the bytes are refused.
+#[tactic(auto, using(crate::proofs::WhyLemmas::why_nothing))]
+fn say_why<W: Sink>(
+    alloc: Global,
+    outbox: &mut Outbox,
+    sink: &mut W,
+    rules: &Rules,
+    text: &str,
+    bytes: &[u8],
+    found: &Found,
+) -> Result<(), AllocError>
+    ensures { OnOk result (SaysWhyTo W.gone_out W.has_failed bytes.now found.now outbox.old outbox.new sink.old sink.new) }
+{
+    let Some(spot) = spot_of(found) else {
+        return Ok(());
+    };
+    let class = malformed_name(alloc, bytes, spot, found)?;
+    let piece = deciding_piece(alloc, rules, text, found)?;
+    let walk = walk_along(alloc, bytes, spot.from)?;
+    let opened = walk.opened(alloc)?;
+    let rest = Rest {
+        class: class.as_ref().map(Vec::as_slice),
+        piece,
+        opened: without_raw_element(&opened, bytes, spot, found),
+        writer: writer_in(&opened),
+        hint: hint_of(found, bytes),
+    };
+    say_lines(outbox, sink, bytes, found, spot, &rest);
+    Ok(())
+}
+
+/// Says why the bytes at a place are refused, and what is known besides.
+#[tactic(auto, using(crate::proofs::WhyLemmas::why_all))]
+fn say_lines<W: Sink>(
+    outbox: &mut Outbox,
+    sink: &mut W,
+    bytes: &[u8],
+    found: &Found,
+    spot: Spot,
+    rest: &Rest<'_>,
+)
+    requires { field_of found.now ≡ Some spot }
+    ensures { SaysWhyTo W.gone_out W.has_failed bytes.now found.now outbox.old outbox.new sink.old sink.new }
+{
+    let sentence = sentence_of(found);
+    say_head(outbox, sink, sentence, bytes, spot, class_in(found));
+    say_rest(outbox, sink, rest);
+}
+
+/// Says the sentence, the bytes and the class of a refusal.
+fn say_head<W: Sink>(
+    outbox: &mut Outbox,
+    sink: &mut W,
+    sentence: &[u8],
+    bytes: &[u8],
+    spot: Spot,
+    class: Option<&[u16]>,
+)
+    ensures { SaysTo W.gone_out W.has_failed outbox.old outbox.new sink.old sink.new (λ k. head_words sentence.now bytes.now spot (view_name class.entry) k) }
+{
+    say_sentence(outbox, sink, sentence);
+    say_field(outbox, sink, bytes, spot);
+    say_class(outbox, sink, class);
+}
+
+/// Says the line of a sentence.
+fn say_sentence<W: Sink>(outbox: &mut Outbox, sink: &mut W, sentence: &[u8])
+    ensures { SaysTo W.gone_out W.has_failed outbox.old outbox.new sink.old sink.new (λ k. sentence_line sentence.now k) }
+{
+    say(outbox, sink, b"  ");
+    say(outbox, sink, sentence);
+    say(outbox, sink, b"\n");
+}
+
+/// What is said behind the class of a refusal.
+#[derive(Drop)]
+struct Rest<'r> {
+    /// The name of a class that the filter was not asked about.
+    class: Option<&'r [u16]>,
+    /// The piece that decides.
+    piece: Option<Piece>,
+    /// What is open.
+    opened: &'r [Open<'r>],
+    /// The class of the innermost object that wrote its data by code of its own.
+    writer: Option<&'r Name>,
+    /// What the bytes look like.
+    hint: &'static [u8],
+}
+
+/// Says it.
+fn say_rest<W: Sink>(outbox: &mut Outbox, sink: &mut W, rest: &Rest<'_>)
+    ensures { SaysTo W.gone_out W.has_failed outbox.old outbox.new sink.old sink.new (λ k. rest_words (view_name rest.now.class) rest.now.piece rest.now.opened.now (view_name rest.now.writer) rest.now.hint.now k) }
+{
+    say_class(outbox, sink, rest.class);
+    say_piece(outbox, sink, &rest.piece);
+    say_opened(outbox, sink, rest.opened);
+    say_writer(outbox, sink, rest.writer);
+    say(outbox, sink, rest.hint);
+}
+
+/// The name of a class that is refused before the filter is asked, since it begins as that of an array and is none.
+fn malformed_name(
+    alloc: Global,
+    bytes: &[u8],
+    spot: Spot,
+    found: &Found,
+) -> Result<Option<Vec<u16>>, AllocError> {
+    match (reason_of(found), bytes_at(bytes, spot)) {
+        (Some(Reason::BadArrayName), [_, _, text @ ..]) => Ok(Some(text_units(alloc, text)?)),
+        _ => Ok(None),
+    }
+}
+
+/// What is open, but for the element of an array of primitives: all its elements are one field, of which some bytes are
+/// there. A name that can be read at some place lies in such a field too.
+fn without_raw_element<'o, 'w>(
+    opened: &'o [Open<'w>],
+    bytes: &[u8],
+    spot: Spot,
+    found: &Found,
+) -> &'o [Open<'w>] {
+    let is_inside = match reason_of(found) {
+        Some(reason) => reason == Reason::Truncated && !bytes_at(bytes, spot).is_empty(),
+        None => true,
+    };
+    match opened {
+        [others @ .., Open::Element { .. }] if is_inside => others,
+        _ => opened,
+    }
+}
+
+/// The reason of a refusal.
+fn reason_of(found: &Found) -> Option<Reason> {
+    match found {
+        Found::Refused { refusal, .. } => Some(refusal.reason),
+        _ => None,
+    }
+}

@@ -1,0 +1,13 @@
+use Rattle.std.proofs.Common.{◌≡◌, length}
+use Rattle.std.specs.Io.KnownBytes.{Keeps}
+use Rattle.jser_inputs.specs.Decoding.{bytes_to_come, right_in, KeepsNumber}
+use Rattle.jser_inputs.proofs.decoded.DecodedSource.take.Given as goal
+
+-- no byte has come so far
+abbrev pub invariant-turns : goal.invariant-turns
+invariant-turns g l = record {
+  bytes : Keeps (bytes_to_come l.fn.self) (bytes_to_come l.self);
+  number : KeepsNumber (right_in l.fn.self) (right_in l.self);
+  failed : l.self.has_failed ≡ l.fn.self.has_failed;
+  size : length l.buf ≡ length l.fn.buf;
+}

@@ -1,0 +1,16 @@
+//! Streams that come as text: hexadecimal digits or base64, with white space anywhere.
+//!
+//! `Decoded` is a source over another one. It gives the bytes that the other's text spells, a piece at a time, and keeps
+//! none of the text. `Input` is a source that can say why it failed.
+#![tactic(auto)]
+
+mod decode;
+mod decoded;
+mod digit;
+mod fault;
+mod form;
+mod place;
+
+pub use decoded::Decoded;
+pub use fault::{Input, InputFault};
+pub use form::Form;

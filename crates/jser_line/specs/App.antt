@@ -1,0 +1,113 @@
+-- The command line, as clap defines it: which commands there are, and what each asks for.
+use Rattle.std.specs.Prelude.{◌≢◌, Bool, List, Option, Some, None, codes, option_and_then, option_map, if◌then◌else◌, map, string_bytes, true}
+use Rattle.std.specs.Str.{bytes_eq}
+use Rattle.clap.specs.declared.error.ErrorKind.TheVariants.{OutOfMemory}
+use Rattle.clap.specs.Words.{kind_of, takes, App, Row, Text, first_of, new_app, subcommand_of, with_rule, with_subcommand}
+use Rattle.jser_line.specs.declared.args.Forms.{Forms}
+use Rattle.jser_line.specs.declared.line.Line.{Line}
+use Rattle.jser_line.specs.declared.line.Line.TheVariants as line
+use Rattle.jser_line.specs.declared.line.LineFault.{LineFault}
+use Rattle.jser_line.specs.declared.line.LineFault.TheVariants as fault
+use Rattle.jser_line.specs.Args.{FilterWords, anywhere_rule, file_rule, files_rule, filters_asked, filters_in, forms_in, is_true, json_rule, limit_rule, paths_rule, refused_rule, text_in, texts_in, with_filter_rules, with_form_rules, with_strict_filter_rules}
+
+-- [--filter T | --filter-file F] [--modules M] [--strict] [--hex | --base64] [--anywhere] FILE
+abbrev pub with_check_rules : App → App
+with_check_rules app = with_rule (with_rule (with_form_rules (with_strict_filter_rules app)) anywhere_rule) file_rule
+
+-- serialcheck check, with these
+abbrev pub check_app : App
+check_app = with_check_rules (new_app (codes "check"))
+
+-- serialcheck show [--hex | --base64] [--limit N] FILE
+abbrev pub show_app : App
+show_app = with_rule (with_rule (with_form_rules (new_app (codes "show"))) limit_rule) file_rule
+
+-- serialcheck list [--filter T | --filter-file F] [--modules M] [--hex | --base64] FILE
+abbrev pub list_app : App
+list_app = with_rule (with_form_rules (with_filter_rules (new_app (codes "list")))) file_rule
+
+-- [--anywhere] [--refused] [--json]
+abbrev pub with_answer_rules : App → App
+with_answer_rules app = with_rule (with_rule (with_rule app anywhere_rule) refused_rule) json_rule
+
+-- serialcheck scan [--filter T | --filter-file F] [--modules M] [--strict] [--hex | --base64] [--anywhere] [--refused] [--json] PATH..
+abbrev pub scan_app : App
+scan_app = with_rule (with_answer_rules (with_form_rules (with_strict_filter_rules (new_app (codes "scan"))))) paths_rule
+
+-- serialcheck suggest [--hex | --base64] FILE..
+abbrev pub suggest_app : App
+suggest_app = with_rule (with_form_rules (new_app (codes "suggest"))) files_rule
+
+-- serialcheck explain, with the words of check
+abbrev pub explain_app : App
+explain_app = with_check_rules (new_app (codes "explain"))
+
+-- a command that has a version to tell
+abbrev pub versioned : App → App
+versioned app = record app { top = record app.top { has_version = true } }
+
+abbrev pub the_app : App
+the_app =
+    with_subcommand (with_subcommand
+    (with_subcommand (with_subcommand (with_subcommand (with_subcommand (versioned (new_app (codes "serialcheck"))) check_app.top) show_app.top) list_app.top) scan_app.top)
+    suggest_app.top) explain_app.top
+
+-- what the words ask for
+pub data Asked : Type 0 where
+  check : FilterWords → (strict : Bool) → Forms → (anywhere : Bool) → (file : Text) → Asked
+  show : Forms → (limit : Option Text) → (file : Text) → Asked
+  list : FilterWords → Forms → (file : Text) → Asked
+  scan : FilterWords → (strict : Bool) → Forms → (anywhere refused json : Bool) → (paths : List Text) → Asked
+  suggest : Forms → (files : List Text) → Asked
+  explain : FilterWords → (strict : Bool) → Forms → (anywhere : Bool) → (file : Text) → Asked
+
+abbrev pub check_in : List Row → Asked
+check_in rows =
+    check (filters_in rows) (is_true (first_of (codes "strict") rows)) (forms_in rows) (is_true (first_of (codes "anywhere") rows)) (text_in rows (codes "file"))
+
+abbrev pub show_in : List Row → Asked
+show_in rows = show (forms_in rows) (first_of (codes "limit") rows) (text_in rows (codes "file"))
+
+abbrev pub list_in : List Row → Asked
+list_in rows = list (filters_in rows) (forms_in rows) (text_in rows (codes "file"))
+
+abbrev pub scan_in : List Row → Asked
+scan_in rows =
+    scan (filters_in rows) (is_true (first_of (codes "strict") rows)) (forms_in rows) (is_true (first_of (codes "anywhere") rows))
+    (is_true (first_of (codes "refused") rows)) (is_true (first_of (codes "json") rows)) (texts_in rows (codes "path"))
+
+abbrev pub suggest_in : List Row → Asked
+suggest_in rows = suggest (forms_in rows) (texts_in rows (codes "file"))
+
+abbrev pub explain_in : List Row → Asked
+explain_in rows =
+    explain (filters_in rows) (is_true (first_of (codes "strict") rows)) (forms_in rows) (is_true (first_of (codes "anywhere") rows)) (text_in rows (codes "file"))
+
+-- what a subcommand with these matches asks for
+abbrev pub asked_by : Text × List Row → Option Asked
+asked_by found =
+    if bytes_eq found.0 (codes "check") then Some (check_in found.1)
+    else (if bytes_eq found.0 (codes "show") then Some (show_in found.1)
+    else (if bytes_eq found.0 (codes "list") then Some (list_in found.1)
+    else (if bytes_eq found.0 (codes "scan") then Some (scan_in found.1)
+    else (if bytes_eq found.0 (codes "suggest") then Some (suggest_in found.1)
+    else (if bytes_eq found.0 (codes "explain") then Some (explain_in found.1)
+    else None)))))
+
+-- what the words ask for, by clap's own definition of the matches
+abbrev pub asked_in : List Text → Option Asked
+asked_in words = option_and_then asked_by (subcommand_of the_app words)
+
+abbrev pub line_asks : Line → Asked
+line_asks (line.Check filters strict forms anywhere file) = check (filters_asked filters) strict forms anywhere (string_bytes file)
+line_asks (line.Show forms limit file) = show forms (option_map string_bytes limit) (string_bytes file)
+line_asks (line.List filters forms file) = list (filters_asked filters) forms (string_bytes file)
+line_asks (line.Scan filters strict forms anywhere refused json paths) =
+    scan (filters_asked filters) strict forms anywhere refused json (map string_bytes paths.items)
+line_asks (line.Suggest forms files) = suggest forms (map string_bytes files.items)
+line_asks (line.Explain filters strict forms anywhere file) = explain (filters_asked filters) strict forms anywhere (string_bytes file)
+
+-- clap's own definition does not take the words, unless memory ran out
+abbrev pub IsMistake : List Text → LineFault → Type 0
+IsMistake words (fault.Clap error) = (kind_of error ≢ OutOfMemory) × (takes the_app words ≢ true)
+IsMistake words fault.OutOfMemory = Unit {0}

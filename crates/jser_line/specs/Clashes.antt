@@ -1,0 +1,26 @@
+-- Options that exclude one another: a filter is a text or a file, and an input is hexadecimal or base64.
+use Rattle.std.specs.Prelude.{◌&&◌, if◌then◌else◌, Option, Some, None, is_some}
+use Rattle.jser_inputs.specs.declared.Form.{Form}
+use Rattle.jser_inputs.specs.declared.Form.TheVariants as form
+use Rattle.jser_line.specs.declared.args.Forms.{Forms}
+use Rattle.jser_line.specs.declared.clash.Clash.{Clash}
+use Rattle.jser_line.specs.declared.clash.Clash.TheVariants as clash
+use Rattle.jser_line.specs.Args.{FilterWords}
+use Rattle.jser_line.specs.App.{Asked, check, show, list, scan, suggest, explain}
+
+abbrev pub form_in : Forms → Form
+form_in forms = if forms.hex then form.Hex else if forms.base64 then form.Base64 else form.Binary
+
+abbrev pub clash_of_forms : Forms → Option Clash
+clash_of_forms forms = if forms.hex && forms.base64 then Some clash.Forms else None
+
+abbrev pub clash_of : FilterWords → Forms → Option Clash
+clash_of filters forms = if is_some filters.text && is_some filters.file then Some clash.Filters else clash_of_forms forms
+
+abbrev pub clash_in : Asked → Option Clash
+clash_in (check filters strict forms anywhere file) = clash_of filters forms
+clash_in (show forms limit file) = clash_of_forms forms
+clash_in (list filters forms file) = clash_of filters forms
+clash_in (scan filters strict forms anywhere refused json paths) = clash_of filters forms
+clash_in (suggest forms files) = clash_of_forms forms
+clash_in (explain filters strict forms anywhere file) = clash_of filters forms

@@ -1,0 +1,3 @@
+pub mod Args
+pub mod App
+pub mod Clashes

@@ -1,0 +1,70 @@
+//! Options of a line that exclude one another. clap is told of no rule between arguments, so that what it takes is known in
+//! full.
+ghost use Rattle.std.specs.Prelude.{◌≡◌};
+ghost use Rattle.jser_line.specs.Clashes.{clash_in, clash_of, clash_of_forms, form_in};
+ghost use Rattle.jser_line.specs.Args.{filters_asked};
+ghost use Rattle.jser_line.specs.App.{line_asks};
+
+use crate::args::{Filters, Forms};
+use crate::line::Line;
+use jser_inputs::Form;
+
+/// Two options that are both given, and exclude one another.
+#[derive(Clone, Copy, PartialEq, Eq, Debug)]
+pub enum Clash {
+    /// `--filter` and `--filter-file`.
+    Filters,
+    /// `--hex` and `--base64`.
+    Forms,
+}
+
+impl Forms {
+    /// The form. Where both are asked for, which is a clash, it is hexadecimal.
+    pub fn form(self) -> Form
+        ensures { result ≡ form_in self }
+    {
+        if self.hex {
+            Form::Hex
+        } else if self.base64 {
+            Form::Base64
+        } else {
+            Form::Binary
+        }
+    }
+}
+
+impl Line {
+    /// The first two options that exclude one another.
+    pub fn clash(&self) -> Option<Clash>
+        ensures { result ≡ clash_in (line_asks self.now) }
+    {
+        match self {
+            Line::Check { filters, forms, .. }
+            | Line::List { filters, forms, .. }
+            | Line::Scan { filters, forms, .. }
+            | Line::Explain { filters, forms, .. } => clash_of(filters, *forms),
+            Line::Show { forms, .. } | Line::Suggest { forms, .. } => clash_of_forms(*forms),
+        }
+    }
+}
+
+/// That of a filter and a form.
+fn clash_of(filters: &Filters, forms: Forms) -> Option<Clash>
+    ensures { result ≡ clash_of (filters_asked filters.now) forms }
+{
+    match (&filters.text, &filters.file) {
+        (Some(_), Some(_)) => Some(Clash::Filters),
+        _ => clash_of_forms(forms),
+    }
+}
+
+/// That of a form.
+fn clash_of_forms(forms: Forms) -> Option<Clash>
+    ensures { result ≡ clash_of_forms forms }
+{
+    if forms.hex && forms.base64 {
+        Some(Clash::Forms)
+    } else {
+        None
+    }
+}

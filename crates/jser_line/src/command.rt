@@ -1,0 +1,105 @@
+//! The program's command line, as clap reads it.
+ghost use Rattle.std.specs.Prelude.{◌≡◌, IfOk, codes};
+ghost use Rattle.clap.specs.Words.{app_of, new_app, with_subcommand};
+ghost use Rattle.jser_line.specs.App.{check_app, show_app, list_app, scan_app, suggest_app, explain_app, versioned, the_app};
+
+use crate::check::check_command;
+use crate::explain::explain_command;
+use crate::list::list_command;
+use crate::scan::scan_command;
+use crate::show::show_command;
+use crate::suggest::suggest_command;
+use clap::Command;
+use std::alloc::{AllocError, Global};
+
+/// The version that `--version` tells.
+const VERSION: &str = "0.1.0";
+
+/// What `--help` tells of the statuses, with an example.
+const STATUSES: &str = "Statuses:
+  0  accepted, shown or suggested; of scan, all are accepted
+  1  refused; of scan, one is; of suggest, one is no good stream
+  2  the command line, the filter or the modules are at fault; --help and --version
+  3  something was not opened, read, decoded or written, or memory ran out; of scan, for one file
+  4  shown as far as --limit allows
+
+Example:
+  serialcheck check --strict --filter 'maxdepth=20;java.util.*;java.lang.*;!*' session.ser
+
+serialcheck COMMAND --help tells of a command.";
+
+/// The program's command, with its subcommands.
+pub(crate) fn command<'a>(alloc: Global) -> Result<Command<'a>, AllocError>
+    ensures { IfOk result (λ command. app_of command ≡ the_app) }
+{
+    let one = with_check(alloc, bare_command(alloc))?;
+    let two = with_show(alloc, one)?;
+    let three = with_list(alloc, two)?;
+    let four = with_scan(alloc, three)?;
+    let five = with_suggest(alloc, four)?;
+    with_explain(alloc, five)
+}
+
+/// The program's command, without its subcommands.
+fn bare_command<'a>(alloc: Global) -> Command<'a>
+    ensures { app_of result ≡ versioned (new_app (codes "serialcheck")) }
+{
+    Command::new(alloc, "serialcheck")
+        .about("Checks and shows Java serialization streams, and runs none of their classes")
+        .after_help(STATUSES)
+        .version(VERSION)
+}
+
+/// The command, with `check` as one more subcommand.
+#[tactic(auto, using(crate::proofs::WordLemmas::subcommand_added))]
+fn with_check<'a>(alloc: Global, command: Command<'a>) -> Result<Command<'a>, AllocError>
+    ensures { IfOk result (λ all. app_of all ≡ with_subcommand (app_of command.entry) check_app.top) }
+{
+    let check = check_command(alloc)?;
+    command.subcommand(check)
+}
+
+/// The command, with `show` as one more subcommand.
+#[tactic(auto, using(crate::proofs::WordLemmas::subcommand_added))]
+fn with_show<'a>(alloc: Global, command: Command<'a>) -> Result<Command<'a>, AllocError>
+    ensures { IfOk result (λ all. app_of all ≡ with_subcommand (app_of command.entry) show_app.top) }
+{
+    let show = show_command(alloc)?;
+    command.subcommand(show)
+}
+
+/// The command, with `list` as one more subcommand.
+#[tactic(auto, using(crate::proofs::WordLemmas::subcommand_added))]
+fn with_list<'a>(alloc: Global, command: Command<'a>) -> Result<Command<'a>, AllocError>
+    ensures { IfOk result (λ all. app_of all ≡ with_subcommand (app_of command.entry) list_app.top) }
+{
+    let list = list_command(alloc)?;
+    command.subcommand(list)
+}
+
+/// The command, with `scan` as one more subcommand.
+#[tactic(auto, using(crate::proofs::WordLemmas::subcommand_added))]
+fn with_scan<'a>(alloc: Global, command: Command<'a>) -> Result<Command<'a>, AllocError>
+    ensures { IfOk result (λ all. app_of all ≡ with_subcommand (app_of command.entry) scan_app.top) }
+{
+    let scan = scan_command(alloc)?;
+    command.subcommand(scan)
+}
+
+/// The command, with `suggest` as one more subcommand.
+#[tactic(auto, using(crate::proofs::WordLemmas::subcommand_added))]
+fn with_suggest<'a>(alloc: Global, command: Command<'a>) -> Result<Command<'a>, AllocError>
+    ensures { IfOk result (λ all. app_of all ≡ with_subcommand (app_of command.entry) suggest_app.top) }
+{
+    let suggest = suggest_command(alloc)?;
+    command.subcommand(suggest)
+}
+
+/// The command, with `explain` as one more subcommand.
+#[tactic(auto, using(crate::proofs::WordLemmas::subcommand_added))]
+fn with_explain<'a>(alloc: Global, command: Command<'a>) -> Result<Command<'a>, AllocError>
+    ensures { IfOk result (λ all. app_of all ≡ with_subcommand (app_of command.entry) explain_app.top) }
+{
+    let explain = explain_command(alloc)?;
+    command.subcommand(explain)
+}

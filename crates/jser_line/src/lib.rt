@@ -1,0 +1,20 @@
+//! What the words of a command line ask for.
+//!
+//! `line_of` reads them by clap's definition of the command. Each command has a file, with its arguments and what is read of
+//! them; `args` has the arguments that several commands take.
+#![tactic(auto)]
+
+mod args;
+mod check;
+mod clash;
+mod command;
+mod explain;
+mod line;
+mod list;
+mod scan;
+mod show;
+mod suggest;
+
+pub use args::{Filters, Forms};
+pub use clash::Clash;
+pub use line::{Line, LineFault, line_of};

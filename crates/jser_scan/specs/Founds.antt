@@ -1,0 +1,54 @@
+-- What was found of a file is right of its bytes.
+use Rattle.std.specs.declared.alloc.Global.{Global}
+use Rattle.std.specs.Prelude.{◌≡◌, ℕ, Bool, true, false, List, Option, Some, None, Vec}
+use Rattle.jser_reader.specs.declared.Refusal.{Refusal}
+use Rattle.jser_check.specs.declared.Options.{Options}
+use Rattle.jser_check.specs.Answers.{Reports, Refuses}
+use Rattle.jser_check_anywhere.specs.Answers.{ReportsAnywhere}
+use Rattle.jser_check_anywhere.specs.SourceAnswers.{RefusedIn, HiddenIn}
+use Rattle.jser_check_anywhere.specs.Passing.{passes_name}
+use Rattle.jser_scan.specs.declared.check.Rules.{Rules}
+use Rattle.jser_scan.specs.declared.found.Found.{Found}
+use Rattle.jser_scan.specs.declared.found.Found.TheVariants as found
+
+abbrev pub options_in : Rules → Options
+options_in rules = record { strict = rules.strict }
+
+-- a class name that is told is one that the filter does not let pass
+abbrev pub IsRefusedName : Rules → Option (Vec ℕ Global) → Type 0
+IsRefusedName rules None = Unit {0}
+IsRefusedName rules (Some units) = passes_name rules.filter (options_in rules) units.items ≡ false
+
+-- the refusal, with such a name, or that memory ran out
+abbrev pub IsRefusal : Rules → Refusal → Found → Type 0
+IsRefusal rules refusal (found.Accepted totals) = ⊥
+IsRefusal rules refusal (found.Refused same class) = (same ≡ refusal) × IsRefusedName rules class
+IsRefusal rules refusal (found.Hidden from to class) = ⊥
+IsRefusal rules refusal found.NotOpened = ⊥
+IsRefusal rules refusal (found.NotRead fault) = ⊥
+IsRefusal rules refusal found.OutOfMemory = Unit {0}
+
+-- what the check says
+abbrev pub IsFoundBy : Rules → List ℕ → Found → Type 0
+IsFoundBy rules bytes (found.Accepted totals) = Reports rules.filter (options_in rules) bytes totals
+IsFoundBy rules bytes (found.Refused refusal class) = Refuses rules.filter (options_in rules) bytes refusal × IsRefusedName rules class
+IsFoundBy rules bytes (found.Hidden from to class) = ⊥
+IsFoundBy rules bytes found.NotOpened = ⊥
+IsFoundBy rules bytes (found.NotRead fault) = Unit {0}
+IsFoundBy rules bytes found.OutOfMemory = Unit {0}
+
+-- what the check that asks about names at any place says
+abbrev pub IsFoundAnywhere : Rules → List ℕ → Found → Type 0
+IsFoundAnywhere rules bytes (found.Accepted totals) = ReportsAnywhere rules.filter (options_in rules) bytes totals
+IsFoundAnywhere rules bytes (found.Refused refusal class) = RefusedIn rules.filter (options_in rules) bytes refusal × IsRefusedName rules class
+IsFoundAnywhere rules bytes (found.Hidden from to class) = HiddenIn rules.filter (options_in rules) bytes from to × IsRefusedName rules class
+IsFoundAnywhere rules bytes found.NotOpened = ⊥
+IsFoundAnywhere rules bytes (found.NotRead fault) = Unit {0}
+IsFoundAnywhere rules bytes found.OutOfMemory = Unit {0}
+
+abbrev pub IsFoundIf : (anywhere : Bool) → Rules → List ℕ → Found → Type 0
+IsFoundIf false rules bytes result = IsFoundBy rules bytes result
+IsFoundIf true rules bytes result = IsFoundAnywhere rules bytes result
+
+abbrev pub IsFound : Rules → List ℕ → Found → Type 0
+IsFound rules bytes result = IsFoundIf rules.anywhere rules bytes result

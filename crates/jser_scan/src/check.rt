@@ -1,0 +1,97 @@
+//! The check of one file.
+ghost use Rattle.std.specs.Prelude.{◌≡◌, IfSome};
+ghost use Rattle.jser_scan.specs.Founds.{IsFound, IsFoundAnywhere, IsFoundBy, IsRefusal};
+
+use crate::class::{hidden_name, refused_name};
+use crate::found::Found;
+use crate::tail::Tail;
+use jser_check::{CheckFault, Options, Stop, check_reader};
+use jser_check_anywhere::{AnywhereFault, check_anywhere};
+use jser_filter::Filter;
+use jser_inputs::Input;
+use jser_reader::{Reason, Refusal};
+use std::alloc::Global;
+
+/// What files are checked under.
+#[derive(Debug, Drop)]
+pub struct Rules {
+    /// The filter, with its table of modules.
+    pub filter: Filter,
+    /// Whether a name that no pattern matches is refused.
+    pub strict: bool,
+    /// Whether the filter is asked about each class name that can be read at any place.
+    pub anywhere: bool,
+}
+
+/// Checks the bytes of a file, as `check_reader` of `jser_check` does, or `check_anywhere` of `jser_check_anywhere`.
+///
+/// It keeps the last bytes that it read, at most some 250,000, to name the class of a refusal.
+#[tactic(auto, using(crate::proofs::FoundLemmas::found_plainly, crate::proofs::FoundLemmas::found_anywhere))]
+pub fn check_file<R: Input + Drop>(alloc: Global, rules: &Rules, input: R) -> Found
+    ensures { IfSome (R.to_come input) (λ bytes. IsFound rules.now bytes result) }
+{
+    let mut tail = Tail::new(alloc, input);
+    if rules.anywhere {
+        check_names(alloc, rules, &mut tail)
+    } else {
+        check(alloc, rules, &mut tail)
+    }
+}
+
+/// The check without names at any place.
+#[tactic(auto, using(crate::proofs::FoundLemmas::accepted, crate::proofs::FoundLemmas::refused, crate::proofs::FoundLemmas::undecided, crate::proofs::FoundLemmas::unread))]
+fn check<R: Input>(alloc: Global, rules: &Rules, tail: &mut Tail<R>) -> Found
+    ensures { IfSome tail.old.bytes (λ bytes. IsFoundBy rules.now bytes result) }
+{
+    let options = Options {
+        strict: rules.strict,
+    };
+    match check_reader(alloc, tail, &rules.filter, options) {
+        Ok(totals) => Found::Accepted(totals),
+        Err(CheckFault::Stop(Stop::Refused(refusal))) => refused(alloc, rules, tail, refusal),
+        Err(CheckFault::Stop(_)) => Found::OutOfMemory,
+        Err(CheckFault::ReadFault) => Found::NotRead(tail.source().fault()),
+    }
+}
+
+/// The check with them.
+#[tactic(auto, using(crate::proofs::FoundLemmas::accepted_anywhere, crate::proofs::FoundLemmas::refused_anywhere, crate::proofs::FoundLemmas::hidden_anywhere, crate::proofs::FoundLemmas::undecided_anywhere, crate::proofs::FoundLemmas::unread_anywhere))]
+fn check_names<R: Input>(alloc: Global, rules: &Rules, tail: &mut Tail<R>) -> Found
+    ensures { IfSome tail.old.bytes (λ bytes. IsFoundAnywhere rules.now bytes result) }
+{
+    let options = Options {
+        strict: rules.strict,
+    };
+    match check_anywhere(alloc, tail, &rules.filter, options) {
+        Ok(totals) => Found::Accepted(totals),
+        Err(AnywhereFault::Stop(Stop::Refused(refusal))) => refused(alloc, rules, tail, refusal),
+        Err(AnywhereFault::Hidden { from_byte, to_byte }) => {
+            match hidden_name(alloc, rules, tail, from_byte, to_byte) {
+                Ok(class) => Found::Hidden {
+                    from_byte,
+                    to_byte,
+                    class,
+                },
+                Err(_) => Found::OutOfMemory,
+            }
+        }
+        Err(AnywhereFault::Stop(_)) => Found::OutOfMemory,
+        Err(AnywhereFault::ReadFault) => Found::NotRead(tail.source().fault()),
+    }
+}
+
+/// A refusal, with the class name where the filter refused one.
+fn refused<R: Input>(alloc: Global, rules: &Rules, tail: &Tail<R>, refusal: Refusal) -> Found
+    ensures { IsRefusal rules.now refusal result }
+{
+    let class = match refusal.reason {
+        Reason::ClassRejected | Reason::ClassUnmatched => {
+            refused_name(alloc, rules, tail, refusal.from_byte, refusal.to_byte)
+        }
+        _ => Ok(None),
+    };
+    match class {
+        Ok(class) => Found::Refused { refusal, class },
+        Err(_) => Found::OutOfMemory,
+    }
+}

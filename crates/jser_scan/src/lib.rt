@@ -1,0 +1,26 @@
+//! The check of many files: what it found of each, as a line or as JSON, and what it found of all; and what is printed of
+//! good files, for which a filter is suggested.
+//!
+//! The program goes through the folders and opens the files. `check_file` checks one, and `Scan` prints what was found, one
+//! file after another, and counts.
+#![tactic(auto)]
+
+mod answer;
+mod check;
+mod class;
+mod found;
+mod json;
+mod line;
+mod path;
+mod sample;
+mod scan;
+mod tail;
+mod tally;
+
+pub use check::{Rules, check_file};
+pub use found::Found;
+pub use line::say_path;
+pub use path::FilePath;
+pub use sample::{print_suggested, tell_no_sample};
+pub use scan::{How, print_found, print_summary, tell_found};
+pub use tally::Tally;

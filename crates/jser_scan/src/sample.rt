@@ -1,0 +1,107 @@
+//! What is printed of good files, for which a filter is suggested: the filter, or why a file is none.
+ghost use Rattle.std.specs.Prelude.{◌≡◌, ◌⊎◌, [], ℕ, List, IfOk, OnOk, OnErr, string_bytes, true};
+ghost use Rattle.std.specs.Io.KnownBytes.{Appends};
+ghost use Rattle.jser_words.specs.Says.{SaysTo};
+ghost use Rattle.jser_suggest.specs.Samples.{AreKnown};
+ghost use Rattle.jser_scan.specs.Samples.{SaysSuggested, SpellsSuggested, no_sample_status, no_sample_words, unwritable_words};
+
+use crate::found::Found;
+use crate::line::{say_line, say_path};
+use crate::path::FilePath;
+use jser_prim::{Failed, Outbox, Sink, give_all};
+use jser_reader::Stop;
+use jser_settings::{ACCEPTED, FAILED, REFUSED, tell_failure};
+use jser_suggest::{SampleFault, Samples};
+use jser_words::{say, say_quoted};
+use std::alloc::{AllocError, Global};
+
+/// Prints the filter that is suggested, in a line, and returns the status: 0, or 3 where the output failed or memory ran out,
+/// which is told.
+pub fn print_suggested<W: Sink, E: Sink>(
+    alloc: Global,
+    samples: &Samples,
+    output: &mut W,
+    faults: &mut E,
+) -> u8
+    ensures printed { (streams : List (List ℕ)) → AreKnown streams samples.now → result ≡ 0 → SaysSuggested samples.now (W.gone_out output.old) (W.gone_out output.new) }
+    ensures unbroken { result ≡ 0 → W.has_failed output.new ≡ W.has_failed output.old }
+    ensures quiet { result ≡ 0 → faults.new ≡ faults.old }
+    ensures status { (result ≡ 0) ⊎ (result ≡ 3) }
+{
+    let Ok(text) = line_of(alloc, samples) else {
+        return tell_failure(faults, "out of memory\n");
+    };
+    match give_all(output, text.as_bytes()) {
+        Ok(()) => ACCEPTED,
+        Err(_) => tell_failure(faults, "write failed\n"),
+    }
+}
+
+/// The line of the filter.
+#[tactic(auto, using(crate::proofs::SampleLemmas::line_says))]
+fn line_of(alloc: Global, samples: &Samples) -> Result<String, AllocError>
+    ensures { (streams : List (List ℕ)) → AreKnown streams samples.now → IfOk result (λ line. SpellsSuggested samples.now (string_bytes line)) }
+{
+    let mut text = samples.text(alloc)?;
+    text.push_str("\n")?;
+    Ok(text)
+}
+
+/// Tells why a file is no sample, and returns the status: 1, or 3 where memory ran out.
+pub fn tell_no_sample<E: Sink>(path: &FilePath, fault: &SampleFault, faults: &mut E) -> u8
+    ensures told { (E.has_failed faults.new ≡ true) ⊎ Appends (E.gone_out faults.old) (E.gone_out faults.new) (no_sample_words path.now fault.now []) }
+    ensures status { result ≡ no_sample_status fault.now }
+{
+    let _ = print_no_sample(path, fault, faults);
+    match fault {
+        SampleFault::Unwritable(_) | SampleFault::Stop(Stop::Refused(_)) => REFUSED,
+        SampleFault::Stop(_) => FAILED,
+    }
+}
+
+/// The line, to any sink.
+#[tactic(auto, using(crate::proofs::ScanLemmas::went, crate::proofs::ScanLemmas::broke, crate::proofs::ScanLemmas::kept))]
+fn print_no_sample<W: Sink>(
+    path: &FilePath,
+    fault: &SampleFault,
+    sink: &mut W,
+) -> Result<(), Failed>
+    ensures printed { OnOk result (Appends (W.gone_out sink.old) (W.gone_out sink.new) (no_sample_words path.now fault.now [])) }
+    ensures failed { OnErr result (W.has_failed sink.new ≡ true) }
+{
+    let mut outbox = Outbox::new();
+    say_no_sample(&mut outbox, sink, path, fault);
+    outbox.flush(sink);
+    if outbox.has_failed() {
+        Err(Failed)
+    } else {
+        Ok(())
+    }
+}
+
+/// Says why a file is no sample.
+fn say_no_sample<W: Sink>(outbox: &mut Outbox, sink: &mut W, path: &FilePath, fault: &SampleFault)
+    ensures { SaysTo W.gone_out W.has_failed outbox.old outbox.new sink.old sink.new (λ k. no_sample_words path.now fault.now k) }
+{
+    match fault {
+        SampleFault::Unwritable(name) => say_unwritable(outbox, sink, path, name.as_slice()),
+        SampleFault::Stop(Stop::Refused(refusal)) => {
+            let found = Found::Refused {
+                refusal: *refusal,
+                class: None,
+            };
+            say_line(outbox, sink, path, &found);
+        }
+        SampleFault::Stop(_) => say_line(outbox, sink, path, &Found::OutOfMemory),
+    }
+}
+
+/// Says that no pattern means a class alone.
+fn say_unwritable<W: Sink>(outbox: &mut Outbox, sink: &mut W, path: &FilePath, name: &[u16])
+    ensures { SaysTo W.gone_out W.has_failed outbox.old outbox.new sink.old sink.new (λ k. unwritable_words path.now name.now k) }
+{
+    say_path(outbox, sink, path);
+    say(outbox, sink, b": no pattern means only ");
+    say_quoted(outbox, sink, name);
+    say(outbox, sink, b"\n");
+}

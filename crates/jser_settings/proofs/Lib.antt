@@ -1,0 +1,2 @@
+pub mod FilterFileLemmas
+pub mod WholeLemmas

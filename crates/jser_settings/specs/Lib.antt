@@ -1,0 +1,3 @@
+pub mod FilterFiles
+pub mod Settings
+pub mod Whole

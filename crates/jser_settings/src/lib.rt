@@ -1,0 +1,20 @@
+//! What a command line sets beside its input: the filter, of a text or a file, the table of modules of a file, and the limit of
+//! a text.
+//!
+//! `filter_of`, `filter_in`, `modules_of` and `limit_of` make them, and tell faults. The statuses of the program are here, and how a
+//! fault is told; so is the reading of a source whole, up to a limit.
+#![tactic(auto)]
+
+mod filter_file;
+mod limit;
+mod settings;
+mod status;
+mod whole;
+
+pub use limit::limit_of;
+pub use settings::{filter_in, filter_of, filter_text_in, modules_of};
+pub use status::{
+    ACCEPTED, CUT, FAILED, MISUSED, REFUSED, tell_failure, tell_input_fault, tell_misuse,
+    tell_misuse_of,
+};
+pub use whole::{WholeFault, read_front};

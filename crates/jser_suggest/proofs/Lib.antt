@@ -1,0 +1,9 @@
+pub mod PieceLemmas
+pub mod TextLemmas
+pub mod VerdictLemmas
+pub mod LawLemmas
+pub mod WritableLemmas
+pub mod MeasureLemmas
+pub mod GatherLemmas
+pub mod UnitLemmas
+pub mod KnownLemmas

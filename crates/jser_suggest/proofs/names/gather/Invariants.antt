@@ -1,0 +1,12 @@
+use Rattle.std.proofs.Common.{◌≤◌, ◌-◌, take}
+use Rattle.jser_suggest.specs.Gathering.{GainsAll, name_list}
+use Rattle.jser_suggest.proofs.names.gather.Given as goal
+
+abbrev pub invariant-names : goal.invariant-names
+invariant-names l = record {
+  gained : GainsAll (take l.number l.index.names) (name_list l.fn.names) (name_list l.names);
+  inside : l.number ≤ l.count;
+}
+
+abbrev pub decreases-names : goal.decreases-names
+decreases-names l = l.count - l.number

@@ -1,0 +1,55 @@
+-- The filter that is suggested for good streams: its pieces, its text, and which names can be written in it.
+use Rattle.std.specs.Prelude.{ℕ, Bool, true, false, not, ◌==◌, ◌||◌, List, [], ◌∷◌, ◌++◌, map, codes, None}
+use Rattle.std.specs.List.{list_any}
+use Rattle.std.specs.Fmt.{decimal}
+use Rattle.jser_table.specs.Names.{ends_in}
+use Rattle.jser_filter.specs.declared.limit.Limit.TheVariants as limit
+use Rattle.jser_filter.specs.Patterns.{exact, prefix}
+use Rattle.jser_filter.specs.Pieces.{Piece, limit_piece, pattern_piece}
+
+-- what is known of good streams: the greatest of their counts and array lengths, and their element names
+pub record Known : Type 0 where
+  pub bytes : ℕ
+  pub refs : ℕ
+  pub depth : ℕ
+  pub array : ℕ
+  pub names : List (List ℕ)
+
+-- the pattern that allows this name alone, and the pattern that rejects all names
+abbrev pub only : List ℕ → Piece
+only name = pattern_piece record { rejects = false; in_module = None; name = exact name }
+
+abbrev pub no_other : Piece
+no_other = pattern_piece record { rejects = true; in_module = None; name = prefix [] }
+
+-- maxbytes=B;maxrefs=R;maxdepth=D;maxarray=A;NAME;..;!*
+abbrev pub suggested : Known → List Piece
+suggested known =
+    limit_piece limit.Bytes known.bytes ∷ limit_piece limit.Refs known.refs ∷ limit_piece limit.Depth known.depth ∷ limit_piece limit.Array known.array
+    ∷ (map only known.names ++ no_other ∷ [])
+
+abbrev pub names_text : List (List ℕ) → List ℕ
+names_text [] = []
+names_text (name ∷ names) = 0x3B ∷ (name ++ names_text names)
+
+abbrev pub suggested_text : Known → List ℕ
+suggested_text known =
+    codes "maxbytes=" ++ decimal known.bytes ++ codes ";maxrefs=" ++ decimal known.refs ++ codes ";maxdepth=" ++ decimal known.depth ++ codes ";maxarray="
+    ++ decimal known.array ++ names_text known.names ++ codes ";!*"
+
+-- Whether the piece that spells a name is the pattern that allows it alone: the name is not empty, has no `;`, `=` or `/`,
+-- does not begin with `!` and does not end with `*`.
+abbrev pub has : ℕ → List ℕ → Bool
+has c units = list_any (λ unit. unit == c) units
+
+abbrev pub begins : ℕ → List ℕ → Bool
+begins c [] = false
+begins c (unit ∷ units) = unit == c
+
+abbrev pub is_empty : List ℕ → Bool
+is_empty [] = true
+is_empty (unit ∷ units) = false
+
+abbrev pub is_writable : List ℕ → Bool
+is_writable name =
+    not (is_empty name || (begins 0x21 name || (has 0x3B name || (has 0x3D name || (has 0x2F name || ends_in 0x2A name)))))

@@ -1,0 +1,22 @@
+//! Laws of the definitions alone: what the filter promises that `Samples::text` writes.
+ghost use Rattle.jser_suggest.specs.Laws.{Admits, AllowsOnly, IsLeast, OnlyWritable};
+
+/// It admits each of the streams, whether or not the check is strict.
+pub fn admits()
+    ensures { Admits }
+{}
+
+/// It allows the name of a class exactly if that is an element name of one of the streams.
+pub fn allows_only()
+    ensures { AllowsOnly }
+{}
+
+/// With any limit lower, or any name left out, one of the streams is refused.
+pub fn is_least()
+    ensures { IsLeast }
+{}
+
+/// A name that `Samples::add` tells as one that cannot be written is allowed alone by no piece of any filter's text.
+pub fn only_writable()
+    ensures { OnlyWritable }
+{}

@@ -1,0 +1,222 @@
+//! `scan`: goes through folders, and checks one file after another.
+ghost use Rattle.std.specs.Prelude.{◌≡◌, ◌≤◌};
+
+use jser_inputs::{Decoded, Form, InputFault};
+use jser_prim::{Failed, FromRead, Sink};
+use jser_scan::{FilePath, Found, How, Rules, Tally, check_file, print_found, print_summary};
+use jser_settings::tell_failure;
+use std::fs::{self, File};
+use std::io::{self, ErrorKind};
+
+/// What is asked of the files.
+#[derive(Drop)]
+pub(crate) struct Task<'t> {
+    /// What they are checked under.
+    pub(crate) rules: &'t Rules,
+    /// Their form.
+    pub(crate) form: Form,
+    /// How they are printed.
+    pub(crate) how: How,
+}
+
+/// What a path is, where links are not followed.
+#[derive(Clone, Copy)]
+enum Kind {
+    File,
+    Folder,
+    Other,
+    Unknown,
+}
+
+/// Checks the files of these paths, and those in the folders among them, and prints the counts.
+pub(crate) fn scan_paths<W: Sink, E: Sink>(
+    rt: &HostRuntime,
+    task: &Task<'_>,
+    paths: &[String],
+    output: &mut W,
+    faults: &mut E,
+) -> u8
+    ensures { result ≤ 3 }
+{
+    let mut tally = Tally::new();
+    for path in paths {
+        if scan_given(rt, task, path.as_str(), &mut tally, output, faults).is_err() {
+            return tell_failure(faults, "write failed\n");
+        }
+    }
+    let _ = print_summary(tally, faults);
+    tally.status()
+}
+
+/// Checks what a path names that was given: the files in a folder, or whatever else can be opened.
+fn scan_given<W: Sink, E: Sink>(
+    rt: &HostRuntime,
+    task: &Task<'_>,
+    path: &str,
+    tally: &mut Tally,
+    output: &mut W,
+    faults: &mut E,
+) -> Result<(), Failed> {
+    let is_folder = match fs::metadata(rt, path) {
+        Ok(found) => found.is_dir(),
+        Err(_) => false,
+    };
+    if path != "-" && is_folder {
+        scan_folder(rt, task, path, tally, output, faults)
+    } else {
+        scan_file(rt, task, path, tally, output, faults)
+    }
+}
+
+/// Checks the regular files in a folder, in the byte order of their names, each folder with what is in it at its place.
+fn scan_folder<W: Sink, E: Sink>(
+    rt: &HostRuntime,
+    task: &Task<'_>,
+    folder: &str,
+    tally: &mut Tally,
+    output: &mut W,
+    faults: &mut E,
+) -> Result<(), Failed> {
+    // What is still to be looked at, the next one last.
+    let mut waiting: Vec<String> = Vec::new(rt.alloc());
+    enter(rt, task, folder, &mut waiting, tally, output, faults)?;
+    for _ in 0..u64::MAX {
+        let Some(path) = waiting.pop() else {
+            return Ok(());
+        };
+        match kind_of(rt, path.as_str()) {
+            Kind::File => scan_file(rt, task, path.as_str(), tally, output, faults)?,
+            Kind::Folder => enter(rt, task, path.as_str(), &mut waiting, tally, output, faults)?,
+            Kind::Unknown => {
+                let found = Found::NotOpened;
+                print(rt, task, path.as_str(), &found, tally, output, faults)?;
+            }
+            Kind::Other => {}
+        }
+    }
+    Ok(())
+}
+
+/// What a path is.
+fn kind_of(rt: &HostRuntime, path: &str) -> Kind {
+    match fs::symlink_metadata(rt, path) {
+        Ok(found) if found.is_file() => Kind::File,
+        Ok(found) if found.is_dir() => Kind::Folder,
+        Ok(_) => Kind::Other,
+        Err(_) => Kind::Unknown,
+    }
+}
+
+/// Puts what is in a folder on top of what is waiting. Where the folder cannot be read, that is printed.
+fn enter<W: Sink, E: Sink>(
+    rt: &HostRuntime,
+    task: &Task<'_>,
+    folder: &str,
+    waiting: &mut Vec<String>,
+    tally: &mut Tally,
+    output: &mut W,
+    faults: &mut E,
+) -> Result<(), Failed> {
+    let found = match names_in(rt, folder, waiting) {
+        Ok(()) => return Ok(()),
+        Err(found) => found,
+    };
+    print(rt, task, folder, &found, tally, output, faults)
+}
+
+/// Puts the paths of what is in a folder on top of what is waiting, the first one last.
+fn names_in(rt: &HostRuntime, folder: &str, waiting: &mut Vec<String>) -> Result<(), Found> {
+    let entries = match fs::read_dir(rt, folder) {
+        Ok(entries) => entries,
+        Err(error) => return Err(unopened(&error)),
+    };
+    let mut paths: Vec<String> = Vec::new(rt.alloc());
+    for entry in entries {
+        let entry = match entry {
+            Ok(entry) => entry,
+            Err(error) if error.kind() == ErrorKind::OutOfMemory => return Err(Found::OutOfMemory),
+            Err(_) => return Err(Found::NotRead(InputFault::Failed)),
+        };
+        let Ok(path) = String::from_str(rt.alloc(), entry.path().as_str()) else {
+            return Err(Found::OutOfMemory);
+        };
+        if paths.push(path).is_err() {
+            return Err(Found::OutOfMemory);
+        }
+    }
+    if paths.sort().is_err() {
+        return Err(Found::OutOfMemory);
+    }
+    paths.reverse();
+    for path in paths {
+        if waiting.push(path).is_err() {
+            return Err(Found::OutOfMemory);
+        }
+    }
+    Ok(())
+}
+
+/// What is found where something cannot be opened.
+pub(crate) fn unopened(error: &io::Error) -> Found {
+    match error.kind() {
+        ErrorKind::OutOfMemory => Found::OutOfMemory,
+        _ => Found::NotOpened,
+    }
+}
+
+/// Checks a file, or standard input where it is named `-`, and prints what was found.
+fn scan_file<W: Sink, E: Sink>(
+    rt: &HostRuntime,
+    task: &Task<'_>,
+    path: &str,
+    tally: &mut Tally,
+    output: &mut W,
+    faults: &mut E,
+) -> Result<(), Failed> {
+    let found = found_in(rt, task, path);
+    print(rt, task, path, &found, tally, output, faults)
+}
+
+/// What the check finds in a file.
+fn found_in(rt: &HostRuntime, task: &Task<'_>, path: &str) -> Found {
+    let alloc = rt.alloc();
+    if path == "-" {
+        let input = Decoded::new(FromRead::new(rt.stdin()), task.form);
+        return check_file(alloc, task.rules, input);
+    }
+    match File::open(rt, path) {
+        Ok(opened) => {
+            let input = Decoded::new(FromRead::new(opened), task.form);
+            check_file(alloc, task.rules, input)
+        }
+        Err(error) => unopened(&error),
+    }
+}
+
+/// Counts a file, and prints what was found. Where there is no memory for its path, that is told.
+fn print<W: Sink, E: Sink>(
+    rt: &HostRuntime,
+    task: &Task<'_>,
+    path: &str,
+    found: &Found,
+    tally: &mut Tally,
+    output: &mut W,
+    faults: &mut E,
+) -> Result<(), Failed> {
+    let alloc = rt.alloc();
+    let Ok(text) = String::from_str(alloc, path) else {
+        return out_of_memory(tally, faults);
+    };
+    let Ok(path) = FilePath::new(alloc, text) else {
+        return out_of_memory(tally, faults);
+    };
+    tally.note(found);
+    print_found(task.how, &path, found, output, faults)
+}
+
+/// Counts a file of which nothing can be printed.
+fn out_of_memory<E: Sink>(tally: &mut Tally, faults: &mut E) -> Result<(), Failed> {
+    tally.note(&Found::OutOfMemory);
+    tell_failure(faults, "out of memory\n");
+    Ok(())
+}

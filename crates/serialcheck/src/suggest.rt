@@ -1,0 +1,113 @@
+//! `suggest`: the least filter that admits some good files.
+ghost use Rattle.std.specs.Prelude.{◌≡◌, ◌⊎◌, ◌≤◌, IfErr};
+
+use crate::scan::unopened;
+use jser_inputs::{Decoded, Form, Input};
+use jser_prim::{FromRead, Sink};
+use jser_reader::Stop;
+use jser_scan::{FilePath, Found, print_suggested, tell_found, tell_no_sample};
+use jser_settings::{FAILED, WholeFault, read_front, tell_failure};
+use jser_suggest::{SampleFault, Samples};
+use std::fs::File;
+
+/// The most bytes of a stream, 2^40.
+use jser_grammar::caps::MOST_BYTES;
+
+/// Why a file is no sample.
+#[derive(Drop)]
+enum NoSample {
+    /// It was not opened, or not read.
+    Unread(Found),
+    /// It was read.
+    Read(SampleFault),
+}
+
+/// Prints the filter that is suggested for these files, or tells the first that is no good one.
+pub(crate) fn suggest_from<W: Sink, E: Sink>(
+    rt: &HostRuntime,
+    form: Form,
+    files: &[String],
+    output: &mut W,
+    faults: &mut E,
+) -> u8
+    ensures { result ≤ 3 }
+{
+    let mut samples = Samples::new(rt.alloc());
+    match learn_all(rt, form, files, &mut samples, faults) {
+        Ok(()) => print_suggested(rt.alloc(), &samples, output, faults),
+        Err(status) => status,
+    }
+}
+
+/// Takes one file after another.
+///
+/// # Errors
+///
+/// The status, after the line of the first file that is no good one.
+fn learn_all<E: Sink>(
+    rt: &HostRuntime,
+    form: Form,
+    files: &[String],
+    samples: &mut Samples,
+    faults: &mut E,
+) -> Result<(), u8>
+    ensures { IfErr result (λ status. status ≤ 3) }
+{
+    for file in files {
+        if let Err(fault) = learn(rt, form, file.as_str(), samples) {
+            return Err(tell(rt, file.as_str(), &fault, faults));
+        }
+    }
+    Ok(())
+}
+
+/// Takes a file, or standard input where it is named `-`.
+fn learn(rt: &HostRuntime, form: Form, file: &str, samples: &mut Samples) -> Result<(), NoSample> {
+    if file == "-" {
+        return learn_input(
+            rt,
+            &mut Decoded::new(FromRead::new(rt.stdin()), form),
+            samples,
+        );
+    }
+    match File::open(rt, file) {
+        Ok(opened) => learn_input(rt, &mut Decoded::new(FromRead::new(opened), form), samples),
+        Err(error) => Err(NoSample::Unread(unopened(&error))),
+    }
+}
+
+/// Takes an opened input.
+fn learn_input<R: Input>(
+    rt: &HostRuntime,
+    input: &mut R,
+    samples: &mut Samples,
+) -> Result<(), NoSample> {
+    match read_front(rt.alloc(), input, MOST_BYTES as usize) {
+        Ok(bytes) => match samples.add(rt.alloc(), &bytes) {
+            Ok(()) => Ok(()),
+            Err(fault) => Err(NoSample::Read(fault)),
+        },
+        Err(WholeFault::OutOfMemory) => Err(NoSample::Read(SampleFault::Stop(Stop::OutOfMemory))),
+        Err(_) => Err(NoSample::Unread(Found::NotRead(input.fault()))),
+    }
+}
+
+/// Tells why a file is no sample, and returns the status.
+fn tell<E: Sink>(rt: &HostRuntime, file: &str, fault: &NoSample, faults: &mut E) -> u8
+    ensures { result ≤ 3 }
+{
+    let alloc = rt.alloc();
+    let Ok(text) = String::from_str(alloc, file) else {
+        return tell_failure(faults, "out of memory\n");
+    };
+    let Ok(path) = FilePath::new(alloc, text) else {
+        return tell_failure(faults, "out of memory\n");
+    };
+    match fault {
+        NoSample::Unread(found) => {
+            tell_found(&path, found, faults);
+            FAILED
+        }
+        NoSample::Read(fault) => tell_no_sample(&path, fault, faults),
+    }
+}

@@ -1,0 +1,56 @@
+-- What a job answers, in words of the list that the bytes spell.
+use Rattle.std.specs.Prelude.{ℕ, ◌≤◌, ◌⊎◌, List, ◌++◌, codes, length}
+use Rattle.std.specs.Fmt.{decimal}
+use Rattle.jser_grammar.specs.Trees.{ContentTrees}
+use Rattle.jser_grammar.specs.Streams.{IsStreamOf}
+use Rattle.jser_grammar.specs.Counts.{content_count, refs_of, depth_of}
+use Rattle.jser_shown.specs.Shown.{shown}
+use Rattle.jser_shown.specs.Listed.{listed}
+use Rattle.jser_check.specs.Admitted.{AreAdmitted}
+use Rattle.jser_check_anywhere.specs.Passing.{AreAdmittedAnywhere}
+use Rattle.jser_commands.specs.Lines.{CutText, options_of, words_on}
+use Rattle.jser_commands.specs.declared.Job.{Job}
+use Rattle.jser_commands.specs.declared.Job.TheVariants as job
+
+-- the line of a check that says yes
+abbrev pub line_of_list : List ℕ → ContentTrees → List ℕ
+line_of_list bytes list =
+    codes "yes " ++ decimal (length bytes) ++ codes " bytes, " ++ decimal (content_count list) ++ codes " contents, "
+    ++ decimal (refs_of list) ++ codes " refs, depth " ++ decimal (depth_of list) ++ codes "\n"
+
+-- the whole text, which a limit allows; or its lines as far as it does, and the line that says so
+pub record PrintsCut (limit : ℕ) (text : List ℕ) (Went : List ℕ → Type 0) : Type 0 where
+  pub printed : List ℕ
+  pub cut : CutText limit text printed
+  pub went : Went printed
+
+abbrev pub PrintsLimited : (limit : ℕ) → (text : List ℕ) → (Went : List ℕ → Type 0) → Type 0
+PrintsLimited limit text Went = ((length text ≤ limit) × Went text) ⊎ PrintsCut limit text Went
+
+-- what is printed of a list: `Went` says of a text that it went out
+abbrev pub Prints : Job → List ℕ → ContentTrees → (Went : List ℕ → Type 0) → Type 0
+Prints (job.Check filter strict) bytes list Went = Went (line_of_list bytes list)
+Prints (job.CheckAnywhere filter strict) bytes list Went = Went (line_of_list bytes list)
+Prints job.Show bytes list Went = Went (shown list)
+Prints (job.ShowLimited limit) bytes list Went = PrintsLimited limit (shown list) Went
+Prints (job.List filter) bytes list Went = Went (listed (words_on filter) list)
+
+-- that of whatever list the bytes spell
+abbrev pub EachListPrints : Job → (bytes : List ℕ) → (Went : List ℕ → Type 0) → Type 0
+EachListPrints asked bytes Went = (list : ContentTrees) → IsStreamOf bytes list → Prints asked bytes list Went
+
+-- the filter admits the stream; or they are one
+abbrev pub IsYes : Job → List ℕ → Type 0
+IsYes (job.Check filter strict) bytes = AreAdmitted filter (options_of strict) bytes
+IsYes (job.CheckAnywhere filter strict) bytes = AreAdmittedAnywhere filter (options_of strict) bytes
+IsYes job.Show bytes = (list : ContentTrees) × IsStreamOf bytes list
+IsYes (job.ShowLimited limit) bytes = (list : ContentTrees) × IsStreamOf bytes list
+IsYes (job.List filter) bytes = (list : ContentTrees) × IsStreamOf bytes list
+
+-- the filter admits none that they spell
+abbrev pub IsNo : Job → List ℕ → Type 0
+IsNo (job.Check filter strict) bytes = AreAdmitted filter (options_of strict) bytes → ⊥
+IsNo (job.CheckAnywhere filter strict) bytes = AreAdmittedAnywhere filter (options_of strict) bytes → ⊥
+IsNo job.Show bytes = Unit {0}
+IsNo (job.ShowLimited limit) bytes = Unit {0}
+IsNo (job.List filter) bytes = Unit {0}

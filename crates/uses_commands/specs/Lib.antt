@@ -1,0 +1,4 @@
+pub mod Answers
+pub mod Scans
+pub mod Settings
+pub mod Suggests

@@ -1,0 +1,49 @@
+//! What an explanation says of the bytes of an input, where the input tells them.
+ghost use Rattle.std.specs.Prelude.{◌≡◌, ◌≢◌, Some, None, IfSome, true, false};
+ghost use Rattle.std.specs.Io.KnownBytes.{Appends};
+ghost use Rattle.jser_commands.specs.Lines.{SaysRefused};
+ghost use Rattle.jser_explain.specs.Explains.{asked, Begins, TellsWhy};
+ghost use Rattle.uses_commands.specs.Answers.{EachListPrints, IsNo, IsYes};
+
+use jser_explain::explain;
+use jser_inputs::Input;
+use jser_prim::Sink;
+use jser_reading::laws::one_reading;
+use jser_scan::Rules;
+use std::alloc::Global;
+
+/// Whether the filter admits the stream of an input, under these rules. Where it does, the line of `check` went out, and nothing
+/// else; where it does not, that line went out first. `None` where a device failed or memory ran out, and then that was told.
+pub fn explained<R: Input + Drop, W: Sink, E: Sink>(
+    alloc: Global,
+    rules: Rules,
+    text: &str,
+    input: R,
+    output: &mut W,
+    faults: &mut E,
+) -> Option<bool>
+    ensures yes { result ≡ Some true → IfSome (R.to_come input) (IsYes (asked «rules»)) }
+    ensures no { result ≡ Some false → IfSome (R.to_come input) (IsNo (asked «rules»)) }
+    ensures printed { result ≡ Some true → IfSome (R.to_come input) (λ bytes. EachListPrints (asked «rules») bytes (Appends (W.gone_out output.old) (W.gone_out output.new))) }
+    ensures said { result ≡ Some false → IfSome (R.to_come input) (λ bytes. SaysRefused (asked «rules») bytes (Begins (W.gone_out output.old) (W.gone_out output.new))) }
+    ensures why { result ≡ None → TellsWhy (W.has_failed output.new) (E.has_failed faults.new) (E.gone_out faults.old) (E.gone_out faults.new) }
+    ensures quiet { result ≢ None → faults.new ≡ faults.old }
+    ensures unbroken { result ≢ None → W.has_failed output.new ≡ W.has_failed output.old }
+{
+    one_reading();
+    said_of(explain(alloc, rules, text, input, output, faults))
+}
+
+/// What the status of an explanation says.
+fn said_of(status: u8) -> Option<bool>
+    ensures yes { result ≡ Some true → status ≡ 0 }
+    ensures no { result ≡ Some false → status ≡ 1 }
+    ensures none { result ≡ None → (status ≢ 0) × (status ≢ 1) }
+    ensures some { result ≢ None → status ≢ 3 }
+{
+    match status {
+        0 => Some(true),
+        1 => Some(false),
+        _ => None,
+    }
+}

@@ -1,0 +1,2 @@
+pub mod Base64Texts
+pub mod HexTexts

@@ -1,0 +1,6 @@
+//! A caller of `jser_suggest`: what the promises of the filter that it suggests are worth to one who parses it.
+#![tactic(auto)]
+
+pub mod least;
+#[cfg(test)]
+mod tests;

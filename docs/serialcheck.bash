@@ -1,0 +1,24 @@
+# Completion of serialcheck's command line for bash: commands, then their options, then files.
+_serialcheck() {
+    local word=${COMP_WORDS[COMP_CWORD]} before=${COMP_WORDS[COMP_CWORD-1]} options
+    local filter='--filter --filter-file --modules' form='--hex --base64'
+    if ((COMP_CWORD == 1)); then
+        mapfile -t COMPREPLY < <(compgen -W 'check explain show list scan suggest help --help --version' -- "$word")
+        return
+    fi
+    case ${COMP_WORDS[1]} in
+    check | explain) options="$filter --strict $form --anywhere --help" ;;
+    show) options="$form --limit --help" ;;
+    suggest) options="$form --help" ;;
+    list) options="$filter $form --help" ;;
+    scan) options="$filter --strict $form --anywhere --refused --json --help" ;;
+    esac
+    if [[ $before == --filter || $before == --limit ]]; then
+        COMPREPLY=()
+    elif [[ $word == -* ]]; then
+        mapfile -t COMPREPLY < <(compgen -W "$options" -- "$word")
+    else
+        mapfile -t COMPREPLY < <(compgen -f -- "$word")
+    fi
+}
+complete -o filenames -F _serialcheck serialcheck
