@@ -1,0 +1,190 @@
+import java.io.ByteArrayInputStream;
+import java.io.IOException;
+import java.io.InputStream;
+import java.io.InvalidObjectException;
+import java.io.ObjectInputStream;
+import java.lang.ref.Cleaner;
+import java.nio.charset.StandardCharsets;
+import java.util.Arrays;
+
+/**
+ * The proved check in front of an {@link ObjectInputStream}: no byte of a refused stream reaches it, and no class is loaded.
+ *
+ * <p>A filter is read once. Any thread may use it; its calls wait for each other, so give each busy thread, consumer or
+ * partition one of its own. It needs the library {@code serialcheck_jni}: the file that the property
+ * {@code serialcheck.library} names, or that of the library path.
+ */
+public final class SerialCheck implements AutoCloseable {
+    /** Refuse a class that no pattern matches. */
+    public static final int STRICT = 1;
+    /** Ask the filter about every class name that can be read at any place of the bytes. */
+    public static final int ANYWHERE = 2;
+
+    private static final int YES = 0, NO = 1, MISUSE = 2, NO_MEMORY = 3;
+    private static final String[] REASONS = {"", "BytesExceeded", "BadHeader", "BadTag", "ExceptionTag", "ResetInside", "BadText",
+        "NegativeLength", "BadTypeCode", "FieldOrder", "BadFlags", "NullClass", "NoSuchHandle", "WrongKind", "OpenDescriptor",
+        "BadArrayName", "WrongClass", "ExternalRaw", "NotSerializable", "ClassRejected", "ClassUnmatched", "DepthExceeded",
+        "RefsExceeded", "ArrayExceeded", "Truncated", "HandleSpace", "HiddenName"};
+    private static final String[] CAUSES = {"", "filter pattern %d: UnknownLimit", "filter pattern %d: BadLimit",
+        "filter pattern %d: ModuleMissing", "filter pattern %d: NameMissing", "filter pattern %d: PackageMissing",
+        "filter is not text", "modules line %d: BadLine", "modules line %d: PackageTwice", "modules are not text", "unknown flag"};
+    private static final Cleaner CLEANER = Cleaner.create();
+
+    static {
+        String file = System.getProperty("serialcheck.library");
+        if (file == null) {
+            System.loadLibrary("serialcheck_jni");
+        } else {
+            System.load(file);
+        }
+    }
+
+    /** The counts of a stream that is accepted. */
+    public static final class Report {
+        public final long bytes, contents, refs, depth, handles;
+
+        private Report(long[] answer) {
+            bytes = answer[4];
+            contents = answer[5];
+            refs = answer[6];
+            depth = answer[7];
+            handles = answer[8];
+        }
+
+        @Override
+        public String toString() {
+            return "yes " + bytes + " bytes, " + contents + " contents, " + refs + " refs, depth " + depth;
+        }
+    }
+
+    /** The bytes are no stream that the filter admits. */
+    public static final class Refused extends InvalidObjectException {
+        private static final long serialVersionUID = 1;
+        /** Why: a name of docs/REFUSALS.md. */
+        public final String reason;
+        /** Where the faulty field starts. */
+        public final long from;
+        /** How many bytes decide: no admitted stream begins with these. */
+        public final long to;
+
+        private Refused(String reason, long from, long to) {
+            super("no at " + from + " to " + to + ": " + reason);
+            this.reason = reason;
+            this.from = from;
+            this.to = to;
+        }
+    }
+
+    /** Makes the reader of checked bytes. */
+    @FunctionalInterface
+    public interface Opener<S extends ObjectInputStream> {
+        S open(InputStream checked) throws IOException;
+    }
+
+    /** What native memory a filter has. It refers to no SerialCheck, so that the cleaner may run. */
+    private static final class Native implements Runnable {
+        private long handle;
+
+        @Override
+        public synchronized void run() {
+            if (handle != 0) {
+                free(handle);
+                handle = 0;
+            }
+        }
+
+        private synchronized void check(byte[] bytes, int length, long[] answer) {
+            if (handle == 0) {
+                throw new IllegalStateException("closed");
+            }
+            SerialCheck.check(handle, bytes, length, answer);
+        }
+    }
+
+    private final Native held = new Native();
+    private final Cleaner.Cleanable cleanable;
+
+    /** A filter of a text, as {@code ObjectInputFilter.Config.createFilter} takes it. */
+    public SerialCheck(String filter, int flags) {
+        this(filter, "", flags);
+    }
+
+    /**
+     * The same with a table of modules: lines {@code package=module}.
+     *
+     * @throws IllegalArgumentException where the filter, the table or a flag is faulty
+     */
+    public SerialCheck(String filter, String modules, int flags) {
+        long[] answer = new long[9];
+        held.handle = open(filter.getBytes(StandardCharsets.UTF_8), modules.getBytes(StandardCharsets.UTF_8), flags, answer);
+        cleanable = CLEANER.register(this, held);
+        if (answer[0] == MISUSE) {
+            throw new IllegalArgumentException(String.format(CAUSES[(int) answer[1]], answer[2]));
+        }
+        settled(answer);
+    }
+
+    /**
+     * Checks bytes, of a copy made here: where another thread may change them, check and read a copy of your own.
+     *
+     * @throws Refused where they are no stream that the filter admits
+     */
+    public Report check(byte[] bytes) throws Refused {
+        return check(bytes, bytes.length);
+    }
+
+    /** The same of the first bytes of an array. */
+    public Report check(byte[] bytes, int length) throws Refused {
+        if (length < 0 || length > bytes.length) {
+            throw new IndexOutOfBoundsException(length);
+        }
+        long[] answer = new long[9];
+        held.check(bytes, length, answer);
+        if (answer[0] == NO) {
+            throw new Refused(REASONS[(int) answer[1]], answer[2], answer[3]);
+        }
+        settled(answer);
+        return new Report(answer);
+    }
+
+    /**
+     * Reads all bytes, checks them, and only then makes an ObjectInputStream of the same bytes.
+     *
+     * @param most how many bytes there may be
+     * @throws Refused where they are no stream that the filter admits; nothing of them was read then
+     */
+    public ObjectInputStream open(InputStream in, int most) throws IOException {
+        return open(in, most, ObjectInputStream::new);
+    }
+
+    /** The same with a reader of the caller's kind. */
+    public <S extends ObjectInputStream> S open(InputStream in, int most, Opener<S> opener) throws IOException {
+        byte[] bytes = in.readNBytes(most);
+        if (bytes.length == most && in.read() >= 0) {
+            throw new InvalidObjectException("more than " + most + " bytes");
+        }
+        check(bytes);
+        return opener.open(new ByteArrayInputStream(bytes));
+    }
+
+    /** Lets the filter go. */
+    @Override
+    public void close() {
+        cleanable.clean();
+    }
+
+    private static void settled(long[] answer) {
+        if (answer[0] == NO_MEMORY) {
+            throw new OutOfMemoryError("serialcheck");
+        }
+        if (answer[0] != YES) {
+            throw new IllegalStateException("serialcheck answered " + Arrays.toString(answer));
+        }
+    }
+
+    private static native long open(byte[] filter, byte[] modules, int flags, long[] answer);
+
+    private static native void check(long handle, byte[] bytes, int length, long[] answer);
+
+    private static native void free(long handle);
+}

@@ -1,0 +1,186 @@
+"""serialcheck from Python, over the C library: whether bytes are one Java serialization stream that a filter admits.
+
+    check = serialcheck.Filter("maxbytes=1000000;java.util.*;java.lang.*;!*", anywhere=True)
+    answer = check.check(body)
+    if not answer:
+        raise ValueError(answer)        # no at 4 to 30: ClassRejected
+
+The library is libserialcheck.so: the file that SERIALCHECK_LIBRARY names, the one beside this file, or that of the system.
+"""
+import ctypes
+import os
+import threading
+from pathlib import Path
+
+STRICT = 1
+ANYWHERE = 2
+
+YES, NO, MISUSE, NO_MEMORY, MORE, SPENT, SMALL = range(7)
+
+REASONS = (
+    "", "BytesExceeded", "BadHeader", "BadTag", "ExceptionTag", "ResetInside", "BadText", "NegativeLength", "BadTypeCode",
+    "FieldOrder", "BadFlags", "NullClass", "NoSuchHandle", "WrongKind", "OpenDescriptor", "BadArrayName", "WrongClass",
+    "ExternalRaw", "NotSerializable", "ClassRejected", "ClassUnmatched", "DepthExceeded", "RefsExceeded", "ArrayExceeded",
+    "Truncated", "HandleSpace", "HiddenName",
+)
+CAUSES = (
+    "", "filter pattern {}: UnknownLimit", "filter pattern {}: BadLimit", "filter pattern {}: ModuleMissing",
+    "filter pattern {}: NameMissing", "filter pattern {}: PackageMissing", "filter is not text", "modules line {}: BadLine",
+    "modules line {}: PackageTwice", "modules are not text", "unknown flag",
+)
+
+
+class Answer(ctypes.Structure):
+    """What a check answers: true for a yes, whose counts it has; else `reason`, and the bytes `start` to `end` that decide."""
+
+    _fields_ = [
+        ("status", ctypes.c_uint32),
+        ("number", ctypes.c_uint32),
+        ("start", ctypes.c_uint64),
+        ("end", ctypes.c_uint64),
+        ("bytes", ctypes.c_uint64),
+        ("contents", ctypes.c_uint64),
+        ("refs", ctypes.c_uint64),
+        ("depth", ctypes.c_uint64),
+        ("handles", ctypes.c_uint64),
+    ]
+
+    def __bool__(self):
+        return self.status == YES
+
+    @property
+    def reason(self):
+        """The name of the reason of a refusal, as the program prints it."""
+        return REASONS[self.number] if self.status == NO else None
+
+    def __str__(self):
+        if self.status == YES:
+            return f"yes {self.bytes} bytes, {self.contents} contents, {self.refs} refs, depth {self.depth}"
+        if self.status == NO:
+            return f"no at {self.start} to {self.end}: {self.reason}"
+        return f"status {self.status}"
+
+
+class _Handle(ctypes.Structure):
+    _fields_ = [("at", ctypes.c_void_p), ("is_open", ctypes.c_bool)]
+
+
+def _load():
+    named = os.environ.get("SERIALCHECK_LIBRARY")
+    beside = Path(__file__).resolve().parent / "libserialcheck.so"
+    library = ctypes.CDLL(named or (str(beside) if beside.exists() else "libserialcheck.so.0"))
+    text = [ctypes.c_char_p, ctypes.c_size_t]
+    answer, handle = ctypes.POINTER(Answer), ctypes.POINTER(_Handle)
+    for name, words in {
+        "check": [*text, *text, ctypes.c_uint32, answer],
+        "filter_new": [*text, *text, ctypes.c_uint32, answer, handle],
+        "filter_check": [handle, *text, answer],
+        "filter_free": [handle],
+        "stream_new": [handle, answer, handle],
+        "stream_feed": [handle, *text, answer],
+        "stream_end": [handle, answer],
+        "stream_free": [handle],
+    }.items():
+        call = getattr(library, f"serialcheck_{name}")
+        call.argtypes = words
+        call.restype = None if name.endswith("_free") else ctypes.c_uint32
+    return library
+
+
+_library = _load()
+
+
+def _settled(answer):
+    """The answer of a check; a fault of the caller or of memory is an exception."""
+    if answer.status in (YES, NO):
+        return answer
+    if answer.status == MISUSE:
+        raise ValueError(CAUSES[answer.number].format(answer.start))
+    if answer.status == NO_MEMORY:
+        raise MemoryError("serialcheck")
+    raise ValueError("serialcheck: closed")
+
+
+def _flags(strict, anywhere):
+    return (STRICT if strict else 0) | (ANYWHERE if anywhere else 0)
+
+
+def check(data, filter="", strict=False, anywhere=False):
+    """Checks bytes under the filter of a text, which is read each time."""
+    data, text, answer = bytes(data), filter.encode(), Answer()
+    _library.serialcheck_check(data, len(data), text, len(text), _flags(strict, anywhere), answer)
+    return _settled(answer)
+
+
+class Filter:
+    """A filter that is read once. Any thread may use it; calls wait for each other, so give each busy thread its own."""
+
+    def __init__(self, filter="", modules="", strict=False, anywhere=False):
+        """Raises ValueError where the filter or the table of modules (lines `package=module`) is faulty."""
+        self._handle, self._lock = _Handle(), threading.Lock()
+        text, table, answer = filter.encode(), modules.encode(), Answer()
+        _library.serialcheck_filter_new(text, len(text), table, len(table), _flags(strict, anywhere), answer, self._handle)
+        _settled(answer)
+
+    def check(self, data):
+        """Checks bytes. The answer is of these bytes: hand on the same ones."""
+        data, answer = bytes(data), Answer()
+        with self._lock:
+            _library.serialcheck_filter_check(self._handle, data, len(data), answer)
+        return _settled(answer)
+
+    def stream(self):
+        """A check of one stream whose bytes come in pieces."""
+        answer, handle = Answer(), _Handle()
+        with self._lock:
+            _library.serialcheck_stream_new(self._handle, answer, handle)
+        if answer.status != MORE:
+            _settled(answer)
+        return Stream(handle)
+
+    def close(self):
+        """Lets the filter go."""
+        with self._lock:
+            _library.serialcheck_filter_free(self._handle)
+
+    def __enter__(self):
+        return self
+
+    def __exit__(self, *_):
+        self.close()
+
+    def __del__(self):
+        if hasattr(self, "_lock"):
+            self.close()
+
+
+class Stream:
+    """A stream that comes in pieces: `feed` each piece while it answers None, and then `end`. One thread at a time."""
+
+    def __init__(self, handle):
+        self._handle = handle
+
+    def feed(self, data):
+        """Takes the next bytes: None where they decide nothing, else the answer, which is a refusal."""
+        data, answer = bytes(data), Answer()
+        _library.serialcheck_stream_feed(self._handle, data, len(data), answer)
+        return None if answer.status == MORE else _settled(answer)
+
+    def end(self):
+        """The answer to all bytes. The stream is let go."""
+        answer = Answer()
+        _library.serialcheck_stream_end(self._handle, answer)
+        return _settled(answer)
+
+    def close(self):
+        """Lets the stream go, if it was not ended."""
+        _library.serialcheck_stream_free(self._handle)
+
+    def __enter__(self):
+        return self
+
+    def __exit__(self, *_):
+        self.close()
+
+    def __del__(self):
+        self.close()

@@ -1,0 +1,5 @@
+pub mod AsFilterBox
+pub mod AsStreamBox
+pub mod ToldLemmas
+pub mod PiecesLemmas
+pub mod TextLemmas

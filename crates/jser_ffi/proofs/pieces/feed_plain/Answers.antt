@@ -1,0 +1,14 @@
+use Rattle.std.proofs.Common.{Ok, Err}
+use Rattle.jser_reader.proofs.ReaderLemmas.{all_bytes}
+use Rattle.jser_ffi.proofs.PiecesLemmas.{fed_plain}
+use Rattle.jser_ffi.proofs.pieces.feed_plain.Goals as goal
+
+pub returns-in-Ok-clause-says : goal.returns-in-Ok-clause-says
+returns-in-Ok-clause-says c = λ taken st.
+    fed_plain c.args.reader.now c.skip.new.self taken c.args.piece.now (Ok c.in-Ok.field-0) c.bare.result c.bare.ensures
+    (all_bytes c.args.piece.now (λ k. (c.type_inv.piece k).fits)) c.in-Ok.ensures.tells c.in-Ok.ensures.gate st
+
+pub returns-in-Err-clause-says : goal.returns-in-Err-clause-says
+returns-in-Err-clause-says c = λ taken st.
+    fed_plain c.args.reader.now c.skip.new.self taken c.args.piece.now (Err c.in-Err.stop) c.stopped.result c.stopped.ensures
+    (all_bytes c.args.piece.now (λ k. (c.type_inv.piece k).fits)) c.in-Err.ensures.tells c.in-Err.ensures.gate st

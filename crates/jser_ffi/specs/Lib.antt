@@ -1,0 +1,9 @@
+pub mod Ways
+pub mod Compiling
+pub mod Told
+pub mod Pieces
+pub mod Streams
+pub mod Texts
+pub mod Holding
+pub mod FilterOwning
+pub mod StreamOwning

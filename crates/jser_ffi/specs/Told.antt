@@ -1,0 +1,143 @@
+-- What the numbers of an answer to a check mean.
+use Rattle.std.specs.Prelude.{ℕ, ◌≡◌, ◌⊎◌, Bool, true, false, List, Option, Some, None}
+use Rattle.jser_reader.specs.declared.Reason.{Reason}
+use Rattle.jser_reader.specs.declared.Reason.TheVariants as reason
+use Rattle.jser_reader.specs.declared.Refusal.{Refusal}
+use Rattle.jser_reader.specs.declared.Stop.{Stop}
+use Rattle.jser_reader.specs.declared.Stop.TheVariants as stop
+use Rattle.jser_reader.specs.declared.Totals.{Totals}
+use Rattle.jser_filter.specs.Filters.{FilterView}
+use Rattle.jser_check.specs.declared.Options.{Options}
+use Rattle.jser_check.specs.Admitted.{gate_of_filter}
+use Rattle.jser_check.specs.Answers.{Reports, Refuses, CarriesFirst}
+use Rattle.jser_anywhere.specs.declared.Hidden.{Hidden}
+use Rattle.jser_check_anywhere.specs.declared.AnywhereFault.{AnywhereFault}
+use Rattle.jser_check_anywhere.specs.declared.AnywhereFault.TheVariants as fault
+use Rattle.jser_check_anywhere.specs.Answers.{NoneSooner, ReportsAnywhere, TellsHidden}
+use Rattle.jser_check_anywhere.specs.Joins.{sooner_of}
+use Rattle.jser_ffi.specs.declared.answer.Answer.{Answer}
+use Rattle.jser_ffi.specs.declared.compiled.Compiled.{Compiled}
+use Rattle.jser_ffi.specs.Compiling.{IsCompiled}
+
+-- ---- the numbers
+
+abbrev pub reason_number : Reason → ℕ
+reason_number reason.BytesExceeded = 1
+reason_number reason.BadHeader = 2
+reason_number reason.BadTag = 3
+reason_number reason.ExceptionTag = 4
+reason_number reason.ResetInside = 5
+reason_number reason.BadText = 6
+reason_number reason.NegativeLength = 7
+reason_number reason.BadTypeCode = 8
+reason_number reason.FieldOrder = 9
+reason_number reason.BadFlags = 10
+reason_number reason.NullClass = 11
+reason_number reason.NoSuchHandle = 12
+reason_number reason.WrongKind = 13
+reason_number reason.OpenDescriptor = 14
+reason_number reason.BadArrayName = 15
+reason_number reason.WrongClass = 16
+reason_number reason.ExternalRaw = 17
+reason_number reason.NotSerializable = 18
+reason_number reason.ClassRejected = 19
+reason_number reason.ClassUnmatched = 20
+reason_number reason.DepthExceeded = 21
+reason_number reason.RefsExceeded = 22
+reason_number reason.ArrayExceeded = 23
+reason_number reason.Truncated = 24
+reason_number reason.HandleSpace = 25
+
+-- the counts in an answer
+abbrev pub report_in : Answer → Totals
+report_in answer =
+    record { bytes = answer.bytes; contents = answer.contents; refs = answer.refs; depth = answer.depth; handles = answer.handles }
+
+-- the refusal in an answer, for a reason
+abbrev pub refusal_in : Answer → Reason → Refusal
+refusal_in answer why = record { from_byte = answer.from_byte; to_byte = answer.to_byte; reason = why }
+
+-- the answer has the refusal
+pub record HasRefusal (answer : Answer) (refusal : Refusal) : Type 0 where
+  pub status : answer.status ≡ 1
+  pub number : answer.reason ≡ reason_number refusal.reason
+  pub same : refusal_in answer refusal.reason ≡ refusal
+
+-- the answer has the counts
+pub record HasReport (answer : Answer) (report : Totals) : Type 0 where
+  pub status : answer.status ≡ 0
+  pub same : report_in answer ≡ report
+
+-- the answer has the place of a hidden name
+pub record HasHidden (answer : Answer) (from to : ℕ) : Type 0 where
+  pub status : answer.status ≡ 1
+  pub number : answer.reason ≡ 26
+  pub begins : answer.from_byte ≡ from
+  pub ends : answer.to_byte ≡ to
+
+-- the answer to why a reader stopped
+abbrev pub HasStop : Answer → Stop → Type 0
+HasStop answer (stop.Refused refusal) = HasRefusal answer refusal
+HasStop answer stop.OutOfMemory = answer.status ≡ 3
+HasStop answer stop.Spent = answer.status ≡ 5
+
+-- the answer to a fault
+abbrev pub HasFault : Answer → AnywhereFault → Type 0
+HasFault answer (fault.Stop (stop.Refused refusal)) = HasRefusal answer refusal
+HasFault answer (fault.Stop stop.OutOfMemory) = answer.status ≡ 3
+HasFault answer (fault.Stop stop.Spent) = answer.status ≡ 5
+HasFault answer fault.ReadFault = answer.status ≡ 5
+HasFault answer (fault.Hidden from to) = HasHidden answer from to
+
+-- the answer to the first fault of a piece, if there is one; and to a refusal beside a hidden name
+abbrev pub HasFirst : Answer → Option AnywhereFault → Type 0
+HasFirst answer None = answer.status ≡ 4
+HasFirst answer (Some why) = HasFault answer why
+
+abbrev pub HasSooner : Answer → Refusal → Option Hidden → Type 0
+HasSooner answer refusal name = HasFault answer (sooner_of refusal name)
+
+-- ---- what a check says
+
+-- a refusal of which this holds stands in the answer
+pub record TellsRefusal (Right : Refusal → Type 0) (answer : Answer) : Type 0 where
+  pub reason : Reason
+  pub number : answer.reason ≡ reason_number reason
+  pub right : Right (refusal_in answer reason)
+
+-- the refusal is right of the bytes, and names their first fault
+abbrev pub IsRight : FilterView → Options → List ℕ → Refusal → Type 0
+IsRight filter options bytes refusal = Refuses filter options bytes refusal × CarriesFirst (gate_of_filter filter options) bytes refusal
+
+pub record SaysPlain (filter : FilterView) (options : Options) (bytes : List ℕ) (answer : Answer) : Type 0 where
+  pub accepted : answer.status ≡ 0 → Reports filter options bytes (report_in answer)
+  pub refused : answer.status ≡ 1 → TellsRefusal (IsRight filter options bytes) answer
+  pub known : (answer.status ≡ 0) ⊎ ((answer.status ≡ 1) ⊎ (answer.status ≡ 3))
+
+-- The same of a check that asks about every class name that can be read at any place: no hidden name ends before the
+-- refusal; or there is one, and no fault ends before it.
+
+abbrev pub IsRightAnywhere : FilterView → Options → List ℕ → Refusal → Type 0
+IsRightAnywhere filter options bytes refusal = IsRight filter options bytes refusal × NoneSooner filter options bytes refusal.to_byte
+
+abbrev pub TellsName : FilterView → Options → List ℕ → Answer → Type 0
+TellsName filter options bytes answer = (answer.reason ≡ 26) × TellsHidden filter options bytes answer.from_byte answer.to_byte
+
+pub record SaysAnywhere (filter : FilterView) (options : Options) (bytes : List ℕ) (answer : Answer) : Type 0 where
+  pub accepted : answer.status ≡ 0 → ReportsAnywhere filter options bytes (report_in answer)
+  pub refused : answer.status ≡ 1 → TellsRefusal (IsRightAnywhere filter options bytes) answer ⊎ TellsName filter options bytes answer
+  pub known : (answer.status ≡ 0) ⊎ ((answer.status ≡ 1) ⊎ (answer.status ≡ 3))
+
+-- by how the filter is asked
+abbrev pub SaysBy : (anywhere : Bool) → FilterView → Options → List ℕ → Answer → Type 0
+SaysBy false filter options bytes answer = SaysPlain filter options bytes answer
+SaysBy true filter options bytes answer = SaysAnywhere filter options bytes answer
+
+abbrev pub Says : Compiled → List ℕ → Answer → Type 0
+Says compiled bytes answer = SaysBy compiled.anywhere compiled.applied.filter compiled.applied.options bytes answer
+
+-- what a check says under the filter of a text and of a table of modules
+pub record SaysUnder (flags : ℕ) (text modules bytes : List ℕ) (answer : Answer) : Type 0 where
+  pub compiled : Compiled
+  pub is : IsCompiled flags text modules compiled
+  pub says : Says compiled bytes answer

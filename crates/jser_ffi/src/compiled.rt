@@ -1,0 +1,157 @@
+//! A filter that was read once, and the check of bytes under it.
+ghost use Rattle.std.specs.Prelude.{◌≡◌, ◌⊎◌, IfOk, IfErr};
+ghost use Rattle.jser_ffi.specs.Compiling.{IsCompiled, IsFilterOf, IsTableOf, TextIsFaulty, TextsAreFaulty, ModulesAreFaulty, SaysMisuse};
+ghost use Rattle.jser_ffi.specs.Told.{HasFault, Says, SaysAnywhere, SaysPlain};
+
+use crate::answer::{Answer, NO_MEMORY, SPENT, accepted, bare, hidden, misuse, refused};
+use crate::misuse::{filter_answer, modules_answer};
+use crate::way::way_of;
+use jser_check::{Options, Stop, check_bytes};
+use jser_check_anywhere::{AnywhereChecker, AnywhereFault};
+use jser_filter::{Filter, Modules};
+use jser_shared::SharedFilter;
+use std::alloc::Global;
+use std::str;
+
+/// A filter that was read once, and how it is asked.
+#[derive(Drop)]
+pub struct Compiled {
+    /// The filter, with its table of modules and how it is applied to a name.
+    pub applied: SharedFilter,
+    /// Whether it is asked about every class name that can be read at any place of the bytes.
+    pub anywhere: bool,
+}
+
+/// The filter of a text and of a table of modules, asked as the flags say.
+///
+/// # Errors
+///
+/// The answer: of a misuse, or that memory ran out.
+pub(crate) fn compile(
+    alloc: Global,
+    text: &[u8],
+    modules: &[u8],
+    flags: u32,
+) -> Result<Compiled, Answer>
+    ensures compiled { IfOk result (IsCompiled flags text.now modules.now) }
+    ensures misuse { IfErr result (λ answer. answer.status ≡ 2 → SaysMisuse flags text.now modules.now answer) }
+    ensures known { IfErr result (λ answer. (answer.status ≡ 2) ⊎ (answer.status ≡ 3)) }
+{
+    let Some(way) = way_of(flags) else {
+        return Err(misuse(10, 0));
+    };
+    let filter = match filter_with(alloc, text, modules) {
+        Ok(filter) => filter,
+        Err(answer) => return Err(answer),
+    };
+    match SharedFilter::new(alloc, filter, way.options) {
+        Ok(applied) => Ok(Compiled {
+            applied,
+            anywhere: way.anywhere,
+        }),
+        Err(_) => Err(bare(NO_MEMORY)),
+    }
+}
+
+/// The filter of a text with a table of modules.
+///
+/// # Errors
+///
+/// The answer: of a misuse, or that memory ran out.
+pub(crate) fn filter_with(alloc: Global, text: &[u8], modules: &[u8]) -> Result<Filter, Answer>
+    ensures pieces { IfOk result (λ filter. IsFilterOf text.now filter.pieces) }
+    ensures table { IfOk result (λ filter. IsTableOf modules.now filter.modules) }
+    ensures faulty { IfErr result (λ answer. answer.status ≡ 2 → TextsAreFaulty text.now modules.now answer) }
+    ensures known { IfErr result (λ answer. (answer.status ≡ 2) ⊎ (answer.status ≡ 3)) }
+{
+    let filter = match filter_of(alloc, text) {
+        Ok(filter) => filter,
+        Err(answer) => return Err(answer),
+    };
+    match table_of(alloc, modules) {
+        Ok(table) => Ok(filter.with_modules(table)),
+        Err(answer) => Err(answer),
+    }
+}
+
+/// The filter of a text.
+fn filter_of(alloc: Global, text: &[u8]) -> Result<Filter, Answer>
+    ensures filter { IfOk result (λ filter. IsFilterOf text.now filter.pieces) }
+    ensures faulty { IfErr result (λ answer. answer.status ≡ 2 → TextIsFaulty text.now answer) }
+    ensures known { IfErr result (λ answer. (answer.status ≡ 2) ⊎ (answer.status ≡ 3)) }
+{
+    let Ok(text) = str::from_utf8(text) else {
+        return Err(misuse(6, 0));
+    };
+    match Filter::parse(alloc, text) {
+        Ok(filter) => Ok(filter),
+        Err(fault) => Err(filter_answer(fault)),
+    }
+}
+
+/// The table of modules of a text.
+fn table_of(alloc: Global, text: &[u8]) -> Result<Modules, Answer>
+    ensures table { IfOk result (IsTableOf text.now) }
+    ensures faulty { IfErr result (λ answer. answer.status ≡ 2 → ModulesAreFaulty text.now answer) }
+    ensures known { IfErr result (λ answer. (answer.status ≡ 2) ⊎ (answer.status ≡ 3)) }
+{
+    let Ok(text) = str::from_utf8(text) else {
+        return Err(misuse(9, 0));
+    };
+    match Modules::parse(alloc, text) {
+        Ok(table) => Ok(table),
+        Err(fault) => Err(modules_answer(fault)),
+    }
+}
+
+impl Compiled {
+    /// The answer to a check of bytes.
+    pub(crate) fn check(&self, alloc: Global, bytes: &[u8]) -> Answer
+        ensures { Says self.now bytes.now result }
+    {
+        let (filter, options) = (self.applied.filter(), self.applied.options());
+        if self.anywhere {
+            check_anywhere(alloc, bytes, filter, options)
+        } else {
+            check_plain(alloc, bytes, filter, options)
+        }
+    }
+}
+
+/// The answer to a check of bytes.
+fn check_plain(alloc: Global, bytes: &[u8], filter: &Filter, options: Options) -> Answer
+    ensures { SaysPlain filter.now options bytes.now result }
+{
+    match check_bytes(alloc, bytes, filter, options) {
+        Ok(report) => accepted(report),
+        Err(Stop::Refused(refusal)) => refused(refusal),
+        Err(_) => bare(NO_MEMORY),
+    }
+}
+
+/// The answer to a check of bytes that asks about every class name that can be read at any place.
+#[tactic(auto, using(crate::proofs::ToldLemmas::fault_says, crate::proofs::ToldLemmas::end_says, crate::proofs::ToldLemmas::report_says))]
+fn check_anywhere(alloc: Global, bytes: &[u8], filter: &Filter, options: Options) -> Answer
+    ensures { SaysAnywhere filter.now options bytes.now result }
+{
+    let mut checker = AnywhereChecker::lent(alloc, filter, options);
+    match checker.feed(bytes) {
+        Ok(()) => match checker.finish() {
+            Ok(report) => accepted(report),
+            Err(fault) => faulted(fault),
+        },
+        Err(fault) => faulted(fault),
+    }
+}
+
+/// The answer to a fault.
+fn faulted(fault: AnywhereFault) -> Answer
+    ensures { HasFault result fault }
+{
+    match fault {
+        AnywhereFault::Stop(Stop::Refused(refusal)) => refused(refusal),
+        AnywhereFault::Stop(Stop::OutOfMemory) => bare(NO_MEMORY),
+        AnywhereFault::Stop(Stop::Spent) | AnywhereFault::ReadFault => bare(SPENT),
+        AnywhereFault::Hidden { from_byte, to_byte } => hidden(from_byte, to_byte),
+    }
+}

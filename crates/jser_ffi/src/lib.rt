@@ -1,0 +1,281 @@
+//! The checks for programs in C, and in what calls C: Java, Python, Rust, Go.
+//!
+//! C passes a slice as a pointer and a length, a handle as a pointer to it, and nothing for `alloc`. `include/serialcheck.h`
+//! declares these calls and says what the caller owes.
+#![tactic(auto)]
+
+ghost use Rattle.std.specs.Prelude.{◌≡◌, ◌≢◌, ◌⊎◌, ℕ, List, [], None, Some};
+ghost use Rattle.jser_ffi.specs.declared.compiled.Compiled.{Compiled};
+ghost use Rattle.jser_ffi.specs.Compiling.{IsCompiled, SaysMisuse, TextsAreFaulty};
+ghost use Rattle.jser_ffi.specs.Holding.{HoldsSuch};
+ghost use Rattle.jser_index.specs.Reading.{IsRefused};
+ghost use Rattle.jser_ffi.specs.Texts.{TellsList, TellsText};
+ghost use Rattle.jser_ffi.specs.Told.{Says, SaysUnder, TellsRefusal};
+ghost use Rattle.jser_ffi.specs.Streams.{Taken, Begins, BeginsUnder, FeedSays, EndSays};
+ghost use Rattle.jser_ffi.specs.declared.answer.Answer.{Answer};
+ghost use Rattle.jser_ffi.specs.declared.stream.Stream.{Stream};
+ghost use Rattle.jser_ffi.specs.declared.stream.Stream.TheVariants as state;
+
+mod answer;
+mod compiled;
+mod filter_handle;
+mod held_filter;
+mod held_stream;
+mod misuse;
+mod parts;
+mod pieces;
+mod stream;
+mod stream_handle;
+mod text;
+mod way;
+
+use answer::{Answer, NO_MEMORY, SPENT, bare};
+use compiled::{Compiled, compile};
+use filter_handle::FilterHandle;
+use std::alloc::Global;
+use stream::Stream;
+use stream_handle::StreamHandle;
+use text::{list_text, text_into};
+
+/// Checks whether bytes are one stream that the filter of a text admits. The text is read each time.
+#[unsafe(no_mangle)]
+pub extern "C" fn serialcheck_check(
+    alloc: Global,
+    bytes: &[u8],
+    filter: &[u8],
+    flags: u32,
+    answer: &mut Answer,
+) -> u32
+    ensures status { result ≡ answer.new.status }
+    ensures says { (result ≡ 0) ⊎ (result ≡ 1) → SaysUnder flags filter.now [] bytes.now answer.new }
+    ensures misuse { result ≡ 2 → SaysMisuse flags filter.now [] answer.new }
+    ensures known { (result ≡ 0) ⊎ ((result ≡ 1) ⊎ ((result ≡ 2) ⊎ (result ≡ 3))) }
+{
+    *answer = answer_under(alloc, bytes, filter, flags);
+    answer.status
+}
+
+/// The answer to a check under the filter of a text.
+fn answer_under(alloc: Global, bytes: &[u8], filter: &[u8], flags: u32) -> Answer
+    ensures says { (result.status ≡ 0) ⊎ (result.status ≡ 1) → SaysUnder flags filter.now [] bytes.now result }
+    ensures misuse { result.status ≡ 2 → SaysMisuse flags filter.now [] result }
+    ensures known { (result.status ≡ 0) ⊎ ((result.status ≡ 1) ⊎ ((result.status ≡ 2) ⊎ (result.status ≡ 3))) }
+{
+    match compile(alloc, filter, &[], flags) {
+        Ok(compiled) => compiled.check(alloc, bytes),
+        Err(answer) => answer,
+    }
+}
+
+/// Reads a filter's text and a table of modules once. Where the status is 0, the handle holds the filter, and what it held
+/// before is let go; else it is as it was.
+#[unsafe(no_mangle)]
+pub extern "C" fn serialcheck_filter_new(
+    alloc: Global,
+    text: &[u8],
+    modules: &[u8],
+    flags: u32,
+    answer: &mut Answer,
+    filter: &mut FilterHandle,
+) -> u32
+    ensures status { result ≡ answer.new.status }
+    ensures holds { result ≡ 0 → HoldsSuch (IsCompiled flags text.now modules.now) filter.new.owner.held }
+    ensures misuse { result ≡ 2 → SaysMisuse flags text.now modules.now answer.new }
+    ensures kept { result ≢ 0 → filter.new ≡ filter.old }
+    ensures known { (result ≡ 0) ⊎ ((result ≡ 2) ⊎ (result ≡ 3)) }
+{
+    *answer = match compile(alloc, text, modules, flags) {
+        Ok(compiled) => filter.fill(alloc, compiled),
+        Err(answer) => answer,
+    };
+    answer.status
+}
+
+/// Checks whether bytes are one stream that the filter of a handle admits.
+#[unsafe(no_mangle)]
+pub extern "C" fn serialcheck_filter_check(
+    alloc: Global,
+    filter: &mut FilterHandle,
+    bytes: &[u8],
+    answer: &mut Answer,
+) -> u32
+    ensures status { result ≡ answer.new.status }
+    ensures says { (compiled : Compiled) → filter.old.owner.held ≡ Some compiled → Says compiled bytes.now answer.new }
+    ensures empty { filter.old.owner.held ≡ None → result ≡ 5 }
+    ensures kept { filter.new.owner.held ≡ filter.old.owner.held }
+{
+    *answer = match filter.take(alloc) {
+        Some(compiled) => {
+            let answer = compiled.check(alloc, bytes);
+            filter.put(alloc, compiled);
+            answer
+        }
+        None => bare(SPENT),
+    };
+    answer.status
+}
+
+/// Lets the filter of a handle go, if it holds one.
+#[unsafe(no_mangle)]
+pub extern "C" fn serialcheck_filter_free(alloc: Global, filter: &mut FilterHandle)
+    ensures { filter.new.owner.held ≡ None }
+{
+    drop(filter.take(alloc));
+}
+
+/// Begins a stream under the filter of a handle. Where the status is 4, the stream's handle holds it, and what it held before
+/// is let go; else it is as it was.
+#[unsafe(no_mangle)]
+pub extern "C" fn serialcheck_stream_new(
+    alloc: Global,
+    filter: &mut FilterHandle,
+    answer: &mut Answer,
+    stream: &mut StreamHandle,
+) -> u32
+    ensures status { result ≡ answer.new.status }
+    ensures begins { (compiled : Compiled) → filter.old.owner.held ≡ Some compiled → result ≡ 4 → HoldsSuch (Begins compiled) stream.new.owner.held }
+    ensures empty { filter.old.owner.held ≡ None → result ≡ 5 }
+    ensures kept { result ≢ 4 → stream.new ≡ stream.old }
+    ensures filter_kept { filter.new.owner.held ≡ filter.old.owner.held }
+    ensures known { (result ≡ 4) ⊎ ((result ≡ 3) ⊎ (result ≡ 5)) }
+{
+    *answer = match filter.take(alloc) {
+        Some(shared) => {
+            let answer = begun(alloc, &shared, stream);
+            filter.put(alloc, shared);
+            answer
+        }
+        None => bare(SPENT),
+    };
+    answer.status
+}
+
+/// Begins a stream under the filter of a text.
+#[unsafe(no_mangle)]
+pub extern "C" fn serialcheck_stream_new_text(
+    alloc: Global,
+    text: &[u8],
+    modules: &[u8],
+    flags: u32,
+    answer: &mut Answer,
+    stream: &mut StreamHandle,
+) -> u32
+    ensures status { result ≡ answer.new.status }
+    ensures begins { result ≡ 4 → HoldsSuch (BeginsUnder flags text.now modules.now) stream.new.owner.held }
+    ensures misuse { result ≡ 2 → SaysMisuse flags text.now modules.now answer.new }
+    ensures kept { result ≢ 4 → stream.new ≡ stream.old }
+    ensures known { (result ≡ 4) ⊎ ((result ≡ 2) ⊎ (result ≡ 3)) }
+{
+    *answer = match compile(alloc, text, modules, flags) {
+        Ok(compiled) => begun(alloc, &compiled, stream),
+        Err(answer) => answer,
+    };
+    answer.status
+}
+
+/// Begins a stream under a filter.
+fn begun(alloc: Global, compiled: &Compiled, stream: &mut StreamHandle) -> Answer
+    ensures begins { result.status ≡ 4 → HoldsSuch (Begins compiled.now) stream.new.owner.held }
+    ensures kept { result.status ≢ 4 → stream.new ≡ stream.old }
+    ensures known { (result.status ≡ 4) ⊎ (result.status ≡ 3) }
+{
+    match Stream::new(alloc, compiled) {
+        Ok(new) => stream.fill(alloc, new),
+        Err(_) => bare(NO_MEMORY),
+    }
+}
+
+/// Takes the next bytes of a stream. After every answer but 4 it can only be ended, and answers the same.
+#[unsafe(no_mangle)]
+pub extern "C" fn serialcheck_stream_feed(
+    alloc: Global,
+    stream: &mut StreamHandle,
+    bytes: &[u8],
+    answer: &mut Answer,
+) -> u32
+    ensures status { result ≡ answer.new.status }
+    ensures says { (old : Stream) → stream.old.owner.held ≡ Some old → (taken : List ℕ) → Taken old taken
+        → HoldsSuch (λ new. FeedSays old new taken bytes.now answer.new) stream.new.owner.held }
+    ensures stops { stream.old.owner.held ≢ None → result ≢ 4 → stream.new.owner.held ≡ Some (state.Over answer.new) }
+    ensures over { (before : Answer) → stream.old.owner.held ≡ Some (state.Over before) → (answer.new ≡ before) × (stream.new.owner.held ≡ Some (state.Over before)) }
+    ensures empty { stream.old.owner.held ≡ None → (result ≡ 5) × (stream.new.owner.held ≡ None) }
+{
+    *answer = match stream.take(alloc) {
+        Some(mut open) => {
+            let answer = open.feed(bytes);
+            stream.put(alloc, open);
+            answer
+        }
+        None => bare(SPENT),
+    };
+    answer.status
+}
+
+/// Ends a stream, answers what the check of all its bytes says, and lets it go.
+#[unsafe(no_mangle)]
+pub extern "C" fn serialcheck_stream_end(
+    alloc: Global,
+    stream: &mut StreamHandle,
+    answer: &mut Answer,
+) -> u32
+    ensures status { result ≡ answer.new.status }
+    ensures says { (old : Stream) → stream.old.owner.held ≡ Some old → (taken : List ℕ) → Taken old taken → EndSays old taken answer.new }
+    ensures over { (before : Answer) → stream.old.owner.held ≡ Some (state.Over before) → answer.new ≡ before }
+    ensures empty { stream.old.owner.held ≡ None → result ≡ 5 }
+    ensures gone { stream.new.owner.held ≡ None }
+{
+    *answer = match stream.take(alloc) {
+        Some(mut open) => open.finish(),
+        None => bare(SPENT),
+    };
+    answer.status
+}
+
+/// Writes the text of `show` of a stream into a room, or as many of its first bytes as the room has; the answer has the length
+/// of the whole text.
+#[unsafe(no_mangle)]
+pub extern "C" fn serialcheck_show(
+    alloc: Global,
+    bytes: &[u8],
+    room: &mut [u8],
+    answer: &mut Answer,
+) -> u32
+    ensures status { result ≡ answer.new.status }
+    ensures shown { TellsText bytes.now room.old room.new answer.new }
+    ensures refused { result ≡ 1 → TellsRefusal (IsRefused bytes.now) answer.new }
+    ensures kept { (result ≡ 1) ⊎ (result ≡ 3) → room.new ≡ room.old }
+    ensures known { (result ≡ 0) ⊎ ((result ≡ 1) ⊎ ((result ≡ 3) ⊎ (result ≡ 6))) }
+{
+    *answer = text_into(alloc, bytes, room);
+    answer.status
+}
+
+/// Writes the text of `list` of a stream into a room, or as many of its first bytes as the room has; the answer has the length
+/// of the whole text. The filter of a text and of a table of modules is asked about each name, and refuses nothing.
+#[unsafe(no_mangle)]
+pub extern "C" fn serialcheck_list(
+    alloc: Global,
+    bytes: &[u8],
+    filter: &[u8],
+    modules: &[u8],
+    room: &mut [u8],
+    answer: &mut Answer,
+) -> u32
+    ensures status { result ≡ answer.new.status }
+    ensures listed { TellsList filter.now modules.now bytes.now room.old room.new answer.new }
+    ensures refused { result ≡ 1 → TellsRefusal (IsRefused bytes.now) answer.new }
+    ensures misuse { result ≡ 2 → TextsAreFaulty filter.now modules.now answer.new }
+    ensures kept { (result ≡ 1) ⊎ ((result ≡ 2) ⊎ (result ≡ 3)) → room.new ≡ room.old }
+    ensures known { (result ≡ 0) ⊎ ((result ≡ 1) ⊎ ((result ≡ 2) ⊎ ((result ≡ 3) ⊎ (result ≡ 6)))) }
+{
+    *answer = list_text(alloc, bytes, filter, modules, room);
+    answer.status
+}
+
+/// Lets a stream go, if the handle holds one.
+#[unsafe(no_mangle)]
+pub extern "C" fn serialcheck_stream_free(alloc: Global, stream: &mut StreamHandle)
+    ensures { stream.new.owner.held ≡ None }
+{
+    drop(stream.take(alloc));
+}

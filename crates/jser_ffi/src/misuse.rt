@@ -1,0 +1,37 @@
+//! The answers where a filter's text or a table of modules is faulty.
+ghost use Rattle.std.specs.Prelude.{◌≡◌, ◌≢◌, ◌⊎◌};
+ghost use Rattle.jser_filter.specs.declared.FilterCause.TheVariants as cause;
+ghost use Rattle.jser_filter.specs.declared.ModulesCause.TheVariants as line;
+ghost use Rattle.jser_ffi.specs.Compiling.{filter_cause_number, modules_cause_number};
+
+use crate::answer::{Answer, NO_MEMORY, bare, misuse};
+use jser_filter::{FilterCause, FilterFault, ModulesCause, ModulesFault};
+
+/// The answer of a faulty piece of a filter.
+pub(crate) fn filter_answer(fault: FilterFault) -> Answer
+    ensures told { result.status ≡ 2 → (fault.cause ≢ cause.OutOfMemory) × (result.reason ≡ filter_cause_number fault.cause) × (result.from_byte ≡ fault.pattern) }
+    ensures known { (result.status ≡ 2) ⊎ (result.status ≡ 3) }
+{
+    let place = fault.pattern as u64;
+    match fault.cause {
+        FilterCause::UnknownLimit => misuse(1, place),
+        FilterCause::BadLimit => misuse(2, place),
+        FilterCause::ModuleMissing => misuse(3, place),
+        FilterCause::NameMissing => misuse(4, place),
+        FilterCause::PackageMissing => misuse(5, place),
+        FilterCause::OutOfMemory => bare(NO_MEMORY),
+    }
+}
+
+/// The answer of a faulty line of a table of modules.
+pub(crate) fn modules_answer(fault: ModulesFault) -> Answer
+    ensures told { result.status ≡ 2 → (fault.cause ≢ line.OutOfMemory) × (result.reason ≡ modules_cause_number fault.cause) × (result.from_byte ≡ fault.line) }
+    ensures known { (result.status ≡ 2) ⊎ (result.status ≡ 3) }
+{
+    let place = fault.line as u64;
+    match fault.cause {
+        ModulesCause::BadLine => misuse(7, place),
+        ModulesCause::PackageTwice => misuse(8, place),
+        ModulesCause::OutOfMemory => bare(NO_MEMORY),
+    }
+}

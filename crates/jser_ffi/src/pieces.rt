@@ -1,0 +1,92 @@
+//! The check of a stream that comes in pieces, under a filter that is shared: what a piece and the end answer.
+ghost use Rattle.std.specs.Prelude.{◌≡◌, ℕ, List};
+ghost use Rattle.jser_check.specs.Checks.{HasTaken};
+ghost use Rattle.jser_check_anywhere.specs.Joins.{first_of};
+ghost use Rattle.jser_ffi.specs.Told.{HasFirst, HasSooner, HasStop, SaysAnywhere, SaysPlain};
+ghost use Rattle.jser_ffi.specs.Pieces.{TakenAnywhere, checking, FedPlain, FedAnywhere};
+
+use crate::answer::{Answer, MORE, NO_MEMORY, SPENT, accepted, bare, hidden, refused};
+use jser_anywhere::{Hidden, Scan};
+use jser_reader::{Reader, Refusal, Stop};
+use jser_shared::SharedFilter;
+
+/// What the next bytes decide.
+pub(crate) fn feed_plain(reader: &mut Reader<SharedFilter>, piece: &[u8]) -> Answer
+    ensures says { (taken : List ℕ) → HasTaken reader.old taken → FedPlain reader.old reader.new taken piece.now result }
+    ensures filter { reader.new.gate ≡ reader.old.gate }
+{
+    match reader.skip(piece) {
+        Ok(()) => bare(MORE),
+        Err(stop) => stopped(stop),
+    }
+}
+
+/// The answer at the end.
+pub(crate) fn end_plain(reader: &mut Reader<SharedFilter>) -> Answer
+    ensures { (taken : List ℕ) → HasTaken reader.old taken → SaysPlain reader.old.gate.filter reader.old.gate.options taken result }
+{
+    match reader.finish() {
+        Ok(report) => accepted(report),
+        Err(stop) => stopped(stop),
+    }
+}
+
+/// What the next bytes decide, with every class name that can be read at any place.
+pub(crate) fn feed_anywhere(
+    reader: &mut Reader<SharedFilter>,
+    scan: &mut Scan,
+    piece: &[u8],
+) -> Answer
+    ensures says { (taken : List ℕ) → TakenAnywhere reader.old scan.old taken
+        → FedAnywhere (checking reader.old scan.old) (checking reader.new scan.new) taken piece.now result }
+    ensures filter { reader.new.gate ≡ reader.old.gate }
+{
+    let checked = reader.skip(piece);
+    let hidden = scan.feed(reader.gate(), piece);
+    first(checked, hidden)
+}
+
+/// The answer at the end, with every class name that can be read at any place.
+pub(crate) fn end_anywhere(reader: &mut Reader<SharedFilter>, scan: &Scan) -> Answer
+    ensures { (taken : List ℕ) → TakenAnywhere reader.old scan.now taken → SaysAnywhere reader.old.gate.filter reader.old.gate.options taken result }
+{
+    let _ = scan;
+    match reader.finish() {
+        Ok(report) => accepted(report),
+        Err(stop) => stopped(stop),
+    }
+}
+
+/// The answer to why a reader stopped.
+fn stopped(stop: Stop) -> Answer
+    ensures { HasStop result stop }
+{
+    match stop {
+        Stop::Refused(refusal) => refused(refusal),
+        Stop::OutOfMemory => bare(NO_MEMORY),
+        Stop::Spent => bare(SPENT),
+    }
+}
+
+/// The answer to the first fault of two: of the check of some bytes, and of the scan of the same bytes.
+fn first(checked: Result<(), Stop>, name: Option<Hidden>) -> Answer
+    ensures { HasFirst result (first_of checked name) }
+{
+    match (checked, name) {
+        (Ok(()), None) => bare(MORE),
+        (Ok(()), Some(name)) => hidden(name.from, name.to),
+        (Err(Stop::Refused(refusal)), name) => sooner(refusal, name),
+        (Err(Stop::OutOfMemory), _) => bare(NO_MEMORY),
+        (Err(Stop::Spent), _) => bare(SPENT),
+    }
+}
+
+/// The answer to a refusal and a hidden name: that with the lesser end, and of equal ends the refusal.
+fn sooner(refusal: Refusal, name: Option<Hidden>) -> Answer
+    ensures { HasSooner result refusal name }
+{
+    match name {
+        Some(name) if name.to < refusal.to_byte => hidden(name.from, name.to),
+        _ => refused(refusal),
+    }
+}

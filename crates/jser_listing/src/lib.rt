@@ -1,0 +1,9 @@
+//! The text of `list` in a room of fixed size, for callers that bring the room.
+#![tactic(auto)]
+
+mod bytes;
+mod list;
+mod nowhere;
+mod text;
+
+pub use list::list_into;
