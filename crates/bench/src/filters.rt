@@ -1,7 +1,5 @@
-//! How long a filter takes to judge a name that no pattern matches: `rt run -- 100` judges each name so many thousand
-//! times by 1, 10, 100, 1,000 and 10,000 patterns of each form, and prints nanoseconds. With no argument it judges each a few times and
-//! prints nothing, so that the gate runs it.
-#![tactic(auto)]
+//! How long a filter takes to judge a name that no pattern matches: `rt run -- filters 100` judges each name so many
+//! thousand times by 1, 10, 100, 1,000 and 10,000 patterns of each form, and prints nanoseconds.
 
 ghost use Rattle.std.specs.Prelude.{◌≢◌};
 ghost use Rattle.jser_table.specs.Names.{element_of, malformed_element};
@@ -11,7 +9,6 @@ use jser_filter::{Filter, Modules, Verdict};
 use jser_prim::units_of;
 use jser_table::{Element, element_of};
 use std::alloc::{AllocError, Global};
-use std::env;
 use std::rt::Clock;
 use std::time::Instant;
 
@@ -79,21 +76,8 @@ const NAMES: [&str; 3] = [
 /// The packages of the names have this module.
 const MODULES: &str = "org.sample.shop=shop";
 
-fn main(rt: HostRuntime) -> Result<()> {
-    let asked = env::args(&rt)?.nth(1);
-    judge_names(&rt, asked.as_ref())
-}
-
-/// Judges each name as often as is asked for, and prints what it takes, or judges it a few times.
-fn judge_names(rt: &HostRuntime, asked: Option<&String>) -> Result<()> {
-    match asked {
-        Some(text) => print_costs(rt, u32::from(text.parse::<u16>()?) * 1000),
-        None => try_all(rt, rt.alloc()),
-    }
-}
-
 /// Judges each name once, by 1 and by 10 patterns of each form.
-fn try_all(rt: &impl Clock, alloc: Global) -> Result<()> {
+pub fn try_all(rt: &impl Clock, alloc: Global) -> Result<()> {
     for form in &FORMS {
         measure(rt, alloc, form, 1, 1)?;
         measure(rt, alloc, form, 10, 1)?;
@@ -102,7 +86,7 @@ fn try_all(rt: &impl Clock, alloc: Global) -> Result<()> {
 }
 
 /// Judges each name so many times by patterns of each form, and prints what it takes.
-fn print_costs(rt: &HostRuntime, calls: u32) -> Result<()> {
+pub fn print_costs(rt: &HostRuntime, calls: u32) -> Result<()> {
     for form in &FORMS {
         print_form(rt, form, calls)?;
     }

@@ -1,7 +1,5 @@
-//! What the calls of jser_table cost: `rt run -- 1000` makes so many thousand calls of each on chains of
-//! several lengths and prints tenths of nanoseconds a call. With no argument it makes a few and prints nothing, so
-//! that the gate runs it.
-#![tactic(auto)]
+//! What the calls of jser_table cost: `rt run -- tables 1000` makes so many thousand calls of each on chains of several
+//! lengths, and prints tenths of nanoseconds a call.
 
 ghost use Rattle.std.specs.Prelude.{◌≡◌, slice_get, IsTrue};
 ghost use Rattle.jser_table.specs.Entries.{is_pending, is_closed};
@@ -10,7 +8,6 @@ ghost use Rattle.jser_table.specs.Sections.{IsOn};
 use anyhow::{Result, bail, ensure};
 use jser_table::{Class, Codes, Entry, Kind, Layer, LayerKind, SectionNumber, Sections, Table};
 use std::alloc::{AllocError, Global};
-use std::env;
 use std::rt::Clock;
 use std::time::Instant;
 
@@ -48,16 +45,8 @@ const SHAPES: [Shape; 6] = [
     },
 ];
 
-fn main(rt: HostRuntime) -> Result<()> {
-    let asked = env::args(&rt)?.nth(1);
-    match &asked {
-        Some(text) => print_costs(&rt, u32::from(text.parse::<u16>()?) * 1000),
-        None => make_calls(&rt, rt.alloc(), 1000),
-    }
-}
-
 /// Makes so many calls of each, and prints nothing.
-fn make_calls(rt: &impl Clock, alloc: Global, calls: u32) -> Result<()> {
+pub fn make_calls(rt: &impl Clock, alloc: Global, calls: u32) -> Result<()> {
     time_texts(rt, alloc, calls)?;
     for shape in SHAPES {
         measure(rt, alloc, shape, calls)?;
@@ -66,7 +55,7 @@ fn make_calls(rt: &impl Clock, alloc: Global, calls: u32) -> Result<()> {
 }
 
 /// Makes so many calls of each, and prints what they cost.
-fn print_costs(rt: &HostRuntime, calls: u32) -> Result<()> {
+pub fn print_costs(rt: &HostRuntime, calls: u32) -> Result<()> {
     let texts = time_texts(rt, rt.alloc(), calls)?;
     println!(rt; "assign of a text: {texts}")?;
     for shape in SHAPES {

@@ -1,34 +1,16 @@
-//! How fast a stream is read, and becomes a tree, a graph and a text: `rt run -- FILE` reads the file in each way and
-//! prints megabytes per second, the best of three. `rt run -- FILE WAY` does it once in that way and prints nothing,
-//! as a profiler wants it, and the gate.
-#![tactic(auto)]
+//! How fast a stream is read, and becomes a tree, a graph and a text: `rt run -- streams FILE` reads the file in each way
+//! and prints megabytes per second, the best of three; `rt run -- streams FILE WAY` does it once in that way.
 
-mod page;
-mod ways;
-
+use crate::ways::{WAYS, Way, prepare, run};
 use anyhow::{Result, bail};
 use jser_graph::Graph;
 use std::alloc::Global;
-use std::fs::read;
+use std::fmt;
 use std::rt::Clock;
 use std::time::Instant;
-use std::{env, fmt};
-use ways::{WAYS, Way, prepare, run};
-
-fn main(rt: HostRuntime) -> Result<()> {
-    let Some(file) = env::args(&rt)?.nth(1) else {
-        bail!("which file?");
-    };
-    let stream = read(&rt, file.as_str())?;
-    let asked = env::args(&rt)?.nth(2);
-    match &asked {
-        Some(way) => read_once(rt.alloc(), &stream, way.as_str()),
-        None => print_speeds(&rt, &stream),
-    }
-}
 
 /// Prints how fast the stream is read in each way.
-fn print_speeds(rt: &HostRuntime, stream: &[u8]) -> Result<()> {
+pub fn print_speeds(rt: &HostRuntime, stream: &[u8]) -> Result<()> {
     for (name, way) in WAYS {
         let speed = best(rt, rt.alloc(), stream, way)?;
         println!(rt; "{name}: {speed}")?;
@@ -37,7 +19,7 @@ fn print_speeds(rt: &HostRuntime, stream: &[u8]) -> Result<()> {
 }
 
 /// Reads the stream once in the way of this name.
-fn read_once(alloc: Global, stream: &[u8], asked: &str) -> Result<()> {
+pub fn read_once(alloc: Global, stream: &[u8], asked: &str) -> Result<()> {
     for (name, way) in WAYS {
         if name == asked {
             let graph = prepare(alloc, stream, way)?;

@@ -1,12 +1,9 @@
-//! How fast texts are scanned, byte by byte and in slices: `rt run -- 200` scans 200 MB of each kind of
-//! unit in both ways, and prints megabytes per second. Without an argument it scans a little and prints
-//! nothing, as the gate runs it.
-#![tactic(auto)]
+//! How fast texts are scanned, byte by byte and in slices: `rt run -- texts 200` scans 200 MB of each kind of unit in
+//! both ways, and prints megabytes per second.
 
 use anyhow::{Error, Result};
 use jser_prim::TextScan;
 use std::alloc::{AllocError, Global};
-use std::env;
 use std::rt::Clock;
 use std::time::Instant;
 
@@ -30,21 +27,8 @@ enum Way {
     Together,
 }
 
-fn main(rt: HostRuntime) -> Result<()> {
-    let asked = env::args(&rt)?.nth(1);
-    scan(&rt, asked.as_ref())
-}
-
-/// Scans what is asked for, and prints how fast, or scans a little.
-fn scan(rt: &HostRuntime, asked: Option<&String>) -> Result<()> {
-    match asked {
-        Some(text) => scan_kinds(rt, text.parse::<u32>()?, true),
-        None => scan_kinds(rt, 1, false),
-    }
-}
-
 /// Scans so many megabytes of each kind of text, and prints how fast, if that is wanted.
-fn scan_kinds(rt: &HostRuntime, megabytes: u32, prints: bool) -> Result<()> {
+pub fn scan_kinds(rt: &HostRuntime, megabytes: u32, prints: bool) -> Result<()> {
     for (name, pattern) in &KINDS {
         let (alone, together) = speeds_of(rt, rt.alloc(), pattern, megabytes)?;
         if prints {

@@ -1,4 +1,4 @@
-use Rattle.bench_table.proofs.raw_bytes.Goals as goal
+use Rattle.bench.proofs.tables.raw_bytes.Goals as goal
 
 pub section-requires : goal.section-requires
 section-requires c = (c.sections.invariant _ c.in-Some.is).section_in
