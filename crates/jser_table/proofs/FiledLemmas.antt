@@ -7,17 +7,15 @@ use Rattle.std.proofs.lemmas.List.Elements.{filter-append}
 use Rattle.jser_table.specs.declared.layer.Layer.{Layer}
 use Rattle.jser_table.specs.declared.descriptor.Descriptor.{Descriptor}
 use Rattle.jser_table.specs.declared.descriptor.Filed.{Filed}
-use Rattle.jser_table.specs.declared.descriptor.RawRun.{RawRun}
 use Rattle.jser_table.specs.declared.section.Sections.{Sections}
 use Rattle.jser_table.specs.declared.descriptor.Counted.TheVariants as counted
 use Rattle.jser_table.specs.Codes.{AreLeading, primitive_codes, raw_size}
 use Rattle.jser_table.specs.Chains.{own_layer, is_filled, chain_in, IsFront}
-use Rattle.jser_table.specs.Sections.{filled_layers, sections_of, HasSection, down_to, or_no_layer, layer_of, under, IsOn, HoldsFor, IsNext, AreSections, AreRaws}
-use Rattle.jser_table.specs.Descriptors.{chain_above, chain_of_parent, chains_of, IsTold, IsUnder, IsLast, IsRun, RunsOn, IsRawRun, RawsOn, IsFiled, AreFiled, FilesIf, Files, AreShelved, IsHighest}
+use Rattle.jser_table.specs.Sections.{filled_layers, sections_of, HasSection, down_to, or_no_layer, layer_of, under, IsOn, HoldsFor, IsNext, AreSections}
+use Rattle.jser_table.specs.Descriptors.{chain_above, chain_of_parent, chains_of, IsTold, IsUnder, IsLast, IsRun, RunsOn, IsFiled, AreFiled, FilesIf, Files, AreShelved, IsHighest}
 use Rattle.jser_table.proofs.LayerLemmas.{IsFront-from, count_by_push, own_layer_push}
 use Rattle.jser_table.proofs.SectionLemmas.{sections_none, sections_push, sections_same, filled_push, length_filled, down_to_grows, layer_of_grows, new_down_to, new_layer_of}
 use Rattle.jser_table.proofs.RunLemmas.{run_grows, Follows, run_back}
-use Rattle.jser_table.proofs.RawRunLemmas.{raw_run_grows, raws_apart}
 use Rattle.jser_table.proofs.ChainLemmas.{chains_of_none, length_chains_of, told_push, chains_push}
 use Rattle.jser_table.proofs.WalkLemmas.{EndsIn, front_of-EndsIn, something_added}
 
@@ -37,12 +35,11 @@ filed_grows chains chain number filed has told =
       holds = rw layer_same told.holds;
       leading = rw layer_same told.leading;
       run = run_grows chains (chain ∷ []) filed.run number has told.run;
-      raws = raw_run_grows chains (chain ∷ []) number filed.raws has told.raws;
     }
 
 -- the section of the class that was closed last
-filed_new : (chains : List (List Layer)) (above : List Layer) (layer : Layer) (filed : Filed) → is_filled layer ≡ true → filed.class ≡ length chains → HoldsFor layer filed.section → AreLeading layer.codes filed.leading → IsRun (chains ++ (above ++ layer ∷ []) ∷ []) filed.run (length (sections_of chains)) → IsRawRun (chains ++ (above ++ layer ∷ []) ∷ []) (length (sections_of chains)) filed.raws → IsFiled (chains ++ (above ++ layer ∷ []) ∷ []) (length (sections_of chains)) filed
-filed_new chains above layer filed is here holds leading run raws =
+filed_new : (chains : List (List Layer)) (above : List Layer) (layer : Layer) (filed : Filed) → is_filled layer ≡ true → filed.class ≡ length chains → HoldsFor layer filed.section → AreLeading layer.codes filed.leading → IsRun (chains ++ (above ++ layer ∷ []) ∷ []) filed.run (length (sections_of chains)) → IsFiled (chains ++ (above ++ layer ∷ []) ∷ []) (length (sections_of chains)) filed
+filed_new chains above layer filed is here holds leading run =
     let chain : List Layer = above ++ layer ∷ [] in
     let own_chain : chain_in (chains ++ chain ∷ []) filed.class ≡ chain = get_or_push chains chain [] filed.class (sym here) in
     let own : layer_of (chains ++ chain ∷ []) (length (sections_of chains)) ≡ layer = new_layer_of chains above layer is in
@@ -54,12 +51,11 @@ filed_new chains above layer filed is here holds leading run raws =
       holds = rw own holds;
       leading = rw own leading;
       run = run;
-      raws = raws;
     }
 
 -- a class with a section: it comes at the end
-pub filed_push : (chains : List (List Layer)) (above : List Layer) (layer : Layer) (sections : List Filed) (filed : Filed) → AreFiled chains sections → is_filled layer ≡ true → filed.class ≡ length chains → HoldsFor layer filed.section → AreLeading layer.codes filed.leading → IsRun (chains ++ (above ++ layer ∷ []) ∷ []) filed.run (length (sections_of chains)) → IsRawRun (chains ++ (above ++ layer ∷ []) ∷ []) (length (sections_of chains)) filed.raws → AreFiled (chains ++ (above ++ layer ∷ []) ∷ []) (sections ++ filed ∷ [])
-filed_push chains above layer sections filed are is here holds leading run raws =
+pub filed_push : (chains : List (List Layer)) (above : List Layer) (layer : Layer) (sections : List Filed) (filed : Filed) → AreFiled chains sections → is_filled layer ≡ true → filed.class ≡ length chains → HoldsFor layer filed.section → AreLeading layer.codes filed.leading → IsRun (chains ++ (above ++ layer ∷ []) ∷ []) filed.run (length (sections_of chains)) → AreFiled (chains ++ (above ++ layer ∷ []) ∷ []) (sections ++ filed ∷ [])
+filed_push chains above layer sections filed are is here holds leading run =
     let longer : length (sections_of (chains ++ (above ++ layer ∷ []) ∷ [])) ≡ length (sections_of chains) + 1 =
     ap (λ (s : List (List Layer)). length s) (sections_push chains above layer is) ∙ length_push (sections_of chains) (filled_layers (above ++ layer ∷ []))
     in
@@ -72,7 +68,7 @@ filed_push chains above layer sections filed are is here holds leading run raws 
         | inr after ↦
             let last : length sections ≡ number = omega (arith, length_push sections filed) in
             let same : x ≡ filed = read ∙ get_or_push sections filed x number last in
-            rw (same, sym last, sym are.count) (filed_new chains above layer filed is here holds leading run raws)
+            rw (same, sym last, sym are.count) (filed_new chains above layer filed is here holds leading run)
       ];
     }
 
@@ -96,17 +92,17 @@ shelved_none ds sections e f = rw (e, f) record {
 
 -- one more class
 
-filed_if : (b : Bool) (chains : List (List Layer)) (above : List Layer) (layer : Layer) (last : Option ℕ) (run bytes : ℕ) (raws : RawRun) (old new : List Filed) → is_filled layer ≡ b → AreFiled chains old → IsLast chains above last → RunsOn chains last run → RawsOn chains last bytes raws → bytes ≡ raw_size (primitive_codes layer.codes) → FilesIf b layer (length chains) run raws old new → AreFiled (chains ++ (above ++ layer ∷ []) ∷ []) new
-filed_if true chains above layer last run bytes raws old new is are at_last runs go_on size files =
-    rw files.added (filed_push chains above layer old files.filed are is files.class_is files.holds files.leading (rw files.run_is (runs above layer at_last is)) (rw files.raws_is (go_on above layer at_last is size)))
-filed_if false chains above layer last run bytes raws old new is are at_last runs go_on size files = rw files (filed_same chains above layer old are is)
+filed_if : (b : Bool) (chains : List (List Layer)) (above : List Layer) (layer : Layer) (last : Option ℕ) (run : ℕ) (old new : List Filed) → is_filled layer ≡ b → AreFiled chains old → IsLast chains above last → RunsOn chains last run → FilesIf b layer (length chains) run old new → AreFiled (chains ++ (above ++ layer ∷ []) ∷ []) new
+filed_if true chains above layer last run old new is are at_last runs files =
+    rw files.added (filed_push chains above layer old files.filed are is files.class_is files.holds files.leading (rw files.run_is (runs above layer at_last is)))
+filed_if false chains above layer last run old new is are at_last runs files = rw files (filed_same chains above layer old are is)
 
-pub shelved_push : (old new : List Descriptor) (d : Descriptor) (parent : Option ℕ) (layer : Layer) (last : Option ℕ) (run bytes : ℕ) (raws : RawRun) (sections filed : List Filed) → AreShelved old sections → length old < 2 ^ 32 - 3 → new ≡ old ++ d ∷ [] → IsUnder (chains_of old) parent layer d → IsLast (chains_of old) (chain_of_parent (chains_of old) parent) last → RunsOn (chains_of old) last run → RawsOn (chains_of old) last bytes raws → bytes ≡ raw_size (primitive_codes layer.codes) → Files layer (length old) run raws sections filed → AreShelved new filed
-shelved_push old new d parent layer last run bytes raws sections filed are few is under at_last runs go_on size files = record {
+pub shelved_push : (old new : List Descriptor) (d : Descriptor) (parent : Option ℕ) (layer : Layer) (last : Option ℕ) (run : ℕ) (sections filed : List Filed) → AreShelved old sections → length old < 2 ^ 32 - 3 → new ≡ old ++ d ∷ [] → IsUnder (chains_of old) parent layer d → IsLast (chains_of old) (chain_of_parent (chains_of old) parent) last → RunsOn (chains_of old) last run → Files layer (length old) run sections filed → AreShelved new filed
+shelved_push old new d parent layer last run sections filed are few is under at_last runs files = record {
   told = told_push old new d parent layer are.told is under;
   filed =
       rw (chains_push old new d parent layer is under)
-      (filed_if (is_filled layer) (chains_of old) (chain_of_parent (chains_of old) parent) layer last run bytes raws sections filed refl are.filed at_last runs go_on size (rw (length_chains_of old) files));
+      (filed_if (is_filled layer) (chains_of old) (chain_of_parent (chains_of old) parent) layer last run sections filed refl are.filed at_last runs (rw (length_chains_of old) files));
   fewer = omega (arith, few, ap length is, length_push old d);
 }
 
@@ -120,7 +116,7 @@ pub section_in_list : (ds : List Descriptor) (sections : List Filed) (number : �
 section_in_list ds sections number are has = omega (arith, has, are.filed.count)
 
 no_filed : Filed
-no_filed = record { section = record { raw_bytes = 0; prims = 0; values = 0; is_annotated = false }; class = 0; run = 0; raws = record { from = 0; bytes = 0 }; leading = 0 }
+no_filed = record { section = record { raw_bytes = 0; prims = 0; values = 0; is_annotated = false }; class = 0; run = 0; leading = 0 }
 
 not_empty : (layers : List Layer) → IsTrue (is_filled (or_no_layer (own_layer layers))) → 0 < length layers
 not_empty [] filled = absurd (false≢true filled)
@@ -283,17 +279,4 @@ on_in_run ds sections run last n are has is_run low high =
       section_in = here;
       front = (run_back (chains_of ds) run last (last - n) n is_run (omega (arith, high)) low).front;
       filled = (filed_at_place ds sections n no_filed are here).filled;
-    }
-
-pub raws_found : (ds : List Descriptor) (sections : List Filed) (last first bytes : ℕ) (end start : RawRun) → AreShelved ds sections → IsOn (chains_of ds) last first → IsRawRun (chains_of ds) last end → IsRawRun (chains_of ds) first start → start.from ≡ end.from → first ≤ last → start.bytes + bytes ≡ end.bytes → AreRaws (chains_of ds) last first bytes
-raws_found ds sections last first bytes end start are on at_last at_first same before sum =
-    let low : end.from ≤ first = omega (arith, same, at_first.run.before) in
-    record {
-      before = before;
-      size = omega (arith, sum, raws_apart (chains_of ds) last first end start at_last at_first same before);
-      each = λ n from high. at_last.each n (omega (arith, low, from)) high;
-      next = λ n from high.
-          next_in_run ds sections end.from last n (n + 1) are
-          (on_in_run ds sections end.from last n are on.last_in at_last.run (omega (arith, low, from)) (omega (arith, high)))
-          at_last.run (omega (arith, low, from)) high refl;
     }

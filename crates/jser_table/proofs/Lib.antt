@@ -4,7 +4,6 @@ pub mod LayerLemmas
 pub mod SectionLemmas
 pub mod ChainLemmas
 pub mod RunLemmas
-mod RawRunLemmas
 pub mod FlagLemmas
 pub mod WalkLemmas
 pub mod FiledLemmas

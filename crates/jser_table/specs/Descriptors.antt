@@ -7,10 +7,9 @@ use Rattle.jser_table.specs.declared.descriptor.Links.{Links}
 use Rattle.jser_table.specs.declared.descriptor.Descriptor.{Descriptor}
 use Rattle.jser_table.specs.declared.descriptor.Counted.{Counted}
 use Rattle.jser_table.specs.declared.descriptor.Counted.TheVariants as counted
-use Rattle.jser_table.specs.declared.descriptor.RawRun.{RawRun}
 use Rattle.jser_table.specs.Codes.{AreLeading, primitive_codes, raw_size}
 use Rattle.jser_table.specs.Chains.{own_layer, chain_in, all_serial, is_filled, IsFront}
-use Rattle.jser_table.specs.Sections.{HasSection, sections_of, down_to, layer_of, filled_layers, HoldsFor, HoldsRaws, raws_after}
+use Rattle.jser_table.specs.Sections.{HasSection, sections_of, down_to, layer_of, filled_layers, HoldsFor}
 use Rattle.jser_table.specs.declared.descriptor.Filed.{Filed}
 
 -- the chain of this parent, if there is one
@@ -94,19 +93,6 @@ RunsOn chains above run =
     (front : List Layer) (layer : Layer) → IsLast chains front above → is_filled layer ≡ true
     → IsRun (chains ++ (front ++ layer ∷ []) ∷ []) run (length (sections_of chains))
 
--- Up to this section each from `from` on is that of the next filled layer under the one before, which has raw values
--- alone; the raw values of those after the first have so many bytes.
-pub record IsRawRun (chains : List (List Layer)) (number : ℕ) (raws : RawRun) : Type 0 where
-  pub run : IsRun chains raws.from number
-  pub each : (n : ℕ) → raws.from ≤ n → n < number → HoldsRaws (layer_of chains n)
-  pub size : raws.bytes ≡ raws_after chains raws.from (number - raws.from)
-
--- the same of the next section, that of a filled layer with so many raw bytes under a chain whose lowest section is `above`
-abbrev pub RawsOn : List (List Layer) → (above : Option ℕ) → (bytes : ℕ) → RawRun → Type 0
-RawsOn chains above bytes raws =
-    (front : List Layer) (layer : Layer) → IsLast chains front above → is_filled layer ≡ true → bytes ≡ raw_size (primitive_codes layer.codes)
-    → IsRawRun (chains ++ (front ++ layer ∷ []) ∷ []) (length (sections_of chains)) raws
-
 -- what is kept of a section
 pub record IsFiled (chains : List (List Layer)) (number : ℕ) (filed : Filed) : Type 0 where
   pub class_in : filed.class < length chains
@@ -116,7 +102,6 @@ pub record IsFiled (chains : List (List Layer)) (number : ℕ) (filed : Filed) :
   pub holds : HoldsFor (layer_of chains number) filed.section
   pub leading : AreLeading (layer_of chains number).codes filed.leading
   pub run : IsRun chains filed.run number
-  pub raws : IsRawRun chains number filed.raws
 
 -- all sections are kept
 pub record AreFiled (chains : List (List Layer)) (sections : List Filed) : Type 0 where
@@ -124,21 +109,20 @@ pub record AreFiled (chains : List (List Layer)) (sections : List Filed) : Type 
   pub each : (number : ℕ) (filed : Filed) → number < length sections → filed ≡ slice_index_or sections number filed → IsFiled chains number filed
 
 -- one more class with this layer: its section comes at the end of the list, if it has one
-pub record FilesOne (layer : Layer) (class run : ℕ) (raws : RawRun) (old new : List Filed) : Type 0 where
+pub record FilesOne (layer : Layer) (class run : ℕ) (old new : List Filed) : Type 0 where
   pub filed : Filed
   pub class_is : filed.class ≡ class
   pub run_is : filed.run ≡ run
-  pub raws_is : filed.raws ≡ raws
   pub holds : HoldsFor layer filed.section
   pub leading : AreLeading layer.codes filed.leading
   pub added : new ≡ old ++ filed ∷ []
 
-abbrev pub FilesIf : Bool → Layer → (class run : ℕ) (raws : RawRun) (old new : List Filed) → Type 0
-FilesIf true layer class run raws old new = FilesOne layer class run raws old new
-FilesIf false layer class run raws old new = new ≡ old
+abbrev pub FilesIf : Bool → Layer → (class run : ℕ) (old new : List Filed) → Type 0
+FilesIf true layer class run old new = FilesOne layer class run old new
+FilesIf false layer class run old new = new ≡ old
 
-abbrev pub Files : Layer → (class run : ℕ) (raws : RawRun) (old new : List Filed) → Type 0
-Files layer class run raws old new = FilesIf (is_filled layer) layer class run raws old new
+abbrev pub Files : Layer → (class run : ℕ) (old new : List Filed) → Type 0
+Files layer class run old new = FilesIf (is_filled layer) layer class run old new
 
 -- the closed descriptors, and their sections
 pub record AreShelved (descriptors : List Descriptor) (sections : List Filed) : Type 0 where

@@ -72,24 +72,6 @@ IsNext chains last section None = under chains last section ≡ []
 IsNext chains last section (Some next) =
     IsOn chains last next × (under chains last section ≡ layer_of chains next ∷ under chains last next)
 
--- an object's data hold raw values alone for this layer
-pub record HoldsRaws (layer : Layer) : Type 0 where
-  pub values : object_count layer.codes ≡ 0
-  pub plain : has_write_method layer.flags ≡ false
-
--- how many bytes the raw values have of so many sections that come after this one by their numbers
-unfoldable pub raws_after : List (List Layer) → (section count : ℕ) → ℕ
-raws_after chains section zero = 0
-raws_after chains section (suc count) = raws_after chains section count + raw_size (primitive_codes (layer_of chains (section + suc count)).codes)
-
--- From the first of these sections on up to the last one, in data that end with the last, the next one has the next number,
--- and each but the last has raw values alone. The raw values of those after the first have so many bytes.
-pub record AreRaws (chains : List (List Layer)) (last first bytes : ℕ) : Type 0 where
-  pub before : first ≤ last
-  pub size : bytes ≡ raws_after chains first (last - first)
-  pub each : (n : ℕ) → first ≤ n → n < last → HoldsRaws (layer_of chains n)
-  pub next : (n : ℕ) → first ≤ n → n < last → IsNext chains last n (Some (n + 1))
-
 -- the sections of an object's data of this chain, if there are any
 abbrev pub AreSections : List (List Layer) → (chain : List Layer) → Option Sections → Type 0
 AreSections chains chain None = filled_layers chain ≡ []

@@ -6,13 +6,13 @@ ghost use Rattle.std.specs.Prelude.{take, count_by, ◌≡◌, ◌+◌, ◌<◌,
 ghost use Rattle.std.specs.Option.{ForSome};
 ghost use Rattle.jser_table.specs.Chains.{all_serial, next_filled, is_filled, is_external, elements_of, chain_in, IsFront};
 ghost use Rattle.jser_table.specs.Codes.{size_of, primitive_codes, AreLeading};
-ghost use Rattle.jser_table.specs.Sections.{HasSection, sections_of, layer_of, HoldsFor, IsOn, IsNext, AreSections, AreRaws};
+ghost use Rattle.jser_table.specs.Sections.{HasSection, sections_of, layer_of, HoldsFor, IsOn, IsNext, AreSections};
 ghost use Rattle.jser_table.specs.Fits.{fit_of};
 ghost use Rattle.jser_table.specs.Jumps.{JumpsFar, TakesJump};
-ghost use Rattle.jser_table.specs.Descriptors.{AreTold, IsHighest, GoesUp, LinksTo, IsUnder, IsTold, IsLast, IsLastUnder, RunsOn, RawsOn, Files, AreShelved, IsFiled, chains_of, chain_of_parent, count_of, front_of};
+ghost use Rattle.jser_table.specs.Descriptors.{AreTold, IsHighest, GoesUp, LinksTo, IsUnder, IsTold, IsLast, IsLastUnder, RunsOn, Files, AreShelved, IsFiled, chains_of, chain_of_parent, count_of, front_of};
 
 use crate::codes::{leading_of, leading_size, prim_size_in};
-use crate::descriptor::{Counted, Descriptor, Filed, Links, RawRun};
+use crate::descriptor::{Counted, Descriptor, Filed, Links};
 use crate::entry::MOST_CHAINS;
 use crate::kept::KeptLayer;
 use crate::layer::{Fit, Purpose};
@@ -83,12 +83,10 @@ impl Chains {
         let number = self.descriptors.len() as u32;
         let section = self.sections.len() as u32;
         let above = last_of(&self.descriptors, parent);
-        let held = layer.section();
         let filed = Filed {
-            section: held,
+            section: layer.section(),
             class: number,
             run: run_under(&self.descriptors, &self.sections, above),
-            raws: raws_under(&self.descriptors, &self.sections, above, held.raw_bytes),
             leading: leading_of(layer.codes()),
         };
         file(&mut self.sections, &layer, filed);
@@ -205,15 +203,6 @@ impl Chains {
         section_after(&self.descriptors, &self.sections, last, section)
     }
 
-    /// How many bytes the raw values have of the sections after this one up to `last`, where that is known at once.
-    #[tactic(auto, using(crate::proofs::ChainLemmas::length_chains_of))]
-    pub(crate) fn raws_between(&self, last: u32, section: u32) -> Option<u32>
-        requires { IsOn self.now.listed last section }
-        ensures { IfSome result (λ bytes. AreRaws self.now.listed last section bytes) }
-    {
-        raws_between(&self.descriptors, &self.sections, last, section)
-    }
-
     /// Forgets all chains, and keeps the room.
     #[tactic(auto, using(crate::proofs::ChainLemmas::chains_of_none, crate::proofs::FiledLemmas::shelved_none))]
     pub(crate) fn clear(&mut self)
@@ -252,47 +241,12 @@ fn run_under(descriptors: &[Descriptor], sections: &[Filed], above: Option<u32>)
     }
 }
 
-/// The sections with raw values alone up to the next section, which has so many raw bytes, if that stands under the
-/// section `above`: they go on where that one is the newest and has raw values alone, and their bytes can be counted.
-fn raws_under(
-    descriptors: &[Descriptor],
-    sections: &[Filed],
-    above: Option<u32>,
-    raw_bytes: u32,
-) -> RawRun
-    requires shelved { AreShelved descriptors.now sections.now }
-    requires above_in { ForSome above (HasSection (chains_of descriptors.now)) }
-    ensures { RawsOn (chains_of descriptors.now) above raw_bytes result }
-{
-    let own = RawRun {
-        from: sections.len() as u32,
-        bytes: 0,
-    };
-    let Some(above) = above else {
-        return own;
-    };
-    if above as usize + 1 != sections.len() {
-        return own;
-    }
-    let filed = filed_at(descriptors, sections, above);
-    if filed.section.values != 0 || filed.section.is_annotated {
-        return own;
-    }
-    match filed.raws.bytes.checked_add(raw_bytes) {
-        Some(bytes) => RawRun {
-            from: filed.raws.from,
-            bytes,
-        },
-        None => own,
-    }
-}
-
 /// Adds the section of the layer to the list, if it has one. Takes no memory.
 fn file(sections: &mut Vec<Filed>, layer: &KeptLayer, filed: Filed)
     requires room { vec_len sections.old < vec_capacity sections.old }
     requires holds { HoldsFor layer.now filed.section }
     requires leading { AreLeading layer.now.codes filed.leading }
-    ensures filed { Files layer.now filed.class filed.run filed.raws sections.old.items sections.new.items }
+    ensures filed { Files layer.now filed.class filed.run sections.old.items sections.new.items }
     ensures room { vec_capacity sections.old - vec_len sections.old ≤ vec_capacity sections.new - vec_len sections.new + 1 }
 {
     if !layer.is_filled() {
@@ -450,30 +404,6 @@ fn section_after(
         return Some(section + 1);
     }
     section_after_by_walk(descriptors, sections, last, section)
-}
-
-/// How many bytes the raw values have of the sections after this one up to `last`, where these and this one have raw
-/// values alone, but for `last`, and stand under each other.
-#[tactic(auto, using(crate::proofs::ChainLemmas::length_chains_of))]
-fn raws_between(
-    descriptors: &[Descriptor],
-    sections: &[Filed],
-    last: u32,
-    section: u32,
-) -> Option<u32>
-    requires shelved { AreShelved descriptors.now sections.now }
-    requires on { IsOn (chains_of descriptors.now) last section }
-    ensures { IfSome result (λ bytes. AreRaws (chains_of descriptors.now) last section bytes) }
-{
-    if section > last {
-        return None;
-    }
-    let end = filed_at(descriptors, sections, last).raws;
-    let start = filed_at(descriptors, sections, section).raws;
-    if start.from != end.from {
-        return None;
-    }
-    Some(end.bytes - start.bytes)
 }
 
 /// The same by a walk up the chain, where the two sections are in no run.

@@ -30,15 +30,6 @@ pub(crate) struct Descriptor {
     pub(crate) is_serial: bool,
 }
 
-/// The sections up to one that stand under each other and, but for that one, have raw values alone.
-#[derive(Clone, Copy)]
-pub(crate) struct RawRun {
-    /// The first of them.
-    pub(crate) from: u32,
-    /// How many bytes the raw values of those after the first have together.
-    pub(crate) bytes: u32,
-}
-
 /// A section in the list of sections.
 #[derive(Drop)]
 pub(crate) struct Filed {
@@ -48,8 +39,6 @@ pub(crate) struct Filed {
     pub(crate) class: u32,
     /// The first section of its run: from there on each section is the next under the one before.
     pub(crate) run: u32,
-    /// The sections up to this one that have raw values alone.
-    pub(crate) raws: RawRun,
     /// How many of its codes come before the first that is not a primitive type's.
     pub(crate) leading: u16,
 }

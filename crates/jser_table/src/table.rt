@@ -6,7 +6,7 @@ ghost use Rattle.std.specs.Prelude.{◌≡◌, ◌≢◌, ◌<◌, ◌≤◌, �
 ghost use Rattle.std.specs.Option.{ForSome, option_copied};
 ghost use Rattle.jser_table.specs.Chains.{all_serial, next_filled, is_external, elements_of, chain_in};
 ghost use Rattle.jser_table.specs.Codes.{size_of, primitive_codes};
-ghost use Rattle.jser_table.specs.Sections.{HasSection, layer_of, HoldsFor, IsOn, IsNext, AreSections, AreRaws};
+ghost use Rattle.jser_table.specs.Sections.{HasSection, layer_of, HoldsFor, IsOn, IsNext, AreSections};
 ghost use Rattle.jser_table.specs.Entries.{is_text, is_pending, is_closed, chain_at};
 ghost use Rattle.jser_table.specs.Fits.{fit_of};
 ghost use Rattle.jser_table.specs.Tables.{new_entry, closed_under, is_text_entry, is_pending_entry, is_closed_entry, is_text_kept, is_pending_kept, is_closed_kept, is_closed_slot, closed_kept, parent_chain, IsClass, IsNumberOf, text_of};
@@ -301,16 +301,6 @@ impl Table {
     {
         let number = self.chains.next_section(last.number, section.number)?;
         Some(SectionNumber { number })
-    }
-
-    /// How many bytes the raw values have of the sections after this one in an object's data, of which `last` is the last
-    /// section: where these follow each other by number, and each, this one too, has raw values alone, but for the last. It
-    /// is told at once, in one step; where it cannot be, None says nothing.
-    pub fn raws_between(&self, last: SectionNumber, section: SectionNumber) -> Option<u32>
-        requires { IsOn self.now.chains last section }
-        ensures { IfSome result (λ bytes. AreRaws self.now.chains last section bytes) }
-    {
-        self.chains.raws_between(last.number, section.number)
     }
 
     /// Forgets all entries, and keeps the memory for the next ones.

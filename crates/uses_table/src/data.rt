@@ -1,9 +1,9 @@
 //! The data of an object, section after section.
-ghost use Rattle.std.specs.Prelude.{◌≡◌, ◌<◌, ◌≤◌, ℕ, true, length, slice_get, option_map};
+ghost use Rattle.std.specs.Prelude.{◌≡◌, ◌<◌, length, slice_get, option_map};
 ghost use Rattle.std.specs.List.{list_any};
 ghost use Rattle.jser_table.specs.Chains.{chain_in, has_write_method};
 ghost use Rattle.jser_table.specs.Codes.{size_of, primitive_codes};
-ghost use Rattle.jser_table.specs.Sections.{HasSection, layer_of, filled_layers, IsOn, AreRaws};
+ghost use Rattle.jser_table.specs.Sections.{HasSection, layer_of, filled_layers, IsOn};
 
 use jser_table::{ChainNumber, SectionNumber, Sections, Table};
 
@@ -34,16 +34,4 @@ pub fn first_size(table: &Table, section: SectionNumber) -> Option<u8>
         return None;
     }
     Some(table.prim_size(section, 0))
-}
-
-/// Whether, of an object's data that end with the section `last`, all sections from this one on have raw values alone, but
-/// for the last, and those of the sections after this one fit into so much room, as far as the table knows at once.
-pub fn fits_at_once(table: &Table, last: SectionNumber, section: SectionNumber, room: u32) -> bool
-    requires { IsOn table.now.chains last section }
-    ensures { result ≡ true → (bytes : ℕ) × AreRaws table.now.chains last section bytes × (bytes ≤ room) }
-{
-    match table.raws_between(last, section) {
-        Some(bytes) => bytes <= room,
-        None => false,
-    }
 }

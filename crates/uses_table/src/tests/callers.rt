@@ -4,7 +4,7 @@ ghost use Rattle.jser_table.specs.Entries.{is_closed};
 
 use super::table::{add_with_fields, flags_and_fields, is_closed};
 use crate::classes::{Layout, can_be_read, holds_nothing, is_serial, layout_of, own_layer};
-use crate::data::{first_size, fits_at_once, has_annotation};
+use crate::data::{first_size, has_annotation};
 use crate::epochs::{
     Advice, assign_again, assign_or_advise, is_new, log_line, next_epoch, with_class,
 };
@@ -162,7 +162,7 @@ fn codes_given_back(rt: HostRuntime) -> Result<(), Fail> {
     Ok(())
 }
 
-/// The table knows at once that the data of three classes, each with an int, under each other are raw values alone.
+/// The data of three classes, each with an int, under each other: three sections of four bytes.
 fn compare_raws(rt: &impl Abort, table: &Table) {
     let Class::Closed(chain) = table.class_at(2) else {
         panic!(rt; "the class is closed");
@@ -170,8 +170,15 @@ fn compare_raws(rt: &impl Abort, table: &Table) {
     let Some(Sections { first, last }) = table.sections(chain) else {
         panic!(rt; "the class has sections");
     };
-    same!(rt; table.raws_between(last, first), Some(8));
-    holds!(rt; fits_at_once(table, last, first, 8) && !fits_at_once(table, last, first, 7));
+    let mut at = Some(first);
+    for _ in 0..3u8 {
+        let Some(section) = at else {
+            panic!(rt; "there is a section for each class");
+        };
+        same!(rt; table.section(section).raw_bytes, 4);
+        at = table.next_section(last, section);
+    }
+    holds!(rt; at.is_none());
 }
 
 /// Closes three classes, each with an int, under each other.
@@ -184,7 +191,7 @@ fn close_three(rt: &(impl Abort + AllocGlobal), table: &mut Table) -> Result<(),
 }
 
 #[test]
-fn raws_at_once(rt: HostRuntime) -> Result<(), Fail> {
+fn data_of_three(rt: HostRuntime) -> Result<(), Fail> {
     let mut table = Table::new(rt.alloc(), 3);
     close_three(&rt, &mut table)?;
     compare_raws(&rt, &table);

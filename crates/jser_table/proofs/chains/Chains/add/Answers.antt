@@ -1,6 +1,6 @@
 use Rattle.std.proofs.Common.{◌≡◌, ◌<◌, ◌^◌, ◌-◌, ℕ, length, arith, rules, ap, subst}
 use Rattle.jser_table.specs.Stored.{ChainList}
-use Rattle.jser_table.specs.Descriptors.{IsUnder, IsLast, RunsOn, RawsOn, Files, chains_of, chain_of_parent}
+use Rattle.jser_table.specs.Descriptors.{IsUnder, IsLast, RunsOn, Files, chains_of, chain_of_parent}
 use Rattle.jser_table.proofs.ChainLemmas.{length_chains_of, chains_push, told_push}
 use Rattle.jser_table.proofs.SectionLemmas.{sections_fewer}
 use Rattle.jser_table.proofs.FiledLemmas.{shelved_push}
@@ -17,17 +17,16 @@ invariant_of-self c =
     let own = c.self.inside in
     let made = c.descriptor_under-descriptor in
     let under : IsUnder (chains_of own.descriptors.items) c.args.parent c.args.layer made.result =
-    rw (← c.deref-6.ensures.value) made.ensures
+    rw (← c.deref-4.ensures.value) made.ensures
     in
     let number : c.len-number.result ≡ length own.descriptors.items = search rules in
-    let files : Files c.args.layer (length own.descriptors.items) c.run_under.result c.raws_under.result own.sections.items c.file.new.sections.items =
-    subst (λ (n : ℕ). Files c.args.layer n c.run_under.result c.raws_under.result own.sections.items c.file.new.sections.items) number c.file.ensures.filed
+    let files : Files c.args.layer (length own.descriptors.items) c.run_under.result own.sections.items c.file.new.sections.items =
+    subst (λ (n : ℕ). Files c.args.layer n c.run_under.result own.sections.items c.file.new.sections.items) number c.file.ensures.filed
     in
     let at_last : IsLast (chains_of own.descriptors.items) (chain_of_parent (chains_of own.descriptors.items) c.args.parent) c.last_of-above.result = rw (← c.deref.ensures.value) c.last_of-above.ensures in
     let runs : RunsOn (chains_of own.descriptors.items) c.last_of-above.result c.run_under.result = rw (← c.deref-2.ensures.value) c.run_under.ensures in
-    let go_on : RawsOn (chains_of own.descriptors.items) c.last_of-above.result c.section-held.result.raw_bytes c.raws_under.result = rw (← c.deref-4.ensures.value) c.raws_under.ensures in
     let few : length own.descriptors.items < 2 ^ 32 - 3 = omega (arith, ap (λ (v : ChainList). v.room) c.self.view_is, c.requires.room) in
-    shelved_push own.descriptors.items c.push.new.self.items made.result c.args.parent c.args.layer c.last_of-above.result c.run_under.result c.section-held.result.raw_bytes c.raws_under.result own.sections.items c.file.new.sections.items c.self.invariant few c.in-Ok.ensures.items under at_last runs go_on c.section-held.ensures.raw_bytes files
+    shelved_push own.descriptors.items c.push.new.self.items made.result c.args.parent c.args.layer c.last_of-above.result c.run_under.result own.sections.items c.file.new.sections.items c.self.invariant few c.in-Ok.ensures.items under at_last runs files
 
 -- The check finds what follows with no answer too; with one, it refuses a wrong body sooner.
 
@@ -73,12 +72,6 @@ len-section-requires c = search rules
 pub push-requires : goal.push-requires
 push-requires c = search rules
 
-pub raws_under-requires-clause-above_in : goal.raws_under-requires-clause-above_in
-raws_under-requires-clause-above_in c = search rules
-
-pub raws_under-requires-clause-shelved : goal.raws_under-requires-clause-shelved
-raws_under-requires-clause-shelved c = search rules
-
 pub returns-clause-added : goal.returns-clause-added
 returns-clause-added c = search (rules, length_chains_of, told_push, chains_push)
 
@@ -96,9 +89,6 @@ run_under-requires-clause-above_in c = search rules
 
 pub run_under-requires-clause-shelved : goal.run_under-requires-clause-shelved
 run_under-requires-clause-shelved c = search rules
-
-pub section-held-requires : goal.section-held-requires
-section-held-requires c = search rules
 
 pub unreachable-requires : goal.unreachable-requires
 unreachable-requires c = search rules
