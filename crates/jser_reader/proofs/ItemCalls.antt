@@ -57,10 +57,6 @@ machine_stands gate front cut r tally h =
     subst (λ c. Stands gate r (settled (left begin_state front)) c) h.cut_is
     (subst (λ f. Stands gate r (settled (left begin_state f)) h.counted.taken.cut) h.fields_are h.counted.taken.stands)
 
--- the label of the next field
-label_after : List Piece → Label
-label_after front = label_of (settled (left begin_state front))
-
 pub comes_next : (gate : Gate) (front : List Piece) (cut : List ℕ) (r : Seen) (tally : Tally) → StandsIn gate front cut r tally
     → ComesNext front (label_of (settled (left begin_state front)))
 comes_next gate front cut r tally h =

@@ -57,9 +57,8 @@ pub mod LentLemmas
 pub mod RawsToldLemmas
 pub mod RawLemmas
 mod RawJumps
-pub mod RunItems
+pub mod PlainTextLemmas
 pub mod NameSteps
-pub mod RunLemmas
 pub mod ManyLemmas
 pub mod ManyPlain
 pub mod ManySections
@@ -70,5 +69,3 @@ pub mod ManyConstants
 pub mod ManyNotes
 pub mod ManyArrays
 pub mod ManyPasses
-pub mod FlatLemmas
-pub mod NestLemmas

@@ -33,7 +33,7 @@ use Rattle.jser_reader.proofs.ArrayLemmas.{raw_elements, value_state, no_element
 use Rattle.jser_reader.proofs.ClassLemmas.{right_class}
 use Rattle.jser_reader.proofs.CutLemmas.{four_taken}
 use Rattle.jser_reader.proofs.EndLemmas.{tells_next}
-use Rattle.jser_reader.proofs.FlatLemmas.{assigned_other}
+use Rattle.jser_reader.proofs.WholeLemmas.{assigned_other}
 use Rattle.jser_reader.proofs.ManyLemmas.{place_on, rest_can, place_counted, place_holds, same_can}
 use Rattle.jser_reader.proofs.ManyPlain.{tag_there}
 use Rattle.jser_reader.proofs.OwnerLemmas.{array_owned}

@@ -14,7 +14,7 @@ use Rattle.jser_reader.specs.declared.frame.Owner.TheVariants as owner
 use Rattle.jser_reader.specs.declared.machine.many.counts.Counts.{Counts}
 use Rattle.jser_reader.specs.declared.machine.many.counts.Turn.TheVariants as turn
 use Rattle.jser_reader.specs.Classes.{fit_reason}
-use Rattle.jser_reader.specs.FlatObjects.{HasSections}
+use Rattle.jser_reader.specs.Many.{HasSections}
 use Rattle.jser_reader.specs.Handlers.{Pushes, BeginsObject, moved, added, pushed, is_full}
 use Rattle.jser_reader.specs.Many.{phase_on, seen_at, tally_at, Holds, with_place, with_depth, LeadsTo, Ends, IsObjectClass, ObjectBegins, Turns}
 use Rattle.jser_reader.specs.Passes.{Passes}
@@ -24,7 +24,7 @@ use Rattle.jser_reader.specs.Takes.{counted_on}
 use Rattle.jser_reader.specs.Tallies.{mark_of}
 use Rattle.jser_reader.specs.Wholes.{HasPlace, HasReference}
 use Rattle.jser_reader.proofs.ClassLemmas.{right_class}
-use Rattle.jser_reader.proofs.FlatLemmas.{assigned_other}
+use Rattle.jser_reader.proofs.WholeLemmas.{assigned_other}
 use Rattle.jser_reader.proofs.ManyLemmas.{place_on, rest_can, place_counted, place_holds, same_can}
 use Rattle.jser_reader.proofs.ManyPlain.{tag_there}
 use Rattle.jser_reader.proofs.OwnerLemmas.{bare_object, external_object, object_begins, object_owned}

@@ -21,7 +21,7 @@ use Rattle.jser_reader.specs.Readers.{Seen, Ready, HasNotes, moment_of}
 use Rattle.jser_reader.specs.Stacks.{tail_of, HasNoValue, IsOnTop, CountsValue}
 use Rattle.jser_reader.specs.Steps.{before_parts, after_value, GoesOn}
 use Rattle.jser_reader.specs.Takes.{counted_on}
-use Rattle.jser_reader.specs.WholeArrays.{without_top}
+use Rattle.jser_reader.specs.Many.{without_top}
 use Rattle.jser_reader.proofs.ManyLemmas.{leads_there, same_can}
 use Rattle.jser_reader.proofs.ManySections.{none_dropped}
 use Rattle.jser_reader.proofs.PartLemmas.{fits_without, leaves_elements, at_notes, at_top, value_comes, field_ready}
@@ -43,9 +43,6 @@ fits_opened T C frames now f e h i fit =
 pub fits_replaced : (T : List TableEntry) (C : List (List Layer)) (frames now : List Frame) (f : Frame) → now ≡ f ∷ tail_of frames → FrameFits T C f → IsPart f → AllFit T C frames → AllFit T C now
 fits_replaced T C [] now f e h i fit = fits_opened T C [] now f e h i fit
 fits_replaced T C (g ∷ fs) now f e h i fit = fits_opened T C fs now f e h i (record { all = fits_without T C (length T) g fs fit.all })
-
-pub parts_on : (frames : List Frame) (f : Frame) → frames ≡ f ∷ tail_of frames → IsPart f → HasParts frames
-parts_on frames f e i = subst HasParts (sym e) i
 
 -- ---- the same place in the piece, of another stack
 

@@ -21,7 +21,7 @@ use Rattle.jser_reader.specs.Stacks.{tail_of}
 use Rattle.jser_reader.specs.Steps.{before_parts, after_value}
 use Rattle.jser_reader.specs.Takes.{farther, IsOne}
 use Rattle.jser_reader.specs.Tallies.{is_top, mark_of, tally_after}
-use Rattle.jser_reader.specs.WholeArrays.{without_top}
+use Rattle.jser_reader.specs.Many.{without_top}
 use Rattle.jser_reader.proofs.ManyEnds.{leads_same, leads_raws, stands_there, used_holds}
 use Rattle.jser_reader.proofs.ManyLemmas.{place_on, top_on, rest_can, tally_is, one_more, none_new, items_within, leads_there}
 use Rattle.jser_reader.proofs.ManyPlain.{tag_there, ends_there}

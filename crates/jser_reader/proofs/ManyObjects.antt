@@ -16,7 +16,8 @@ use Rattle.jser_reader.specs.declared.machine.many.counts.Counts.{Counts}
 use Rattle.jser_reader.specs.declared.machine.many.counts.Turn.TheVariants as turn
 use Rattle.jser_reader.specs.Classes.{fit_reason}
 use Rattle.jser_reader.specs.Fitting.{HasParts, IsPart}
-use Rattle.jser_reader.specs.FlatObjects.{HasSections, AssignsOther}
+use Rattle.jser_reader.specs.Many.{HasSections}
+use Rattle.jser_reader.specs.Wholes.{AssignsOther}
 use Rattle.jser_reader.specs.Frames.{frame_goals}
 use Rattle.jser_reader.specs.Handlers.{Pushes, BeginsObject, moved, added, pushed, is_full}
 use Rattle.jser_reader.specs.Many.{seen_at, tally_at, Holds, with_place, with_used, with_depth, LeadsTo, Ends, RawsOn, OpensAs, Puts, Opened, Turns}
@@ -24,10 +25,10 @@ use Rattle.jser_reader.specs.Readers.{Seen, Ready}
 use Rattle.jser_reader.specs.Steps.{Kept, before_parts, after_value, PartGives}
 use Rattle.jser_reader.specs.Takes.{counted_on}
 use Rattle.jser_reader.specs.Tallies.{mark_of}
-use Rattle.jser_reader.specs.WholeArrays.{without_top}
+use Rattle.jser_reader.specs.Many.{without_top}
 use Rattle.jser_reader.specs.Wholes.{HasPlace, HasReference}
 use Rattle.jser_reader.proofs.ClassLemmas.{right_class}
-use Rattle.jser_reader.proofs.FlatLemmas.{assigned_other}
+use Rattle.jser_reader.proofs.WholeLemmas.{assigned_other}
 use Rattle.jser_reader.proofs.ManyEnds.{leads_same, leads_raws, stands_there}
 use Rattle.jser_reader.proofs.ManyLemmas.{place_on, rest_can, place_counted, place_holds, leads_there, same_can}
 use Rattle.jser_reader.proofs.OwnerLemmas.{filled_object, object_begins, object_owned}

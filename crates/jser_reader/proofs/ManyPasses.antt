@@ -21,9 +21,6 @@ use Rattle.jser_reader.proofs.PassLemmas.{pass_none, for_bytes}
 
 -- ---- a turn
 
-pub turn_is : (piece : List ℕ) (old new : Seen) (k j : Counts) (t u : Turn) → Turns piece t old k new j → t ≡ u → Turns piece u old k new j
-turn_is piece old new k j t u h e = subst (λ t. Turns piece t old k new j) e h
-
 pub turn_settles : (piece : List ℕ) (old mid new : Seen) (k i j : Counts) (t : Turn) (b : Bool) → Turns piece t old k mid i → t ≡ turn.Ended → Settles piece b mid i new j → b ≡ true
     → Turns piece turn.Next old k new j
 unfolding Turns Settles

@@ -151,10 +151,3 @@ string_turn piece rest len old new k j h room tag er is p assigns e =
     (ap (λ r. r.meter) assigns.1) (ap (λ r. r.frames) assigns.1) e
 
 -- what the counters may hold
-
-pub text_inside : (piece rest : List ℕ) (len used : ℕ) → used ≤ length piece → rest ≡ drop used piece → HasText rest len → used + (len + 3) ≤ length piece
-text_inside piece rest len used le er is =
-    let within = is.within in
-    let l = length-drop used piece in
-    let lr : length rest ≡ length (drop used piece) = ap length er in
-    omega arith

@@ -20,7 +20,7 @@ use Rattle.jser_reader.specs.Takes.{farther, TakesFromFor}
 use Rattle.jser_reader.specs.Passes.{Passes, CanPass}
 use Rattle.jser_reader.specs.Wholes.{all_or_none}
 use Rattle.jser_reader.proofs.PassLemmas.{joined_takes, quiet_takes, passes_stop}
-use Rattle.jser_reader.proofs.RunItems.{plain_units}
+use Rattle.jser_reader.proofs.PlainTextLemmas.{plain_units}
 use Rattle.jser_reader.proofs.TakeLemmas.{counts_bytes}
 use Rattle.jser_reader.proofs.TextLemmas.{class_name_ends}
 use Rattle.jser_reader.proofs.TextSteps.{short_text_found}

@@ -109,15 +109,6 @@ filled_object chain sections true found old mid new p h e et x are em =
     let same = at_mid ∙ sym (ap (λ ps. settle (moment_of old) (parts_goal (depth_of old) ps ∷ goals_of old)) parts) in
     rw et (subst (Ready new) same p.0, em ∙ ap (λ r. r.meter) h, ap (λ t. t.max) p.1.table ∙ ap (λ r. r.table.max) h)
 
-pub object_comes : (chain : List Layer) (b : Bool) (old mid new : Seen) → BeginsObject chain b mid new → b ≡ true
-    → mid.frames ≡ old.frames → mid.layers ≡ old.layers → mid.table ≡ old.table → mid.refs ≡ old.refs → mid.meter ≡ moved old.meter
-    → Tells None (object_state old chain) b old new
-unfolding BeginsObject
-object_comes chain false old mid new h e ef ey et er em = absurd (cc)
-object_comes chain true old mid new h e ef ey et er em =
-    tells_next None (object_state old chain) true old new
-    (record { ready = subst (Ready new) (same_object old mid chain ef ey et er) h.0; meter = h.1 ∙ em; max = h.2 ∙ ap (λ t. t.max) et }) refl refl
-
 pub object_begins : (chain : List Layer) (b : Bool) (old mid new : Seen) → BeginsObject chain b mid new
     → mid.frames ≡ old.frames → mid.layers ≡ old.layers → mid.table ≡ old.table → mid.refs ≡ old.refs → mid.meter ≡ moved old.meter
     → Tells None (object_state old chain) b old new

@@ -289,10 +289,6 @@ pub record IsOpenAt (p : Phase) (r : Seen) (s : State) (cut : List ℕ) : Type 0
   pub short : length cut < size_of_phase p
   pub right : IsRightSoFar p cut
 
-right_at_first : (p : Phase) → IsRightSoFar p []
-right_at_first phase.Header = refl
-right_at_first _ = tt
-
 open_at : (q : Phase) (r : Seen) (s : State) (cut : List ℕ) → r.phase ≡ q → StandsAt q r s cut → 0 < size_of_phase (open_in q r.meter.cut_phase)
     → IsOpenAt (open_in q r.meter.cut_phase) r s cut
 open_at phase.Cut r s cut eq h some = record { ready = h.ready; cut_is = rw eq h.cut_is; short = h.short; right = h.right }
@@ -377,11 +373,6 @@ differs_less (x ∷ xs) (y ∷ a) b e = both _ (differs xs (a ++ b)) (differs xs
     both : (p q q' : Bool) → (p || q) ≡ false → (q ≡ false → q' ≡ false) → (p || q') ≡ false
     both true q q' e k = e
     both false q q' e k = k e
-
-right_less : (p : Phase) (a b : List ℕ) → IsRightSoFar p (a ++ b) → IsRightSoFar p a
-right_less phase.Header a b h = differs_less header_bytes a b h
-right_less phase.Top a b h = tt
-right_less _ a b h = tt
 
 -- the bytes of a field up to some that were right so far
 pub fixed_undecided : (g : Gate) (p : Phase) (r : Seen) (s : State) (bytes : List ℕ) → IsFixed p → ReadyAt p r s

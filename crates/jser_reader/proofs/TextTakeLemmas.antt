@@ -197,10 +197,3 @@ takes_negative_length gate n count found old mid new h m eo some lo hi = λ take
     negative_taken gate n (moment_of mid, []) false old mid new taken
     (tells_refusal negative_length (Some negative_length) (moment_of mid, []) false mid new h refl refl)
     (omega arith) hi eo (omega arith) spelled (counts_bytes taken count old mid m size)
-
--- the length is cut, or cut again
-pub length_cut_off : (gate : Gate) (long : Bool) (piece : List ℕ) (old new : Seen) → CutsOff piece old new → open_phase old ≡ length_phase long
-    → 0 < length piece → length (cut_of old ++ piece) < head_size long → Keeps gate piece old new
-length_cut_off gate long piece old new c eo some short =
-    let n : length (cut_of old ++ piece) ≡ length (cut_of old) + length piece = length-append (cut_of old) piece in
-    length_kept gate long old new piece c.phase_is (c.cut_phase ∙ eo) c.kept eo (omega arith) short c.counts

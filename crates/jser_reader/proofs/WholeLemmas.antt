@@ -7,7 +7,7 @@ use Rattle.jser_prim.specs.Bytes.{big_bytes}
 use Rattle.jser_prim.specs.ModifiedUtf8.{modified_utf8}
 use Rattle.jser_prim.specs.Texts.{BeginsText, Scan, HasAccepted}
 use Rattle.jser_prim.proofs.TextLemmas.{begins_whole}
-use Rattle.jser_table.specs.Entries.{text_entry, chain_at}
+use Rattle.jser_table.specs.Entries.{text_entry, other_entry, chain_at}
 use Rattle.jser_grammar.specs.Parts.{IsBytes}
 use Rattle.jser_reading.specs.Labels.{reference_tag, string_tag, class_handle_at}
 use Rattle.jser_reading.specs.FieldBytes.{tag_byte}
@@ -33,7 +33,7 @@ use Rattle.jser_reader.specs.Takes.{counted_on, farther, TakesByte, TakesFromFor
 use Rattle.jser_reader.specs.Tallies.{mark_of, tally_after}
 use Rattle.jser_reader.specs.Passes.{Passes, CanPass}
 use Rattle.jser_reader.specs.Frames.{goal_owner}
-use Rattle.jser_reader.specs.Wholes.{IsPlace, HasPlace, HasNumber, HasText, HasReference, tag_of_owner, placed, AssignsText, all_or_none}
+use Rattle.jser_reader.specs.Wholes.{IsPlace, HasPlace, HasNumber, HasText, HasReference, tag_of_owner, placed, AssignsText, AssignsOther, all_or_none}
 use Rattle.jser_reader.proofs.EndLemmas.{same_value}
 use Rattle.jser_reader.proofs.ValueLemmas.{back_begun, object_begun, array_begun, class_begun, enum_begun, string_begun, new_text, counted_tag}
 use Rattle.jser_reader.proofs.NumberLemmas.{right_handle, no_bytes, some_bytes}
@@ -384,22 +384,6 @@ owner_passes gate o n found piece old mid new m1 m2 before after g can i first h
     then_all gate piece rest 1 5 6 found old m new before after after tag
     (then_all gate rest last 1 4 5 found m k new after after after class handle refl refl) refl refl
 
--- what is left of the piece after the class may be taken too
-told_meter : (k : Option ToldReason) (s : State) (b : Bool) (old new : Seen) → Tells k s b old new → b ≡ true → new.meter ≡ moved old.meter
-unfolding Tells
-told_meter None s true old new h e = h.meter
-told_meter (Some k) s true old new h e = absurd h
-told_meter None s false old new h e = absurd (cc)
-told_meter (Some k) s false old new h e = absurd (cc)
-
-pub class_goes_on : (o : Owner) (n : ℕ) (found : Bool) (piece : List ℕ) (old mid new : Seen) → CanPass old piece → HasReference piece n → mid ≡ with_class o old
-    → TellsClass n found mid new → found ≡ true → CanPass new (drop 6 piece)
-class_goes_on o n found piece old mid new can h em told e =
-    let at : old.meter.at + 2 + 4 ≡ old.meter.at + 6 = omega arith in
-    can_go_on piece 6 old new can h.within
-    (told_meter _ _ found mid new told e ∙ ap (λ r. moved r.meter) em
-    ∙ ap (λ k. record { at = k; from = k; limits = old.meter.limits; stop = old.meter.stop; cut_phase = old.meter.cut_phase; kept = old.meter.kept }) at)
-
 -- ---- a string
 
 -- after its tag
@@ -685,3 +669,27 @@ assigns_text number result old new e lt h er =
 pub assigns_nothing : (result : Bool) (old new : Seen) → new ≡ old → result ≡ false → AssignsText result old new
 unfolding AssignsText
 assigns_nothing result old new h er = rw er h
+
+-- ---- the handle of what has a class
+
+pub assigns_other : (number : ℕ) (result : Bool) (old new : Seen) → number ≡ length old.table.entries → number < old.table.max → new ≡ added old other_entry
+    → result ≡ true → AssignsOther result old new
+unfolding AssignsOther
+assigns_other number result old new e lt h er =
+    rw er (lt-leb old.table.max (length old.table.entries) (omega arith), h)
+
+pub assigns_no_other : (result : Bool) (old new : Seen) → new ≡ old → result ≡ false → AssignsOther result old new
+unfolding AssignsOther
+assigns_no_other result old new h er = rw er h
+
+pub other_assigned : (b : Bool) (old mid : Seen) → AssignsOther b old mid → b ≡ true → AssignsOther true old mid
+other_assigned b old mid h e = subst (λ x. AssignsOther x old mid) e h
+
+pub no_other : (result : Bool) (old new : Seen) → AssignsOther result old new → result ≡ false → new ≡ old
+unfolding AssignsOther
+no_other true old new h e = absurd (cc)
+no_other false old new h e = h
+
+pub assigned_other : (r : Seen) → is_full r ≡ false → Assigns other_entry (Some (length r.table.entries)) r (added r other_entry)
+unfolding Assigns
+assigned_other r full = (refl, full, refl)

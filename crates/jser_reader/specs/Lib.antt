@@ -38,6 +38,3 @@ pub mod FieldLaws
 pub mod Gates
 pub mod RawRuns
 pub mod RawsTold
-pub mod Runs
-pub mod FlatObjects
-pub mod WholeArrays

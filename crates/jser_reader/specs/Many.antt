@@ -6,10 +6,11 @@ use Rattle.jser_table.specs.declared.class.Class.TheVariants as class
 use Rattle.jser_table.specs.declared.layer.Fit.TheVariants as fit
 use Rattle.jser_table.specs.declared.layer.Layer.{Layer}
 use Rattle.jser_table.specs.declared.layer.Purpose.TheVariants as purpose
-use Rattle.jser_table.specs.Chains.{chain_in, has_write_method}
+use Rattle.jser_table.specs.declared.section.Sections.{Sections}
+use Rattle.jser_table.specs.Chains.{chain_in, is_external, has_write_method}
 use Rattle.jser_table.specs.Entries.{TableEntry, is_text, other_entry}
 use Rattle.jser_table.specs.Fits.{fit_of}
-use Rattle.jser_table.specs.Sections.{layer_of, under}
+use Rattle.jser_table.specs.Sections.{layer_of, under, AreSections}
 use Rattle.jser_table.specs.Tables.{IsClass}
 use Rattle.jser_grammar.specs.Wire.{TC_ARRAY, TC_ENUM, TC_OBJECT}
 use Rattle.jser_reading.specs.Goals.{Part, annotation_if, section_parts, State}
@@ -124,6 +125,10 @@ with_depth k depth = record { used = k.used; refs = k.refs; items = k.items; dep
 abbrev pub with_top : Seen → Frame → Seen
 with_top r f = record { meter = r.meter; phase = r.phase; frames = f ∷ tail_of r.frames; layers = r.layers; table = r.table; refs = r.refs; owner = r.owner; elements = r.elements; header = r.header; text = r.text; left = r.left; scan = r.scan; name = r.name }
 
+-- what is on top was taken off
+abbrev pub without_top : Seen → Seen
+without_top r = record { meter = r.meter; phase = r.phase; frames = tail_of r.frames; layers = r.layers; table = r.table; refs = r.refs; owner = r.owner; elements = r.elements; header = r.header; text = r.text; left = r.left; scan = r.scan; name = r.name }
+
 -- ---- raw values, and what comes after them
 
 -- So many bytes of the piece were taken, and the machine after them is this one, but for what comes next: this state.
@@ -233,6 +238,15 @@ pub record IsObjectClass (r : Seen) (n chain : ℕ) : Type 0 where
   pub low : n < 0x7E0000 → ⊥
   pub is_class : IsClass r.table.chains (slice_get r.table.entries (n - 0x7E0000)) (class.Closed chain)
   pub fits : fit_of purpose.Object (chain_in r.table.chains chain) ≡ fit.Fits
+
+-- a closed class that fits an object, whose data have these sections
+pub record HasSections (r : Seen) (n : ℕ) (sections : Sections) : Type 0 where
+  pub chain : ℕ
+  pub low : n < 0x7E0000 → ⊥
+  pub is_class : IsClass r.table.chains (slice_get r.table.entries (n - 0x7E0000)) (class.Closed chain)
+  pub fits : fit_of purpose.Object (chain_in r.table.chains chain) ≡ fit.Fits
+  pub plain : is_external (chain_in r.table.chains chain) ≡ false
+  pub are : AreSections r.table.chains (chain_in r.table.chains chain) (Some sections)
 
 -- the tag of an object and the reference that is its class, at the place of the counters
 pub record ObjectBegins (piece : List ℕ) (n chain : ℕ) (r : Seen) (k : Counts) : Type 0 where

@@ -76,16 +76,3 @@ CountsRaw (Some raw) (f ∷ fs) new = (g : Frame) × GivesRaw (Some raw) f g × 
 -- neither is left
 abbrev pub HasNoField : List Frame → Type 0
 HasNoField frames = IsOnTop HasNoRaw frames × IsOnTop HasNoValue frames
-
--- so many elements of an array of values were counted
-
-abbrev pub less_elements : Frame → ℕ → Frame
-less_elements (frame.Elements left) n = frame.Elements (left - n)
-less_elements (frame.Fields last section pos prims values) n = frame.Fields last section pos prims values
-less_elements (frame.Notes last section) n = frame.Notes last section
-less_elements frame.ExternalNotes n = frame.ExternalNotes
-less_elements (frame.Descriptor number role) n = frame.Descriptor number role
-
-abbrev pub less_values : List Frame → ℕ → List Frame
-less_values [] n = []
-less_values (f ∷ fs) n = less_elements f n ∷ fs

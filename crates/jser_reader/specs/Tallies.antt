@@ -60,14 +60,6 @@ tally_after old new tally = record {
   depth = max tally.depth (number_if (nat_lt old.refs new.refs) old.depth);
 }
 
--- Several contents or values have ended, one after another, of which so many are values, and no epoch.
-abbrev pub run_tally : Mark → (items places : ℕ) → Tally → Tally
-run_tally first items places tally = record {
-  contents = tally.contents + number_if first.at_top items;
-  earlier = tally.earlier;
-  depth = max tally.depth (number_if (nat_lt 0 places) first.depth);
-}
-
 -- So many contents have begun, no epoch has ended, and this is the greatest depth.
 abbrev pub all_counted : Tally → (contents depth : ℕ) → Tally
 all_counted tally contents depth = record { contents = tally.contents + contents; earlier = tally.earlier; depth = depth }

@@ -2,7 +2,7 @@
 use Rattle.std.specs.Prelude.{◌≡◌, ℕ, suc, ◌+◌, ◌<◌, ◌≤◌, Bool, true, false, List, ◌++◌, length, get_or, take, drop, Option, Some, None}
 use Rattle.jser_prim.specs.Bytes.{big_bytes}
 use Rattle.jser_prim.specs.ModifiedUtf8.{modified_utf8}
-use Rattle.jser_table.specs.Entries.{text_entry}
+use Rattle.jser_table.specs.Entries.{text_entry, other_entry}
 use Rattle.jser_grammar.specs.Parts.{IsText}
 use Rattle.jser_grammar.specs.Wire.{TC_REFERENCE}
 use Rattle.jser_reader.specs.declared.frame.Owner.{Owner}
@@ -63,6 +63,14 @@ TextCases false old new = new ≡ old
 
 unfoldable pub AssignsText : Bool → Seen → Seen → Type 0
 AssignsText result old new = TextCases result old new
+
+-- the handle of what has a class was assigned; or nothing was done
+abbrev pub OtherCases : Bool → Seen → Seen → Type 0
+OtherCases true old new = (is_full old ≡ false) × (new ≡ added old other_entry)
+OtherCases false old new = new ≡ old
+
+unfoldable pub AssignsOther : Bool → Seen → Seen → Type 0
+AssignsOther result old new = OtherCases result old new
 
 -- so many bytes were taken, or the machine stopped within them
 abbrev pub all_or_none : Bool → ℕ → Option ℕ

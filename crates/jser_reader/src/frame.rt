@@ -1,6 +1,6 @@
 //! Frames: what is open while a field is read, one for each array, object and descriptor.
 ghost use Rattle.std.specs.Prelude.{◌≡◌};
-ghost use Rattle.jser_reader.specs.Stacks.{GivesValue, GivesRaw, less_elements};
+ghost use Rattle.jser_reader.specs.Stacks.{GivesValue, GivesRaw};
 
 use jser_table::SectionNumber;
 
@@ -104,16 +104,6 @@ impl Frame {
                 true
             }
             Frame::Notes { .. } | Frame::ExternalNotes | Frame::Descriptor { .. } => false,
-        }
-    }
-
-    /// Counts so many elements of an array of values.
-    #[inline(always)]
-    pub(crate) fn count_values(&mut self, count: u64)
-        ensures { self.new ≡ less_elements self.old count }
-    {
-        if let Frame::Elements { left } = self {
-            *left = u64::from(*left).saturating_sub(count) as u32;
         }
     }
 

@@ -19,7 +19,6 @@ mod classes;
 mod descriptors;
 mod ends;
 mod fields;
-mod flat_objects;
 pub(crate) mod items;
 mod many;
 mod members;
@@ -30,11 +29,8 @@ mod parts;
 mod pass;
 mod pass_classes;
 mod pass_descriptors;
-mod pass_owners;
-mod pass_values;
+mod plain_text;
 mod raws;
-mod run_items;
-mod runs;
 mod states;
 mod superclasses;
 mod supers;
@@ -51,7 +47,6 @@ pub(crate) mod taken;
 mod text_bytes;
 mod texts;
 mod values;
-mod whole_arrays;
 pub(crate) mod wholes;
 
 /// The limits that a gate sets, but for the handles of an epoch, which the table keeps.

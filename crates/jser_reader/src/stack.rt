@@ -1,6 +1,6 @@
 //! The stack of frames. Its top lies in a field of its own, since nearly all work is done there.
 ghost use Rattle.std.specs.Prelude.{◌≡◌, ◌∷◌, ◌-◌, ◌^◌, ◌<◌, [], length, OnOk, OnErr};
-ghost use Rattle.jser_reader.specs.Stacks.{IsTop, CountsValue, CountsRaw, tail_of, less_values};
+ghost use Rattle.jser_reader.specs.Stacks.{IsTop, CountsValue, CountsRaw, tail_of};
 
 use crate::frame::{Frame, RawPlace};
 use std::alloc::{AllocError, Global};
@@ -68,16 +68,6 @@ impl Stack {
         match &mut self.top {
             Some(frame) => frame.next_value(),
             None => false,
-        }
-    }
-
-    /// Counts so many values of what is on top, where that is an array.
-    #[inline(always)]
-    pub(crate) fn count_values(&mut self, count: u64)
-        ensures { self.new ≡ less_values self.old count }
-    {
-        if let Some(frame) = &mut self.top {
-            frame.count_values(count);
         }
     }
 

@@ -1,7 +1,6 @@
 //! The counts of a stream that its fields tell, kept while it is read.
 ghost use Rattle.std.specs.Prelude.{◌≡◌, ◌+◌, ◌<◌, ◌^◌};
-ghost use Rattle.jser_reader.specs.FlatObjects.{value_tally};
-ghost use Rattle.jser_reader.specs.Tallies.{tally_after, run_tally, all_counted, no_tally};
+ghost use Rattle.jser_reader.specs.Tallies.{tally_after, all_counted, no_tally};
 
 /// What a tally asks of the machine before and after a field.
 #[derive(Clone, Copy)]
@@ -46,37 +45,6 @@ impl Tally {
         if old.refs < new.refs {
             self.depth = self.depth.max(old.depth);
         }
-    }
-
-    /// So many contents or values have ended, one after another, of which so many are values: what was known before the
-    /// first of them.
-    #[inline(always)]
-    pub(crate) fn count_run(&mut self, first: Mark, items: u64, places: u64)
-        ensures { self.old.contents + items < 2 ^ 64 → self.new ≡ run_tally first items places self.old }
-    {
-        if first.at_top {
-            self.contents = self.contents.wrapping_add(items);
-        }
-        if places > 0 {
-            self.depth = self.depth.max(first.depth);
-        }
-    }
-
-    /// A value was taken in one step, with so many values inside it: what was known before it.
-    #[inline(always)]
-    pub(crate) fn count_value(&mut self, first: Mark, inside: u16)
-        requires { 0 < inside → first.depth + 1 < 2 ^ 64 }
-        ensures { self.old.contents + 1 < 2 ^ 64 → self.new ≡ value_tally first inside self.old }
-    {
-        if first.at_top {
-            self.contents = self.contents.wrapping_add(1);
-        }
-        let deepest = if inside > 0 {
-            first.depth + 1
-        } else {
-            first.depth
-        };
-        self.depth = self.depth.max(deepest);
     }
 
     /// So many contents have begun, and this is the greatest depth of a place.

@@ -153,11 +153,6 @@ under_parent ds parent number jump layer section last above d told inside read i
       last = rw (is, last_is) (last_under (chains_of ds) (chain_in (chains_of ds) number) layer section above.last last here at_parent.last under);
     }
 
--- whether a class fits, by its own layer and whether the classes above it are serial
-pub fit_of_push : (purpose : Purpose) (chain : List Layer) (layer : Layer) → fit_of purpose (chain ++ layer ∷ []) ≡ class_fit purpose layer (all_serial chain && is_serial layer)
-fit_of_push purpose chain layer =
-    ap (λ own. fit_of_own purpose own (chain ++ layer ∷ [])) (own_layer_push chain layer) ∙ ap (class_fit purpose layer) (all_serial_push chain layer)
-
 -- whether a class fits, by what its descriptor tells
 pub fit_told : (chains : List (List Layer)) (place : ℕ) (d : Descriptor) (purpose : Purpose) (fit : Fit) → IsTold chains place d → fit ≡ class_fit purpose d.layer d.is_serial → fit ≡ fit_of purpose (chain_in chains place)
 fit_told chains place d purpose fit told is =

@@ -112,9 +112,6 @@ filed_at_place ds sections number other are has =
     let inside : number < length sections = omega (arith, has, are.filed.count) in
     are.filed.each number (get_or sections number other) inside (get_or_default sections number other (get_or sections number other) inside)
 
-pub section_in_list : (ds : List Descriptor) (sections : List Filed) (number : ℕ) → AreShelved ds sections → HasSection (chains_of ds) number → number < length sections
-section_in_list ds sections number are has = omega (arith, has, are.filed.count)
-
 no_filed : Filed
 no_filed = record { section = record { raw_bytes = 0; prims = 0; values = 0; is_annotated = false }; class = 0; run = 0; leading = 0 }
 
@@ -269,14 +266,3 @@ first_in_run ds sections start run own found are told own_is is_run back low =
     )
 
 -- sections with raw values alone
-
--- a section of a run is one of the data that end with a later one
-on_in_run : (ds : List Descriptor) (sections : List Filed) (run last n : ℕ) → AreShelved ds sections → HasSection (chains_of ds) last → IsRun (chains_of ds) run last → run ≤ n → n ≤ last → IsOn (chains_of ds) last n
-on_in_run ds sections run last n are has is_run low high =
-    let here : HasSection (chains_of ds) n = omega (arith, has, high) in
-    record {
-      last_in = has;
-      section_in = here;
-      front = (run_back (chains_of ds) run last (last - n) n is_run (omega (arith, high)) low).front;
-      filled = (filed_at_place ds sections n no_filed are here).filled;
-    }

@@ -19,13 +19,6 @@ run_grows chains more run number has is = record {
       rw (down_to_grows chains more n here, down_to_grows chains more (n + 1) next, layer_of_grows chains more (n + 1) next) (is.each n low high);
 }
 
--- a section that follows none that is newest starts a run
-pub run_starts : (chains : List (List Layer)) (above : Option ℕ) (run : ℕ) → run ≡ length (sections_of chains) → RunsOn chains above run
-run_starts chains above run is = λ front layer at_above filled. record {
-  before = omega arith;
-  each = λ n low high. absurd (omega arith);
-}
-
 -- and else goes on with that one's
 pub run_goes_on : (chains : List (List Layer)) (above : Option ℕ) (number run : ℕ) → above ≡ Some number → number + 1 ≡ length (sections_of chains) → IsRun chains run number → RunsOn chains above run
 run_goes_on chains above number run is newest runs = λ front layer at_above filled.

@@ -5,7 +5,7 @@ ghost use Rattle.jser_reader.specs.ClassNames.{HasName, JudgesName};
 
 use crate::gate::Gate;
 use crate::machine::Machine;
-use crate::machine::run_items::is_plain_between;
+use crate::machine::plain_text::is_plain_between;
 use crate::machine::text_bytes::add_units;
 use crate::phase::{Phase, TextFor};
 use crate::tally::Tally;

@@ -9,7 +9,7 @@ ghost use Rattle.jser_reader.specs.Members.{BeginsMember, HasType};
 
 use crate::machine::Machine;
 use crate::machine::fields::is_object_code;
-use crate::machine::run_items::is_plain_between;
+use crate::machine::plain_text::is_plain_between;
 use crate::machine::wholes::number_after;
 use crate::phase::Phase;
 use crate::tally::Tally;

@@ -1,8 +1,9 @@
 //! Steps of a call that takes a whole piece: what comes next is taken from the front of the piece, and nothing is lent.
-//! For the common values several fields are taken in one step, without a look at all the others.
+//! Values that are common and whole in the piece are taken by one loop, without a look at each of their fields.
 ghost use Rattle.std.specs.Prelude.{◌≡◌, ◌<◌, length};
 ghost use Rattle.jser_reader.specs.Passes.{Passes, HasPassed, CanPass, IsQuiet};
 ghost use Rattle.jser_reader.specs.Takes.{IsOne};
+ghost use Rattle.jser_reader.specs.Wholes.{IsPlace};
 ghost use Rattle.jser_verdict.specs.Gates.{Gate as ToldGate, IsGate};
 
 use crate::gate::Gate;
@@ -73,6 +74,23 @@ impl Machine {
             Taken::Stopped(_) => None,
             Taken::Open => Some(piece.len()),
         }
+    }
+
+    /// Takes contents and values, as many as are common and have all their bytes in the piece; else the tag of the one that
+    /// comes next.
+    #[inline(always)]
+    fn pass_values(&mut self, tally: &mut Tally, piece: &[u8]) -> Option<usize>
+        requires can { CanPass self.old piece.now }
+        requires some { 0 < length piece.now }
+        requires place { IsPlace self.old.phase }
+        ensures passes { (gate : ToldGate) → IsGate gate → Passes gate piece.now result self.old tally.old self.new tally.new }
+        ensures progress { HasPassed piece.now result }
+    {
+        let used = self.pass_many(tally, piece);
+        if used == 0 {
+            return self.pass_tag(tally, piece);
+        }
+        Some(used)
     }
 
     /// Takes bytes of a raw value.
@@ -146,8 +164,7 @@ impl Machine {
             return self.pass_to_limit(gate, tally, piece);
         }
         match self.phase {
-            Phase::Top => self.pass_value(tally, piece),
-            Phase::Value | Phase::Note => self.pass_values(tally, piece),
+            Phase::Top | Phase::Value | Phase::Note => self.pass_values(tally, piece),
             Phase::Prims => self.pass_prims(piece),
             Phase::TypeCode | Phase::Length2 | Phase::Text | Phase::Suid => {
                 self.pass_classes(gate, tally, piece)

@@ -1,7 +1,7 @@
 //! The end of a value: what comes next of what is open.
 ghost use Rattle.std.specs.Prelude.{◌≡◌, ◌∷◌, ◌+◌, ◌^◌, ◌<◌};
 ghost use Rattle.jser_reader.specs.Fitting.{FrameFits, HasParts, IsPart};
-ghost use Rattle.jser_reader.specs.Many.{Holds, FrameEnds, Settles, GivesNext, with_top};
+ghost use Rattle.jser_reader.specs.Many.{Holds, FrameEnds, Settles, GivesNext, with_top, without_top};
 ghost use Rattle.jser_reader.specs.Stacks.{tail_of, HasNoValue, IsOnTop};
 
 use crate::frame::Frame;
@@ -20,6 +20,16 @@ impl Machine {
         ensures { self.new ≡ with_top self.old frame }
     {
         self.frames.set_top(frame);
+    }
+
+    /// Takes off what is on top.
+    #[tactic(auto, using(crate::proofs::LayerLemmas::layers_of_tail, crate::proofs::PartLemmas::fits_tail))]
+    #[inline(always)]
+    pub(super) fn drop_frame(&mut self)
+        requires { HasParts self.old.frames }
+        ensures { self.new ≡ without_top self.old }
+    {
+        self.frames.pop();
     }
 
     /// What is on top, which is this frame, has no value or element left.

@@ -4,8 +4,7 @@ ghost use Rattle.jser_table.specs.Chains.{chain_in, is_external};
 ghost use Rattle.jser_table.specs.Sections.{AreSections};
 ghost use Rattle.jser_grammar.specs.Wire.{TC_OBJECT};
 ghost use Rattle.jser_reader.specs.Fitting.{FrameFits, IsPart};
-ghost use Rattle.jser_reader.specs.FlatObjects.{HasSections};
-ghost use Rattle.jser_reader.specs.Many.{seen_at, Holds, Turns, Puts, Opened, IsObjectClass, ObjectBegins};
+ghost use Rattle.jser_reader.specs.Many.{seen_at, Holds, Turns, Puts, Opened, IsObjectClass, HasSections, ObjectBegins};
 ghost use Rattle.jser_reader.specs.Wholes.{HasPlace, HasReference};
 
 use crate::frame::Frame;

@@ -1,5 +1,5 @@
 use Rattle.std.proofs.Common.{refl, rules}
-use Rattle.jser_reader.proofs.FlatLemmas.{no_other}
+use Rattle.jser_reader.proofs.WholeLemmas.{no_other}
 use Rattle.jser_reader.proofs.ManyArrays.{empty_turn}
 use Rattle.jser_reader.proofs.ManyObjects.{was_assigned}
 use Rattle.jser_reader.proofs.ManyPlain.{nothing_done}

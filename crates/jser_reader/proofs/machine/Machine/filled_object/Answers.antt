@@ -1,5 +1,5 @@
 use Rattle.std.proofs.Common.{arith, refl, rules}
-use Rattle.jser_reader.proofs.FlatLemmas.{no_other}
+use Rattle.jser_reader.proofs.WholeLemmas.{no_other}
 use Rattle.jser_reader.proofs.ManyObjects.{not_opened, was_opened, was_assigned, object_ended, object_opened}
 use Rattle.jser_reader.proofs.ManyPlain.{nothing_done}
 use Rattle.jser_reader.proofs.ManySections.{opens_of, ended_of}

@@ -1,5 +1,5 @@
 use Rattle.std.proofs.Common.{rules}
-use Rattle.jser_reader.proofs.FlatLemmas.{no_other, other_assigned}
+use Rattle.jser_reader.proofs.WholeLemmas.{no_other, other_assigned}
 use Rattle.jser_reader.proofs.ManyObjects.{has_put, none_put, opens, put_parts, opens_nothing}
 use Rattle.jser_reader.proofs.machine.Machine.open_frame.Goals as goal
 

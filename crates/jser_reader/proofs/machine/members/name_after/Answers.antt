@@ -1,5 +1,5 @@
 use Rattle.std.proofs.Common.{rules, arith}
-use Rattle.jser_reader.proofs.RunItems.{plain_text}
+use Rattle.jser_reader.proofs.PlainTextLemmas.{plain_text}
 use Rattle.jser_reader.proofs.machine.members.name_after.Goals as goal
 
 pub returns : goal.returns

@@ -1,5 +1,5 @@
 use Rattle.std.proofs.Common.{arith, rules}
-use Rattle.jser_reader.proofs.RunItems.{plain_text}
+use Rattle.jser_reader.proofs.PlainTextLemmas.{plain_text}
 use Rattle.jser_reader.proofs.machine.many.plain.text_here.Goals as goal
 
 pub returns-then-is_plain_between : goal.returns-then-is_plain_between

@@ -1,6 +1,6 @@
 use Rattle.std.proofs.Common.{◌-◌, ◌≤◌, length}
 use Rattle.jser_prim.specs.WholeUnits.{IsAsciiBetween}
-use Rattle.jser_reader.proofs.machine.run_items.is_plain_between.Given as goal
+use Rattle.jser_reader.proofs.machine.plain_text.is_plain_between.Given as goal
 
 abbrev pub invariant-loads : goal.invariant-loads
 invariant-loads l = record {

@@ -2,7 +2,7 @@ use Rattle.std.proofs.Common.{ℕ, leb, cond, refl, arith}
 use Rattle.std.proofs.lemmas.Simd.{length-chunk, splat_is_map, zip2_of_maps, zip2_splat}
 use lib.Lanes.{chunk}
 use Rattle.jser_prim.proofs.LaneLemmas.{run_within, run_is_ascii}
-use Rattle.jser_reader.proofs.machine.run_items.plain_run.Goals as goal
+use Rattle.jser_reader.proofs.machine.plain_text.plain_run.Goals as goal
 
 pub returns-clause-within : goal.returns-clause-within
 returns-clause-within c =
