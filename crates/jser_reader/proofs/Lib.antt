@@ -56,7 +56,6 @@ pub mod MemberLemmas
 pub mod LentLemmas
 pub mod RawsToldLemmas
 pub mod RawLemmas
-mod RawJumps
 pub mod PlainTextLemmas
 pub mod NameSteps
 pub mod ManyLemmas

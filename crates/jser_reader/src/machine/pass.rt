@@ -105,32 +105,6 @@ impl Machine {
         self.take_prims(piece).passed(piece.len())
     }
 
-    /// Takes raw values, those that come after them in the same section, and those of further sections.
-    #[inline(never)]
-    pub(super) fn pass_prims(&mut self, piece: &[u8]) -> Option<usize>
-        requires can { CanPass self.old piece.now }
-        requires some { 0 < length piece.now }
-        requires phase { self.old.phase ≡ Phase.Prims }
-        ensures passes { (gate : ToldGate) (tally : Tally) → Passes gate piece.now result self.old tally self.new tally }
-        ensures progress { HasPassed piece.now result }
-    {
-        let mut used = match self.whole_raws(piece) {
-            None => return self.pass_prim(piece),
-            Some(first) => first,
-        };
-        'values: while used < piece.len() {
-            let (_, rest) = piece.split_at(used);
-            if self.phase != Phase::Prims || !self.has_room(rest) {
-                return Some(used);
-            }
-            match self.whole_raws(rest) {
-                None => return Some(used),
-                Some(more) => used += more,
-            }
-        }
-        Some(used)
-    }
-
     /// Takes bytes of the field that is open, whichever it is, where no count changes with it.
     #[inline(always)]
     pub(super) fn pass_quiet<G: Gate>(&mut self, gate: &G, piece: &[u8]) -> Option<usize>
@@ -165,7 +139,7 @@ impl Machine {
         }
         match self.phase {
             Phase::Top | Phase::Value | Phase::Note => self.pass_values(tally, piece),
-            Phase::Prims => self.pass_prims(piece),
+            Phase::Prims => self.pass_prim(piece),
             Phase::TypeCode | Phase::Length2 | Phase::Text | Phase::Suid => {
                 self.pass_classes(gate, tally, piece)
             }

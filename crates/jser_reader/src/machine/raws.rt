@@ -86,52 +86,11 @@ impl Machine {
         }
     }
 
-    /// The end of the raw values of the last section, where the table knows at once that the sections from the first one on
-    /// have raw values alone, but for the last, and all of them are in the piece.
-    #[inline(always)]
-    fn raws_at_once(&self, piece: &[u8], first: &RawsEnd) -> Option<RawsEnd>
-        requires on { IsOn self.now.table.chains first.now.last first.now.section }
-        requires within { first.now.used ≤ length piece.now }
-        ensures { IfSome result (λ end. GoesTo self.now.table.chains (length piece.now) first.now end) }
-    {
-        if first.section == first.last || first.values != 0 || first.is_annotated {
-            return None;
-        }
-        let Some(bytes) = self.table.raws_between(first.last, first.section) else {
-            return None;
-        };
-        if piece.len() - first.used < bytes as usize {
-            return None;
-        }
-        let held = self.table.section(first.last);
-        Some(RawsEnd {
-            last: first.last,
-            section: first.last,
-            prims: held.prims,
-            values: held.values,
-            is_annotated: held.is_annotated,
-            used: first.used + bytes as usize,
-        })
-    }
-
     /// The end of the raw values of this section with those of the sections that come after it, as long as they have raw
     /// values alone and these are in the piece.
-    #[inline(always)]
-    pub(super) fn raws_of_sections(&self, piece: &[u8], first: RawsEnd) -> RawsEnd
-        requires on { IsOn self.now.table.chains first.last first.section }
-        requires within { first.used ≤ length piece.now }
-        ensures { GoesTo self.now.table.chains (length piece.now) first result }
-    {
-        match self.raws_at_once(piece, &first) {
-            Some(end) => end,
-            None => self.raws_one_by_one(piece, first),
-        }
-    }
-
-    /// The same, where one section after the other is looked at.
     #[tactic(auto, using(crate::proofs::RawLemmas::goes_nowhere))]
     #[inline(always)]
-    fn raws_one_by_one(&self, piece: &[u8], first: RawsEnd) -> RawsEnd
+    fn raws_of_sections(&self, piece: &[u8], first: RawsEnd) -> RawsEnd
         requires on { IsOn self.now.table.chains first.last first.section }
         requires within { first.used ≤ length piece.now }
         ensures { GoesTo self.now.table.chains (length piece.now) first result }

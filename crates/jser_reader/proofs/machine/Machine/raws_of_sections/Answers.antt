@@ -1,6 +1,6 @@
 use Rattle.std.proofs.Common.{arith, rules}
 use Rattle.jser_reader.proofs.RawLemmas.{goes_on}
-use Rattle.jser_reader.proofs.machine.Machine.raws_one_by_one.Goals as goal
+use Rattle.jser_reader.proofs.machine.Machine.raws_of_sections.Goals as goal
 
 pub sections-preserved : goal.sections-preserved
 sections-preserved c =

@@ -1,7 +1,7 @@
 use Rattle.std.proofs.Common.{length}
 use Rattle.jser_table.specs.Sections.{under}
 use Rattle.jser_reader.specs.RawRuns.{GoesTo}
-use Rattle.jser_reader.proofs.machine.Machine.raws_one_by_one.Given as goal
+use Rattle.jser_reader.proofs.machine.Machine.raws_of_sections.Given as goal
 
 abbrev pub invariant-sections : goal.invariant-sections
 invariant-sections l = GoesTo l.self.table.chains (length l.piece) l.fn.first l.end
