@@ -6,8 +6,8 @@ use Rattle.jser_reading.specs.Goals.{top_goal}
 use Rattle.jser_verdict.specs.Reasons.{bad_header}
 use Rattle.jser_verdict.specs.BytesSoFar.{differs}
 use Rattle.jser_reader.specs.declared.phase.Phase.TheVariants as phase
-use Rattle.jser_reader.specs.declared.machine.taken.Taken.{Taken}
-use Rattle.jser_reader.specs.declared.machine.taken.Taken.TheVariants as taken
+use Rattle.jser_reader.specs.declared.machine.take.taken.Taken.{Taken}
+use Rattle.jser_reader.specs.declared.machine.take.taken.Taken.TheVariants as taken
 use Rattle.jser_reader.specs.Reasons.{named}
 use Rattle.jser_reader.specs.Readers.{Seen, Ready, moment_of}
 use Rattle.jser_reader.specs.Handlers.{StopsWith, refusal, IsNext}

@@ -17,8 +17,8 @@ use Rattle.jser_reader.specs.declared.item.Step.{Step}
 use Rattle.jser_reader.specs.declared.item.Step.TheVariants as step
 use Rattle.jser_reader.specs.declared.item.Totals.{Totals}
 use Rattle.jser_reader.specs.declared.machine.Limits.{Limits as MachineLimits}
-use Rattle.jser_reader.specs.declared.machine.taken.Taken.{Taken}
-use Rattle.jser_reader.specs.declared.machine.taken.Taken.TheVariants as taken
+use Rattle.jser_reader.specs.declared.machine.take.taken.Taken.{Taken}
+use Rattle.jser_reader.specs.declared.machine.take.taken.Taken.TheVariants as taken
 use Rattle.jser_reader.specs.declared.phase.Phase.{Phase}
 use Rattle.jser_reader.specs.declared.phase.Phase.TheVariants as phase
 use Rattle.jser_reader.specs.declared.refusal.Stop.{Stop}

@@ -5,10 +5,10 @@ use Rattle.jser_prim.specs.Bytes.{big_bytes}
 use Rattle.jser_reading.specs.FieldsFromBytes.{head_size}
 use Rattle.jser_reading.proofs.Decoding.{length-big_bytes}
 use Rattle.jser_verdict.specs.Gates.{Gate}
-use Rattle.jser_reader.specs.declared.machine.take_texts.Progress.{Progress}
-use Rattle.jser_reader.specs.declared.machine.take_texts.Progress.TheVariants as progress
-use Rattle.jser_reader.specs.declared.machine.taken.Taken.{Taken}
-use Rattle.jser_reader.specs.declared.machine.taken.Taken.TheVariants as taken
+use Rattle.jser_reader.specs.declared.machine.take.texts.Progress.{Progress}
+use Rattle.jser_reader.specs.declared.machine.take.texts.Progress.TheVariants as progress
+use Rattle.jser_reader.specs.declared.machine.take.taken.Taken.{Taken}
+use Rattle.jser_reader.specs.declared.machine.take.taken.Taken.TheVariants as taken
 use Rattle.jser_reader.specs.declared.phase.Phase.TheVariants as phase
 use Rattle.jser_reader.specs.Readers.{Seen, length_phase}
 use Rattle.jser_reader.specs.Walks.{size_of_phase, open_phase, cut_of}

@@ -15,7 +15,7 @@ use Rattle.jser_reader.specs.declared.frame.Owner.{Owner}
 use Rattle.jser_reader.specs.declared.item.Item.{Item}
 use Rattle.jser_reader.specs.declared.item.Item.TheVariants as item
 use Rattle.jser_reader.specs.declared.item.Step.TheVariants as step
-use Rattle.jser_reader.specs.declared.machine.taken.Taken.TheVariants as taken
+use Rattle.jser_reader.specs.declared.machine.take.taken.Taken.TheVariants as taken
 use Rattle.jser_reader.specs.declared.phase.Phase.{Phase}
 use Rattle.jser_reader.specs.declared.phase.Phase.TheVariants as phase
 use Rattle.jser_reader.specs.declared.refusal.Stop.{Stop}

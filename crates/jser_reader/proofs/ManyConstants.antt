@@ -13,7 +13,7 @@ use Rattle.jser_table.specs.Tables.{IsClass}
 use Rattle.jser_reader.specs.declared.frame.Owner.TheVariants as owner
 use Rattle.jser_reader.specs.declared.machine.many.counts.Counts.{Counts}
 use Rattle.jser_reader.specs.declared.machine.many.counts.Turn.TheVariants as turn
-use Rattle.jser_reader.specs.declared.machine.taken.Taken.TheVariants as taken
+use Rattle.jser_reader.specs.declared.machine.take.taken.Taken.TheVariants as taken
 use Rattle.jser_reader.specs.declared.phase.Phase.TheVariants as phase
 use Rattle.jser_reader.specs.declared.phase.TextFor.TheVariants as text
 use Rattle.jser_reader.specs.declared.tally.Tally.{Tally}

@@ -10,7 +10,7 @@ use Rattle.jser_reader.specs.declared.frame.Frame.{Frame}
 use Rattle.jser_reader.specs.declared.frame.Frame.TheVariants as frame
 use Rattle.jser_reader.specs.declared.machine.many.counts.Counts.{Counts}
 use Rattle.jser_reader.specs.declared.machine.many.counts.Turn.TheVariants as turn
-use Rattle.jser_reader.specs.declared.machine.taken.Taken.TheVariants as taken
+use Rattle.jser_reader.specs.declared.machine.take.taken.Taken.TheVariants as taken
 use Rattle.jser_reader.specs.declared.phase.Phase.TheVariants as phase
 use Rattle.jser_reader.specs.declared.tally.Tally.{Tally}
 use Rattle.jser_reader.specs.Frames.{frame_goals}

@@ -4,7 +4,7 @@ use Rattle.std.proofs.Common.{◌≡◌, ℕ, ◌+◌, ◌<◌, ◌≤◌, Bool,
 use Rattle.std.proofs.lemmas.List.{length-drop, length-take-le}
 use Rattle.jser_reading.specs.Goals.{settle}
 use Rattle.jser_verdict.specs.Gates.{Gate}
-use Rattle.jser_reader.specs.declared.machine.taken.Taken.TheVariants as taken
+use Rattle.jser_reader.specs.declared.machine.take.taken.Taken.TheVariants as taken
 use Rattle.jser_reader.specs.declared.phase.Phase.TheVariants as phase
 use Rattle.jser_reader.specs.declared.phase.TextFor.TheVariants as text
 use Rattle.jser_reader.specs.declared.tag.ValueTag.TheVariants as value

@@ -11,8 +11,8 @@ use Rattle.jser_reading.specs.ComesNext.{ComesNext}
 use Rattle.jser_reading.proofs.Next.{next_law}
 use Rattle.jser_verdict.specs.Gates.{Gate, IsGate}
 use Rattle.jser_reader.specs.declared.item.Step.{Step}
-use Rattle.jser_reader.specs.declared.machine.taken.Taken.{Taken}
-use Rattle.jser_reader.specs.declared.machine.taken.Taken.TheVariants as taken
+use Rattle.jser_reader.specs.declared.machine.take.taken.Taken.{Taken}
+use Rattle.jser_reader.specs.declared.machine.take.taken.Taken.TheVariants as taken
 use Rattle.jser_reader.specs.declared.phase.Phase.TheVariants as phase
 use Rattle.jser_reader.specs.declared.refusal.Stop.{Stop}
 use Rattle.jser_reader.specs.declared.refusal.Stop.TheVariants as stop

@@ -7,7 +7,7 @@ use Rattle.jser_prim.specs.ModifiedUtf8.{modified_utf8}
 use Rattle.jser_prim.specs.WholeUnits.{IsAsciiBetween}
 use Rattle.jser_verdict.specs.Gates.{Gate}
 use Rattle.jser_verdict.specs.Verdicts.{class_name_reason}
-use Rattle.jser_reader.specs.declared.machine.taken.Taken.TheVariants as taken
+use Rattle.jser_reader.specs.declared.machine.take.taken.Taken.TheVariants as taken
 use Rattle.jser_reader.specs.declared.phase.Phase.TheVariants as phase
 use Rattle.jser_reader.specs.declared.phase.TextFor.TheVariants as text
 use Rattle.jser_reader.specs.declared.tally.Tally.{Tally}

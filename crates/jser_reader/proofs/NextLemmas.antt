@@ -19,8 +19,8 @@ use Rattle.jser_reader.specs.Walks.{IsNew, gate_with, HasTaken, Takes, Keeps, St
 use Rattle.jser_reader.specs.declared.tally.Tally.{Tally}
 use Rattle.jser_reader.specs.Tallies.{no_tally, mark_of, tally_after, HasCounted, totals_of, AreTotals}
 use Rattle.jser_reader.specs.Takes.{TakenCases, TakesFromFor}
-use Rattle.jser_reader.specs.declared.machine.taken.Taken.{Taken}
-use Rattle.jser_reader.specs.declared.machine.taken.Taken.TheVariants as taken
+use Rattle.jser_reader.specs.declared.machine.take.taken.Taken.{Taken}
+use Rattle.jser_reader.specs.declared.machine.take.taken.Taken.TheVariants as taken
 use Rattle.jser_reader.specs.States.{HasLimits, AreLimitsOf, IsWithin, AnswersStop, stop_after, exceeded}
 use Rattle.jser_reader.specs.ReaderStates.{IsItem, HasProgress, StandsFor, HasRefused, IsSpent, NextCases, NextTells, StaysStopped, FinishCases, FinishTells}
 use Rattle.jser_reader.proofs.JoinLemmas.{kept_none}

@@ -17,8 +17,8 @@ use Rattle.jser_reading.specs.Totals.{one_more_if, count_of, number_if}
 use Rattle.jser_verdict.specs.Gates.{Gate, IsGate, pass}
 use Rattle.jser_reader.specs.declared.item.Item.TheVariants as item
 use Rattle.jser_reader.specs.declared.item.Step.TheVariants as step
-use Rattle.jser_reader.specs.declared.machine.taken.Taken.{Taken}
-use Rattle.jser_reader.specs.declared.machine.taken.Taken.TheVariants as taken
+use Rattle.jser_reader.specs.declared.machine.take.taken.Taken.{Taken}
+use Rattle.jser_reader.specs.declared.machine.take.taken.Taken.TheVariants as taken
 use Rattle.jser_reader.specs.declared.phase.Phase.{Phase}
 use Rattle.jser_reader.specs.declared.phase.Phase.TheVariants as phase
 use Rattle.jser_reader.specs.declared.phase.TextFor.{TextFor}

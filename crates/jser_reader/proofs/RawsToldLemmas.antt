@@ -10,7 +10,7 @@ use Rattle.jser_reading.specs.Accepts.{label_of, AcceptsAt, Accepts}
 use Rattle.jser_reading.specs.Machine.{begin_state, left}
 use Rattle.jser_reading.proofs.Walking.{joined-append}
 use Rattle.jser_verdict.specs.Gates.{Gate}
-use Rattle.jser_reader.specs.declared.machine.taken.Taken.TheVariants as taken
+use Rattle.jser_reader.specs.declared.machine.take.taken.Taken.TheVariants as taken
 use Rattle.jser_reader.specs.declared.phase.Phase.TheVariants as phase
 use Rattle.jser_reader.specs.declared.tally.Tally.{Tally}
 use Rattle.jser_reader.specs.Bounds.{AreAssigned}

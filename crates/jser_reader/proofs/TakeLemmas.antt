@@ -7,7 +7,7 @@ use Rattle.jser_reading.specs.FieldsFromBytes.{tag_from}
 use Rattle.jser_verdict.specs.Reasons.{handle_space}
 use Rattle.jser_verdict.specs.Gates.{Gate}
 use Rattle.jser_verdict.specs.Verdicts.{told_if, content_reason, inner_reason, class_tag_reason, class_handle_reason, array_reason, count_reason, flags_reason, code_reason}
-use Rattle.jser_reader.specs.declared.machine.taken.Taken.{Taken}
+use Rattle.jser_reader.specs.declared.machine.take.taken.Taken.{Taken}
 use Rattle.jser_reader.specs.declared.phase.Phase.{Phase}
 use Rattle.jser_reader.specs.declared.phase.Phase.TheVariants as phase
 use Rattle.jser_reader.specs.Fitting.{HasDescriptor}

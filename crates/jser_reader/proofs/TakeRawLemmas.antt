@@ -2,8 +2,8 @@
 use Rattle.std.proofs.Common.{◌≡◌, ℕ, ◌+◌, ◌<◌, ◌≤◌, max, min, true, List, ◌++◌, length, take, refl, sym, ◌∙◌, ap, subst, arith}
 use Rattle.std.proofs.lemmas.List.{length-take-le, take_all}
 use Rattle.jser_reading.specs.Goals.{settled}
-use Rattle.jser_reader.specs.declared.machine.taken.Taken.{Taken}
-use Rattle.jser_reader.specs.declared.machine.taken.Taken.TheVariants as taken
+use Rattle.jser_reader.specs.declared.machine.take.taken.Taken.{Taken}
+use Rattle.jser_reader.specs.declared.machine.take.taken.Taken.TheVariants as taken
 use Rattle.jser_reader.specs.declared.phase.Phase.TheVariants as phase
 use Rattle.jser_reader.specs.Readers.{Seen}
 use Rattle.jser_reader.specs.Steps.{after_value}

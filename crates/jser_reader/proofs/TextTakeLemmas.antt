@@ -8,8 +8,8 @@ use Rattle.jser_reading.specs.FieldsFromBytes.{head_size}
 use Rattle.jser_reading.specs.Goals.{settle}
 use Rattle.jser_verdict.specs.Reasons.{negative_length}
 use Rattle.jser_verdict.specs.Gates.{Gate}
-use Rattle.jser_reader.specs.declared.machine.take_texts.Progress.{Progress}
-use Rattle.jser_reader.specs.declared.machine.take_texts.Progress.TheVariants as progress
+use Rattle.jser_reader.specs.declared.machine.take.texts.Progress.{Progress}
+use Rattle.jser_reader.specs.declared.machine.take.texts.Progress.TheVariants as progress
 use Rattle.jser_reader.specs.declared.phase.Phase.TheVariants as phase
 use Rattle.jser_reader.specs.declared.phase.TextFor.{TextFor}
 use Rattle.jser_reader.specs.declared.phase.TextFor.TheVariants as text

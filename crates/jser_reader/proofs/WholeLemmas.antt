@@ -17,7 +17,7 @@ use Rattle.jser_verdict.specs.Verdicts.{class_handle_reason}
 use Rattle.jser_reading.specs.Goals.{State}
 use Rattle.jser_reader.specs.declared.frame.Owner.{Owner}
 use Rattle.jser_reader.specs.declared.frame.Owner.TheVariants as owner
-use Rattle.jser_reader.specs.declared.machine.taken.Taken.TheVariants as taken
+use Rattle.jser_reader.specs.declared.machine.take.taken.Taken.TheVariants as taken
 use Rattle.jser_reader.specs.declared.phase.Phase.{Phase}
 use Rattle.jser_reader.specs.declared.phase.Phase.TheVariants as phase
 use Rattle.jser_reader.specs.declared.phase.TextFor.TheVariants as text

@@ -4,8 +4,8 @@ use Rattle.jser_grammar.specs.Parts.{IsBytes}
 use Rattle.jser_reading.specs.Labels.{Label, Piece}
 use Rattle.jser_reading.specs.ComesNext.{ComesNext}
 use Rattle.jser_verdict.specs.Gates.{Gate, IsGate}
-use Rattle.jser_reader.specs.declared.machine.taken.Taken.{Taken}
-use Rattle.jser_reader.specs.declared.machine.taken.Taken.TheVariants as taken
+use Rattle.jser_reader.specs.declared.machine.take.taken.Taken.{Taken}
+use Rattle.jser_reader.specs.declared.machine.take.taken.Taken.TheVariants as taken
 use Rattle.jser_reader.specs.declared.phase.Phase.{Phase}
 use Rattle.jser_reader.specs.declared.phase.Phase.TheVariants as phase
 use Rattle.jser_reader.specs.declared.refusal.Stop.{Stop}

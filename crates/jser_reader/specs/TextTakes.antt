@@ -7,10 +7,10 @@ use Rattle.jser_verdict.specs.Gates.{Gate}
 use Rattle.jser_reader.specs.declared.phase.Phase.TheVariants as phase
 use Rattle.jser_reader.specs.declared.refusal.Reason.TheVariants as reason
 use Rattle.jser_reader.specs.declared.refusal.Stop.TheVariants as stop
-use Rattle.jser_reader.specs.declared.machine.take_texts.Progress.{Progress}
-use Rattle.jser_reader.specs.declared.machine.take_texts.Progress.TheVariants as progress
-use Rattle.jser_reader.specs.declared.machine.taken.Taken.{Taken}
-use Rattle.jser_reader.specs.declared.machine.taken.Taken.TheVariants as taken
+use Rattle.jser_reader.specs.declared.machine.take.texts.Progress.{Progress}
+use Rattle.jser_reader.specs.declared.machine.take.texts.Progress.TheVariants as progress
+use Rattle.jser_reader.specs.declared.machine.take.taken.Taken.{Taken}
+use Rattle.jser_reader.specs.declared.machine.take.taken.Taken.TheVariants as taken
 use Rattle.jser_reader.specs.Readers.{Seen, is_checked, IsInside}
 use Rattle.jser_reader.specs.Handlers.{StopsWith, refusal, TellsSurely}
 use Rattle.jser_reader.specs.TextStates.{text_reason, after_text}

@@ -11,7 +11,7 @@ ghost use Rattle.jser_reader.specs.WholesTold.{WholeCases};
 use crate::gate::Gate;
 use crate::item::{Step, Totals, Whole};
 use crate::machine::items::{Kept, item_of};
-use crate::machine::taken::Taken;
+use crate::machine::take::taken::Taken;
 use crate::machine::wholes::lent::Lent;
 use crate::machine::{Limits, Machine};
 use crate::phase::Phase;

@@ -68,6 +68,21 @@ pub layer_of_grows : (chains more : List (List Layer)) (section : ℕ) → HasSe
 unfolding layer_of
 layer_of_grows chains more section has = ap (λ layers. or_no_layer (own_layer layers)) (down_to_grows chains more section has)
 
+-- the layers after a section are the same
+pub under_grows : (chains more : List (List Layer)) (last section : ℕ) → HasSection chains last → HasSection chains section → under (chains ++ more) last section ≡ under chains last section
+unfolding under
+under_grows chains more last section has_last has =
+    rw (down_to_grows chains more last has_last, down_to_grows chains more section has) refl
+
+-- data that held a section hold it
+pub is_on_grows : (chains more : List (List Layer)) (last section : ℕ) → IsOn chains last section → IsOn (chains ++ more) last section
+is_on_grows chains more last section on = record {
+  last_in = has_section_grows chains more last on.last_in;
+  section_in = has_section_grows chains more section on.section_in;
+  front = rw (down_to_grows chains more last on.last_in, down_to_grows chains more section on.section_in) on.front;
+  filled = rw (layer_of_grows chains more section on.section_in) on.filled;
+}
+
 -- the lowest section of a chain
 pub last_grows : (chains more : List (List Layer)) (chain : List Layer) (last : Option ℕ) → IsLast chains chain last → IsLast (chains ++ more) chain last
 last_grows chains more chain None is = is

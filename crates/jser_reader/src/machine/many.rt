@@ -29,7 +29,7 @@ mod sections;
 impl Machine {
     /// Where a content or a value comes next, by what is on top.
     #[inline(always)]
-    pub(super) fn phase_on_top(&self) -> Phase
+    pub(crate) fn phase_on_top(&self) -> Phase
         ensures { result ≡ phase_on self.now.frames }
     {
         match self.frames.top() {
@@ -121,7 +121,7 @@ impl Machine {
     /// Takes contents and values from the front of the piece, as many as are common and have all their bytes there, and returns
     /// how many bytes they are.
     #[inline(never)]
-    pub(super) fn pass_many(&mut self, tally: &mut Tally, piece: &[u8]) -> usize
+    pub(crate) fn pass_many(&mut self, tally: &mut Tally, piece: &[u8]) -> usize
         requires can { CanPass self.old piece.now }
         requires some { 0 < length piece.now }
         ensures passes { (gate : ToldGate) → IsGate gate → Passes gate piece.now (Some result) self.old tally.old self.new tally.new }

@@ -8,14 +8,20 @@ ghost use Rattle.jser_verdict.specs.Gates.{Gate as ToldGate, IsGate};
 
 use crate::gate::Gate;
 use crate::machine::Machine;
-use crate::machine::taken::Taken;
+use crate::machine::take::taken::Taken;
 use crate::phase::Phase;
 use crate::tally::Tally;
+
+mod class_names;
+mod classes;
+mod descriptors;
+mod members;
+pub(crate) mod plain_text;
 
 impl Machine {
     /// Takes bytes of the field that is open, whichever it is.
     #[inline(never)]
-    pub(super) fn pass_field<G: Gate>(
+    pub(crate) fn pass_field<G: Gate>(
         &mut self,
         gate: &G,
         tally: &mut Tally,
@@ -57,7 +63,7 @@ impl Machine {
 
     /// Takes a tag, which comes next.
     #[inline(always)]
-    pub(super) fn pass_tag(&mut self, tally: &mut Tally, piece: &[u8]) -> Option<usize>
+    pub(crate) fn pass_tag(&mut self, tally: &mut Tally, piece: &[u8]) -> Option<usize>
         requires can { CanPass self.old piece.now }
         requires some { 0 < length piece.now }
         requires one { IsOne self.old.phase }
@@ -107,7 +113,7 @@ impl Machine {
 
     /// Takes bytes of the field that is open, whichever it is, where no count changes with it.
     #[inline(always)]
-    pub(super) fn pass_quiet<G: Gate>(&mut self, gate: &G, piece: &[u8]) -> Option<usize>
+    pub(crate) fn pass_quiet<G: Gate>(&mut self, gate: &G, piece: &[u8]) -> Option<usize>
         requires can { CanPass self.old piece.now }
         requires some { 0 < length piece.now }
         requires quiet { IsQuiet self.old.phase }

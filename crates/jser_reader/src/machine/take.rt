@@ -4,8 +4,18 @@ ghost use Rattle.jser_reader.specs.Takes.{TakesFromFor};
 
 use crate::gate::Gate;
 use crate::machine::Machine;
-use crate::machine::taken::Taken;
+use crate::machine::take::taken::Taken;
 use crate::phase::Phase;
+
+mod cut;
+mod header;
+mod lengths;
+mod numbers;
+mod raw;
+mod tags;
+pub(crate) mod taken;
+pub(crate) mod text_bytes;
+pub(crate) mod texts;
 
 impl Machine {
     /// Takes bytes of the field that is open: as many as are missing of it, or all of the piece.

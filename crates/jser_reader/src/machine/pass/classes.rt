@@ -1,0 +1,118 @@
+//! Descriptors in steps of a call that takes a whole piece: after the fields of one come the end of its annotation, its
+//! superclass place, and often the tag of the next descriptor. Where they do, they are taken in the same step.
+ghost use Rattle.std.specs.Prelude.{◌≡◌, ◌<◌, length, Some};
+ghost use Rattle.jser_reader.specs.Passes.{Passes, PassesOn, HasPassed, CanPass, IsQuiet};
+ghost use Rattle.jser_reader.specs.Takes.{IsOne};
+
+use crate::gate::Gate;
+use crate::machine::Machine;
+use crate::phase::Phase;
+use crate::tally::Tally;
+use jser_grammar::wire::{TC_CLASSDESC, TC_ENDBLOCKDATA};
+
+impl Machine {
+    /// After so many bytes of a piece, where this tag comes next in this phase, takes it too; else nothing more. It returns
+    /// how many bytes were taken in all.
+    #[inline(always)]
+    fn then_tag(
+        &mut self,
+        tally: &mut Tally,
+        piece: &[u8],
+        used: usize,
+        next: Phase,
+        tag: u8,
+    ) -> Option<usize>
+        requires used { HasPassed piece.now (Some used) }
+        requires one { IsOne next }
+        ensures passes { PassesOn piece.now used result self.old tally.old self.new tally.new }
+        ensures progress { HasPassed piece.now result }
+    {
+        let (_, rest) = piece.split_at(used);
+        if self.phase != next || rest.is_empty() || rest[0] != tag || !self.has_room(rest) {
+            return Some(used);
+        }
+        match self.pass_tag(tally, rest) {
+            None => None,
+            Some(more) => Some(used + more),
+        }
+    }
+
+    /// After so many bytes of a piece, where a superclass place comes next, takes its tag too; else nothing more. It returns
+    /// how many bytes were taken in all.
+    #[inline(always)]
+    fn then_superclass(&mut self, tally: &mut Tally, piece: &[u8], used: usize) -> Option<usize>
+        requires used { HasPassed piece.now (Some used) }
+        ensures passes { PassesOn piece.now used result self.old tally.old self.new tally.new }
+        ensures progress { HasPassed piece.now result }
+    {
+        let (_, rest) = piece.split_at(used);
+        if self.phase != Phase::SuperTag || rest.is_empty() || !self.has_room(rest) {
+            return Some(used);
+        }
+        match self.pass_tag(tally, rest) {
+            None => None,
+            Some(more) => Some(used + more),
+        }
+    }
+
+    /// After so many bytes of a piece, takes what comes after the fields of a descriptor: the end of its annotation, the tag
+    /// of its superclass place, and the tag of another descriptor at the top. It returns how many bytes were taken in all.
+    #[inline(always)]
+    fn then_class(&mut self, tally: &mut Tally, piece: &[u8], used: usize) -> Option<usize>
+        requires used { HasPassed piece.now (Some used) }
+        ensures passes { PassesOn piece.now used result self.old tally.old self.new tally.new }
+        ensures progress { HasPassed piece.now result }
+    {
+        let Some(end) = self.then_tag(tally, piece, used, Phase::Note, TC_ENDBLOCKDATA) else {
+            return None;
+        };
+        let Some(above) = self.then_superclass(tally, piece, end) else {
+            return None;
+        };
+        self.then_tag(tally, piece, above, Phase::Top, TC_CLASSDESC)
+    }
+
+    /// Takes fields with which no count changes, as many as come one after another, and what comes after those of a
+    /// descriptor.
+    #[inline(always)]
+    fn pass_class<G: Gate>(&mut self, gate: &G, tally: &mut Tally, piece: &[u8]) -> Option<usize>
+        requires can { CanPass self.old piece.now }
+        requires some { 0 < length piece.now }
+        requires quiet { IsQuiet self.old.phase }
+        ensures passes { Passes (G.told gate.now) piece.now result self.old tally.old self.new tally.new }
+        ensures progress { HasPassed piece.now result }
+    {
+        match self.pass_quiets(gate, piece) {
+            None => None,
+            Some(used) => self.then_class(tally, piece, used),
+        }
+    }
+
+    /// The same of one descriptor after another, as many as come there.
+    #[inline(never)]
+    pub(crate) fn pass_classes<G: Gate>(
+        &mut self,
+        gate: &G,
+        tally: &mut Tally,
+        piece: &[u8],
+    ) -> Option<usize>
+        requires can { CanPass self.old piece.now }
+        requires some { 0 < length piece.now }
+        requires quiet { IsQuiet self.old.phase }
+        ensures passes { Passes (G.told gate.now) piece.now result self.old tally.old self.new tally.new }
+        ensures progress { HasPassed piece.now result }
+    {
+        let mut used = 0;
+        'classes: loop {
+            let (_, rest) = piece.split_at(used);
+            match self.pass_class(gate, tally, rest) {
+                None => return None,
+                Some(more) => used += more,
+            }
+            let (_, others) = piece.split_at(used);
+            if others.is_empty() || !self.phase.is_quiet() || !self.has_room(others) {
+                return Some(used);
+            }
+        }
+    }
+}

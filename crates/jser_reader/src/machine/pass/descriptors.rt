@@ -1,0 +1,255 @@
+//! Fields of a descriptor and text places in steps of a call that takes a whole piece: where a field has ended, the one
+//! that mostly comes after it is taken in the same step, without a look at all the others.
+ghost use Rattle.std.specs.Prelude.{◌≡◌, ◌+◌, ◌<◌, ◌^◌, length, Some};
+ghost use Rattle.jser_reader.specs.Passes.{Passes, HasPassed, CanPass, IsQuiet};
+ghost use Rattle.jser_reader.specs.Readers.{Seen};
+ghost use Rattle.jser_reader.specs.Takes.{TakesByte, TakesFrom, TakesFromFor};
+
+use crate::gate::Gate;
+use crate::machine::Machine;
+use crate::machine::take::taken::Taken;
+use crate::phase::Phase;
+use crate::tally::Tally;
+use jser_grammar::wire::TC_REFERENCE;
+
+impl Machine {
+    /// Takes the type code of a field, which is counted and judged in line.
+    #[tactic(auto, using(crate::proofs::TakeLemmas::takes_type_code))]
+    #[inline(always)]
+    fn take_code_byte(&mut self, byte: u8) -> bool
+        requires phase { self.old.phase ≡ Phase.TypeCode }
+        requires room { self.old.meter.at + 1 < 2 ^ 64 }
+        ensures { TakesByte byte result self.old self.new }
+    {
+        self.at += 1;
+        self.type_code_in_line(byte)
+    }
+
+    /// Takes the tag of a text place, which is counted and judged in line.
+    #[tactic(auto, using(crate::proofs::TakeLemmas::takes_text_tag))]
+    #[inline(always)]
+    fn take_place_byte(&mut self, byte: u8) -> bool
+        requires phase { self.old.phase ≡ Phase.TextTag }
+        requires room { self.old.meter.at + 1 < 2 ^ 64 }
+        ensures { TakesByte byte result self.old self.new }
+    {
+        self.at += 1;
+        self.text_tag_in_line(byte)
+    }
+
+    /// Takes the type code of a field from a piece.
+    #[tactic(auto, using(crate::proofs::TakeLemmas::one_taken))]
+    #[inline(always)]
+    fn take_code(&mut self, piece: &[u8]) -> Taken
+        requires phase { self.old.phase ≡ Phase.TypeCode }
+        requires some { 0 < length piece.now }
+        requires room { self.old.meter.at + length piece.now < 2 ^ 64 }
+        ensures { TakesFrom result piece.now self.old self.new }
+    {
+        let goes_on = self.take_code_byte(piece[0]);
+        Taken::after(1, goes_on)
+    }
+
+    /// Takes the tag of a text place from a piece.
+    #[tactic(auto, using(crate::proofs::TakeLemmas::one_taken))]
+    #[inline(always)]
+    pub(crate) fn take_place(&mut self, piece: &[u8]) -> Taken
+        requires phase { self.old.phase ≡ Phase.TextTag }
+        requires some { 0 < length piece.now }
+        requires room { self.old.meter.at + length piece.now < 2 ^ 64 }
+        ensures { TakesFrom result piece.now self.old self.new }
+    {
+        let goes_on = if piece[0] == TC_REFERENCE {
+            self.take_place_byte(TC_REFERENCE)
+        } else {
+            self.take_text_tag(piece[0])
+        };
+        Taken::after(1, goes_on)
+    }
+
+    /// Takes the flags of a descriptor.
+    #[tactic(auto, using(crate::proofs::TakeLemmas::one_taken))]
+    #[inline(always)]
+    fn take_class_flags(&mut self, piece: &[u8]) -> Taken
+        requires phase { self.old.phase ≡ Phase.Flags }
+        requires some { 0 < length piece.now }
+        requires room { self.old.meter.at + length piece.now < 2 ^ 64 }
+        ensures { TakesFrom result piece.now self.old self.new }
+    {
+        let goes_on = self.take_flags(piece[0]);
+        Taken::after(1, goes_on)
+    }
+
+    /// Takes bytes of the field of this phase, which comes next or is open. Where the caller names the phase of a field of
+    /// a descriptor, its arm alone is left.
+    #[inline(always)]
+    fn take_known<G: Gate>(&mut self, gate: &G, piece: &[u8], phase: Phase) -> Taken
+        requires phase { self.old.phase ≡ phase }
+        requires goes_on { self.old.phase ≡ Phase.Stopped → ⊥ }
+        requires some { 0 < length piece.now }
+        requires room { self.old.meter.at + length piece.now < 2 ^ 64 }
+        ensures { TakesFromFor (G.told gate.now) result piece.now self.old self.new }
+    {
+        match phase {
+            Phase::TypeCode => self.take_code(piece),
+            Phase::Length2 => self.take_short_length(gate, piece),
+            Phase::Text => self.take_text_in_line(gate, piece),
+            Phase::TextTag => self.take_place(piece),
+            Phase::TextHandle => self.take_four(piece),
+            Phase::Suid => self.take_eight(piece),
+            Phase::Flags => self.take_class_flags(piece),
+            Phase::FieldCount => self.take_two(piece),
+            _ => self.take(gate, piece),
+        }
+    }
+
+    /// Takes bytes of the field of this phase, which comes next or is open, where no count changes with it.
+    #[inline(always)]
+    fn pass_known<G: Gate>(&mut self, gate: &G, piece: &[u8], phase: Phase) -> Option<usize>
+        requires can { CanPass self.old piece.now }
+        requires some { 0 < length piece.now }
+        requires phase { self.old.phase ≡ phase }
+        requires quiet { IsQuiet phase }
+        ensures passes { (tally : Tally) → Passes (G.told gate.now) piece.now result self.old tally self.new tally }
+        ensures progress { HasPassed piece.now result }
+    {
+        self.take_known(gate, piece, phase).passed(piece.len())
+    }
+
+    /// After so many bytes of a piece, where this field comes next there, takes bytes of it too; else nothing more. It
+    /// returns how many bytes were taken in all.
+    #[inline(always)]
+    fn go_on<G: Gate>(&mut self, gate: &G, piece: &[u8], used: usize, next: Phase) -> Option<usize>
+        requires used { HasPassed piece.now (Some used) }
+        requires quiet { IsQuiet next }
+        ensures passes { (first : Seen) (tally : Tally) → Passes (G.told gate.now) piece.now (Some used) first tally self.old tally
+            → Passes (G.told gate.now) piece.now result first tally self.new tally }
+        ensures progress { HasPassed piece.now result }
+    {
+        let (_, rest) = piece.split_at(used);
+        if self.phase != next || rest.is_empty() || !self.has_room(rest) {
+            return Some(used);
+        }
+        match self.pass_known(gate, rest, next) {
+            None => None,
+            Some(more) => Some(used + more),
+        }
+    }
+
+    /// Takes the length of a text and, where they come next, bytes of the text.
+    #[inline(never)]
+    pub(crate) fn pass_length<G: Gate>(&mut self, gate: &G, piece: &[u8]) -> Option<usize>
+        requires can { CanPass self.old piece.now }
+        requires some { 0 < length piece.now }
+        requires phase { self.old.phase ≡ Phase.Length2 }
+        ensures passes { (tally : Tally) → Passes (G.told gate.now) piece.now result self.old tally self.new tally }
+        ensures progress { HasPassed piece.now result }
+    {
+        let Some(length) = self.pass_known(gate, piece, Phase::Length2) else {
+            return None;
+        };
+        self.go_on(gate, piece, length, Phase::Text)
+    }
+
+    /// Takes the length of a text and the text; and where it is the name of a class, what comes up to the number of its
+    /// fields.
+    #[inline(always)]
+    fn pass_text<G: Gate>(&mut self, gate: &G, piece: &[u8]) -> Option<usize>
+        requires can { CanPass self.old piece.now }
+        requires some { 0 < length piece.now }
+        requires phase { self.old.phase ≡ Phase.Length2 }
+        ensures passes { (tally : Tally) → Passes (G.told gate.now) piece.now result self.old tally self.new tally }
+        ensures progress { HasPassed piece.now result }
+    {
+        let Some(text) = self.pass_name(gate, piece) else {
+            return None;
+        };
+        let Some(suid) = self.go_on(gate, piece, text, Phase::Suid) else {
+            return None;
+        };
+        let Some(flags) = self.go_on(gate, piece, suid, Phase::Flags) else {
+            return None;
+        };
+        self.go_on(gate, piece, flags, Phase::FieldCount)
+    }
+
+    /// Takes the type code of a field of a descriptor, its name, and its type where that is a reference.
+    #[inline(always)]
+    fn pass_member<G: Gate>(&mut self, gate: &G, piece: &[u8]) -> Option<usize>
+        requires can { CanPass self.old piece.now }
+        requires some { 0 < length piece.now }
+        requires phase { self.old.phase ≡ Phase.TypeCode }
+        ensures passes { (tally : Tally) → Passes (G.told gate.now) piece.now result self.old tally self.new tally }
+        ensures progress { HasPassed piece.now result }
+    {
+        let Some(code) = self.pass_known(gate, piece, Phase::TypeCode) else {
+            return None;
+        };
+        let Some(length) = self.go_on(gate, piece, code, Phase::Length2) else {
+            return None;
+        };
+        let Some(name) = self.go_on(gate, piece, length, Phase::Text) else {
+            return None;
+        };
+        let Some(tag) = self.go_on(gate, piece, name, Phase::TextTag) else {
+            return None;
+        };
+        self.go_on(gate, piece, tag, Phase::TextHandle)
+    }
+
+    /// Takes fields of a descriptor, as many as are whole in the piece; where the next one is not, its type code alone, and
+    /// what mostly comes after it.
+    #[inline(always)]
+    fn pass_fields<G: Gate>(&mut self, gate: &G, piece: &[u8]) -> Option<usize>
+        requires can { CanPass self.old piece.now }
+        requires some { 0 < length piece.now }
+        requires phase { self.old.phase ≡ Phase.TypeCode }
+        ensures passes { (tally : Tally) → Passes (G.told gate.now) piece.now result self.old tally self.new tally }
+        ensures progress { HasPassed piece.now result }
+    {
+        let used = self.pass_members(piece);
+        if used > 0 {
+            return Some(used);
+        }
+        self.pass_member(gate, piece)
+    }
+
+    /// Takes a field that is open, or comes next, with those that mostly come after it.
+    #[inline(always)]
+    fn pass_group<G: Gate>(&mut self, gate: &G, piece: &[u8]) -> Option<usize>
+        requires can { CanPass self.old piece.now }
+        requires some { 0 < length piece.now }
+        requires quiet { IsQuiet self.old.phase }
+        ensures passes { (tally : Tally) → Passes (G.told gate.now) piece.now result self.old tally self.new tally }
+        ensures progress { HasPassed piece.now result }
+    {
+        match self.phase {
+            Phase::TypeCode => self.pass_fields(gate, piece),
+            Phase::Length2 => self.pass_text(gate, piece),
+            _ => self.pass_quiet(gate, piece),
+        }
+    }
+
+    /// Takes fields with which no count changes, as many as come one after another.
+    #[inline(always)]
+    pub(crate) fn pass_quiets<G: Gate>(&mut self, gate: &G, piece: &[u8]) -> Option<usize>
+        requires can { CanPass self.old piece.now }
+        requires some { 0 < length piece.now }
+        requires quiet { IsQuiet self.old.phase }
+        ensures passes { (tally : Tally) → Passes (G.told gate.now) piece.now result self.old tally self.new tally }
+        ensures progress { HasPassed piece.now result }
+    {
+        let mut used = 0;
+        'fields: loop {
+            let (_, rest) = piece.split_at(used);
+            match self.pass_group(gate, rest) {
+                None => return None,
+                Some(more) => used += more,
+            }
+            let (_, others) = piece.split_at(used);
+            if others.is_empty() || !self.phase.is_quiet() || !self.has_room(others) {
+                return Some(used);
+            }
+        }
+    }
+}

@@ -1,0 +1,170 @@
+//! Fields of a descriptor of which all bytes are in the piece: the type code, the name, and the type where that is a
+//! reference. Each is taken in one step, and as many as come one after another.
+ghost use Rattle.std.specs.Prelude.{◌≡◌, ◌+◌, ◌<◌, ◌≤◌, true, false, get_or, length, drop, IfSome, Some, None};
+ghost use Rattle.jser_table.specs.Codes.{is_object_code};
+ghost use Rattle.jser_verdict.specs.Gates.{Gate as ToldGate};
+ghost use Rattle.jser_reader.specs.Passes.{Passes, CanPass};
+ghost use Rattle.jser_reader.specs.Wholes.{HasText};
+ghost use Rattle.jser_reader.specs.Members.{BeginsMember, HasType};
+
+use crate::machine::Machine;
+use crate::machine::fields::is_object_code;
+use crate::machine::pass::plain_text::is_plain_between;
+use crate::machine::wholes::number_after;
+use crate::phase::Phase;
+use crate::tally::Tally;
+use jser_grammar::wire::{BASE_WIRE_HANDLE, TC_REFERENCE};
+use jser_prim::read_u16;
+use jser_table::Entry;
+
+/// How many bytes the name has whose length comes after a type code, where all of them are there and each is a unit.
+#[inline(always)]
+fn name_after(piece: &[u8]) -> Option<usize>
+    ensures { IfSome result (λ len. HasText piece.now len) }
+{
+    if piece.len() < 3 {
+        return None;
+    }
+    let (_, rest) = piece.split_at(1);
+    let (number, _) = rest.split_at(2);
+    let len = read_u16(number) as usize;
+    if !is_plain_between(piece, 3, len + 3) {
+        return None;
+    }
+    Some(len)
+}
+
+impl Machine {
+    /// The handle of the reference at the front of the piece, where that is one to a string and all its bytes are there.
+    #[inline(always)]
+    fn type_here(&self, piece: &[u8]) -> Option<u32>
+        ensures { IfSome result (λ n. HasType piece.now n self.now) }
+    {
+        let Some(n) = number_after(piece) else {
+            return None;
+        };
+        if piece[0] != TC_REFERENCE || n < BASE_WIRE_HANDLE {
+            return None;
+        }
+        match self.table.get(n - BASE_WIRE_HANDLE) {
+            Some(Entry::Text) => Some(n),
+            _ => None,
+        }
+    }
+
+    /// Keeps the type code of a field, where it may stand there and there is memory for it; or does nothing.
+    #[inline(always)]
+    fn begin_member(&mut self, code: u8, is_object: bool) -> bool
+        requires { is_object ≡ is_object_code code }
+        ensures begins { result ≡ true → BeginsMember code is_object self.old self.new }
+        ensures nothing { result ≡ false → self.new ≡ self.old }
+    {
+        if self.code_fault(code).is_some() {
+            return false;
+        }
+        self.fields.push(code, is_object).is_ok()
+    }
+
+    /// Takes a field with this type code of a primitive type, whose name has so many bytes; or does nothing.
+    #[inline(always)]
+    fn raw_member(&mut self, piece: &[u8], code: u8, len: usize) -> Option<usize>
+        requires can { CanPass self.old piece.now }
+        requires phase { self.old.phase ≡ Phase.TypeCode }
+        requires code { code ≡ get_or piece.now 0 0 }
+        requires raw { false ≡ is_object_code code }
+        requires name { HasText piece.now len }
+        ensures passes { IfSome result (λ used. (gate : ToldGate) (tally : Tally) → Passes gate piece.now (Some used) self.old tally self.new tally) }
+        ensures within { IfSome result (λ used. (0 < used) × (used ≤ length piece.now)) }
+        ensures can { IfSome result (λ used. CanPass self.new (drop used piece.now)) }
+        ensures nothing { result ≡ None → self.new ≡ self.old }
+    {
+        let _ = piece;
+        if !self.begin_member(code, false) {
+            return None;
+        }
+        self.at += len as u64 + 3;
+        self.fields_done();
+        Some(len + 3)
+    }
+
+    /// Takes a field with this type code of an object or an array, whose name has so many bytes, where its type is a
+    /// reference that is whole in the piece; or does nothing.
+    #[inline(always)]
+    fn typed_member(&mut self, piece: &[u8], code: u8, len: usize) -> Option<usize>
+        requires can { CanPass self.old piece.now }
+        requires phase { self.old.phase ≡ Phase.TypeCode }
+        requires code { code ≡ get_or piece.now 0 0 }
+        requires object { true ≡ is_object_code code }
+        requires name { HasText piece.now len }
+        ensures passes { IfSome result (λ used. (gate : ToldGate) (tally : Tally) → Passes gate piece.now (Some used) self.old tally self.new tally) }
+        ensures within { IfSome result (λ used. (0 < used) × (used ≤ length piece.now)) }
+        ensures can { IfSome result (λ used. CanPass self.new (drop used piece.now)) }
+        ensures nothing { result ≡ None → self.new ≡ self.old }
+    {
+        let (_, rest) = piece.split_at(len + 3);
+        let Some(_) = self.type_here(rest) else {
+            return None;
+        };
+        if !self.begin_member(code, true) {
+            return None;
+        }
+        self.at += len as u64 + 8;
+        self.fields_done();
+        Some(len + 8)
+    }
+
+    /// Takes a field of a descriptor, where it is whole in the piece; or does nothing.
+    #[inline(always)]
+    fn whole_member(&mut self, piece: &[u8]) -> Option<usize>
+        requires can { CanPass self.old piece.now }
+        requires phase { self.old.phase ≡ Phase.TypeCode }
+        ensures passes { IfSome result (λ used. (gate : ToldGate) (tally : Tally) → Passes gate piece.now (Some used) self.old tally self.new tally) }
+        ensures within { IfSome result (λ used. (0 < used) × (used ≤ length piece.now)) }
+        ensures can { IfSome result (λ used. CanPass self.new (drop used piece.now)) }
+        ensures nothing { result ≡ None → self.new ≡ self.old }
+    {
+        let Some(len) = name_after(piece) else {
+            return None;
+        };
+        let code = piece[0];
+        if is_object_code(code) {
+            return self.typed_member(piece, code, len);
+        }
+        self.raw_member(piece, code, len)
+    }
+
+    /// The same, where a field comes next.
+    #[inline(always)]
+    fn next_member(&mut self, piece: &[u8]) -> Option<usize>
+        requires can { CanPass self.old piece.now }
+        ensures passes { IfSome result (λ used. (gate : ToldGate) (tally : Tally) → Passes gate piece.now (Some used) self.old tally self.new tally) }
+        ensures within { IfSome result (λ used. (0 < used) × (used ≤ length piece.now)) }
+        ensures can { IfSome result (λ used. CanPass self.new (drop used piece.now)) }
+        ensures nothing { result ≡ None → self.new ≡ self.old }
+    {
+        match self.phase {
+            Phase::TypeCode => self.whole_member(piece),
+            _ => None,
+        }
+    }
+
+    /// Takes fields of a descriptor, as many as come one after another and are whole in the piece, and returns how many
+    /// bytes they are.
+    #[inline(never)]
+    pub(crate) fn pass_members(&mut self, piece: &[u8]) -> usize
+        requires can { CanPass self.old piece.now }
+        ensures passes { (gate : ToldGate) (tally : Tally) → Passes gate piece.now (Some result) self.old tally self.new tally }
+        ensures within { result ≤ length piece.now }
+        ensures nothing { result ≡ 0 → self.new ≡ self.old }
+    {
+        let mut used = 0;
+        'members: while used < piece.len() {
+            let (_, rest) = piece.split_at(used);
+            match self.next_member(rest) {
+                None => return used,
+                Some(more) => used += more,
+            }
+        }
+        used
+    }
+}

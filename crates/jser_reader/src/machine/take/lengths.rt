@@ -1,0 +1,96 @@
+//! The lengths of texts, which may be cut: they open a text of so many bytes, or end one that has none.
+ghost use Rattle.std.specs.Prelude.{◌≡◌, ◌+◌, ◌<◌, ◌^◌, length};
+ghost use Rattle.jser_reader.specs.Takes.{TakesFromFor};
+ghost use Rattle.jser_reader.specs.TextTakes.{by_progress};
+
+use crate::gate::Gate;
+use crate::machine::Machine;
+use crate::machine::take::taken::Taken;
+use crate::machine::take::texts::Progress;
+use crate::phase::Phase;
+use jser_prim::{read_u16, read_u64};
+
+/// What came of the length of a text, after so many bytes of a piece.
+fn after_length(count: usize, progress: Progress) -> Taken
+    ensures { result ≡ by_progress count progress }
+{
+    match progress {
+        Progress::Open => Taken::Part(count),
+        Progress::Ended => Taken::Ended(count),
+        Progress::Stopped => Taken::Stopped(count),
+    }
+}
+
+impl Machine {
+    /// Takes the length of a text in two bytes, which comes next, or as many of its bytes as there are.
+    #[tactic(auto, using(crate::proofs::LengthLemmas::short_kept, crate::proofs::LengthLemmas::short_taken))]
+    pub(crate) fn take_short_length<G: Gate>(&mut self, gate: &G, piece: &[u8]) -> Taken
+        requires phase { self.old.phase ≡ Phase.Length2 }
+        requires some { 0 < length piece.now }
+        requires room { self.old.meter.at + length piece.now < 2 ^ 64 }
+        ensures { TakesFromFor (G.told gate.now) result piece.now self.old self.new }
+    {
+        if piece.len() < 2 {
+            self.keep(piece);
+            return Taken::Open;
+        }
+        let (number, _) = piece.split_at(2);
+        let progress = self.take_length2(gate, read_u16(number), 2);
+        after_length(2, progress)
+    }
+
+    /// Takes the missing bytes of the length of a text in two bytes that was cut.
+    pub(crate) fn rest_of_short_length<G: Gate>(&mut self, gate: &G, piece: &[u8]) -> Taken
+        requires phase { self.old.phase ≡ Phase.Cut }
+        requires length { self.old.meter.cut_phase ≡ Phase.Length2 }
+        requires some { 0 < length piece.now }
+        requires room { self.old.meter.at + length piece.now < 2 ^ 64 }
+        ensures { TakesFromFor (G.told gate.now) result piece.now self.old self.new }
+    {
+        let missing = self.cut.missing();
+        if piece.len() < missing {
+            self.keep_more(piece);
+            return Taken::Open;
+        }
+        let (last, _) = piece.split_at(missing);
+        let n = self.cut.two(last);
+        let progress = self.take_length2(gate, n, missing as u64);
+        after_length(missing, progress)
+    }
+
+    /// Takes the length of a text in eight bytes, which comes next, or as many of its bytes as there are.
+    #[tactic(auto, using(crate::proofs::LengthLemmas::long_kept, crate::proofs::LengthLemmas::long_taken))]
+    pub(crate) fn take_long_length<G: Gate>(&mut self, gate: &G, piece: &[u8]) -> Taken
+        requires phase { self.old.phase ≡ Phase.Length8 }
+        requires some { 0 < length piece.now }
+        requires room { self.old.meter.at + length piece.now < 2 ^ 64 }
+        ensures { TakesFromFor (G.told gate.now) result piece.now self.old self.new }
+    {
+        if piece.len() < 8 {
+            self.keep(piece);
+            return Taken::Open;
+        }
+        let (number, _) = piece.split_at(8);
+        let progress = self.take_length8(gate, read_u64(number), 8);
+        after_length(8, progress)
+    }
+
+    /// Takes the missing bytes of the length of a text in eight bytes that was cut.
+    pub(crate) fn rest_of_long_length<G: Gate>(&mut self, gate: &G, piece: &[u8]) -> Taken
+        requires phase { self.old.phase ≡ Phase.Cut }
+        requires length { self.old.meter.cut_phase ≡ Phase.Length8 }
+        requires some { 0 < length piece.now }
+        requires room { self.old.meter.at + length piece.now < 2 ^ 64 }
+        ensures { TakesFromFor (G.told gate.now) result piece.now self.old self.new }
+    {
+        let missing = self.cut.missing();
+        if piece.len() < missing {
+            self.keep_more(piece);
+            return Taken::Open;
+        }
+        let (last, _) = piece.split_at(missing);
+        let n = self.cut.eight(last);
+        let progress = self.take_length8(gate, n, missing as u64);
+        after_length(missing, progress)
+    }
+}

@@ -1,0 +1,43 @@
+//! What came of the bytes of a piece.
+ghost use Rattle.std.specs.Prelude.{◌≡◌};
+ghost use Rattle.jser_reader.specs.Passes.{passed_of};
+ghost use Rattle.jser_reader.specs.Takes.{taken_by};
+
+/// What came of the bytes of a piece that a field was handed.
+#[derive(Clone, Copy)]
+pub(crate) enum Taken {
+    /// So many bytes ended the field, and another comes next.
+    Ended(usize),
+    /// The machine stopped at the last of so many bytes.
+    Stopped(usize),
+    /// So many bytes are of the field, which stays open, and can be lent: the length of a text, or some of its bytes, or
+    /// some of raw values.
+    Part(usize),
+    /// All bytes are of the field, which stays open, and were kept.
+    Open,
+}
+
+impl Taken {
+    /// A handler judged a field after so many bytes, and says whether the machine goes on.
+    #[inline(always)]
+    pub(crate) fn after(count: usize, goes_on: bool) -> Taken
+        ensures { result ≡ taken_by count goes_on }
+    {
+        if goes_on {
+            return Taken::Ended(count);
+        }
+        Taken::Stopped(count)
+    }
+
+    /// How much was taken of a piece of this length; None where the machine has stopped.
+    #[inline(always)]
+    pub(crate) fn passed(self, len: usize) -> Option<usize>
+        ensures { result ≡ passed_of self len }
+    {
+        match self {
+            Taken::Ended(count) | Taken::Part(count) => Some(count),
+            Taken::Open => Some(len),
+            Taken::Stopped(_) => None,
+        }
+    }
+}

@@ -1,0 +1,83 @@
+//! The numbers in front of a text's bytes, as they are taken, whole in a piece or the last bytes of one that was cut:
+//! the length of a text, and the handle of a reference to one.
+ghost use Rattle.std.specs.Prelude.{◌≡◌, ◌+◌, ◌<◌, ◌^◌, true, false};
+ghost use Rattle.jser_reader.specs.Walks.{open_phase};
+ghost use Rattle.jser_reader.specs.Takes.{TakesNumber};
+ghost use Rattle.jser_reader.specs.TextTakes.{TellsLength, TakesLength};
+
+use crate::gate::Gate;
+use crate::machine::Machine;
+use crate::phase::Phase;
+use crate::refusal::Reason;
+use jser_prim::TextScan;
+
+/// What became of a text whose length was read.
+#[derive(Clone, Copy)]
+pub(crate) enum Progress {
+    /// Its bytes come next.
+    Open,
+    /// It has no bytes, and has ended.
+    Ended,
+    /// The machine has stopped.
+    Stopped,
+}
+
+impl Machine {
+    /// Takes the last `count` bytes of the handle of a reference in a text place.
+    #[tactic(auto, using(crate::proofs::TextTakeLemmas::takes_text_handle))]
+    pub(crate) fn take_text_handle(&mut self, n: u32, count: u64) -> bool
+        requires phase { open_phase self.old ≡ Phase.TextHandle }
+        requires some { 0 < count }
+        requires room { self.old.meter.at + count < 2 ^ 64 }
+        ensures { TakesNumber 4 n count result self.old self.new }
+    {
+        self.at += count;
+        self.text_handle(n)
+    }
+
+    /// The length of a text, whose bytes have been counted: so many bytes come, if there are any.
+    #[tactic(auto, using(crate::proofs::TextTakeLemmas::opens_bytes, crate::proofs::TextTakeLemmas::ends_empty, crate::proofs::TextTakeLemmas::stops_empty))]
+    fn text_length<G: Gate>(&mut self, gate: &G, n: u64) -> Progress
+        ensures { TellsLength (G.told gate.now) n result self.old self.new }
+    {
+        self.scan = TextScan::new(n);
+        self.name.clear();
+        if n > 0 {
+            self.phase = Phase::Text;
+            return Progress::Open;
+        }
+        if self.text_done(gate) {
+            Progress::Ended
+        } else {
+            Progress::Stopped
+        }
+    }
+
+    /// Takes the last `count` bytes of the length of a text, of two bytes.
+    #[tactic(auto, using(crate::proofs::TextTakeLemmas::takes_short_length))]
+    pub(crate) fn take_length2<G: Gate>(&mut self, gate: &G, n: u16, count: u64) -> Progress
+        requires phase { open_phase self.old ≡ Phase.Length2 }
+        requires some { 0 < count }
+        requires room { self.old.meter.at + count < 2 ^ 64 }
+        ensures { TakesLength (G.told gate.now) 2 n count result self.old self.new }
+    {
+        self.at += count;
+        self.text_length(gate, u64::from(n))
+    }
+
+    /// Takes the last `count` bytes of the length of a text, of eight bytes.
+    #[tactic(auto, using(crate::proofs::TextTakeLemmas::takes_negative_length, crate::proofs::TextTakeLemmas::takes_long_length))]
+    pub(crate) fn take_length8<G: Gate>(&mut self, gate: &G, n: u64, count: u64) -> Progress
+        requires phase { open_phase self.old ≡ Phase.Length8 }
+        requires some { 0 < count }
+        requires room { self.old.meter.at + count < 2 ^ 64 }
+        ensures { TakesLength (G.told gate.now) 8 n count result self.old self.new }
+    {
+        self.at += count;
+        if n >= 0x8000_0000_0000_0000 {
+            self.refuse(Reason::NegativeLength);
+            return Progress::Stopped;
+        }
+        self.text_length(gate, n)
+    }
+}
