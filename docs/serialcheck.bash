@@ -10,7 +10,7 @@ _serialcheck() {
     check | explain) options="$filter --strict $form --anywhere --help" ;;
     show) options="$form --limit --help" ;;
     suggest) options="$form --help" ;;
-    list) options="$filter $form --help" ;;
+    list) options="$filter $form --anywhere --help" ;;
     scan) options="$filter --strict $form --anywhere --refused --json --help" ;;
     esac
     if [[ $before == --filter || $before == --limit ]]; then

@@ -90,6 +90,7 @@ def names(data):
             yield place, *found
 
 
-for file in sys.argv[1:]:
-    for place, end, units in names(Path(file).read_bytes()):
-        print(file, place, end, "".join(chr(unit) for unit in units))
+if __name__ == "__main__":
+    for file in sys.argv[1:]:
+        for place, end, units in names(Path(file).read_bytes()):
+            print(file, place, end, "".join(chr(unit) for unit in units))

@@ -23,10 +23,15 @@ def units_of(data):
     return units
 
 
+def quoted_units(units):
+    """The quoted text of these units."""
+    texts = {0x22: '\\"', 0x5C: "\\\\"}
+    return '"' + "".join(texts.get(it, chr(it)) if 0x20 <= it <= 0x7E else f"\\u{it:04x}" for it in units) + '"'
+
+
 def quoted(data):
     """The quoted text of modified UTF-8."""
-    texts = {0x22: '\\"', 0x5C: "\\\\"}
-    return '"' + "".join(texts.get(it, chr(it)) if 0x20 <= it <= 0x7E else f"\\u{it:04x}" for it in units_of(data)) + '"'
+    return quoted_units(units_of(data))
 
 
 class Descriptor:

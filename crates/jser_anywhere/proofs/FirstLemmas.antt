@@ -15,7 +15,7 @@ begins_long bytes end units (inl d) = omega (arith, d.ends, d.name.ends, d.name.
 begins_long bytes end units (inr i) = omega (arith, i.ends)
 
 -- where there are no bytes there is none
-begins_none : (end : ℕ) (units : List ℕ) → Begins [] end units → ⊥
+pub begins_none : (end : ℕ) (units : List ℕ) → Begins [] end units → ⊥
 begins_none end units (inl d) = let e = d.split in absurd cc
 begins_none end units (inr i) = let e = i.split in absurd cc
 

@@ -16,3 +16,5 @@ pub mod FollowLemmas
 pub mod TakeLemmas
 pub mod QuietLemmas
 pub mod LoadableLemmas
+pub mod NamesLemmas
+pub mod NamedLemmas

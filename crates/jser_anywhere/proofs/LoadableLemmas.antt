@@ -1,10 +1,9 @@
 -- The reader of names takes each loadable name, and nothing else.
-use Rattle.std.proofs.Common.{◌≡◌, ◌⊎◌, ℕ, zero, suc, Bool, true, false, cond, ◌==◌, ◌&&◌, List, [], ◌∷◌, ◌++◌, replicate, Option, Some, None, inl, inr, refl, sym, ap, subst, ◌∙◌, append_assoc, append-nil}
+use Rattle.std.proofs.Common.{◌≡◌, ◌⊎◌, ℕ, zero, suc, Bool, true, false, cond, ◌==◌, ◌&&◌, List, [], ◌∷◌, ◌++◌, replicate, Some, None, inl, inr, refl, sym, ap, subst, ◌∙◌, append_assoc, append-nil}
 use Rattle.std.proofs.lemmas.Bool.{eqb-true}
-use Rattle.jser_anywhere.specs.declared.part.Part.{Part}
 use Rattle.jser_anywhere.specs.declared.part.Part.TheVariants as part
 use Rattle.jser_anywhere.specs.Names.{begins_segment, in_segment, is_primitive, after_unit, is_end, loadable_step, loadable_from, is_loadable}
-use Rattle.jser_anywhere.specs.LoadableNames.{AreInSegment, IsSegment, AreSegments, dotted, IsDotted, IsClass, IsCode, IsArrayName, IsLoadableName, ReadsLoadable}
+use Rattle.jser_anywhere.specs.LoadableNames.{AreInSegment, IsSegment, AreSegments, dotted, IsDotted, IsClass, IsCode, IsLoadableName, ReadsLoadable}
 
 -- ---- a unit that passes a test is no other one
 

@@ -1,5 +1,6 @@
 pub mod Texts
 pub mod Names
+pub mod NamesIn
 pub mod LoadableNames
 pub mod Standing
 pub mod Search

@@ -2,6 +2,7 @@
 ghost use Rattle.jser_anywhere.specs.Laws.{StandsForGood};
 ghost use Rattle.jser_anywhere.specs.LoadableNames.{ReadsLoadable};
 ghost use Rattle.jser_anywhere.specs.LooseText.{ReadsLoose};
+ghost use Rattle.jser_anywhere.specs.NamesIn.{AllAreNamed, NamesStand};
 ghost use Rattle.jser_anywhere.specs.Worked.{WorkedRows};
 
 /// What stands in some short bytes.
@@ -22,4 +23,10 @@ pub fn reads_loose()
 /// The reader of names takes each loadable name, and nothing else.
 pub fn reads_loadable()
     ensures { ReadsLoadable }
+{}
+
+/// The names that are told one after another are those that stand.
+pub fn names_are_all()
+    ensures stand { NamesStand }
+    ensures all { AllAreNamed }
 {}

@@ -9,7 +9,7 @@ use arrayvec::ArrayVec;
 /// How many bytes the name at the head of these bytes has, with its length, if one stands there; `units` then has
 /// its units.
 #[tactic(auto, unfolding(crate::specs::Search::text_of))]
-fn text_of(bytes: &[u8], units: &mut Units) -> Option<usize>
+pub(crate) fn text_of(bytes: &[u8], units: &mut Units) -> Option<usize>
     ensures { TellsText bytes.now result units.new.items }
 {
     match bytes {

@@ -1,4 +1,5 @@
 pub mod CountLemmas
+pub mod HiddenLemmas
 pub mod InputLemmas
 pub mod LimitLemmas
 pub mod Lines

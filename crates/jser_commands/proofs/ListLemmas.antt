@@ -4,7 +4,7 @@ use Rattle.std.proofs.Common.{◌≡◌, ℕ, suc, ◌+◌, ◌<◌, ◌≤◌, 
 use Rattle.std.proofs.Math.Seq.{drop-cons, take-append_seam}
 use Rattle.std.proofs.lemmas.List.{drop_all}
 use Rattle.std.proofs.lemmas.Option.{get_or_from_slice_get, slice_get_within, slice_get-map}
-use Rattle.std.specs.Prelude.{IfSome}
+use Rattle.std.specs.Prelude.{IfSome, flat_map}
 use Rattle.std.specs.Fmt.{decimal}
 use Rattle.std.specs.Io.KnownBytes.{Appends}
 use Rattle.jser_prim.specs.Outgoing.{Outgoing, SinkState, Puts}
@@ -15,12 +15,12 @@ use Rattle.jser_filter.specs.Filters.{FilterView, verdict_of}
 use Rattle.jser_shown.specs.Counting.{NameTally, name_tally, tally_all, tally_lines}
 use Rattle.jser_shown.specs.Laws.{Counted}
 use Rattle.jser_shown.specs.Listed.{listed}
-use Rattle.jser_shown.specs.Words.{quoted}
+use Rattle.jser_shown.specs.Words.{quoted, quoted_unit}
 use Rattle.jser_names.specs.Sources.{HasNames}
 use Rattle.jser_words.specs.Says.{Says, Saying}
 use Rattle.jser_words.proofs.SaysLemmas.{says_before, says_on, says_same, says_both, says_five}
 use Rattle.jser_commands.specs.Counts.{tallies_of, tally_line, lines_before}
-use Rattle.jser_commands.specs.Lines.{AppendsSome, SaysText, SaysRefusal, KeptOrCut, KeptOrSaidSome, verdict_words, words_on}
+use Rattle.jser_commands.specs.Lines.{AppendsSome, SaysText, SaysRefusal, KeptOrCut, KeptOrSaidSome, marked_words, verdict_words, words_on}
 use Rattle.jser_commands.proofs.Lines.{yes_cut}
 
 -- the text of the list that has these names
@@ -64,15 +64,22 @@ pub says_rejected : (a b c : Outgoing) (d e f : SinkState) (said : Verdict) (ind
 says_rejected a b c d e f said index is h g =
     subst (λ v. Says a c d f (λ k. verdict_words v ++ k)) (sym is) (says_index a b c d e f (codes "rejected:") index h g)
 
+-- the verdict on a name, behind a mark
+pub says_marked : (a b c : Outgoing) (d e f : SinkState) (filter : FilterView) (mark name : List ℕ) (said : Verdict) → said ≡ verdict_of filter name
+    → Says a b d e (λ k. mark ++ k) → Says b c e f (λ k. verdict_words said ++ k) → Says a c d f (λ k. (mark ++ words_on filter name) ++ k)
+says_marked a b c d e f filter mark name said is h g =
+    says_same a c d f (λ k. mark ++ (words_on filter name ++ k)) (λ k. (mark ++ words_on filter name) ++ k) (λ k. append_assoc mark (words_on filter name) k)
+    (says_both a b c d e f (λ k. mark ++ k) (λ k. words_on filter name ++ k) h (subst (λ v. Says b c e f (λ k. verdict_words v ++ k)) is g))
+
 -- the line of a name
-pub says_line : (a b c d e f g : Outgoing) (p q r s t u v : SinkState) (filter : FilterView) (name : List ℕ) (times : ℕ) (said : Verdict)
-    → said ≡ verdict_of filter name → Says a b p q (λ k. decimal times ++ k) → Says b c q r (λ k. 0x20 ∷ k) → Says c d r s (λ k. verdict_words said ++ k)
+pub says_line : (a b c d e f g : Outgoing) (p q r s t u v : SinkState) (filter : FilterView) (mark name : List ℕ) (times : ℕ)
+    → Says a b p q (λ k. decimal times ++ k) → Says b c q r (λ k. 0x20 ∷ k) → Says c d r s (λ k. (mark ++ words_on filter name) ++ k)
     → Says d e s t (λ k. 0x20 ∷ k) → Says e f t u (λ k. quoted name k) → Says f g u v (λ k. 0x0A ∷ k)
-    → Says a g p v (λ k. tally_line (words_on filter) (name_tally name times) k)
-says_line a b c d e f g p q r s t u v filter name times said is x1 x2 x3 x4 x5 x6 =
-    says_both a b g p q v (λ k. decimal times ++ k) (λ k. 0x20 ∷ (words_on filter name ++ (0x20 ∷ quoted name (0x0A ∷ k)))) x1
-    (says_five b c d e f g q r s t u v (λ k. 0x20 ∷ k) (λ k. words_on filter name ++ k) (λ k. 0x20 ∷ k) (λ k. quoted name k) (λ k. 0x0A ∷ k)
-    x2 (subst (λ v. Says c d r s (λ k. verdict_words v ++ k)) is x3) x4 x5 x6)
+    → Says a g p v (λ k. tally_line (marked_words mark filter) (name_tally name times) k)
+says_line a b c d e f g p q r s t u v filter mark name times x1 x2 x3 x4 x5 x6 =
+    says_both a b g p q v (λ k. decimal times ++ k) (λ k. 0x20 ∷ ((mark ++ words_on filter name) ++ (0x20 ∷ quoted name (0x0A ∷ k)))) x1
+    (says_five b c d e f g q r s t u v (λ k. 0x20 ∷ k) (λ k. (mark ++ words_on filter name) ++ k) (λ k. 0x20 ∷ k) (λ k. quoted name k) (λ k. 0x0A ∷ k)
+    x2 x3 x4 x5 x6)
 
 -- ---- all lines
 
@@ -83,7 +90,7 @@ tallies_map : (entries : List (Bor (List ℕ) × ℕ)) → tallies_of entries �
 tallies_map [] = refl
 tallies_map (e ∷ es) = ap (λ ts. tally_of e ∷ ts) (tallies_map es)
 
-lines_are : (words : List ℕ → List ℕ) (tallies : List NameTally) → lines_before words tallies [] ≡ tally_lines words tallies
+pub lines_are : (words : List ℕ → List ℕ) (tallies : List NameTally) → lines_before words tallies [] ≡ tally_lines words tallies
 lines_are words [] = refl
 lines_are words (t ∷ ts) = ap (tally_line words t) (lines_are words ts)
 
@@ -126,30 +133,31 @@ lines_ended a b d e words entries number all past so =
     drop_all number (tallies_of entries) (omega (arith, past, tallies_length entries)) in
     subst (λ ts. Saying a b d e all (λ k. lines_before words ts k)) none so
 
-pub lines_went_out : (start mid now : Outgoing) (before middle after : SinkState) (words : List ℕ → List ℕ) (tallies : List NameTally)
-    → start ≡ nothing → Says start mid before middle (λ k. lines_before words tallies k) → Puts mid now middle after []
-    → now.failed ≡ false → (now.failed ≡ false → now.waiting ≡ []) → Appends before.gone_out after.gone_out (tally_lines words tallies)
-lines_went_out start mid now before middle after words tallies new says flush on empty =
-    subst (Appends before.gone_out after.gone_out) (sym (says.is []) ∙ lines_are words tallies)
+-- what was said went out
+pub text_went_out : (start mid now : Outgoing) (before middle after : SinkState) (text : List ℕ → List ℕ) (all : List ℕ) → text [] ≡ all
+    → start ≡ nothing → Says start mid before middle text → Puts mid now middle after []
+    → now.failed ≡ false → (now.failed ≡ false → now.waiting ≡ []) → Appends before.gone_out after.gone_out all
+text_went_out start mid now before middle after text all is new says flush on empty =
+    subst (Appends before.gone_out after.gone_out) (sym (says.is []) ∙ is)
     (went_out start now before after (says.bytes ++ []) new (puts_both start mid now before middle after says.bytes [] says.puts flush) on empty).0
 
-pub lines_failed : (start mid now : Outgoing) (before middle after : SinkState) (words : List ℕ → List ℕ) (tallies : List NameTally)
-    → start ≡ nothing → Says start mid before middle (λ k. lines_before words tallies k) → Puts mid now middle after []
+pub text_failed : (start mid now : Outgoing) (before middle after : SinkState) (text : List ℕ → List ℕ)
+    → start ≡ nothing → Says start mid before middle text → Puts mid now middle after []
     → now.failed ≡ true → after.failed ≡ true
-lines_failed start mid now before middle after words tallies new says flush off =
+text_failed start mid now before middle after text new says flush off =
     let all = puts_both start mid now before middle after says.bytes [] says.puts flush in
     (all.going (ap (λ o. o.failed) new)).fault off
 
 -- the first bytes went out, where the sink failed
-pub lines_cut : (start mid now : Outgoing) (before middle after : SinkState) (words : List ℕ → List ℕ) (tallies : List NameTally)
-    → start ≡ nothing → Says start mid before middle (λ k. lines_before words tallies k) → Puts mid now middle after []
-    → AppendsSome before.gone_out after.gone_out (tally_lines words tallies)
-lines_cut start mid now before middle after words tallies new says flush =
+pub text_cut : (start mid now : Outgoing) (before middle after : SinkState) (text : List ℕ → List ℕ) (whole : List ℕ) → text [] ≡ whole
+    → start ≡ nothing → Says start mid before middle text → Puts mid now middle after []
+    → AppendsSome before.gone_out after.gone_out whole
+text_cut start mid now before middle after text whole is new says flush =
     let all = puts_both start mid now before middle after says.bytes [] says.puts flush in
     let hands = all.going (ap (λ o. o.failed) new) in
-    let split : tally_lines words tallies ≡ hands.out ++ hands.left =
-    sym (sym (says.is []) ∙ lines_are words tallies) ∙ ap (λ o. o.waiting ++ (says.bytes ++ [])) (sym new) ∙ hands.split in
-    let front : hands.out ≡ take (length hands.out) (tally_lines words tallies) =
+    let split : whole ≡ hands.out ++ hands.left =
+    sym (sym (says.is []) ∙ is) ∙ ap (λ o. o.waiting ++ (says.bytes ++ [])) (sym new) ∙ hands.split in
+    let front : hands.out ≡ take (length hands.out) whole =
     sym (ap (take (length hands.out)) split ∙ take-append_seam hands.out hands.left) in
     record {
       count = length hands.out;
@@ -158,9 +166,22 @@ lines_cut start mid now before middle after words tallies new says flush =
     }
 
 -- it did not fail
-pub lines_kept : (start mid now : Outgoing) (before middle after : SinkState) (words : List ℕ → List ℕ) (tallies : List NameTally)
-    → start ≡ nothing → Says start mid before middle (λ k. lines_before words tallies k) → Puts mid now middle after []
+pub text_kept : (start mid now : Outgoing) (before middle after : SinkState) (text : List ℕ → List ℕ)
+    → start ≡ nothing → Says start mid before middle text → Puts mid now middle after []
     → now.failed ≡ false → after.failed ≡ before.failed
-lines_kept start mid now before middle after words tallies new says flush on =
+text_kept start mid now before middle after text new says flush on =
     let all = puts_both start mid now before middle after says.bytes [] says.puts flush in
     (all.going (ap (λ o. o.failed) new)).kept on
+
+line_before : (words : List ℕ → List ℕ) (tally : NameTally) (rest more : List ℕ) → tally_line words tally rest ++ more ≡ tally_line words tally (rest ++ more)
+line_before words tally rest more =
+    append_assoc (decimal tally.times) (0x20 ∷ (words tally.name ++ (0x20 ∷ quoted tally.name (0x0A ∷ rest)))) more
+    ∙ ap (λ xs. decimal tally.times ++ (0x20 ∷ xs)) (append_assoc (words tally.name) (0x20 ∷ quoted tally.name (0x0A ∷ rest)) more)
+    ∙ ap (λ xs. decimal tally.times ++ (0x20 ∷ (words tally.name ++ (0x20 ∷ (0x22 ∷ xs))))) (append_assoc (flat_map quoted_unit tally.name) (0x22 ∷ (0x0A ∷ rest)) more)
+
+-- the lines of one list of tallies, and of another behind them
+pub both_are : (one two : List ℕ → List ℕ) (tallies others : List NameTally)
+    → lines_before one tallies (lines_before two others []) ≡ tally_lines one tallies ++ tally_lines two others
+both_are one two [] others = lines_are two others
+both_are one two (t ∷ ts) others =
+    ap (tally_line one t) (both_are one two ts others) ∙ sym (line_before one t (tally_lines one ts) (tally_lines two others))

@@ -1,5 +1,5 @@
 -- What the program prints, and its status.
-use Rattle.std.specs.Prelude.{ℕ, ◌≡◌, ◌≤◌, ◌⊎◌, Bool, true, List, ◌++◌, codes, length, take, Option, IfSome}
+use Rattle.std.specs.Prelude.{ℕ, ◌≡◌, ◌≤◌, ◌⊎◌, Bool, true, List, [], ◌++◌, codes, length, take, Option, IfSome}
 use Rattle.std.specs.Fmt.{decimal}
 use Rattle.std.specs.Io.KnownBytes.{Appends, Keeps}
 use Rattle.jser_front.specs.Fronts.{CutAt}
@@ -13,7 +13,9 @@ use Rattle.jser_filter.specs.declared.Verdict.{Verdict}
 use Rattle.jser_filter.specs.declared.Verdict.TheVariants as verdict
 use Rattle.jser_filter.specs.Filters.{FilterView, verdict_of}
 use Rattle.jser_shown.specs.Shown.{shown}
+use Rattle.jser_shown.specs.Counting.{tally_all, tally_lines}
 use Rattle.jser_shown.specs.Listed.{listed}
+use Rattle.jser_grammar.specs.CheckedNames.{checked_names}
 use Rattle.jser_index.specs.Reading.{IsRefused}
 use Rattle.jser_check.specs.declared.Options.{Options}
 use Rattle.jser_check.specs.declared.Report.{Totals as Report}
@@ -23,6 +25,7 @@ use Rattle.jser_check_anywhere.specs.Answers.{ReportsAnywhere}
 use Rattle.jser_check_anywhere.specs.SourceAnswers.{RefusedIn, HiddenIn}
 use Rattle.jser_inputs.specs.declared.InputFault.{InputFault}
 use Rattle.jser_settings.specs.Settings.{Tells, TellsInputFault, TellsNoMemory}
+use Rattle.jser_commands.specs.Hidden.{hidden_in}
 use Rattle.jser_commands.specs.declared.job.Job.{Job}
 use Rattle.jser_commands.specs.declared.job.Job.TheVariants as job
 
@@ -95,11 +98,27 @@ verdict_words verdict.NoClass = codes "noclass"
 abbrev pub words_on : FilterView → List ℕ → List ℕ
 words_on filter name = verdict_words (verdict_of filter name)
 
+-- what the filter says of a name, behind a mark
+abbrev pub marked_words : (mark : List ℕ) → FilterView → List ℕ → List ℕ
+marked_words mark filter name = mark ++ words_on filter name
+
+-- the lines of names that were counted
+abbrev pub hidden_lines : FilterView → List (List ℕ) → List ℕ
+hidden_lines filter names = tally_lines (marked_words (codes "hidden ") filter) (tally_all [] names)
+
+-- the text of list, and behind it a line for each of these names
+abbrev pub listed_anywhere : FilterView → List ℕ → ContentTrees → List ℕ
+listed_anywhere filter bytes list = listed (words_on filter) list ++ hidden_lines filter (hidden_in (checked_names list) bytes)
+
 -- the text of a list that makes the bytes a stream within the greatest limits
 pub record SaysText (text : ContentTrees → List ℕ) (bytes : List ℕ) (Went : List ℕ → Type 0) : Type 0 where
   pub list : ContentTrees
   pub passes : Passes open_gate bytes list
   pub printed : Went (text list)
+
+-- that of the list with the names at any place
+abbrev pub SaysListedAnywhere : FilterView → List ℕ → (List ℕ → Type 0) → Type 0
+SaysListedAnywhere filter bytes Went = SaysText (listed_anywhere filter bytes) bytes Went
 
 -- cut at N bytes
 abbrev pub cut_line : ℕ → List ℕ
@@ -145,6 +164,7 @@ SaysAccepted (job.CheckAnywhere filter strict) bytes Went = SaysYesAnywhere filt
 SaysAccepted job.Show bytes Went = SaysText shown bytes Went
 SaysAccepted (job.ShowLimited limit) bytes Went = SaysWithin limit bytes Went
 SaysAccepted (job.List filter) bytes Went = SaysText (listed (words_on filter)) bytes Went
+SaysAccepted (job.ListAnywhere filter) bytes Went = SaysText (listed_anywhere filter bytes) bytes Went
 
 -- what status 1 says of them
 abbrev pub SaysRefused : Job → List ℕ → (Went : List ℕ → Type 0) → Type 0
@@ -153,6 +173,7 @@ SaysRefused (job.CheckAnywhere filter strict) bytes Went = SaysNoAnywhere filter
 SaysRefused job.Show bytes Went = SaysRefusal bytes Went
 SaysRefused (job.ShowLimited limit) bytes Went = SaysRefusal bytes Went
 SaysRefused (job.List filter) bytes Went = SaysRefusal bytes Went
+SaysRefused (job.ListAnywhere filter) bytes Went = SaysRefusal bytes Went
 
 -- what status 4 says of them
 abbrev pub SaysCut : Job → List ℕ → (Went : List ℕ → Type 0) → Type 0
@@ -161,6 +182,7 @@ SaysCut (job.CheckAnywhere filter strict) bytes Went = ⊥
 SaysCut job.Show bytes Went = ⊥
 SaysCut (job.ShowLimited limit) bytes Went = SaysCutShown limit bytes Went
 SaysCut (job.List filter) bytes Went = ⊥
+SaysCut (job.ListAnywhere filter) bytes Went = ⊥
 
 -- the jobs that have that status
 abbrev pub HasLimit : Job → Type 0
@@ -169,6 +191,7 @@ HasLimit (job.CheckAnywhere filter strict) = ⊥
 HasLimit job.Show = ⊥
 HasLimit (job.ShowLimited limit) = Unit {0}
 HasLimit (job.List filter) = ⊥
+HasLimit (job.ListAnywhere filter) = ⊥
 
 -- nothing went out; or the output failed, and the first bytes of a text went out
 abbrev pub KeptOrCut : (failed : Bool) → (old new : Option (List ℕ)) → (text : List ℕ) → Type 0
@@ -195,6 +218,7 @@ SaysFailed job.Show told failed old new =
     KeptOrSaidSome failed old new told (SaysText shown) SaysRefusal ⊎ IfSome told (λ bytes. SaysText shown bytes (AppendsSome old new))
 SaysFailed (job.ShowLimited limit) told failed old new = KeptOrSaidSome failed old new told (SaysLimited limit) SaysRefusal
 SaysFailed (job.List filter) told failed old new = KeptOrSaidSome failed old new told (SaysText (listed (words_on filter))) SaysRefusal
+SaysFailed (job.ListAnywhere filter) told failed old new = KeptOrSaidSome failed old new told (SaysListedAnywhere filter) SaysRefusal
 
 -- Why the status is 3, and the line that was told of it: a read failed, which the fault of the input tells, a write failed, or memory ran out and no device failed.
 abbrev pub SaysWhy : InputFault → (read_before read_after write_before write_after : Bool) → (failed : Bool) → (old new : Option (List ℕ)) → Type 0

@@ -47,7 +47,7 @@ pub(crate) fn read_stream<R: Source>(alloc: Global, input: &mut R) -> Result<Ind
 }
 
 /// The stream of these bytes.
-fn stream_of(alloc: Global, bytes: &[u8]) -> Result<Index, Unread>
+pub(crate) fn stream_of(alloc: Global, bytes: &[u8]) -> Result<Index, Unread>
     ensures accepted { IfOk result (StandsForSome bytes.now) }
     ensures refused { IfErr result (IfUnreadRefused (IsRefused bytes.now)) }
     ensures read { IfErr result (λ unread. unread ≢ Unread.Failed) }

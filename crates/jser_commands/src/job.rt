@@ -6,6 +6,7 @@ ghost use Rattle.jser_commands.specs.Lines.{SaysYes, SaysNo, SaysYesAnywhere, Sa
 use crate::answer::{print_line, text_of_hidden, text_of_refusal, text_of_report};
 use crate::limited::show_limited;
 use crate::list::list;
+use crate::list_anywhere::list_anywhere;
 use crate::show::show;
 use jser_check::{CheckFault, Options, Stop, check_reader};
 use jser_check_anywhere::{AnywhereFault, check_anywhere};
@@ -45,6 +46,12 @@ pub enum Job {
         /// The filter, with its table of modules.
         filter: Filter,
     },
+    /// The same, and behind it the names of classes that can be read at some place of the input and are no checked names of the
+    /// stream, with at how many places the text of each stands.
+    ListAnywhere {
+        /// The filter, with its table of modules.
+        filter: Filter,
+    },
 }
 
 /// Does the job: reads `input`, prints the answer to `output`, and returns the status. Faults of the devices
@@ -81,6 +88,7 @@ pub fn run<R: Input, W: Sink, E: Sink>(
         Job::Show => show(alloc, input, output, faults),
         Job::ShowLimited { limit } => show_limited(alloc, *limit, input, output, faults),
         Job::List { filter } => list(alloc, filter, input, output, faults),
+        Job::ListAnywhere { filter } => list_anywhere(alloc, filter, input, output, faults),
     }
 }
 

@@ -6,11 +6,13 @@
 
 mod answer;
 mod counting;
+mod hidden;
 mod input;
 mod job;
 mod keyed;
 mod limited;
 mod list;
+mod list_anywhere;
 mod show;
 
 pub use job::{Job, run};

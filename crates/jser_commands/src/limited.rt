@@ -80,7 +80,7 @@ fn limited_text(alloc: Global, graph: &Index, limit: u64) -> Result<Limited, All
     if whole {
         return Ok(Limited::Whole(bytes));
     }
-    // The sink takes one byte more than the limit allows, so that it failed for want of memory.
+    // The sink takes one byte more than the limit allows, so where it failed, memory had run out.
     Err(AllocError)
 }
 

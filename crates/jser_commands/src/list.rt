@@ -10,7 +10,7 @@ ghost use Rattle.jser_names.specs.Sources.{HasNames};
 ghost use Rattle.jser_words.specs.Says.{SaysTo};
 ghost use Rattle.jser_commands.specs.Counts.{tallies_of, tally_line, lines_before};
 ghost use Rattle.jser_commands.specs.Inputs.{IfUnreadRefused, IsReadFault};
-ghost use Rattle.jser_commands.specs.Lines.{SaysText, SaysRefusal, SaysWhy, SaysUnwritten, KeptOrCut, KeptOrSaidSome, verdict_words, words_on};
+ghost use Rattle.jser_commands.specs.Lines.{SaysText, SaysRefusal, SaysWhy, SaysUnwritten, KeptOrCut, KeptOrSaidSome, marked_words, verdict_words, words_on};
 
 use crate::counting::{NameCounts, count_names};
 use crate::input::{Unread, print_unread, unread_of};
@@ -90,7 +90,7 @@ fn print_names<W: Sink, E: Sink>(
 }
 
 /// Prints a line for each name that was counted. Takes no memory.
-#[tactic(auto, using(crate::proofs::ListLemmas::lines_failed, crate::proofs::ListLemmas::lines_cut, crate::proofs::ListLemmas::lines_kept))]
+#[tactic(auto, using(crate::proofs::ListLemmas::text_kept))]
 fn print_counts<W: Sink, E: Sink>(
     filter: &Filter,
     counts: &NameCounts<'_>,
@@ -105,7 +105,7 @@ fn print_counts<W: Sink, E: Sink>(
     ensures quiet { result ≡ 0 → faults.new ≡ faults.old }
 {
     let mut outbox = Outbox::new();
-    say_lines(&mut outbox, output, filter, counts);
+    say_lines(&mut outbox, output, filter, b"", counts);
     outbox.flush(output);
     if outbox.has_failed() {
         return tell_failure(faults, "write failed\n");
@@ -113,28 +113,56 @@ fn print_counts<W: Sink, E: Sink>(
     ACCEPTED
 }
 
-/// Says a line for each name that was counted.
-fn say_lines<W: Sink>(outbox: &mut Outbox, sink: &mut W, filter: &Filter, counts: &NameCounts<'_>)
-    ensures { SaysTo W.gone_out W.has_failed outbox.old outbox.new sink.old sink.new (λ k. lines_before (words_on filter.now) (tallies_of counts.now.entries) k) }
+/// Says a line for each name that was counted, with this mark before its verdict.
+pub(crate) fn say_lines<W: Sink>(
+    outbox: &mut Outbox,
+    sink: &mut W,
+    filter: &Filter,
+    mark: &[u8],
+    counts: &NameCounts<'_>,
+)
+    ensures { SaysTo W.gone_out W.has_failed outbox.old outbox.new sink.old sink.new (λ k. lines_before (marked_words mark.now filter.now) (tallies_of counts.now.entries) k) }
 {
     'lines: for number in 0..counts.len() {
         match counts.get_index(number) {
-            Some((name, times)) => say_line(outbox, sink, filter, *name, *times),
+            Some((name, times)) => say_line(outbox, sink, filter, mark, *name, *times),
             None => unreachable!(),
         }
     }
 }
 
-/// Says the line of a name: how often it stands in the stream, what the filter says of it, and the name.
-fn say_line<W: Sink>(outbox: &mut Outbox, sink: &mut W, filter: &Filter, name: &[u16], times: u64)
-    ensures { SaysTo W.gone_out W.has_failed outbox.old outbox.new sink.old sink.new (λ k. tally_line (words_on filter.now) (name_tally name.now times) k) }
+/// Says the line of a name: how often it was counted, the mark, what the filter says of it, and the name.
+fn say_line<W: Sink>(
+    outbox: &mut Outbox,
+    sink: &mut W,
+    filter: &Filter,
+    mark: &[u8],
+    name: &[u16],
+    times: u64,
+)
+    ensures { SaysTo W.gone_out W.has_failed outbox.old outbox.new sink.old sink.new (λ k. tally_line (marked_words mark.now filter.now) (name_tally name.now times) k) }
 {
     say_decimal(outbox, sink, times);
     say(outbox, sink, b" ");
-    say_verdict(outbox, sink, verdict_on(filter, name));
+    say_marked(outbox, sink, filter, mark, name);
     say(outbox, sink, b" ");
     say_quoted(outbox, sink, name);
     say(outbox, sink, b"\n");
+}
+
+/// Says the mark, and what the filter says of a name.
+#[tactic(auto, using(crate::proofs::ListLemmas::says_marked))]
+fn say_marked<W: Sink>(
+    outbox: &mut Outbox,
+    sink: &mut W,
+    filter: &Filter,
+    mark: &[u8],
+    name: &[u16],
+)
+    ensures { SaysTo W.gone_out W.has_failed outbox.old outbox.new sink.old sink.new (λ k. marked_words mark.now filter.now name.now ++ k) }
+{
+    say(outbox, sink, mark);
+    say_verdict(outbox, sink, verdict_on(filter, name));
 }
 
 /// Says a verdict: `allowed:I`, `rejected:I`, `undecided` or `noclass`, with the index of the piece that decides.

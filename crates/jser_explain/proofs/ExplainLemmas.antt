@@ -57,6 +57,7 @@ no_limit (job.CheckAnywhere filter strict) is has = has
 no_limit job.Show is has = is
 no_limit (job.ShowLimited limit) is has = is
 no_limit (job.List filter) is has = is
+no_limit (job.ListAnywhere filter) is has = is
 
 -- the statuses of a check
 pub status_of : (the_job : Job) (status : ℕ) → IsCheck the_job → (status ≡ 0) ⊎ ((status ≡ 1) ⊎ ((status ≡ 3) ⊎ ((status ≡ 4) × HasLimit the_job)))

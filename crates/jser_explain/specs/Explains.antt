@@ -23,6 +23,7 @@ IsCheck (job.CheckAnywhere filter strict) = Unit {0}
 IsCheck job.Show = ⊥
 IsCheck (job.ShowLimited limit) = ⊥
 IsCheck (job.List filter) = ⊥
+IsCheck (job.ListAnywhere filter) = ⊥
 
 -- a line went out, and then more
 pub record Begins (old new : Option (List ℕ)) (line : List ℕ) : Type 0 where

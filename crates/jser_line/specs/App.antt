@@ -22,9 +22,9 @@ check_app = with_check_rules (new_app (codes "check"))
 abbrev pub show_app : App
 show_app = with_rule (with_rule (with_form_rules (new_app (codes "show"))) limit_rule) file_rule
 
--- serialcheck list [--filter T | --filter-file F] [--modules M] [--hex | --base64] FILE
+-- serialcheck list [--filter T | --filter-file F] [--modules M] [--hex | --base64] [--anywhere] FILE
 abbrev pub list_app : App
-list_app = with_rule (with_form_rules (with_filter_rules (new_app (codes "list")))) file_rule
+list_app = with_rule (with_rule (with_form_rules (with_filter_rules (new_app (codes "list")))) anywhere_rule) file_rule
 
 -- [--anywhere] [--refused] [--json]
 abbrev pub with_answer_rules : App → App
@@ -56,7 +56,7 @@ the_app =
 pub data Asked : Type 0 where
   check : FilterWords → (strict : Bool) → Forms → (anywhere : Bool) → (file : Text) → Asked
   show : Forms → (limit : Option Text) → (file : Text) → Asked
-  list : FilterWords → Forms → (file : Text) → Asked
+  list : FilterWords → Forms → (anywhere : Bool) → (file : Text) → Asked
   scan : FilterWords → (strict : Bool) → Forms → (anywhere refused json : Bool) → (paths : List Text) → Asked
   suggest : Forms → (files : List Text) → Asked
   explain : FilterWords → (strict : Bool) → Forms → (anywhere : Bool) → (file : Text) → Asked
@@ -69,7 +69,7 @@ abbrev pub show_in : List Row → Asked
 show_in rows = show (forms_in rows) (first_of (codes "limit") rows) (text_in rows (codes "file"))
 
 abbrev pub list_in : List Row → Asked
-list_in rows = list (filters_in rows) (forms_in rows) (text_in rows (codes "file"))
+list_in rows = list (filters_in rows) (forms_in rows) (is_true (first_of (codes "anywhere") rows)) (text_in rows (codes "file"))
 
 abbrev pub scan_in : List Row → Asked
 scan_in rows =
@@ -101,7 +101,7 @@ asked_in words = option_and_then asked_by (subcommand_of the_app words)
 abbrev pub line_asks : Line → Asked
 line_asks (line.Check filters strict forms anywhere file) = check (filters_asked filters) strict forms anywhere (string_bytes file)
 line_asks (line.Show forms limit file) = show forms (option_map string_bytes limit) (string_bytes file)
-line_asks (line.List filters forms file) = list (filters_asked filters) forms (string_bytes file)
+line_asks (line.List filters forms anywhere file) = list (filters_asked filters) forms anywhere (string_bytes file)
 line_asks (line.Scan filters strict forms anywhere refused json paths) =
     scan (filters_asked filters) strict forms anywhere refused json (map string_bytes paths.items)
 line_asks (line.Suggest forms files) = suggest forms (map string_bytes files.items)

@@ -20,7 +20,7 @@ clash_of filters forms = if is_some filters.text && is_some filters.file then So
 abbrev pub clash_in : Asked → Option Clash
 clash_in (check filters strict forms anywhere file) = clash_of filters forms
 clash_in (show forms limit file) = clash_of_forms forms
-clash_in (list filters forms file) = clash_of filters forms
+clash_in (list filters forms anywhere file) = clash_of filters forms
 clash_in (scan filters strict forms anywhere refused json paths) = clash_of filters forms
 clash_in (suggest forms files) = clash_of_forms forms
 clash_in (explain filters strict forms anywhere file) = clash_of filters forms

@@ -83,6 +83,8 @@ pub enum Line {
         filters: Filters,
         /// The form of the input.
         forms: Forms,
+        /// Whether the names of classes that can be read at any place are listed too.
+        anywhere: bool,
         /// The file that holds the stream, or `-` for standard input.
         file: String,
     },

@@ -1,10 +1,12 @@
-//! `serialcheck list [--filter T | --filter-file F] [--modules M] [--hex | --base64] FILE`
+//! `serialcheck list [--filter T | --filter-file F] [--modules M] [--hex | --base64] [--anywhere] FILE`
 ghost use Rattle.std.specs.Prelude.{◌≡◌, IfOk, false};
 ghost use Rattle.clap.specs.Words.{app_of, rows_of, found_of};
 ghost use Rattle.clap.specs.declared.Command.{out-Command};
 ghost use Rattle.jser_line.specs.App.{list_app, list_in, line_asks};
 
-use crate::args::{file_arg, filters_of, forms_of, text_of, with_filters, with_forms};
+use crate::args::{
+    anywhere_arg, file_arg, filters_of, forms_of, is_set, text_of, with_filters, with_forms,
+};
 use crate::line::Line;
 use clap::{ArgMatches, Command};
 use std::alloc::{AllocError, Global};
@@ -12,7 +14,8 @@ use std::alloc::{AllocError, Global};
 /// What `--help` tells of the command, with examples.
 const EXAMPLES: &str = "Examples:
   serialcheck list session.ser
-  serialcheck list --filter 'java.util.*;!*' session.ser";
+  serialcheck list --filter 'java.util.*;!*' session.ser
+  serialcheck list --anywhere session.ser";
 
 /// The command.
 pub(crate) fn list_command<'a>(alloc: Global) -> Result<Command<'a>, AllocError>
@@ -26,7 +29,8 @@ pub(crate) fn list_command<'a>(alloc: Global) -> Result<Command<'a>, AllocError>
         .after_help(EXAMPLES);
     let filtered = with_filters(alloc, list)?;
     let formed = with_forms(alloc, filtered)?;
-    formed.arg(file_arg(alloc))
+    let anywhere = formed.arg(anywhere_arg(alloc))?;
+    anywhere.arg(file_arg(alloc))
 }
 
 /// What its matches ask for.
@@ -38,6 +42,7 @@ pub(crate) fn list_line(alloc: Global, matches: &ArgMatches<'_>) -> Result<Line,
     Ok(Line::List {
         filters,
         forms: forms_of(matches),
+        anywhere: is_set(matches, "anywhere"),
         file,
     })
 }

@@ -1,7 +1,8 @@
 //! The names of a stream, by their numbers.
-ghost use Rattle.std.specs.Prelude.{◌≡◌, length, slice_get};
+ghost use Rattle.std.specs.Prelude.{◌≡◌, [], ◌∷◌, ◌++◌, length, slice_get, OnOk, OnErr};
 ghost use Rattle.jser_names.specs.Lists.{IsName};
 
+use std::alloc::{AllocError, Global};
 use std::marker::Model;
 
 /// The checked names of a stream, in its order, each as often as it stands there.
@@ -19,6 +20,32 @@ impl Model for NameList {
 }
 
 impl NameList {
+    /// No names. Takes no memory.
+    pub fn new(alloc: Global) -> NameList
+        ensures { result ≡ [] }
+    {
+        NameList {
+            names: Vec::new(alloc),
+        }
+    }
+
+    /// Puts a name behind the others, with a copy of its units.
+    ///
+    /// # Errors
+    ///
+    /// `AllocError` where there is no memory; then the names stay as they were.
+    #[tactic(auto, using(crate::proofs::ListLemmas::one_more))]
+    pub fn push(&mut self, alloc: Global, name: &[u16]) -> Result<(), AllocError>
+        ensures pushed { OnOk result (self.new ≡ self.old ++ name.now ∷ []) }
+        ensures kept { OnErr result (self.new ≡ self.old) }
+    {
+        let copy = name.to_vec(alloc)?;
+        match self.names.push(copy) {
+            Ok(()) => Ok(()),
+            Err(_) => Err(AllocError),
+        }
+    }
+
     /// How many there are.
     #[tactic(auto, using(crate::proofs::ListLemmas::count_is))]
     pub fn count(&self) -> usize

@@ -117,10 +117,11 @@ fn on_line<W: Sink, E: Sink>(rt: &HostRuntime, line: &Line, output: &mut W, faul
         Line::List {
             filters,
             forms,
+            anywhere,
             file,
         } => match filter_with(rt, filters, faults) {
             Ok(filter) => {
-                let job = Job::List { filter };
+                let job = list_job(filter, *anywhere);
                 on_file(rt, &job, forms.form(), file.as_str(), output, faults)
             }
             Err(status) => status,
@@ -166,6 +167,15 @@ fn on_line<W: Sink, E: Sink>(rt: &HostRuntime, line: &Line, output: &mut W, faul
             }
             Err(status) => status,
         },
+    }
+}
+
+/// The job of a list.
+fn list_job(filter: Filter, anywhere: bool) -> Job {
+    if anywhere {
+        Job::ListAnywhere { filter }
+    } else {
+        Job::List { filter }
     }
 }
 

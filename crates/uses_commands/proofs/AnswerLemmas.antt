@@ -13,7 +13,7 @@ use Rattle.jser_shown.specs.Listed.{listed}
 use Rattle.jser_filter.specs.Filters.{FilterView}
 use Rattle.jser_check.specs.declared.Options.{Options}
 use Rattle.jser_check_anywhere.specs.Passing.{AreAdmittedAnywhere}
-use Rattle.jser_commands.specs.Lines.{yes_line, words_on, options_of, HasLimit, SaysNoAnywhere, SaysAccepted, SaysCut, SaysRefused}
+use Rattle.jser_commands.specs.Lines.{yes_line, listed_anywhere, words_on, options_of, HasLimit, SaysNoAnywhere, SaysAccepted, SaysCut, SaysRefused}
 use Rattle.jser_commands.specs.declared.Job.{Job}
 use Rattle.jser_commands.specs.declared.Job.TheVariants as job
 use Rattle.uses_commands.specs.Answers.{line_of_list, EachListPrints, IsNo, IsYes, PrintsLimited}
@@ -32,6 +32,7 @@ yes_accepted (job.CheckAnywhere filter strict) (Some bytes) old new says = (says
 yes_accepted job.Show (Some bytes) old new says = (says.list, says.passes.0)
 yes_accepted (job.ShowLimited limit) (Some bytes) old new says = (says.list, says.passes.0)
 yes_accepted (job.List filter) (Some bytes) old new says = (says.list, says.passes.0)
+yes_accepted (job.ListAnywhere filter) (Some bytes) old new says = (says.list, says.passes.0)
 
 yes_cut : (the_job : Job) (told old new : Option (List ℕ)) → IfSome told (λ bytes. SaysCut the_job bytes (Appends old new)) → IfSome told (IsYes the_job)
 yes_cut the_job None old new says = tt
@@ -40,6 +41,7 @@ yes_cut (job.CheckAnywhere filter strict) (Some bytes) old new says = absurd say
 yes_cut job.Show (Some bytes) old new says = absurd says
 yes_cut (job.ShowLimited limit) (Some bytes) old new says = (says.list, says.passes.0)
 yes_cut (job.List filter) (Some bytes) old new says = absurd says
+yes_cut (job.ListAnywhere filter) (Some bytes) old new says = absurd says
 
 pub said_yes : (the_job : Job) (status : ℕ) (told old new : Option (List ℕ)) → (status ≡ 0 → IfSome told (λ bytes. SaysAccepted the_job bytes (Appends old new)))
     → (status ≡ 4 → IfSome told (λ bytes. SaysCut the_job bytes (Appends old new))) → (status ≡ 0) ⊎ (status ≡ 4) → IfSome told (IsYes the_job)
@@ -58,6 +60,7 @@ said_no (job.CheckAnywhere filter strict) (Some bytes) Went says = none_anywhere
 said_no job.Show (Some bytes) Went says = tt
 said_no (job.ShowLimited limit) (Some bytes) Went says = tt
 said_no (job.List filter) (Some bytes) Went says = tt
+said_no (job.ListAnywhere filter) (Some bytes) Went says = tt
 
 pub text_accepted : OneReading → (the_job : Job) (told old new : Option (List ℕ)) → IfSome told (λ bytes. SaysAccepted the_job bytes (Appends old new))
     → IfSome told (λ bytes. EachListPrints the_job bytes (Appends old new))
@@ -76,6 +79,8 @@ text_accepted one (job.ShowLimited limit) (Some bytes) old new says = λ list is
     subst (λ text. PrintsLimited limit text (Appends old new)) (ap shown (one bytes says.list list says.passes.0 is)) (inl (says.fits, says.printed))
 text_accepted one (job.List filter) (Some bytes) old new says = λ list is.
     subst (Appends old new) (ap (listed (words_on filter)) (one bytes says.list list says.passes.0 is)) says.printed
+text_accepted one (job.ListAnywhere filter) (Some bytes) old new says = λ list is.
+    subst (Appends old new) (ap (listed_anywhere filter bytes) (one bytes says.list list says.passes.0 is)) says.printed
 
 text_cut : OneReading → (the_job : Job) (told old new : Option (List ℕ)) → IfSome told (λ bytes. SaysCut the_job bytes (Appends old new))
     → IfSome told (λ bytes. EachListPrints the_job bytes (Appends old new))
@@ -87,6 +92,7 @@ text_cut one (job.ShowLimited limit) (Some bytes) old new says = λ list is.
     subst (λ text. PrintsLimited limit text (Appends old new)) (ap shown (one bytes says.list list says.passes.0 is))
     (inr (record { printed = says.text; cut = says.cut; went = says.printed }))
 text_cut one (job.List filter) (Some bytes) old new says = absurd says
+text_cut one (job.ListAnywhere filter) (Some bytes) old new says = absurd says
 
 pub said_text : OneReading → (the_job : Job) (status : ℕ) (told old new : Option (List ℕ))
     → (status ≡ 0 → IfSome told (λ bytes. SaysAccepted the_job bytes (Appends old new))) → (status ≡ 4 → IfSome told (λ bytes. SaysCut the_job bytes (Appends old new)))

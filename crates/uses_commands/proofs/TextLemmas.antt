@@ -30,6 +30,7 @@ yes_is_bytes (job.CheckAnywhere filter strict) bytes yes_is = stream_bytes bytes
 yes_is_bytes job.Show bytes yes_is = stream_bytes bytes yes_is.0 yes_is.1
 yes_is_bytes (job.ShowLimited limit) bytes yes_is = stream_bytes bytes yes_is.0 yes_is.1
 yes_is_bytes (job.List filter) bytes yes_is = stream_bytes bytes yes_is.0 yes_is.1
+yes_is_bytes (job.ListAnywhere filter) bytes yes_is = stream_bytes bytes yes_is.0 yes_is.1
 
 bytes_if : (the_job : Job) (bytes : Option (List ℕ)) → IfSome bytes (IsYes the_job) → IfSome bytes IsBytes
 bytes_if the_job None holds = tt

@@ -8,7 +8,7 @@ use Rattle.jser_shown.specs.Shown.{shown}
 use Rattle.jser_shown.specs.Listed.{listed}
 use Rattle.jser_check.specs.Admitted.{AreAdmitted}
 use Rattle.jser_check_anywhere.specs.Passing.{AreAdmittedAnywhere}
-use Rattle.jser_commands.specs.Lines.{CutText, options_of, words_on}
+use Rattle.jser_commands.specs.Lines.{CutText, listed_anywhere, options_of, words_on}
 use Rattle.jser_commands.specs.declared.Job.{Job}
 use Rattle.jser_commands.specs.declared.Job.TheVariants as job
 
@@ -34,6 +34,7 @@ Prints (job.CheckAnywhere filter strict) bytes list Went = Went (line_of_list by
 Prints job.Show bytes list Went = Went (shown list)
 Prints (job.ShowLimited limit) bytes list Went = PrintsLimited limit (shown list) Went
 Prints (job.List filter) bytes list Went = Went (listed (words_on filter) list)
+Prints (job.ListAnywhere filter) bytes list Went = Went (listed_anywhere filter bytes list)
 
 -- that of whatever list the bytes spell
 abbrev pub EachListPrints : Job → (bytes : List ℕ) → (Went : List ℕ → Type 0) → Type 0
@@ -46,6 +47,7 @@ IsYes (job.CheckAnywhere filter strict) bytes = AreAdmittedAnywhere filter (opti
 IsYes job.Show bytes = (list : ContentTrees) × IsStreamOf bytes list
 IsYes (job.ShowLimited limit) bytes = (list : ContentTrees) × IsStreamOf bytes list
 IsYes (job.List filter) bytes = (list : ContentTrees) × IsStreamOf bytes list
+IsYes (job.ListAnywhere filter) bytes = (list : ContentTrees) × IsStreamOf bytes list
 
 -- the filter admits none that they spell
 abbrev pub IsNo : Job → List ℕ → Type 0
@@ -54,3 +56,4 @@ IsNo (job.CheckAnywhere filter strict) bytes = AreAdmittedAnywhere filter (optio
 IsNo job.Show bytes = Unit {0}
 IsNo (job.ShowLimited limit) bytes = Unit {0}
 IsNo (job.List filter) bytes = Unit {0}
+IsNo (job.ListAnywhere filter) bytes = Unit {0}

@@ -11,7 +11,7 @@ use Rattle.jser_line.specs.App.{Asked, check, show, list, scan, suggest, explain
 abbrev pub files_of : Asked → List Text
 files_of (check filters strict forms anywhere file) = file ∷ []
 files_of (show forms limit file) = file ∷ []
-files_of (list filters forms file) = file ∷ []
+files_of (list filters forms anywhere file) = file ∷ []
 files_of (scan filters strict forms anywhere refused json paths) = paths
 files_of (suggest forms files) = files
 files_of (explain filters strict forms anywhere file) = file ∷ []
@@ -29,7 +29,7 @@ is_module wanted (Some found) = bytes_eq found wanted
 abbrev pub forms_of : Asked → Forms
 forms_of (check filters strict forms anywhere file) = forms
 forms_of (show forms limit file) = forms
-forms_of (list filters forms file) = forms
+forms_of (list filters forms anywhere file) = forms
 forms_of (scan filters strict forms anywhere refused json paths) = forms
 forms_of (suggest forms files) = forms
 forms_of (explain filters strict forms anywhere file) = forms

@@ -148,6 +148,7 @@ fn files_in(alloc: Global, line: Line) -> Result<Vec<String>, AllocError>
         Line::List {
             filters: _filters,
             forms: _,
+            anywhere: _,
             file,
         } => alone(alloc, file),
         Line::Scan {

@@ -23,7 +23,7 @@ fn ends(rt: &(impl Abort + AllocGlobal), job: &Job, text: &[u8]) {
         3 => holds(
             rt,
             output.is_front() && faults.is_whole(),
-            "want of memory is told",
+            "that memory ran out is told",
         ),
         _ => rt.panic("another status"),
     }

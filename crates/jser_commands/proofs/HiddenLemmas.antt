@@ -1,0 +1,253 @@
+-- Hidden names, and the places that were noted.
+use denote.Bor.{Bor}
+use Rattle.std.proofs.Common.{◌≡◌, ℕ, suc, ◌+◌, ◌<◌, Bool, true, false, cond, if◌then◌else◌, ◌==◌, List, [], ◌∷◌, ◌++◌, length, take, slice_get, get_or, set, Option, Some, None, refl, sym, ap, subst, ◌∙◌, arith, append_assoc, eqb-true}
+use Rattle.std.specs.Prelude.{not}
+use Rattle.std.proofs.lemmas.Bool.Decides.{nat_tests}
+use Rattle.std.proofs.lemmas.List.{append-nil, get_or-set_same, get_or-set_other, length-set}
+use Rattle.jser_anywhere.specs.NamesIn.{Named, names_in}
+use Rattle.std.specs.Str.{bytes_eq}
+use Rattle.std.specs.Map.{lookup}
+use Rattle.std.specs.Prelude.{IfSome}
+use Rattle.std.specs.Io.KnownBytes.{Appends}
+use Rattle.std.proofs.lemmas.Slice.Eq.{bytes_eq-Decides}
+use Rattle.std.proofs.Math.Seq.{take-suc}
+use Rattle.std.proofs.lemmas.Option.{get_or_from_slice_get, slice_get_within}
+use Rattle.jser_grammar.specs.CheckedNames.{checked_names}
+use Rattle.jser_table.specs.Names.{element_of}
+use Rattle.jser_filter.specs.Filters.{FilterView}
+use Rattle.jser_index.specs.Listed.{IsList}
+use Rattle.jser_shown.specs.Counting.{NameTally, name_tally, tally_one, tally_all, tally_lines}
+use Rattle.jser_shown.specs.Laws.{Counted}
+use Rattle.jser_shown.specs.Listed.{has_name}
+use Rattle.jser_commands.specs.declared.list_anywhere.Whole.{Whole}
+use Rattle.jser_commands.specs.Lines.{AppendsSome, KeptOrCut, KeptOrSaidSome, SaysListedAnywhere, SaysRefusal, hidden_lines, words_on}
+use Rattle.jser_commands.proofs.Lines.{yes_cut}
+use Rattle.jser_commands.specs.Counts.{tallies_of}
+use Rattle.jser_commands.specs.Hidden.{has_place, hidden_in, hidden_of, is_class, is_hidden, once_each}
+use Rattle.jser_commands.specs.Places.{HasWhole, KeepsPlaces, NotesPlace, lines_of_both, names_in_tallies}
+
+-- whether a name was counted
+abbrev is_found : Option ℕ → Bool
+is_found None = false
+is_found (Some times) = true
+
+found_is : (name : List ℕ) (entries : List (Bor (List ℕ) × ℕ)) → is_found (lookup (λ key. bytes_eq name key.now) entries) ≡ has_name name (names_in_tallies (tallies_of entries))
+found_is name [] = refl
+found_is name (e ∷ es) = by (bytes_eq name e.0.now) (found_is name es)
+  where
+    by : (b : Bool) → is_found (lookup (λ key. bytes_eq name key.now) es) ≡ has_name name (names_in_tallies (tallies_of es))
+        → is_found (cond b (Some e.1) (lookup (λ key. bytes_eq name key.now) es)) ≡ (if b then true else has_name name (names_in_tallies (tallies_of es)))
+    by true h = refl
+    by false h = h
+
+pub counted_is : (name : List ℕ) (entries : List (Bor (List ℕ) × ℕ)) (times : ℕ) → lookup (λ key. bytes_eq name key.now) entries ≡ Some times
+    → false ≡ is_hidden (names_in_tallies (tallies_of entries)) name
+counted_is name entries times e =
+    sym (ap (λ b. if b then false else is_class (element_of name)) (sym (found_is name entries) ∙ ap is_found e))
+
+pub uncounted_is : (name : List ℕ) (entries : List (Bor (List ℕ) × ℕ)) → lookup (λ key. bytes_eq name key.now) entries ≡ None
+    → is_class (element_of name) ≡ is_hidden (names_in_tallies (tallies_of entries)) name
+uncounted_is name entries e =
+    sym (ap (λ b. if b then false else is_class (element_of name)) (sym (found_is name entries) ∙ ap is_found e))
+
+-- ---- one name after another
+
+-- These names were gathered, and what is left leads to all of them.
+pub record Gathers (checked : List (List ℕ)) (all left : List Named) (noted : List Bool) (hidden : List (List ℕ)) : Type 0 where
+  pub seen : List ℕ
+  pub keeps : KeepsPlaces noted seen
+  pub so : hidden ++ hidden_of checked (once_each seen left) ≡ hidden_of checked (once_each [] all)
+
+pub gathers_none : (checked hidden : List (List ℕ)) (all left : List Named) (noted : List Bool) → left ≡ all → hidden ≡ [] → KeepsPlaces noted [] → Gathers checked all left noted hidden
+gathers_none checked hidden all left noted is none keeps = record {
+  seen = [];
+  keeps = keeps;
+  so = ap (λ names. names ++ hidden_of checked (once_each [] left)) none ∙ ap (λ names. hidden_of checked (once_each [] names)) is;
+}
+
+pub gathered_all : (checked : List (List ℕ)) (all left : List Named) (noted : List Bool) (hidden : List (List ℕ)) → Gathers checked all left noted hidden → left ≡ []
+    → hidden ≡ hidden_of checked (once_each [] all)
+gathered_all checked all left noted hidden g none =
+    sym (append-nil hidden) ∙ sym (ap (λ names. hidden ++ hidden_of checked (once_each g.seen names)) none) ∙ g.so
+
+differs : (m n : ℕ) → (m == n) ≡ false → m ≡ n → ⊥
+differs m n e same = grind (arith, nat_tests, e, same)
+
+-- the places that were noted, with one more
+noted_here : (noted : List Bool) (at other : ℕ) (b : Bool) → (other == at) ≡ b → at < length noted → other < length noted
+    → get_or (set noted at true) other false ≡ (if b then true else get_or noted other false)
+noted_here noted at other true e inside there =
+    ap (λ n. get_or (set noted at true) n false) (eqb-true other at e) ∙ get_or-set_same noted at true false inside
+noted_here noted at other false e inside there = get_or-set_other noted at other true false (λ same. differs other at e same)
+
+keeps_more : (noted : List Bool) (seen : List ℕ) (at : ℕ) → at < length noted → KeepsPlaces noted seen → KeepsPlaces (set noted at true) (at ∷ seen)
+keeps_more noted seen at inside keeps = record {
+  keeps = λ other there.
+      let there : other < length noted = omega (arith, there, length-set noted at true) in
+      noted_here noted at other (other == at) refl inside there ∙ ap (λ b. if other == at then true else b) (keeps.keeps other there);
+}
+
+keeps_same : (noted : List Bool) (seen : List ℕ) (at : ℕ) → at < length noted → has_place at seen ≡ true → KeepsPlaces noted seen → KeepsPlaces (set noted at true) seen
+keeps_same noted seen at inside has keeps = record {
+  keeps = λ other there.
+      let there : other < length noted = omega (arith, there, length-set noted at true) in
+      noted_here noted at other (other == at) refl inside there ∙ by other (other == at) refl there;
+}
+  where
+    by : (other : ℕ) (b : Bool) → (other == at) ≡ b → other < length noted → (if b then true else get_or noted other false) ≡ has_place other seen
+    by other true e there = sym (ap (λ n. has_place n seen) (eqb-true other at e) ∙ has)
+    by other false e there = keeps.keeps other there
+
+-- a name whose place was noted before
+pub gathers_same : (checked : List (List ℕ)) (all left rest : List Named) (name : Named) (noted new : List Bool) (hidden : List (List ℕ)) (is_new : Bool)
+    → Gathers checked all left noted hidden → left ≡ name ∷ rest → name.at < length noted → NotesPlace name.at noted new is_new → is_new ≡ false
+    → Gathers checked all rest new hidden
+gathers_same checked all left rest name noted new hidden is_new g next inside notes old =
+    let has : has_place name.at g.seen ≡ true = sym (g.keeps.keeps name.at inside) ∙ not_false (get_or noted name.at false) (sym notes.is ∙ old) in
+    record {
+      seen = g.seen;
+      keeps = subst (λ n. KeepsPlaces n g.seen) (sym notes.noted) (keeps_same noted g.seen name.at inside has g.keeps);
+      so = ap (λ b. hidden ++ hidden_of checked (if b then once_each g.seen rest else name.units ∷ once_each (name.at ∷ g.seen) rest)) (sym has)
+          ∙ sym (ap (λ names. hidden ++ hidden_of checked (once_each g.seen names)) next) ∙ g.so;
+    }
+  where
+    not_false : (b : Bool) → not b ≡ false → b ≡ true
+    not_false true e = refl
+    not_false false e = absurd (let no : true ≡ false = e in cc)
+
+-- one whose place was not
+new_step : (checked : List (List ℕ)) (all left rest : List Named) (name : Named) (noted new : List Bool) (hidden : List (List ℕ)) (is_new : Bool)
+    → (g : Gathers checked all left noted hidden) → left ≡ name ∷ rest → name.at < length noted → NotesPlace name.at noted new is_new → is_new ≡ true
+    → hidden ++ hidden_of checked (name.units ∷ once_each (name.at ∷ g.seen) rest) ≡ hidden_of checked (once_each [] all)
+new_step checked all left rest name noted new hidden is_new g next inside notes is =
+    let none : has_place name.at g.seen ≡ false = sym (g.keeps.keeps name.at inside) ∙ not_true (get_or noted name.at false) (sym notes.is ∙ is) in
+    ap (λ b. hidden ++ hidden_of checked (if b then once_each g.seen rest else name.units ∷ once_each (name.at ∷ g.seen) rest)) (sym none)
+    ∙ sym (ap (λ names. hidden ++ hidden_of checked (once_each g.seen names)) next) ∙ g.so
+  where
+    not_true : (b : Bool) → not b ≡ true → b ≡ false
+    not_true false e = refl
+    not_true true e = absurd (let no : false ≡ true = e in cc)
+
+pub gathers_over : (checked : List (List ℕ)) (all left rest : List Named) (name : Named) (noted new : List Bool) (hidden : List (List ℕ)) (is_new : Bool)
+    → Gathers checked all left noted hidden → left ≡ name ∷ rest → name.at < length noted → NotesPlace name.at noted new is_new → is_new ≡ true
+    → is_hidden checked name.units ≡ false → Gathers checked all rest new hidden
+gathers_over checked all left rest name noted new hidden is_new g next inside notes is plain = record {
+  seen = name.at ∷ g.seen;
+  keeps = subst (λ n. KeepsPlaces n (name.at ∷ g.seen)) (sym notes.noted) (keeps_more noted g.seen name.at inside g.keeps);
+  so = ap (λ b. hidden ++ (if b then name.units ∷ hidden_of checked (once_each (name.at ∷ g.seen) rest) else hidden_of checked (once_each (name.at ∷ g.seen) rest))) (sym plain)
+      ∙ new_step checked all left rest name noted new hidden is_new g next inside notes is;
+}
+
+pub gathers_more : (checked : List (List ℕ)) (all left rest : List Named) (name : Named) (noted new : List Bool) (hidden more : List (List ℕ)) (is_new : Bool)
+    → Gathers checked all left noted hidden → left ≡ name ∷ rest → name.at < length noted → NotesPlace name.at noted new is_new → is_new ≡ true
+    → (asked put : List ℕ) → asked ≡ name.units → put ≡ name.units → is_hidden checked asked ≡ true → more ≡ hidden ++ put ∷ [] → Gathers checked all rest new more
+gathers_more checked all left rest name noted new hidden more is_new g next inside notes is asked put its_units its_copy hides pushed = record {
+  seen = name.at ∷ g.seen;
+  keeps = subst (λ n. KeepsPlaces n (name.at ∷ g.seen)) (sym notes.noted) (keeps_more noted g.seen name.at inside g.keeps);
+  so = ap (λ names. names ++ hidden_of checked (once_each (name.at ∷ g.seen) rest)) (pushed ∙ ap (λ units. hidden ++ units ∷ []) its_copy)
+      ∙ append_assoc hidden (name.units ∷ []) (hidden_of checked (once_each (name.at ∷ g.seen) rest))
+      ∙ ap (λ b. hidden ++ (if b then name.units ∷ hidden_of checked (once_each (name.at ∷ g.seen) rest) else hidden_of checked (once_each (name.at ∷ g.seen) rest))) (sym (sym (ap (is_hidden checked) its_units) ∙ hides))
+      ∙ new_step checked all left rest name noted new hidden is_new g next inside notes is;
+}
+
+pub fewer_left : (left rest : List Named) (name : Named) → left ≡ name ∷ rest → length rest < length left
+fewer_left left rest name is = omega (arith, ap length is)
+
+-- ---- the names that were counted
+
+or_none : (b : Bool) → (if b then true else false) ≡ b
+or_none true = refl
+or_none false = refl
+
+or_same : (b c : Bool) → c ≡ false → b ≡ (if b then true else c)
+or_same true c e = refl
+or_same false c e = sym e
+
+other_name : (m n o : List ℕ) → bytes_eq n o ≡ true → bytes_eq m n ≡ false → bytes_eq m o ≡ false
+other_name m n o same e = subst (λ (x : List ℕ). bytes_eq m x ≡ false) ((bytes_eq-Decides n o).0 same) e
+
+counted_one : (m n : List ℕ) (tallies : List NameTally)
+    → has_name m (names_in_tallies (tally_one n tallies)) ≡ (if has_name m (names_in_tallies tallies) then true else bytes_eq m n)
+counted_one m n [] = or_none (bytes_eq m n)
+counted_one m n (t ∷ ts) = by (bytes_eq t.name n) refl (bytes_eq m t.name) refl (counted_one m n ts)
+  where
+    by : (same : Bool) → bytes_eq t.name n ≡ same → (here : Bool) → bytes_eq m t.name ≡ here
+        → has_name m (names_in_tallies (tally_one n ts)) ≡ (if has_name m (names_in_tallies ts) then true else bytes_eq m n)
+        → has_name m (names_in_tallies (if same then name_tally t.name (suc t.times) ∷ ts else t ∷ tally_one n ts))
+        ≡ (if (if here then true else has_name m (names_in_tallies ts)) then true else bytes_eq m n)
+    by true e true f h = ap (λ b. if b then true else has_name m (names_in_tallies ts)) f
+    by true e false f h =
+        ap (λ b. if b then true else has_name m (names_in_tallies ts)) f
+        ∙ or_same (has_name m (names_in_tallies ts)) (bytes_eq m n) (other_name m t.name n e f)
+    by false e true f h = ap (λ b. if b then true else has_name m (names_in_tallies (tally_one n ts))) f
+    by false e false f h = ap (λ b. if b then true else has_name m (names_in_tallies (tally_one n ts))) f ∙ h
+
+or_more : (a b c : Bool) → (if (if a then true else b) then true else c) ≡ (if a then true else (if b then true else c))
+or_more true b c = refl
+or_more false b c = refl
+
+counted_all : (m : List ℕ) (tallies : List NameTally) (names : List (List ℕ))
+    → has_name m (names_in_tallies (tally_all tallies names)) ≡ (if has_name m (names_in_tallies tallies) then true else has_name m names)
+counted_all m tallies [] = sym (or_none (has_name m (names_in_tallies tallies)))
+counted_all m tallies (n ∷ ns) =
+    counted_all m (tally_one n tallies) ns
+    ∙ ap (λ b. if b then true else has_name m ns) (counted_one m n tallies)
+    ∙ or_more (has_name m (names_in_tallies tallies)) (bytes_eq m n) (has_name m ns)
+
+same_hidden : (names hidden : List (List ℕ)) → hidden_of (names_in_tallies (tally_all [] names)) hidden ≡ hidden_of names hidden
+same_hidden names [] = refl
+same_hidden names (n ∷ ns) =
+    ap (λ b. if (if b then false else is_class (element_of n)) then n ∷ hidden_of (names_in_tallies (tally_all [] names)) ns else hidden_of (names_in_tallies (tally_all [] names)) ns)
+    (counted_all n [] names)
+    ∙ ap (λ xs. if is_hidden names n then n ∷ xs else xs) (same_hidden names ns)
+
+-- the lines of both, by what was counted
+pub both_lines : (filter : FilterView) (tallies : List NameTally) (names : List (List ℕ)) (bytes lent : List ℕ) → lent ≡ bytes → tallies ≡ tally_all [] names
+    → tally_lines (words_on filter) tallies ++ hidden_lines filter (hidden_of (names_in_tallies tallies) (once_each [] (names_in 0 lent)))
+    ≡ tally_lines (words_on filter) (tally_all [] names) ++ hidden_lines filter (hidden_in names bytes)
+both_lines filter tallies names bytes lent same is =
+    ap (λ xs. tally_lines (words_on filter) tallies ++ hidden_lines filter (hidden_of (names_in_tallies tallies) (once_each [] (names_in 0 xs)))) same
+    ∙ ap (λ ts. tally_lines (words_on filter) ts ++ hidden_lines filter (hidden_of (names_in_tallies ts) (once_each [] (names_in 0 bytes)))) is
+    ∙ ap (λ xs. tally_lines (words_on filter) (tally_all [] names) ++ hidden_lines filter xs) (same_hidden names (once_each [] (names_in 0 bytes)))
+
+-- the text of the list that has these names
+pub says_anywhere : Counted → (told : Option (List ℕ)) (filter : FilterView) (whole : Whole) (Went : List ℕ → Type 0)
+    → IfSome told (λ bytes. HasWhole bytes whole) → Went (lines_of_both filter whole)
+    → IfSome told (λ bytes. SaysListedAnywhere filter bytes Went)
+says_anywhere law None filter whole Went has wrote = tt
+says_anywhere law (Some bytes) filter whole Went has wrote = record {
+  list = has.1.list;
+  passes = has.1.passes;
+  printed = subst Went
+      (ap (λ b. tally_lines (words_on filter) (tally_all [] whole.names) ++ hidden_lines filter (hidden_in whole.names b)) has.0
+      ∙ ap (λ ns. tally_lines (words_on filter) (tally_all [] ns) ++ hidden_lines filter (hidden_in ns bytes)) has.1.names_are
+      ∙ ap (λ xs. xs ++ hidden_lines filter (hidden_in (checked_names has.1.list) bytes)) (sym (law (words_on filter) has.1.list)))
+      wrote;
+}
+
+pub anywhere_all : Counted → (told : Option (List ℕ)) (filter : FilterView) (whole : Whole) (old new : Option (List ℕ))
+    → IfSome told (λ bytes. HasWhole bytes whole) → Appends old new (lines_of_both filter whole)
+    → IfSome told (λ bytes. SaysListedAnywhere filter bytes (Appends old new))
+anywhere_all law told filter whole old new = says_anywhere law told filter whole (Appends old new)
+
+-- its first bytes, where the output failed
+pub anywhere_cut : Counted → (told : Option (List ℕ)) (filter : FilterView) (whole : Whole) (failed : Bool) (old new : Option (List ℕ))
+    → IfSome told (λ bytes. HasWhole bytes whole) → KeptOrCut failed old new (lines_of_both filter whole)
+    → KeptOrSaidSome failed old new told (SaysListedAnywhere filter) SaysRefusal
+anywhere_cut law told filter whole failed old new has =
+    yes_cut failed old new told (lines_of_both filter whole) (SaysListedAnywhere filter) SaysRefusal (λ some. says_anywhere law told filter whole (AppendsSome old new) has some)
+
+-- ---- the names of an index
+
+pub taken_on : (names taken more : List (List ℕ)) (number : ℕ) (name : Bor (List ℕ)) → taken ≡ take number names → IsList (slice_get names number) (Some name)
+    → more ≡ taken ++ name.now ∷ [] → more ≡ take (number + 1) names
+taken_on names taken more number name is here pushed = by (slice_get names number) refl here
+  where
+    by : (found : Option (List ℕ)) → slice_get names number ≡ found → IsList found (Some name) → more ≡ take (number + 1) names
+    by None e h = absurd h
+    by (Some other) e h =
+        let more_names : take (suc number) names ≡ take number names ++ other ∷ [] =
+        take-suc names number other (slice_get_within names number other e)
+        ∙ ap (λ x. take number names ++ x ∷ []) (get_or_from_slice_get names number other other e) in
+        let n : suc number ≡ number + 1 = omega arith in
+        pushed ∙ ap (λ xs. xs ++ name.now ∷ []) is ∙ ap (λ x. take number names ++ x ∷ []) h ∙ sym more_names ∙ ap (λ k. take k names) n

@@ -1,0 +1,33 @@
+-- The names of classes that can be read at some place of the bytes of a stream, and are no checked names of it.
+use Rattle.std.specs.Prelude.{ℕ, Bool, true, false, ◌==◌, if◌then◌else◌, List, [], ◌∷◌}
+use Rattle.jser_table.specs.Names.{ElementOf, element, primitive_element, malformed_element, element_of}
+use Rattle.jser_anywhere.specs.NamesIn.{Named, names_in}
+use Rattle.jser_shown.specs.Listed.{has_name}
+
+-- all but a primitive type and its arrays
+abbrev pub is_class : ElementOf → Bool
+is_class (element name) = true
+is_class primitive_element = false
+is_class malformed_element = true
+
+-- the name of a class that is none of these
+abbrev pub is_hidden : (checked : List (List ℕ)) → List ℕ → Bool
+is_hidden checked name = if has_name name checked then false else is_class (element_of name)
+
+abbrev pub has_place : ℕ → List ℕ → Bool
+has_place at [] = false
+has_place at (other ∷ places) = if at == other then true else has_place at places
+
+-- of names whose text is at one place, the first; `seen` are the places before
+abbrev pub once_each : (seen : List ℕ) → List Named → List (List ℕ)
+once_each seen [] = []
+once_each seen (name ∷ names) =
+    if has_place name.at seen then once_each seen names else name.units ∷ once_each (name.at ∷ seen) names
+
+abbrev pub hidden_of : (checked names : List (List ℕ)) → List (List ℕ)
+hidden_of checked [] = []
+hidden_of checked (name ∷ names) = if is_hidden checked name then name ∷ hidden_of checked names else hidden_of checked names
+
+-- the hidden names of some bytes, each as often as there are places where its text can be read
+abbrev pub hidden_in : (checked : List (List ℕ)) → List ℕ → List (List ℕ)
+hidden_in checked bytes = hidden_of checked (once_each [] (names_in 0 bytes))

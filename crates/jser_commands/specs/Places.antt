@@ -1,0 +1,31 @@
+-- Places that were noted.
+use Rattle.std.specs.Prelude.{◌≡◌, ◌<◌, ℕ, Bool, true, false, not, List, [], ◌∷◌, ◌++◌, length, get_or, set}
+use Rattle.jser_filter.specs.Filters.{FilterView}
+use Rattle.jser_names.specs.Sources.{HasNames}
+use Rattle.jser_shown.specs.Counting.{NameTally, tally_all, tally_lines}
+use Rattle.jser_commands.specs.declared.list_anywhere.Whole.{Whole}
+use Rattle.jser_commands.specs.Hidden.{has_place, hidden_in}
+use Rattle.jser_commands.specs.Lines.{hidden_lines, words_on}
+
+-- the names that were counted
+abbrev pub names_in_tallies : List NameTally → List (List ℕ)
+names_in_tallies [] = []
+names_in_tallies (tally ∷ tallies) = tally.name ∷ names_in_tallies tallies
+
+-- those that were noted are these
+pub record KeepsPlaces (noted : List Bool) (seen : List ℕ) : Type 0 where
+  pub keeps : (at : ℕ) → at < length noted → get_or noted at false ≡ has_place at seen
+
+-- one place more
+pub record NotesPlace (at : ℕ) (old new : List Bool) (is_new : Bool) : Type 0 where
+  pub noted : new ≡ set old at true
+  pub is : is_new ≡ not (get_or old at false)
+
+-- the bytes of a stream, and its checked names
+abbrev pub HasWhole : List ℕ → Whole → Type 0
+HasWhole bytes whole = (whole.bytes.items ≡ bytes) × HasNames bytes whole.names
+
+-- the lines of the checked names and of the hidden ones
+abbrev pub lines_of_both : FilterView → Whole → List ℕ
+lines_of_both filter whole =
+    tally_lines (words_on filter) (tally_all [] whole.names) ++ hidden_lines filter (hidden_in whole.names whole.bytes.items)

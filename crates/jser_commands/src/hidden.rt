@@ -1,0 +1,88 @@
+//! The names of classes that can be read at some place of a stream, and are none of its checked names.
+ghost use Rattle.std.specs.Prelude.{◌≡◌, ◌<◌, [], ◌∷◌, IfOk, length, true};
+ghost use Rattle.jser_anywhere.specs.NamesIn.{names_in};
+ghost use Rattle.jser_table.specs.Names.{view_element};
+ghost use Rattle.jser_commands.specs.Counts.{tallies_of};
+ghost use Rattle.jser_commands.specs.Hidden.{hidden_of, is_class, is_hidden, once_each};
+ghost use Rattle.jser_commands.specs.Places.{KeepsPlaces, NotesPlace, names_in_tallies};
+
+use crate::counting::NameCounts;
+use jser_anywhere::Names;
+use jser_names::NameList;
+use jser_table::{Element, element_of};
+use std::alloc::{AllocError, Global};
+use std::marker::Model;
+
+/// Those names, in the order of the places where they can be read: each as often as there are places of its text.
+pub(crate) fn hidden_names(
+    alloc: Global,
+    bytes: &[u8],
+    checked: &NameCounts<'_>,
+) -> Result<NameList, AllocError>
+    ensures { IfOk result (λ hidden. hidden ≡ hidden_of (names_in_tallies (tallies_of checked.now.entries)) (once_each [] (names_in 0 bytes.now))) }
+{
+    let mut places = Places::new(alloc, bytes.len())?;
+    let mut hidden = NameList::new(alloc);
+    let mut names = Names::new(bytes);
+    'names: while let Some(stand) = names.next() {
+        if places.note(stand.at) && is_hidden(checked, names.units()) {
+            hidden.push(alloc, names.units())?;
+        }
+    }
+    Ok(hidden)
+}
+
+/// Whether this is the name of a class that is none of those counted.
+#[tactic(auto, using(crate::proofs::HiddenLemmas::counted_is, crate::proofs::HiddenLemmas::uncounted_is))]
+fn is_hidden(checked: &NameCounts<'_>, name: &[u16]) -> bool
+    ensures { result ≡ is_hidden (names_in_tallies (tallies_of checked.now.entries)) name.now }
+{
+    match checked.get(name) {
+        Some(_) => false,
+        None => is_class(element_of(name)),
+    }
+}
+
+/// Whether this is a class, or an array of one.
+fn is_class(element: Element<'_>) -> bool
+    ensures { result ≡ is_class (view_element element.entry) }
+{
+    match element {
+        Element::Primitive => false,
+        Element::Name(_) | Element::Malformed => true,
+    }
+}
+
+/// Which places of some bytes were noted.
+#[derive(Drop)]
+struct Places {
+    noted: Vec<bool>,
+}
+
+impl Model for Places {
+    ghost use Rattle.std.specs.Prelude.{List, Bool};
+
+    ghost Value = { List Bool };
+
+    ghost view = { λ a. a.noted.items };
+}
+
+impl Places {
+    /// The places of so many bytes, of which none was noted.
+    fn new(alloc: Global, count: usize) -> Result<Places, AllocError>
+        ensures { IfOk result (λ places. KeepsPlaces places [] × (length places ≡ count)) }
+    {
+        let noted = vec![in alloc; false; count]?;
+        Ok(Places { noted })
+    }
+
+    /// Notes a place, and returns whether it was not noted before.
+    fn note(&mut self, at: usize) -> bool
+        requires { at < length self.old }
+        ensures { NotesPlace at self.old self.new result }
+    {
+        let is_new = !self.noted[at];
+        self.noted[at] = true;
+        is_new
+    }
+}

@@ -1,0 +1,201 @@
+//! The job of `list --anywhere`: the lines of `list`, and one for each name of a class that can be read at some place of the
+//! stream and is no checked name of it.
+ghost use Rattle.std.specs.Prelude.{◌≡◌, ◌≢◌, ◌⊎◌, ◌++◌, [], codes, IfErr, IfOk, IfSome, OnOk};
+ghost use Rattle.std.specs.Io.KnownBytes.{Appends};
+ghost use Rattle.jser_anywhere.specs.NamesIn.{names_in};
+ghost use Rattle.jser_index.specs.Reading.{IsRefused};
+ghost use Rattle.jser_names.specs.Sources.{HasNames};
+ghost use Rattle.jser_shown.specs.Counting.{tally_all, tally_lines};
+ghost use Rattle.jser_commands.specs.Counts.{tallies_of};
+ghost use Rattle.jser_commands.specs.Hidden.{hidden_of, once_each};
+ghost use Rattle.jser_commands.specs.Inputs.{IfUnreadRefused, IsReadFault};
+ghost use Rattle.jser_commands.specs.Lines.{SaysListedAnywhere, SaysRefusal, SaysWhy, SaysUnwritten, KeptOrCut, KeptOrSaidSome, hidden_lines, marked_words, words_on};
+ghost use Rattle.jser_commands.specs.Places.{HasWhole, lines_of_both, names_in_tallies};
+
+use crate::counting::{NameCounts, count_names};
+use crate::hidden::hidden_names;
+use crate::input::{Unread, print_unread, stream_of, unread_of};
+use crate::list::say_lines;
+use jser_filter::Filter;
+use jser_index::Index;
+use jser_inputs::Input;
+use jser_names::{NameList, bytes_of};
+use jser_prim::{Outbox, Sink, Source};
+use jser_settings::{ACCEPTED, tell_failure};
+use jser_shown::laws::counted;
+use std::alloc::{AllocError, Global};
+
+/// Reads the stream of the input, and prints the lines of its checked names and of those at any place.
+#[tactic(auto, using(crate::proofs::InputLemmas::says_refusal, crate::proofs::InputLemmas::refusal_cut, crate::proofs::InputLemmas::unbroken_refusal, crate::proofs::InputLemmas::why_unread))]
+pub(crate) fn list_anywhere<R: Input, W: Sink, E: Sink>(
+    alloc: Global,
+    filter: &Filter,
+    input: &mut R,
+    output: &mut W,
+    faults: &mut E,
+) -> u8
+    ensures accepted { result ≡ 0 → IfSome (R.to_come input.old) (λ bytes. SaysListedAnywhere filter.now bytes (Appends (W.gone_out output.old) (W.gone_out output.new))) }
+    ensures refused { result ≡ 1 → IfSome (R.to_come input.old) (λ bytes. SaysRefusal bytes (Appends (W.gone_out output.old) (W.gone_out output.new))) }
+    ensures failed { result ≡ 3 → KeptOrSaidSome (W.has_failed output.new) (W.gone_out output.old) (W.gone_out output.new) (R.to_come input.old) (SaysListedAnywhere filter.now) SaysRefusal }
+    ensures status { (result ≡ 0) ⊎ ((result ≡ 1) ⊎ (result ≡ 3)) }
+    ensures why { result ≡ 3 → SaysWhy (R.why_failed input.new) (R.has_failed input.old) (R.has_failed input.new) (W.has_failed output.old) (W.has_failed output.new) (E.has_failed faults.new) (E.gone_out faults.old) (E.gone_out faults.new) }
+    ensures unbroken { result ≢ 3 → (R.has_failed input.new ≡ R.has_failed input.old) × (W.has_failed output.new ≡ W.has_failed output.old) }
+    ensures quiet { result ≢ 3 → faults.new ≡ faults.old }
+{
+    counted();
+    match read_whole(alloc, input) {
+        Ok(whole) => print_whole(alloc, filter, &whole, output, faults),
+        Err(unread) => print_unread(alloc, unread, input.fault(), output, faults),
+    }
+}
+
+/// The bytes of a stream, and its checked names.
+#[derive(Drop)]
+struct Whole {
+    bytes: Vec<u8>,
+    names: NameList,
+}
+
+/// The stream of a source, which is read to its end, or until one byte more than a stream may have has come.
+///
+/// # Errors
+///
+/// `Unread`, with the reason. A failed read is told whatever came before it.
+#[tactic(auto, using(crate::proofs::InputLemmas::unread_refuses, crate::proofs::InputLemmas::unread_fails))]
+fn read_whole<R: Source>(alloc: Global, input: &mut R) -> Result<Whole, Unread>
+    ensures accepted { IfOk result (λ whole. IfSome (R.to_come input.old) (λ bytes. HasWhole bytes whole)) }
+    ensures refused { IfErr result (λ unread. IfSome (R.to_come input.old) (λ bytes. IfUnreadRefused (IsRefused bytes) unread)) }
+    ensures unbroken { OnOk result (R.has_failed input.new ≡ R.has_failed input.old) }
+    ensures fault { IfErr result (λ unread. IsReadFault unread (R.has_failed input.old) (R.has_failed input.new)) }
+{
+    match bytes_of(alloc, input) {
+        Ok(bytes) => match names_in_bytes(alloc, &bytes) {
+            Ok(names) => Ok(Whole { bytes, names }),
+            Err(unread) => Err(unread),
+        },
+        Err(fault) => Err(unread_of(fault)),
+    }
+}
+
+/// The checked names of a stream.
+fn names_in_bytes(alloc: Global, bytes: &[u8]) -> Result<NameList, Unread>
+    ensures accepted { IfOk result (HasNames bytes.now) }
+    ensures refused { IfErr result (IfUnreadRefused (IsRefused bytes.now)) }
+    ensures read { IfErr result (λ unread. unread ≢ Unread.Failed) }
+{
+    match stream_of(alloc, bytes) {
+        Ok(graph) => match names_in_index(alloc, &graph) {
+            Ok(names) => Ok(names),
+            Err(_) => Err(Unread::OutOfMemory),
+        },
+        Err(unread) => Err(unread),
+    }
+}
+
+/// The checked names of an index.
+fn names_in_index(alloc: Global, graph: &Index) -> Result<NameList, AllocError>
+    ensures { IfOk result (λ names. names ≡ graph.now.names) }
+{
+    let mut names = NameList::new(alloc);
+    'names: for number in 0..graph.name_count() {
+        match graph.name_at(number) {
+            Some(name) => names.push(alloc, name)?,
+            None => unreachable!(),
+        }
+    }
+    Ok(names)
+}
+
+/// Prints the lines of the checked names and of the hidden ones. They are counted first.
+#[tactic(auto, using(crate::proofs::Lines::kept))]
+fn print_whole<W: Sink, E: Sink>(
+    alloc: Global,
+    filter: &Filter,
+    whole: &Whole,
+    output: &mut W,
+    faults: &mut E,
+) -> u8
+    ensures printed { result ≡ 0 → Appends (W.gone_out output.old) (W.gone_out output.new) (lines_of_both filter.now whole.now) }
+    ensures failed { result ≡ 3 → KeptOrCut (W.has_failed output.new) (W.gone_out output.old) (W.gone_out output.new) (lines_of_both filter.now whole.now) }
+    ensures status { (result ≡ 0) ⊎ (result ≡ 3) }
+    ensures why { result ≡ 3 → SaysUnwritten (W.has_failed output.old) (W.has_failed output.new) (E.has_failed faults.new) (E.gone_out faults.old) (E.gone_out faults.new) }
+    ensures unbroken { result ≡ 0 → W.has_failed output.new ≡ W.has_failed output.old }
+    ensures quiet { result ≡ 0 → faults.new ≡ faults.old }
+{
+    match count_names(alloc, &whole.names) {
+        Ok(checked) => print_checked(alloc, filter, &whole.bytes, &checked, output, faults),
+        Err(_) => tell_failure(faults, "out of memory\n"),
+    }
+}
+
+/// The same, where the checked names are counted.
+#[tactic(auto, using(crate::proofs::Lines::kept))]
+fn print_checked<W: Sink, E: Sink>(
+    alloc: Global,
+    filter: &Filter,
+    bytes: &[u8],
+    checked: &NameCounts<'_>,
+    output: &mut W,
+    faults: &mut E,
+) -> u8
+    ensures printed { result ≡ 0 → Appends (W.gone_out output.old) (W.gone_out output.new) (tally_lines (words_on filter.now) (tallies_of checked.now.entries) ++ hidden_lines filter.now (hidden_of (names_in_tallies (tallies_of checked.now.entries)) (once_each [] (names_in 0 bytes.now)))) }
+    ensures failed { result ≡ 3 → KeptOrCut (W.has_failed output.new) (W.gone_out output.old) (W.gone_out output.new) (tally_lines (words_on filter.now) (tallies_of checked.now.entries) ++ hidden_lines filter.now (hidden_of (names_in_tallies (tallies_of checked.now.entries)) (once_each [] (names_in 0 bytes.now)))) }
+    ensures status { (result ≡ 0) ⊎ (result ≡ 3) }
+    ensures why { result ≡ 3 → SaysUnwritten (W.has_failed output.old) (W.has_failed output.new) (E.has_failed faults.new) (E.gone_out faults.old) (E.gone_out faults.new) }
+    ensures unbroken { result ≡ 0 → W.has_failed output.new ≡ W.has_failed output.old }
+    ensures quiet { result ≡ 0 → faults.new ≡ faults.old }
+{
+    match hidden_names(alloc, bytes, checked) {
+        Ok(hidden) => print_hidden(alloc, filter, checked, &hidden, output, faults),
+        Err(_) => tell_failure(faults, "out of memory\n"),
+    }
+}
+
+/// The same, where the hidden names are gathered.
+#[tactic(auto, using(crate::proofs::Lines::kept))]
+fn print_hidden<W: Sink, E: Sink>(
+    alloc: Global,
+    filter: &Filter,
+    checked: &NameCounts<'_>,
+    hidden: &NameList,
+    output: &mut W,
+    faults: &mut E,
+) -> u8
+    ensures printed { result ≡ 0 → Appends (W.gone_out output.old) (W.gone_out output.new) (tally_lines (words_on filter.now) (tallies_of checked.now.entries) ++ hidden_lines filter.now hidden.now) }
+    ensures failed { result ≡ 3 → KeptOrCut (W.has_failed output.new) (W.gone_out output.old) (W.gone_out output.new) (tally_lines (words_on filter.now) (tallies_of checked.now.entries) ++ hidden_lines filter.now hidden.now) }
+    ensures status { (result ≡ 0) ⊎ (result ≡ 3) }
+    ensures why { result ≡ 3 → SaysUnwritten (W.has_failed output.old) (W.has_failed output.new) (E.has_failed faults.new) (E.gone_out faults.old) (E.gone_out faults.new) }
+    ensures unbroken { result ≡ 0 → W.has_failed output.new ≡ W.has_failed output.old }
+    ensures quiet { result ≡ 0 → faults.new ≡ faults.old }
+{
+    match count_names(alloc, hidden) {
+        Ok(counts) => print_both(filter, checked, &counts, output, faults),
+        Err(_) => tell_failure(faults, "out of memory\n"),
+    }
+}
+
+/// Prints a line for each checked name, and then for each hidden one. Takes no memory.
+#[tactic(auto, using(crate::proofs::ListLemmas::text_kept))]
+fn print_both<W: Sink, E: Sink>(
+    filter: &Filter,
+    checked: &NameCounts<'_>,
+    hidden: &NameCounts<'_>,
+    output: &mut W,
+    faults: &mut E,
+) -> u8
+    ensures printed { result ≡ 0 → Appends (W.gone_out output.old) (W.gone_out output.new) (tally_lines (words_on filter.now) (tallies_of checked.now.entries) ++ tally_lines (marked_words (codes "hidden ") filter.now) (tallies_of hidden.now.entries)) }
+    ensures failed { result ≡ 3 → KeptOrCut (W.has_failed output.new) (W.gone_out output.old) (W.gone_out output.new) (tally_lines (words_on filter.now) (tallies_of checked.now.entries) ++ tally_lines (marked_words (codes "hidden ") filter.now) (tallies_of hidden.now.entries)) }
+    ensures status { (result ≡ 0) ⊎ (result ≡ 3) }
+    ensures why { result ≡ 3 → SaysUnwritten (W.has_failed output.old) (W.has_failed output.new) (E.has_failed faults.new) (E.gone_out faults.old) (E.gone_out faults.new) }
+    ensures unbroken { result ≡ 0 → W.has_failed output.new ≡ W.has_failed output.old }
+    ensures quiet { result ≡ 0 → faults.new ≡ faults.old }
+{
+    let mut outbox = Outbox::new();
+    say_lines(&mut outbox, output, filter, b"", checked);
+    say_lines(&mut outbox, output, filter, b"hidden ", hidden);
+    outbox.flush(output);
+    if outbox.has_failed() {
+        return tell_failure(faults, "write failed\n");
+    }
+    ACCEPTED
+}
