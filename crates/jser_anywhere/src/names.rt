@@ -4,6 +4,7 @@ ghost use Rattle.jser_anywhere.specs.NamesIn.{TellsNext, names_in, row_of, untol
 
 use crate::name::Units;
 use crate::search::text_of;
+use crate::tags::{TC_CLASSDESC, TC_PROXYCLASSDESC};
 use arrayvec::ArrayVec;
 use std::marker::Model;
 
@@ -148,8 +149,8 @@ fn row_of(bytes: &[u8]) -> RowHead
     ensures within { result.head ≤ length bytes.now }
 {
     match bytes {
-        [0x72, ..] => RowHead { head: 1, most: 1 },
-        [0x7D, 0, 0, high, low, ..] => RowHead {
+        [TC_CLASSDESC, ..] => RowHead { head: 1, most: 1 },
+        [TC_PROXYCLASSDESC, 0, 0, high, low, ..] => RowHead {
             head: 5,
             most: u32::from(*high) * 256 + u32::from(*low),
         },

@@ -2,6 +2,8 @@
 ghost use Rattle.std.specs.Prelude.{◌≡◌};
 ghost use Rattle.jser_anywhere.specs.Steps.{left_of, name_left, no_recent, row_left, with_byte};
 
+use crate::tags::{TC_CLASSDESC, TC_PROXYCLASSDESC};
+
 /// The last six bytes. Where there were not so many, 0xFF stands for those that are missing: no name begins with it.
 #[derive(Clone, Copy, Debug)]
 pub(crate) struct Recent {
@@ -67,7 +69,7 @@ impl Recent {
     pub(crate) fn name_left(self, byte: u8) -> Option<u16>
         ensures { result ≡ name_left self byte }
     {
-        if self.second == 0x72 {
+        if self.second == TC_CLASSDESC {
             left_of(self.last, byte)
         } else {
             None
@@ -78,7 +80,7 @@ impl Recent {
     pub(crate) fn row_left(self, byte: u8) -> Option<Begun>
         ensures { result ≡ row_left self byte }
     {
-        if self.sixth != 0x7D || self.fifth != 0 || self.fourth != 0 {
+        if self.sixth != TC_PROXYCLASSDESC || self.fifth != 0 || self.fourth != 0 {
             return None;
         }
         let count = u16::from(self.third) * 256 + u16::from(self.second);

@@ -7,6 +7,7 @@ use crate::hidden::{Hidden, Judge};
 use crate::name::{MOST_BYTES, Units, read_name};
 use crate::open::{Name, Row, RowAt, RowText};
 use crate::recent::Recent;
+use crate::tags::{TC_CLASSDESC, TC_PROXYCLASSDESC};
 use arrayvec::ArrayVec;
 use std::marker::Model;
 
@@ -310,5 +311,5 @@ fn may_begin(piece: &[u8], at: usize) -> bool
     requires { (6 ≤ at) × (at ≤ length piece.now) }
     ensures { result ≡ may_begin piece.now at }
 {
-    piece[at - 1] <= 4 && (piece[at - 2] == 0x72 || piece[at - 6] == 0x7D)
+    piece[at - 1] <= 4 && (piece[at - 2] == TC_CLASSDESC || piece[at - 6] == TC_PROXYCLASSDESC)
 }

@@ -4,6 +4,7 @@ ghost use Rattle.jser_anywhere.specs.Search.{TellsFirst, TellsText, hidden_here,
 
 use crate::hidden::{Hidden, Judge};
 use crate::name::{MOST_BYTES, Units, read_name};
+use crate::tags::{TC_CLASSDESC, TC_PROXYCLASSDESC};
 use arrayvec::ArrayVec;
 
 /// How many bytes the name at the head of these bytes has, with its length, if one stands there; `units` then has
@@ -62,8 +63,8 @@ fn hidden_here<J: Judge>(bytes: &[u8], judge: &J, units: &mut Units) -> Option<u
     ensures within { IfSome result (λ end. end ≤ length bytes.now) }
 {
     match bytes {
-        [0x72, rest @ ..] => { row_hidden(rest, 1, judge, units).map(|end| 1 + end) }
-        [0x7D, 0, 0, high, low, rest @ ..] => {
+        [TC_CLASSDESC, rest @ ..] => { row_hidden(rest, 1, judge, units).map(|end| 1 + end) }
+        [TC_PROXYCLASSDESC, 0, 0, high, low, rest @ ..] => {
             let most = u32::from(*high) * 256 + u32::from(*low);
             row_hidden(rest, most, judge, units).map(|end| 5 + end)
         }

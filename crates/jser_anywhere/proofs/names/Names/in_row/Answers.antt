@@ -15,5 +15,5 @@ returns-in-Some-clause-told c =
 pub returns-in-Some-clause-inside : goal.returns-in-Some-clause-inside
 returns-in-Some-clause-inside c =
     let inside = text_inside c.self.inside.bytes.now c.text_of.new.units.items c.self.inside.at c.in-Some.end c.self.invariant.0
-        (subst (λ xs. TellsText xs (Some c.in-Some.end) c.text_of.new.units.items) c.split_at.ensures.back (told_some _ _ _ _ c.text_of.ensures c.in-Some.is)) in
+    (subst (λ xs. TellsText xs (Some c.in-Some.end) c.text_of.new.units.items) c.split_at.ensures.back (told_some _ _ _ _ c.text_of.ensures c.in-Some.is)) in
     (inside.0, subst (λ (t : Telling). c.self.inside.at + c.in-Some.end ≤ length t.bytes) c.self.view_is inside.1)
