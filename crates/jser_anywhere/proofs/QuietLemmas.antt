@@ -2,14 +2,21 @@
 use Rattle.std.proofs.Common.{◌≡◌, ℕ, zero, suc, ◌+◌, ◌-◌, ◌<◌, ◌≤◌, ◌∙◌, ap, sym, subst, Bool, true, false, ◌&&◌, ◌||◌, ◌==◌, ◌⊎◌, inl, inr, Option, Some, None, List, [], ◌∷◌, ◌++◌, length, take, reverse, refl, arith, length-append, append_assoc, get_or}
 use Rattle.std.specs.Prelude.{nat_le, IfSome}
 use Rattle.std.specs.Option.{is_some}
-use Rattle.std.proofs.lemmas.Bool.{cases_lt}
+use Rattle.std.proofs.Math.Dec.{eqb}
+use Rattle.std.proofs.Common.{map, cond, not, ◌%◌, ◌^◌}
+use Rattle.std.proofs.lemmas.Simd.{length-chunk, bitmask_splat, first_set_mask_l, run_in_chunk_le, run_in_chunk_fails}
+use Rattle.std.specs.List.{prefix_len}
+use lib.Lanes.{chunk, zip2, mask_l, top}
+use lib.ListN.{replicate}
+use mir.Syntax.{w8}
+use Rattle.std.proofs.lemmas.Bool.{cases_lt, eqb-true}
 use Rattle.std.proofs.lemmas.Bool.Decides.{nat_tests}
 use Rattle.std.proofs.lemmas.List.{length-reverse, reverse-append, take_more, length-take-le, get_or-take, get_or-reverse, get_or_append_left, get_or_default}
 use Rattle.jser_anywhere.specs.Standing.{AllPass}
 use Rattle.jser_anywhere.specs.Stages.{Stage, nothing, in_text, next, ended}
 use Rattle.jser_anywhere.specs.Slots.{Slot, slots_of, ago, new_name, new_row, is_hidden, lower_of, hidden_place}
 use Rattle.jser_anywhere.specs.declared.recent.Recent.{Recent}
-use Rattle.jser_anywhere.specs.Steps.{Scanning, is_busy, recent_of, may_begin, IsQuiet, recent_in, past}
+use Rattle.jser_anywhere.specs.Steps.{Scanning, is_busy, recent_of, may_begin, IsQuiet, AreNone, first_set, recent_in, past}
 use Rattle.jser_anywhere.specs.Scans.{AreBytes, Fed, name_stage, row_stage, SkipFits, HasScanned, TakesBytes, Hurries, most_taken}
 use Rattle.jser_anywhere.proofs.StageLemmas.{high_out}
 use Rattle.jser_anywhere.proofs.SlotLemmas.{NewName, NewRow, new_name_cases, new_row_cases}
@@ -138,6 +145,51 @@ quiet_more piece from to begins q less is quiet small = record {
 
 pub quiet_whole : (piece : List ℕ) (from to : ℕ) → IsQuiet piece from to → length piece ≤ to → IsQuiet piece from (length piece)
 quiet_whole piece from to q all = subst (λ (n : ℕ). IsQuiet piece from n) (omega (arith, q.within)) q
+
+pub quiet_joined : (piece : List ℕ) (from mid to : ℕ) → IsQuiet piece from mid → IsQuiet piece mid to → IsQuiet piece from to
+quiet_joined piece from mid to first second = record {
+  ordered = omega (arith, first.ordered, second.ordered);
+  within = second.within;
+  none = λ at lower upper. elim (cases_lt at mid) [
+    | inl l ↦ first.none at lower l
+    | inr not ↦ second.none at (omega arith) upper
+  ];
+  bytes = λ at lower upper. elim (cases_lt at mid) [
+    | inl l ↦ first.bytes at lower l
+    | inr not ↦ second.bytes at (omega arith) upper
+  ];
+}
+
+-- sixteen bytes together
+
+module _ (byte : ℕ) (bytes : List ℕ) (at run : ℕ) (within : at + 16 ≤ length bytes)
+    (found : run ≡ first_set (mask_l (map (top 7) (zip2 (λ a b. cond (eqb a b) 255 0) (chunk at 16 bytes) (replicate 16 byte))) % 2 ^ 64) 16) where
+  counted : run ≡ prefix_len (λ other. not (eqb other byte)) (chunk at 16 bytes)
+  counted =
+      let long = length-chunk at 16 bytes within in
+      found ∙ ap (λ m. first_set m 16) (bitmask_splat w8 eqb (chunk at 16 bytes) 16 byte long (omega arith))
+      ∙ first_set_mask_l (λ other. eqb other byte) (chunk at 16 bytes) 16 long (omega arith)
+
+  pub run_within : run ≤ 16
+  run_within = run_in_chunk_le (λ other. eqb other byte) bytes at 16 run 0 within counted
+
+  pub run_has_none : AreNone (λ other. other == byte) bytes at (at + run)
+  run_has_none = run_in_chunk_fails (λ other. eqb other byte) bytes at 16 run 0 within counted
+
+no_tag : (low : Bool) (a b : Bool) → a ≡ false → b ≡ false → (low && (a || b)) ≡ false
+no_tag true a b e f = cc
+no_tag false a b e f = refl
+
+pub quiet_without_tags : (piece : List ℕ) (at second sixth plain proxy run : ℕ) → 6 ≤ at → at + 16 ≤ length piece → ((k : ℕ) → get_or piece k 0 < 256) → second ≡ at - 2 → sixth ≡ at - 6
+    → AreNone (λ other. other == 0x72) piece second (second + plain) → AreNone (λ other. other == 0x7D) piece sixth (sixth + proxy) → run ≤ plain → run ≤ proxy → run ≤ 16
+    → IsQuiet piece at (at + run)
+quiet_without_tags piece at second sixth plain proxy run enough within small es e6 no_plain no_proxy first last few = record {
+  ordered = omega arith;
+  within = omega arith;
+  none = λ k lower upper.
+      no_tag (nat_le (get_or piece (k - 1) 0) 4) _ _ (no_plain (k - 2) (omega arith) (omega arith)) (no_proxy (k - 6) (omega arith) (omega arith));
+  bytes = λ k lower upper. small k;
+}
 
 quiet_of : (passes : List ℕ → Bool) (taken : List ℕ) (scan : Scanning) → HasScanned passes taken scan → scan.name ≡ None → scan.row ≡ None → Quiet passes taken
 quiet_of passes taken scan s no_name no_row = record {

@@ -1,6 +1,7 @@
 -- What a scan keeps, and what it does with a byte, as its functions do it.
 use Rattle.std.specs.Prelude.{get_or, ◌≡◌, ◌≤◌, ◌<◌, ◌≡◌, ◌<◌, ℕ, Bool, true, false, ◌+◌, ◌*◌, ◌-◌, ◌==◌, ◌&&◌, ◌||◌, nat_le, if◌then◌else◌, List, [], ◌∷◌, ◌++◌, length, drop, Option, Some, None, min}
 use Rattle.std.specs.Option.{is_some}
+use Rattle.std.specs.Int.{trailing_zeros, w64}
 use Rattle.jser_anywhere.specs.declared.recent.Recent.{Recent}
 use Rattle.jser_anywhere.specs.declared.recent.Begun.{Begun}
 use Rattle.jser_anywhere.specs.declared.open.Name.{Name}
@@ -193,6 +194,14 @@ HasRoom scan = is_reading scan ≡ true → length scan.kept < 1280
 -- and a mark stands before that.
 abbrev pub may_begin : (piece : List ℕ) → (at : ℕ) → Bool
 may_begin piece at = nat_le (get_or piece (at - 1) 0) 4 && (get_or piece (at - 2) 0 == 0x72 || get_or piece (at - 6) 0 == 0x7D)
+
+-- the place of the lowest bit of a mask that is set, or the number of lanes
+abbrev pub first_set : ℕ → ℕ → ℕ
+first_set mask lanes = if mask == 0 then lanes else trailing_zeros w64 mask
+
+-- no byte from a place on, up to another, is such a one
+abbrev pub AreNone : (ℕ → Bool) → List ℕ → (from to : ℕ) → Type 0
+AreNone is bytes from to = (at : ℕ) → from ≤ at → at < to → is (get_or bytes at 0) ≡ false
 
 pub record IsQuiet (piece : List ℕ) (from to : ℕ) : Type 0 where
   pub ordered : from ≤ to

@@ -1,13 +1,13 @@
 //! The scan in pieces: it keeps the last six bytes, and the bytes of the names that are being read.
 ghost use Rattle.std.specs.Prelude.{◌≡◌, ◌≤◌, [], ◌∷◌, Bool, List, ℕ, Some, None, length};
-ghost use Rattle.jser_anywhere.specs.Steps.{HasRoom, IsQuiet, is_busy, may_begin, past, ended_as, gone_on, in_row_text, is_passed, is_reading, keeping, lower, name_after, name_ended, name_left, noted, row_after, row_ended, row_left, scan_after, scan_hidden, short_units};
+ghost use Rattle.jser_anywhere.specs.Steps.{HasRoom, is_busy, past, ended_as, gone_on, in_row_text, is_passed, is_reading, keeping, lower, name_after, name_ended, name_left, noted, row_after, row_ended, row_left, scan_after, scan_hidden, short_units};
 ghost use Rattle.jser_anywhere.specs.Scans.{HasScanned, Hurries, TakesBytes};
 
 use crate::hidden::{Hidden, Judge};
 use crate::name::{MOST_BYTES, Units, read_name};
 use crate::open::{Name, Row, RowAt, RowText};
+use crate::quiet::quiet_until;
 use crate::recent::Recent;
-use crate::tags::{TC_CLASSDESC, TC_PROXYCLASSDESC};
 use arrayvec::ArrayVec;
 use std::marker::Model;
 
@@ -289,27 +289,4 @@ fn lower(name: Ended, row: Ended) -> Option<u64>
         (_, Ended::Hidden(b)) => Some(b),
         _ => None,
     }
-}
-
-/// How far the bytes of a piece from `from` on begin no name.
-#[tactic(auto, using(crate::proofs::QuietLemmas::quiet_none, crate::proofs::QuietLemmas::quiet_more, crate::proofs::QuietLemmas::quiet_whole))]
-fn quiet_until(piece: &[u8], from: usize) -> usize
-    requires { (6 ≤ from) × (from ≤ length piece.now) }
-    ensures { IsQuiet piece.now from result }
-{
-    'bytes: for at in from..piece.len() {
-        if may_begin(piece, at) {
-            return at;
-        }
-    }
-    piece.len()
-}
-
-/// Whether a name may begin with the length that ends at this byte.
-#[inline(always)]
-fn may_begin(piece: &[u8], at: usize) -> bool
-    requires { (6 ≤ at) × (at ≤ length piece.now) }
-    ensures { result ≡ may_begin piece.now at }
-{
-    piece[at - 1] <= 4 && (piece[at - 2] == TC_CLASSDESC || piece[at - 6] == TC_PROXYCLASSDESC)
 }

@@ -1,0 +1,88 @@
+//! Bytes that begin no name: most of them are passed over sixteen together.
+ghost use Rattle.std.specs.Prelude.{◌≡◌, ◌+◌, ◌-◌, ◌≤◌, ◌==◌, length};
+ghost use Rattle.jser_anywhere.specs.Steps.{IsQuiet, AreNone, first_set, may_begin};
+
+use crate::tags::{TC_CLASSDESC, TC_PROXYCLASSDESC};
+use std::simd::prelude::*;
+
+/// How many bytes are looked at together.
+const LANES: usize = 16;
+
+/// How far the bytes of a piece from `from` on begin no name.
+#[tactic(auto, using(crate::proofs::QuietLemmas::quiet_none, crate::proofs::QuietLemmas::quiet_more, crate::proofs::QuietLemmas::quiet_joined))]
+pub(crate) fn quiet_until(piece: &[u8], from: usize) -> usize
+    requires { (6 ≤ from) × (from ≤ length piece.now) }
+    ensures { IsQuiet piece.now from result }
+{
+    let mut at = from;
+    'loads: while piece.len() - at >= LANES {
+        let run = quiet_run(piece, at);
+        at += run;
+        if run < LANES {
+            if may_begin(piece, at) {
+                return at;
+            }
+            at += 1;
+        }
+    }
+    quiet_until_each(piece, at)
+}
+
+/// The same, byte by byte.
+#[tactic(auto, using(crate::proofs::QuietLemmas::quiet_none, crate::proofs::QuietLemmas::quiet_more, crate::proofs::QuietLemmas::quiet_whole))]
+fn quiet_until_each(piece: &[u8], from: usize) -> usize
+    requires { (6 ≤ from) × (from ≤ length piece.now) }
+    ensures { IsQuiet piece.now from result }
+{
+    'bytes: for at in from..piece.len() {
+        if may_begin(piece, at) {
+            return at;
+        }
+    }
+    piece.len()
+}
+
+/// Whether a name may begin with the length that ends at this byte.
+#[inline(always)]
+fn may_begin(piece: &[u8], at: usize) -> bool
+    requires { (6 ≤ at) × (at ≤ length piece.now) }
+    ensures { result ≡ may_begin piece.now at }
+{
+    piece[at - 1] <= 4 && (piece[at - 2] == TC_CLASSDESC || piece[at - 6] == TC_PROXYCLASSDESC)
+}
+
+/// How many bytes of the load at this place stand at no place at which the tag of a descriptor would begin a name.
+#[tactic(auto, using(crate::proofs::QuietLemmas::quiet_without_tags))]
+#[inline(always)]
+fn quiet_run(piece: &[u8], at: usize) -> usize
+    requires { (6 ≤ at) × (at + LANES ≤ length piece.now) }
+    ensures within { result ≤ LANES }
+    ensures quiet { IsQuiet piece.now at (at + result) }
+{
+    let plain = run_without(piece, at - 2, TC_CLASSDESC);
+    let proxy = run_without(piece, at - 6, TC_PROXYCLASSDESC);
+    plain.min(proxy)
+}
+
+/// How many bytes of the load at this place come before the first that is this one.
+#[inline(always)]
+fn run_without(bytes: &[u8], at: usize, byte: u8) -> usize
+    requires { at + LANES ≤ length bytes.now }
+    ensures within { result ≤ LANES }
+    ensures none { AreNone (λ other. other == byte) bytes.now at (at + result) }
+{
+    let same = u8x16::from_slice(&bytes[at..]).simd_eq(u8x16::splat(byte));
+    first_set(same.to_bitmask())
+}
+
+/// The place of the lowest bit that is set, or the number of lanes where none is.
+#[inline(always)]
+fn first_set(mask: u64) -> usize
+    ensures { result ≡ first_set mask LANES }
+{
+    if mask == 0 {
+        LANES
+    } else {
+        mask.trailing_zeros() as usize
+    }
+}
