@@ -6,6 +6,7 @@ use crate::check::Rules;
 use crate::tail::Tail;
 use jser_check::Options;
 use jser_check_anywhere::passes;
+use jser_grammar::wire::TC_PROXYCLASSDESC;
 use jser_prim::Source;
 use std::alloc::{AllocError, Global};
 
@@ -44,7 +45,7 @@ pub(crate) fn hidden_name<R: Source>(
 
 /// Where the text begins that ends at `to`.
 fn start_of_name<R: Source>(tail: &Tail<R>, from: u64, to: u64) -> Option<u64> {
-    let is_row = tail.byte_at(from)? == 0x7D;
+    let is_row = tail.byte_at(from)? == TC_PROXYCLASSDESC;
     let mut at = from.checked_add(if is_row { 5 } else { 1 })?;
     for _ in 0..0xFFFFu32 {
         let start = at.checked_add(2)?;
