@@ -15,6 +15,7 @@ pub mod StepLemmas
 pub mod FollowLemmas
 pub mod TakeLemmas
 pub mod QuietLemmas
+pub mod ReadLemmas
 pub mod LoadableLemmas
 pub mod NamesLemmas
 pub mod NamedLemmas

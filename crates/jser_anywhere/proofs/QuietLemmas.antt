@@ -1,7 +1,6 @@
 -- Past bytes that begin no name, where none is being read.
-use Rattle.std.proofs.Common.{◌≡◌, ℕ, zero, suc, ◌+◌, ◌-◌, ◌<◌, ◌≤◌, ◌∙◌, ap, sym, subst, Bool, true, false, ◌&&◌, ◌||◌, ◌==◌, ◌⊎◌, inl, inr, Option, Some, None, List, [], ◌∷◌, ◌++◌, length, take, reverse, refl, arith, length-append, append_assoc, get_or}
+use Rattle.std.proofs.Common.{◌≡◌, ℕ, zero, suc, ◌+◌, ◌-◌, ◌<◌, ◌≤◌, ◌∙◌, ap, sym, subst, Bool, true, false, ◌&&◌, ◌||◌, ◌==◌, ◌⊎◌, inl, inr, None, List, [], ◌∷◌, ◌++◌, length, take, reverse, refl, arith, length-append, append_assoc, get_or}
 use Rattle.std.specs.Prelude.{nat_le, IfSome}
-use Rattle.std.specs.Option.{is_some}
 use Rattle.std.proofs.Math.Dec.{eqb}
 use Rattle.std.proofs.Common.{map, cond, not, ◌%◌, ◌^◌}
 use Rattle.std.proofs.lemmas.Simd.{length-chunk, bitmask_splat, first_set_mask_l, run_in_chunk_le, run_in_chunk_fails}
@@ -9,14 +8,14 @@ use Rattle.std.specs.List.{prefix_len}
 use lib.Lanes.{chunk, zip2, mask_l, top}
 use lib.ListN.{replicate}
 use mir.Syntax.{w8}
-use Rattle.std.proofs.lemmas.Bool.{cases_lt, eqb-true}
+use Rattle.std.proofs.lemmas.Bool.{cases_lt}
 use Rattle.std.proofs.lemmas.Bool.Decides.{nat_tests}
 use Rattle.std.proofs.lemmas.List.{length-reverse, reverse-append, take_more, length-take-le, get_or-take, get_or-reverse, get_or_append_left, get_or_default}
 use Rattle.jser_anywhere.specs.Standing.{AllPass}
 use Rattle.jser_anywhere.specs.Stages.{Stage, nothing, in_text, next, ended}
 use Rattle.jser_anywhere.specs.Slots.{Slot, slots_of, ago, new_name, new_row, is_hidden, lower_of, hidden_place}
 use Rattle.jser_anywhere.specs.declared.recent.Recent.{Recent}
-use Rattle.jser_anywhere.specs.Steps.{Scanning, is_busy, recent_of, may_begin, IsQuiet, AreNone, first_set, recent_in, past}
+use Rattle.jser_anywhere.specs.Steps.{Scanning, recent_of, may_begin, IsQuiet, AreNone, first_set, recent_in, past}
 use Rattle.jser_anywhere.specs.Scans.{AreBytes, Fed, name_stage, row_stage, SkipFits, HasScanned, TakesBytes, Hurries, most_taken}
 use Rattle.jser_anywhere.proofs.StageLemmas.{high_out}
 use Rattle.jser_anywhere.proofs.SlotLemmas.{NewName, NewRow, new_name_cases, new_row_cases}
@@ -202,11 +201,11 @@ quiet_of passes taken scan s no_name no_row = record {
 abbrev the_recent : (a b c d e f : ℕ) → Recent
 the_recent a b c d e f = record { last = a; second = b; third = c; fourth = d; fifth = e; sixth = f }
 
-same_recent : (a b c d e f u v w x y z : ℕ) → a ≡ u → b ≡ v → c ≡ w → d ≡ x → e ≡ y → f ≡ z
+pub same_recent : (a b c d e f u v w x y z : ℕ) → a ≡ u → b ≡ v → c ≡ w → d ≡ x → e ≡ y → f ≡ z
     → the_recent a b c d e f ≡ the_recent u v w x y z
 same_recent a b c d e f u v w x y z p q r s t o = cc
 
-recent_same : (taken piece : List ℕ) (to : ℕ) → to ≤ length piece → 6 ≤ to → recent_in piece to ≡ recent_of (reverse (taken ++ take to piece))
+pub recent_same : (taken piece : List ℕ) (to : ℕ) → to ≤ length piece → 6 ≤ to → recent_in piece to ≡ recent_of (reverse (taken ++ take to piece))
 recent_same taken piece to within six =
     let back = reverse (taken ++ take to piece) in
     let a : get_or piece (to - 1) 0 ≡ ago back 0 = ap (λ (n : ℕ). get_or piece n 0) (sym (less_less to 0 1 (omega arith))) ∙ sym (ago_in taken piece to 0 0xFF within (omega arith)) in
@@ -240,10 +239,6 @@ past_scanned passes taken piece old at to six no_name no_row q fits s =
       };
     }
 
-none_of : {A : Type 0} → (o : Option A) → is_some o ≡ false → o ≡ None
-none_of None e = refl
-none_of (Some x) e = absurd cc
-
 pub hurries_none : (scan : Scanning) (piece : List ℕ) (at : ℕ) → at ≤ length piece → Hurries scan scan piece at at
 hurries_none scan piece at within = record { ordered = omega arith; within = within; takes = λ passes start t. t }
 
@@ -255,20 +250,14 @@ takes_past old piece at to six no_name no_row q passes start t = λ taken fits s
     let long_to = length-take-le to piece q.within in
     past_scanned passes taken piece old at to six no_name no_row q fits (t taken (omega (arith, fits, q.ordered, long_at, long_to)) s)
 
-both_none : (a b : Bool) → (a || b) ≡ false → (a ≡ false) × (b ≡ false)
-both_none true b e = absurd cc
-both_none false b e = (refl, e)
-
-pub hurried : (old new : Scanning) (piece : List ℕ) (at to : ℕ) (busy : Bool) → 6 ≤ at → busy ≡ is_busy old → busy ≡ false → IsQuiet piece at to
+pub hurried : (old new : Scanning) (piece : List ℕ) (at to : ℕ) → 6 ≤ at → old.name ≡ None → old.row ≡ None → IsQuiet piece at to
     → new ≡ past old piece at to → Hurries old new piece at to
-hurried old new piece at to busy six b idle q e =
-    let none = both_none (is_some old.name) (is_some old.row) (sym b ∙ idle) in
-    record {
-      ordered = q.ordered;
-      within = q.within;
-      takes = λ passes start t. subst (λ (x : Scanning). TakesBytes passes start x (take to piece) None) (sym e)
-          (takes_past old piece at to six (none_of old.name none.0) (none_of old.row none.1) q passes start t);
-    }
+hurried old new piece at to six no_name no_row q e = record {
+  ordered = q.ordered;
+  within = q.within;
+  takes = λ passes start t. subst (λ (x : Scanning). TakesBytes passes start x (take to piece) None) (sym e)
+      (takes_past old piece at to six no_name no_row q passes start t);
+}
 
 -- one byte, and then those that begin no name
 pub fed_on : (passes : List ℕ → Bool) (start old between new : Scanning) (piece : List ℕ) (at next_at to byte : ℕ) → Fed passes start old piece at → at < length piece → byte ≡ get_or piece at 0

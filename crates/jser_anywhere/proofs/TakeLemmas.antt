@@ -27,7 +27,7 @@ scanned_none passes = record {
 pub back_more : (taken : List ℕ) (byte : ℕ) → byte ∷ reverse taken ≡ reverse (taken ++ byte ∷ [])
 back_more taken byte = sym (reverse-append taken (byte ∷ []))
 
-byte_by : (passes : List ℕ → Bool) (old new : Scanning) (byte : ℕ) (place : Option ℕ) (taken : List ℕ) → byte < 256 → length taken + 1 ≤ most_taken → HasScanned passes taken old
+pub byte_by : (passes : List ℕ → Bool) (old new : Scanning) (byte : ℕ) (place : Option ℕ) (taken : List ℕ) → byte < 256 → length taken + 1 ≤ most_taken → HasScanned passes taken old
     → place ≡ scan_hidden passes old byte → (place ≡ None → new ≡ scan_after passes old byte)
     → (told : Option Hidden) → (place ≡ None → told ≡ None) → ((from : ℕ) → place ≡ Some from → told ≡ Some (record { from = from; to = min (old.count + 1) most_taken }))
     → Tells passes taken (byte ∷ []) told new

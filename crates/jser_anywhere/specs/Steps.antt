@@ -1,5 +1,5 @@
 -- What a scan keeps, and what it does with a byte, as its functions do it.
-use Rattle.std.specs.Prelude.{get_or, ◌≡◌, ◌≤◌, ◌<◌, ◌≡◌, ◌<◌, ℕ, Bool, true, false, ◌+◌, ◌*◌, ◌-◌, ◌==◌, ◌&&◌, ◌||◌, nat_le, if◌then◌else◌, List, [], ◌∷◌, ◌++◌, length, drop, Option, Some, None, min}
+use Rattle.std.specs.Prelude.{get_or, ◌≡◌, ◌≤◌, ◌<◌, ◌≡◌, ◌<◌, ℕ, Bool, true, false, ◌+◌, ◌*◌, ◌-◌, ◌==◌, ◌&&◌, ◌||◌, nat_le, if◌then◌else◌, List, [], ◌∷◌, ◌++◌, length, take, drop, Option, Some, None, min}
 use Rattle.std.specs.Option.{is_some}
 use Rattle.std.specs.Int.{trailing_zeros, w64}
 use Rattle.jser_anywhere.specs.declared.recent.Recent.{Recent}
@@ -94,9 +94,6 @@ in_row_text (Some r) = at_text r.at
 
 abbrev pub is_reading : Scanning → Bool
 is_reading scan = is_some scan.name || in_row_text scan.row
-
-abbrev pub is_busy : Scanning → Bool
-is_busy scan = is_some scan.name || is_some scan.row
 
 -- the bytes that are kept with one more
 abbrev pub noted : Scanning → ℕ → List ℕ
@@ -223,3 +220,22 @@ recent_in piece to = record {
 abbrev pub past : Scanning → (piece : List ℕ) → (from to : ℕ) → Scanning
 past scan piece from to =
     record { count = min (scan.count + (to - from)) 0xFFFFFFFFFFFFFFFF; recent = recent_in piece to; kept = []; name = scan.name; row = scan.row }
+
+-- ---- bytes of the descriptor's name that is being read
+
+-- they can be those of a name: none is the first of a length
+pub record IsText (piece : List ℕ) (from to : ℕ) : Type 0 where
+  pub ordered : from ≤ to
+  pub within : to ≤ length piece
+  pub high : (at : ℕ) → from ≤ at → at < to → nat_le (get_or piece at 0) 4 ≡ false
+  pub bytes : (at : ℕ) → from ≤ at → at < to → get_or piece at 0 < 256
+
+-- past them, where no row is being read
+abbrev pub read_past : Scanning → Name → (piece : List ℕ) → (from to : ℕ) → Scanning
+read_past scan name piece from to = record {
+  count = min (scan.count + (to - from)) 0xFFFFFFFFFFFFFFFF;
+  recent = recent_in piece to;
+  kept = scan.kept ++ take (to - from) (drop from piece);
+  name = Some (record { place = name.place; left = name.left - (to - from) });
+  row = None;
+}

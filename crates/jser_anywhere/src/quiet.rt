@@ -1,6 +1,6 @@
 //! Bytes that begin no name: most of them are passed over sixteen together.
 ghost use Rattle.std.specs.Prelude.{◌≡◌, ◌+◌, ◌-◌, ◌≤◌, ◌==◌, length};
-ghost use Rattle.jser_anywhere.specs.Steps.{IsQuiet, AreNone, first_set, may_begin};
+ghost use Rattle.jser_anywhere.specs.Steps.{IsQuiet, IsText, AreNone, first_set, may_begin};
 
 use crate::tags::{TC_CLASSDESC, TC_PROXYCLASSDESC};
 use std::simd::prelude::*;
@@ -44,7 +44,7 @@ fn quiet_until_each(piece: &[u8], from: usize) -> usize
 
 /// Whether a name may begin with the length that ends at this byte.
 #[inline(always)]
-fn may_begin(piece: &[u8], at: usize) -> bool
+pub(crate) fn may_begin(piece: &[u8], at: usize) -> bool
     requires { (6 ≤ at) × (at ≤ length piece.now) }
     ensures { result ≡ may_begin piece.now at }
 {
@@ -85,4 +85,21 @@ fn first_set(mask: u64) -> usize
     } else {
         mask.trailing_zeros() as usize
     }
+}
+
+/// How far the bytes of a piece from `from` on can be those of a name, of so many at most.
+#[tactic(auto, using(crate::proofs::ReadLemmas::text_none, crate::proofs::ReadLemmas::text_more))]
+#[inline(always)]
+pub(crate) fn text_until(piece: &[u8], from: usize, most: usize) -> usize
+    requires { from ≤ length piece.now }
+    ensures text { IsText piece.now from result }
+    ensures few { result - from ≤ most }
+{
+    let end = from + most.min(piece.len() - from);
+    'bytes: for at in from..end {
+        if piece[at] <= 4 {
+            return at;
+        }
+    }
+    end
 }

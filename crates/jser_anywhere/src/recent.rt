@@ -1,6 +1,6 @@
 //! The last bytes, and what begins with the next one.
-ghost use Rattle.std.specs.Prelude.{◌≡◌};
-ghost use Rattle.jser_anywhere.specs.Steps.{left_of, name_left, no_recent, row_left, with_byte};
+ghost use Rattle.std.specs.Prelude.{◌≡◌, ◌≤◌, length};
+ghost use Rattle.jser_anywhere.specs.Steps.{left_of, name_left, no_recent, recent_in, row_left, with_byte};
 
 use crate::tags::{TC_CLASSDESC, TC_PROXYCLASSDESC};
 
@@ -48,6 +48,22 @@ impl Recent {
             fourth: 0xFF,
             fifth: 0xFF,
             sixth: 0xFF,
+        }
+    }
+
+    /// The last six of the bytes of a piece before this place.
+    #[inline(always)]
+    pub(crate) fn in_piece(piece: &[u8], to: usize) -> Recent
+        requires { (6 ≤ to) × (to ≤ length piece.now) }
+        ensures { result ≡ recent_in piece.now to }
+    {
+        Recent {
+            last: piece[to - 1],
+            second: piece[to - 2],
+            third: piece[to - 3],
+            fourth: piece[to - 4],
+            fifth: piece[to - 5],
+            sixth: piece[to - 6],
         }
     }
 

@@ -1,12 +1,12 @@
 //! The scan in pieces: it keeps the last six bytes, and the bytes of the names that are being read.
-ghost use Rattle.std.specs.Prelude.{◌≡◌, ◌≤◌, [], ◌∷◌, Bool, List, ℕ, Some, None, length};
-ghost use Rattle.jser_anywhere.specs.Steps.{HasRoom, is_busy, past, ended_as, gone_on, in_row_text, is_passed, is_reading, keeping, lower, name_after, name_ended, name_left, noted, row_after, row_ended, row_left, scan_after, scan_hidden, short_units};
+ghost use Rattle.std.specs.Prelude.{◌≡◌, ◌≤◌, ◌-◌, true, false, [], ◌∷◌, Bool, List, ℕ, Some, None, length};
+ghost use Rattle.jser_anywhere.specs.Steps.{HasRoom, past, read_past, ended_as, gone_on, in_row_text, is_passed, is_reading, keeping, lower, name_after, name_ended, name_left, noted, row_after, row_ended, row_left, scan_after, scan_hidden, short_units};
 ghost use Rattle.jser_anywhere.specs.Scans.{HasScanned, Hurries, TakesBytes};
 
 use crate::hidden::{Hidden, Judge};
 use crate::name::{MOST_BYTES, Units, read_name};
 use crate::open::{Name, Row, RowAt, RowText};
-use crate::quiet::quiet_until;
+use crate::quiet::{may_begin, quiet_until, text_until};
 use crate::recent::Recent;
 use arrayvec::ArrayVec;
 use std::marker::Model;
@@ -92,25 +92,73 @@ impl Scan {
         }
     }
 
-    /// Goes past the bytes from `at` on that begin no name, where none is being read; returns how far it came.
-    #[tactic(auto, using(crate::proofs::QuietLemmas::hurries_none, crate::proofs::QuietLemmas::hurried))]
+    /// Goes past the bytes from `at` on that begin no name, where no row is being read: those of no name, or of a
+    /// descriptor's name; returns how far it came.
+    #[tactic(auto, using(crate::proofs::QuietLemmas::hurries_none))]
     fn hurry(&mut self, piece: &[u8], at: usize) -> usize
         requires { at ≤ length piece.now }
         ensures { Hurries self.old self.new piece.now at result }
     {
-        if at < 6 || self.is_busy() {
+        if at < 6 || self.row.is_some() {
             return at;
         }
+        match self.name {
+            None => self.hurry_outside(piece, at),
+            Some(name) => self.hurry_inside(piece, at, name),
+        }
+    }
+
+    /// Goes past the bytes from `at` on that begin no name, where none is being read.
+    #[inline(always)]
+    fn hurry_outside(&mut self, piece: &[u8], at: usize) -> usize
+        requires at { (6 ≤ at) × (at ≤ length piece.now) }
+        requires name { self.old.name ≡ None }
+        requires row { self.old.row ≡ None }
+        ensures { Hurries self.old self.new piece.now at result }
+    {
         let to = quiet_until(piece, at);
         self.go_past(piece, at, to);
         to
     }
 
-    /// Whether a name is being read, or a row.
-    fn is_busy(&self) -> bool
-        ensures { result ≡ is_busy self.now }
+    /// Goes past more bytes of the descriptor's name that is being read, all but its last one, as long as they begin no other.
+    #[tactic(auto, using(crate::proofs::QuietLemmas::hurries_none))]
+    #[inline(always)]
+    fn hurry_inside(&mut self, piece: &[u8], at: usize, name: Name) -> usize
+        requires at { (6 ≤ at) × (at ≤ length piece.now) }
+        requires name { self.old.name ≡ Some name }
+        requires row { self.old.row ≡ None }
+        ensures { Hurries self.old self.new piece.now at result }
     {
-        self.name.is_some() || self.row.is_some()
+        if may_begin(piece, at) {
+            return at;
+        }
+        let to = text_until(piece, at, usize::from(name.left));
+        if self.read_past(piece, at, to, name) {
+            to
+        } else {
+            at
+        }
+    }
+
+    /// Past some bytes of the descriptor's name that is being read; or nothing, where there is no room for them.
+    fn read_past(&mut self, piece: &[u8], from: usize, to: usize, name: Name) -> bool
+        requires from { (6 ≤ from) × (from ≤ to) × (to ≤ length piece.now) }
+        requires few { to - from ≤ name.left }
+        requires row { self.old.row ≡ None }
+        ensures past { result ≡ true → self.new ≡ read_past self.old name piece.now from to }
+        ensures nothing { result ≡ false → self.new ≡ self.old }
+    {
+        if self.kept.try_extend_from_slice(&piece[from..to]).is_err() {
+            return false;
+        }
+        self.count = self.count.saturating_add((to - from) as u64);
+        self.recent = Recent::in_piece(piece, to);
+        self.name = Some(Name {
+            place: name.place,
+            left: name.left - (to - from) as u16,
+        });
+        true
     }
 
     /// Past some bytes that begin no name, where none is being read.
@@ -119,14 +167,7 @@ impl Scan {
         ensures { self.new ≡ past self.old piece.now from to }
     {
         self.count = self.count.saturating_add((to - from) as u64);
-        self.recent = Recent {
-            last: piece[to - 1],
-            second: piece[to - 2],
-            third: piece[to - 3],
-            fourth: piece[to - 4],
-            fifth: piece[to - 5],
-            sixth: piece[to - 6],
-        };
+        self.recent = Recent::in_piece(piece, to);
         self.kept.clear();
     }
 
