@@ -52,6 +52,13 @@ fn list(rt: &(impl Abort + AllocGlobal), text: &str) -> Job {
     }
 }
 
+/// The same, with the names at any place.
+fn list_anywhere(rt: &(impl Abort + AllocGlobal), text: &str) -> Job {
+    Job::ListAnywhere {
+        filter: filter(rt, text),
+    }
+}
+
 /// The job on these bytes ends so: this text goes out, and nothing is told.
 fn does(rt: &(impl Abort + AllocGlobal), job: &Job, bytes: &[u8], text: &[u8], status: u8) {
     let (mut output, mut faults) = (page(rt), page(rt));

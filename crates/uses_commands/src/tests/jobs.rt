@@ -1,6 +1,6 @@
 //! Each job on worked streams.
 
-use crate::tests::{check, does, list};
+use crate::tests::{check, does, list, list_anywhere};
 use jser_commands::Job;
 use std::alloc::{AllocGlobal, Global};
 use std::process::Abort;
@@ -97,6 +97,53 @@ fn lists_count_and_judge(rt: HostRuntime) {
     for (text, bytes, lines) in rows {
         does(&rt, &list(&rt, text), bytes, lines, 0);
     }
+}
+
+#[test]
+fn hidden_names_follow_the_checked_ones(rt: HostRuntime) {
+    let rows: [(&str, &[u8], &[u8]); 6] = [
+        // A block with the name of no class of the stream, and one with two of them.
+        (
+            "a.*",
+            b"\xAC\xED\x00\x05\x77\x06\x72\x00\x03a.b",
+            b"1 hidden allowed:0 \"a.b\"\n",
+        ),
+        (
+            "A;!*",
+            b"\xAC\xED\x00\x05\x77\x08\x72\x00\x01B\x72\x00\x01A",
+            b"1 hidden rejected:1 \"B\"\n1 hidden allowed:0 \"A\"\n",
+        ),
+        // The same name twice.
+        (
+            "",
+            b"\xAC\xED\x00\x05\x77\x08\x72\x00\x01A\x72\x00\x01A",
+            b"2 hidden undecided \"A\"\n",
+        ),
+        // A row of two names: the text of the second is also that of a descriptor, which begins with the first.
+        (
+            "",
+            b"\xAC\xED\x00\x05\x77\x0B\x7D\x00\x00\x00\x02\x00\x01r\x00\x01B",
+            b"1 hidden undecided \"r\"\n1 hidden undecided \"B\"\n",
+        ),
+        // A block with the name of its class.
+        (
+            "",
+            b"\xAC\xED\x00\x05\x72\x00\x01A\x00\x00\x00\x00\x00\x00\x00\x00\x02\x00\x00\x77\x04\x72\x00\x01A\x78\x70",
+            b"1 undecided \"A\"\n",
+        ),
+        // An array of ints.
+        ("", b"\xAC\xED\x00\x05\x77\x05\x72\x00\x02[I", b""),
+    ];
+    for (text, bytes, lines) in rows {
+        does(&rt, &list_anywhere(&rt, text), bytes, lines, 0);
+    }
+}
+
+#[test]
+fn a_stream_that_is_refused_has_no_hidden_names(rt: HostRuntime) {
+    let bytes = b"\xAC\xED\x00\x05\x77\x04\x72\x00\x01A\x73\x70";
+    let refusal = b"no at 11 to 12: NullClass\n";
+    does(&rt, &list_anywhere(&rt, ""), bytes, refusal, 1);
 }
 
 #[test]

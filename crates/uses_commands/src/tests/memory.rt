@@ -46,6 +46,10 @@ fn ends_or_tells_want_of_memory(rt: HostRuntime) {
     if let Ok(filter) = Filter::parse(rt.alloc(), "B;List") {
         ends(&rt, &Job::List { filter }, b"1 allowed:1 \"List\"\n");
     }
+    if let Ok(filter) = Filter::parse(rt.alloc(), "B;List") {
+        let line = b"1 allowed:1 \"List\"\n";
+        ends(&rt, &Job::ListAnywhere { filter }, line);
+    }
 }
 
 const LINKED_PAIR_TEXT: &[u8] = b"stream version 5
