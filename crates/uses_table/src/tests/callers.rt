@@ -170,15 +170,16 @@ fn compare_raws(rt: &impl Abort, table: &Table) {
     let Some(Sections { first, last }) = table.sections(chain) else {
         panic!(rt; "the class has sections");
     };
-    let mut at = Some(first);
-    for _ in 0..3u8 {
-        let Some(section) = at else {
-            panic!(rt; "there is a section for each class");
-        };
-        same!(rt; table.section(section).raw_bytes, 4);
-        at = table.next_section(last, section);
-    }
-    holds!(rt; at.is_none());
+    same!(rt; table.section(first).raw_bytes, 4);
+    let Some(second) = table.next_section(last, first) else {
+        panic!(rt; "there is a second section");
+    };
+    same!(rt; table.section(second).raw_bytes, 4);
+    let Some(third) = table.next_section(last, second) else {
+        panic!(rt; "there is a third section");
+    };
+    same!(rt; table.section(third).raw_bytes, 4);
+    holds!(rt; table.next_section(last, third).is_none());
 }
 
 /// Closes three classes, each with an int, under each other.
