@@ -1,12 +1,44 @@
 //! Streams that come in pieces, one after another.
-ghost use Rattle.std.specs.Prelude.{◌≡◌, ℕ, List, ◌++◌, true, string_bytes, IfOk, IfErr, IfSome};
+ghost use Rattle.std.specs.Prelude.{◌≡◌, ℕ, List, [], ◌++◌, true, string_bytes, IfOk, IfErr, IfSome};
 ghost use Rattle.jser_check.specs.Answers.{IfRefused, Reports, Refuses, CarriesFirst, DecideNothing};
 ghost use Rattle.jser_check.specs.Checks.{gate_in, HasTaken, Repeats, IsOver};
 ghost use Rattle.jser_reader.specs.declared.Refusal.{Refusal};
 ghost use Rattle.jser_check.specs.FaultTexts.{check_fault_text};
 
-use jser_check::{CheckFault, Checker, Report, Stop};
+use jser_check::{CheckFault, Checker, Options, Report, Stop};
+use jser_filter::Filter;
 use std::alloc::{AllocError, Global};
+
+/// Checks a message, which came whole, with a checker that has taken nothing: the answer is that of `check_bytes`.
+fn check_first(checker: &mut Checker, message: &[u8]) -> Result<Report, Stop>
+    requires { HasTaken checker.old [] }
+    ensures accepted { IfOk result (Reports checker.old.gate.filter checker.old.gate.options message.now) }
+    ensures refused { IfErr result (IfRefused (Refuses checker.old.gate.filter checker.old.gate.options message.now)) }
+    ensures first { IfErr result (IfRefused (CarriesFirst (gate_in checker.old) message.now)) }
+{
+    match checker.feed(message) {
+        Ok(()) => checker.finish(),
+        Err(stop) => Err(stop),
+    }
+}
+
+/// Checks a message with a checker of its own: the answer is that of `check_bytes` under this filter.
+///
+/// # Errors
+///
+/// As `check_bytes`.
+pub fn check_alone(
+    alloc: Global,
+    filter: Filter,
+    options: Options,
+    message: &[u8],
+) -> Result<Report, Stop>
+    ensures accepted { IfOk result (Reports filter options message.now) }
+    ensures refused { IfErr result (IfRefused (Refuses filter options message.now)) }
+{
+    let mut checker = Checker::new(alloc, filter, options);
+    check_first(&mut checker, message)
+}
 
 /// Checks the next message of a connection, which came whole. Whatever the one before it was, the answer is that of
 /// `check_bytes`.
@@ -20,10 +52,7 @@ pub fn check_message(checker: &mut Checker, message: &[u8]) -> Result<Report, St
     ensures first { IfErr result (IfRefused (CarriesFirst (gate_in checker.old) message.now)) }
 {
     checker.restart();
-    match checker.feed(message) {
-        Ok(()) => checker.finish(),
-        Err(stop) => Err(stop),
-    }
+    check_first(checker, message)
 }
 
 /// Takes the piece, and returns whether the stream may go on.
