@@ -17,12 +17,12 @@ ascii_means : (b : ℕ) → is_ascii b ≡ true → (1 ≤ b) × (b < 0x80)
 ascii_means b test = (search (rules, tests), search (rules, tests))
 
 -- a run, and one that begins within it or just after it
-pub ascii_joined : (bytes : List ℕ) (a b c : ℕ) → IsAsciiBetween bytes 0 a → IsAsciiBetween bytes b c → b ≤ a → IsAsciiBetween bytes 0 c
-ascii_joined bytes a b c first second le = λ k from to. go k to (nat_lt k a) refl
+pub ascii_joined : (bytes : List ℕ) (start a b c : ℕ) → IsAsciiBetween bytes start a → IsAsciiBetween bytes b c → b ≤ a → IsAsciiBetween bytes start c
+ascii_joined bytes start a b c first second le = λ k from to. go k from to (nat_lt k a) refl
   where
-    go : (k : ℕ) → k < c → (x : Bool) → nat_lt k a ≡ x → (1 ≤ slice_index bytes k) × (slice_index bytes k < 0x80)
-    go k to true e = let before : k < a = grind (arith, nat_tests) in first k (omega arith) before
-    go k to false e = let after : a ≤ k = grind (arith, nat_tests) in second k (omega arith) to
+    go : (k : ℕ) → start ≤ k → k < c → (x : Bool) → nat_lt k a ≡ x → (1 ≤ slice_index bytes k) × (slice_index bytes k < 0x80)
+    go k from to true e = let before : k < a = grind (arith, nat_tests) in first k from before
+    go k from to false e = let after : a ≤ k = grind (arith, nat_tests) in second k (omega arith) to
 
 module _ (bytes : List ℕ) (at lanes run : ℕ) (mask : List ℕ) (room : at + lanes ≤ length bytes) (few : lanes ≤ 64)
     (fits : (k : ℕ) → Fits w8 (get_or bytes k 0)) (found : run ≡ first_set (mask_l (map (top 7) mask) % 2 ^ 64) lanes)

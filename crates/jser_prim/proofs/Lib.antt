@@ -1,9 +1,11 @@
+pub mod BlockLemmas
 pub mod GiveLemmas
 pub mod LaneLemmas
 pub mod NumberLemmas
 pub mod OutgoingLemmas
 pub mod PlaceLemmas
 pub mod PushLemmas
+pub mod ReadLemmas
 pub mod RunLemmas
 pub mod ScanLemmas
 pub mod TextLemmas

@@ -47,6 +47,31 @@ pub(crate) fn ascii_len(bytes: &[u8]) -> usize
     len
 }
 
+/// Whether the bytes from `from` on, before `to`, are units of one byte each: 0x01 to 0x7F. It loads 16 bytes at a time, and
+/// where the load that has the last of them would reach over the end of `bytes`, it says no. So it is for a short text
+/// in a long piece; what it does not find, a scan does.
+#[tactic(auto, using(crate::proofs::LaneLemmas::ascii_joined))]
+#[inline(always)]
+pub fn is_plain_between(bytes: &[u8], from: usize, to: usize) -> bool
+    requires order { from ≤ to }
+    requires within { from ≤ length bytes.now }
+    ensures ascii { IsTrue result → IsAsciiBetween bytes.now from to }
+    ensures inside { IsTrue result → to ≤ length bytes.now }
+{
+    let mut at = from;
+    'loads: while bytes.len() - at >= LANES {
+        let run = ascii_run(bytes, at);
+        if to - at <= LANES {
+            return to - at <= run;
+        }
+        if run < LANES {
+            return false;
+        }
+        at += LANES;
+    }
+    false
+}
+
 /// The end of the blocks from `at` on that hold only units of one byte.
 fn after_blocks(bytes: &[u8], at: usize) -> usize
     requires { at ≤ length bytes.now }

@@ -4,11 +4,13 @@
 //! Nothing here knows the stream's grammar, and nothing here ends the process.
 #![tactic(auto)]
 
+mod blocks;
 mod device;
 mod lanes;
 mod number;
 mod outbox;
 mod place;
+mod reading;
 mod runs;
 mod scan;
 mod sink;
@@ -16,8 +18,10 @@ mod source;
 mod spelling;
 
 pub use device::{Failed, FailedAfter};
+pub use lanes::is_plain_between;
 pub use number::{read_u16, read_u32, read_u64};
 pub use outbox::Outbox;
+pub use reading::read_units;
 pub use scan::{TextFault, TextFaultAfter, TextScan};
 pub use sink::{Sink, ToWrite, give_all};
 pub use source::{FromRead, Source};

@@ -1,9 +1,9 @@
 //! Texts of the program, as a stream spells them.
-ghost use Rattle.std.specs.Prelude.{◌≡◌, IfOk};
+ghost use Rattle.std.specs.Prelude.{ℕ, List, ◌≡◌, IfOk, IfSome, Ok, None};
 ghost use Rattle.std.specs.Str.{bytes_eq};
-ghost use Rattle.jser_prim.specs.ModifiedUtf8.{modified_utf8, unit_spelling, utf16_units};
+ghost use Rattle.jser_prim.specs.ModifiedUtf8.{IsUnits, modified_utf8, unit_spelling, utf16_units};
 
-use jser_prim::{spell_unit, text_bytes, units_of};
+use jser_prim::{read_units, spell_unit, text_bytes, units_of};
 use std::alloc::{AllocError, Global};
 
 /// The bytes that spell a text of the program.
@@ -24,4 +24,20 @@ pub fn spells(bytes: &[u8], unit: u16) -> bool
 {
     let mut buffer = [0; 3];
     spell_unit(unit, &mut buffer) == bytes
+}
+
+/// The bytes spelled once more, where they are a text: they are the same, since a text has one spelling.
+///
+/// # Errors
+///
+/// `AllocError` where there was no memory for the text.
+pub fn spelled_again(alloc: Global, bytes: &[u8]) -> Result<Option<Vec<u8>>, AllocError>
+    ensures same { IfOk result (λ outcome. IfSome outcome (λ again. again.items ≡ bytes.now)) }
+    ensures none { result ≡ Ok None → (told : List ℕ) → IsUnits told → modified_utf8 told ≡ bytes.now → ⊥ }
+{
+    let mut units = Vec::new(alloc);
+    if !read_units(bytes, &mut units)? {
+        return Ok(None);
+    }
+    Ok(Some(text_bytes(alloc, &units)?))
 }

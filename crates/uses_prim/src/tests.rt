@@ -26,5 +26,6 @@ mod callers;
 mod devices;
 mod example;
 mod numbers;
+mod runs;
 mod scans;
 mod spelling;

@@ -3,7 +3,7 @@ ghost use Rattle.std.specs.Prelude.{◌≡◌, ◌<◌, ◌≤◌, ◌+◌, ◌�
 ghost use Rattle.jser_prim.specs.ModifiedUtf8.{modified_utf8};
 ghost use Rattle.jser_prim.specs.Texts.{BeginsText, FaultsAfter, HasAccepted};
 
-use jser_prim::{TextFault, TextScan};
+use jser_prim::{TextFault, TextScan, is_plain_between};
 use std::alloc::{AllocError, Global};
 
 /// Whether the bytes are a text.
@@ -42,6 +42,20 @@ pub fn faulty_byte(scan: &mut TextScan, bytes: &[u8]) -> Option<u8>
     match scan.push_all(bytes) {
         Ok(()) => None,
         Err(fault) => Some(bytes[fault.accepted]),
+    }
+}
+
+/// The last letter of the field between these places of a record, if the field is plain ASCII. It may miss one near the
+/// end of the record.
+pub fn last_letter(record: &[u8], from: usize, to: usize) -> Option<u8>
+    requires some { from < to }
+    requires within { from ≤ length record.now }
+    ensures { IfSome result (λ letter. (1 ≤ letter) × (letter < 0x80)) }
+{
+    if is_plain_between(record, from, to) {
+        Some(record[to - 1])
+    } else {
+        None
     }
 }
 

@@ -7,8 +7,8 @@ use crate::sources::{fails_now, last_taken, opened, take_again};
 use crate::spelling::{spelled, spells};
 use crate::texts::{
     can_begin, drained, ends_with, faulty_byte, first_fault, goes_on_after_fault,
-    is_complete_after, is_mended, is_text, is_text_in_two, is_whole, own_bytes, push_again,
-    push_more, push_pair, units_in,
+    is_complete_after, is_mended, is_text, is_text_in_two, is_whole, last_letter, own_bytes,
+    push_again, push_more, push_pair, units_in,
 };
 use jser_prim::{Failed, TextFault, TextScan, ToWrite};
 use std::test::Fail;
@@ -40,6 +40,25 @@ fn whole_texts(rt: HostRuntime) -> Result<(), Fail> {
     holds!(rt; units.is_some_and(|units| units.as_slice() == [0x61, 0xE9].as_slice()));
     holds!(rt; units_in(rt.alloc(), &[0xC3])?.is_none());
     Ok(())
+}
+
+/// A field is found where 16 bytes are left for each load of it, wherever it ends among them.
+#[test]
+fn plain_fields(rt: HostRuntime) {
+    let record = b"abcdefghijklmnop\0rstuvwxyzABCDEFGHIJKLMNOPQR\x80TUVWXYZabcdefghi";
+    for (from, to, letter) in [
+        (0, 1, Some(b'a')),
+        (0, 16, Some(b'p')),
+        (0, 17, None),
+        (17, 40, Some(b'N')),
+        (17, 44, Some(b'R')),
+        (17, 45, None),
+        (45, 46, Some(b'T')),
+        (46, 47, None),
+        (60, 62, None),
+    ] {
+        same!(rt; last_letter(record, from, to), letter, format_args!("{from} {to}"));
+    }
 }
 
 #[test]

@@ -127,7 +127,7 @@ fn right_by_table(text: &[u8]) -> usize {
 }
 
 /// How many bytes of a text of just these a scan accepts, given in two slices.
-fn pushed_in_two(text: &[u8], cut: usize) -> usize {
+pub fn pushed_in_two(text: &[u8], cut: usize) -> usize {
     let mut scan = TextScan::new(text.len() as u64);
     let (front, back) = text.split_at(cut.min(text.len()));
     if let Err(fault) = scan.push_all(front) {

@@ -1,6 +1,6 @@
 //! The spelling of units and of texts.
 
-use jser_prim::{spell_unit, text_bytes, units_of};
+use jser_prim::{read_units, spell_unit, text_bytes, units_of};
 use std::alloc::Global;
 use std::process::Abort;
 use std::test::Fail;
@@ -34,6 +34,39 @@ fn spell_each_form(rt: HostRuntime) {
 fn units_of_two(rt: HostRuntime) -> Result<(), Fail> {
     let units = units_of(rt.alloc(), "a\u{1F600}")?;
     same!(rt; units.as_slice(), [0x0061, 0xD83D, 0xDE00].as_slice());
+    Ok(())
+}
+
+#[test]
+fn read_units_of_each_length(rt: HostRuntime) -> Result<(), Fail> {
+    let mut units = Vec::new(rt.alloc());
+    units.push(0x0041)?;
+    let bytes = b"a\xC0\x80\xC3\xA9\xE4\xB8\x80\xED\xA0\xBD";
+    holds!(rt; read_units(bytes, &mut units)?);
+    same!(rt; units.as_slice(), [0x0061, 0x0000, 0x00E9, 0x4E00, 0xD83D].as_slice());
+    holds!(rt; read_units(b"", &mut units)?);
+    same!(rt; units.as_slice(), [].as_slice());
+    Ok(())
+}
+
+/// Bytes that are no text: a null, a lone continuation, a long spelling, and units of two and three bytes that are cut.
+const NO_TEXTS: [&[u8]; 7] = [
+    b"a\x00",
+    b"\x80",
+    b"\xC1\x81",
+    b"\xE0\x9F\xBF",
+    b"\xF0\x9F\x98\x80",
+    b"a\xC3",
+    b"a\xE4\xB8",
+];
+
+#[test]
+fn read_units_of_no_text(rt: HostRuntime) -> Result<(), Fail> {
+    let mut units = Vec::new(rt.alloc());
+    for bytes in &NO_TEXTS {
+        let is_text = read_units(bytes, &mut units)?;
+        same!(rt; is_text, false, format_args!("{bytes:?}"));
+    }
     Ok(())
 }
 
