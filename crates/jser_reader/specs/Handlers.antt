@@ -82,7 +82,8 @@ pub record IsNext (phase : Phase) (owner : Owner) (chain : Option ℕ) (header :
 
 -- an entry was added to the table
 abbrev pub with_entry : TableView → TableEntry → TableView
-with_entry T entry = record { entries = T.entries ++ (entry ∷ []); chains = T.chains; max = T.max }
+with_entry T entry =
+    record { entries = T.entries ++ (entry ∷ []); chains = T.chains; numbers = T.numbers ++ (None ∷ []); lines = T.lines; max = T.max }
 
 -- The tag of a value whose place has been counted.
 abbrev pub assigns_handle : Tag → Bool

@@ -14,7 +14,7 @@ use Rattle.jser_table.specs.declared.layer.Fit.{Fit}
 use Rattle.jser_table.specs.Fits.{class_fit, fit_of_own, fit_of}
 use Rattle.jser_table.specs.Sections.{sections_of}
 use Rattle.jser_table.specs.Codes.{size_of}
-use Rattle.jser_table.specs.Chains.{is_externalizable, is_external_layer, is_external, elements_of_kind, elements_of_layer, elements_of, own_layer, all_serial, is_serial, is_filled, chain_in, IsFront}
+use Rattle.jser_table.specs.Chains.{is_externalizable, is_external_layer, is_external, elements_of_kind, elements_of_layer, elements_of, own_layer, is_serial, is_filled, chain_in, IsFront}
 use Rattle.jser_table.specs.Descriptors.{chain_above, with_chain, chains_of, AreLinks, Knows, IsTold, AreTold, LinksTo, LinkUnder, IsUnder, IsLast, IsLastUnder, chain_of_parent, KnowsBelow}
 
 chains_of-push : (ds : List Descriptor) (d : Descriptor) → chains_of (ds ++ d ∷ []) ≡ with_chain (chains_of ds) d

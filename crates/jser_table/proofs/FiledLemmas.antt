@@ -9,13 +9,15 @@ use Rattle.jser_table.specs.declared.descriptor.Descriptor.{Descriptor}
 use Rattle.jser_table.specs.declared.descriptor.Filed.{Filed}
 use Rattle.jser_table.specs.declared.section.Sections.{Sections}
 use Rattle.jser_table.specs.declared.descriptor.Counted.TheVariants as counted
-use Rattle.jser_table.specs.Codes.{AreLeading, primitive_codes, raw_size}
+use Rattle.jser_table.specs.Codes.{AreLeading}
 use Rattle.jser_table.specs.Chains.{own_layer, is_filled, chain_in, IsFront}
 use Rattle.jser_table.specs.Sections.{filled_layers, sections_of, HasSection, down_to, or_no_layer, layer_of, under, IsOn, HoldsFor, IsNext, AreSections}
 use Rattle.jser_table.specs.Descriptors.{chain_above, chain_of_parent, chains_of, IsTold, IsUnder, IsLast, IsRun, RunsOn, IsFiled, AreFiled, FilesIf, Files, AreShelved, IsHighest}
 use Rattle.jser_table.proofs.LayerLemmas.{IsFront-from, count_by_push, own_layer_push}
 use Rattle.jser_table.proofs.SectionLemmas.{sections_none, sections_push, sections_same, filled_push, length_filled, down_to_grows, layer_of_grows, new_down_to, new_layer_of}
 use Rattle.jser_table.proofs.RunLemmas.{run_grows, Follows, run_back}
+use Rattle.jser_table.specs.Lined.{lines_of, LinesUnder}
+use Rattle.jser_table.proofs.LineLemmas.{lined_none, lined_push}
 use Rattle.jser_table.proofs.ChainLemmas.{chains_of_none, length_chains_of, told_push, chains_push}
 use Rattle.jser_table.proofs.WalkLemmas.{EndsIn, front_of-EndsIn, something_added}
 
@@ -83,6 +85,7 @@ filed_same chains above layer sections are is = record {
 pub shelved_none : (ds : List Descriptor) (sections : List Filed) → ds ≡ [] → sections ≡ [] → AreShelved ds sections
 shelved_none ds sections e f = rw (e, f) record {
   told = λ place d inside read. absurd (omega arith);
+  lined = lined_none [] refl;
   filed = record {
     count = sections_none _ (chains_of_none [] refl);
     each = λ number filed inside read. absurd (omega arith);
@@ -97,9 +100,10 @@ filed_if true chains above layer last run old new is are at_last runs files =
     rw files.added (filed_push chains above layer old files.filed are is files.class_is files.holds files.leading (rw files.run_is (runs above layer at_last is)))
 filed_if false chains above layer last run old new is are at_last runs files = rw files (filed_same chains above layer old are is)
 
-pub shelved_push : (old new : List Descriptor) (d : Descriptor) (parent : Option ℕ) (layer : Layer) (last : Option ℕ) (run : ℕ) (sections filed : List Filed) → AreShelved old sections → length old < 2 ^ 32 - 3 → new ≡ old ++ d ∷ [] → IsUnder (chains_of old) parent layer d → IsLast (chains_of old) (chain_of_parent (chains_of old) parent) last → RunsOn (chains_of old) last run → Files layer (length old) run sections filed → AreShelved new filed
-shelved_push old new d parent layer last run sections filed are few is under at_last runs files = record {
+pub shelved_push : (old new : List Descriptor) (d : Descriptor) (parent : Option ℕ) (layer : Layer) (last : Option ℕ) (run : ℕ) (sections filed : List Filed) → AreShelved old sections → length old < 2 ^ 32 - 3 → new ≡ old ++ d ∷ [] → IsUnder (chains_of old) parent layer d → IsLast (chains_of old) (chain_of_parent (chains_of old) parent) last → RunsOn (chains_of old) last run → Files layer (length old) run sections filed → LinesUnder (lines_of old) parent d.links → AreShelved new filed
+shelved_push old new d parent layer last run sections filed are few is under at_last runs files lines = record {
   told = told_push old new d parent layer are.told is under;
+  lined = lined_push old new d parent layer are.told are.lined is under lines;
   filed =
       rw (chains_push old new d parent layer is under)
       (filed_if (is_filled layer) (chains_of old) (chain_of_parent (chains_of old) parent) layer last run sections filed refl are.filed at_last runs (rw (length_chains_of old) files));

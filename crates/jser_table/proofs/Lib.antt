@@ -3,6 +3,7 @@ mod CodeLemmas
 pub mod LayerLemmas
 pub mod SectionLemmas
 pub mod ChainLemmas
+pub mod LineLemmas
 pub mod RunLemmas
 pub mod FlagLemmas
 pub mod WalkLemmas

@@ -2,18 +2,22 @@
 use Rattle.std.proofs.Common.{◌≡◌, ℕ, zero, suc, ◌+◌, ◌-◌, ◌<◌, ◌≤◌, cond, IsTrue, List, [], ◌∷◌, ◌++◌, length, map, set, slice_get, count_by, Option, Some, None, option_map, refl, ap, sym, ◌∙◌, subst, arith}
 use Rattle.std.specs.List.{All}
 use Rattle.std.proofs.lemmas.Bool.{false≢true}
-use Rattle.std.proofs.lemmas.Option.{slice_get-map, get_or_from_slice_get, slice_get_within}
-use Rattle.std.proofs.lemmas.List.{get_or_append_left, get_or_push, map-set, length-set, length_push}
+use Rattle.std.proofs.lemmas.Option.{slice_get-map, slice_get-get_or, get_or_from_slice_get, slice_get_within}
+use Rattle.std.proofs.lemmas.List.{get_or_append_left, get_or-set_same, get_or_push, map-set, map_push, length-set, length_push}
 use Rattle.std.proofs.lemmas.List.Elements.{All-set, All-head, All-tail, All-weaker}
 use Rattle.std.proofs.lemmas.List.Sums.{sum_by-cons}
 use Rattle.jser_table.specs.declared.layer.Layer.{Layer}
+use Rattle.jser_table.specs.declared.entry.Kind.{Kind}
+use Rattle.jser_table.specs.declared.entry.Kind.TheVariants as kind
 use Rattle.jser_table.specs.declared.entry.Kept.{Kept}
 use Rattle.jser_table.specs.declared.entry.Kept.TheVariants as kept
 use Rattle.jser_table.specs.Entries.{closed_entry, chain_of, chain_at, is_pending, is_closed}
 use Rattle.jser_table.specs.Chains.{chain_in}
 use Rattle.jser_table.specs.Descriptors.{chain_of_parent}
+use Rattle.jser_table.specs.declared.class.Class.{Class}
+use Rattle.jser_table.specs.Lines.{told_number, number_at, parent_number, answered_number}
 use Rattle.jser_table.specs.Stored.{ChainList}
-use Rattle.jser_table.specs.Tables.{TableView, view_entry, closed_under, parent_chain, closed_kept, is_pending_kept, is_pending_slot, is_closed_slot, IsAmong, IsNumberOf, IsSound}
+use Rattle.jser_table.specs.Tables.{TableView, new_entry, view_entry, closed_under, parent_chain, new_kept, closed_kept, is_pending_kept, kept_number, is_pending_slot, is_closed_slot, IsAmong, IsNumberOf, IsSound}
 
 count_by_pending : (e : Kept) (entries : List Kept) → count_by is_pending_kept (e ∷ entries) ≡ cond (is_pending_kept e) 1 0 + count_by is_pending_kept entries
 count_by_pending e entries = sum_by-cons (λ x. cond (is_pending_kept x) 1 0) e entries
@@ -98,6 +102,43 @@ closed_view old new entries i parent chain layer among is added =
     ∙ view_close old (chain_of_parent old chain ++ layer ∷ []) entries i among
     ∙ ap (λ above. set (map (view_entry old) entries) i (closed_entry (above ++ layer ∷ []))) (sym (parent_same old entries parent chain is))
 
+-- the numbers of classes
+
+number_view : (entries : List Kept) (i chain : ℕ) → slice_get entries i ≡ Some (closed_kept chain) → number_at (map kept_number entries) i ≡ Some chain
+number_view entries i chain is =
+    ap told_number (slice_get-map kept_number entries i ∙ ap (option_map kept_number) is)
+
+pub parent_number_view : (entries : List Kept) (parent chain : Option ℕ) → IsNumberOf entries parent chain → parent_number (map kept_number entries) parent ≡ chain
+parent_number_view entries None None is = refl
+parent_number_view entries None (Some chain) is = absurd is
+parent_number_view entries (Some number) None is = absurd is
+parent_number_view entries (Some number) (Some chain) is = number_view entries number chain is
+
+pub number_closed : (entries : List Kept) (i chain : ℕ) → i < length entries → number_at (map kept_number (set entries i (closed_kept chain))) i ≡ Some chain
+number_closed entries i chain inside =
+    number_view (set entries i (closed_kept chain)) i chain
+    (slice_get-get_or (set entries i (closed_kept chain)) i kept.Text (rw (length-set entries i (closed_kept chain)) inside)
+    ∙ ap Some (get_or-set_same entries i (closed_kept chain) kept.Text inside))
+
+pub numbers_close : (entries : List Kept) (i chain : ℕ) → map kept_number (set entries i (closed_kept chain)) ≡ set (map kept_number entries) i (Some chain)
+numbers_close entries i chain = map-set kept_number entries i (closed_kept chain)
+
+-- a new entry
+
+pub entries_assign : (chains : List (List Layer)) (entries : List Kept) (kind : Kind) → map (view_entry chains) (entries ++ new_kept kind ∷ []) ≡ map (view_entry chains) entries ++ new_entry kind ∷ []
+entries_assign chains entries kind.Text = map_push (view_entry chains) entries kept.Text
+entries_assign chains entries kind.Other = map_push (view_entry chains) entries kept.Other
+entries_assign chains entries kind.Pending = map_push (view_entry chains) entries kept.Pending
+
+pub numbers_assign : (entries : List Kept) (kind : Kind) → map kept_number (entries ++ new_kept kind ∷ []) ≡ map kept_number entries ++ None ∷ []
+numbers_assign entries kind.Text = map_push kept_number entries kept.Text
+numbers_assign entries kind.Other = map_push kept_number entries kept.Other
+numbers_assign entries kind.Pending = map_push kept_number entries kept.Pending
+
+-- the number that `class_at` answers is that of the entry
+pub number_answered : (entries : List Kept) (i : ℕ) (answer : Class) → answered_number answer ≡ told_number (option_map kept_number (slice_get entries i)) → answered_number answer ≡ number_at (map kept_number entries) i
+number_answered entries i answer is = is ∙ sym (ap told_number (slice_get-map kept_number entries i))
+
 -- pending entries
 
 some_pending : (entries : List Kept) (i : ℕ) → IsTrue (is_pending_slot (slice_get entries i)) → (i < length entries) × (1 ≤ count_by is_pending_kept entries)
@@ -137,13 +178,13 @@ sound_close entries old new pending max i chain sound is added room =
 
 -- what callers say of the entries, of the kept ones
 
-pub pending_kept : (chains : List (List Layer)) (entries : List Kept) (seen : TableView) (max i : ℕ) → record { entries = map (view_entry chains) entries; chains = chains; max = max } ≡ seen → IsTrue (is_pending (slice_get seen.entries i)) → IsTrue (is_pending_slot (slice_get entries i))
-pending_kept chains entries seen max i is pending =
+pub pending_kept : (chains : List (List Layer)) (entries : List Kept) (lines : List (List ℕ)) (seen : TableView) (max i : ℕ) → record { entries = map (view_entry chains) entries; chains = chains; numbers = map kept_number entries; lines = lines; max = max } ≡ seen → IsTrue (is_pending (slice_get seen.entries i)) → IsTrue (is_pending_slot (slice_get entries i))
+pending_kept chains entries lines seen max i is pending =
     sym (is_pending_view chains entries i) ∙ ap (λ (table : TableView). is_pending (slice_get table.entries i)) is ∙ pending
 
-pub closed_kept_in : (chains : List (List Layer)) (entries : List Kept) (seen : TableView) (max i : ℕ) → record { entries = map (view_entry chains) entries; chains = chains; max = max } ≡ seen → IsTrue (is_closed (slice_get seen.entries i)) → IsTrue (is_closed_slot (slice_get entries i))
-closed_kept_in chains entries seen max i is closed =
+pub closed_kept_in : (chains : List (List Layer)) (entries : List Kept) (lines : List (List ℕ)) (seen : TableView) (max i : ℕ) → record { entries = map (view_entry chains) entries; chains = chains; numbers = map kept_number entries; lines = lines; max = max } ≡ seen → IsTrue (is_closed (slice_get seen.entries i)) → IsTrue (is_closed_slot (slice_get entries i))
+closed_kept_in chains entries lines seen max i is closed =
     sym (is_closed_view chains entries i) ∙ ap (λ (table : TableView). is_closed (slice_get table.entries i)) is ∙ closed
 
-pub pending_counted : (chains : List (List Layer)) (entries : List Kept) (seen : TableView) (max i : ℕ) → record { entries = map (view_entry chains) entries; chains = chains; max = max } ≡ seen → IsTrue (is_pending (slice_get seen.entries i)) → (i < length entries) × (1 ≤ count_by is_pending_kept entries)
-pending_counted chains entries seen max i is pending = some_pending entries i (pending_kept chains entries seen max i is pending)
+pub pending_counted : (chains : List (List Layer)) (entries : List Kept) (lines : List (List ℕ)) (seen : TableView) (max i : ℕ) → record { entries = map (view_entry chains) entries; chains = chains; numbers = map kept_number entries; lines = lines; max = max } ≡ seen → IsTrue (is_pending (slice_get seen.entries i)) → (i < length entries) × (1 ≤ count_by is_pending_kept entries)
+pending_counted chains entries lines seen max i is pending = some_pending entries i (pending_kept chains entries lines seen max i is pending)

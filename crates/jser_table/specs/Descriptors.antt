@@ -7,10 +7,11 @@ use Rattle.jser_table.specs.declared.descriptor.Links.{Links}
 use Rattle.jser_table.specs.declared.descriptor.Descriptor.{Descriptor}
 use Rattle.jser_table.specs.declared.descriptor.Counted.{Counted}
 use Rattle.jser_table.specs.declared.descriptor.Counted.TheVariants as counted
-use Rattle.jser_table.specs.Codes.{AreLeading, primitive_codes, raw_size}
+use Rattle.jser_table.specs.Codes.{AreLeading}
 use Rattle.jser_table.specs.Chains.{own_layer, chain_in, all_serial, is_filled, IsFront}
 use Rattle.jser_table.specs.Sections.{HasSection, sections_of, down_to, layer_of, filled_layers, HoldsFor}
 use Rattle.jser_table.specs.declared.descriptor.Filed.{Filed}
+use Rattle.jser_table.specs.Lined.{AreLined}
 
 -- the chain of this parent, if there is one
 abbrev pub chain_of_parent : List (List Layer) → Option ℕ → List Layer
@@ -127,6 +128,7 @@ Files layer class run old new = FilesIf (is_filled layer) layer class run old ne
 -- the closed descriptors, and their sections
 pub record AreShelved (descriptors : List Descriptor) (sections : List Filed) : Type 0 where
   pub told : AreTold descriptors
+  pub lined : AreLined descriptors
   pub filed : AreFiled (chains_of descriptors) sections
   pub fewer : length descriptors ≤ 2 ^ 32 - 3
 

@@ -1,9 +1,11 @@
 pub mod Codes
 pub mod Names
 pub mod Chains
+pub mod Lines
 pub mod Entries
 pub mod Fits
 pub mod Sections
+pub mod Lined
 pub mod Descriptors
 pub mod Jumps
 pub mod Kept

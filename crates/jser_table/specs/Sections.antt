@@ -3,7 +3,7 @@
 -- Sections are numbered in the order in which their classes were closed, and stand in an object's data from
 -- the highest superclass down. So an object's sections are told by the *last* of them, that of its own class
 -- or of the lowest superclass that has one.
-use Rattle.std.specs.Prelude.{ℕ, zero, suc, ◌+◌, ◌-◌, ◌≡◌, ◌<◌, ◌≤◌, Bool, false, IsTrue, List, [], length, drop, map, slice_index_or, Option, Some, None, ◌∷◌}
+use Rattle.std.specs.Prelude.{ℕ, ◌≡◌, ◌<◌, Bool, false, IsTrue, List, [], length, drop, map, slice_index_or, Option, Some, None, ◌∷◌}
 use Rattle.std.specs.List.{filter}
 use Rattle.jser_table.specs.declared.layer.Layer.{Layer}
 use Rattle.jser_table.specs.declared.layer.LayerKind.TheVariants as kind

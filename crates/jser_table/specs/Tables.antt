@@ -15,11 +15,13 @@ use Rattle.jser_table.specs.Entries.{TableEntry, text_entry, other_entry, pendin
 use Rattle.jser_table.specs.Chains.{chain_in}
 use Rattle.jser_table.specs.Stored.{ChainList}
 
--- a table: what each handle names; and the chains of all descriptors that have been closed, in the order in
--- which they were closed
+-- a table: what each handle names; the chains of all descriptors that have been closed, in the order in which they were
+-- closed; which of these each entry is, if one; and their lines
 pub record TableView : Type 0 where
   pub entries : List TableEntry
   pub chains : List (List Layer)
+  pub numbers : List (Option ℕ)
+  pub lines : List (List ℕ)
   pub max : ℕ
 
 -- what a fault is printed as
@@ -58,6 +60,13 @@ view_entry chains kept.Text = text_entry
 view_entry chains kept.Other = other_entry
 view_entry chains kept.Pending = pending_entry
 view_entry chains (kept.Closed chain) = closed_entry (chain_in chains chain)
+
+-- its class
+abbrev pub kept_number : Kept → Option ℕ
+kept_number kept.Text = None
+kept_number kept.Other = None
+kept_number kept.Pending = None
+kept_number (kept.Closed number) = Some number
 
 abbrev pub is_text_kept : Kept → Bool
 is_text_kept kept.Text = true

@@ -4,10 +4,12 @@
 //! beyond its own layer, and any layer of it is found in a number of steps in the order of its logarithm.
 ghost use Rattle.std.specs.Prelude.{take, count_by, ◌≡◌, ◌+◌, ◌<◌, ◌≤◌, ◌^◌, [], ◌∷◌, ◌++◌, length, slice_get, Some, OnOk, OnErr, IfSome, IfNone, None, IsSomeAnd, ◌-◌, option_map, vec_len, vec_capacity};
 ghost use Rattle.std.specs.Option.{ForSome};
-ghost use Rattle.jser_table.specs.Chains.{all_serial, next_filled, is_filled, is_external, elements_of, chain_in, IsFront};
+ghost use Rattle.jser_table.specs.Chains.{own_layer, all_serial, next_filled, is_filled, is_external, elements_of, chain_in, IsFront};
 ghost use Rattle.jser_table.specs.Codes.{size_of, primitive_codes, AreLeading};
 ghost use Rattle.jser_table.specs.Sections.{HasSection, sections_of, layer_of, HoldsFor, IsOn, IsNext, AreSections};
 ghost use Rattle.jser_table.specs.Fits.{fit_of};
+ghost use Rattle.jser_table.specs.Lines.{line_in, next_line, LeadsTo};
+ghost use Rattle.jser_table.specs.Lined.{AreLined, LinesUnder, lines_of};
 ghost use Rattle.jser_table.specs.Jumps.{JumpsFar, TakesJump};
 ghost use Rattle.jser_table.specs.Descriptors.{AreTold, IsHighest, GoesUp, LinksTo, IsUnder, IsTold, IsLast, IsLastUnder, RunsOn, Files, AreShelved, IsFiled, chains_of, chain_of_parent, count_of, front_of};
 
@@ -35,9 +37,11 @@ impl Model for Chains {
     ghost Value = { ChainList };
 
     ghost use Rattle.jser_table.specs.Descriptors.{AreShelved, chains_of};
+    ghost use Rattle.jser_table.specs.Lined.{lines_of};
 
     ghost view = { λ a. record {
       listed = chains_of a.descriptors.items;
+      lines = lines_of a.descriptors.items;
       room = min (2 ^ 32 - 3 - vec_len a.descriptors) (min (vec_capacity a.descriptors - vec_len a.descriptors) (vec_capacity a.sections - vec_len a.sections));
     } };
 
@@ -46,9 +50,10 @@ impl Model for Chains {
 
 impl Chains {
     /// No chains. Takes no memory.
-    #[tactic(auto, using(crate::proofs::ChainLemmas::chains_of_none, crate::proofs::FiledLemmas::shelved_none))]
+    #[tactic(auto, using(crate::proofs::ChainLemmas::chains_of_none, crate::proofs::LineLemmas::lines_of_none, crate::proofs::FiledLemmas::shelved_none))]
     pub(crate) fn new(alloc: Global) -> Chains
-        ensures { result.listed ≡ [] }
+        ensures listed { result.listed ≡ [] }
+        ensures lines { result.lines ≡ [] }
     {
         Chains {
             descriptors: Vec::new(alloc),
@@ -56,9 +61,11 @@ impl Chains {
         }
     }
 
-    /// Makes room for that many more chains.
+    /// Makes room for that many more chains. Most handles are not those of descriptors, so this is out of line.
+    #[inline(never)]
     pub(crate) fn reserve(&mut self, additional: usize) -> Result<(), AllocError>
         ensures listed { self.new.listed ≡ self.old.listed }
+        ensures lines { self.new.lines ≡ self.old.lines }
         ensures room { OnOk result (additional ≤ self.new.room) }
         ensures kept { self.old.room ≤ self.new.room }
     {
@@ -71,12 +78,13 @@ impl Chains {
 
     /// Adds the chain of the parent, if there is one, with this layer at its end, and gives its number.
     /// Takes no memory.
-    #[tactic(auto, using(crate::proofs::ChainLemmas::length_chains_of, crate::proofs::ChainLemmas::told_push, crate::proofs::ChainLemmas::chains_push))]
+    #[tactic(auto, using(crate::proofs::ChainLemmas::length_chains_of, crate::proofs::ChainLemmas::told_push, crate::proofs::ChainLemmas::chains_push, crate::proofs::LineLemmas::lines_push))]
     pub(crate) fn add(&mut self, layer: KeptLayer, parent: Option<u32>) -> u32
         requires room { 0 < self.old.room }
         requires parent_in { ForSome parent (λ number. number < length self.old.listed) }
         ensures added { self.new.listed ≡ self.old.listed ++ (chain_of_parent self.old.listed parent ++ layer ∷ []) ∷ [] }
         ensures number { result ≡ length self.old.listed }
+        ensures lines { self.new.lines ≡ self.old.lines ++ next_line self.old.lines parent ∷ [] }
         ensures most { result < 2 ^ 32 - 3 }
         ensures room { self.old.room ≤ self.new.room + 1 }
     {
@@ -97,6 +105,15 @@ impl Chains {
         }
     }
 
+    /// How many chains there are.
+    #[tactic(auto, using(crate::proofs::ChainLemmas::length_chains_of, crate::proofs::LineLemmas::length_lines_of))]
+    pub(crate) fn count(&self) -> u32
+        ensures listed { result ≡ length self.now.listed }
+        ensures lines { result ≡ length self.now.lines }
+    {
+        self.descriptors.len() as u32
+    }
+
     /// How many layers the chain has.
     #[tactic(auto, using(crate::proofs::ChainLemmas::length_chains_of))]
     pub(crate) fn layers(&self, number: u32) -> usize
@@ -114,6 +131,18 @@ impl Chains {
         ensures { slice_get (chain_in self.now.listed number) index ≡ Some result.now }
     {
         layer_at(&self.descriptors, number as usize, index)
+    }
+
+    /// The number of the class whose own layer is the one of the chain at this index.
+    #[tactic(auto, using(crate::proofs::ChainLemmas::length_chains_of))]
+    pub(crate) fn class_of_layer(&self, number: u32, index: usize) -> u32
+        requires number_in { number < length self.now.listed }
+        requires index_in { index < length (chain_in self.now.listed number) }
+        ensures number { slice_get (line_in self.now.lines number) index ≡ Some result }
+        ensures inside { result < length self.now.listed }
+        ensures layer { own_layer (chain_in self.now.listed result) ≡ slice_get (chain_in self.now.listed number) index }
+    {
+        class_of(&self.descriptors, number as usize, index) as u32
     }
 
     /// The index of the first layer at `from` or after it that has something to read.
@@ -204,9 +233,10 @@ impl Chains {
     }
 
     /// Forgets all chains, and keeps the room.
-    #[tactic(auto, using(crate::proofs::ChainLemmas::chains_of_none, crate::proofs::FiledLemmas::shelved_none))]
+    #[tactic(auto, using(crate::proofs::ChainLemmas::chains_of_none, crate::proofs::LineLemmas::lines_of_none, crate::proofs::FiledLemmas::shelved_none))]
     pub(crate) fn clear(&mut self)
-        ensures { self.new.listed ≡ [] }
+        ensures listed { self.new.listed ≡ [] }
+        ensures lines { self.new.lines ≡ [] }
     {
         self.descriptors.clear();
         self.sections.clear();
@@ -271,7 +301,8 @@ fn descriptor_under(
     requires parent_in { ForSome parent (λ number. number < length descriptors.now) }
     requires fewer { length descriptors.now < 2 ^ 32 - 1 }
     requires section { section ≡ length (sections_of (chains_of descriptors.now)) }
-    ensures { IsUnder (chains_of descriptors.now) parent layer result }
+    ensures under { IsUnder (chains_of descriptors.now) parent layer result }
+    ensures lines { AreLined descriptors.now → LinesUnder (lines_of descriptors.now) parent result.links }
 {
     let Some(parent) = parent else {
         let last = last_under(&layer, section, None);
@@ -302,6 +333,7 @@ fn jump_from(descriptors: &[Descriptor], parent: u32) -> u32
     ensures inside { result < length descriptors.now }
     ensures front { IsFront (chain_in (chains_of descriptors.now) result) (chain_in (chains_of descriptors.now) parent) }
     ensures far { JumpsFar descriptors.now parent result }
+    ensures line { AreLined descriptors.now → LeadsTo (line_in (lines_of descriptors.now) result) (line_in (lines_of descriptors.now) parent) }
 {
     let above = &descriptors[parent as usize];
     let Some(near) = above.links else {
@@ -440,6 +472,20 @@ fn layer_at(descriptors: &[Descriptor], start: usize, index: usize) -> &KeptLaye
     &descriptor_at(descriptors, place).layer
 }
 
+/// The class whose own layer is the one at this index of the chain at `start`.
+#[tactic(auto, using(crate::proofs::LineLemmas::class_found, crate::proofs::LineLemmas::layer_of_found))]
+fn class_of(descriptors: &[Descriptor], start: usize, index: usize) -> usize
+    requires told { AreTold descriptors.now }
+    requires lined { AreLined descriptors.now }
+    requires start_in { start < length descriptors.now }
+    requires index_in { index < length (chain_in (chains_of descriptors.now) start) }
+    ensures number { slice_get (line_in (lines_of descriptors.now) start) index ≡ Some result }
+    ensures inside { result < length descriptors.now }
+    ensures layer { own_layer (chain_in (chains_of descriptors.now) result) ≡ slice_get (chain_in (chains_of descriptors.now) start) index }
+{
+    highest(descriptors, start, Counted::Layers, index)
+}
+
 /// The index of the first layer, at `from` or after it, that has something to read.
 #[tactic(auto, using(crate::proofs::WalkLemmas::none_filled, crate::proofs::WalkLemmas::past_filled, crate::proofs::WalkLemmas::filled_found))]
 fn next_filled_at(descriptors: &[Descriptor], start: usize, from: usize) -> Option<usize>
@@ -481,6 +527,7 @@ fn highest(descriptors: &[Descriptor], start: usize, counted: Counted, bound: us
     requires over { bound < count_of counted (chain_in (chains_of descriptors.now) start) }
     ensures inside { result < length descriptors.now }
     ensures highest { IsHighest counted bound (chain_in (chains_of descriptors.now) start) (chain_in (chains_of descriptors.now) result) }
+    ensures line { AreLined descriptors.now → LeadsTo (line_in (lines_of descriptors.now) result) (line_in (lines_of descriptors.now) start) }
 {
     let mut place = start;
     'walk: while let Some(higher) = step_up(descriptors, place, counted, bound) {
@@ -501,6 +548,7 @@ fn step_up(
     ensures up { IfSome result (λ higher. GoesUp counted bound (chains_of descriptors.now) place higher) }
     ensures top { IfNone result (count_of counted (front_of (chain_in (chains_of descriptors.now) place)) ≤ bound) }
     ensures far { IfSome result (TakesJump descriptors.now counted bound place) }
+    ensures line { AreLined descriptors.now → IfSome result (λ higher. LeadsTo (line_in (lines_of descriptors.now) higher) (line_in (lines_of descriptors.now) place)) }
 {
     let links = descriptors[place].links?;
     let (jump, parent) = (links.jump as usize, links.parent as usize);

@@ -1,5 +1,7 @@
 //! What a handle names, asked as a class: the answer has the number of the class's chain, by which the
 //! other calls find it at once.
+ghost use Rattle.std.specs.Prelude.{◌≡◌};
+
 use std::marker::Model;
 
 /// The number of a chain: in which order of closing its class came, counted from 0 in each epoch. Contracts
@@ -17,6 +19,15 @@ impl Model for ChainNumber {
     ghost view = { λ a. a.number };
 
     ghost inverse = { λ n. record { number = n } };
+}
+
+impl ChainNumber {
+    /// The number, to find what a caller keeps of the class in a list.
+    pub fn index(self) -> usize
+        ensures { result ≡ self }
+    {
+        self.number as usize
+    }
 }
 
 /// What a number names, as a class.

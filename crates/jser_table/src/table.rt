@@ -4,11 +4,12 @@
 //! descriptor's handle is assigned, so closing a descriptor takes no memory.
 ghost use Rattle.std.specs.Prelude.{◌≡◌, ◌≢◌, ◌<◌, ◌≤◌, ◌↔◌, [], ◌∷◌, ◌++◌, length, map, slice_get, slice_set, is_some, Some, None, IsTrue, IfOk, IfSome, OnErr, option_map};
 ghost use Rattle.std.specs.Option.{ForSome, option_copied};
-ghost use Rattle.jser_table.specs.Chains.{all_serial, next_filled, is_external, elements_of, chain_in};
+ghost use Rattle.jser_table.specs.Chains.{own_layer, all_serial, next_filled, is_external, elements_of, chain_in};
 ghost use Rattle.jser_table.specs.Codes.{size_of, primitive_codes};
 ghost use Rattle.jser_table.specs.Sections.{HasSection, layer_of, HoldsFor, IsOn, IsNext, AreSections};
 ghost use Rattle.jser_table.specs.Entries.{is_text, is_pending, is_closed, chain_at};
 ghost use Rattle.jser_table.specs.Fits.{fit_of};
+ghost use Rattle.jser_table.specs.Lines.{line_in, next_line, number_at, parent_number, answered_number};
 ghost use Rattle.jser_table.specs.Tables.{new_entry, closed_under, is_text_entry, is_pending_entry, is_closed_entry, is_text_kept, is_pending_kept, is_closed_kept, is_closed_slot, closed_kept, parent_chain, IsClass, IsNumberOf, text_of};
 
 use crate::chains::Chains;
@@ -60,9 +61,15 @@ impl Model for Table {
 
     ghost Value = { TableView };
 
-    ghost use Rattle.jser_table.specs.Tables.{view_entry, IsSound};
+    ghost use Rattle.jser_table.specs.Tables.{view_entry, kept_number, IsSound};
 
-    ghost view = { λ a. record { entries = map (view_entry a.chains.listed) a.entries.items; chains = a.chains.listed; max = a.max } };
+    ghost view = { λ a. record {
+      entries = map (view_entry a.chains.listed) a.entries.items;
+      chains = a.chains.listed;
+      numbers = map kept_number a.entries.items;
+      lines = a.chains.lines;
+      max = a.max;
+    } };
 
     ghost invariant = { λ a. IsSound a.entries.items a.chains a.pending a.max };
 }
@@ -96,6 +103,8 @@ impl Table {
     pub fn new(alloc: Global, max: u32) -> Table
         ensures entries { result.entries ≡ [] }
         ensures chains { result.chains ≡ [] }
+        ensures numbers { result.numbers ≡ [] }
+        ensures lines { result.lines ≡ [] }
         ensures max { result.max ≡ max }
     {
         Table {
@@ -118,6 +127,8 @@ impl Table {
         ensures full { (result ≡ Err TableFault.Full) ↔ (length self.old.entries ≡ self.old.max) }
         ensures unchanged { OnErr result (self.new ≡ self.old) }
         ensures chains { self.new.chains ≡ self.old.chains }
+        ensures numbers { IfOk result (λ _. self.new.numbers ≡ self.old.numbers ++ None ∷ []) }
+        ensures lines { self.new.lines ≡ self.old.lines }
         ensures max { self.new.max ≡ self.old.max }
         ensures below { IfOk result (λ number. number < self.old.max) }
         ensures room { (result ≡ Err TableFault.OutOfMemory) → length self.old.entries < self.old.max }
@@ -145,6 +156,14 @@ impl Table {
         self.entries.len() as u32
     }
 
+    /// How many classes are closed: the number of the class that is closed next.
+    pub fn classes(&self) -> u32
+        ensures chains { result ≡ length self.now.chains }
+        ensures lines { result ≡ length self.now.lines }
+    {
+        self.chains.count()
+    }
+
     /// Closes a pending entry: it has this layer over the chain of the parent, if there is one. Takes no
     /// memory.
     pub fn close(&mut self, number: u32, layer: Layer, parent: Option<u32>)
@@ -152,6 +171,9 @@ impl Table {
         requires parent { ForSome parent (λ p. IsTrue (is_closed (slice_get self.old.entries p))) }
         ensures closed { self.new.entries ≡ slice_set self.old.entries number (closed_under self.old.entries parent layer) }
         ensures chains { self.new.chains ≡ self.old.chains ++ (parent_chain self.old.entries parent ++ layer ∷ []) ∷ [] }
+        ensures number { number_at self.new.numbers number ≡ Some (length self.old.chains) }
+        ensures numbers { self.new.numbers ≡ slice_set self.old.numbers number (Some (length self.old.chains)) }
+        ensures lines { self.new.lines ≡ self.old.lines ++ next_line self.old.lines (parent_number self.old.numbers parent) ∷ [] }
         ensures max { self.new.max ≡ self.old.max }
     {
         self.close_kept(number, KeptLayer::new(layer), parent);
@@ -163,6 +185,9 @@ impl Table {
         requires parent { ForSome parent (λ p. IsTrue (is_closed (slice_get self.old.entries p))) }
         ensures closed { self.new.entries ≡ slice_set self.old.entries number (closed_under self.old.entries parent layer) }
         ensures chains { self.new.chains ≡ self.old.chains ++ (parent_chain self.old.entries parent ++ layer ∷ []) ∷ [] }
+        ensures number { number_at self.new.numbers number ≡ Some (length self.old.chains) }
+        ensures numbers { self.new.numbers ≡ slice_set self.old.numbers number (Some (length self.old.chains)) }
+        ensures lines { self.new.lines ≡ self.old.lines ++ next_line self.old.lines (parent_number self.old.numbers parent) ∷ [] }
         ensures max { self.new.max ≡ self.old.max }
     {
         let parent = parent_chain_number(&self.entries, parent);
@@ -183,8 +208,10 @@ impl Table {
 
     /// What the number names, as a class. The other calls find the chain of a closed descriptor at once by
     /// its number.
+    #[tactic(auto, using(crate::proofs::TableLemmas::number_answered))]
     pub fn class_at(&self, number: u32) -> Class
-        ensures { IsClass self.now.chains (slice_get self.now.entries number) result }
+        ensures names { IsClass self.now.chains (slice_get self.now.entries number) result }
+        ensures number { answered_number result ≡ number_at self.now.numbers number }
     {
         match self.entries.get(number as usize) {
             None => Class::NotThere,
@@ -213,6 +240,19 @@ impl Table {
     {
         self.chains
             .layer(chain_number(&self.entries, number), index)
+    }
+
+    /// The class whose own layer is the one at this index of the chain, where 0 is the highest superclass. The number of steps
+    /// is in the order of the logarithm of the chain.
+    pub fn class_of_layer(&self, chain: ChainNumber, index: usize) -> ChainNumber
+        requires chain { chain < length self.now.chains }
+        requires index { index < length (chain_in self.now.chains chain) }
+        ensures number { slice_get (line_in self.now.lines chain) index ≡ Some result }
+        ensures inside { result < length self.now.chains }
+        ensures layer { own_layer (chain_in self.now.chains result) ≡ slice_get (chain_in self.now.chains chain) index }
+    {
+        let number = self.chains.class_of_layer(chain.number, index);
+        ChainNumber { number }
     }
 
     /// The index of the first layer, at `from` or after it, for which an object holds something to read. The
@@ -307,6 +347,8 @@ impl Table {
     pub fn reset(&mut self)
         ensures entries { self.new.entries ≡ [] }
         ensures chains { self.new.chains ≡ [] }
+        ensures numbers { self.new.numbers ≡ [] }
+        ensures lines { self.new.lines ≡ [] }
         ensures max { self.new.max ≡ self.old.max }
     {
         self.restart(self.max);
@@ -316,6 +358,8 @@ impl Table {
     pub fn restart(&mut self, max: u32)
         ensures entries { self.new.entries ≡ [] }
         ensures chains { self.new.chains ≡ [] }
+        ensures numbers { self.new.numbers ≡ [] }
+        ensures lines { self.new.lines ≡ [] }
         ensures max { self.new.max ≡ max }
     {
         self.entries.clear();

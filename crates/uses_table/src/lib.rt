@@ -7,6 +7,7 @@ pub mod data;
 pub mod epochs;
 pub mod fields;
 pub mod kept;
+pub mod lines;
 pub mod names;
 pub mod references;
 #[cfg(test)]

@@ -16,7 +16,7 @@ fn a_class_and_its_data(rt: HostRuntime) -> Result<(), Fail> {
         flags: 0x02,
         codes: Codes::new(vec![in alloc; b'I']?),
     };
-    // Its superclass place held NULL.
+    // It has no superclass.
     table.close(number, layer, None);
     assert_eq!(rt; table.fit(number, Purpose::Object), Fit::Fits);
     // end

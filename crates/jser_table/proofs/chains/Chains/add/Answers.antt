@@ -1,7 +1,9 @@
 use Rattle.std.proofs.Common.{◌≡◌, ◌<◌, ◌^◌, ◌-◌, ℕ, length, arith, rules, ap, subst}
 use Rattle.jser_table.specs.Stored.{ChainList}
 use Rattle.jser_table.specs.Descriptors.{IsUnder, IsLast, RunsOn, Files, chains_of, chain_of_parent}
+use Rattle.jser_table.specs.Lined.{LinesUnder, lines_of}
 use Rattle.jser_table.proofs.ChainLemmas.{length_chains_of, chains_push, told_push}
+use Rattle.jser_table.proofs.LineLemmas.{lines_push}
 use Rattle.jser_table.proofs.SectionLemmas.{sections_fewer}
 use Rattle.jser_table.proofs.FiledLemmas.{shelved_push}
 use Rattle.jser_table.proofs.chains.Chains.add.Goals as goal
@@ -17,7 +19,7 @@ invariant_of-self c =
     let own = c.self.inside in
     let made = c.descriptor_under-descriptor in
     let under : IsUnder (chains_of own.descriptors.items) c.args.parent c.args.layer made.result =
-    rw (← c.deref-4.ensures.value) made.ensures
+    rw (← c.deref-4.ensures.value) made.ensures.under
     in
     let number : c.len-number.result ≡ length own.descriptors.items = search rules in
     let files : Files c.args.layer (length own.descriptors.items) c.run_under.result own.sections.items c.file.new.sections.items =
@@ -25,8 +27,11 @@ invariant_of-self c =
     in
     let at_last : IsLast (chains_of own.descriptors.items) (chain_of_parent (chains_of own.descriptors.items) c.args.parent) c.last_of-above.result = rw (← c.deref.ensures.value) c.last_of-above.ensures in
     let runs : RunsOn (chains_of own.descriptors.items) c.last_of-above.result c.run_under.result = rw (← c.deref-2.ensures.value) c.run_under.ensures in
+    let lines : LinesUnder (lines_of own.descriptors.items) c.args.parent made.result.links =
+    rw (← c.deref-4.ensures.value) (made.ensures.lines (rw c.deref-4.ensures.value c.self.invariant.lined))
+    in
     let few : length own.descriptors.items < 2 ^ 32 - 3 = omega (arith, ap (λ (v : ChainList). v.room) c.self.view_is, c.requires.room) in
-    shelved_push own.descriptors.items c.push.new.self.items made.result c.args.parent c.args.layer c.last_of-above.result c.run_under.result own.sections.items c.file.new.sections.items c.self.invariant few c.in-Ok.ensures.items under at_last runs files
+    shelved_push own.descriptors.items c.push.new.self.items made.result c.args.parent c.args.layer c.last_of-above.result c.run_under.result own.sections.items c.file.new.sections.items c.self.invariant few c.in-Ok.ensures.items under at_last runs files lines
 
 -- The check finds what follows with no answer too; with one, it refuses a wrong body sooner.
 
@@ -74,6 +79,9 @@ push-requires c = search rules
 
 pub returns-clause-added : goal.returns-clause-added
 returns-clause-added c = search (rules, length_chains_of, told_push, chains_push)
+
+pub returns-clause-lines : goal.returns-clause-lines
+returns-clause-lines c = search (rules, lines_push)
 
 pub returns-clause-most : goal.returns-clause-most
 returns-clause-most c = search rules
