@@ -1,5 +1,5 @@
 -- Numbers that may be cut, and what becomes of their bytes.
-use Rattle.std.proofs.Common.{◌≡◌, ℕ, ◌+◌, ◌<◌, ◌≤◌, Bool, List, ◌++◌, length, take, refl, sym, ◌∙◌, ap, arith, length-append}
+use Rattle.std.proofs.Common.{◌≡◌, ℕ, ◌+◌, ◌<◌, ◌≤◌, Bool, true, false, List, ◌++◌, length, take, refl, sym, ◌∙◌, ap, subst, arith, length-append}
 use Rattle.std.proofs.lemmas.List.{length-take-le}
 use Rattle.jser_prim.specs.Bytes.{big_bytes}
 use Rattle.jser_reading.specs.FieldsFromBytes.{head_size}
@@ -11,7 +11,7 @@ use Rattle.jser_reader.specs.declared.phase.Phase.{Phase}
 use Rattle.jser_reader.specs.declared.phase.Phase.TheVariants as phase
 use Rattle.jser_reader.specs.Readers.{Seen, length_phase}
 use Rattle.jser_reader.specs.Walks.{size_of_phase, open_phase, cut_of, Keeps}
-use Rattle.jser_reader.specs.Cuts.{IsTwo, IsFour, IsEight, CanBeCut, IsCutField}
+use Rattle.jser_reader.specs.Cuts.{IsFour, CanBeCut, IsCutField}
 use Rattle.jser_reader.specs.Takes.{TakesNumber, CutsOff, IsWholeLength, TakesNumberFor, TakesFromFor, TakesFrom, taken_by}
 use Rattle.jser_reader.proofs.PhaseLemmas.{IsFixed, whole_open, cut_open}
 use Rattle.jser_reader.proofs.FixedWalks.{number_kept}
@@ -51,10 +51,6 @@ cuts_again piece old new e ep ec ek ea em el ef ey et er eo es eh ex =
 
 -- ---- which numbers there are
 
-pub no_other_two : (p : Phase) → IsTwo p → (p ≡ phase.FieldCount → ⊥) → ⊥
-no_other_two phase.FieldCount i f = f refl
-no_other_two _ i f = absurd i
-
 pub no_other_four : (p : Phase) → IsFour p → (p ≡ phase.BackHandle → ⊥) → (p ≡ phase.ClassHandle → ⊥)
     → (p ≡ phase.SuperHandle → ⊥) → (p ≡ phase.TextHandle → ⊥) → (p ≡ phase.InterfaceCount → ⊥) → (p ≡ phase.ArrayLength → ⊥) → (p ≡ phase.BlockLength4 → ⊥) → ⊥
 no_other_four phase.BackHandle i b c s t n a l = b refl
@@ -65,10 +61,6 @@ no_other_four phase.InterfaceCount i b c s t n a l = n refl
 no_other_four phase.ArrayLength i b c s t n a l = a refl
 no_other_four phase.BlockLength4 i b c s t n a l = l refl
 no_other_four _ i b c s t n a l = absurd i
-
-pub no_other_eight : (p : Phase) → IsEight p → (p ≡ phase.Suid → ⊥) → ⊥
-no_other_eight phase.Suid i s = s refl
-no_other_eight _ i s = absurd i
 
 pub cut_four : (p : Phase) → CanBeCut p → (p ≡ phase.Header → ⊥) → (p ≡ phase.Length2 → ⊥) → (p ≡ phase.Length8 → ⊥) → (p ≡ phase.FieldCount → ⊥)
     → (p ≡ phase.Suid → ⊥) → IsFour p
@@ -99,9 +91,11 @@ length_number long = record {
   keeps = λ gate piece old new c eo some short. length_kept gate long old new piece c.phase_is (c.cut_phase ∙ eo) c.kept eo some short c.counts;
 }
 
-pub two_is : (p : Phase) → IsTwo p → IsNumberOf 2 p
-two_is phase.FieldCount i = fixed_number 2 phase.FieldCount tt (λ e. absurd (cc)) refl
-two_is _ i = absurd i
+pub field_count_is : IsNumberOf 2 phase.FieldCount
+field_count_is = fixed_number 2 phase.FieldCount tt (λ e. absurd (cc)) refl
+
+pub suid_is : IsNumberOf 8 phase.Suid
+suid_is = fixed_number 8 phase.Suid tt (λ e. absurd (cc)) refl
 
 pub four_is : (p : Phase) → IsFour p → IsNumberOf 4 p
 four_is phase.BackHandle i = fixed_number 4 phase.BackHandle tt (λ e. absurd (cc)) refl
@@ -113,9 +107,21 @@ four_is phase.ArrayLength i = fixed_number 4 phase.ArrayLength tt (λ e. absurd 
 four_is phase.BlockLength4 i = fixed_number 4 phase.BlockLength4 tt (λ e. absurd (cc)) refl
 four_is _ i = absurd i
 
-pub eight_is : (p : Phase) → IsEight p → IsNumberOf 8 p
-eight_is phase.Suid i = fixed_number 8 phase.Suid tt (λ e. absurd (cc)) refl
-eight_is _ i = absurd i
+-- what may be cut, and is not the header, is a number
+cut_is : (p : Phase) → CanBeCut p → (p ≡ phase.Header → ⊥) → IsNumberOf (size_of_phase p) p
+cut_is phase.Header i h = absurd (h refl)
+cut_is phase.Length2 i h = length_number false
+cut_is phase.Length8 i h = length_number true
+cut_is phase.FieldCount i h = field_count_is
+cut_is phase.Suid i h = suid_is
+cut_is phase.BackHandle i h = four_is phase.BackHandle i
+cut_is phase.ClassHandle i h = four_is phase.ClassHandle i
+cut_is phase.SuperHandle i h = four_is phase.SuperHandle i
+cut_is phase.TextHandle i h = four_is phase.TextHandle i
+cut_is phase.InterfaceCount i h = four_is phase.InterfaceCount i
+cut_is phase.ArrayLength i h = four_is phase.ArrayLength i
+cut_is phase.BlockLength4 i h = four_is phase.BlockLength4 i
+cut_is _ i h = absurd i
 
 -- ---- numbers of so many bytes
 
@@ -189,17 +195,33 @@ rest_taken gate size n missing found result piece last old new h er f e spelled 
     number_came gate size n missing found result piece old new h er some long
     (spelled ∙ ap (λ xs. old.meter.kept ++ xs) el ∙ sym (ap (λ xs. xs ++ take missing piece) w.1)) (ap size_of_phase w.0 ∙ f.size_is)
 
+-- of the number that was cut more bytes came, and not all
+pub cut_kept : (gate : Gate) (missing : ℕ) (piece : List ℕ) (old new : Seen) → CutsOff piece old new → CanBeCut old.meter.cut_phase
+    → (old.meter.cut_phase ≡ phase.Header → ⊥) → old.phase ≡ phase.Cut → length old.meter.kept + missing ≡ size_of_phase old.meter.cut_phase
+    → 0 < length piece → length piece < missing → TakesFromFor gate taken.Open piece old new
+cut_kept gate missing piece old new c i h e all some short =
+    rest_kept gate (size_of_phase old.meter.cut_phase) missing piece old new c (cut_is old.meter.cut_phase i h) e all some short
+
+-- the last of them came
+pub cut_taken : (gate : Gate) (size n missing : ℕ) (found : Bool) (result : Taken) (p : Phase) (piece last : List ℕ) (old new : Seen)
+    → TakesNumber size n missing found old new → result ≡ taken_by missing found → IsNumberOf size p → old.meter.cut_phase ≡ p → old.phase ≡ phase.Cut
+    → big_bytes size n ≡ old.meter.kept ++ last → last ≡ take missing piece → 0 < missing → missing ≤ length piece
+    → TakesFromFor gate result piece old new
+unfolding TakesNumber
+cut_taken gate size n missing found result p piece last old new h er f ep e spelled el some long =
+    rest_taken gate size n missing found result piece last old new (h gate) er (subst (IsNumberOf size) (sym ep) f) e spelled el some long
+
 -- numbers that come next, of two bytes, of four and of eight
 
-pub two_kept : (piece : List ℕ) (old new : Seen) → CutsOff piece old new → IsTwo old.phase → 0 < length piece → length piece < 2
+pub two_kept : (piece : List ℕ) (old new : Seen) → CutsOff piece old new → old.phase ≡ phase.FieldCount → 0 < length piece → length piece < 2
     → TakesFrom taken.Open piece old new
-two_kept piece old new c i some short = λ gate. first_kept gate 2 piece old new c (two_is old.phase i) some short
+two_kept piece old new c e some short = λ gate. first_kept gate 2 piece old new c (subst (IsNumberOf 2) (sym e) field_count_is) some short
 
 pub two_taken : (n : ℕ) (found : Bool) (result : Taken) (piece number : List ℕ) (old new : Seen) → TakesNumber 2 n 2 found old new → result ≡ taken_by 2 found
-    → IsTwo old.phase → big_bytes 2 n ≡ number → number ≡ take 2 piece → 2 ≤ length piece → TakesFrom result piece old new
+    → old.phase ≡ phase.FieldCount → big_bytes 2 n ≡ number → number ≡ take 2 piece → 2 ≤ length piece → TakesFrom result piece old new
 unfolding TakesNumber
-two_taken n found result piece number old new h er i spelled en long =
-    λ gate. all_taken gate 2 n found result piece old new (h gate) er (two_is old.phase i) (omega arith) (spelled ∙ en) long
+two_taken n found result piece number old new h er e spelled en long =
+    λ gate. all_taken gate 2 n found result piece old new (h gate) er (subst (IsNumberOf 2) (sym e) field_count_is) (omega arith) (spelled ∙ en) long
 
 pub four_kept : (piece : List ℕ) (old new : Seen) → CutsOff piece old new → IsFour old.phase → 0 < length piece → length piece < 4
     → TakesFrom taken.Open piece old new
@@ -211,12 +233,12 @@ unfolding TakesNumber
 four_taken n found result piece number old new h er i spelled en long =
     λ gate. all_taken gate 4 n found result piece old new (h gate) er (four_is old.phase i) (omega arith) (spelled ∙ en) long
 
-pub eight_kept : (piece : List ℕ) (old new : Seen) → CutsOff piece old new → IsEight old.phase → 0 < length piece → length piece < 8
+pub eight_kept : (piece : List ℕ) (old new : Seen) → CutsOff piece old new → old.phase ≡ phase.Suid → 0 < length piece → length piece < 8
     → TakesFrom taken.Open piece old new
-eight_kept piece old new c i some short = λ gate. first_kept gate 8 piece old new c (eight_is old.phase i) some short
+eight_kept piece old new c e some short = λ gate. first_kept gate 8 piece old new c (subst (IsNumberOf 8) (sym e) suid_is) some short
 
 pub eight_taken : (n : ℕ) (found : Bool) (result : Taken) (piece number : List ℕ) (old new : Seen) → TakesNumber 8 n 8 found old new → result ≡ taken_by 8 found
-    → IsEight old.phase → big_bytes 8 n ≡ number → number ≡ take 8 piece → 8 ≤ length piece → TakesFrom result piece old new
+    → old.phase ≡ phase.Suid → big_bytes 8 n ≡ number → number ≡ take 8 piece → 8 ≤ length piece → TakesFrom result piece old new
 unfolding TakesNumber
-eight_taken n found result piece number old new h er i spelled en long =
-    λ gate. all_taken gate 8 n found result piece old new (h gate) er (eight_is old.phase i) (omega arith) (spelled ∙ en) long
+eight_taken n found result piece number old new h er e spelled en long =
+    λ gate. all_taken gate 8 n found result piece old new (h gate) er (subst (IsNumberOf 8) (sym e) suid_is) (omega arith) (spelled ∙ en) long

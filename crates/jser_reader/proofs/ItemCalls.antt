@@ -2,7 +2,7 @@
 use Rattle.std.proofs.Common.{◌≡◌, ◌⊎◌, inl, inr, ℕ, zero, suc, ◌<◌, ◌≤◌, true, List, [], ◌∷◌, ◌++◌, length, take, Ok, Err, refl, sym, ◌∙◌, ap, ap₂, subst, arith, append_assoc, append-nil, length-append, length-take-le}
 use Rattle.jser_grammar.specs.Parts.{IsBytes}
 use Rattle.jser_reading.specs.FieldsFromBytes.{number_of}
-use Rattle.jser_reading.specs.Labels.{Label, Piece, piece}
+use Rattle.jser_reading.specs.Labels.{Piece, piece}
 use Rattle.jser_reading.specs.FieldBytes.{joined}
 use Rattle.jser_reading.specs.Goals.{settled}
 use Rattle.jser_reading.specs.Accepts.{label_of}

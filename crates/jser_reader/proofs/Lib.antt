@@ -34,6 +34,7 @@ pub mod ArrayLemmas
 pub mod DescriptorLemmas
 pub mod FieldLemmas
 pub mod AnswerLemmas
+pub mod RefusalLemmas
 pub mod ReaderLemmas
 pub mod NextLemmas
 pub mod PlaceDepths
@@ -68,3 +69,4 @@ pub mod ManyConstants
 pub mod ManyNotes
 pub mod ManyArrays
 pub mod ManyPasses
+pub mod GoalPlaces

@@ -12,7 +12,7 @@ use Rattle.jser_reader.specs.declared.machine.many.counts.Counts.{Counts}
 use Rattle.jser_reader.specs.declared.machine.many.counts.Turn.{Turn}
 use Rattle.jser_reader.specs.declared.machine.many.counts.Turn.TheVariants as turn
 use Rattle.jser_reader.specs.declared.phase.Phase.TheVariants as phase
-use Rattle.jser_reader.specs.Fitting.{FrameFits, FramesFit, IsBelow, bound_below, AllFit, IsPart, HasParts}
+use Rattle.jser_reader.specs.Fitting.{FrameFits, FramesFit, IsBelow, bound_below, AllFit, IsPart}
 use Rattle.jser_reader.specs.Frames.{frame_goals}
 use Rattle.jser_reader.specs.Handlers.{moved}
 use Rattle.jser_reader.specs.Many.{phase_on, seen_at, tally_at, Holds, with_used, with_depth, with_top, LeadsTo, Ends, RawsOn, StandsOn, OpensAs, parts_behind, FrameEnds, GivesNext, Settles}

@@ -1,30 +1,34 @@
 -- A field of a descriptor that is taken in one step: the machines between its type code, its name and its type are named
 -- here alone, and no code makes them.
 use Rattle.std.proofs.Common.{◌≡◌, ℕ, ◌+◌, ◌<◌, ◌≤◌, Bool, true, false, List, length, get_or, take, drop, Some, refl, sym, ◌∙◌, ap, subst, arith}
+use Rattle.std.proofs.lemmas.Bool.{false≢true}
 use Rattle.std.proofs.lemmas.List.{length-drop, length-take-le}
+use Rattle.jser_table.specs.Entries.{text_entry}
 use Rattle.jser_reading.specs.Goals.{settle}
 use Rattle.jser_verdict.specs.Gates.{Gate}
 use Rattle.jser_reader.specs.declared.machine.take.taken.Taken.TheVariants as taken
 use Rattle.jser_reader.specs.declared.phase.Phase.TheVariants as phase
+use Rattle.jser_reader.specs.declared.phase.TextFor.{TextFor}
 use Rattle.jser_reader.specs.declared.phase.TextFor.TheVariants as text
 use Rattle.jser_reader.specs.declared.tag.ValueTag.TheVariants as value
 use Rattle.jser_reader.specs.declared.tally.Tally.{Tally}
 use Rattle.jser_reader.specs.Fitting.{HasDescriptor}
-use Rattle.jser_reader.specs.Readers.{Seen, Header, Ready, moment_of, fields_goals, text_rest}
-use Rattle.jser_reader.specs.Handlers.{Comes, TellsSurely, moved}
+use Rattle.jser_reader.specs.Readers.{Seen, Header, Ready, moment_of, fields_goals, text_rest, is_checked}
+use Rattle.jser_reader.specs.Handlers.{Comes, TellsSurely, IsNext, moved, with_entry, added, is_full}
 use Rattle.jser_reader.specs.Descriptors.{GoesOnFields}
 use Rattle.jser_reader.specs.Takes.{counted_on, farther, TakesByte}
 use Rattle.jser_reader.specs.Passes.{Passes, CanPass}
-use Rattle.jser_reader.specs.Wholes.{HasText}
+use Rattle.jser_reader.specs.Wholes.{HasText, AssignsText}
 use Rattle.jser_reader.specs.Members.{HasType, with_header, BeginsMember}
 use Rattle.jser_reader.proofs.FieldLemmas.{begins_field, right_code}
 use Rattle.jser_reader.proofs.TakeLemmas.{counts_bytes, takes_type_code, takes_text_tag, one_taken}
-use Rattle.jser_reader.proofs.TextLemmas.{text_value_tag, text_reference, right_text, type_named, field_named, object_field_named}
+use Rattle.jser_reader.proofs.TextLemmas.{text_value_tag, text_reference, short_text, right_text, type_named, type_ends, field_named, object_field_named}
 use Rattle.jser_reader.proofs.TextSteps.{short_text_taken}
 use Rattle.jser_reader.proofs.TextTakeLemmas.{takes_text_handle}
 use Rattle.jser_reader.proofs.CutLemmas.{four_taken}
 use Rattle.jser_reader.proofs.PassLemmas.{then_passes, quiet_end, quiet_takes}
-use Rattle.jser_reader.proofs.WholeLemmas.{rest_can, can_go_on, same_meter}
+use Rattle.jser_reader.proofs.ValueLemmas.{new_text}
+use Rattle.jser_reader.proofs.WholeLemmas.{rest_can, can_go_on, same_meter, assigned_text}
 
 -- ---- the type code
 
@@ -127,12 +131,14 @@ named_member r header len = record {
   name = r.name;
 }
 
-named_passes : (gate : Gate) (code len : ℕ) (piece : List ℕ) (old mid : Seen) (tally : Tally) → CanPass old piece → old.phase ≡ phase.TypeCode
-    → code ≡ get_or piece 0 0 → HasText piece len → BeginsMember code true old mid → Passes gate piece (Some (len + 3)) old tally (named_member old mid.header len) tally
-named_passes gate code len piece old mid tally can ep ec t b =
+-- whatever the machine holds where the type comes next
+named_goes : (gate : Gate) (code len : ℕ) (piece : List ℕ) (old mid new : Seen) (tally : Tally) → CanPass old piece → old.phase ≡ phase.TypeCode
+    → code ≡ get_or piece 0 0 → HasText piece len → BeginsMember code true old mid
+    → (let k : Seen = farther (begun_member old mid.header true) (2 + len) in IsNext phase.TextTag k.owner k.elements k.header text.FieldType k new)
+    → Passes gate piece (Some (len + 3)) old tally new tally
+named_goes gate code len piece old mid new tally can ep ec t b next =
     let m : Seen = begun_member old mid.header true in
     let k : Seen = farther m (2 + len) in
-    let new : Seen = named_member old mid.header len in
     let rest : List ℕ = drop 1 piece in
     let n = length-drop 1 piece in
     let enough = t.within in
@@ -140,13 +146,45 @@ named_passes gate code len piece old mid tally can ep ec t b =
     let body : Passes gate rest (Some (2 + len)) m tally new tally =
     quiet_takes gate (2 + len) rest m new tally (omega arith)
     (short_text_taken gate m k new (take (2 + len) rest) t.units
-    (λ inside. object_field_named gate true k new
-    (record { phase_is = refl; frames = refl; layers = refl; table = refl; refs = refl; owner_is = refl; chain_is = refl; header_is = refl; text_is = refl; left = refl; meter = refl })
-    refl refl t.units (record { inside = inside; kept = λ checked. absurd (cc) }))
+    (λ inside. object_field_named gate true k new next refl refl t.units (record { inside = inside; kept = λ checked. absurd (cc) }))
     refl (omega arith) (counts_bytes (take (2 + len) rest) (2 + len) m k refl size) t.are_text t.spelled)
     tt (rest_can piece old m can (omega arith) refl refl) in
     subst (λ u. Passes gate piece (Some u) old tally new tally) (let s : 1 + (2 + len) ≡ len + 3 = omega arith in s)
     (then_passes gate piece rest 1 (2 + len) old m new tally tally tally (code_passes gate code true piece old mid tally can ep (omega arith) ec b) body refl)
+
+named_passes : (gate : Gate) (code len : ℕ) (piece : List ℕ) (old mid : Seen) (tally : Tally) → CanPass old piece → old.phase ≡ phase.TypeCode
+    → code ≡ get_or piece 0 0 → HasText piece len → BeginsMember code true old mid → Passes gate piece (Some (len + 3)) old tally (named_member old mid.header len) tally
+named_passes gate code len piece old mid tally can ep ec t b =
+    named_goes gate code len piece old mid (named_member old mid.header len) tally can ep ec t b
+    (record { phase_is = refl; frames = refl; layers = refl; table = refl; refs = refl; owner_is = refl; chain_is = refl; header_is = refl; text_is = refl; left = refl; meter = refl })
+
+pub named_member_passes : (gate : Gate) (code len : ℕ) (piece : List ℕ) (old mid far new : Seen) (tally : Tally) → CanPass old piece → old.phase ≡ phase.TypeCode
+    → code ≡ get_or piece 0 0 → HasText piece len → BeginsMember code true old mid → far ≡ farther mid (len + 3)
+    → IsNext phase.TextTag far.owner far.elements far.header text.FieldType far new → Passes gate piece (Some (len + 3)) old tally new tally
+named_member_passes gate code len piece old mid far new tally can ep ec t b ef next =
+    let far_is : far ≡ farther (with_header old mid.header) (len + 3) = ef ∙ ap (λ r. farther r (len + 3)) b.rest in
+    let e : 2 + len + 1 ≡ len + 3 = omega arith in
+    let meter : moved (farther (with_header old mid.header) (len + 3)).meter ≡ moved (farther (begun_member old mid.header true) (2 + len)).meter =
+    sym (same_meter old (2 + len) ∙ ap (λ j. moved (counted_on old.meter j)) e) in
+    named_goes gate code len piece old mid new tally can ep ec t b
+    (record {
+      phase_is = next.phase_is;
+      frames = next.frames ∙ ap (λ r. r.frames) far_is;
+      layers = next.layers ∙ ap (λ r. r.layers) far_is;
+      table = next.table ∙ ap (λ r. r.table) far_is;
+      refs = next.refs ∙ ap (λ r. r.refs) far_is;
+      owner_is = next.owner_is ∙ ap (λ r. r.owner) far_is;
+      chain_is = next.chain_is ∙ ap (λ r. r.elements) far_is;
+      header_is = next.header_is ∙ ap (λ r. r.header) far_is;
+      text_is = next.text_is;
+      left = next.left ∙ ap (λ r. r.left) far_is;
+      meter = next.meter ∙ ap (λ r. moved r.meter) far_is ∙ meter;
+    })
+
+pub named_can : (piece : List ℕ) (used : ℕ) (old mid far new : Seen) (code : ℕ) → CanPass old piece → used ≤ length piece
+    → BeginsMember code true old mid → IsNext phase.TextTag far.owner far.elements far.header text.FieldType far new → far ≡ farther mid used → CanPass new (drop used piece)
+named_can piece used old mid far new code can le b next ef =
+    can_go_on piece used old new can le (next.meter ∙ ap (λ r. moved r.meter) (ef ∙ ap (λ r. farther r used) b.rest))
 
 -- after the tag of its type
 abbrev at_type : Seen → Seen
@@ -222,3 +260,74 @@ pub member_can : (piece : List ℕ) (used : ℕ) (found : Bool) (old mid far new
     → BeginsMember code is_object old mid → GoesOnFields found far new → new.meter ≡ moved far.meter → far ≡ farther mid used → CanPass new (drop used piece)
 member_can piece used found old mid far new code is_object can le b goes em ef =
     can_go_on piece used old new can le (em ∙ ap (λ r. moved r.meter) (ef ∙ ap (λ r. farther r used) b.rest))
+
+-- ---- a type that is a new string
+
+-- after its tag
+abbrev begun_type : Seen → Seen
+begun_type r = record {
+  meter = moved (counted_on r.meter 1);
+  phase = phase.Length2;
+  frames = r.frames;
+  layers = r.layers;
+  table = with_entry r.table text_entry;
+  refs = r.refs;
+  owner = r.owner;
+  elements = r.elements;
+  header = r.header;
+  text = r.text;
+  left = r.left;
+  scan = r.scan;
+  name = r.name;
+}
+
+new_type_tag_taken : (r : Seen) → r.phase ≡ phase.TextTag → is_full r ≡ false → TakesByte 0x74 true r (begun_type r)
+new_type_tag_taken r ep full =
+    takes_text_tag 0x74 true r (farther r 1) (begun_type r)
+    (text_value_tag value.String 0x74 true (farther r 1) (begun_type r) refl
+    (short_text true (farther r 1) (begun_type r)
+    (λ form inside. new_text (length r.table.entries) false r.text true (farther r 1) (added (farther r 1) text_entry) (begun_type r) (assigned_text (farther r 1) full)
+    (record { phase_is = refl; frames = refl; layers = refl; table = refl; refs = refl; owner_is = refl; chain_is = refl; header_is = refl; text_is = refl; left = refl; meter = refl })
+    refl form inside)))
+    refl ep
+
+-- the text of a type is not checked
+unchecked_type : (t : TextFor) → t ≡ text.FieldType → is_checked t ≡ true → ⊥
+unchecked_type t e checked = false≢true (ap is_checked (sym e) ∙ checked)
+
+pub new_type_passes : (gate : Gate) (len : ℕ) (found : Bool) (piece : List ℕ) (old mid far new : Seen) (tally : Tally) → CanPass old piece
+    → old.phase ≡ phase.TextTag → old.text ≡ text.FieldType → 0x74 ≡ get_or piece 0 0 → HasText piece len → AssignsText true old mid
+    → GoesOnFields found far new → found ≡ true → far ≡ farther mid (len + 3) → Passes gate piece (Some (len + 3)) old tally new tally
+unfolding AssignsText
+new_type_passes gate len found piece old mid far new tally can ep et first t assigns goes_on true_is ef =
+    let goes : GoesOnFields true far new = subst (λ x. GoesOnFields x far new) true_is goes_on in
+    let m : Seen = begun_type old in
+    let k : Seen = farther m (2 + len) in
+    let rest : List ℕ = drop 1 piece in
+    let n = length-drop 1 piece in
+    let enough = t.within in
+    let size : length (take (2 + len) rest) ≡ 2 + len = length-take-le (2 + len) rest (omega arith) in
+    let far_is : far ≡ farther (added old text_entry) (len + 3) = ef ∙ ap (λ r. farther r (len + 3)) assigns.1 in
+    let e : 2 + len + 1 ≡ len + 3 = omega arith in
+    let ends : GoesOnFields true k new =
+    goes_as (farther (added old text_entry) (len + 3)) k new (subst (λ r. GoesOnFields true r new) far_is goes)
+    (same_meter old (2 + len) ∙ ap (λ j. moved (counted_on old.meter j)) e) refl refl refl refl refl in
+    let tag : Passes gate piece (Some 1) old tally m tally =
+    quiet_end gate 1 (taken.Ended 1) piece old m tally
+    (one_taken 0x74 true (taken.Ended 1) piece old m (new_type_tag_taken old ep assigns.0) refl first (omega arith) (rw ep tt) gate)
+    refl (rw ep tt) can in
+    let body : Passes gate rest (Some (2 + len)) m tally new tally =
+    quiet_takes gate (2 + len) rest m new tally (omega arith)
+    (short_text_taken gate m k new (take (2 + len) rest) t.units
+    (λ inside. type_ends gate true k new ends et t.units (record { inside = inside; kept = λ checked. absurd (unchecked_type old.text et checked) }))
+    refl (omega arith) (counts_bytes (take (2 + len) rest) (2 + len) m k refl size) t.are_text t.spelled)
+    tt (rest_can piece old m can (omega arith) refl refl) in
+    subst (λ u. Passes gate piece (Some u) old tally new tally) (let s : 1 + (2 + len) ≡ len + 3 = omega arith in s)
+    (then_passes gate piece rest 1 (2 + len) old m new tally tally tally tag body refl)
+
+-- what is left of the piece may be taken too
+pub type_can : (piece : List ℕ) (used : ℕ) (found : Bool) (old mid far new : Seen) → CanPass old piece → used ≤ length piece → AssignsText true old mid
+    → GoesOnFields found far new → new.meter ≡ moved far.meter → far ≡ farther mid used → CanPass new (drop used piece)
+unfolding AssignsText
+type_can piece used found old mid far new can le assigns goes em ef =
+    can_go_on piece used old new can le (em ∙ ap (λ r. moved r.meter) (ef ∙ ap (λ r. farther r used) assigns.1))

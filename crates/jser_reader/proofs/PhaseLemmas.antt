@@ -27,7 +27,7 @@ use Rattle.jser_reader.specs.Fitting.{HasDescriptor}
 use Rattle.jser_reader.specs.Memory.{IsForgotten}
 use Rattle.jser_reader.specs.Handlers.{label_at}
 use Rattle.jser_reader.specs.Superclasses.{strict_in}
-use Rattle.jser_reader.specs.Walks.{size_of_phase, header_bytes, IsRightSoFar, StandsAt, open_in, cut_in, open_phase, cut_of, Counts}
+use Rattle.jser_reader.specs.Walks.{size_of_phase, IsRightSoFar, StandsAt, open_in, cut_in, open_phase, cut_of, Counts}
 use Rattle.jser_reader.proofs.WalkLemmas.{verdict_more}
 use Rattle.jser_reader.proofs.TextWalks.{IsTextAt}
 

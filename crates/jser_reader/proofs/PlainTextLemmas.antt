@@ -1,8 +1,7 @@
 -- The texts of a run: units of one byte each.
-use Rattle.std.proofs.Common.{◌≡◌, ℕ, suc, ◌+◌, ◌^◌, ◌<◌, ◌≤◌, Bool, true, false, nat_lt, List, [], ◌∷◌, ◌++◌, length, get_or, take, drop, refl, sym, ◌∙◌, ap, ap₂, subst, arith}
+use Rattle.std.proofs.Common.{◌≡◌, ℕ, suc, ◌+◌, ◌^◌, ◌<◌, ◌≤◌, List, [], ◌∷◌, ◌++◌, length, get_or, take, drop, refl, sym, ◌∙◌, ap, ap₂, subst, arith}
 use Rattle.std.specs.Prelude.{slice_index}
 use Rattle.std.proofs.Common.{get_or-take, get_or-drop}
-use Rattle.std.proofs.lemmas.Bool.Decides.{nat_tests}
 use Rattle.std.proofs.lemmas.List.{length-drop, length-take-le, take-append-drop}
 use Rattle.jser_prim.specs.Bytes.{big_bytes}
 use Rattle.jser_prim.specs.ModifiedUtf8.{IsUnits, modified_utf8}
@@ -11,14 +10,6 @@ use Rattle.jser_prim.proofs.TextLemmas.{units_cons}
 use Rattle.jser_prim.proofs.Units.{spelling_one}
 use Rattle.jser_reader.specs.Wholes.{HasText}
 use Rattle.jser_reader.proofs.PassLemmas.{joined_takes}
-
--- a run of such bytes, and one that begins where it ends
-pub plain_joined : (bytes : List ℕ) (a b c : ℕ) → IsAsciiBetween bytes a b → IsAsciiBetween bytes b c → IsAsciiBetween bytes a c
-plain_joined bytes a b c first second = λ k from to. go k from to (nat_lt k b) refl
-  where
-    go : (k : ℕ) → a ≤ k → k < c → (x : Bool) → nat_lt k b ≡ x → (1 ≤ slice_index bytes k) × (slice_index bytes k < 0x80)
-    go k from to true e = let before : k < b = grind (arith, nat_tests) in first k from before
-    go k from to false e = let after : b ≤ k = grind (arith, nat_tests) in second k after to
 
 -- such bytes are units, and spell themselves
 pub plain_units : (bytes : List ℕ) → ((k : ℕ) → k < length bytes → (1 ≤ get_or bytes k 0) × (get_or bytes k 0 < 0x80))

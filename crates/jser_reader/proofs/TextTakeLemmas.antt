@@ -1,6 +1,6 @@
 -- The bytes of a text, and of what stands in front of it, as they are taken: from what the functions tell to the walk
 -- over the bytes.
-use Rattle.std.proofs.Common.{◌≡◌, ℕ, ◌+◌, ◌^◌, ◌<◌, ◌≤◌, Bool, true, false, List, [], ◌++◌, length, Some, refl, sym, ◌∙◌, ap, subst, arith, length-append}
+use Rattle.std.proofs.Common.{◌≡◌, ℕ, ◌^◌, ◌<◌, ◌≤◌, Bool, true, false, List, [], ◌++◌, length, Some, refl, sym, ◌∙◌, ap, subst, arith}
 use Rattle.jser_prim.specs.Bytes.{big_bytes}
 use Rattle.jser_prim.specs.Texts.{Scan, HasAccepted}
 use Rattle.jser_grammar.specs.Parts.{text_bound}
@@ -17,13 +17,13 @@ use Rattle.jser_reader.specs.Reasons.{named}
 use Rattle.jser_reader.specs.Readers.{Seen, moment_of, text_rest, IsForm, IsInside, length_phase}
 use Rattle.jser_reader.specs.Handlers.{StopsWith, refusal, TellsSurely}
 use Rattle.jser_reader.specs.TextStates.{handle_reason, text_reason_of, text_reason, text_state_of, after_text, EndsText}
-use Rattle.jser_reader.specs.Walks.{Counts, Takes, Keeps, open_phase, cut_of}
-use Rattle.jser_reader.specs.Takes.{farther, TakesNumberFor, TakesNumber, CutsOff}
+use Rattle.jser_reader.specs.Walks.{Counts, Takes, open_phase, cut_of}
+use Rattle.jser_reader.specs.Takes.{farther, TakesNumberFor, TakesNumber}
 use Rattle.jser_reader.specs.TextTakes.{EndsEmpty, TellsLength, ProgressCases, TakesLength}
 use Rattle.jser_reader.proofs.EndLemmas.{tells_refusal, surely_from}
 use Rattle.jser_reader.proofs.NumberWalks.{number_in_4, text_handle_taken}
 use Rattle.jser_reader.proofs.TakeLemmas.{counts_bytes}
-use Rattle.jser_reader.proofs.TextSteps.{length_kept, empty_text_taken, text_opened, negative_taken}
+use Rattle.jser_reader.proofs.TextSteps.{empty_text_taken, text_opened, negative_taken}
 
 -- ---- the handle of a reference to a text
 

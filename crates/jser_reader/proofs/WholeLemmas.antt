@@ -1,5 +1,5 @@
 -- A value that is taken in one step: the machine that is after its tag is named here alone, and no code makes it.
-use Rattle.std.proofs.Common.{◌≡◌, ℕ, zero, suc, ◌+◌, ◌-◌, ◌^◌, ◌<◌, ◌≤◌, ◌↔◌, Bool, true, false, nat_lt, ◌&&◌, IsTrue, List, [], ◌∷◌, ◌++◌, length, get_or, take, drop, Option, Some, None, refl, sym, ◌∙◌, ap, ap₂, subst, arith}
+use Rattle.std.proofs.Common.{◌≡◌, ℕ, zero, suc, ◌+◌, ◌-◌, ◌^◌, ◌<◌, ◌≤◌, ◌↔◌, Bool, true, false, nat_lt, ◌&&◌, IsTrue, List, [], ◌∷◌, ◌++◌, length, get_or, take, drop, Some, refl, sym, ◌∙◌, ap, ap₂, subst, arith}
 use Rattle.std.specs.List.{list_all}
 use Rattle.std.proofs.lemmas.Bool.{lt-leb}
 use Rattle.std.proofs.lemmas.List.{length-drop, length-take-le, take-append-drop}
@@ -12,9 +12,7 @@ use Rattle.jser_grammar.specs.Parts.{IsBytes}
 use Rattle.jser_reading.specs.Labels.{reference_tag, string_tag, class_handle_at}
 use Rattle.jser_reading.specs.FieldBytes.{tag_byte}
 use Rattle.jser_verdict.specs.Gates.{Gate, IsGate}
-use Rattle.jser_verdict.specs.Reasons.{Reason as ToldReason}
 use Rattle.jser_verdict.specs.Verdicts.{class_handle_reason}
-use Rattle.jser_reading.specs.Goals.{State}
 use Rattle.jser_reader.specs.declared.frame.Owner.{Owner}
 use Rattle.jser_reader.specs.declared.frame.Owner.TheVariants as owner
 use Rattle.jser_reader.specs.declared.machine.take.taken.Taken.TheVariants as taken
@@ -404,7 +402,7 @@ begun_string r = record {
   name = r.name;
 }
 
-assigned_text : (r : Seen) → is_full r ≡ false → Assigns text_entry (Some (length r.table.entries)) r (added r text_entry)
+pub assigned_text : (r : Seen) → is_full r ≡ false → Assigns text_entry (Some (length r.table.entries)) r (added r text_entry)
 unfolding Assigns
 assigned_text r full = (refl, full, refl)
 

@@ -9,11 +9,7 @@ pub record CutField : Type 0 where
   pub phase : Phase
   pub kept : List ℕ
 
--- a number of two bytes, of four, of eight
-abbrev pub IsTwo : Phase → Type 0
-IsTwo phase.FieldCount = Unit {0}
-IsTwo _ = ⊥
-
+-- a number of four bytes
 abbrev pub IsFour : Phase → Type 0
 IsFour phase.BackHandle = Unit {0}
 IsFour phase.ClassHandle = Unit {0}
@@ -23,10 +19,6 @@ IsFour phase.InterfaceCount = Unit {0}
 IsFour phase.ArrayLength = Unit {0}
 IsFour phase.BlockLength4 = Unit {0}
 IsFour _ = ⊥
-
-abbrev pub IsEight : Phase → Type 0
-IsEight phase.Suid = Unit {0}
-IsEight _ = ⊥
 
 -- a field that has more bytes than one, so that a piece may end within it
 abbrev pub CanBeCut : Phase → Type 0

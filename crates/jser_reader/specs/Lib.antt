@@ -30,6 +30,7 @@ pub mod ClassNames
 pub mod Bounds
 pub mod States
 pub mod Streams
+pub mod Answers
 pub mod Items
 pub mod ItemsMade
 pub mod ItemsTold
@@ -38,3 +39,5 @@ pub mod FieldLaws
 pub mod Gates
 pub mod RawRuns
 pub mod RawsTold
+pub mod Places
+pub mod MachinePlaces

@@ -11,6 +11,7 @@ mod item;
 pub mod laws;
 mod machine;
 mod phase;
+mod place;
 mod reader;
 mod refusal;
 mod stack;
@@ -19,5 +20,6 @@ mod tally;
 
 pub use gate::{Answer, Gate, OpenGate};
 pub use item::{Item, Step, Totals, Whole};
+pub use place::Place;
 pub use reader::Reader;
 pub use refusal::{Reason, Refusal, Stop};

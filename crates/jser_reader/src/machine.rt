@@ -25,6 +25,7 @@ mod numbers;
 mod owners;
 mod parts;
 pub(crate) mod pass;
+mod places;
 mod raws;
 mod states;
 mod superclasses;

@@ -5,6 +5,7 @@ ghost use Rattle.jser_reader.specs.Bounds.{FramesAreBounded, AreAssigned, Memory
 ghost use Rattle.jser_reader.specs.ItemsMade.{MakesStep};
 ghost use Rattle.jser_reader.specs.ItemsTold.{StandsIn, TellsItems, TellsFields};
 ghost use Rattle.jser_reader.specs.States.{AreLimitsOf, IsWithin};
+ghost use Rattle.jser_reader.specs.Places.{PlaceTold};
 ghost use Rattle.jser_reader.specs.RawsTold.{RawsCases};
 ghost use Rattle.jser_reader.specs.WholesTold.{WholeCases};
 
@@ -15,8 +16,10 @@ use crate::machine::take::taken::Taken;
 use crate::machine::wholes::lent::Lent;
 use crate::machine::{Limits, Machine};
 use crate::phase::Phase;
+use crate::place::Place;
 use crate::refusal::Stop;
 use crate::tally::Tally;
+use jser_table::Table;
 use std::alloc::Global;
 use std::marker::Model;
 
@@ -261,5 +264,20 @@ impl<G: Gate> Reader<G> {
         ensures assigned { AreAssigned (G.told self.now.gate) result self.now.machine self.now.tally }
     {
         self.machine.handles()
+    }
+
+    /// What the field that is open or comes next is for.
+    #[tactic(auto, using(crate::proofs::GoalPlaces::place_told))]
+    pub fn place(&self) -> Place
+        ensures { PlaceTold result self.now.machine self.now.tally }
+    {
+        self.machine.open_place()
+    }
+
+    /// The handles of the epoch that are assigned before the field that is open or comes next, and their classes.
+    pub fn table(&self) -> &Table
+        ensures { result.now ≡ self.now.machine.table }
+    {
+        self.machine.table()
     }
 }

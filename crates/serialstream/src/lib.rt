@@ -13,5 +13,5 @@ pub use jser_grammar::wire::{
 };
 pub use jser_prim::{Failed, FromRead, Source};
 pub use jser_reader::{
-    Answer, Gate, Item, OpenGate, Reader, Reason, Refusal, Step, Stop, Totals, Whole,
+    Answer, Gate, Item, OpenGate, Place, Reader, Reason, Refusal, Step, Stop, Totals, Whole,
 };

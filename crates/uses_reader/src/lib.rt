@@ -4,6 +4,7 @@
 #![tactic(auto)]
 
 pub mod cuts;
+pub mod places;
 pub mod taking;
 #[cfg(test)]
 mod tests;

@@ -37,6 +37,7 @@ mod gates;
 mod memory;
 mod nests;
 mod pieces;
+mod places;
 mod rows;
 
 /// The counts of a stream.

@@ -99,16 +99,8 @@ impl Machine {
     }
 
     /// The type code of a field.
-    pub(super) fn type_code(&mut self, code: u8) -> bool
-        ensures { HasDescriptor self.old.frames → 0 < self.old.header.fields → Tells (code_reason self.old.header.seen code) (after_code self.old code) result self.old self.new }
-    {
-        self.type_code_in_line(code)
-    }
-
-    /// The same; what comes after it is found in line.
     #[tactic(auto, using(crate::proofs::FieldLemmas::wrong_code, crate::proofs::FieldLemmas::right_code))]
-    #[inline(always)]
-    pub(super) fn type_code_in_line(&mut self, code: u8) -> bool
+    pub(super) fn type_code(&mut self, code: u8) -> bool
         ensures { HasDescriptor self.old.frames → 0 < self.old.header.fields → Tells (code_reason self.old.header.seen code) (after_code self.old code) result self.old self.new }
     {
         match self.code_fault(code) {

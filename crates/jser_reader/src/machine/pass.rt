@@ -16,7 +16,6 @@ mod class_names;
 mod classes;
 mod descriptors;
 mod members;
-pub(crate) mod plain_text;
 
 impl Machine {
     /// Takes bytes of the field that is open, whichever it is.

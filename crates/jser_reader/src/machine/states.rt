@@ -148,6 +148,13 @@ impl Machine {
         self.table.count()
     }
 
+    /// The handles of the epoch.
+    pub(crate) fn table(&self) -> &Table
+        ensures { result.now ≡ self.now.table }
+    {
+        &self.table
+    }
+
     /// Whether the stream may end: the next field is a tag at the top.
     pub(crate) fn is_at_top(&self) -> bool
         ensures top { result ≡ true → self.now.phase ≡ Phase.Top }

@@ -40,17 +40,8 @@ impl Machine {
     }
 
     /// A tag in a text place.
-    pub(super) fn text_tag(&mut self, byte: u8) -> bool
-        ensures { IsForm self.old.text true → IsInside self.old.text self.old.frames
-            → Tells (text_tag_reason self.old byte) (after_text_tag self.old (tag_from byte)) result self.old self.new }
-    {
-        self.text_tag_in_line(byte)
-    }
-
-    /// The same; what comes after it is found in line.
     #[tactic(auto, using(crate::proofs::TextLemmas::no_text_tag, crate::proofs::TextLemmas::text_value_tag, crate::proofs::TextLemmas::text_block, crate::proofs::TextLemmas::text_other))]
-    #[inline(always)]
-    pub(super) fn text_tag_in_line(&mut self, byte: u8) -> bool
+    pub(super) fn text_tag(&mut self, byte: u8) -> bool
         ensures { IsForm self.old.text true → IsInside self.old.text self.old.frames
             → Tells (text_tag_reason self.old byte) (after_text_tag self.old (tag_from byte)) result self.old self.new }
     {
@@ -93,7 +84,7 @@ impl Machine {
     }
 
     /// A text place comes next, of the type of the field whose name has been read.
-    fn next_type(&mut self) -> bool
+    pub(super) fn next_type(&mut self) -> bool
         ensures next { IsNext Phase.TextTag self.old.owner self.old.elements self.old.header TextFor.FieldType self.old self.new }
         ensures result { result ≡ true }
     {

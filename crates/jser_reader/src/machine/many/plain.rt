@@ -6,10 +6,9 @@ ghost use Rattle.jser_reader.specs.Wholes.{HasPlace, HasNumber, HasText};
 
 use crate::machine::Machine;
 use crate::machine::many::counts::{Counts, Turn};
-use crate::machine::pass::plain_text::is_plain_between;
 use crate::machine::wholes::text_after;
 use jser_grammar::wire::BASE_WIRE_HANDLE;
-use jser_prim::{read_u16, read_u32};
+use jser_prim::{is_plain_between, read_u16, read_u32};
 
 /// The number in the four bytes after the byte at this place.
 #[tactic(auto, using(crate::proofs::ManyPlain::number_is))]

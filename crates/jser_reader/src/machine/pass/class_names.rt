@@ -5,11 +5,10 @@ ghost use Rattle.jser_reader.specs.ClassNames.{HasName, JudgesName};
 
 use crate::gate::Gate;
 use crate::machine::Machine;
-use crate::machine::pass::plain_text::is_plain_between;
 use crate::machine::take::text_bytes::add_units;
 use crate::phase::{Phase, TextFor};
 use crate::tally::Tally;
-use jser_prim::read_u16;
+use jser_prim::{is_plain_between, read_u16};
 
 /// How many bytes the name has whose length comes first, where all of them are there and each is a unit.
 #[inline(always)]

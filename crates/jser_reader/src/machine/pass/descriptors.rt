@@ -3,83 +3,15 @@
 ghost use Rattle.std.specs.Prelude.{◌≡◌, ◌+◌, ◌<◌, ◌^◌, length, Some};
 ghost use Rattle.jser_reader.specs.Passes.{Passes, HasPassed, CanPass, IsQuiet};
 ghost use Rattle.jser_reader.specs.Readers.{Seen};
-ghost use Rattle.jser_reader.specs.Takes.{TakesByte, TakesFrom, TakesFromFor};
+ghost use Rattle.jser_reader.specs.Takes.{TakesFromFor};
 
 use crate::gate::Gate;
 use crate::machine::Machine;
 use crate::machine::take::taken::Taken;
 use crate::phase::Phase;
 use crate::tally::Tally;
-use jser_grammar::wire::TC_REFERENCE;
 
 impl Machine {
-    /// Takes the type code of a field, which is counted and judged in line.
-    #[tactic(auto, using(crate::proofs::TakeLemmas::takes_type_code))]
-    #[inline(always)]
-    fn take_code_byte(&mut self, byte: u8) -> bool
-        requires phase { self.old.phase ≡ Phase.TypeCode }
-        requires room { self.old.meter.at + 1 < 2 ^ 64 }
-        ensures { TakesByte byte result self.old self.new }
-    {
-        self.at += 1;
-        self.type_code_in_line(byte)
-    }
-
-    /// Takes the tag of a text place, which is counted and judged in line.
-    #[tactic(auto, using(crate::proofs::TakeLemmas::takes_text_tag))]
-    #[inline(always)]
-    fn take_place_byte(&mut self, byte: u8) -> bool
-        requires phase { self.old.phase ≡ Phase.TextTag }
-        requires room { self.old.meter.at + 1 < 2 ^ 64 }
-        ensures { TakesByte byte result self.old self.new }
-    {
-        self.at += 1;
-        self.text_tag_in_line(byte)
-    }
-
-    /// Takes the type code of a field from a piece.
-    #[tactic(auto, using(crate::proofs::TakeLemmas::one_taken))]
-    #[inline(always)]
-    fn take_code(&mut self, piece: &[u8]) -> Taken
-        requires phase { self.old.phase ≡ Phase.TypeCode }
-        requires some { 0 < length piece.now }
-        requires room { self.old.meter.at + length piece.now < 2 ^ 64 }
-        ensures { TakesFrom result piece.now self.old self.new }
-    {
-        let goes_on = self.take_code_byte(piece[0]);
-        Taken::after(1, goes_on)
-    }
-
-    /// Takes the tag of a text place from a piece.
-    #[tactic(auto, using(crate::proofs::TakeLemmas::one_taken))]
-    #[inline(always)]
-    pub(crate) fn take_place(&mut self, piece: &[u8]) -> Taken
-        requires phase { self.old.phase ≡ Phase.TextTag }
-        requires some { 0 < length piece.now }
-        requires room { self.old.meter.at + length piece.now < 2 ^ 64 }
-        ensures { TakesFrom result piece.now self.old self.new }
-    {
-        let goes_on = if piece[0] == TC_REFERENCE {
-            self.take_place_byte(TC_REFERENCE)
-        } else {
-            self.take_text_tag(piece[0])
-        };
-        Taken::after(1, goes_on)
-    }
-
-    /// Takes the flags of a descriptor.
-    #[tactic(auto, using(crate::proofs::TakeLemmas::one_taken))]
-    #[inline(always)]
-    fn take_class_flags(&mut self, piece: &[u8]) -> Taken
-        requires phase { self.old.phase ≡ Phase.Flags }
-        requires some { 0 < length piece.now }
-        requires room { self.old.meter.at + length piece.now < 2 ^ 64 }
-        ensures { TakesFrom result piece.now self.old self.new }
-    {
-        let goes_on = self.take_flags(piece[0]);
-        Taken::after(1, goes_on)
-    }
-
     /// Takes bytes of the field of this phase, which comes next or is open. Where the caller names the phase of a field of
     /// a descriptor, its arm alone is left.
     #[inline(always)]
@@ -91,13 +23,10 @@ impl Machine {
         ensures { TakesFromFor (G.told gate.now) result piece.now self.old self.new }
     {
         match phase {
-            Phase::TypeCode => self.take_code(piece),
             Phase::Length2 => self.take_short_length(gate, piece),
             Phase::Text => self.take_text_in_line(gate, piece),
-            Phase::TextTag => self.take_place(piece),
-            Phase::TextHandle => self.take_four(piece),
             Phase::Suid => self.take_eight(piece),
-            Phase::Flags => self.take_class_flags(piece),
+            Phase::Flags => self.take_one(piece),
             Phase::FieldCount => self.take_two(piece),
             _ => self.take(gate, piece),
         }
@@ -173,32 +102,7 @@ impl Machine {
         self.go_on(gate, piece, flags, Phase::FieldCount)
     }
 
-    /// Takes the type code of a field of a descriptor, its name, and its type where that is a reference.
-    #[inline(always)]
-    fn pass_member<G: Gate>(&mut self, gate: &G, piece: &[u8]) -> Option<usize>
-        requires can { CanPass self.old piece.now }
-        requires some { 0 < length piece.now }
-        requires phase { self.old.phase ≡ Phase.TypeCode }
-        ensures passes { (tally : Tally) → Passes (G.told gate.now) piece.now result self.old tally self.new tally }
-        ensures progress { HasPassed piece.now result }
-    {
-        let Some(code) = self.pass_known(gate, piece, Phase::TypeCode) else {
-            return None;
-        };
-        let Some(length) = self.go_on(gate, piece, code, Phase::Length2) else {
-            return None;
-        };
-        let Some(name) = self.go_on(gate, piece, length, Phase::Text) else {
-            return None;
-        };
-        let Some(tag) = self.go_on(gate, piece, name, Phase::TextTag) else {
-            return None;
-        };
-        self.go_on(gate, piece, tag, Phase::TextHandle)
-    }
-
-    /// Takes fields of a descriptor, as many as are whole in the piece; where the next one is not, its type code alone, and
-    /// what mostly comes after it.
+    /// Takes fields of a descriptor, as many as are whole in the piece; where the next one is not, its type code alone.
     #[inline(always)]
     fn pass_fields<G: Gate>(&mut self, gate: &G, piece: &[u8]) -> Option<usize>
         requires can { CanPass self.old piece.now }
@@ -211,7 +115,7 @@ impl Machine {
         if used > 0 {
             return Some(used);
         }
-        self.pass_member(gate, piece)
+        self.pass_quiet(gate, piece)
     }
 
     /// Takes a field that is open, or comes next, with those that mostly come after it.

@@ -1,20 +1,20 @@
 //! Fields of a descriptor of which all bytes are in the piece: the type code, the name, and the type where that is a
-//! reference. Each is taken in one step, and as many as come one after another.
-ghost use Rattle.std.specs.Prelude.{◌≡◌, ◌+◌, ◌<◌, ◌≤◌, true, false, get_or, length, drop, IfSome, Some, None};
+//! reference, in one step; a type that is a new string in another. As many as come are taken one after another.
+ghost use Rattle.std.specs.Prelude.{◌≡◌, ◌+◌, ◌^◌, ◌<◌, ◌≤◌, true, false, get_or, length, drop, IfSome, Some, None};
 ghost use Rattle.jser_table.specs.Codes.{is_object_code};
 ghost use Rattle.jser_verdict.specs.Gates.{Gate as ToldGate};
 ghost use Rattle.jser_reader.specs.Passes.{Passes, CanPass};
+ghost use Rattle.jser_reader.specs.Takes.{farther};
 ghost use Rattle.jser_reader.specs.Wholes.{HasText};
 ghost use Rattle.jser_reader.specs.Members.{BeginsMember, HasType};
 
 use crate::machine::Machine;
 use crate::machine::fields::is_object_code;
-use crate::machine::pass::plain_text::is_plain_between;
 use crate::machine::wholes::number_after;
-use crate::phase::Phase;
+use crate::phase::{Phase, TextFor};
 use crate::tally::Tally;
-use jser_grammar::wire::{BASE_WIRE_HANDLE, TC_REFERENCE};
-use jser_prim::read_u16;
+use jser_grammar::wire::{BASE_WIRE_HANDLE, TC_REFERENCE, TC_STRING};
+use jser_prim::{is_plain_between, read_u16};
 use jser_table::Entry;
 
 /// How many bytes the name has whose length comes after a type code, where all of them are there and each is a unit.
@@ -87,8 +87,30 @@ impl Machine {
         Some(len + 3)
     }
 
-    /// Takes a field with this type code of an object or an array, whose name has so many bytes, where its type is a
-    /// reference that is whole in the piece; or does nothing.
+    /// Takes the type code of an object or an array and the name of its field, which has so many bytes; or does nothing.
+    #[inline(always)]
+    fn named_member(&mut self, piece: &[u8], code: u8, len: usize) -> Option<usize>
+        requires can { CanPass self.old piece.now }
+        requires phase { self.old.phase ≡ Phase.TypeCode }
+        requires code { code ≡ get_or piece.now 0 0 }
+        requires object { true ≡ is_object_code code }
+        requires name { HasText piece.now len }
+        ensures passes { IfSome result (λ used. (gate : ToldGate) (tally : Tally) → Passes gate piece.now (Some used) self.old tally self.new tally) }
+        ensures within { IfSome result (λ used. (0 < used) × (used ≤ length piece.now)) }
+        ensures can { IfSome result (λ used. CanPass self.new (drop used piece.now)) }
+        ensures nothing { result ≡ None → self.new ≡ self.old }
+    {
+        let _ = piece;
+        if !self.begin_member(code, true) {
+            return None;
+        }
+        self.at += len as u64 + 3;
+        self.next_type();
+        Some(len + 3)
+    }
+
+    /// Takes a field with this type code of an object or an array, whose name has so many bytes, with its type where that is
+    /// a reference that is whole in the piece; or does nothing.
     #[inline(always)]
     fn typed_member(&mut self, piece: &[u8], code: u8, len: usize) -> Option<usize>
         requires can { CanPass self.old piece.now }
@@ -103,7 +125,7 @@ impl Machine {
     {
         let (_, rest) = piece.split_at(len + 3);
         let Some(_) = self.type_here(rest) else {
-            return None;
+            return self.named_member(piece, code, len);
         };
         if !self.begin_member(code, true) {
             return None;
@@ -133,7 +155,41 @@ impl Machine {
         self.raw_member(piece, code, len)
     }
 
-    /// The same, where a field comes next.
+    /// So many bytes more were taken.
+    #[inline(always)]
+    fn go_farther(&mut self, size: u64)
+        requires { self.old.meter.at + size < 2 ^ 64 }
+        ensures { self.new ≡ farther self.old size }
+    {
+        self.at += size;
+    }
+
+    /// Takes the type of a field, where it is a new string that is whole in the piece, each byte of it a unit; or does
+    /// nothing.
+    #[inline(always)]
+    fn whole_type(&mut self, piece: &[u8]) -> Option<usize>
+        requires can { CanPass self.old piece.now }
+        requires phase { self.old.phase ≡ Phase.TextTag }
+        ensures passes { IfSome result (λ used. (gate : ToldGate) (tally : Tally) → Passes gate piece.now (Some used) self.old tally self.new tally) }
+        ensures within { IfSome result (λ used. (0 < used) × (used ≤ length piece.now)) }
+        ensures can { IfSome result (λ used. CanPass self.new (drop used piece.now)) }
+        ensures nothing { result ≡ None → self.new ≡ self.old }
+    {
+        let Some(len) = name_after(piece) else {
+            return None;
+        };
+        if piece[0] != TC_STRING || self.text != TextFor::FieldType {
+            return None;
+        }
+        if !self.assign_text() {
+            return None;
+        }
+        self.go_farther(len as u64 + 3);
+        self.fields_done();
+        Some(len + 3)
+    }
+
+    /// The same of what comes next: a field, or the type of one.
     #[inline(always)]
     fn next_member(&mut self, piece: &[u8]) -> Option<usize>
         requires can { CanPass self.old piece.now }
@@ -144,6 +200,7 @@ impl Machine {
     {
         match self.phase {
             Phase::TypeCode => self.whole_member(piece),
+            Phase::TextTag => self.whole_type(piece),
             _ => None,
         }
     }

@@ -11,7 +11,7 @@ use crate::phase::Phase;
 use jser_prim::{read_u16, read_u64};
 
 /// What came of the length of a text, after so many bytes of a piece.
-fn after_length(count: usize, progress: Progress) -> Taken
+pub(crate) fn after_length(count: usize, progress: Progress) -> Taken
     ensures { result ≡ by_progress count progress }
 {
     match progress {
@@ -39,25 +39,6 @@ impl Machine {
         after_length(2, progress)
     }
 
-    /// Takes the missing bytes of the length of a text in two bytes that was cut.
-    pub(crate) fn rest_of_short_length<G: Gate>(&mut self, gate: &G, piece: &[u8]) -> Taken
-        requires phase { self.old.phase ≡ Phase.Cut }
-        requires length { self.old.meter.cut_phase ≡ Phase.Length2 }
-        requires some { 0 < length piece.now }
-        requires room { self.old.meter.at + length piece.now < 2 ^ 64 }
-        ensures { TakesFromFor (G.told gate.now) result piece.now self.old self.new }
-    {
-        let missing = self.cut.missing();
-        if piece.len() < missing {
-            self.keep_more(piece);
-            return Taken::Open;
-        }
-        let (last, _) = piece.split_at(missing);
-        let n = self.cut.two(last);
-        let progress = self.take_length2(gate, n, missing as u64);
-        after_length(missing, progress)
-    }
-
     /// Takes the length of a text in eight bytes, which comes next, or as many of its bytes as there are.
     #[tactic(auto, using(crate::proofs::LengthLemmas::long_kept, crate::proofs::LengthLemmas::long_taken))]
     pub(crate) fn take_long_length<G: Gate>(&mut self, gate: &G, piece: &[u8]) -> Taken
@@ -73,24 +54,5 @@ impl Machine {
         let (number, _) = piece.split_at(8);
         let progress = self.take_length8(gate, read_u64(number), 8);
         after_length(8, progress)
-    }
-
-    /// Takes the missing bytes of the length of a text in eight bytes that was cut.
-    pub(crate) fn rest_of_long_length<G: Gate>(&mut self, gate: &G, piece: &[u8]) -> Taken
-        requires phase { self.old.phase ≡ Phase.Cut }
-        requires length { self.old.meter.cut_phase ≡ Phase.Length8 }
-        requires some { 0 < length piece.now }
-        requires room { self.old.meter.at + length piece.now < 2 ^ 64 }
-        ensures { TakesFromFor (G.told gate.now) result piece.now self.old self.new }
-    {
-        let missing = self.cut.missing();
-        if piece.len() < missing {
-            self.keep_more(piece);
-            return Taken::Open;
-        }
-        let (last, _) = piece.split_at(missing);
-        let n = self.cut.eight(last);
-        let progress = self.take_length8(gate, n, missing as u64);
-        after_length(missing, progress)
     }
 }

@@ -7,131 +7,25 @@ use crate::machine::take::taken::Taken;
 use crate::phase::Phase;
 
 impl Machine {
-    /// Takes a tag at the top of the stream.
-    #[tactic(auto, using(crate::proofs::TakeLemmas::takes_top))]
-    #[inline(always)]
-    pub(crate) fn take_top(&mut self, byte: u8) -> bool
-        requires phase { self.old.phase ≡ Phase.Top }
-        requires room { self.old.meter.at + 1 < 2 ^ 64 }
-        ensures { TakesByte byte result self.old self.new }
-    {
-        self.at += 1;
-        self.top(byte)
-    }
-
-    /// Takes a tag in an annotation.
-    #[tactic(auto, using(crate::proofs::TakeLemmas::takes_note))]
-    #[inline(always)]
-    pub(crate) fn take_note(&mut self, byte: u8) -> bool
-        requires phase { self.old.phase ≡ Phase.Note }
-        requires room { self.old.meter.at + 1 < 2 ^ 64 }
-        ensures { TakesByte byte result self.old self.new }
-    {
-        self.at += 1;
-        self.note(byte)
-    }
-
-    /// Takes a tag in a value place.
-    #[tactic(auto, using(crate::proofs::TakeLemmas::takes_value))]
-    #[inline(always)]
-    pub(crate) fn take_value(&mut self, byte: u8) -> bool
-        requires phase { self.old.phase ≡ Phase.Value }
-        requires room { self.old.meter.at + 1 < 2 ^ 64 }
-        ensures { TakesByte byte result self.old self.new }
-    {
-        self.at += 1;
-        self.value(byte)
-    }
-
-    /// Takes a tag in a class place.
-    #[tactic(auto, using(crate::proofs::TakeLemmas::takes_class_tag))]
-    #[inline(always)]
-    pub(crate) fn take_class_tag(&mut self, byte: u8) -> bool
-        requires phase { self.old.phase ≡ Phase.ClassTag }
-        requires room { self.old.meter.at + 1 < 2 ^ 64 }
-        ensures { TakesByte byte result self.old self.new }
-    {
-        self.at += 1;
-        self.class_tag(byte)
-    }
-
-    /// Takes a tag in a superclass place.
-    #[tactic(auto, using(crate::proofs::TakeLemmas::takes_super_tag))]
-    pub(crate) fn take_super_tag(&mut self, byte: u8) -> bool
-        requires phase { self.old.phase ≡ Phase.SuperTag }
-        requires room { self.old.meter.at + 1 < 2 ^ 64 }
-        ensures { TakesByte byte result self.old self.new }
-    {
-        self.at += 1;
-        self.super_tag(byte)
-    }
-
-    /// Takes the length of a short block.
-    #[tactic(auto, using(crate::proofs::TakeLemmas::takes_block_length))]
-    #[inline(always)]
-    pub(crate) fn take_block_length(&mut self, byte: u8) -> bool
-        requires phase { self.old.phase ≡ Phase.BlockLength1 }
-        requires room { self.old.meter.at + 1 < 2 ^ 64 }
-        ensures { TakesByte byte result self.old self.new }
-    {
-        self.at += 1;
-        self.block_length(u32::from(byte))
-    }
-
-    /// Takes a tag in a text place.
-    #[tactic(auto, using(crate::proofs::TakeLemmas::takes_text_tag))]
-    #[inline(always)]
-    pub(crate) fn take_text_tag(&mut self, byte: u8) -> bool
-        requires phase { self.old.phase ≡ Phase.TextTag }
-        requires room { self.old.meter.at + 1 < 2 ^ 64 }
-        ensures { TakesByte byte result self.old self.new }
-    {
-        self.at += 1;
-        self.text_tag(byte)
-    }
-
-    /// Takes the flags of a descriptor.
-    #[tactic(auto, using(crate::proofs::TakeLemmas::takes_flags))]
-    #[inline(always)]
-    pub(crate) fn take_flags(&mut self, byte: u8) -> bool
-        requires phase { self.old.phase ≡ Phase.Flags }
-        requires room { self.old.meter.at + 1 < 2 ^ 64 }
-        ensures { TakesByte byte result self.old self.new }
-    {
-        self.at += 1;
-        self.flags(byte)
-    }
-
-    /// Takes the type code of a field.
-    #[tactic(auto, using(crate::proofs::TakeLemmas::takes_type_code))]
-    #[inline(always)]
-    pub(crate) fn take_type_code(&mut self, byte: u8) -> bool
-        requires phase { self.old.phase ≡ Phase.TypeCode }
-        requires room { self.old.meter.at + 1 < 2 ^ 64 }
-        ensures { TakesByte byte result self.old self.new }
-    {
-        self.at += 1;
-        self.type_code(byte)
-    }
-
     /// Takes the one byte of the field that comes next.
-    #[tactic(auto, using(crate::proofs::TakeLemmas::no_other_one))]
+    #[tactic(auto, using(crate::proofs::TakeLemmas::no_other_one, crate::proofs::TakeLemmas::takes_top, crate::proofs::TakeLemmas::takes_note, crate::proofs::TakeLemmas::takes_value, crate::proofs::TakeLemmas::takes_class_tag, crate::proofs::TakeLemmas::takes_super_tag, crate::proofs::TakeLemmas::takes_text_tag, crate::proofs::TakeLemmas::takes_flags, crate::proofs::TakeLemmas::takes_type_code, crate::proofs::TakeLemmas::takes_block_length))]
     #[inline(always)]
     fn end_one(&mut self, byte: u8) -> bool
         requires one { IsOne self.old.phase }
         requires room { self.old.meter.at + 1 < 2 ^ 64 }
         ensures { TakesByte byte result self.old self.new }
     {
+        self.at += 1;
         match self.phase {
-            Phase::Top => self.take_top(byte),
-            Phase::Note => self.take_note(byte),
-            Phase::Value => self.take_value(byte),
-            Phase::ClassTag => self.take_class_tag(byte),
-            Phase::SuperTag => self.take_super_tag(byte),
-            Phase::TextTag => self.take_text_tag(byte),
-            Phase::Flags => self.take_flags(byte),
-            Phase::TypeCode => self.take_type_code(byte),
-            Phase::BlockLength1 => self.take_block_length(byte),
+            Phase::Top => self.top(byte),
+            Phase::Note => self.note(byte),
+            Phase::Value => self.value(byte),
+            Phase::ClassTag => self.class_tag(byte),
+            Phase::SuperTag => self.super_tag(byte),
+            Phase::TextTag => self.text_tag(byte),
+            Phase::Flags => self.flags(byte),
+            Phase::TypeCode => self.type_code(byte),
+            Phase::BlockLength1 => self.block_length(u32::from(byte)),
             _ => unreachable!(),
         }
     }

@@ -1,8 +1,6 @@
-//! The numbers in front of a text's bytes, as they are taken, whole in a piece or the last bytes of one that was cut:
-//! the length of a text, and the handle of a reference to one.
+//! The length in front of a text's bytes, as it is taken, whole in a piece or the last bytes of one that was cut.
 ghost use Rattle.std.specs.Prelude.{◌≡◌, ◌+◌, ◌<◌, ◌^◌, true, false};
 ghost use Rattle.jser_reader.specs.Walks.{open_phase};
-ghost use Rattle.jser_reader.specs.Takes.{TakesNumber};
 ghost use Rattle.jser_reader.specs.TextTakes.{TellsLength, TakesLength};
 
 use crate::gate::Gate;
@@ -23,18 +21,6 @@ pub(crate) enum Progress {
 }
 
 impl Machine {
-    /// Takes the last `count` bytes of the handle of a reference in a text place.
-    #[tactic(auto, using(crate::proofs::TextTakeLemmas::takes_text_handle))]
-    pub(crate) fn take_text_handle(&mut self, n: u32, count: u64) -> bool
-        requires phase { open_phase self.old ≡ Phase.TextHandle }
-        requires some { 0 < count }
-        requires room { self.old.meter.at + count < 2 ^ 64 }
-        ensures { TakesNumber 4 n count result self.old self.new }
-    {
-        self.at += count;
-        self.text_handle(n)
-    }
-
     /// The length of a text, whose bytes have been counted: so many bytes come, if there are any.
     #[tactic(auto, using(crate::proofs::TextTakeLemmas::opens_bytes, crate::proofs::TextTakeLemmas::ends_empty, crate::proofs::TextTakeLemmas::stops_empty))]
     fn text_length<G: Gate>(&mut self, gate: &G, n: u64) -> Progress

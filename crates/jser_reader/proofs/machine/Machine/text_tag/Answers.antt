@@ -1,7 +1,7 @@
 use Rattle.std.proofs.Common.{rules, ◌≡◌}
 use Rattle.jser_reader.specs.Tags.{block_byte}
 use Rattle.jser_reader.proofs.TextLemmas.{text_block}
-use Rattle.jser_reader.proofs.machine.Machine.text_tag_in_line.Goals as goal
+use Rattle.jser_reader.proofs.machine.Machine.text_tag.Goals as goal
 
 pub returns-in-Some-Block : goal.returns-in-Some-Block
 returns-in-Some-Block c =
