@@ -21,55 +21,13 @@ use Rattle.jser_filter.specs.Filters.{FilterView}
 use Rattle.jser_check.specs.declared.gate.Options.{Options}
 use Rattle.jser_check.specs.Admitted.{AreAdmitted, FilterWith, gate_of_filter}
 use Rattle.jser_check.specs.Feeding.{Fed, StopsIn, EndTells}
-use Rattle.jser_check.specs.Answers.{Reports, CarriesFirst, Refuses, IfRefused, FrontRefused, IsRightOf, PassesWith, Tells}
+use Rattle.jser_reader.specs.Answers.{IfRefused, FrontRefused, IsRightOf, PassesWith, Tells}
+use Rattle.jser_check.specs.Answers.{Reports, Refuses}
+use Rattle.jser_reader.proofs.RefusalLemmas.{refused_whole, front_refused}
 use Rattle.jser_check.proofs.SpelledBytes.{stream_bytes}
 use Rattle.jser_check.proofs.AdmittedLemmas.{admits_exactly}
 
--- ---- Truncated
-
-only_truncated : (r : ToldReason) → named r ≡ reason.Truncated → r ≡ truncated
-only_truncated bytes_exceeded e = absurd (cc)
-only_truncated bad_header e = absurd (cc)
-only_truncated bad_tag e = absurd (cc)
-only_truncated exception_tag e = absurd (cc)
-only_truncated reset_inside e = absurd (cc)
-only_truncated bad_text e = absurd (cc)
-only_truncated negative_length e = absurd (cc)
-only_truncated bad_type_code e = absurd (cc)
-only_truncated field_order e = absurd (cc)
-only_truncated bad_flags e = absurd (cc)
-only_truncated null_class e = absurd (cc)
-only_truncated no_such_handle e = absurd (cc)
-only_truncated wrong_kind e = absurd (cc)
-only_truncated open_descriptor e = absurd (cc)
-only_truncated bad_array_name e = absurd (cc)
-only_truncated wrong_class e = absurd (cc)
-only_truncated external_raw e = absurd (cc)
-only_truncated not_serializable e = absurd (cc)
-only_truncated class_rejected e = absurd (cc)
-only_truncated class_unmatched e = absurd (cc)
-only_truncated depth_exceeded e = absurd (cc)
-only_truncated refs_exceeded e = absurd (cc)
-only_truncated array_exceeded e = absurd (cc)
-only_truncated truncated e = refl
-only_truncated handle_space e = absurd (cc)
-
-pub refused_whole : (gate : Gate) (bytes : List ℕ) (refusal : Refusal) → AreRefused gate bytes refusal → refusal.reason ≢ reason.Truncated
-refused_whole gate bytes refusal r = λ e. r.not_truncated (only_truncated r.reason (sym r.is_named ∙ e))
-
 -- ---- under any gate
-
-take_front : (xs ys : List ℕ) → take (length xs) (xs ++ ys) ≡ xs
-take_front [] ys = refl
-take_front (x ∷ xs) ys = ap (λ zs. x ∷ zs) (take_front xs ys)
-
-pub front_refused : (gate : Gate) (front rest bytes : List ℕ) (refusal : Refusal) → bytes ≡ front ++ rest → AreRefused gate front refusal
-    → FrontRefused gate bytes refusal
-front_refused gate front rest bytes refusal split r =
-    let n : length bytes ≡ length front + length rest = ap length split ∙ length-append front rest in
-    let all = r.all in
-    let e : take refusal.to_byte bytes ≡ front = ap (λ k. take k bytes) all ∙ ap (take (length front)) split ∙ take_front front rest in
-    record { within = omega arith; refused = subst (λ xs. AreRefused gate xs refusal) (sym e) r }
 
 pub stop_tells : {G : Type 0} (told : G → Gate) (gate : G) (old new : Reading G) (bytes : List ℕ) (why : Stop) → old.gate ≡ gate
     → StandsFor (told gate) [] old.machine old.tally → StopsIn told old new bytes why → Tells (told gate) bytes (Err why)
@@ -144,20 +102,6 @@ pub right_refuses : (filter : FilterView) (options : Options) (bytes : List ℕ)
 right_refuses filter options bytes refusal (inl f) = front_refuses filter options bytes refusal f
 right_refuses filter options bytes refusal (inr t) = cut_refuses filter options bytes refusal t
 
-pub right_first : (gate : Gate) (bytes : List ℕ) (refusal : Refusal) → IsBytes bytes → IsRightOf gate bytes refusal → CarriesFirst gate bytes refusal
-right_first gate bytes refusal h (inl f) =
-    let e = take-append-drop refusal.to_byte bytes in
-    let after : IsBytes (drop refusal.to_byte bytes) =
-    bytes_right (take refusal.to_byte bytes) (drop refusal.to_byte bytes) (subst IsBytes (sym e) h) in
-    record {
-      reason = f.refused.reason;
-      is_named = f.refused.is_named;
-      is_first =
-          subst (λ xs. IsFirstFault gate xs refusal.from_byte refusal.to_byte f.refused.reason) e
-          (f.refused.is_first (drop refusal.to_byte bytes) after);
-    }
-right_first gate bytes refusal h (inr t) = record { reason = truncated; is_named = t.is_named; is_first = t.is_first }
-
 pub tells_accepted : (filter : FilterView) (options : Options) (bytes : List ℕ) (result : Result Totals Stop) → Tells (gate_of_filter filter options) bytes result
     → IfOk result (Reports filter options bytes)
 tells_accepted filter options bytes (Ok totals) t = reports filter options bytes totals t
@@ -169,10 +113,3 @@ tells_refused filter options bytes (Ok totals) t = tt
 tells_refused filter options bytes (Err (stop.Refused refusal)) t = right_refuses filter options bytes refusal t
 tells_refused filter options bytes (Err stop.OutOfMemory) t = tt
 tells_refused filter options bytes (Err stop.Spent) t = t
-
-pub tells_first : (gate : Gate) (bytes : List ℕ) (result : Result Totals Stop) → IsBytes bytes → Tells gate bytes result
-    → IfErr result (IfRefused (CarriesFirst gate bytes))
-tells_first gate bytes (Ok totals) h t = tt
-tells_first gate bytes (Err (stop.Refused refusal)) h t = right_first gate bytes refusal h t
-tells_first gate bytes (Err stop.OutOfMemory) h t = tt
-tells_first gate bytes (Err stop.Spent) h t = t

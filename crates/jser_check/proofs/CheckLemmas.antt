@@ -14,10 +14,12 @@ use Rattle.jser_reader.specs.ReaderStates.{Reading, StandsFor, HasRefused, IsSpe
 use Rattle.jser_filter.specs.Filters.{FilterView}
 use Rattle.jser_check.specs.declared.gate.Options.{Options}
 use Rattle.jser_check.specs.Admitted.{FilterWith, gate_of_filter}
-use Rattle.jser_check.specs.Answers.{DecideNothing, IfRefused, FrontRefused, Tells}
+use Rattle.jser_reader.specs.Answers.{FrontRefused, Tells}
+use Rattle.jser_check.specs.Answers.{DecideNothing, IfRefused}
 use Rattle.jser_check.specs.Feeding.{Fed, RefusesIn, StopsIn, FeedTells, HasEnded, Ends, EndTells}
 use Rattle.jser_check.specs.Checks.{Checking, gate_in, HasTaken, DecidesIn, IsCut}
-use Rattle.jser_check.proofs.AnswerLemmas.{front_refused, refused_whole, right_refuses, right_first}
+use Rattle.jser_reader.proofs.RefusalLemmas.{front_refused, refused_whole, right_first}
+use Rattle.jser_check.proofs.AnswerLemmas.{right_refuses}
 use Rattle.jser_check.proofs.ReaderLemmas.{stands_undecided}
 
 abbrev pub told : FilterWith → Gate

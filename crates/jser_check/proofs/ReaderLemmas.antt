@@ -25,10 +25,12 @@ use Rattle.jser_check.specs.declared.gate.Options.{Options}
 use Rattle.jser_grammar.specs.Caps.{most_bytes}
 use Rattle.jser_check.specs.Admitted.{FilterWith, gate_of_filter}
 use Rattle.jser_check.specs.Feeding.{RefusesIn, StopCases, EndTells}
-use Rattle.jser_check.specs.Answers.{Reports, CarriesFirst, Refuses, DecideNothing, IfRefused, IsRightOf, Tells}
+use Rattle.jser_reader.specs.Answers.{IsRightOf, Tells}
+use Rattle.jser_check.specs.Answers.{Reports, CarriesFirst, Refuses, DecideNothing, IfRefused}
 use Rattle.jser_check.specs.Sources.{read_bytes, TakesAtMost, Taken, Stopped, TakenAll, ReadsTell}
 use Rattle.jser_check.specs.SourceAnswers.{IfFaultRefused, Undecided, TakesFew, SourceTells}
-use Rattle.jser_check.proofs.AnswerLemmas.{front_refused, finish_tells, reports, right_refuses, right_first}
+use Rattle.jser_reader.proofs.RefusalLemmas.{front_refused, right_first}
+use Rattle.jser_check.proofs.AnswerLemmas.{finish_tells, reports, right_refuses}
 use Rattle.jser_check.proofs.SourceLemmas.{taken_stands}
 
 -- ---- the reader stopped

@@ -15,6 +15,7 @@ use Rattle.jser_reader.specs.declared.Totals.{Totals}
 use Rattle.jser_reader.specs.Reasons.{named}
 use Rattle.jser_reader.specs.Tallies.{AreTotals}
 use Rattle.jser_reader.specs.Streams.{AreRefused, AreTruncated}
+pub use Rattle.jser_reader.specs.Answers.{CarriesFirst, IfRefused}
 use Rattle.jser_filter.specs.Filters.{FilterView}
 use Rattle.jser_check.specs.declared.gate.Options.{Options}
 use Rattle.jser_check.specs.Admitted.{IsAdmitted, AreAdmitted, gate_of_filter}
@@ -22,12 +23,6 @@ use Rattle.jser_check.specs.Admitted.{IsAdmitted, AreAdmitted, gate_of_filter}
 -- some list is spelled by the bytes and admitted, and the report has its counts
 abbrev pub Reports : FilterView → Options → List ℕ → Totals → Type 0
 Reports filter options bytes report = (list : ContentTrees) × IsAdmitted filter options bytes list × AreTotals bytes list report
-
--- the refusal names the first fault of the bytes
-pub record CarriesFirst (gate : Gate) (bytes : List ℕ) (refusal : Refusal) : Type 0 where
-  pub reason : ToldReason
-  pub is_named : refusal.reason ≡ named reason
-  pub is_first : IsFirstFault gate bytes refusal.from_byte refusal.to_byte reason
 
 -- the bytes decide no refusal: they hold no fault but that they end
 abbrev pub DecideNothing : Gate → List ℕ → Type 0
@@ -42,29 +37,3 @@ pub record Refuses (filter : FilterView) (options : Options) (bytes : List ℕ) 
   pub cut : refusal.reason ≡ reason.Truncated → AreTruncated (gate_of_filter filter options) bytes refusal
   pub ordered : refusal.from_byte ≤ refusal.to_byte
   pub within : refusal.to_byte ≤ length bytes
-
--- what holds of the refusal, where that is why a check stopped; it is never spent
-abbrev pub IfRefused : (Refusal → Type 0) → Stop → Type 0
-IfRefused P (stop.Refused refusal) = P refusal
-IfRefused P stop.OutOfMemory = Unit {0}
-IfRefused P stop.Spent = ⊥
-
--- Under any gate: some bytes of the front are refused, or all of them end too early.
-
-pub record FrontRefused (gate : Gate) (bytes : List ℕ) (refusal : Refusal) : Type 0 where
-  pub within : refusal.to_byte ≤ length bytes
-  pub refused : AreRefused gate (take refusal.to_byte bytes) refusal
-
-abbrev pub IsRightOf : Gate → List ℕ → Refusal → Type 0
-IsRightOf gate bytes refusal = FrontRefused gate bytes refusal ⊎ AreTruncated gate bytes refusal
-
--- some list makes the bytes a stream which passes, and these are its counts
-abbrev pub PassesWith : Gate → List ℕ → Totals → Type 0
-PassesWith gate bytes totals = (list : ContentTrees) × Passes gate bytes list × AreTotals bytes list totals
-
--- what a check answers of bytes under a gate: that some list makes them a stream which passes, or a refusal
-abbrev pub Tells : Gate → List ℕ → Result Totals Stop → Type 0
-Tells gate bytes (Ok totals) = PassesWith gate bytes totals
-Tells gate bytes (Err (stop.Refused refusal)) = IsRightOf gate bytes refusal
-Tells gate bytes (Err stop.OutOfMemory) = Unit {0}
-Tells gate bytes (Err stop.Spent) = ⊥

@@ -10,7 +10,7 @@ use Rattle.jser_reader.specs.declared.tally.Tally.{Tally}
 use Rattle.jser_reader.specs.Readers.{Seen}
 use Rattle.jser_reader.specs.ReaderStates.{Reading, StandsFor, HasRefused, IsSpent}
 use Rattle.jser_reader.specs.Streams.{AreRefused}
-use Rattle.jser_check.specs.Answers.{Tells}
+use Rattle.jser_reader.specs.Answers.{Tells}
 
 -- it took the front of these bytes, up to the rest, and has not stopped
 pub record Fed {G : Type 0} (told : G → Gate) (old new : Reading G) (bytes rest : List ℕ) : Type 0 where

@@ -9,7 +9,8 @@ use Rattle.jser_reader.specs.declared.Stop.TheVariants as stop
 use Rattle.jser_reader.specs.declared.Totals.{Totals}
 use Rattle.jser_check.specs.declared.answer.CheckFault.{CheckFault}
 use Rattle.jser_check.specs.declared.answer.CheckFault.TheVariants as fault
-use Rattle.jser_check.specs.Answers.{IfRefused, DecideNothing, IsRightOf, PassesWith}
+use Rattle.jser_reader.specs.Answers.{IsRightOf, PassesWith}
+use Rattle.jser_check.specs.Answers.{IfRefused, DecideNothing}
 use Rattle.jser_check.specs.Sources.{read_bytes, TakesAtMost}
 
 -- what holds of the refusal, where that is the fault; it is never that the reader was spent

@@ -1,7 +1,8 @@
 //! The check of a slice: the check in pieces, of one piece.
 ghost use Rattle.std.specs.Prelude.{IfOk, IfErr};
 ghost use Rattle.jser_check.specs.Admitted.{gate_of_filter};
-ghost use Rattle.jser_check.specs.Answers.{IfRefused, Reports, Refuses, CarriesFirst, Tells};
+ghost use Rattle.jser_reader.specs.Answers.{Tells};
+ghost use Rattle.jser_check.specs.Answers.{IfRefused, Reports, Refuses, CarriesFirst};
 
 use crate::check::Check;
 use crate::gate::{FilterGate, Options};

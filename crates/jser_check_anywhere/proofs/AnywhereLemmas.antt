@@ -25,7 +25,8 @@ use Rattle.jser_check.specs.Checks.{DecidesIn}
 use Rattle.jser_check.specs.Feeding.{FeedTells as ReaderTells, Ends}
 use Rattle.jser_check.proofs.FeedLemmas.{feed_tells, finish_ends}
 use Rattle.jser_check.proofs.CheckLemmas.{told, feed_takes, feed_undecided, feed_refused, end_of, end_bytes}
-use Rattle.jser_check.proofs.AnswerLemmas.{reports, right_refuses, right_first}
+use Rattle.jser_reader.proofs.RefusalLemmas.{right_first}
+use Rattle.jser_check.proofs.AnswerLemmas.{reports, right_refuses}
 use Rattle.jser_check.proofs.ReaderLemmas.{stands_undecided}
 use Rattle.jser_anywhere.specs.declared.Hidden.{Hidden}
 use Rattle.jser_anywhere.specs.Standing.{StandsAt, HiddenAt, NotAfter, AllPass, IsFirstHidden}

@@ -17,10 +17,11 @@ use Rattle.jser_reader.specs.declared.Stop.TheVariants as stop
 use Rattle.jser_reader.specs.declared.Totals.{Totals}
 use Rattle.jser_check.specs.declared.Options.{Options}
 use Rattle.jser_check.specs.Admitted.{FilterWith, gate_of_filter}
-use Rattle.jser_check.specs.Answers.{IsRightOf}
+use Rattle.jser_reader.specs.Answers.{IsRightOf}
 use Rattle.jser_check.specs.Checks.{DecidesIn}
 use Rattle.jser_check.specs.Sources.{TakesAtMost, read_bytes}
-use Rattle.jser_check.proofs.AnswerLemmas.{front_refused, right_refuses, right_first}
+use Rattle.jser_reader.proofs.RefusalLemmas.{front_refused, right_first}
+use Rattle.jser_check.proofs.AnswerLemmas.{right_refuses}
 use Rattle.jser_anywhere.specs.Standing.{HiddenAt, IsFirstHidden}
 use Rattle.jser_anywhere.proofs.ScanLemmas.{front_of, hidden_shorter, hidden_within, first_longer}
 use Rattle.jser_check_anywhere.specs.Passing.{passes_name}

@@ -16,7 +16,8 @@ use Rattle.jser_check.specs.Checks.{Checking, HasTaken, DecidesIn}
 use Rattle.jser_check.specs.Feeding.{FeedTells, Ends}
 use Rattle.jser_check.proofs.FeedLemmas.{feed_tells, finish_ends}
 use Rattle.jser_check.proofs.CheckLemmas.{told, feed_takes, feed_refused, end_of, end_bytes}
-use Rattle.jser_check.proofs.AnswerLemmas.{reports, right_refuses, right_first}
+use Rattle.jser_reader.proofs.RefusalLemmas.{right_first}
+use Rattle.jser_check.proofs.AnswerLemmas.{reports, right_refuses}
 use Rattle.jser_anywhere.specs.declared.Hidden.{Hidden}
 use Rattle.jser_anywhere.specs.Steps.{Scanning}
 use Rattle.jser_anywhere.specs.Scans.{TakesBytes}

@@ -1,6 +1,6 @@
 -- The units of strings, kept one text after another.
 use Rattle.std.proofs.Common.{◌≡◌, ℕ, zero, suc, ◌+◌, ◌<◌, ◌≤◌, Bool, true, false, List, [], ◌∷◌, ◌++◌, length, take, drop, slice_get, slice_index_or, Some, None, refl, sym, ◌∙◌, ap, ap₂, arith, min, ◌⊎◌, inl, inr, length-append, length-drop, append-nil}
-use Rattle.std.proofs.lemmas.List.{take-append-le, drop-append-le}
+use Rattle.std.proofs.lemmas.List.{take-append-le, drop-append-le, take_all}
 use Rattle.std.proofs.Math.Seq.{take-add, drop-append_seam}
 use Rattle.std.specs.Prelude.{nat_lt}
 use Rattle.std.proofs.lemmas.Bool.Decides.{nat_tests}
@@ -9,7 +9,7 @@ use Rattle.jser_index.specs.declared.spot.Spot.{Spot}
 use Rattle.jser_index.specs.declared.spot.Spot.TheVariants as spot
 use Rattle.jser_index.specs.Decoding.{PutsNarrow}
 use Rattle.jser_index.specs.Keeping.{Kept, KeepsFronts, PutsUnits, AddsNarrow, Extends, IsKeptAt, HasTextAt, IsIn, IsNext, units_at, text_or_none}
-use Rattle.jser_index.proofs.DecodeLemmas.{narrow_units, take_whole}
+use Rattle.jser_index.proofs.DecodeLemmas.{narrow_units}
 
 pub narrow_added : (bytes now old made new : List ℕ) (used : ℕ) (narrow : Bool) → now ≡ take used old → used ≤ length old → KeepsFronts old made
     → PutsNarrow bytes used narrow made new → narrow ≡ true
@@ -45,7 +45,7 @@ kept_near near new units (spot.Near start len) old now next is =
       within = omega (arith, next.0, next.1);
       is =
           ap₂ (λ k xs. take len (drop k xs)) next.0 is ∙ ap (take len) (drop-append_seam near units)
-          ∙ take_whole units len (omega (arith, next.1));
+          ∙ take_all len units (omega (arith, next.1));
     }
 kept_near near new units (spot.Far number) old now next is = absurd next
 
@@ -103,7 +103,7 @@ drop_most n xs = elim (most n (length xs) (nat_lt n (length xs)) refl) [
 pub take_most : (n : ℕ) (xs : List ℕ) → take (min n (length xs)) xs ≡ take n xs
 take_most n xs = elim (most n (length xs) (nat_lt n (length xs)) refl) [
   | inl e ↦ ap (λ k. take k xs) e
-  | inr e ↦ ap (λ k. take k xs) e.0 ∙ take_whole xs (length xs) (omega arith) ∙ sym (take_whole xs n e.1)
+  | inr e ↦ ap (λ k. take k xs) e.0 ∙ take_all (length xs) xs (omega arith) ∙ sym (take_all n xs e.1)
 ]
 
 -- what was kept at a spot stays there

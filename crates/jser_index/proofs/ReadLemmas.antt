@@ -27,7 +27,8 @@ use Rattle.jser_reader.specs.Streams.{AreRefused, AreTruncated}
 use Rattle.jser_reader.specs.ItemsTold.{StandsIn, TellsFields}
 use Rattle.jser_index.specs.Surveying.{IsAt}
 use Rattle.jser_index.specs.Along.{Ends, IsLength, Where, GoesAlong}
-use Rattle.jser_index.specs.Reading.{SurveysAlong, IsOfList, FrontRefused, Walks, Surveys}
+use Rattle.jser_reader.proofs.RefusalLemmas.{front_refused}
+use Rattle.jser_index.specs.Reading.{SurveysAlong, IsOfList, Walks, Surveys}
 use Rattle.jser_index.proofs.TurnLemmas.{stands_for, whole, begins, joined_one, along_with, Does}
 
 -- ---- refusals
@@ -36,23 +37,12 @@ pub memory_out : (bytes : List ℕ) (survey : Finding) → Walks bytes survey (E
 unfolding Walks
 memory_out bytes survey = tt
 
-take_front : (xs ys : List ℕ) → take (length xs) (xs ++ ys) ≡ xs
-take_front [] ys = refl
-take_front (x ∷ xs) ys = ap (λ zs. x ∷ zs) (take_front xs ys)
-
-front_refused : (front rest bytes : List ℕ) (refusal : Refusal) → bytes ≡ front ++ rest → AreRefused open_gate front refusal → FrontRefused bytes refusal
-front_refused front rest bytes refusal split r =
-    let n : length bytes ≡ length front + length rest = ap length split ∙ length-append front rest in
-    let all = r.all in
-    let e : take refusal.to_byte bytes ≡ front = ap (λ k. take k bytes) all ∙ ap (take (length front)) split ∙ take_front front rest in
-    record { within = omega arith; refused = subst (λ xs. AreRefused open_gate xs refusal) (sym e) r }
-
 pub next_stops : (bytes rest : List ℕ) (why : Stop) (r : Seen) (tally : Tally) (new : Seen) (after : Tally) (survey : Finding)
     → SurveysAlong bytes rest r tally survey → NextTells open_gate rest (Err why) r tally new after → (last : Finding) → Walks bytes last (Err why)
 unfolding NextTells Walks
 next_stops bytes rest (stop.Refused refusal) r tally new after survey h t last =
     let x = t (joined h.front ++ h.cut) (stands_for open_gate h.front h.cut r tally h.stands) in
-    inl (front_refused ((joined h.front ++ h.cut) ++ take x.0 rest) (drop x.0 rest) bytes refusal
+    inl (front_refused open_gate ((joined h.front ++ h.cut) ++ take x.0 rest) (drop x.0 rest) bytes refusal
     (h.split ∙ ap (λ xs. (joined h.front ++ h.cut) ++ xs) (sym (take-append-drop x.0 rest)) ∙ sym (append_assoc (joined h.front ++ h.cut) (take x.0 rest) (drop x.0 rest)))
     x.2)
 next_stops bytes rest stop.OutOfMemory r tally new after survey h t last = tt

@@ -1,18 +1,5 @@
--- Reading the units of a text: all bytes at once where each is a unit, or byte by byte.
+-- Reading the units of a text, all bytes at once where each is a unit.
 use Rattle.std.specs.Prelude.{ℕ, ◌≡◌, ◌+◌, ◌<◌, ◌≤◌, Bool, true, List, [], ◌∷◌, ◌++◌, length, slice_index, take, drop}
-use Rattle.jser_prim.specs.ModifiedUtf8.{IsUnits, modified_utf8}
-use Rattle.jser_prim.specs.Texts.{Scan, BeginsText, HasAccepted}
-
--- where some text goes on with the byte, it is taken, and a unit that it ends is added
-unfoldable pub TakesByte : ℕ → Bool → Scan → Scan → (before after : List ℕ) → Type 0
-TakesByte byte goes_on old new before after =
-    (len : ℕ) (bytes : List ℕ) → HasAccepted len bytes before old → BeginsText len (bytes ++ (byte ∷ []))
-    → (goes_on ≡ true) × HasAccepted len (bytes ++ (byte ∷ [])) after new
-
--- where the bytes are those of a text, the scan has read this front of them, and its units are these
-unfoldable pub Decodes : (bytes front units : List ℕ) → Scan → Type 0
-Decodes bytes front units scan =
-    (told : List ℕ) → IsUnits told → modified_utf8 told ≡ bytes → HasAccepted (length bytes) front units scan
 
 -- the bytes stand as units at the front of the room, and each of them is below 0x80
 pub record AreNarrow (bytes room : List ℕ) : Type 0 where

@@ -9,11 +9,9 @@ use Rattle.jser_shown.specs.Owners.{owners_of}
 use Rattle.jser_shown.specs.Owners.{OwnerNode as ToldOwner}
 use Rattle.jser_verdict.specs.Passing.{Passes}
 use Rattle.jser_reader.specs.Gates.{open_gate}
-use Rattle.jser_reader.specs.declared.Refusal.{Refusal}
-use Rattle.jser_reader.specs.declared.Stop.{Stop}
-use Rattle.jser_reader.specs.declared.Stop.TheVariants as stop
 use Rattle.jser_reader.specs.declared.Totals.{Totals}
 use Rattle.jser_reader.specs.Tallies.{AreTotals}
+pub use Rattle.jser_reader.specs.Answers.{IfRefused}
 use Rattle.jser_index.specs.declared.node.Node.{Node}
 use Rattle.jser_index.specs.declared.node.StoredNode.{StoredNode}
 use Rattle.jser_index.specs.StoredNodes.{told_kind}
@@ -43,12 +41,6 @@ StandsForSome bytes graph = (list : ContentTrees) × StandsFor graph bytes list
 -- its own bytes are a stream, and all that it tells is of the list that they spell
 abbrev pub IsGraph : GraphView → Type 0
 IsGraph graph = StandsForSome graph.bytes graph
-
--- what holds of the refusal, where that is why there is no graph; the answer is never Spent
-abbrev pub IfRefused : (Refusal → Type 0) → Stop → Type 0
-IfRefused P (stop.Refused refusal) = P refusal
-IfRefused P stop.OutOfMemory = Unit {0}
-IfRefused P stop.Spent = ⊥
 
 -- the node with this number, counted from 0, of an epoch
 

@@ -13,7 +13,7 @@ use Rattle.jser_reader.specs.declared.Stop.TheVariants as stop
 use Rattle.jser_reader.specs.declared.Totals.{Totals}
 use Rattle.jser_reader.specs.declared.tally.Tally.{Tally}
 use Rattle.jser_reader.specs.Readers.{Seen}
-use Rattle.jser_reader.specs.Streams.{AreRefused, AreTruncated}
+use Rattle.jser_reader.specs.Answers.{IsRightOf}
 use Rattle.jser_reader.specs.Tallies.{AreTotals}
 use Rattle.jser_index.specs.declared.read.Found.{Found}
 use Rattle.jser_index.specs.Along.{GoesAlong}
@@ -36,13 +36,9 @@ pub record IsOfList (bytes : List ℕ) (survey : Finding) (totals : Totals) (lis
   pub owners : survey.owners ≡ owners_of list
   pub names : survey.names ≡ checked_names list
 
--- The first bytes, whatever comes after them, or all of them are refused, with their first fault.
-pub record FrontRefused (bytes : List ℕ) (refusal : Refusal) : Type 0 where
-  pub within : refusal.to_byte ≤ length bytes
-  pub refused : AreRefused open_gate (take refusal.to_byte bytes) refusal
-
+-- the refusal is right of the bytes under the greatest limits, and names their first fault
 abbrev pub IsRefused : List ℕ → Refusal → Type 0
-IsRefused bytes refusal = FrontRefused bytes refusal ⊎ AreTruncated open_gate bytes refusal
+IsRefused bytes refusal = IsRightOf open_gate bytes refusal
 
 unfoldable pub Walks : List ℕ → Finding → Result Totals Stop → Type 0
 Walks bytes survey (Ok totals) = (list : ContentTrees) × IsOfList bytes survey totals list

@@ -6,5 +6,4 @@ pub mod ListLemmas
 pub mod PieceLemmas
 pub mod SourceLemmas
 pub mod StepLemmas
-pub mod UnitLemmas
 pub mod WholeLemmas

@@ -22,7 +22,8 @@ use Rattle.jser_reader.specs.Streams.{AreRefused, AreTruncated}
 use Rattle.jser_names.specs.Collecting.{NamesAreCollected, begin_collecting, collected}
 use Rattle.jser_names.specs.Pieces.{PieceTells}
 use Rattle.jser_names.specs.Standing.{Names, Closes, Closed, IsAt}
-use Rattle.jser_names.specs.Sources.{HasNames, FrontRefused, IsRefused, IfRefused, FailsWith, TakesSome, Ends, EndsWith, Reads}
+use Rattle.jser_reader.proofs.RefusalLemmas.{front_refused}
+use Rattle.jser_names.specs.Sources.{HasNames, IsRefused, IfRefused, FailsWith, TakesSome, Ends, EndsWith, Reads}
 use Rattle.jser_names.specs.declared.source.Halt.{Halt}
 use Rattle.jser_names.specs.declared.source.NamesFault.{NamesFault}
 use Rattle.jser_names.specs.declared.source.NamesFault.TheVariants as fault
@@ -112,17 +113,6 @@ reads_more had mid has left count buffer piece r tally x new after y h t is p =
       stands = p h.bytes h.stands;
     }
 
-take_front : (xs ys : List ℕ) → take (length xs) (xs ++ ys) ≡ xs
-take_front [] ys = refl
-take_front (x ∷ xs) ys = ap (λ zs. x ∷ zs) (take_front xs ys)
-
-front_refused : (front rest bytes : List ℕ) (refusal : Refusal) → bytes ≡ front ++ rest → AreRefused open_gate front refusal → FrontRefused bytes refusal
-front_refused front rest bytes refusal split r =
-    let n : length bytes ≡ length front + length rest = ap length split ∙ length-append front rest in
-    let all = r.all in
-    let e : take refusal.to_byte bytes ≡ front = ap (λ k. take k bytes) all ∙ ap (take (length front)) split ∙ take_front front rest in
-    record { within = omega arith; refused = subst (λ xs. AreRefused open_gate xs refusal) (sym e) r }
-
 pub refused_in : (had has : Option (List ℕ)) (taken piece : List ℕ) (refusal : Refusal) (used : ℕ) → Consumes had has (taken ++ piece)
     → AreRefused open_gate (taken ++ take used piece) refusal → IfSome had (λ bytes. IsRefused bytes refusal)
 refused_in None has taken piece refusal used off r = tt
@@ -132,7 +122,7 @@ refused_in (Some all) (Some rest) taken piece refusal used off r =
     off ∙ ap (λ xs. (taken ++ xs) ++ rest) (sym (take-append-drop used piece))
     ∙ ap (λ xs. xs ++ rest) (sym (append_assoc taken (take used piece) (drop used piece)))
     ∙ append_assoc (taken ++ take used piece) (drop used piece) rest in
-    inl (front_refused (taken ++ take used piece) (drop used piece ++ rest) all refusal split r)
+    inl (front_refused open_gate (taken ++ take used piece) (drop used piece ++ rest) all refusal split r)
 
 pub refused_as : (had : Option (List ℕ)) (refusal : Refusal) (why : NamesFault) → why ≡ fault.Refused refusal → IfSome had (λ bytes. IsRefused bytes refusal)
     → IfSome had (λ bytes. IfRefused (IsRefused bytes) why)

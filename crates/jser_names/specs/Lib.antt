@@ -3,5 +3,4 @@ pub mod Lists
 pub mod Pieces
 pub mod Sources
 pub mod Standing
-pub mod Units
 pub mod Wholes

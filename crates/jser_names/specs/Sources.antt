@@ -12,7 +12,8 @@ use Rattle.jser_reader.specs.declared.Stop.TheVariants as stop
 use Rattle.jser_reader.specs.declared.tally.Tally.{Tally}
 use Rattle.jser_reader.specs.Gates.{open_gate}
 use Rattle.jser_reader.specs.Readers.{Seen}
-use Rattle.jser_reader.specs.Streams.{AreRefused, AreTruncated}
+use Rattle.jser_reader.specs.Streams.{AreTruncated}
+use Rattle.jser_reader.specs.Answers.{IsRightOf}
 use Rattle.jser_names.specs.Standing.{Names, Stands}
 use Rattle.jser_names.specs.declared.source.Halt.{Halt}
 use Rattle.jser_names.specs.declared.source.NamesFault.{NamesFault}
@@ -24,13 +25,9 @@ pub record HasNames (bytes : List ℕ) (names : List (List ℕ)) : Type 0 where
   pub passes : Passes open_gate bytes list
   pub names_are : names ≡ checked_names list
 
--- The first bytes, whatever comes after them, or all of them are refused, with their first fault.
-pub record FrontRefused (bytes : List ℕ) (refusal : Refusal) : Type 0 where
-  pub within : refusal.to_byte ≤ length bytes
-  pub refused : AreRefused open_gate (take refusal.to_byte bytes) refusal
-
+-- the refusal is right of the bytes under the greatest limits, and names their first fault
 abbrev pub IsRefused : List ℕ → Refusal → Type 0
-IsRefused bytes refusal = FrontRefused bytes refusal ⊎ AreTruncated open_gate bytes refusal
+IsRefused bytes refusal = IsRightOf open_gate bytes refusal
 
 -- what holds of the refusal, where that is why there are no names
 abbrev pub IfRefused : (Refusal → Type 0) → NamesFault → Type 0

@@ -5,7 +5,9 @@ use Rattle.jser_grammar.specs.Spelling.{spelling}
 use Rattle.jser_grammar.specs.Streams.{IsStreamOf}
 use Rattle.jser_value.specs.Limits.{IsContents}
 use Rattle.jser_verdict.specs.Gates.{Gate}
-use Rattle.jser_trees.specs.Answers.{tree_gate, SomePasses, IsTreeStream}
+use Rattle.jser_reader.specs.declared.Totals.{Totals}
+use Rattle.jser_reader.specs.Answers.{PassesWith}
+use Rattle.jser_trees.specs.Answers.{tree_gate, IsTreeStream}
 use Rattle.jser_trees.specs.declared.cursor.Fault.{Fault}
 use Rattle.jser_trees.specs.declared.cursor.Fault.TheVariants as fault
 use Rattle.jser_trees.specs.Found.{FindsAll}
@@ -36,8 +38,8 @@ pub never_lost : (bytes : List ℕ) → IsTreeStream bytes → list_in bytes ≡
 never_lost bytes tree lost = let e : None ≡ Some tree.list = sym lost ∙ listed bytes tree in absurd (cc)
 
 -- a list that passes the lowered gate is within the caps
-pub passes_tree : (gate : Gate) (bytes : List ℕ) → SomePasses (tree_gate gate) bytes → IsTreeStream bytes
-passes_tree gate bytes passing =
+pub passes_tree : (gate : Gate) (bytes : List ℕ) (totals : Totals) → PassesWith (tree_gate gate) bytes totals → IsTreeStream bytes
+passes_tree gate bytes totals passing =
     let size = passing.1.2 in
     let depth = passing.1.3 in
     record { list = passing.0; is_stream = passing.1.0; depth = omega (arith, depth); size = omega (arith, size) }

@@ -2,9 +2,9 @@
 //! Specification, section 6.4).
 #![tactic(auto)]
 
-mod chains;
 mod cursor;
 mod gate;
+mod handles;
 pub mod laws;
 mod read;
 mod texts;

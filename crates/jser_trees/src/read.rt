@@ -5,7 +5,8 @@ ghost use Rattle.jser_grammar.specs.Caps.{most_tree_bytes};
 ghost use Rattle.jser_value.specs.View.{view_contents};
 ghost use Rattle.jser_verdict.specs.Passing.{Passes};
 ghost use Rattle.jser_reader.specs.ReaderStates.{StandsFor};
-ghost use Rattle.jser_trees.specs.Answers.{tree_gate, IfRefused, Refuses, CarriesFirst, Tells, IsTreeStream};
+ghost use Rattle.jser_reader.specs.Answers.{Tells};
+ghost use Rattle.jser_trees.specs.Answers.{tree_gate, IfRefused, Refuses, CarriesFirst, IsTreeStream};
 ghost use Rattle.jser_trees.specs.Building.{list_in};
 ghost use Rattle.jser_trees.specs.Found.{FindsAll};
 

@@ -1,6 +1,5 @@
 //! Texts, references, fields, interfaces, raw values and blocks out of their bytes.
 ghost use Rattle.std.specs.Prelude.{ℕ, List, [], ◌∷◌, ◌++◌, ◌+◌, Err, OnOk, ◌≡◌, ◌<◌, ◌≤◌, ◌^◌, IfOk, IfErr, Ok, map, length, vec_len, option_map, is_some, false};
-ghost use Rattle.jser_prim.specs.Texts.{HasAccepted, BeginsText};
 ghost use Rattle.jser_grammar.specs.Codes.{prim_code_of, primitive_codes};
 ghost use Rattle.jser_value.specs.View.{view_text_place, view_field, view_prim};
 ghost use Rattle.jser_trees.specs.Building.{number_in, units_from, text_in, back_in, text_place_in, new_text_in, type_in, field_in, many_in, fields_in, interfaces_in, prim_at, prims_in, block_head_size, block_in};
@@ -9,7 +8,7 @@ ghost use Rattle.jser_trees.specs.Found.{Finds, FindsAll};
 
 use crate::cursor::{Cursor, Fault};
 use jser_grammar::wire::{BASE_WIRE_HANDLE, TC_LONGSTRING, TC_REFERENCE, TC_STRING};
-use jser_prim::TextScan;
+use jser_prim::read_units;
 use jser_value::{Field, Prim, Text, TextPlace};
 use std::alloc::Global;
 
@@ -27,34 +26,17 @@ pub(crate) fn kept<T, E: Drop>(outcome: Result<T, E>) -> Result<T, Fault>
     }
 }
 
-/// Scans a byte, and adds the unit that it ends, if it ends one.
-fn push_onto(scan: &mut TextScan, units: &mut Vec<u16>, byte: u8) -> Result<(), Fault>
-    requires { 0 < scan.old.left }
-    ensures goes_on { OnOk result ((len : ℕ) (bytes : List ℕ) → HasAccepted len bytes units.old.items scan.old
-        → HasAccepted len (bytes ++ byte ∷ []) units.new.items scan.new) }
-    ensures lost { result ≡ Err Fault.Lost → (len : ℕ) (bytes : List ℕ) → HasAccepted len bytes units.old.items scan.old
-        → BeginsText len (bytes ++ byte ∷ []) → ⊥ }
-{
-    match scan.push(byte) {
-        Ok(None) => Ok(()),
-        Ok(Some(unit)) => match units.push(unit) {
-            Ok(()) => Ok(()),
-            Err(_) => Err(Fault::OutOfMemory),
-        },
-        Err(_) => Err(Fault::Lost),
-    }
-}
-
 /// The units of a whole text.
+#[tactic(auto, using(crate::proofs::TextsBuilt::text_there, crate::proofs::TextsBuilt::text_nowhere))]
 fn units_of_bytes(alloc: Global, bytes: &[u8]) -> Result<Vec<u16>, Fault>
     ensures { FindsAll (λ units. units.items) result (units_from bytes.now) }
 {
-    let mut scan = TextScan::new(bytes.len() as u64);
     let mut units = Vec::new(alloc);
-    'bytes: for byte in bytes {
-        push_onto(&mut scan, &mut units, *byte)?;
+    match read_units(bytes, &mut units) {
+        Ok(true) => Ok(units),
+        Ok(false) => Err(Fault::Lost),
+        Err(_) => Err(Fault::OutOfMemory),
     }
-    Ok(units)
 }
 
 /// The length of a text.

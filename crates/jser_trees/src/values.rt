@@ -13,10 +13,8 @@ ghost use Rattle.jser_grammar.specs.Caps.{most_tree_bytes};
 ghost use Rattle.jser_trees.specs.Found.{Finds, FindsAll};
 ghost use Rattle.jser_value.specs.Rooms.{HasRoom, HasRoomForOneMore, Spends, SpendsOneMore};
 
-use crate::chains::{
-    assign, count_values, element_code, is_class, is_external, plain_layer, proxy_layer,
-};
 use crate::cursor::{Cursor, Fault};
+use crate::handles::{assign, is_class};
 use crate::texts::{
     block, fields, interfaces, kept, number_of_handle, prims, prims_of, text_place, units,
 };
@@ -25,6 +23,7 @@ use jser_grammar::wire::{
     TC_LONGSTRING, TC_NULL, TC_OBJECT, TC_PROXYCLASSDESC, TC_REFERENCE, TC_RESET, TC_STRING,
 };
 use jser_table::{Kind, Table};
+use jser_value::layers::{count_values, element_code, is_external, plain_layer, proxy_layer};
 use jser_value::{
     Body, ClassPlace, Content, Desc, Field, Handles, Section, Text, TextPlace, Value,
 };
@@ -674,7 +673,7 @@ fn plain(
     enter_types(table, &fields)?;
     let notes = notes(alloc, cursor, table, steps)?;
     let (parent, above) = superclass(alloc, cursor, table, steps)?;
-    let layer = plain_layer(alloc, &name, flags, &fields)?;
+    let layer = kept(plain_layer(alloc, &name, flags, &fields))?;
     table.close(number, layer, above);
     let desc = Desc::Plain {
         name,

@@ -9,6 +9,8 @@ mod depth;
 mod encoder;
 mod handles;
 pub mod laws;
+#[doc(hidden)]
+pub mod layers;
 mod parts;
 mod size;
 mod tree;

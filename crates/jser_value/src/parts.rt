@@ -120,7 +120,7 @@ pub(crate) fn are_prims(codes: &[u8], prims: &[Raw]) -> bool
 }
 
 /// How many of the type codes stand for a value.
-pub(crate) fn count_values(codes: &[u8]) -> usize
+pub fn count_values(codes: &[u8]) -> usize
     ensures { result ≡ object_count codes.now }
 {
     let mut count = 0usize;

@@ -12,9 +12,9 @@ ghost use Rattle.jser_value.specs.Tests.{obeys_enum_constant, Judges, IsClassAt}
 ghost use Rattle.jser_value.specs.View.{view_text_place};
 
 use crate::check::fault::{Fault, assign, require};
-use crate::check::layers::is_external;
 use crate::check::texts::check_text_place;
 use crate::handles::Handles;
+use crate::layers::is_external;
 use crate::parts::has_handle;
 use crate::tree::TextPlace;
 use jser_table::{Entry, Fit, Kind, Purpose, Table};

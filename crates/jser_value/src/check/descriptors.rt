@@ -11,9 +11,9 @@ ghost use Rattle.jser_value.specs.Tests.{Judges, obeys_head};
 ghost use Rattle.jser_value.specs.View.{view_field};
 
 use crate::check::fault::{Fault, assign, require};
-use crate::check::layers::plain_layer;
 use crate::check::texts::check_fields;
 use crate::handles::Handles;
+use crate::layers::plain_layer;
 use crate::parts::is_head;
 use crate::tree::Field;
 use jser_table::Kind;
@@ -59,7 +59,11 @@ pub(crate) fn end_plain(
     ensures memory { IfErr result (λ fault. fault ≡ Fault.OutOfMemory) }
     ensures spent { OnOk result (length table.new.entries ≤ length table.old.entries) }
 {
-    let layer = plain_layer(alloc, name, flags, fields)?;
-    table.close(number, layer, above);
-    Ok(())
+    match plain_layer(alloc, name, flags, fields) {
+        Ok(layer) => {
+            table.close(number, layer, above);
+            Ok(())
+        }
+        Err(_) => Err(Fault::OutOfMemory),
+    }
 }

@@ -12,8 +12,9 @@ ghost use Rattle.jser_value.specs.View.{view_value, view_desc, view_class_place,
 use crate::check::classes::{begin_object, check_back_class, check_enum_constant, is_back};
 use crate::check::descriptors::{begin_plain, end_plain};
 use crate::check::fault::{Fault, assign, require};
-use crate::check::layers::{element_code, is_section_at, proxy_layer};
+use crate::check::layers::is_section_at;
 use crate::handles::Handles;
+use crate::layers::{element_code, proxy_layer};
 use crate::parts::{are_elements, are_interfaces, are_value_elements, is_bare, is_block, is_text};
 use crate::tree::{Body, ClassPlace, Content, Desc, Section, Value};
 use jser_table::{Fit, Kind, Purpose};

@@ -1,6 +1,7 @@
 use Rattle.jser_reader.proofs.ReaderLemmas.{all_bytes}
 use Rattle.jser_check.specs.Admitted.{gate_of_filter}
-use Rattle.jser_check.proofs.AnswerLemmas.{told_of_filter, tells_accepted, tells_refused, tells_first}
+use Rattle.jser_reader.proofs.RefusalLemmas.{tells_first}
+use Rattle.jser_check.proofs.AnswerLemmas.{told_of_filter, tells_accepted, tells_refused}
 use Rattle.jser_check.proofs.bytes.check_bytes.Goals as goal
 
 pub returns-clause-accepted : goal.returns-clause-accepted

@@ -1,7 +1,8 @@
 use Rattle.std.proofs.Common.{subst}
 use Rattle.jser_check.specs.Checks.{gate_in}
 use Rattle.jser_check.specs.Feeding.{EndTells}
-use Rattle.jser_check.proofs.AnswerLemmas.{tells_accepted, tells_refused, tells_first}
+use Rattle.jser_reader.proofs.RefusalLemmas.{tells_first}
+use Rattle.jser_check.proofs.AnswerLemmas.{tells_accepted, tells_refused}
 use Rattle.jser_check.proofs.CheckLemmas.{end_of, end_bytes, end_cut}
 use Rattle.jser_check.proofs.checker.Checker.finish.Goals as goal
 

@@ -1,6 +1,0 @@
-use Rattle.std.proofs.Common.{length, take}
-use Rattle.jser_prim.specs.Texts.{HasAccepted}
-use Rattle.jser_trees.proofs.texts.units_of_bytes.Given as goal
-
-abbrev pub invariant-bytes : goal.invariant-bytes
-invariant-bytes l = HasAccepted (length l.fn.bytes) (take l.byte-index l.fn.bytes) l.units.items l.scan
