@@ -94,11 +94,24 @@ fn compare_spelling(rt: &impl Abort, alloc: Global, text: &str, spelling: &[u8])
     }
 }
 
+/// The spelling is that of a text, whose units have it, or memory ran out.
+fn compare_reading(rt: &impl Abort, alloc: Global, spelling: &[u8]) {
+    let mut units = Vec::new(alloc);
+    let Ok(is_text) = read_units(spelling, &mut units) else {
+        return;
+    };
+    same!(rt; is_text, true, format_args!("{spelling:?}"));
+    if let Ok(bytes) = text_bytes(alloc, &units) {
+        same!(rt; bytes.as_slice(), spelling, format_args!("{spelling:?}"));
+    }
+}
+
 /// Where an allocation is refused, the answer is that memory ran out, and no other answer changes. (Where
 /// memory suffices this shows nothing beyond the tests above: run it with refused allocations.)
 #[test]
 fn refused_growth_changes_no_answer(rt: HostRuntime) {
     for (text, spelling) in &SPELLINGS {
         compare_spelling(&rt, rt.alloc(), text, spelling);
+        compare_reading(&rt, rt.alloc(), spelling);
     }
 }
