@@ -1,21 +1,21 @@
 -- The list of sections beside that of closed descriptors: one more class, and what a section and the walks up a
 -- chain tell of the sections of an object.
-use Rattle.std.proofs.Common.{◌≡◌, ℕ, ◌+◌, ◌-◌, ◌<◌, ◌≤◌, ◌^◌, Bool, true, false, cond, IsTrue, List, [], ◌∷◌, ◌++◌, length, drop, get_or, count_by, Option, Some, None, refl, ap, sym, ◌∙◌, subst, arith, append_assoc, inl, inr}
-use Rattle.std.proofs.lemmas.Bool.{cases_lt, false≢true}
-use Rattle.std.proofs.lemmas.List.{get_or_default, get_or_append_left, get_or_push, length_push, drop_at, drop_all}
+use Rattle.std.proofs.Common.{◌≡◌, ℕ, ◌+◌, ◌-◌, ◌<◌, ◌≤◌, ◌^◌, Bool, true, false, cond, IsTrue, List, [], ◌∷◌, ◌++◌, length, drop, set, get_or, count_by, Option, Some, None, refl, ap, sym, ◌∙◌, subst, arith, append_assoc, inl, inr}
+use Rattle.std.proofs.lemmas.Bool.{cases_lt, cases_eq, false≢true}
+use Rattle.std.proofs.lemmas.List.{get_or_default, get_or_append_left, get_or_push, get_or-set_same, get_or-set_other, length-set, length_push, drop_at, drop_all}
 use Rattle.std.proofs.lemmas.List.Elements.{filter-append}
 use Rattle.jser_table.specs.declared.layer.Layer.{Layer}
 use Rattle.jser_table.specs.declared.descriptor.Descriptor.{Descriptor}
 use Rattle.jser_table.specs.declared.descriptor.Filed.{Filed}
-use Rattle.jser_table.specs.declared.section.Sections.{Sections}
 use Rattle.jser_table.specs.declared.descriptor.Counted.TheVariants as counted
 use Rattle.jser_table.specs.Codes.{AreLeading}
 use Rattle.jser_table.specs.Chains.{own_layer, is_filled, chain_in, IsFront}
 use Rattle.jser_table.specs.Sections.{filled_layers, sections_of, HasSection, down_to, or_no_layer, layer_of, under, IsOn, HoldsFor, IsNext, AreSections}
-use Rattle.jser_table.specs.Descriptors.{chain_above, chain_of_parent, chains_of, IsTold, IsUnder, IsLast, IsRun, RunsOn, IsFiled, AreFiled, FilesIf, Files, AreShelved, IsHighest}
-use Rattle.jser_table.proofs.LayerLemmas.{IsFront-from, count_by_push, own_layer_push}
+use Rattle.jser_table.specs.Descriptors.{chain_above, chain_of_parent, chains_of, IsTold, IsUnder, IsLast, IsFiled, AreFiled, AreShelved, IsHighest}
+use Rattle.jser_table.specs.Paths.{section_in, no_filed, filed_in, path_of, below_of, leading_to, LeadsOn, ArePaths, IsPathUnder, FilesIf, Files}
+use Rattle.jser_table.proofs.LayerLemmas.{IsFront-refl, IsFront-from, count_by_push, own_layer_push}
 use Rattle.jser_table.proofs.SectionLemmas.{sections_none, sections_push, sections_same, filled_push, length_filled, down_to_grows, layer_of_grows, new_down_to, new_layer_of}
-use Rattle.jser_table.proofs.RunLemmas.{run_grows, Follows, run_back}
+use Rattle.jser_table.proofs.PathLemmas.{paths_grow, paths_none, paths_push, path_front}
 use Rattle.jser_table.specs.Lined.{lines_of, LinesUnder}
 use Rattle.jser_table.proofs.LineLemmas.{lined_none, lined_push}
 use Rattle.jser_table.proofs.ChainLemmas.{chains_of_none, length_chains_of, told_push, chains_push}
@@ -36,12 +36,11 @@ filed_grows chains chain number filed has told =
       own = rw (same, layer_same) told.own;
       holds = rw layer_same told.holds;
       leading = rw layer_same told.leading;
-      run = run_grows chains (chain ∷ []) filed.run number has told.run;
     }
 
 -- the section of the class that was closed last
-filed_new : (chains : List (List Layer)) (above : List Layer) (layer : Layer) (filed : Filed) → is_filled layer ≡ true → filed.class ≡ length chains → HoldsFor layer filed.section → AreLeading layer.codes filed.leading → IsRun (chains ++ (above ++ layer ∷ []) ∷ []) filed.run (length (sections_of chains)) → IsFiled (chains ++ (above ++ layer ∷ []) ∷ []) (length (sections_of chains)) filed
-filed_new chains above layer filed is here holds leading run =
+filed_new : (chains : List (List Layer)) (above : List Layer) (layer : Layer) (filed : Filed) → is_filled layer ≡ true → filed.class ≡ length chains → HoldsFor layer (section_in filed) → AreLeading layer.codes filed.leading → IsFiled (chains ++ (above ++ layer ∷ []) ∷ []) (length (sections_of chains)) filed
+filed_new chains above layer filed is here holds leading =
     let chain : List Layer = above ++ layer ∷ [] in
     let own_chain : chain_in (chains ++ chain ∷ []) filed.class ≡ chain = get_or_push chains chain [] filed.class (sym here) in
     let own : layer_of (chains ++ chain ∷ []) (length (sections_of chains)) ≡ layer = new_layer_of chains above layer is in
@@ -52,12 +51,11 @@ filed_new chains above layer filed is here holds leading run =
       own = rw (own_chain, own) (own_layer_push above layer);
       holds = rw own holds;
       leading = rw own leading;
-      run = run;
     }
 
 -- a class with a section: it comes at the end
-pub filed_push : (chains : List (List Layer)) (above : List Layer) (layer : Layer) (sections : List Filed) (filed : Filed) → AreFiled chains sections → is_filled layer ≡ true → filed.class ≡ length chains → HoldsFor layer filed.section → AreLeading layer.codes filed.leading → IsRun (chains ++ (above ++ layer ∷ []) ∷ []) filed.run (length (sections_of chains)) → AreFiled (chains ++ (above ++ layer ∷ []) ∷ []) (sections ++ filed ∷ [])
-filed_push chains above layer sections filed are is here holds leading run =
+pub filed_push : (chains : List (List Layer)) (above : List Layer) (layer : Layer) (sections : List Filed) (filed : Filed) → AreFiled chains sections → is_filled layer ≡ true → filed.class ≡ length chains → HoldsFor layer (section_in filed) → AreLeading layer.codes filed.leading → AreFiled (chains ++ (above ++ layer ∷ []) ∷ []) (sections ++ filed ∷ [])
+filed_push chains above layer sections filed are is here holds leading =
     let longer : length (sections_of (chains ++ (above ++ layer ∷ []) ∷ [])) ≡ length (sections_of chains) + 1 =
     ap (λ (s : List (List Layer)). length s) (sections_push chains above layer is) ∙ length_push (sections_of chains) (filled_layers (above ++ layer ∷ []))
     in
@@ -70,7 +68,7 @@ filed_push chains above layer sections filed are is here holds leading run =
         | inr after ↦
             let last : length sections ≡ number = omega (arith, length_push sections filed) in
             let same : x ≡ filed = read ∙ get_or_push sections filed x number last in
-            rw (same, sym last, sym are.count) (filed_new chains above layer filed is here holds leading run)
+            rw (same, sym last, sym are.count) (filed_new chains above layer filed is here holds leading)
       ];
     }
 
@@ -90,23 +88,60 @@ shelved_none ds sections e f = rw (e, f) record {
     count = sections_none _ (chains_of_none [] refl);
     each = λ number filed inside read. absurd (omega arith);
   };
+  paths = paths_none _ [] refl;
   fewer = omega arith;
 }
 
+-- a link between two sections changes nothing that is said of them
+linked_filed : (chains : List (List Layer)) (number next : ℕ) (f : Filed) → IsFiled chains number f → IsFiled chains number (leading_to next f)
+linked_filed chains number next f is = record {
+  class_in = is.class_in;
+  chain = is.chain;
+  filled = is.filled;
+  own = is.own;
+  holds = is.holds;
+  leading = is.leading;
+}
+
+set_filed : (chains : List (List Layer)) (sections : List Filed) (a next : ℕ) → a < length sections → AreFiled chains sections → AreFiled chains (set sections a (leading_to next (filed_in sections a)))
+set_filed chains sections a next inside are =
+    let f : Filed = filed_in sections a in
+    let told : IsFiled chains a f = are.each a f inside (get_or_default sections a no_filed f inside) in
+    record {
+      count = are.count ∙ sym (length-set sections a (leading_to next f));
+      each = λ number x within read. elim (cases_eq number a) [
+        | inl here ↦
+            let same : x ≡ leading_to next f = read ∙ ap (λ n. get_or (set sections a (leading_to next f)) n x) here ∙ get_or-set_same sections a (leading_to next f) x inside in
+            rw (same, here) (linked_filed chains a next f told)
+        | inr other ↦ are.each number x (omega (arith, within, length-set sections a (leading_to next f))) (read ∙ get_or-set_other sections a number (leading_to next f) x other)
+      ];
+    }
+
+path_filed : (chains : List (List Layer)) (above : Option ℕ) (path : ℕ) (old new : List Filed) → IsPathUnder above path old new → AreFiled chains old → AreFiled chains new
+path_filed chains above path old new (inl begins) are = rw begins.1 are
+path_filed chains above path old new (inr on) are = rw on.new_is (set_filed chains old on.number (length old) on.inside are)
+
 -- one more class
 
-filed_if : (b : Bool) (chains : List (List Layer)) (above : List Layer) (layer : Layer) (last : Option ℕ) (run : ℕ) (old new : List Filed) → is_filled layer ≡ b → AreFiled chains old → IsLast chains above last → RunsOn chains last run → FilesIf b layer (length chains) run old new → AreFiled (chains ++ (above ++ layer ∷ []) ∷ []) new
-filed_if true chains above layer last run old new is are at_last runs files =
-    rw files.added (filed_push chains above layer old files.filed are is files.class_is files.holds files.leading (rw files.run_is (runs above layer at_last is)))
-filed_if false chains above layer last run old new is are at_last runs files = rw files (filed_same chains above layer old are is)
+filed_if : (b : Bool) (chains : List (List Layer)) (front : List Layer) (layer : Layer) (above : Option ℕ) (old new : List Filed) → is_filled layer ≡ b → AreFiled chains old → FilesIf b layer (length chains) above old new → AreFiled (chains ++ (front ++ layer ∷ []) ∷ []) new
+filed_if true chains front layer above old new is are files =
+    rw files.added (filed_push chains front layer files.linked files.filed (path_filed chains above files.filed.path old files.linked files.path are) is files.class_is files.holds files.leading)
+filed_if false chains front layer above old new is are files = rw files (filed_same chains front layer old are is)
 
-pub shelved_push : (old new : List Descriptor) (d : Descriptor) (parent : Option ℕ) (layer : Layer) (last : Option ℕ) (run : ℕ) (sections filed : List Filed) → AreShelved old sections → length old < 2 ^ 32 - 3 → new ≡ old ++ d ∷ [] → IsUnder (chains_of old) parent layer d → IsLast (chains_of old) (chain_of_parent (chains_of old) parent) last → RunsOn (chains_of old) last run → Files layer (length old) run sections filed → LinesUnder (lines_of old) parent d.links → AreShelved new filed
-shelved_push old new d parent layer last run sections filed are few is under at_last runs files lines = record {
+paths_if : (b : Bool) (chains : List (List Layer)) (front : List Layer) (layer : Layer) (class : ℕ) (above : Option ℕ) (old new : List Filed) → is_filled layer ≡ b → length (sections_of chains) ≡ length old → IsLast chains front above → ArePaths chains old → FilesIf b layer class above old new → ArePaths (chains ++ (front ++ layer ∷ []) ∷ []) new
+paths_if true chains front layer class above old new is count at are files = paths_push chains front layer class above old new is count at files are
+paths_if false chains front layer class above old new is count at are files = rw files (paths_grow chains ((front ++ layer ∷ []) ∷ []) old count are)
+
+pub shelved_push : (old new : List Descriptor) (d : Descriptor) (parent : Option ℕ) (layer : Layer) (last : Option ℕ) (sections filed : List Filed) → AreShelved old sections → length old < 2 ^ 32 - 3 → new ≡ old ++ d ∷ [] → IsUnder (chains_of old) parent layer d → IsLast (chains_of old) (chain_of_parent (chains_of old) parent) last → Files layer (length old) last sections filed → LinesUnder (lines_of old) parent d.links → AreShelved new filed
+shelved_push old new d parent layer last sections filed are few is under at_last files lines = record {
   told = told_push old new d parent layer are.told is under;
   lined = lined_push old new d parent layer are.told are.lined is under lines;
   filed =
       rw (chains_push old new d parent layer is under)
-      (filed_if (is_filled layer) (chains_of old) (chain_of_parent (chains_of old) parent) layer last run sections filed refl are.filed at_last runs (rw (length_chains_of old) files));
+      (filed_if (is_filled layer) (chains_of old) (chain_of_parent (chains_of old) parent) layer last sections filed refl are.filed (rw (length_chains_of old) files));
+  paths =
+      rw (chains_push old new d parent layer is under)
+      (paths_if (is_filled layer) (chains_of old) (chain_of_parent (chains_of old) parent) layer (length old) last sections filed refl are.filed.count at_last are.paths files);
   fewer = omega (arith, few, ap length is, length_push old d);
 }
 
@@ -115,9 +150,6 @@ pub filed_at_place : (ds : List Descriptor) (sections : List Filed) (number : �
 filed_at_place ds sections number other are has =
     let inside : number < length sections = omega (arith, has, are.filed.count) in
     are.filed.each number (get_or sections number other) inside (get_or_default sections number other (get_or sections number other) inside)
-
-no_filed : Filed
-no_filed = record { section = record { raw_bytes = 0; prims = 0; values = 0; is_annotated = false }; class = 0; run = 0; leading = 0 }
 
 not_empty : (layers : List Layer) → IsTrue (is_filled (or_no_layer (own_layer layers))) → 0 < length layers
 not_empty [] filled = absurd (false≢true filled)
@@ -128,11 +160,9 @@ pub has_layers : (ds : List Descriptor) (sections : List Filed) (number : ℕ) �
 unfolding layer_of
 has_layers ds sections number are has = not_empty (down_to (chains_of ds) number) (filed_at_place ds sections number no_filed are has).filled
 
--- a class that has a lowest section has a filled layer
-pub has_filled : (ds : List Descriptor) (sections : List Filed) (place : ℕ) (d : Descriptor) (last : ℕ) → AreShelved ds sections → IsTold (chains_of ds) place d → d.last ≡ Some last → 0 < count_by is_filled (chain_in (chains_of ds) place)
-has_filled ds sections place d last are told is =
-    let at_last : IsLast (chains_of ds) (chain_in (chains_of ds) place) (Some last) = subst (IsLast (chains_of ds) (chain_in (chains_of ds) place)) is told.last in
-    omega (arith, has_layers ds sections last are at_last.0, ap length at_last.1, length_filled (chain_in (chains_of ds) place))
+-- a chain that has a lowest section has a filled layer
+pub has_filled : (ds : List Descriptor) (sections : List Filed) (whole : List Layer) (last : ℕ) → AreShelved ds sections → IsLast (chains_of ds) whole (Some last) → 0 < count_by is_filled whole
+has_filled ds sections whole last are at_last = omega (arith, has_layers ds sections last are at_last.0, ap length at_last.1, length_filled whole)
 
 -- the layer of a section is that of its class
 pub layer_of_class : (chains : List (List Layer)) (number place : ℕ) (filed : Filed) (d : Descriptor) → IsFiled chains number filed → filed.class ≡ place → IsTold chains place d → d.layer ≡ layer_of chains number
@@ -218,33 +248,35 @@ next_found chains last section place before own d on filed is told highest =
     next_if chains last section place (chain_in chains own.class) d d.last refl on filed.chain told (rw (← is) highest)
 
 -- the sections of a chain, by the walk to the first
-pub sections_found : (chains : List (List Layer)) (start place : ℕ) (own d : Descriptor) (sections : Sections) → IsTold chains start own → own.last ≡ Some sections.last → IsTold chains place d → IsHighest counted.Filled 0 (chain_in chains start) (chain_in chains place) → d.last ≡ Some sections.first → AreSections chains (chain_in chains start) (Some sections)
-sections_found chains start place own d sections told_own own_is told highest here =
-    let at_last : IsLast chains (chain_in chains start) (Some sections.last) = subst (IsLast chains (chain_in chains start)) own_is told_own.last in
-    let found = section_found chains sections.last place 0 sections.first d (chain_in chains start) at_last.0 at_last.1 told highest here in
+pub sections_found : (chains : List (List Layer)) (place first last : ℕ) (d : Descriptor) (whole : List Layer) → IsLast chains whole (Some last) → IsTold chains place d → IsHighest counted.Filled 0 whole (chain_in chains place) → d.last ≡ Some first → AreSections chains whole (Some record { first = first; last = last })
+sections_found chains place first last d whole at_last told highest here =
+    let found = section_found chains last place 0 first d whole at_last.0 at_last.1 told highest here in
     (found.0, sym at_last.1 ∙ found.1)
 
--- within a run
+-- on a path
 
 -- the last section has none after it
 pub after_last : (chains : List (List Layer)) (last section : ℕ) → section ≡ last → under chains last section ≡ []
 after_last chains last section is = none_after chains last section (rw is (omega arith))
 
--- the next one is the next number
-pub next_in_run : (ds : List Descriptor) (sections : List Filed) (run last section next : ℕ) → AreShelved ds sections → IsOn (chains_of ds) last section → IsRun (chains_of ds) run last → run ≤ section → section < last → next ≡ section + 1 → IsNext (chains_of ds) last section (Some next)
+-- the next one is the one that this one leads to
+pub next_on_path : (ds : List Descriptor) (sections : List Filed) (last section : ℕ) (own lowest : Filed) → AreShelved ds sections → IsOn (chains_of ds) last section → own ≡ filed_in sections section → lowest ≡ filed_in sections last → own.path ≡ lowest.path → section < last → IsNext (chains_of ds) last section (Some own.below)
 unfolding under
-next_in_run ds sections run last section next are on is_run low high is =
+next_on_path ds sections last section own lowest are on own_is lowest_is on_path before =
     let chains : List (List Layer) = chains_of ds in
-    let here : HasSection chains (section + 1) = omega (arith, on.last_in, high) in
-    let step : down_to chains (section + 1) ≡ down_to chains section ++ layer_of chains (section + 1) ∷ [] = is_run.each section low high in
-    let follows : Follows chains (section + 1) last = run_back chains run last (last - (section + 1)) (section + 1) is_run (omega arith) (omega arith) in
-    let rest : List Layer = drop (length (down_to chains (section + 1))) (down_to chains last) in
-    let all : down_to chains last ≡ down_to chains section ++ layer_of chains (section + 1) ∷ rest =
-    follows.front.rest ∙ ap (λ front. front ++ rest) step ∙ append_assoc (down_to chains section) (layer_of chains (section + 1) ∷ []) rest
+    let same : path_of sections section ≡ path_of sections last = sym (ap (λ (f : Filed). f.path) own_is) ∙ on_path ∙ ap (λ (f : Filed). f.path) lowest_is in
+    let inside : last < length sections = omega (arith, on.last_in, are.filed.count) in
+    let leads : LeadsOn chains sections section last = are.paths.each section last before inside same in
+    let below : ℕ = below_of sections section in
+    let here : HasSection chains below = omega (arith, on.last_in, leads.upto) in
+    let front : IsFront (down_to chains below) (down_to chains last) = path_front chains sections below last are.paths leads.upto inside (leads.path ∙ same) in
+    let rest : List Layer = drop (length (down_to chains below)) (down_to chains last) in
+    let all : down_to chains last ≡ down_to chains section ++ layer_of chains below ∷ rest =
+    front.rest ∙ ap (λ front. front ++ rest) leads.under ∙ append_assoc (down_to chains section) (layer_of chains below ∷ []) rest
     in
-    rw is (
-      record { last_in = on.last_in; section_in = here; front = follows.front; filled = (filed_at_place ds sections (section + 1) no_filed are here).filled },
-      ap (drop (length (down_to chains section))) all ∙ drop_at (down_to chains section) (layer_of chains (section + 1) ∷ rest) (length (down_to chains section)) refl,
+    rw (ap (λ (f : Filed). f.below) own_is) (
+      record { last_in = on.last_in; section_in = here; front = front; filled = (filed_at_place ds sections below no_filed are here).filled },
+      ap (drop (length (down_to chains section))) all ∙ drop_at (down_to chains section) (layer_of chains below ∷ rest) (length (down_to chains section)) refl,
     )
 
 one_layer : (layers : List Layer) → length layers ≡ 1 → layers ≡ or_no_layer (own_layer layers) ∷ []
@@ -252,21 +284,27 @@ one_layer [] e = absurd (omega arith)
 one_layer (layer ∷ []) e = refl
 one_layer (layer ∷ more ∷ layers) e = absurd (omega arith)
 
--- the first one stands as many numbers back as there are others
-pub first_in_run : (ds : List Descriptor) (sections : List Filed) (start run : ℕ) (own : Descriptor) (found : Sections) → AreShelved ds sections → IsTold (chains_of ds) start own → own.last ≡ Some found.last → IsRun (chains_of ds) run found.last → found.first + own.filled ≡ found.last + 1 → run ≤ found.first → AreSections (chains_of ds) (chain_in (chains_of ds) start) (Some found)
+-- a section with no layer above, from which data lead down to their last section, is the first of these
+first_at_top : (ds : List Descriptor) (sections : List Filed) (whole : List Layer) (first last : ℕ) → AreShelved ds sections → IsLast (chains_of ds) whole (Some last) → HasSection (chains_of ds) first → IsFront (down_to (chains_of ds) first) (down_to (chains_of ds) last) → length (down_to (chains_of ds) first) ≡ 1 → AreSections (chains_of ds) whole (Some record { first = first; last = last })
 unfolding layer_of under
-first_in_run ds sections start run own found are told own_is is_run back low =
+first_at_top ds sections whole first last are at_last here front one =
     let chains : List (List Layer) = chains_of ds in
-    let at_last : IsLast chains (chain_in chains start) (Some found.last) = subst (IsLast chains (chain_in chains start)) own_is told.last in
-    let some : 0 < count_by is_filled (chain_in chains start) = has_filled ds sections start own found.last are told own_is in
-    let follows : Follows chains found.first found.last = run_back chains run found.last (found.last - found.first) found.first is_run (omega (arith, told.known.filled, some, back)) low in
-    let one : length (down_to chains found.first) ≡ 1 =
-    omega (arith, follows.longer, ap length at_last.1, length_filled (chain_in chains start), told.known.filled, some, back)
-    in
-    let here : HasSection chains found.first = omega (arith, at_last.0, told.known.filled, some, back) in
-    let single = one_layer (down_to chains found.first) one in (
-      record { last_in = at_last.0; section_in = here; front = follows.front; filled = (filed_at_place ds sections found.first no_filed are here).filled },
-      sym at_last.1 ∙ follows.front.rest ∙ ap (λ front. front ++ drop (length (down_to chains found.first)) (down_to chains found.last)) single,
+    let single = one_layer (down_to chains first) one in (
+      record { last_in = at_last.0; section_in = here; front = front; filled = (filed_at_place ds sections first no_filed are here).filled },
+      sym at_last.1 ∙ front.rest ∙ ap (λ front. front ++ drop (length (down_to chains first)) (down_to chains last)) single,
     )
 
--- sections with raw values alone
+-- as the first section of the path of the last one, where its class has none above
+pub first_on_path : (ds : List Descriptor) (sections : List Filed) (whole : List Layer) (last path : ℕ) (filed : Filed) (d : Descriptor) → AreShelved ds sections → IsLast (chains_of ds) whole (Some last) → path ≡ path_of sections last → IsFiled (chains_of ds) path filed → IsTold (chains_of ds) filed.class d → d.filled ≡ 1 → AreSections (chains_of ds) whole (Some record { first = path; last = last })
+first_on_path ds sections whole last path filed d are at_last path_is is told one =
+    let inside : last < length sections = omega (arith, at_last.0, are.filed.count) in
+    let low : path_of sections last ≤ last = are.paths.begin last inside in
+    let front = path_front (chains_of ds) sections (path_of sections last) last are.paths low inside (are.paths.first last inside) in
+    first_at_top ds sections whole path last are at_last (omega (arith, at_last.0, low, path_is)) (rw path_is front)
+    (sym (count_of_class (chains_of ds) path filed.class filed d is refl told) ∙ one)
+
+-- as the last one itself, where a chain has but one
+pub alone : (ds : List Descriptor) (sections : List Filed) (whole : List Layer) (last : ℕ) → AreShelved ds sections → IsLast (chains_of ds) whole (Some last) → count_by is_filled whole ≡ 1 → AreSections (chains_of ds) whole (Some record { first = last; last = last })
+alone ds sections whole last are at_last one =
+    first_at_top ds sections whole last last are at_last at_last.0 (IsFront-refl (down_to (chains_of ds) last))
+    (ap length at_last.1 ∙ length_filled whole ∙ one)

@@ -4,7 +4,7 @@ pub mod LayerLemmas
 pub mod SectionLemmas
 pub mod ChainLemmas
 pub mod LineLemmas
-pub mod RunLemmas
+pub mod PathLemmas
 pub mod FlagLemmas
 pub mod WalkLemmas
 pub mod FiledLemmas

@@ -1,7 +1,7 @@
 -- How closed descriptors stand for chains. They are kept in the order in which they were closed, so a
 -- superclass stands before its subclasses: the chain of a descriptor is that of its parent and then its own
 -- layer.
-use Rattle.std.specs.Prelude.{ℕ, ◌≡◌, ◌+◌, ◌-◌, ◌^◌, ◌<◌, ◌≤◌, List, [], ◌∷◌, ◌++◌, length, take, fold, count_by, slice_index_or, Bool, true, false, if◌then◌else◌, IsTrue, Option, Some, None}
+use Rattle.std.specs.Prelude.{ℕ, ◌≡◌, ◌+◌, ◌-◌, ◌^◌, ◌<◌, ◌≤◌, List, [], ◌∷◌, ◌++◌, length, take, fold, count_by, slice_index_or, if◌then◌else◌, IsTrue, Option, Some, None}
 use Rattle.jser_table.specs.declared.layer.Layer.{Layer}
 use Rattle.jser_table.specs.declared.descriptor.Links.{Links}
 use Rattle.jser_table.specs.declared.descriptor.Descriptor.{Descriptor}
@@ -12,6 +12,7 @@ use Rattle.jser_table.specs.Chains.{own_layer, chain_in, all_serial, is_filled, 
 use Rattle.jser_table.specs.Sections.{HasSection, sections_of, down_to, layer_of, filled_layers, HoldsFor}
 use Rattle.jser_table.specs.declared.descriptor.Filed.{Filed}
 use Rattle.jser_table.specs.Lined.{AreLined}
+use Rattle.jser_table.specs.Paths.{section_in, ArePaths}
 
 -- the chain of this parent, if there is one
 abbrev pub chain_of_parent : List (List Layer) → Option ℕ → List Layer
@@ -82,54 +83,26 @@ AreTold descriptors =
 abbrev pub IsLastUnder : Layer → (section : ℕ) (above last : Option ℕ) → Type 0
 IsLastUnder layer section above last = last ≡ (if is_filled layer then Some section else above)
 
--- Within a run the sections follow each other by one: each from `run` on down to this one is that of the next
--- filled layer under the one before.
-pub record IsRun (chains : List (List Layer)) (run number : ℕ) : Type 0 where
-  pub before : run ≤ number
-  pub each : (n : ℕ) → run ≤ n → n < number → down_to chains (n + 1) ≡ down_to chains n ++ layer_of chains (n + 1) ∷ []
-
--- the run of the next section, that of a filled layer under a chain whose lowest section is `above`
-abbrev pub RunsOn : List (List Layer) → (above : Option ℕ) → (run : ℕ) → Type 0
-RunsOn chains above run =
-    (front : List Layer) (layer : Layer) → IsLast chains front above → is_filled layer ≡ true
-    → IsRun (chains ++ (front ++ layer ∷ []) ∷ []) run (length (sections_of chains))
-
 -- what is kept of a section
 pub record IsFiled (chains : List (List Layer)) (number : ℕ) (filed : Filed) : Type 0 where
   pub class_in : filed.class < length chains
   pub chain : down_to chains number ≡ filled_layers (chain_in chains filed.class)
   pub filled : IsTrue (is_filled (layer_of chains number))
   pub own : own_layer (chain_in chains filed.class) ≡ Some (layer_of chains number)
-  pub holds : HoldsFor (layer_of chains number) filed.section
+  pub holds : HoldsFor (layer_of chains number) (section_in filed)
   pub leading : AreLeading (layer_of chains number).codes filed.leading
-  pub run : IsRun chains filed.run number
 
 -- all sections are kept
 pub record AreFiled (chains : List (List Layer)) (sections : List Filed) : Type 0 where
   pub count : length (sections_of chains) ≡ length sections
   pub each : (number : ℕ) (filed : Filed) → number < length sections → filed ≡ slice_index_or sections number filed → IsFiled chains number filed
 
--- one more class with this layer: its section comes at the end of the list, if it has one
-pub record FilesOne (layer : Layer) (class run : ℕ) (old new : List Filed) : Type 0 where
-  pub filed : Filed
-  pub class_is : filed.class ≡ class
-  pub run_is : filed.run ≡ run
-  pub holds : HoldsFor layer filed.section
-  pub leading : AreLeading layer.codes filed.leading
-  pub added : new ≡ old ++ filed ∷ []
-
-abbrev pub FilesIf : Bool → Layer → (class run : ℕ) (old new : List Filed) → Type 0
-FilesIf true layer class run old new = FilesOne layer class run old new
-FilesIf false layer class run old new = new ≡ old
-
-abbrev pub Files : Layer → (class run : ℕ) (old new : List Filed) → Type 0
-Files layer class run old new = FilesIf (is_filled layer) layer class run old new
-
 -- the closed descriptors, and their sections
 pub record AreShelved (descriptors : List Descriptor) (sections : List Filed) : Type 0 where
   pub told : AreTold descriptors
   pub lined : AreLined descriptors
   pub filed : AreFiled (chains_of descriptors) sections
+  pub paths : ArePaths (chains_of descriptors) sections
   pub fewer : length descriptors ≤ 2 ^ 32 - 3
 
 -- the links of a class under this parent

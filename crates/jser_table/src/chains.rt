@@ -10,8 +10,9 @@ ghost use Rattle.jser_table.specs.Sections.{HasSection, sections_of, layer_of, H
 ghost use Rattle.jser_table.specs.Fits.{fit_of};
 ghost use Rattle.jser_table.specs.Lines.{line_in, next_line, LeadsTo};
 ghost use Rattle.jser_table.specs.Lined.{AreLined, LinesUnder, lines_of};
+ghost use Rattle.jser_table.specs.Paths.{Files, IsPathUnder, filed_in};
 ghost use Rattle.jser_table.specs.Jumps.{JumpsFar, TakesJump};
-ghost use Rattle.jser_table.specs.Descriptors.{AreTold, IsHighest, GoesUp, LinksTo, IsUnder, IsTold, IsLast, IsLastUnder, RunsOn, Files, AreShelved, IsFiled, chains_of, chain_of_parent, count_of, front_of};
+ghost use Rattle.jser_table.specs.Descriptors.{AreTold, IsHighest, GoesUp, LinksTo, IsUnder, IsTold, IsLast, IsLastUnder, AreShelved, IsFiled, chains_of, chain_of_parent, count_of, front_of};
 
 use crate::codes::{leading_of, leading_size, prim_size_in};
 use crate::descriptor::{Counted, Descriptor, Filed, Links};
@@ -91,13 +92,7 @@ impl Chains {
         let number = self.descriptors.len() as u32;
         let section = self.sections.len() as u32;
         let above = last_of(&self.descriptors, parent);
-        let filed = Filed {
-            section: layer.section(),
-            class: number,
-            run: run_under(&self.descriptors, &self.sections, above),
-            leading: leading_of(layer.codes()),
-        };
-        file(&mut self.sections, &layer, filed);
+        file(&mut self.sections, &layer, number, above);
         let descriptor = descriptor_under(&self.descriptors, parent, layer, section);
         match self.descriptors.push(descriptor) {
             Ok(()) => number,
@@ -210,7 +205,7 @@ impl Chains {
         requires { HasSection self.now.listed section }
         ensures { HoldsFor (layer_of self.now.listed section) result }
     {
-        filed_at(&self.descriptors, &self.sections, section).section
+        filed_at(&self.descriptors, &self.sections, section).section()
     }
 
     /// The size of the raw value at this place of the section.
@@ -256,36 +251,44 @@ fn last_of(descriptors: &[Descriptor], parent: Option<u32>) -> Option<u32>
     }
 }
 
-/// Where the run of the next section starts, if that stands under the section `above`: the run goes on where
-/// that one is the newest, and else the next section starts one.
-fn run_under(descriptors: &[Descriptor], sections: &[Filed], above: Option<u32>) -> u32
-    requires shelved { AreShelved descriptors.now sections.now }
-    requires above_in { ForSome above (HasSection (chains_of descriptors.now)) }
-    ensures { RunsOn (chains_of descriptors.now) above result }
-{
-    match above {
-        Some(above) if above as usize + 1 == sections.len() => {
-            filed_at(descriptors, sections, above).run
-        }
-        _ => sections.len() as u32,
-    }
-}
-
-/// Adds the section of the layer to the list, if it has one. Takes no memory.
-fn file(sections: &mut Vec<Filed>, layer: &KeptLayer, filed: Filed)
+/// Adds the section of the layer of this class to the list, if it has one. `above` is the lowest section of the class's
+/// superclasses, if there is one. Takes no memory.
+fn file(sections: &mut Vec<Filed>, layer: &KeptLayer, class: u32, above: Option<u32>)
     requires room { vec_len sections.old < vec_capacity sections.old }
-    requires holds { HoldsFor layer.now filed.section }
-    requires leading { AreLeading layer.now.codes filed.leading }
-    ensures filed { Files layer.now filed.class filed.run sections.old.items sections.new.items }
+    requires fewer { vec_len sections.old < 2 ^ 32 - 3 }
+    requires above_in { ForSome above (λ number. number < length sections.old.items) }
+    ensures filed { Files layer.now class above sections.old.items sections.new.items }
     ensures room { vec_capacity sections.old - vec_len sections.old ≤ vec_capacity sections.new - vec_len sections.new + 1 }
 {
     if !layer.is_filled() {
         return;
     }
-    match sections.push(filed) {
+    let number = sections.len() as u32;
+    let path = path_under(sections.as_mut_slice(), above);
+    let leading = leading_of(layer.codes());
+    match sections.push(Filed::new(layer.section(), leading, class, path, number)) {
         Ok(()) => (),
         Err(_) => unreachable!(),
     }
+}
+
+/// The path of the next section under the section `above`: it goes on with that one's, where that was the last of it, and
+/// else begins one.
+fn path_under(sections: &mut [Filed], above: Option<u32>) -> u32
+    requires fewer { length sections.old < 2 ^ 32 - 3 }
+    requires above_in { ForSome above (λ number. number < length sections.old) }
+    ensures { IsPathUnder above result sections.old sections.new }
+{
+    let next = sections.len() as u32;
+    let Some(above) = above else {
+        return next;
+    };
+    let end = &mut sections[above as usize];
+    if end.below != above {
+        return next;
+    }
+    end.below = next;
+    end.path
 }
 
 /// The descriptor of a class under this parent, if it has one. `section` is the number of its section, if it
@@ -364,7 +367,8 @@ fn descriptor_at(descriptors: &[Descriptor], place: usize) -> &Descriptor
 fn filed_at<'a>(descriptors: &[Descriptor], sections: &'a [Filed], number: u32) -> &'a Filed
     requires shelved { AreShelved descriptors.now sections.now }
     requires number_in { HasSection (chains_of descriptors.now) number }
-    ensures { IsFiled (chains_of descriptors.now) number result.now }
+    ensures told { IsFiled (chains_of descriptors.now) number result.now }
+    ensures is { result.now ≡ filed_in sections.now number }
 {
     &sections[number as usize]
 }
@@ -397,21 +401,33 @@ fn sections_at(descriptors: &[Descriptor], sections: &[Filed], place: usize) -> 
 {
     let own = descriptor_at(descriptors, place);
     let last = own.last?;
-    let back = own.filled - 1;
-    if back <= last - filed_at(descriptors, sections, last).run {
-        return Some(Sections {
-            first: SectionNumber {
-                number: last - back,
-            },
-            last: SectionNumber { number: last },
-        });
+    let first = if own.filled == 1 {
+        last
+    } else {
+        first_of(descriptors, sections, place, last)
+    };
+    Some(Sections {
+        first: SectionNumber { number: first },
+        last: SectionNumber { number: last },
+    })
+}
+
+/// The first section of the chain at this place, whose last one is known: the first of that one's path where the path
+/// begins at the top.
+fn first_of(descriptors: &[Descriptor], sections: &[Filed], place: usize, last: u32) -> u32
+    requires shelved { AreShelved descriptors.now sections.now }
+    requires place_in { place < length descriptors.now }
+    requires last { IsLast (chains_of descriptors.now) (chain_in (chains_of descriptors.now) place) (Some last) }
+    ensures { AreSections (chains_of descriptors.now) (chain_in (chains_of descriptors.now) place) (Some record { first = result; last = last }) }
+{
+    let path = filed_at(descriptors, sections, last).path;
+    let class = filed_at(descriptors, sections, path).class as usize;
+    if descriptor_at(descriptors, class).filled == 1 {
+        return path;
     }
     let class = highest(descriptors, place, Counted::Filled, 0);
     match descriptor_at(descriptors, class).last {
-        Some(first) => Some(Sections {
-            first: SectionNumber { number: first },
-            last: SectionNumber { number: last },
-        }),
+        Some(first) => first,
         None => unreachable!(),
     }
 }
@@ -431,14 +447,14 @@ fn section_after(
     if section == last {
         return None;
     }
-    let lowest = filed_at(descriptors, sections, last);
-    if lowest.run <= section && section < last {
-        return Some(section + 1);
+    let own = filed_at(descriptors, sections, section);
+    if own.path == filed_at(descriptors, sections, last).path && section < last {
+        return Some(own.below);
     }
     section_after_by_walk(descriptors, sections, last, section)
 }
 
-/// The same by a walk up the chain, where the two sections are in no run.
+/// The same by a walk up the chain, where the two sections are on no path.
 #[tactic(auto, using(crate::proofs::ChainLemmas::length_chains_of))]
 fn section_after_by_walk(
     descriptors: &[Descriptor],

@@ -1,6 +1,7 @@
 //! A closed descriptor: its own layer, its links to superclasses, and what is known of its whole chain.
 ghost use Rattle.std.specs.Prelude.{◌≡◌, ◌<◌, ◌≤◌, ◌^◌, ◌-◌, [], ◌∷◌, Some, None};
 ghost use Rattle.jser_table.specs.Descriptors.{told_count, Knows, KnowsBelow};
+ghost use Rattle.jser_table.specs.Paths.{section_in};
 
 use crate::kept::KeptLayer;
 use crate::section::Section;
@@ -30,17 +31,59 @@ pub(crate) struct Descriptor {
     pub(crate) is_serial: bool,
 }
 
-/// A section in the list of sections.
+/// A section in the list of sections. It lies flat, so it takes 24 bytes.
+///
+/// The section of the class that was closed first under another one goes on with that one's path; any other begins a path.
 #[derive(Drop)]
 pub(crate) struct Filed {
-    /// What it holds.
-    pub(crate) section: Section,
-    /// The number of the closed descriptor whose layer it is.
-    pub(crate) class: u32,
-    /// The first section of its run: from there on each section is the next under the one before.
-    pub(crate) run: u32,
+    raw_bytes: u32,
+    prims: u16,
+    values: u16,
+    is_annotated: bool,
     /// How many of its codes come before the first that is not a primitive type's.
     pub(crate) leading: u16,
+    /// The number of the closed descriptor whose layer it is.
+    pub(crate) class: u32,
+    /// The first section of its path.
+    pub(crate) path: u32,
+    /// The next section of its path; itself where it is the last.
+    pub(crate) below: u32,
+}
+
+const _: () = prove!(size_of::<Filed>() == 24);
+
+impl Filed {
+    /// The section of this class, with this number: the last of its path as yet.
+    pub(crate) fn new(section: Section, leading: u16, class: u32, path: u32, number: u32) -> Filed
+        ensures section { section_in result ≡ section }
+        ensures leading { result.leading ≡ leading }
+        ensures class { result.class ≡ class }
+        ensures path { result.path ≡ path }
+        ensures below { result.below ≡ number }
+    {
+        Filed {
+            raw_bytes: section.raw_bytes,
+            prims: section.prims,
+            values: section.values,
+            is_annotated: section.is_annotated,
+            leading,
+            class,
+            path,
+            below: number,
+        }
+    }
+
+    /// What it holds.
+    pub(crate) fn section(&self) -> Section
+        ensures { result ≡ section_in self.now }
+    {
+        Section {
+            raw_bytes: self.raw_bytes,
+            prims: self.prims,
+            values: self.values,
+            is_annotated: self.is_annotated,
+        }
+    }
 }
 
 /// What a walk up a chain counts: all layers, or those that have something to read.

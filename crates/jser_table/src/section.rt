@@ -2,8 +2,8 @@
 //! Specification, section 6.4.2, `classdata`).
 //!
 //! Only a layer with fields or an annotation has a section. Sections are numbered in the order in which
-//! their classes were closed, so a class that was read with its superclasses, or just after them, has its
-//! sections at numbers that follow each other.
+//! their classes were closed. Each keeps the number of the one that was closed first just under it, so the
+//! sections of most classes are found link by link, from the first down; the others by a walk up the chain.
 use std::marker::Model;
 
 /// The number of a section, counted from 0 in each epoch. Contracts see it as a number.

@@ -1,23 +1,18 @@
-use Rattle.std.proofs.Common.{arith}
-use Rattle.jser_table.proofs.FiledLemmas.{has_filled, sections_found, first_in_run}
+use Rattle.std.proofs.Common.{◌∙◌, sym, subst, List, Some}
+use Rattle.jser_table.specs.declared.layer.Layer.{Layer}
+use Rattle.jser_table.specs.Chains.{chain_in}
+use Rattle.jser_table.specs.Descriptors.{IsLast, chains_of}
+use Rattle.jser_table.proofs.FiledLemmas.{alone}
+use Rattle.jser_table.proofs.chains.sections_at.Goals.{then-own-eq1, else-own-eq1}
 use Rattle.jser_table.proofs.chains.sections_at.Goals as goal
-
-pub overflow_sub-back : goal.overflow_sub-back
-overflow_sub-back c =
-    let told = c.descriptor_at-own.ensures in
-    omega (arith, has_filled _ _ _ _ _ c.requires.shelved told c.in_ok-last.was, told.known.filled)
-
-pub returns-then-back-last : goal.returns-then-back-last
-returns-then-back-last c =
-    let told = c.descriptor_at-own.ensures in
-    let some = has_filled _ _ _ _ _ c.requires.shelved told c.in_ok-last.was in
-    first_in_run _ _ _ _ _ _ c.requires.shelved told c.in_ok-last.was c.filed_at.ensures.run
-    (omega (arith, some, told.known.filled, c.filed_at.ensures.run.before, c.if-back-last.true))
-    (omega (arith, some, told.known.filled, c.filed_at.ensures.run.before, c.if-back-last.true))
-
-pub highest-class-requires-clause-over : goal.highest-class-requires-clause-over
-highest-class-requires-clause-over c = has_filled _ _ _ _ _ c.requires.shelved c.descriptor_at-own.ensures c.in_ok-last.was
 
 pub returns : goal.returns
 returns c =
-    sections_found _ _ _ _ _ _ c.descriptor_at-own.ensures c.in_ok-last.was c.descriptor_at.ensures c.highest-class.ensures.highest c.in-Some.is
+    let ds = c.args.descriptors.now in
+    let whole : List Layer = chain_in (chains_of ds) c.args.place in
+    let told = c.descriptor_at-own.ensures in
+    let at_last : IsLast (chains_of ds) whole (Some c.in_ok-last.last) = subst (IsLast (chains_of ds) whole) c.in_ok-last.was told.last in
+    elim c.if-own-eq1.branch [
+      | then-own-eq1 w ↦ rw w.first-is (alone ds c.args.sections.now whole c.in_ok-last.last c.requires.shelved at_last (sym told.known.filled ∙ w.if-own-eq1.true))
+      | else-own-eq1 w ↦ rw w.first-is w.first_of-first.ensures
+    ]
