@@ -1,6 +1,7 @@
 //! The field that comes next or is being read.
 ghost use Rattle.std.specs.Prelude.{◌≡◌, true};
 ghost use Rattle.jser_reader.specs.Passes.{IsQuiet};
+ghost use Rattle.jser_reader.specs.Wholes.{IsPlace};
 ghost use Rattle.jser_reader.specs.Walks.{size_of_phase};
 
 /// What a text is, which decides what comes after it.
@@ -91,6 +92,14 @@ impl Phase {
             Phase::Length8 | Phase::Suid => 8,
             Phase::Text | Phase::Prims | Phase::Bytes | Phase::Cut | Phase::Stopped => 0,
         }
+    }
+
+    /// Whether a content or a value comes next.
+    #[inline(always)]
+    pub(crate) fn is_place(self) -> bool
+        ensures { result ≡ true → IsPlace self }
+    {
+        matches!(self, Phase::Top | Phase::Note | Phase::Value)
     }
 
     /// Whether no count changes with the field: it is not at the top, and no place begins there.

@@ -81,8 +81,8 @@ impl Machine {
         }
     }
 
-    /// Takes contents and values, as many as are common and have all their bytes in the piece; else the tag of the one that
-    /// comes next.
+    /// Takes contents and values, as many as are common and have all their bytes in the piece; and the tag of the one that comes
+    /// next, with that of its class where it is new.
     #[inline(always)]
     fn pass_values(&mut self, tally: &mut Tally, piece: &[u8]) -> Option<usize>
         requires can { CanPass self.old piece.now }
@@ -93,9 +93,9 @@ impl Machine {
     {
         let used = self.pass_many(tally, piece);
         if used == 0 {
-            return self.pass_tag(tally, piece);
+            return self.pass_owner(tally, piece);
         }
-        Some(used)
+        self.then_owner(tally, piece, used)
     }
 
     /// Takes bytes of a raw value.

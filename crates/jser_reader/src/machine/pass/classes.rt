@@ -3,6 +3,7 @@
 ghost use Rattle.std.specs.Prelude.{◌≡◌, ◌<◌, length, Some};
 ghost use Rattle.jser_reader.specs.Passes.{Passes, PassesOn, HasPassed, CanPass, IsQuiet};
 ghost use Rattle.jser_reader.specs.Takes.{IsOne};
+ghost use Rattle.jser_verdict.specs.Gates.{Gate as ToldGate, IsGate};
 
 use crate::gate::Gate;
 use crate::machine::Machine;
@@ -11,8 +12,26 @@ use crate::tally::Tally;
 use jser_grammar::wire::{TC_CLASSDESC, TC_ENDBLOCKDATA};
 
 impl Machine {
-    /// After so many bytes of a piece, where this tag comes next in this phase, takes it too; else nothing more. It returns
-    /// how many bytes were taken in all.
+    /// After so many bytes of a piece, takes the tag that comes next too, where its byte is there. It returns how many bytes
+    /// were taken in all.
+    #[inline(always)]
+    fn then_next_tag(&mut self, tally: &mut Tally, piece: &[u8], used: usize) -> Option<usize>
+        requires used { HasPassed piece.now (Some used) }
+        requires one { IsOne self.old.phase }
+        ensures passes { PassesOn piece.now used result self.old tally.old self.new tally.new }
+        ensures progress { HasPassed piece.now result }
+    {
+        let (_, rest) = piece.split_at(used);
+        if rest.is_empty() || !self.has_room(rest) {
+            return Some(used);
+        }
+        match self.pass_tag(tally, rest) {
+            None => None,
+            Some(more) => Some(used + more),
+        }
+    }
+
+    /// The same where this tag comes next in this phase; else it takes nothing more.
     #[inline(always)]
     fn then_tag(
         &mut self,
@@ -28,30 +47,59 @@ impl Machine {
         ensures progress { HasPassed piece.now result }
     {
         let (_, rest) = piece.split_at(used);
-        if self.phase != next || rest.is_empty() || rest[0] != tag || !self.has_room(rest) {
+        if self.phase != next || rest.is_empty() || rest[0] != tag {
             return Some(used);
         }
-        match self.pass_tag(tally, rest) {
-            None => None,
-            Some(more) => Some(used + more),
-        }
+        self.then_next_tag(tally, piece, used)
     }
 
-    /// After so many bytes of a piece, where a superclass place comes next, takes its tag too; else nothing more. It returns
-    /// how many bytes were taken in all.
+    /// The same where a superclass place comes next.
     #[inline(always)]
     fn then_superclass(&mut self, tally: &mut Tally, piece: &[u8], used: usize) -> Option<usize>
         requires used { HasPassed piece.now (Some used) }
         ensures passes { PassesOn piece.now used result self.old tally.old self.new tally.new }
         ensures progress { HasPassed piece.now result }
     {
-        let (_, rest) = piece.split_at(used);
-        if self.phase != Phase::SuperTag || rest.is_empty() || !self.has_room(rest) {
+        if self.phase != Phase::SuperTag {
             return Some(used);
         }
-        match self.pass_tag(tally, rest) {
+        self.then_next_tag(tally, piece, used)
+    }
+
+    /// Takes the tag of a content or a value, which comes next, and that of its class, where it has one that is new.
+    #[inline(always)]
+    pub(super) fn pass_owner(&mut self, tally: &mut Tally, piece: &[u8]) -> Option<usize>
+        requires can { CanPass self.old piece.now }
+        requires some { 0 < length piece.now }
+        requires one { IsOne self.old.phase }
+        ensures passes { (gate : ToldGate) → IsGate gate → Passes gate piece.now result self.old tally.old self.new tally.new }
+        ensures progress { HasPassed piece.now result }
+    {
+        match self.pass_tag(tally, piece) {
             None => None,
-            Some(more) => Some(used + more),
+            Some(used) => self.then_tag(tally, piece, used, Phase::ClassTag, TC_CLASSDESC),
+        }
+    }
+
+    /// After so many bytes of a piece, where a content or a value comes next, takes its tag too, and that of its class, where it
+    /// has one that is new. It returns how many bytes were taken in all.
+    #[inline(always)]
+    pub(super) fn then_owner(
+        &mut self,
+        tally: &mut Tally,
+        piece: &[u8],
+        used: usize,
+    ) -> Option<usize>
+        requires used { HasPassed piece.now (Some used) }
+        ensures passes { PassesOn piece.now used result self.old tally.old self.new tally.new }
+        ensures progress { HasPassed piece.now result }
+    {
+        if !self.phase.is_place() {
+            return Some(used);
+        }
+        match self.then_next_tag(tally, piece, used) {
+            None => None,
+            Some(tag) => self.then_tag(tally, piece, tag, Phase::ClassTag, TC_CLASSDESC),
         }
     }
 

@@ -1,5 +1,5 @@
 use Rattle.jser_reader.proofs.PassLemmas.{then_passes, then_halts}
-use Rattle.jser_reader.proofs.machine.Machine.then_superclass.Goals as goal
+use Rattle.jser_reader.proofs.machine.Machine.then_next_tag.Goals as goal
 
 pub returns-in-None-clause-passes : goal.returns-in-None-clause-passes
 returns-in-None-clause-passes c = λ gate is_gate old before h.
