@@ -1,5 +1,5 @@
 //! The stack of frames. Its top lies in a field of its own, since nearly all work is done there.
-ghost use Rattle.std.specs.Prelude.{◌≡◌, ◌∷◌, ◌-◌, ◌^◌, ◌<◌, [], length, OnOk, OnErr};
+ghost use Rattle.std.specs.Prelude.{◌≡◌, ◌∷◌, ◌-◌, ◌^◌, ◌<◌, [], length, vec_len, vec_capacity, OnOk, OnErr};
 ghost use Rattle.jser_reader.specs.Stacks.{IsTop, CountsValue, CountsRaw, tail_of};
 
 use crate::frame::{Frame, RawPlace};
@@ -26,6 +26,15 @@ impl Model for Stack {
     ghost use Rattle.std.specs.Option.{ForNone};
 
     ghost invariant = { λ a. ForNone a.top (a.below.items ≡ []) };
+}
+
+/// Makes room for one more frame. Mostly there is some, so this is out of line.
+#[inline(never)]
+fn grow(below: &mut Vec<Frame>) -> Result<(), AllocError>
+    ensures room { OnOk result (vec_len below.new < vec_capacity below.new) }
+    ensures frames { below.new.items ≡ below.old.items }
+{
+    below.reserve(1)
 }
 
 impl Stack {
@@ -83,12 +92,16 @@ impl Stack {
     }
 
     /// Puts a frame on top. The stack is as it was where memory runs out.
+    #[inline(always)]
     pub(crate) fn push(&mut self, frame: Frame) -> Result<(), AllocError>
         ensures ok { OnOk result (self.new ≡ frame ∷ self.old) }
         ensures err { OnErr result (self.new ≡ self.old) }
     {
         if let Some(outer) = self.top {
-            self.below.push(outer)?;
+            if self.below.len() == self.below.capacity() {
+                grow(&mut self.below)?;
+            }
+            self.below.push_reserved(outer);
         }
         self.top = Some(frame);
         Ok(())

@@ -192,6 +192,7 @@ impl Chains {
 
     /// The sections of an object's data of this chain, if there are any.
     #[tactic(auto, using(crate::proofs::ChainLemmas::length_chains_of))]
+    #[inline(always)]
     pub(crate) fn sections(&self, number: u32) -> Option<Sections>
         requires { number < length self.now.listed }
         ensures { AreSections self.now.listed (chain_in self.now.listed number) result }
@@ -394,6 +395,7 @@ fn prim_size_at(descriptors: &[Descriptor], sections: &[Filed], section: u32, po
 }
 
 /// The sections of an object's data of the chain at this place, if there are any.
+#[inline(always)]
 fn sections_at(descriptors: &[Descriptor], sections: &[Filed], place: usize) -> Option<Sections>
     requires shelved { AreShelved descriptors.now sections.now }
     requires place_in { place < length descriptors.now }
@@ -414,6 +416,7 @@ fn sections_at(descriptors: &[Descriptor], sections: &[Filed], place: usize) -> 
 
 /// The first section of the chain at this place, whose last one is known: the first of that one's path where the path
 /// begins at the top.
+#[inline(never)]
 fn first_of(descriptors: &[Descriptor], sections: &[Filed], place: usize, last: u32) -> u32
     requires shelved { AreShelved descriptors.now sections.now }
     requires place_in { place < length descriptors.now }

@@ -121,7 +121,33 @@ impl Table {
     ///
     /// `TableFault::Full` where the table has as many entries as it may have, and `TableFault::OutOfMemory`
     /// where memory ran out. The table is then as it was.
+    #[tactic(auto, using(crate::proofs::TableLemmas::entries_assign, crate::proofs::TableLemmas::numbers_assign))]
+    #[inline(always)]
     pub fn assign(&mut self, kind: Kind) -> Result<u32, TableFault>
+        ensures number { IfOk result (λ number. number ≡ length self.old.entries) }
+        ensures added { IfOk result (λ _. self.new.entries ≡ self.old.entries ++ new_entry kind ∷ []) }
+        ensures full { (result ≡ Err TableFault.Full) ↔ (length self.old.entries ≡ self.old.max) }
+        ensures unchanged { OnErr result (self.new ≡ self.old) }
+        ensures chains { self.new.chains ≡ self.old.chains }
+        ensures numbers { IfOk result (λ _. self.new.numbers ≡ self.old.numbers ++ None ∷ []) }
+        ensures lines { self.new.lines ≡ self.old.lines }
+        ensures max { self.new.max ≡ self.old.max }
+        ensures below { IfOk result (λ number. number < self.old.max) }
+        ensures room { (result ≡ Err TableFault.OutOfMemory) → length self.old.entries < self.old.max }
+    {
+        if kind == Kind::Pending {
+            return self.assign_any(kind);
+        }
+        let number = self.entries.len();
+        if number >= self.entries.capacity().min(self.max as usize) {
+            return self.assign_out_of_line(kind);
+        }
+        self.entries.push_reserved(Slot::new(kind));
+        Ok(number as u32)
+    }
+
+    /// The same of any entry, also where memory is asked for or the table is full.
+    fn assign_any(&mut self, kind: Kind) -> Result<u32, TableFault>
         ensures number { IfOk result (λ number. number ≡ length self.old.entries) }
         ensures added { IfOk result (λ _. self.new.entries ≡ self.old.entries ++ new_entry kind ∷ []) }
         ensures full { (result ≡ Err TableFault.Full) ↔ (length self.old.entries ≡ self.old.max) }
@@ -147,6 +173,23 @@ impl Table {
             self.pending += 1;
         }
         Ok(number as u32)
+    }
+
+    /// The same, out of line: mostly there is room.
+    #[inline(never)]
+    fn assign_out_of_line(&mut self, kind: Kind) -> Result<u32, TableFault>
+        ensures number { IfOk result (λ number. number ≡ length self.old.entries) }
+        ensures added { IfOk result (λ _. self.new.entries ≡ self.old.entries ++ new_entry kind ∷ []) }
+        ensures full { (result ≡ Err TableFault.Full) ↔ (length self.old.entries ≡ self.old.max) }
+        ensures unchanged { OnErr result (self.new ≡ self.old) }
+        ensures chains { self.new.chains ≡ self.old.chains }
+        ensures numbers { IfOk result (λ _. self.new.numbers ≡ self.old.numbers ++ None ∷ []) }
+        ensures lines { self.new.lines ≡ self.old.lines }
+        ensures max { self.new.max ≡ self.old.max }
+        ensures below { IfOk result (λ number. number < self.old.max) }
+        ensures room { (result ≡ Err TableFault.OutOfMemory) → length self.old.entries < self.old.max }
+    {
+        self.assign_any(kind)
     }
 
     /// How many entries there are.
@@ -309,6 +352,7 @@ impl Table {
 
     /// The sections of the data of an object with this chain, by the first and the last; None where there
     /// are none. The number of steps is in the order of the logarithm of the chain.
+    #[inline(always)]
     pub fn sections(&self, chain: ChainNumber) -> Option<Sections>
         requires { chain < length self.now.chains }
         ensures { AreSections self.now.chains (chain_in self.now.chains chain) result }

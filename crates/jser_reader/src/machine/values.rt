@@ -17,6 +17,7 @@ use jser_table::{Kind, TableFault};
 impl Machine {
     /// Assigns the next handle, if there is one and memory lasts.
     #[tactic(auto, using(crate::proofs::EntryLemmas::fits_entry, crate::proofs::EntryLemmas::assigned_full, crate::proofs::EntryLemmas::assigned_no_memory, crate::proofs::EntryLemmas::assigned))]
+    #[inline(always)]
     pub(super) fn assign(&mut self, kind: Kind) -> Option<u32>
         ensures given { Assigns (new_entry kind) result self.old self.new }
         ensures chains { IfSome result (λ _. self.new.table.chains ≡ self.old.table.chains) }

@@ -5,7 +5,7 @@ ghost use Rattle.jser_table.specs.Codes.{is_object_code};
 ghost use Rattle.jser_verdict.specs.Gates.{Gate as ToldGate};
 ghost use Rattle.jser_reader.specs.Passes.{Passes, CanPass};
 ghost use Rattle.jser_reader.specs.Takes.{farther};
-ghost use Rattle.jser_reader.specs.Wholes.{HasText};
+ghost use Rattle.jser_reader.specs.Wholes.{AssignsText, HasText};
 ghost use Rattle.jser_reader.specs.Members.{BeginsMember, HasType};
 
 use crate::machine::Machine;
@@ -164,6 +164,14 @@ impl Machine {
         self.at += size;
     }
 
+    /// Assigns the handle of a type that is a new string; or does nothing. Most types are references, so this is out of line.
+    #[inline(never)]
+    fn assign_type(&mut self) -> bool
+        ensures { AssignsText result self.old self.new }
+    {
+        self.assign_text()
+    }
+
     /// Takes the type of a field, where it is a new string that is whole in the piece, each byte of it a unit; or does
     /// nothing.
     #[inline(always)]
@@ -181,7 +189,7 @@ impl Machine {
         if piece[0] != TC_STRING || self.text != TextFor::FieldType {
             return None;
         }
-        if !self.assign_text() {
+        if !self.assign_type() {
             return None;
         }
         self.go_farther(len as u64 + 3);

@@ -2,8 +2,8 @@ use Rattle.std.proofs.lemmas.Grind.{common_steps}
 use Rattle.std.proofs.Common.{◌≡◌, [], ◌∷◌, ◌++◌, map, ap, ◌∙◌, arith, rules}
 use Rattle.jser_table.specs.Tables.{TableView, view_entry, new_kept}
 use Rattle.jser_table.proofs.TableLemmas.{entries_assign, numbers_assign}
-use Rattle.jser_table.proofs.table.Table.assign.Goals.{then-eq-2, else-eq-2, else-eq-via-then-eq+else-is_err, else-eq-via-else-eq}
-use Rattle.jser_table.proofs.table.Table.assign.Goals as goal
+use Rattle.jser_table.proofs.table.Table.assign_any.Goals.{then-eq-2, else-eq-2, else-eq-via-then-eq+else-is_err, else-eq-via-else-eq}
+use Rattle.jser_table.proofs.table.Table.assign_any.Goals as goal
 
 pub returns-clause-added : goal.returns-clause-added
 returns-clause-added c =
