@@ -38,11 +38,12 @@ class BodyCheck:
         self.check = serialcheck.Filter(LIMITS + "java.util.*;java.lang.*;!*", strict=True, anywhere=True)
 
     def __call__(self, environ, start_response):
-        body = environ["wsgi.input"].read(MOST + 1)
-        if len(body) > MOST:
+        length = int(environ.get("CONTENT_LENGTH") or 0)
+        if not 0 <= length <= MOST:
             start_response("413 Content Too Large", [])
             return []
-        if not self.check.check(body):
+        body = environ["wsgi.input"].read(length)
+        if len(body) < length or not self.check.check(body):
             start_response("400 Bad Request", [])
             return []
         return self.application({**environ, "wsgi.input": io.BytesIO(body)}, start_response)
@@ -64,7 +65,8 @@ def main():
             print("session", name, answer)
     application = BodyCheck(lambda environ, start_response: start_response("200 OK", []) or [])
     for name, body in {"text": text, "another class": evil, "no stream": b"GET", "too long": bytes(MOST + 1)}.items():
-        application({"wsgi.input": io.BytesIO(body)}, lambda status, headers, name=name: print(f"body, {name}: {status}"))
+        environ = {"wsgi.input": io.BytesIO(body), "CONTENT_LENGTH": str(len(body))}
+        application(environ, lambda status, headers, name=name: print(f"body, {name}: {status}"))
 
 
 if __name__ == "__main__":

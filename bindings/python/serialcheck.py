@@ -101,13 +101,18 @@ def _settled(answer):
     raise ValueError("serialcheck: closed")
 
 
+def _bytes(data):
+    """The bytes of a bytes-like object. (`bytes` would also take a number, and make so many zeros of it.)"""
+    return data if isinstance(data, bytes) else bytes(memoryview(data))
+
+
 def _flags(strict, anywhere):
     return (STRICT if strict else 0) | (ANYWHERE if anywhere else 0)
 
 
 def check(data, filter="", strict=False, anywhere=False):
     """Checks bytes under the filter of a text, which is read each time."""
-    data, text, answer = bytes(data), filter.encode(), Answer()
+    data, text, answer = _bytes(data), filter.encode(), Answer()
     _library.serialcheck_check(data, len(data), text, len(text), _flags(strict, anywhere), answer)
     return _settled(answer)
 
@@ -124,7 +129,7 @@ class Filter:
 
     def check(self, data):
         """Checks bytes. The answer is of these bytes: hand on the same ones."""
-        data, answer = bytes(data), Answer()
+        data, answer = _bytes(data), Answer()
         with self._lock:
             _library.serialcheck_filter_check(self._handle, data, len(data), answer)
         return _settled(answer)
@@ -162,7 +167,7 @@ class Stream:
 
     def feed(self, data):
         """Takes the next bytes: None where they decide nothing, else the answer, which is a refusal."""
-        data, answer = bytes(data), Answer()
+        data, answer = _bytes(data), Answer()
         _library.serialcheck_stream_feed(self._handle, data, len(data), answer)
         return None if answer.status == MORE else _settled(answer)
 
