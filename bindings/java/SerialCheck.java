@@ -152,6 +152,7 @@ public final class SerialCheck implements AutoCloseable {
      *
      * @param most how many bytes there may be
      * @throws Refused where they are no stream that the filter admits; nothing of them was read then
+     * @throws InvalidObjectException where there are more of them
      */
     public ObjectInputStream open(InputStream in, int most) throws IOException {
         return open(in, most, ObjectInputStream::new);
