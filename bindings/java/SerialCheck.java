@@ -64,7 +64,7 @@ public final class SerialCheck implements AutoCloseable {
         public final String reason;
         /** Where the faulty field starts. */
         public final long from;
-        /** How many bytes decide: no admitted stream begins with these. */
+        /** How many bytes decide: no admitted stream begins with these. Of Truncated: all of them, which are no stream. */
         public final long to;
 
         private Refused(String reason, long from, long to) {
