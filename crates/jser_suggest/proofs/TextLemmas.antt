@@ -1,9 +1,9 @@
 -- The text of the suggested filter says its pieces.
-use Rattle.std.proofs.Common.{◌≡◌, ℕ, ◌≤◌, true, false, List, [], ◌∷◌, ◌++◌, map, codes, decimal, inl, inr, refl, sym, ap, ◌∙◌, arith, append_assoc}
+use Rattle.std.proofs.Common.{◌≡◌, ℕ, ◌≤◌, Bool, true, false, not, List, [], ◌∷◌, ◌++◌, map, codes, decimal, inl, inr, refl, sym, ap, ◌∙◌, arith, append_assoc}
 use Rattle.jser_filter.specs.Cuts.{split_at_each}
 use Rattle.jser_filter.specs.declared.limit.Limit.TheVariants as limit
 use Rattle.jser_filter.specs.Pieces.{limit_piece, read_piece, pieces_of}
-use Rattle.jser_suggest.specs.Suggested.{Known, only, no_other, suggested, names_text, suggested_text, has, is_writable}
+use Rattle.jser_suggest.specs.Suggested.{Known, only, no_other, suggested, names_text, suggested_text, has, is_writable, is_one_line}
 use Rattle.jser_suggest.specs.Samples.{Among}
 use Rattle.jser_suggest.proofs.PieceLemmas.{has_both, one_part, first_part, decimal_has, bytes_piece, refs_piece, depth_piece, array_piece, plain, name_piece, last_piece}
 
@@ -69,3 +69,33 @@ reads_suggested known l w =
     (ap (λ p. p ∷ read_piece a ∷ map read_piece end) (depth_piece known.depth l.depth)
     ∙ ap (λ ps. limit_piece limit.Depth known.depth ∷ ps)
     (ap (λ p. p ∷ map read_piece end) (array_piece known.array l.array) ∙ ap (λ ps. limit_piece limit.Array known.array ∷ ps) (names_read known.names w))))
+
+-- ---- one line
+
+not_held : (b : Bool) → not b ≡ true → b ≡ false
+not_held true e = sym e
+not_held false e = refl
+
+decimal_line : (n : ℕ) → n ≤ 9223372036854775807 → has 0x0A (decimal n) ≡ false
+decimal_line n few = decimal_has 0x0A n (inl (omega arith)) (omega (arith, few))
+
+-- words and a number behind a text
+count_line : (front words : List ℕ) (n : ℕ) → has 0x0A front ≡ false → has 0x0A words ≡ false → n ≤ 9223372036854775807 → has 0x0A ((front ++ words) ++ decimal n) ≡ false
+count_line front words n f w few = has_both 0x0A (front ++ words) (decimal n) (has_both 0x0A front words f w) (decimal_line n few)
+
+names_line : (names : List (List ℕ)) → ((name : List ℕ) → Among names name → is_one_line name ≡ true) → has 0x0A (names_text names) ≡ false
+names_line [] one = refl
+names_line (name ∷ names) one =
+    has_both 0x0A name (names_text names) (not_held (has 0x0A name) (one name (inl refl))) (names_line names (λ other among. one other (inr among)))
+
+pub suggested_line : (known : Known) → AreLimits known → ((name : List ℕ) → Among known.names name → is_one_line name ≡ true) → is_one_line (suggested_text known) ≡ true
+suggested_line known l one =
+    let b = codes "maxbytes=" ++ decimal known.bytes in
+    let r = (b ++ codes ";maxrefs=") ++ decimal known.refs in
+    let d = (r ++ codes ";maxdepth=") ++ decimal known.depth in
+    let a = (d ++ codes ";maxarray=") ++ decimal known.array in
+    let first = has_both 0x0A (codes "maxbytes=") (decimal known.bytes) refl (decimal_line known.bytes l.bytes) in
+    let second = count_line b (codes ";maxrefs=") known.refs first refl l.refs in
+    let third = count_line r (codes ";maxdepth=") known.depth second refl l.depth in
+    let fourth = count_line d (codes ";maxarray=") known.array third refl l.array in
+    ap not (has_both 0x0A (a ++ names_text known.names) (codes ";!*") (has_both 0x0A a (names_text known.names) fourth (names_line known.names one)) refl)

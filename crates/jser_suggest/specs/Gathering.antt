@@ -9,7 +9,7 @@ use Rattle.jser_reading.specs.GateLimits.{Each}
 use Rattle.jser_reader.specs.declared.Stop.TheVariants as stop
 use Rattle.jser_suggest.specs.declared.samples.SampleFault.{SampleFault}
 use Rattle.jser_suggest.specs.declared.samples.SampleFault.TheVariants as fault
-use Rattle.jser_suggest.specs.Suggested.{has, is_writable}
+use Rattle.jser_suggest.specs.Suggested.{has, is_writable, is_one_line}
 use Rattle.jser_suggest.specs.Samples.{Some_of, Among, ElementAmong}
 
 -- the units of the texts that a set keeps
@@ -22,9 +22,12 @@ pub record InsertsName (name : List ℕ) (old new : List (List ℕ)) : Type 0 wh
   pub keeps : (other : List ℕ) → Among old other → Among new other
   pub gains : (other : List ℕ) → Among new other → Among old other ⊎ (other ≡ name)
 
--- it can be written
+-- a pattern means it alone, in a text of one line
+abbrev pub CanBeWritten : List ℕ → Type 0
+CanBeWritten name = (is_writable name ≡ true) × (is_one_line name ≡ true)
+
 abbrev pub AddsName : (name : List ℕ) → (old new : List (List ℕ)) → Type 0
-AddsName name old new = (is_writable name ≡ true) × InsertsName name old new
+AddsName name old new = CanBeWritten name × InsertsName name old new
 
 -- a checked name has this element
 abbrev pub IsElement : (name checked : List ℕ) → Type 0
@@ -34,11 +37,12 @@ IsElement name checked = element_of checked ≡ element name
 pub record GainsAll (checked : List (List ℕ)) (old new : List (List ℕ)) : Type 0 where
   pub there : Each (λ name. ElementAmong new (element_of name)) checked
   pub keeps : (other : List ℕ) → Among old other → Among new other
-  pub gains : (other : List ℕ) → Among new other → Among old other ⊎ (Some_of (IsElement other) checked × (is_writable other ≡ true))
+  pub gains : (other : List ℕ) → Among new other → Among old other ⊎ (Some_of (IsElement other) checked × CanBeWritten other)
 
--- no piece of a filter's text allows the name alone, or it is no text that a command line can hold
+-- no piece of a filter's text allows the name alone; or it has a line feed; or it is no text that a command line can hold
 abbrev pub CannotBeWritten : List ℕ → Type 0
-CannotBeWritten name = (is_writable name ≡ false) ⊎ ((has 0 name ≡ true) ⊎ (has_unpaired_surrogate name ≡ true))
+CannotBeWritten name =
+    (is_writable name ≡ false) ⊎ ((is_one_line name ≡ false) ⊎ ((has 0 name ≡ true) ⊎ (has_unpaired_surrogate name ≡ true)))
 
 abbrev pub IsNoMemory : SampleFault → Type 0
 IsNoMemory why = why ≡ fault.Stop stop.OutOfMemory

@@ -53,3 +53,7 @@ is_empty (unit ∷ units) = false
 abbrev pub is_writable : List ℕ → Bool
 is_writable name =
     not (is_empty name || (begins 0x21 name || (has 0x3B name || (has 0x3D name || (has 0x2F name || ends_in 0x2A name)))))
+
+-- Whether a text has one line: in a filter's file a line feed ends a piece.
+abbrev pub is_one_line : List ℕ → Bool
+is_one_line units = not (has 0x0A units)

@@ -16,7 +16,8 @@ pub fn is_least()
     ensures { IsLeast }
 {}
 
-/// A name that `Samples::add` tells as one that cannot be written is allowed alone by no piece of any filter's text.
+/// A name that `Samples::add` tells as one that cannot be written is allowed alone by no piece of any filter's text, unless a
+/// line or the command line cannot hold it.
 pub fn only_writable()
     ensures { OnlyWritable }
 {}

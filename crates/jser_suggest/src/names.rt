@@ -67,7 +67,7 @@ fn add_name(alloc: Global, class: &[u16], names: &mut BTreeSet<String>) -> Resul
     ensures gains { OnOk result (AddsName class.now (name_list names.old) (name_list names.new)) }
     ensures fault { IfErr result (IsFaultOf class.now) }
 {
-    if !is_writable(class) || has(0, class) {
+    if !is_writable(class) || has(0x0A, class) || has(0, class) {
         return Err(unwritable(alloc, class));
     }
     let text: Result<Result<String, FromUtf16Error>, AllocError> = String::from_utf16(alloc, class);

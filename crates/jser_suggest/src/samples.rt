@@ -1,10 +1,10 @@
 //! What is known of good streams.
-ghost use Rattle.std.specs.Prelude.{◌≡◌, [], ℕ, List, IfErr, IfOk, OnOk, string_bytes};
+ghost use Rattle.std.specs.Prelude.{◌≡◌, [], ℕ, List, true, IfErr, IfOk, OnOk, string_bytes};
 ghost use Rattle.jser_prim.specs.ModifiedUtf8.{utf16_units};
 ghost use Rattle.jser_filter.specs.Pieces.{pieces_of};
 ghost use Rattle.jser_suggest.specs.Answers.{IsNoSample, Learns};
 ghost use Rattle.jser_suggest.specs.Samples.{AreKnown};
-ghost use Rattle.jser_suggest.specs.Suggested.{suggested, suggested_text};
+ghost use Rattle.jser_suggest.specs.Suggested.{suggested, suggested_text, is_one_line};
 ghost use Rattle.jser_suggest.specs.Measures.{IsRaised};
 
 use crate::arrays::{Measured, measure};
@@ -21,7 +21,8 @@ pub enum SampleFault {
     /// The bytes are no stream within the greatest limits, with the first fault; or memory ran out. Never `Spent`.
     Stop(Stop),
     /// No pattern of a filter means this class alone: its name is empty, has `;`, `=` or `/`, begins with `!` or ends with
-    /// `*`, or it is no text that a command line can hold. These are its UTF-16 units.
+    /// `*`; or it has a line feed, which would end a line of a filter's file; or it is no text that a command line can hold.
+    /// These are its UTF-16 units.
     Unwritable(Vec<u16>),
 }
 
@@ -81,12 +82,13 @@ impl Samples {
         }
     }
 
-    /// The text of the least filter that admits all of the streams:
+    /// The text of the least filter that admits all of the streams, in one line:
     /// `maxbytes=B;maxrefs=R;maxdepth=D;maxarray=A;NAME;..;!*`.
     ///
     /// `laws` says what it promises. Takes memory for the text.
     pub fn text(&self, alloc: Global) -> Result<String, AllocError>
         ensures text { IfOk result (λ text. utf16_units (string_bytes text) ≡ suggested_text self.now) }
+        ensures one_line { (streams : List (List ℕ)) → AreKnown streams self.now → IfOk result (λ text. is_one_line (utf16_units (string_bytes text)) ≡ true) }
         ensures pieces { (streams : List (List ℕ)) → AreKnown streams self.now → IfOk result (λ text. pieces_of (utf16_units (string_bytes text)) ≡ suggested self.now) }
     {
         text_of(

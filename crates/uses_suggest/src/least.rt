@@ -1,11 +1,13 @@
 //! A filter from two good streams.
-ghost use Rattle.std.specs.Prelude.{◌⊎◌, ℕ, List, IfOk, OnOk, [], ◌∷◌};
+ghost use Rattle.std.specs.Prelude.{◌≡◌, ◌⊎◌, ℕ, List, true, IfOk, OnOk, [], ◌∷◌, string_bytes};
+ghost use Rattle.jser_prim.specs.ModifiedUtf8.{utf16_units};
 ghost use Rattle.jser_table.specs.Names.{element};
 ghost use Rattle.jser_filter.specs.Filters.{verdict_by};
 ghost use Rattle.jser_check.specs.declared.gate.Options.{Options};
 ghost use Rattle.jser_check.specs.Admitted.{AreAdmitted};
 ghost use Rattle.jser_suggest.specs.Laws.{Has, IsAllowed};
 ghost use Rattle.jser_suggest.specs.Samples.{AreKnown, HasElement, OfStream};
+ghost use Rattle.jser_suggest.specs.Suggested.{is_one_line};
 
 use jser_filter::Filter;
 use jser_suggest::laws::{admits, allows_only};
@@ -39,6 +41,24 @@ pub fn filter_of_two(alloc: Global, first: &[u8], second: &[u8]) -> Result<Filte
         return Err(Unsuggested::NoSample(fault));
     }
     parsed(alloc, &samples)
+}
+
+/// The text of that filter. It has one line, so in a filter's file it is one too.
+///
+/// # Errors
+///
+/// `NoSample`, where one of them is none; `NoMemory`.
+pub fn line_of_two(alloc: Global, first: &[u8], second: &[u8]) -> Result<String, Unsuggested>
+    ensures { IfOk result (λ text. is_one_line (utf16_units (string_bytes text)) ≡ true) }
+{
+    let mut samples = Samples::new(alloc);
+    if let Err(fault) = add_both(alloc, &mut samples, first, second) {
+        return Err(Unsuggested::NoSample(fault));
+    }
+    match samples.text(alloc) {
+        Ok(text) => Ok(text),
+        Err(_) => Err(Unsuggested::NoMemory),
+    }
 }
 
 /// Adds both streams to samples of which nothing is known.

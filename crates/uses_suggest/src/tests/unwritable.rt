@@ -30,7 +30,7 @@ fn answer_to(rt: &(impl Abort + AllocGlobal), name: &[u8]) -> Option<Vec<u16>> {
 
 #[test]
 fn names_that_no_pattern_means_alone(rt: HostRuntime) {
-    let names: [&[u8]; 9] = [
+    let names: [&[u8]; 10] = [
         b"",
         b"A;B",
         b"A=",
@@ -38,6 +38,7 @@ fn names_that_no_pattern_means_alone(rt: HostRuntime) {
         b"!A",
         b"A*",
         b"a.**",
+        b"A\nB",
         b"A\xC0\x80B",
         b"A\xED\xA0\x80",
     ];
