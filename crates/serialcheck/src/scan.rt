@@ -124,26 +124,43 @@ fn enter<W: Sink, E: Sink>(
     print(rt, task, folder, &found, tally, output, faults)
 }
 
-/// Puts the paths of what is in a folder on top of what is waiting, the first one last.
+/// Puts the paths of what is in a folder on top of what is waiting, the first one last. A name that is no UTF-8 names nothing
+/// that can be opened: the folder was then not read as a whole, and the others wait all the same.
 fn names_in(rt: &HostRuntime, folder: &str, waiting: &mut Vec<String>) -> Result<(), Found> {
     let entries = match fs::read_dir(rt, folder) {
         Ok(entries) => entries,
         Err(error) => return Err(unopened(&error)),
     };
     let mut paths: Vec<String> = Vec::new(rt.alloc());
+    let mut is_whole = true;
     for entry in entries {
-        let entry = match entry {
-            Ok(entry) => entry,
+        match entry {
+            Ok(entry) => keep_path(rt, entry.path().as_str(), &mut paths)?,
             Err(error) if error.kind() == ErrorKind::OutOfMemory => return Err(Found::OutOfMemory),
-            Err(_) => return Err(Found::NotRead(InputFault::Failed)),
-        };
-        let Ok(path) = String::from_str(rt.alloc(), entry.path().as_str()) else {
-            return Err(Found::OutOfMemory);
-        };
-        if paths.push(path).is_err() {
-            return Err(Found::OutOfMemory);
+            Err(_) => is_whole = false,
         }
     }
+    put_on_top(paths, waiting)?;
+    if is_whole {
+        Ok(())
+    } else {
+        Err(Found::NotRead(InputFault::Failed))
+    }
+}
+
+/// Adds a path to these.
+fn keep_path(rt: &HostRuntime, path: &str, paths: &mut Vec<String>) -> Result<(), Found> {
+    let Ok(path) = String::from_str(rt.alloc(), path) else {
+        return Err(Found::OutOfMemory);
+    };
+    if paths.push(path).is_err() {
+        return Err(Found::OutOfMemory);
+    }
+    Ok(())
+}
+
+/// Puts these paths on top of what is waiting, the first one last.
+fn put_on_top(mut paths: Vec<String>, waiting: &mut Vec<String>) -> Result<(), Found> {
     if paths.sort().is_err() {
         return Err(Found::OutOfMemory);
     }
