@@ -23,10 +23,10 @@ fn meaning(reason: Reason) -> &'static [u8] {
         Reason::ExceptionTag => {
             b"The writer of the stream met an exception here. Such streams are refused."
         }
-        Reason::ResetInside => b"A reset may stand between the contents of a stream alone.",
+        Reason::ResetInside => b"A reset may only stand between the contents at the top.",
         Reason::BadText => b"These bytes are no modified UTF-8, or not the shortest spelling.",
         Reason::NegativeLength => b"This number is negative.",
-        Reason::BadTypeCode => b"This byte is the code of no type: B C D F I J S Z [ L.",
+        Reason::BadTypeCode => b"This byte is none of the type codes B C D F I J S Z [ L.",
         Reason::FieldOrder => {
             b"A descriptor has its fields of primitive types before all others; this one comes late."
         }

@@ -10,6 +10,7 @@ use crate::hint::hint_of;
 use crate::opened::{say_opened, say_writer, writer_in};
 use crate::piece::{Piece, deciding_piece, say_piece};
 use crate::sentence::sentence_of;
+use jser_grammar::wire::TC_CLASSDESC;
 use jser_index::{text_units, walk_along};
 use jser_prim::{Outbox, Sink};
 use jser_reader::Reason;
@@ -76,7 +77,7 @@ fn say_why<W: Sink>(
     let Some(spot) = spot_of(found) else {
         return Ok(());
     };
-    let class = malformed_name(alloc, bytes, spot, found)?;
+    let class = unasked_name(alloc, bytes, spot, found)?;
     let piece = deciding_piece(alloc, rules, text, found)?;
     let walk = walk_along(alloc, bytes, spot.from)?;
     let opened = walk.opened(alloc)?;
@@ -160,16 +161,39 @@ fn say_rest<W: Sink>(outbox: &mut Outbox, sink: &mut W, rest: &Rest<'_>)
     say(outbox, sink, rest.hint);
 }
 
-/// The name of a class that is refused before the filter is asked, since it begins as that of an array and is none.
-fn malformed_name(
+/// The name of a class that is refused before the filter is asked: it begins as that of an array and is none, or what has
+/// this class may have no such one.
+fn unasked_name(
     alloc: Global,
     bytes: &[u8],
     spot: Spot,
     found: &Found,
 ) -> Result<Option<Vec<u16>>, AllocError> {
-    match (reason_of(found), bytes_at(bytes, spot)) {
-        (Some(Reason::BadArrayName), [_, _, text @ ..]) => Ok(Some(text_units(alloc, text)?)),
+    let is_name = match reason_of(found) {
+        Some(Reason::BadArrayName) => true,
+        Some(Reason::WrongClass) => is_behind_tag(bytes, spot),
+        _ => false,
+    };
+    match bytes_at(bytes, spot) {
+        [_, _, text @ ..] if is_name => Ok(Some(text_units(alloc, text)?)),
         _ => Ok(None),
+    }
+}
+
+/// Whether a field stands behind the tag of a class descriptor, and so is the name of a class where it has two bytes or more.
+fn is_behind_tag(bytes: &[u8], spot: Spot) -> bool {
+    match spot.from.checked_sub(1) {
+        Some(from) => matches!(
+            bytes_at(
+                bytes,
+                Spot {
+                    from,
+                    to: spot.from
+                }
+            ),
+            [TC_CLASSDESC]
+        ),
+        None => false,
     }
 }
 
