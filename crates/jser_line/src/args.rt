@@ -80,7 +80,7 @@ fn filter_file_arg<'a>(alloc: Global) -> Arg<'a>
     ensures local { result.global ≡ false }
 {
     Arg::new(alloc, "filter-file").long("filter-file").help(
-        "A file with a filter in place of --filter: its lines are joined by ';', and a line that begins with '#' says nothing",
+        "A file with a filter in place of --filter: its lines are joined by ';', and a line that begins with '#' is an empty piece",
     )
 }
 
@@ -114,7 +114,7 @@ pub(crate) fn anywhere_arg<'a>(alloc: Global) -> Arg<'a>
         .long("anywhere")
         .action(ArgAction::SetTrue)
         .help(
-            "Asks the filter about every class name that can be read at any place of the file, too",
+            "Also asks the filter about every class name that can be read at any place of the file, or lists it",
         )
 }
 

@@ -26,7 +26,7 @@ const STATUSES: &str = "Statuses:
 Example:
   serialcheck check --strict --filter 'maxdepth=20;java.util.*;java.lang.*;!*' session.ser
 
-serialcheck COMMAND --help tells of a command.";
+serialcheck COMMAND --help tells more of a command.";
 
 /// The program's command, with its subcommands.
 pub(crate) fn command<'a>(alloc: Global) -> Result<Command<'a>, AllocError>

@@ -19,7 +19,7 @@ const EXAMPLES: &str =
 
 Examples:
   serialcheck scan --refused --filter-file session.filter /var/sessions
-  serialcheck scan --json dumps | jq 'select(.answer == \"no\")'";
+  serialcheck scan --json dumps | jq 'select(.answer != \"yes\")'";
 
 /// The command.
 pub(crate) fn scan_command<'a>(alloc: Global) -> Result<Command<'a>, AllocError>
