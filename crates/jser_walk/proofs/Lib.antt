@@ -1,7 +1,6 @@
 pub mod NameLemmas
-pub mod ChainLemmas
-pub mod RunLemmas
 pub mod LayerLemmas
+pub mod HandleLemmas
 pub mod TableLemmas
 pub mod PartLemmas
 pub mod SeenLemmas

@@ -2,7 +2,6 @@ pub mod Given
 pub mod Steps
 pub mod Prompts
 pub mod Views
-pub mod Chains
 pub mod Layers
 pub mod Tables
 pub mod Frames

@@ -1,9 +1,15 @@
 -- What contracts see of the table of handles, and how its fields stand for that.
-use Rattle.std.specs.Prelude.{ℕ, ◌≡◌, ◌<◌, List, [], length, map, All, slice_index_or, Option, Some, None}
+use Rattle.std.specs.Prelude.{ℕ, ◌≡◌, ◌<◌, ◌≤◌, ◌^◌, IsTrue, List, [], ◌∷◌, ◌++◌, length, map, All, slice_get, slice_set, slice_index_or, Option, Some, None}
+use Rattle.std.specs.List.{zip}
+use Rattle.jser_table.specs.declared.Layer.{Layer as TableLayer}
+use Rattle.jser_table.specs.declared.Kind.{Kind}
+use Rattle.jser_table.specs.Entries.{TableEntry, text_entry, other_entry, pending_entry, closed_entry, is_pending}
+use Rattle.jser_table.specs.Chains.{chain_in}
+use Rattle.jser_table.specs.Lines.{line_in, next_line, number_at, parent_number}
+use Rattle.jser_table.specs.Tables.{new_entry, parent_chain, closed_under}
+use Rattle.jser_table.specs.Tables.{TableView as Handles}
 use Rattle.jser_shown.specs.Known.{NamedLayer, proxy_layer, KnownEntry, known_text, known_other, known_pending, known_class, Known, classes_at}
-use Rattle.jser_walk.specs.declared.entry.Entry.{Entry}
-use Rattle.jser_walk.specs.declared.entry.Entry.TheVariants as entry
-use Rattle.jser_walk.specs.declared.chains.Own.{Own}
+use Rattle.jser_walk.specs.declared.class.KeptClass.{KeptClass}
 
 -- what is known of the handles of the epoch; the layers of its classes, in the order in which their fields ended; the
 -- chains of the classes whose descriptors have ended, in this order
@@ -30,52 +36,118 @@ IsChainOf table number None = classes_at table.known number ≡ []
 IsChainOf table number (Some chain) =
     (chain < length table.chains) × (classes_at table.known number ≡ layers_in table.chains chain)
 
-abbrev pub IsChainAbove : TableView → Option ℕ → Option ℕ → Type 0
-IsChainAbove table parent None = layers_above table.known parent ≡ []
-IsChainAbove table parent (Some chain) =
-    (chain < length table.chains) × (layers_above table.known parent ≡ layers_in table.chains chain)
+-- How it is kept: the handles and the lines of their classes in a table of `jser_table`, and by the number of each class
+-- which layer is its own.
 
--- How it is kept: chains by the numbers of their layers, classes by the numbers of their chains.
+abbrev pub no_class : KeptClass
+no_class = record { chain = 0; own = 0; layers = 0 }
 
-abbrev pub named_own : List NamedLayer → Own → NamedLayer
-named_own layers own = layer_in layers own.layer
+abbrev pub class_in : List KeptClass → ℕ → KeptClass
+class_in classes n = slice_index_or classes n no_class
 
-abbrev pub named_chain : List NamedLayer → List Own → List NamedLayer
-named_chain layers chain = map (named_own layers) chain
+abbrev pub named_class : List NamedLayer → List KeptClass → ℕ → NamedLayer
+named_class layers classes n = layer_in layers (class_in classes n).own
 
-abbrev pub named_chains : List NamedLayer → List (List Own) → List (List NamedLayer)
-named_chains layers chains = map (named_chain layers) chains
+abbrev pub named_line : List NamedLayer → List KeptClass → List ℕ → List NamedLayer
+named_line layers classes line = map (named_class layers classes) line
 
-abbrev pub told_entry : List (List NamedLayer) → Entry → KnownEntry
-told_entry chains entry.Text = known_text
-told_entry chains entry.Other = known_other
-told_entry chains entry.Pending = known_pending
-told_entry chains (entry.Class n) = known_class (layers_in chains n)
+abbrev pub named_lines : List NamedLayer → List KeptClass → List (List ℕ) → List (List NamedLayer)
+named_lines layers classes lines = map (named_line layers classes) lines
 
-abbrev pub told_entries : List (List NamedLayer) → List Entry → Known
-told_entries chains entries = map (told_entry chains) entries
+-- an entry that is no class
+abbrev pub told_other : TableEntry → KnownEntry
+told_other text_entry = known_text
+told_other other_entry = known_other
+told_other pending_entry = known_pending
+told_other (closed_entry chain) = known_other
 
-abbrev pub table_of : List Entry → List NamedLayer → List (List Own) → TableView
-table_of entries layers chains = record {
-  known = told_entries (named_chains layers chains) entries;
+-- an entry, with the number of its class, if it is one
+abbrev pub told_entry : List (List NamedLayer) → TableEntry → Option ℕ → KnownEntry
+told_entry chains entry None = told_other entry
+told_entry chains entry (Some n) = known_class (layers_in chains n)
+
+-- the entry of a new handle
+abbrev pub told_new : Kind → KnownEntry
+told_new kind = told_other (new_entry kind)
+
+abbrev pub told_entries : List (List NamedLayer) → List (TableEntry × Option ℕ) → Known
+told_entries chains entries = map (λ (e : TableEntry × Option ℕ). told_entry chains e.0 e.1) entries
+
+abbrev pub told_handles : List (List NamedLayer) → Handles → Known
+told_handles chains handles = told_entries chains (zip handles.entries handles.numbers)
+
+abbrev pub table_of : Handles → List NamedLayer → List KeptClass → TableView
+table_of handles layers classes = record {
+  known = told_handles (named_lines layers classes handles.lines) handles;
   layers = layers;
-  chains = named_chains layers chains;
+  chains = named_lines layers classes handles.lines;
 }
 
--- a class is told by the number of one of so many chains
-abbrev pub IsAmong : ℕ → Entry → Type 0
-IsAmong chains entry.Text = Unit {0}
-IsAmong chains entry.Other = Unit {0}
-IsAmong chains entry.Pending = Unit {0}
-IsAmong chains (entry.Class n) = n < chains
+-- the number is that of one of so many classes
+abbrev pub IsAmong : ℕ → Option ℕ → Type 0
+IsAmong classes None = Unit {0}
+IsAmong classes (Some n) = n < classes
 
--- a layer has the number of one of these
-abbrev pub IsOwnOf : List NamedLayer → Own → Type 0
-IsOwnOf layers own = own.layer < length layers
+abbrev pub AreAmong : ℕ → List ℕ → Type 0
+AreAmong classes line = All (λ n. n < classes) line
 
-abbrev pub AreOf : List NamedLayer → List Own → Type 0
-AreOf layers chain = All (IsOwnOf layers) chain
+-- the own layer is one of so many
+abbrev pub IsOwn : ℕ → KeptClass → Type 0
+IsOwn layers class = class.own < layers
 
-pub record IsSound (entries : List Entry) (layers : List NamedLayer) (chains : List (List Own)) : Type 0 where
-  pub among : All (IsAmong (length chains)) entries
-  pub of : All (AreOf layers) chains
+-- the class with the number n: its line ends with itself
+pub record IsNumbered (lines : List (List ℕ)) (classes : List KeptClass) (n : ℕ) : Type 0 where
+  pub above : List ℕ
+  pub ends : line_in lines n ≡ above ++ n ∷ []
+  pub number : (class_in classes n).chain ≡ n
+
+abbrev pub counted : KeptClass → ℕ
+counted class = class.layers
+
+pub record IsSound (handles : Handles) (layers : List NamedLayer) (classes : List KeptClass) : Type 0 where
+  pub most : handles.max < 2 ^ 32
+  pub within : length handles.entries ≤ handles.max
+  pub fewer : length handles.chains < 2 ^ 32
+  pub paired : length handles.numbers ≡ length handles.entries
+  pub among : All (IsAmong (length handles.lines)) handles.numbers
+  pub long : map length handles.chains ≡ map length handles.lines
+  pub counts : map counted classes ≡ map length handles.lines
+  pub owns : All (IsOwn (length layers)) classes
+  pub of : All (AreAmong (length handles.lines)) handles.lines
+  pub numbered : (n : ℕ) → n < length handles.lines → IsNumbered handles.lines classes n
+
+-- What the table of handles answers, and what it becomes.
+
+-- the handle is that of the class with the number n
+pub record HasClass (handles : Handles) (handle n : ℕ) : Type 0 where
+  pub number_is : number_at handles.numbers handle ≡ Some n
+  pub entry_is : slice_get handles.entries handle ≡ Some (closed_entry (chain_in handles.chains n))
+  pub inside : n < length handles.chains
+
+-- the number of the class of a handle, if it is a class
+abbrev pub IsClassAt : Handles → (handle : ℕ) → Option ℕ → Type 0
+IsClassAt handles handle None = number_at handles.numbers handle ≡ None
+IsClassAt handles handle (Some n) = HasClass handles handle n
+
+pub record IsClosedParent (handles : Handles) (parent : Option ℕ) (handle : ℕ) : Type 0 where
+  pub number : ℕ
+  pub parent_is : parent ≡ Some handle
+  pub has : HasClass handles handle number
+
+-- the handle of the parent, if that is a class
+abbrev pub IsParent : Handles → (parent : Option ℕ) → Option ℕ → Type 0
+IsParent handles parent None = parent_number handles.numbers parent ≡ None
+IsParent handles parent (Some handle) = IsClosedParent handles parent handle
+
+pub record IsPending (handles : Handles) (handle : ℕ) : Type 0 where
+  pub fits : handle < 2 ^ 32
+  pub pending : IsTrue (is_pending (slice_get handles.entries handle))
+
+-- the descriptor with this handle has ended, under this parent
+pub record Closes (old new : Handles) (handle : ℕ) (parent : Option ℕ) : Type 0 where
+  pub layer : TableLayer
+  pub entries : new.entries ≡ slice_set old.entries handle (closed_under old.entries parent layer)
+  pub numbers : new.numbers ≡ slice_set old.numbers handle (Some (length old.chains))
+  pub chains : new.chains ≡ old.chains ++ (parent_chain old.entries parent ++ layer ∷ []) ∷ []
+  pub lines : new.lines ≡ old.lines ++ next_line old.lines (parent_number old.numbers parent) ∷ []
+  pub max : new.max ≡ old.max

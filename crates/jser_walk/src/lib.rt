@@ -1,10 +1,9 @@
 //! The walk along the fields of a stream.
 #![tactic(auto)]
 
-mod chains;
+mod class;
 mod draft;
 mod due;
-mod entry;
 mod field;
 mod frame;
 pub mod laws;

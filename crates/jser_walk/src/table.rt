@@ -1,21 +1,28 @@
 //! The table of handles of an epoch, with the names of classes and fields.
-ghost use Rattle.std.specs.Prelude.{◌≡◌, ◌<◌, [], ◌∷◌, ◌++◌, length, slice_get, slice_set, option_map, Some, OnOk, OnErr, IfOk};
+//!
+//! A table of `jser_table` knows what each handle names, and which classes are in a chain. Here the names are kept, and
+//! found by the numbers that it gives to classes.
+ghost use Rattle.std.specs.Prelude.{◌≡◌, ◌<◌, ◌+◌, ◌^◌, [], ◌∷◌, ◌++◌, true, length, slice_get, slice_set, Some, IsTrue, OnOk, OnErr, IfOk, IfSome};
+ghost use Rattle.std.specs.Option.{ForSome};
+ghost use Rattle.jser_table.specs.Entries.{is_closed, is_pending};
+ghost use Rattle.jser_table.specs.Tables.{parent_chain};
 ghost use Rattle.jser_shown.specs.Known.{known_text, known_other, known_pending, known_class, with_entry, own_class_of};
 ghost use Rattle.jser_walk.specs.Layers.{told_layer};
-ghost use Rattle.jser_walk.specs.Tables.{layer_in, layers_in, layers_above, IsChainOf, IsChainAbove};
+ghost use Rattle.jser_walk.specs.Tables.{layer_in, layers_in, layers_above, told_new, IsChainOf, IsClassAt, IsParent, IsPending, Closes};
 
-use crate::chains::{Chains, Own};
-use crate::entry::Entry;
+use crate::class::KeptClass;
 use crate::layer::Layer;
+use jser_table::{ChainNumber, Class, Entry, KeptLayer, Kind, LayerKind, Table as Handles};
 use std::alloc::{AllocError, Global};
 use std::marker::Model;
 
 /// The handles of an epoch, the layers of its classes, and the chains of those whose descriptors have ended.
 #[derive(Drop)]
 pub(crate) struct Table {
-    entries: Vec<Entry>,
+    handles: Handles,
     layers: Vec<Layer>,
-    chains: Chains,
+    /// Of the class with each number.
+    classes: Vec<KeptClass>,
 }
 
 impl Model for Table {
@@ -24,9 +31,9 @@ impl Model for Table {
 
     ghost Value = { TableView };
 
-    ghost view = { λ a. table_of a.entries.items (told_layers a.layers.items) a.chains };
+    ghost view = { λ a. table_of a.handles (told_layers a.layers.items) a.classes.items };
 
-    ghost invariant = { λ a. IsSound a.entries.items (told_layers a.layers.items) a.chains };
+    ghost invariant = { λ a. IsSound a.handles (told_layers a.layers.items) a.classes.items };
 }
 
 impl Table {
@@ -38,9 +45,9 @@ impl Table {
         ensures chains { result.chains ≡ [] }
     {
         Table {
-            entries: Vec::new(alloc),
+            handles: Handles::new(alloc, 0xFFFF_FFFF),
             layers: Vec::new(alloc),
-            chains: Chains::new(alloc),
+            classes: Vec::new(alloc),
         }
     }
 
@@ -51,18 +58,18 @@ impl Table {
         ensures layers { self.new.layers ≡ [] }
         ensures chains { self.new.chains ≡ [] }
     {
-        self.entries.clear();
+        self.handles.reset();
         self.layers.clear();
-        self.chains.clear();
+        self.classes.clear();
     }
 
     /// How many handles are assigned.
-    #[tactic(auto, using(crate::proofs::TableLemmas::count_known))]
+    #[tactic(auto, using(crate::proofs::HandleLemmas::count_handles))]
     #[inline(always)]
     pub(crate) fn count(&self) -> usize
         ensures { result ≡ length self.now.known }
     {
-        self.entries.len()
+        self.handles.count() as usize
     }
 
     /// Assigns the next handle to a string.
@@ -72,8 +79,7 @@ impl Table {
         ensures layers { self.new.layers ≡ self.old.layers }
         ensures chains { self.new.chains ≡ self.old.chains }
     {
-        self.entries.push(Entry::Text)?;
-        Ok(())
+        self.add(Kind::Text)
     }
 
     /// Assigns the next handle to a class object, an array, an enum constant or an object.
@@ -83,8 +89,7 @@ impl Table {
         ensures layers { self.new.layers ≡ self.old.layers }
         ensures chains { self.new.chains ≡ self.old.chains }
     {
-        self.entries.push(Entry::Other)?;
-        Ok(())
+        self.add(Kind::Other)
     }
 
     /// Assigns the next handle to a descriptor.
@@ -93,12 +98,23 @@ impl Table {
         ensures layers { self.new.layers ≡ self.old.layers }
         ensures chains { self.new.chains ≡ self.old.chains }
     {
-        self.entries.push(Entry::Pending)?;
+        self.add(Kind::Pending)
+    }
+
+    /// Assigns the next handle. There may be 2^32 - 1 of them, more than a stream has.
+    #[inline(always)]
+    fn add(&mut self, kind: Kind) -> Result<(), AllocError>
+        ensures known { OnOk result (self.new.known ≡ with_entry self.old.known (told_new kind)) }
+        ensures layers { self.new.layers ≡ self.old.layers }
+        ensures chains { self.new.chains ≡ self.old.chains }
+    {
+        let Ok(_number) = self.handles.assign(kind) else {
+            return Err(AllocError);
+        };
         Ok(())
     }
 
     /// Keeps a layer, and gives its number.
-    #[tactic(auto, using(crate::proofs::TableLemmas::named_chains_more))]
     pub(crate) fn add_layer(&mut self, layer: Layer) -> Result<u32, AllocError>
         ensures layers { OnOk result (self.new.layers ≡ self.old.layers ++ told_layer layer ∷ []) }
         ensures number { IfOk result (λ number. number ≡ length self.old.layers) }
@@ -116,6 +132,11 @@ impl Table {
 
     /// The descriptor with this number has ended: its class has this layer, under the class with the number of the
     /// parent, if there is one.
+    ///
+    /// # Errors
+    ///
+    /// Where memory runs out, or no descriptor with this number is open; a stream that was checked closes each
+    /// descriptor once.
     pub(crate) fn close(
         &mut self,
         number: usize,
@@ -128,44 +149,40 @@ impl Table {
         ensures chains { OnOk result (self.new.chains ≡ self.old.chains ++ (layers_above self.old.known parent ++ (layer_in self.old.layers layer ∷ [])) ∷ []) }
         ensures kept { OnErr result (self.new.chains ≡ self.old.chains) }
     {
-        let above = self.chain_above(parent);
-        let chain = self.chains.add(Own { layer }, above)?;
-        if number < self.entries.len() {
-            self.entries[number] = Entry::Class(chain);
+        if !is_pending_at(&self.handles, number) {
+            return Err(AllocError);
         }
-        Ok(())
+        let above = parent_in(&self.handles, parent);
+        let Some(layers) = layers_under(&self.handles, above) else {
+            return Err(AllocError);
+        };
+        self.classes.reserve(1)?;
+        let chain = close_in(&mut self.handles, number as u32, above);
+        match self.classes.push(KeptClass {
+            chain,
+            own: layer,
+            layers,
+        }) {
+            Ok(()) => Ok(()),
+            Err(_) => unreachable!(),
+        }
     }
 
     /// The chain of the class with this number, if it is one.
-    #[tactic(auto, using(crate::proofs::TableLemmas::is_chain, crate::proofs::TableLemmas::is_no_chain))]
     #[inline(always)]
     pub(crate) fn chain(&self, number: usize) -> Option<u32>
         ensures { IsChainOf self.now number result }
     {
-        match self.entries.get(number) {
-            Some(Entry::Class(chain)) => Some(*chain),
-            _ => None,
-        }
-    }
-
-    /// The same of the number of a parent, if there is one.
-    fn chain_above(&self, parent: Option<usize>) -> Option<u32>
-        ensures { IsChainAbove self.now parent result }
-    {
-        match parent {
-            Some(number) => self.chain(number),
-            None => None,
-        }
+        class_at(&self.handles, number)
     }
 
     /// How many layers the chain has.
-    #[tactic(auto, using(crate::proofs::TableLemmas::length_named, crate::proofs::TableLemmas::length_chains))]
     #[inline(always)]
     pub(crate) fn layers(&self, chain: u32) -> usize
         requires { chain < length self.now.chains }
         ensures { result ≡ length (layers_in self.now.chains chain) }
     {
-        self.chains.layers(chain)
+        self.classes[chain as usize].layers as usize
     }
 
     /// The layer of the chain at this index, where 0 is the highest superclass.
@@ -175,19 +192,53 @@ impl Table {
         requires index_in { index < length (layers_in self.now.chains chain) }
         ensures { slice_get (layers_in self.now.chains chain) index ≡ Some (told_layer result.now) }
     {
-        let own = self.chains.layer(chain, index);
-        &self.layers[own.layer as usize]
+        self.layer_of_class(self.class_of_layer(chain, index))
+    }
+
+    /// The class whose own layer is the one of the chain at this index.
+    #[inline(always)]
+    fn class_of_layer(&self, chain: u32, index: usize) -> usize
+        requires chain_in { chain < length self.now.chains }
+        requires index_in { index < length (layers_in self.now.chains chain) }
+        ensures inside { result < length self.now.chains }
+        ensures layer { slice_get (layers_in self.now.chains chain) index ≡ Some (own_class_of (layers_in self.now.chains result)) }
+    {
+        let handles = &self.handles;
+        let layers = self.layers(chain);
+        if index + 1 == layers {
+            return chain as usize;
+        }
+        let number = self.number_of(chain);
+        handles.class_of_layer(number, index).index()
+    }
+
+    /// The number of a class, as `jser_table` gave it.
+    #[inline(always)]
+    fn number_of(&self, chain: u32) -> ChainNumber
+        requires { chain < length self.now.chains }
+        ensures { result ≡ chain }
+    {
+        self.classes[chain as usize].chain
     }
 
     /// The class's own layer.
-    #[tactic(auto, using(crate::proofs::TableLemmas::own_named, crate::proofs::TableLemmas::length_chains))]
     #[inline(always)]
     pub(crate) fn own(&self, chain: u32) -> &Layer
         requires { chain < length self.now.chains }
         ensures { own_class_of (layers_in self.now.chains chain) ≡ told_layer result.now }
     {
-        let own = self.chains.own(chain);
-        &self.layers[own.layer as usize]
+        self.layer_of_class(chain as usize)
+    }
+
+    /// The own layer of the class with this number.
+    #[tactic(auto, using(crate::proofs::TableLemmas::own_kept))]
+    #[inline(always)]
+    fn layer_of_class(&self, class: usize) -> &Layer
+        requires { class < length self.now.chains }
+        ensures { own_class_of (layers_in self.now.chains class) ≡ told_layer result.now }
+    {
+        let own = self.classes[class].own;
+        &self.layers[own as usize]
     }
 
     /// The layer with this number, if there is one.
@@ -199,7 +250,7 @@ impl Table {
     pub(crate) fn layers_of(&self, chain: u32) -> usize
         ensures { chain < length self.now.chains → result ≡ length (layers_in self.now.chains chain) }
     {
-        if (chain as usize) < self.chains.count() {
+        if (chain as usize) < self.classes.len() {
             self.layers(chain)
         } else {
             0
@@ -208,7 +259,7 @@ impl Table {
 
     /// The layer of a chain at this index, if there is one.
     pub(crate) fn layer_of(&self, chain: u32, index: usize) -> Option<&Layer> {
-        if (chain as usize) < self.chains.count() && index < self.layers(chain) {
+        if (chain as usize) < self.classes.len() && index < self.layers(chain) {
             Some(self.layer(chain, index))
         } else {
             None
@@ -217,10 +268,81 @@ impl Table {
 
     /// The own layer of a class, if there is a chain with this number.
     pub(crate) fn own_of(&self, chain: u32) -> Option<&Layer> {
-        if (chain as usize) < self.chains.count() {
+        if (chain as usize) < self.classes.len() {
             Some(self.own(chain))
         } else {
             None
         }
+    }
+}
+
+/// The number of the class of a handle, if it is a class.
+#[tactic(auto, using(crate::proofs::HandleLemmas::no_class_past))]
+#[inline(always)]
+fn class_at(handles: &Handles, number: usize) -> Option<u32>
+    requires numbers { length handles.now.numbers < 2 ^ 32 }
+    requires chains { length handles.now.chains < 2 ^ 32 }
+    ensures { IsClassAt handles.now number result }
+{
+    if number > 0xFFFF_FFFF {
+        return None;
+    }
+    match handles.class_at(number as u32) {
+        Class::Closed(chain) => Some(chain.index() as u32),
+        Class::NotThere => None,
+        Class::NoClass => None,
+        Class::Open => None,
+    }
+}
+
+/// The handle of the parent, if that is a class.
+fn parent_in(handles: &Handles, parent: Option<usize>) -> Option<u32>
+    requires numbers { length handles.now.numbers < 2 ^ 32 }
+    requires chains { length handles.now.chains < 2 ^ 32 }
+    ensures { IsParent handles.now parent result }
+{
+    let number = parent?;
+    class_at(handles, number)?;
+    Some(number as u32)
+}
+
+/// Whether a descriptor with this handle is open.
+fn is_pending_at(handles: &Handles, number: usize) -> bool
+    ensures { result ≡ true → IsPending handles.now number }
+{
+    number <= 0xFFFF_FFFF && matches!(handles.get(number as u32), Some(Entry::Pending))
+}
+
+/// How many layers the chain of a class has under this parent; None where there are too many to count.
+fn layers_under(handles: &Handles, parent: Option<u32>) -> Option<u32>
+    requires { ForSome parent (λ p. IsTrue (is_closed (slice_get handles.now.entries p))) }
+    ensures { IfSome result (λ layers. layers ≡ length (parent_chain handles.now.entries parent) + 1) }
+{
+    let above = match parent {
+        Some(parent) => handles.layers(parent),
+        None => 0,
+    };
+    if above >= 0xFFFF_FFFF {
+        return None;
+    }
+    Some(above as u32 + 1)
+}
+
+/// Closes a descriptor, under this parent, and gives the number of its class. Its layer says nothing of it: what is known
+/// of the class is kept by that number.
+fn close_in(handles: &mut Handles, number: u32, parent: Option<u32>) -> ChainNumber
+    requires pending { IsTrue (is_pending (slice_get handles.old.entries number)) }
+    requires parent { ForSome parent (λ p. IsTrue (is_closed (slice_get handles.old.entries p))) }
+    ensures closes { Closes handles.old handles.new number parent }
+    ensures number { result ≡ length handles.old.chains }
+    ensures fewer { length handles.new.chains < 2 ^ 32 }
+{
+    handles.close_kept(number, KeptLayer::bare(LayerKind::Other, 0), parent);
+    let _classes = handles.classes();
+    match handles.class_at(number) {
+        Class::Closed(chain) => chain,
+        Class::NotThere => unreachable!(),
+        Class::NoClass => unreachable!(),
+        Class::Open => unreachable!(),
     }
 }

@@ -1,0 +1,14 @@
+//! What the table keeps of a class whose descriptor has ended, beside what `jser_table` keeps.
+
+use jser_table::ChainNumber;
+
+/// A class.
+#[derive(Drop)]
+pub(crate) struct KeptClass {
+    /// Its number, by which `jser_table` finds its chain.
+    pub(crate) chain: ChainNumber,
+    /// The number of its own layer.
+    pub(crate) own: u32,
+    /// How many layers its chain has.
+    pub(crate) layers: u32,
+}
