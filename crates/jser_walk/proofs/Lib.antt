@@ -2,6 +2,7 @@ pub mod NameLemmas
 pub mod LayerLemmas
 pub mod HandleLemmas
 pub mod TableLemmas
+pub mod CloseLemmas
 pub mod PartLemmas
 pub mod SeenLemmas
 pub mod FrameLemmas

@@ -1,6 +1,6 @@
 -- What contracts see of the table of handles, and how its fields stand for that.
-use Rattle.std.specs.Prelude.{ℕ, ◌≡◌, ◌<◌, ◌≤◌, ◌^◌, IsTrue, List, [], ◌∷◌, ◌++◌, length, map, All, slice_get, slice_set, slice_index_or, Option, Some, None}
-use Rattle.std.specs.List.{zip}
+use Rattle.std.specs.Prelude.{ℕ, ◌≡◌, ◌+◌, ◌<◌, ◌≤◌, ◌^◌, ◌⊎◌, IsTrue, List, [], ◌∷◌, ◌++◌, length, map, All, slice_get, slice_set, slice_index_or, Option, Some, None}
+use Rattle.std.specs.List.{zip, range_with_len}
 use Rattle.jser_table.specs.declared.Layer.{Layer as TableLayer}
 use Rattle.jser_table.specs.declared.Kind.{Kind}
 use Rattle.jser_table.specs.Entries.{TableEntry, text_entry, other_entry, pending_entry, closed_entry, is_pending}
@@ -10,6 +10,7 @@ use Rattle.jser_table.specs.Tables.{new_entry, parent_chain, closed_under}
 use Rattle.jser_table.specs.Tables.{TableView as Handles}
 use Rattle.jser_shown.specs.Known.{NamedLayer, proxy_layer, KnownEntry, known_text, known_other, known_pending, known_class, Known, classes_at}
 use Rattle.jser_walk.specs.declared.class.KeptClass.{KeptClass}
+use Rattle.jser_walk.specs.declared.class.Parent.{Parent}
 
 -- what is known of the handles of the epoch; the layers of its classes, in the order in which their fields ended; the
 -- chains of the classes whose descriptors have ended, in this order
@@ -40,7 +41,7 @@ IsChainOf table number (Some chain) =
 -- which layer is its own.
 
 abbrev pub no_class : KeptClass
-no_class = record { chain = 0; own = 0; layers = 0 }
+no_class = record { chain = 0; own = 0; layers = 0; straight = 0 }
 
 abbrev pub class_in : List KeptClass → ℕ → KeptClass
 class_in classes n = slice_index_or classes n no_class
@@ -95,10 +96,12 @@ AreAmong classes line = All (λ n. n < classes) line
 abbrev pub IsOwn : ℕ → KeptClass → Type 0
 IsOwn layers class = class.own < layers
 
--- the class with the number n: its line ends with itself
+-- the class with the number n: its line ends with so many numbers before its own, and with that
 pub record IsNumbered (lines : List (List ℕ)) (classes : List KeptClass) (n : ℕ) : Type 0 where
   pub above : List ℕ
-  pub ends : line_in lines n ≡ above ++ n ∷ []
+  pub first : ℕ
+  pub line : line_in lines n ≡ above ++ range_with_len first ((class_in classes n).straight + 1)
+  pub last : first + (class_in classes n).straight ≡ n
   pub number : (class_in classes n).chain ≡ n
 
 abbrev pub counted : KeptClass → ℕ
@@ -129,15 +132,24 @@ abbrev pub IsClassAt : Handles → (handle : ℕ) → Option ℕ → Type 0
 IsClassAt handles handle None = number_at handles.numbers handle ≡ None
 IsClassAt handles handle (Some n) = HasClass handles handle n
 
-pub record IsClosedParent (handles : Handles) (parent : Option ℕ) (handle : ℕ) : Type 0 where
-  pub number : ℕ
-  pub parent_is : parent ≡ Some handle
-  pub has : HasClass handles handle number
-
--- the handle of the parent, if that is a class
-abbrev pub IsParent : Handles → (parent : Option ℕ) → Option ℕ → Type 0
+-- the parent, if it is a class
+abbrev pub IsParent : Handles → Option ℕ → Option Parent → Type 0
 IsParent handles parent None = parent_number handles.numbers parent ≡ None
-IsParent handles parent (Some handle) = IsClosedParent handles parent handle
+IsParent handles parent (Some p) = (parent ≡ Some p.handle) × HasClass handles p.handle p.class
+
+abbrev pub handle_of : Option Parent → Option ℕ
+handle_of None = None
+handle_of (Some p) = Some p.handle
+
+-- of the next class, under this parent
+abbrev pub layers_under : List KeptClass → Option Parent → ℕ
+layers_under classes None = 1
+layers_under classes (Some p) = (class_in classes p.class).layers + 1
+
+abbrev pub IsStraight : List KeptClass → Option Parent → ℕ → Type 0
+IsStraight classes None straight = straight ≡ 0
+IsStraight classes (Some p) straight =
+    (straight ≡ 0) ⊎ ((p.class + 1 ≡ length classes) × (straight ≡ (class_in classes p.class).straight + 1))
 
 pub record IsPending (handles : Handles) (handle : ℕ) : Type 0 where
   pub fits : handle < 2 ^ 32

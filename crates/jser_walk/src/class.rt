@@ -11,4 +11,14 @@ pub(crate) struct KeptClass {
     pub(crate) own: u32,
     /// How many layers its chain has.
     pub(crate) layers: u32,
+    /// How many of its superclasses, from the parent on, have the numbers just before its own: their layers are found at
+    /// once.
+    pub(crate) straight: u32,
+}
+
+/// The parent of a class, by its handle and its number.
+#[derive(Clone, Copy)]
+pub(crate) struct Parent {
+    pub(crate) handle: u32,
+    pub(crate) class: u32,
 }

@@ -5,12 +5,11 @@
 ghost use Rattle.std.specs.Prelude.{◌≡◌, ◌<◌, ◌+◌, ◌^◌, [], ◌∷◌, ◌++◌, true, length, slice_get, slice_set, Some, IsTrue, OnOk, OnErr, IfOk, IfSome};
 ghost use Rattle.std.specs.Option.{ForSome};
 ghost use Rattle.jser_table.specs.Entries.{is_closed, is_pending};
-ghost use Rattle.jser_table.specs.Tables.{parent_chain};
 ghost use Rattle.jser_shown.specs.Known.{known_text, known_other, known_pending, known_class, with_entry, own_class_of};
 ghost use Rattle.jser_walk.specs.Layers.{told_layer};
-ghost use Rattle.jser_walk.specs.Tables.{layer_in, layers_in, layers_above, told_new, IsChainOf, IsClassAt, IsParent, IsPending, Closes};
+ghost use Rattle.jser_walk.specs.Tables.{layer_in, layers_in, layers_above, told_new, IsChainOf, IsClassAt, IsParent, handle_of, layers_under, IsStraight, IsPending, Closes};
 
-use crate::class::KeptClass;
+use crate::class::{KeptClass, Parent};
 use crate::layer::Layer;
 use jser_table::{ChainNumber, Class, Entry, KeptLayer, Kind, LayerKind, Table as Handles};
 use std::alloc::{AllocError, Global};
@@ -153,15 +152,17 @@ impl Table {
             return Err(AllocError);
         }
         let above = parent_in(&self.handles, parent);
-        let Some(layers) = layers_under(&self.handles, above) else {
+        let Some(layers) = layers_under(&self.classes, above) else {
             return Err(AllocError);
         };
+        let straight = straight_under(&self.classes, above);
         self.classes.reserve(1)?;
-        let chain = close_in(&mut self.handles, number as u32, above);
+        let chain = close_in(&mut self.handles, number as u32, handle_of(above));
         match self.classes.push(KeptClass {
             chain,
             own: layer,
             layers,
+            straight,
         }) {
             Ok(()) => Ok(()),
             Err(_) => unreachable!(),
@@ -203,22 +204,13 @@ impl Table {
         ensures inside { result < length self.now.chains }
         ensures layer { slice_get (layers_in self.now.chains chain) index ≡ Some (own_class_of (layers_in self.now.chains result)) }
     {
-        let handles = &self.handles;
         let layers = self.layers(chain);
-        if index + 1 == layers {
-            return chain as usize;
+        let class = &self.classes[chain as usize];
+        let back = layers - 1 - index;
+        if back <= class.straight as usize {
+            return chain as usize - back;
         }
-        let number = self.number_of(chain);
-        handles.class_of_layer(number, index).index()
-    }
-
-    /// The number of a class, as `jser_table` gave it.
-    #[inline(always)]
-    fn number_of(&self, chain: u32) -> ChainNumber
-        requires { chain < length self.now.chains }
-        ensures { result ≡ chain }
-    {
-        self.classes[chain as usize].chain
+        self.handles.class_of_layer(class.chain, index).index()
     }
 
     /// The class's own layer.
@@ -231,7 +223,6 @@ impl Table {
     }
 
     /// The own layer of the class with this number.
-    #[tactic(auto, using(crate::proofs::TableLemmas::own_kept))]
     #[inline(always)]
     fn layer_of_class(&self, class: usize) -> &Layer
         requires { class < length self.now.chains }
@@ -295,15 +286,28 @@ fn class_at(handles: &Handles, number: usize) -> Option<u32>
     }
 }
 
-/// The handle of the parent, if that is a class.
-fn parent_in(handles: &Handles, parent: Option<usize>) -> Option<u32>
+/// The parent, if it is a class.
+fn parent_in(handles: &Handles, parent: Option<usize>) -> Option<Parent>
     requires numbers { length handles.now.numbers < 2 ^ 32 }
     requires chains { length handles.now.chains < 2 ^ 32 }
     ensures { IsParent handles.now parent result }
 {
     let number = parent?;
-    class_at(handles, number)?;
-    Some(number as u32)
+    let class = class_at(handles, number)?;
+    Some(Parent {
+        handle: number as u32,
+        class,
+    })
+}
+
+/// Its handle.
+fn handle_of(parent: Option<Parent>) -> Option<u32>
+    ensures { result ≡ handle_of parent }
+{
+    match parent {
+        Some(parent) => Some(parent.handle),
+        None => None,
+    }
 }
 
 /// Whether a descriptor with this handle is open.
@@ -314,18 +318,31 @@ fn is_pending_at(handles: &Handles, number: usize) -> bool
 }
 
 /// How many layers the chain of a class has under this parent; None where there are too many to count.
-fn layers_under(handles: &Handles, parent: Option<u32>) -> Option<u32>
-    requires { ForSome parent (λ p. IsTrue (is_closed (slice_get handles.now.entries p))) }
-    ensures { IfSome result (λ layers. layers ≡ length (parent_chain handles.now.entries parent) + 1) }
+fn layers_under(classes: &[KeptClass], parent: Option<Parent>) -> Option<u32>
+    requires { ForSome parent (λ p. p.class < length classes.now) }
+    ensures { IfSome result (λ layers. layers ≡ layers_under classes.now parent) }
 {
-    let above = match parent {
-        Some(parent) => handles.layers(parent),
-        None => 0,
-    };
-    if above >= 0xFFFF_FFFF {
-        return None;
+    match parent {
+        Some(parent) => classes[parent.class as usize].layers.checked_add(1),
+        None => Some(1),
     }
-    Some(above as u32 + 1)
+}
+
+/// How many superclasses of the next class, from this parent on, have the numbers just before its own. 0 is never wrong.
+fn straight_under(classes: &[KeptClass], parent: Option<Parent>) -> u32
+    requires { ForSome parent (λ p. p.class < length classes.now) }
+    ensures { IsStraight classes.now parent result }
+{
+    match parent {
+        Some(parent) => {
+            let class = parent.class as usize;
+            if class + 1 != classes.len() || classes[class].straight == 0xFFFF_FFFF {
+                return 0;
+            }
+            classes[class].straight + 1
+        }
+        None => 0,
+    }
 }
 
 /// Closes a descriptor, under this parent, and gives the number of its class. Its layer says nothing of it: what is known

@@ -2,4 +2,4 @@ use Rattle.jser_walk.proofs.TableLemmas.{layers_kept}
 use Rattle.jser_walk.proofs.table.Table.layers.Goals as goal
 
 pub returns : goal.returns
-returns c = layers_kept _ _ _ _ _ _ c.self.view_is c.self.invariant c.requires c.index.ensures
+returns c = layers_kept _ _ _ _ c.self.view_is c.self.invariant _ _ c.requires c.index.ensures
