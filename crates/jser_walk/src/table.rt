@@ -1,7 +1,7 @@
 //! The table of handles of an epoch, with the names of classes and fields.
 //!
-//! A table of `jser_table` knows what each handle names, and which classes are in a chain. Here the names are kept, and
-//! found by the numbers that it gives to classes.
+//! A table of `jser_table` knows what each handle names and which classes are in a chain. The names are kept beside it, by
+//! the numbers that it gives to classes.
 ghost use Rattle.std.specs.Prelude.{◌≡◌, ◌<◌, ◌+◌, ◌^◌, [], ◌∷◌, ◌++◌, true, length, slice_get, slice_set, Some, IsTrue, OnOk, OnErr, IfOk, IfSome};
 ghost use Rattle.std.specs.Option.{ForSome};
 ghost use Rattle.jser_table.specs.Entries.{is_closed, is_pending};
@@ -20,7 +20,7 @@ use std::marker::Model;
 pub(crate) struct Table {
     handles: Handles,
     layers: Vec<Layer>,
-    /// Of the class with each number.
+    /// The classes in the order of their numbers.
     classes: Vec<KeptClass>,
 }
 
@@ -100,7 +100,7 @@ impl Table {
         self.add(Kind::Pending)
     }
 
-    /// Assigns the next handle. There may be 2^32 - 1 of them, more than a stream has.
+    /// Assigns the next handle. There may be 2^32 - 1 of them, more than any stream that was checked has.
     #[inline(always)]
     fn add(&mut self, kind: Kind) -> Result<(), AllocError>
         ensures known { OnOk result (self.new.known ≡ with_entry self.old.known (told_new kind)) }
@@ -134,8 +134,8 @@ impl Table {
     ///
     /// # Errors
     ///
-    /// Where memory runs out, or no descriptor with this number is open; a stream that was checked closes each
-    /// descriptor once.
+    /// Where memory runs out, where no descriptor with this number is open, or where its chain has more layers than 32 bits
+    /// count. No stream that was checked leads to the last two.
     pub(crate) fn close(
         &mut self,
         number: usize,
@@ -328,7 +328,8 @@ fn layers_under(classes: &[KeptClass], parent: Option<Parent>) -> Option<u32>
     }
 }
 
-/// How many superclasses of the next class, from this parent on, have the numbers just before its own. 0 is never wrong.
+/// How many superclasses of the next class, from this parent on, have the numbers just before its own. To answer fewer is
+/// never wrong: the layers of the others are found by a walk up the chain.
 fn straight_under(classes: &[KeptClass], parent: Option<Parent>) -> u32
     requires { ForSome parent (λ p. p.class < length classes.now) }
     ensures { IsStraight classes.now parent result }
@@ -345,8 +346,8 @@ fn straight_under(classes: &[KeptClass], parent: Option<Parent>) -> u32
     }
 }
 
-/// Closes a descriptor, under this parent, and gives the number of its class. Its layer says nothing of it: what is known
-/// of the class is kept by that number.
+/// Closes a descriptor under this parent, and gives the number of its class. The layer that `jser_table` is given is empty:
+/// what the walk knows of the class is kept by that number.
 fn close_in(handles: &mut Handles, number: u32, parent: Option<u32>) -> ChainNumber
     requires pending { IsTrue (is_pending (slice_get handles.old.entries number)) }
     requires parent { ForSome parent (λ p. IsTrue (is_closed (slice_get handles.old.entries p))) }
@@ -355,6 +356,7 @@ fn close_in(handles: &mut Handles, number: u32, parent: Option<u32>) -> ChainNum
     ensures fewer { length handles.new.chains < 2 ^ 32 }
 {
     handles.close_kept(number, KeptLayer::bare(LayerKind::Other, 0), parent);
+    // Their number is one of 32 bits, which `fewer` says.
     let _classes = handles.classes();
     match handles.class_at(number) {
         Class::Closed(chain) => chain,
