@@ -38,7 +38,7 @@ IsChainOf table number (Some chain) =
     (chain < length table.chains) × (classes_at table.known number ≡ layers_in table.chains chain)
 
 -- How it is kept: the handles and the lines of their classes in a table of `jser_table`, and by the number of each class
--- which layer is its own.
+-- which layer is its own. The lines, named by the own layers, are the chains.
 
 abbrev pub no_class : KeptClass
 no_class = record { chain = 0; own = 0; layers = 0; straight = 0 }
@@ -107,6 +107,8 @@ pub record IsNumbered (lines : List (List ℕ)) (classes : List KeptClass) (n : 
 abbrev pub counted : KeptClass → ℕ
 counted class = class.layers
 
+-- Handles and classes are counted in 32 bits. A handle has the number of a class or none. The chains that `jser_table` keeps
+-- are as long as their lines, and so much is counted of each class; its own layer is one of these.
 pub record IsSound (handles : Handles) (layers : List NamedLayer) (classes : List KeptClass) : Type 0 where
   pub most : handles.max < 2 ^ 32
   pub within : length handles.entries ≤ handles.max
