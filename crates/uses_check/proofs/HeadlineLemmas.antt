@@ -1,5 +1,5 @@
 -- A check says yes exactly where the filter admits, and two checks of the same bytes answer the same.
-use Rattle.std.proofs.Common.{◌≡◌, ℕ, Bool, true, false, List, length, Option, Some, None, refl, sym, ap, subst, ◌∙◌}
+use Rattle.std.proofs.Common.{◌≡◌, ℕ, true, false, List, length, Option, Some, None, refl, sym, ap, subst, ◌∙◌}
 use Rattle.std.specs.Prelude.{◌↔◌, IfSome}
 use Rattle.jser_grammar.specs.Parts.{IsBytes}
 use Rattle.jser_grammar.specs.Trees.{ContentTrees}
@@ -17,7 +17,7 @@ use Rattle.jser_check.specs.declared.CheckFault.TheVariants as fault
 use Rattle.jser_check.specs.SourceAnswers.{IfFaultRefused}
 use Rattle.jser_check.specs.declared.Options.{Options}
 use Rattle.jser_reader.specs.declared.Totals.{Totals}
-use Rattle.jser_check.specs.Admitted.{AreAdmitted, gate_of_filter}
+use Rattle.jser_check.specs.Admitted.{AreAdmitted}
 use Rattle.jser_reader.specs.Tallies.{AreTotals}
 use Rattle.jser_check.specs.Answers.{Reports, Refuses, CarriesFirst}
 

@@ -1,1 +1,2 @@
 pub mod HeadlineLemmas
+pub mod ReaderLemmas

@@ -6,5 +6,6 @@
 pub mod devices;
 pub mod headline;
 pub mod pieces;
+pub mod readers;
 #[cfg(test)]
 mod tests;

@@ -1,11 +1,12 @@
 //! Streams that come in pieces, one after another.
-ghost use Rattle.std.specs.Prelude.{◌≡◌, ℕ, List, [], ◌++◌, true, string_bytes, IfOk, IfErr, IfSome};
+ghost use Rattle.std.specs.Prelude.{◌≡◌, ◌↔◌, ℕ, List, [], ◌++◌, true, false, string_bytes, IfOk, IfErr, IfSome};
+ghost use Rattle.jser_check.specs.Admitted.{AreAdmitted};
 ghost use Rattle.jser_check.specs.Answers.{IfRefused, Reports, Refuses, CarriesFirst, DecideNothing};
 ghost use Rattle.jser_check.specs.Checks.{gate_in, HasTaken, Repeats, IsOver};
 ghost use Rattle.jser_reader.specs.declared.Refusal.{Refusal};
 ghost use Rattle.jser_check.specs.FaultTexts.{check_fault_text};
 
-use jser_check::{CheckFault, Checker, Options, Report, Stop};
+use jser_check::{CheckFault, Checker, Options, Reason, Report, Stop};
 use jser_filter::Filter;
 use std::alloc::{AllocError, Global};
 
@@ -15,6 +16,7 @@ fn check_first(checker: &mut Checker, message: &[u8]) -> Result<Report, Stop>
     ensures accepted { IfOk result (Reports checker.old.gate.filter checker.old.gate.options message.now) }
     ensures refused { IfErr result (IfRefused (Refuses checker.old.gate.filter checker.old.gate.options message.now)) }
     ensures first { IfErr result (IfRefused (CarriesFirst (gate_in checker.old) message.now)) }
+    ensures filter { checker.new.gate ≡ checker.old.gate }
 {
     match checker.feed(message) {
         Ok(()) => checker.finish(),
@@ -41,7 +43,7 @@ pub fn check_alone(
 }
 
 /// Checks the next message of a connection, which came whole. Whatever the one before it was, the answer is that of
-/// `check_bytes`.
+/// `check_bytes`; and the next one is checked under the same filter.
 ///
 /// # Errors
 ///
@@ -50,6 +52,7 @@ pub fn check_message(checker: &mut Checker, message: &[u8]) -> Result<Report, St
     ensures accepted { IfOk result (Reports checker.old.gate.filter checker.old.gate.options message.now) }
     ensures refused { IfErr result (IfRefused (Refuses checker.old.gate.filter checker.old.gate.options message.now)) }
     ensures first { IfErr result (IfRefused (CarriesFirst (gate_in checker.old) message.now)) }
+    ensures filter { checker.new.gate ≡ checker.old.gate }
 {
     checker.restart();
     check_first(checker, message)
@@ -85,6 +88,35 @@ pub fn refused_at_end(checker: &mut Checker, piece: &[u8]) -> Option<Result<Repo
     match checker.feed(piece) {
         Err(Stop::Refused(_)) => Some(checker.finish()),
         _ => None,
+    }
+}
+
+/// Whether the stream is whole that the checker took: it is where the filter admits it. Else it ended too early; there is no
+/// third answer, and none needs memory.
+#[tactic(auto, using(crate::proofs::HeadlineLemmas::yes_admitted, crate::proofs::HeadlineLemmas::no_admitted))]
+pub fn is_whole(checker: &mut Checker) -> bool
+    ghost taken: { List ℕ }
+    requires { HasTaken checker.old taken }
+    ensures { (result ≡ true) ↔ AreAdmitted checker.old.gate.filter checker.old.gate.options taken }
+{
+    match checker.finish() {
+        Ok(_) => true,
+        Err(Stop::Refused(refusal)) => match refusal.reason {
+            Reason::Truncated => false,
+            _ => unreachable!(),
+        },
+        Err(Stop::OutOfMemory) => unreachable!(),
+        Err(Stop::Spent) => unreachable!(),
+    }
+}
+
+/// Whether bytes are taken that come after the end of their stream. They never are, however the stream ended.
+pub fn takes_late(checker: &mut Checker, late: &[u8]) -> bool
+    ensures { (taken : List ℕ) → HasTaken checker.old taken → result ≡ false }
+{
+    match checker.finish() {
+        Ok(_) => checker.feed(late).is_ok(),
+        Err(_) => checker.feed(late).is_ok(),
     }
 }
 
