@@ -1,8 +1,8 @@
 -- What a status says, in words of the list.
-use Rattle.std.proofs.Common.{◌≡◌, ℕ, List, length, drop, Option, Some, None, subst, sym, ap, ◌∙◌, inl, inr, take-append-drop}
+use Rattle.std.proofs.Common.{◌≡◌, ℕ, Bool, true, false, List, length, drop, Option, Some, None, subst, sym, ap, ◌∙◌, inl, inr, take-append-drop}
 use Rattle.std.specs.Prelude.{IfSome, ◌++◌, ◌≢◌, ◌⊎◌, codes}
 use Rattle.std.specs.Fmt.{decimal}
-use Rattle.std.specs.Io.KnownBytes.{Appends}
+use Rattle.std.specs.Io.KnownBytes.{Appends, Keeps}
 use Rattle.jser_grammar.specs.Trees.{ContentTrees}
 use Rattle.jser_grammar.specs.Counts.{content_count, refs_of}
 use Rattle.jser_reading.specs.ByteLaws.{OneReading}
@@ -13,10 +13,10 @@ use Rattle.jser_shown.specs.Listed.{listed}
 use Rattle.jser_filter.specs.Filters.{FilterView}
 use Rattle.jser_check.specs.declared.Options.{Options}
 use Rattle.jser_check_anywhere.specs.Passing.{AreAdmittedAnywhere}
-use Rattle.jser_commands.specs.Lines.{yes_line, listed_anywhere, words_on, options_of, HasLimit, SaysNoAnywhere, SaysAccepted, SaysCut, SaysRefused}
+use Rattle.jser_commands.specs.Lines.{yes_line, listed_anywhere, words_on, options_of, HasLimit, SaysNoAnywhere, SaysAccepted, SaysCut, SaysFailed, SaysRefused}
 use Rattle.jser_commands.specs.declared.Job.{Job}
 use Rattle.jser_commands.specs.declared.Job.TheVariants as job
-use Rattle.uses_commands.specs.Answers.{line_of_list, EachListPrints, IsNo, IsYes, PrintsLimited}
+use Rattle.uses_commands.specs.Answers.{line_of_list, EachListPrints, IsNo, IsYes, PrintsLimited, PrintsNothing}
 
 line_is : (bytes : List ℕ) (list : ContentTrees) (report : Totals) → AreTotals bytes list report → yes_line report ≡ line_of_list bytes list
 line_is bytes list report is =
@@ -107,3 +107,18 @@ three the_job status (inl is0) other = absurd (other.0 is0)
 three the_job status (inr (inl is1)) other = absurd (other.1 is1)
 three the_job status (inr (inr (inl is3))) other = is3
 three the_job status (inr (inr (inr is4))) other = absurd (other.2 is4.0)
+
+-- ---- nothing is printed
+
+kept : (failed : Bool) (old new : Option (List ℕ)) (Said : Type 0) → Keeps old new ⊎ ((failed ≡ true) × Said) → failed ≡ false → Keeps old new
+kept failed old new Said (inl keeps) whole = keeps
+kept failed old new Said (inr said) whole = absurd (let e : true ≡ false = sym said.0 ∙ whole in cc)
+
+pub prints_nothing : (the_job : Job) (told : Option (List ℕ)) (failed : Bool) (old new : Option (List ℕ)) → SaysFailed the_job told failed old new → failed ≡ false
+    → PrintsNothing the_job old new
+prints_nothing (job.Check filter strict) told failed old new says whole = kept failed old new _ says whole
+prints_nothing (job.CheckAnywhere filter strict) told failed old new says whole = kept failed old new _ says whole
+prints_nothing job.Show told failed old new says whole = tt
+prints_nothing (job.ShowLimited limit) told failed old new says whole = kept failed old new _ says whole
+prints_nothing (job.List filter) told failed old new says whole = kept failed old new _ says whole
+prints_nothing (job.ListAnywhere filter) told failed old new says whole = kept failed old new _ says whole

@@ -1,6 +1,7 @@
 -- What a job answers, in words of the list that the bytes spell.
-use Rattle.std.specs.Prelude.{ℕ, ◌≤◌, ◌⊎◌, List, ◌++◌, codes, length}
+use Rattle.std.specs.Prelude.{ℕ, ◌≤◌, ◌⊎◌, List, ◌++◌, Option, codes, length}
 use Rattle.std.specs.Fmt.{decimal}
+use Rattle.std.specs.Io.KnownBytes.{Keeps}
 use Rattle.jser_grammar.specs.Trees.{ContentTrees}
 use Rattle.jser_grammar.specs.Streams.{IsStreamOf}
 use Rattle.jser_grammar.specs.Counts.{content_count, refs_of, depth_of}
@@ -57,3 +58,12 @@ IsNo job.Show bytes = Unit {0}
 IsNo (job.ShowLimited limit) bytes = Unit {0}
 IsNo (job.List filter) bytes = Unit {0}
 IsNo (job.ListAnywhere filter) bytes = Unit {0}
+
+-- nothing was printed, but by a `show`, which prints as it goes
+abbrev pub PrintsNothing : Job → (old new : Option (List ℕ)) → Type 0
+PrintsNothing (job.Check filter strict) old new = Keeps old new
+PrintsNothing (job.CheckAnywhere filter strict) old new = Keeps old new
+PrintsNothing job.Show old new = Unit {0}
+PrintsNothing (job.ShowLimited limit) old new = Keeps old new
+PrintsNothing (job.List filter) old new = Keeps old new
+PrintsNothing (job.ListAnywhere filter) old new = Keeps old new

@@ -2,7 +2,7 @@
 ghost use Rattle.std.specs.Prelude.{◌≡◌, ◌≢◌, ◌⊎◌, Some, None, IfSome, true, false};
 ghost use Rattle.std.specs.Io.KnownBytes.{Appends};
 ghost use Rattle.jser_commands.specs.Lines.{SaysWhy};
-ghost use Rattle.uses_commands.specs.Answers.{EachListPrints, IsNo, IsYes};
+ghost use Rattle.uses_commands.specs.Answers.{EachListPrints, IsNo, IsYes, PrintsNothing};
 
 use jser_commands::{Job, run};
 use jser_inputs::Input;
@@ -12,7 +12,8 @@ use std::alloc::Global;
 
 /// Whether the answer to a job is yes: for a check, that the filter admits the stream of the input; else that the input is a
 /// stream. Then it was printed, of whatever list the bytes of the input spell: its counts, its text, as far as a limit allows,
-/// or its names. `None` where a device failed or memory ran out, and then that was told.
+/// or its names. `None` where a device failed or memory ran out, and then that was told; nothing was printed then if the output
+/// did not fail, but by `Show`, which prints as it goes.
 pub fn answers<R: Input, W: Sink, E: Sink>(
     alloc: Global,
     job: &Job,
@@ -24,6 +25,7 @@ pub fn answers<R: Input, W: Sink, E: Sink>(
     ensures no { result ≡ Some false → IfSome (R.to_come input.old) (IsNo job.now) }
     ensures printed { result ≡ Some true → IfSome (R.to_come input.old) (λ bytes. EachListPrints job.now bytes (Appends (W.gone_out output.old) (W.gone_out output.new))) }
     ensures why { result ≡ None → SaysWhy (R.why_failed input.new) (R.has_failed input.old) (R.has_failed input.new) (W.has_failed output.old) (W.has_failed output.new) (E.has_failed faults.new) (E.gone_out faults.old) (E.gone_out faults.new) }
+    ensures nothing { result ≡ None → W.has_failed output.new ≡ false → PrintsNothing job.now (W.gone_out output.old) (W.gone_out output.new) }
     ensures quiet { result ≢ None → faults.new ≡ faults.old }
     ensures unbroken { result ≢ None → (R.has_failed input.new ≡ R.has_failed input.old) × (W.has_failed output.new ≡ W.has_failed output.old) }
 {

@@ -1,4 +1,4 @@
-use Rattle.uses_commands.proofs.AnswerLemmas.{said_yes, said_no, said_text, three}
+use Rattle.uses_commands.proofs.AnswerLemmas.{said_yes, said_no, said_text, three, prints_nothing}
 use Rattle.uses_commands.proofs.answers.answers.Goals as goal
 
 pub returns-clause-yes : goal.returns-clause-yes
@@ -19,3 +19,7 @@ returns-clause-quiet g c h = c.run.ensures.quiet (c.answer_of.ensures.some h)
 
 pub returns-clause-unbroken : goal.returns-clause-unbroken
 returns-clause-unbroken g c h = c.run.ensures.unbroken (c.answer_of.ensures.some h)
+
+pub returns-clause-nothing : goal.returns-clause-nothing
+returns-clause-nothing g c h =
+    prints_nothing c.args.job.now (g.R.Source.to_come c.args.input.now) _ _ _ (c.run.ensures.failed (three c.args.job.now _ c.run.ensures.status (c.answer_of.ensures.none h)))
