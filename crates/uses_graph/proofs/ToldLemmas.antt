@@ -1,8 +1,7 @@
 -- What is told of the list for which a graph stands is told of every list that the bytes spell.
 use denote.Bor.{Bor}
-use Rattle.std.proofs.Common.{◌≡◌, ℕ, List, length, slice_get, Option, Result, Ok, Err, IfOk, IfErr, OnOk, sym, ap, subst, ◌∙◌}
+use Rattle.std.proofs.Common.{◌≡◌, ℕ, List, length, slice_get, Option, Result, Ok, Err, IfOk, IfErr, OnOk, ap, subst, ◌∙◌}
 use Rattle.std.specs.Io.KnownBytes.{Appends}
-use Rattle.jser_grammar.specs.Trees.{ContentTrees}
 use Rattle.jser_grammar.specs.CheckedNames.{checked_names}
 use Rattle.jser_reading.specs.ByteLaws.{OneReading}
 use Rattle.jser_value.specs.declared.Contents.{Contents}
@@ -15,6 +14,7 @@ use Rattle.jser_index.specs.declared.Node.{Node}
 use Rattle.jser_index.specs.Graphs.{GraphView, StandsFor, StandsForSome, IsNode, node_at, text_of}
 use Rattle.jser_index.specs.Listed.{IsList}
 use Rattle.jser_graph.specs.Outputs.{IsOf, HasCause}
+use Rattle.jser_index.specs.Outputs.{WroteFirst}
 use Rattle.jser_index.specs.Showing.{counted, CountsText, WroteText, WroteFront}
 use Rattle.uses_graph.specs.Told.{OfEachList, TreeCause, FrontShown}
 
@@ -90,3 +90,7 @@ pub list_told : OneReading → {E : Type 0} (bytes : List ℕ) (graph : GraphVie
     → IfOk result (IsOf graph) → IfOk result (λ contents. OfEachList bytes (λ list. view_contents contents ≡ list))
 list_told one bytes graph (Ok contents) some is = tree_told one bytes graph contents some is
 list_told one bytes graph (Err e) some is = tt
+
+pub first_told : {X : Type 0} (bytes : List ℕ) (graph : GraphView) (result : Result X GraphFault) (old new : Option (List ℕ)) → StandsForSome bytes graph
+    → IfErr result (WroteFirst old new graph.bytes) → IfErr result (WroteFirst old new bytes)
+first_told bytes graph result old new some went = subst (λ xs. IfErr result (WroteFirst old new xs)) some.1.bytes_are went

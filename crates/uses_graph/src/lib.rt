@@ -4,6 +4,7 @@
 //! a second time for them.
 #![tactic(auto)]
 
+pub mod opening;
 #[cfg(test)]
 mod tests;
 pub mod told;

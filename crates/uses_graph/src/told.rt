@@ -9,6 +9,7 @@ ghost use Rattle.jser_shown.specs.Nodes.{nodes_of};
 ghost use Rattle.jser_shown.specs.Shown.{shown};
 ghost use Rattle.jser_index.specs.Graphs.{IsNode, StandsForSome, node_at, text_of};
 ghost use Rattle.jser_index.specs.Listed.{IsList};
+ghost use Rattle.jser_index.specs.Outputs.{WroteFirst};
 ghost use Rattle.jser_index.specs.Showing.{counted};
 ghost use Rattle.uses_graph.specs.Told.{OfEachList, TreeCause, FrontShown};
 
@@ -60,8 +61,8 @@ pub fn name<'g>(graph: &'g Graph, bytes: &[u8], number: usize) -> Option<&'g [u1
 ///
 /// # Errors
 ///
-/// Where the sink failed.
-#[tactic(auto, using(crate::proofs::ToldLemmas::bytes_told))]
+/// Where the sink failed: the first bytes went out.
+#[tactic(auto, using(crate::proofs::ToldLemmas::bytes_told, crate::proofs::ToldLemmas::first_told))]
 pub fn write_back<W: Sink>(
     alloc: Global,
     graph: &Graph,
@@ -72,6 +73,7 @@ pub fn write_back<W: Sink>(
     ensures written { OnOk result (Appends (W.gone_out sink.old) (W.gone_out sink.new) bytes.now) }
     ensures length { IfOk result (λ count. count ≡ length bytes.now) }
     ensures failed { OnErr result (W.has_failed sink.new ≡ true) }
+    ensures front { IfErr result (WroteFirst (W.gone_out sink.old) (W.gone_out sink.new) bytes.now) }
     ensures kept { OnOk result (W.has_failed sink.new ≡ W.has_failed sink.old) }
 {
     graph.write_to(alloc, sink)
