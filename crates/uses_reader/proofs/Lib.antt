@@ -1,3 +1,4 @@
+pub mod AskingLemmas
 pub mod CutLemmas
 pub mod TakingLemmas
 pub mod PlaceLemmas

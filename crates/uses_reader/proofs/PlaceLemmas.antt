@@ -1,5 +1,5 @@
 -- What a caller knows of the field that comes next.
-use Rattle.std.proofs.Common.{◌≡◌, ℕ, List, Result, Ok, Err, subst}
+use Rattle.std.proofs.Common.{◌≡◌, ℕ, List, Result, Ok, subst}
 use Rattle.jser_reading.specs.Labels.{Piece}
 use Rattle.jser_verdict.specs.Gates.{Gate}
 use Rattle.jser_reader.specs.declared.Place.{Place}

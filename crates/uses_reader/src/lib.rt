@@ -3,6 +3,7 @@
 //! library is not proved a second time for them.
 #![tactic(auto)]
 
+pub mod asking;
 pub mod cuts;
 pub mod places;
 pub mod taking;
