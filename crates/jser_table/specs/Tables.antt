@@ -1,5 +1,5 @@
 -- What contracts see of a table of handles: the list of its entries, and how many it may have.
-use Rattle.std.specs.Prelude.{codes, ℕ, ◌^◌, slice_get, ◌≡◌, ◌⊎◌, ◌+◌, ◌<◌, ◌≤◌, Bool, true, false, List, [], ◌∷◌, ◌++◌, length, All, count_by, Option, Some, None}
+use Rattle.std.specs.Prelude.{codes, ℕ, ◌^◌, slice_get, ◌≡◌, ◌⊎◌, ◌+◌, ◌<◌, ◌≤◌, Bool, true, false, List, [], ◌∷◌, ◌++◌, length, All, count_by, Option, Some, None, Result, Ok, Err}
 use Rattle.jser_table.specs.declared.layer.Layer.{Layer}
 use Rattle.jser_table.specs.declared.entry.Kind.{Kind}
 use Rattle.jser_table.specs.declared.entry.Kind.TheVariants as kind
@@ -34,6 +34,22 @@ abbrev pub new_entry : Kind → TableEntry
 new_entry kind.Text = text_entry
 new_entry kind.Other = other_entry
 new_entry kind.Pending = pending_entry
+
+-- a handle is assigned: it has the next number, and its entry has no class
+pub record IsAssigned (kind : Kind) (handle : ℕ) (old new : TableView) : Type 0 where
+  pub number : handle ≡ length old.entries
+  pub below : handle < old.max
+  pub added : new.entries ≡ old.entries ++ new_entry kind ∷ []
+  pub numbers : new.numbers ≡ old.numbers ++ None ∷ []
+  pub chains : new.chains ≡ old.chains
+  pub lines : new.lines ≡ old.lines
+  pub max : new.max ≡ old.max
+
+-- Where none is, nothing changes: the table has as many handles as it may have, or it has fewer and memory ran out.
+abbrev pub Assigns : Kind → Result ℕ TableFault → (old new : TableView) → Type 0
+Assigns kind (Ok handle) old new = IsAssigned kind handle old new
+Assigns kind (Err fault.Full) old new = (length old.entries ≡ old.max) × (new ≡ old)
+Assigns kind (Err fault.OutOfMemory) old new = (length old.entries < old.max) × (new ≡ old)
 
 -- the chain of the parent's entry, if there is a parent
 abbrev pub parent_chain : List TableEntry → Option ℕ → List Layer

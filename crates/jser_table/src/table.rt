@@ -10,7 +10,7 @@ ghost use Rattle.jser_table.specs.Sections.{HasSection, layer_of, HoldsFor, IsOn
 ghost use Rattle.jser_table.specs.Entries.{is_text, is_pending, is_closed, chain_at};
 ghost use Rattle.jser_table.specs.Fits.{fit_of};
 ghost use Rattle.jser_table.specs.Lines.{line_in, next_line, number_at, parent_number, answered_number};
-ghost use Rattle.jser_table.specs.Tables.{new_entry, closed_under, is_text_entry, is_pending_entry, is_closed_entry, is_text_kept, is_pending_kept, is_closed_kept, is_closed_slot, closed_kept, parent_chain, IsClass, IsNumberOf, text_of};
+ghost use Rattle.jser_table.specs.Tables.{Assigns, closed_under, is_text_entry, is_pending_entry, is_closed_entry, is_text_kept, is_pending_kept, is_closed_kept, is_closed_slot, closed_kept, parent_chain, IsClass, IsNumberOf, text_of};
 
 use crate::chains::Chains;
 use crate::class::{ChainNumber, Class};
@@ -124,16 +124,7 @@ impl Table {
     #[tactic(auto, using(crate::proofs::TableLemmas::entries_assign, crate::proofs::TableLemmas::numbers_assign))]
     #[inline(always)]
     pub fn assign(&mut self, kind: Kind) -> Result<u32, TableFault>
-        ensures number { IfOk result (λ number. number ≡ length self.old.entries) }
-        ensures added { IfOk result (λ _. self.new.entries ≡ self.old.entries ++ new_entry kind ∷ []) }
-        ensures full { (result ≡ Err TableFault.Full) ↔ (length self.old.entries ≡ self.old.max) }
-        ensures unchanged { OnErr result (self.new ≡ self.old) }
-        ensures chains { self.new.chains ≡ self.old.chains }
-        ensures numbers { IfOk result (λ _. self.new.numbers ≡ self.old.numbers ++ None ∷ []) }
-        ensures lines { self.new.lines ≡ self.old.lines }
-        ensures max { self.new.max ≡ self.old.max }
-        ensures below { IfOk result (λ number. number < self.old.max) }
-        ensures room { (result ≡ Err TableFault.OutOfMemory) → length self.old.entries < self.old.max }
+        ensures { Assigns kind result self.old self.new }
     {
         if kind == Kind::Pending {
             return self.assign_any(kind);
@@ -148,16 +139,7 @@ impl Table {
 
     /// The same of any entry, also where memory is asked for or the table is full.
     fn assign_any(&mut self, kind: Kind) -> Result<u32, TableFault>
-        ensures number { IfOk result (λ number. number ≡ length self.old.entries) }
-        ensures added { IfOk result (λ _. self.new.entries ≡ self.old.entries ++ new_entry kind ∷ []) }
-        ensures full { (result ≡ Err TableFault.Full) ↔ (length self.old.entries ≡ self.old.max) }
-        ensures unchanged { OnErr result (self.new ≡ self.old) }
-        ensures chains { self.new.chains ≡ self.old.chains }
-        ensures numbers { IfOk result (λ _. self.new.numbers ≡ self.old.numbers ++ None ∷ []) }
-        ensures lines { self.new.lines ≡ self.old.lines }
-        ensures max { self.new.max ≡ self.old.max }
-        ensures below { IfOk result (λ number. number < self.old.max) }
-        ensures room { (result ≡ Err TableFault.OutOfMemory) → length self.old.entries < self.old.max }
+        ensures { Assigns kind result self.old self.new }
     {
         let number = self.entries.len();
         if number >= self.max as usize {
@@ -178,16 +160,7 @@ impl Table {
     /// The same, out of line: mostly there is room.
     #[inline(never)]
     fn assign_out_of_line(&mut self, kind: Kind) -> Result<u32, TableFault>
-        ensures number { IfOk result (λ number. number ≡ length self.old.entries) }
-        ensures added { IfOk result (λ _. self.new.entries ≡ self.old.entries ++ new_entry kind ∷ []) }
-        ensures full { (result ≡ Err TableFault.Full) ↔ (length self.old.entries ≡ self.old.max) }
-        ensures unchanged { OnErr result (self.new ≡ self.old) }
-        ensures chains { self.new.chains ≡ self.old.chains }
-        ensures numbers { IfOk result (λ _. self.new.numbers ≡ self.old.numbers ++ None ∷ []) }
-        ensures lines { self.new.lines ≡ self.old.lines }
-        ensures max { self.new.max ≡ self.old.max }
-        ensures below { IfOk result (λ number. number < self.old.max) }
-        ensures room { (result ≡ Err TableFault.OutOfMemory) → length self.old.entries < self.old.max }
+        ensures { Assigns kind result self.old self.new }
     {
         self.assign_any(kind)
     }
