@@ -1,5 +1,5 @@
 //! Texts of the program, as a stream spells them.
-ghost use Rattle.std.specs.Prelude.{ℕ, List, ◌≡◌, IfOk, IfSome, Ok, None};
+ghost use Rattle.std.specs.Prelude.{ℕ, List, ◌≡◌, IfOk, IfSome, Ok, None, true};
 ghost use Rattle.std.specs.Str.{bytes_eq};
 ghost use Rattle.jser_prim.specs.ModifiedUtf8.{IsUnits, modified_utf8, unit_spelling, utf16_units};
 
@@ -40,4 +40,19 @@ pub fn spelled_again(alloc: Global, bytes: &[u8]) -> Result<Option<Vec<u8>>, All
         return Ok(None);
     }
     Ok(Some(text_bytes(alloc, &units)?))
+}
+
+/// Reads a text for two readers, and tells whether the bytes are one: both have the same units then, whatever they had before.
+///
+/// # Errors
+///
+/// `AllocError` where there was no memory for the units.
+pub fn read_for_both(
+    bytes: &[u8],
+    first: &mut Vec<u16>,
+    second: &mut Vec<u16>,
+) -> Result<bool, AllocError>
+    ensures { result ≡ Ok true → first.new.items ≡ second.new.items }
+{
+    Ok(read_units(bytes, first)? && read_units(bytes, second)?)
 }

@@ -59,6 +59,41 @@ pub fn last_letter(record: &[u8], from: usize, to: usize) -> Option<u8>
     }
 }
 
+/// What comes behind the field between these places of a record, if the field is plain ASCII.
+pub fn behind_field(record: &[u8], from: usize, to: usize) -> Option<&[u8]>
+    requires order { from ≤ to }
+    requires within { from ≤ length record.now }
+    ensures { IfSome result (λ rest. to + length rest.now ≡ length record.now) }
+{
+    if is_plain_between(record, from, to) {
+        let (_, rest) = record.split_at(to);
+        Some(rest)
+    } else {
+        None
+    }
+}
+
+/// Whether the bytes are a text of plain ASCII. Each of them is then a unit of it.
+pub fn is_plain_text(bytes: &[u8]) -> bool
+    ensures { IsTrue result → bytes.now ≡ modified_utf8 bytes.now }
+{
+    let mut scan = TextScan::new(bytes.len() as u64);
+    scan.push_plain(bytes) && scan.is_done()
+}
+
+/// Scans more of a text, at once where it is plain ASCII, and tells whether the text goes on with it.
+pub fn push_piece(scan: &mut TextScan, piece: &[u8]) -> bool
+    requires { length piece.now ≤ scan.old.left }
+    ensures goes_on { (len : ℕ) (bytes units : List ℕ) → HasAccepted len bytes units scan.old
+        → (IsTrue result ↔ BeginsText len (bytes ++ piece.now)) }
+    ensures left { IsTrue result → scan.new.left + length piece.now ≡ scan.old.left }
+{
+    if scan.push_plain(piece) {
+        return true;
+    }
+    scan.push_all(piece).is_ok()
+}
+
 /// Whether two pieces together are a text.
 pub fn is_text_in_two(first: &[u8], second: &[u8]) -> bool
     ensures { IsTrue result ↔ BeginsText (length first.now + length second.now) (first.now ++ second.now) }

@@ -4,11 +4,11 @@ use crate::numbers::{handle, is_header, is_known};
 use crate::records::write_record;
 use crate::sinks::{begun, give_byte, given, is_delivered, is_lost, is_open};
 use crate::sources::{fails_now, last_taken, opened, take_again};
-use crate::spelling::{spelled, spells};
+use crate::spelling::{read_for_both, spelled, spells};
 use crate::texts::{
-    can_begin, drained, ends_with, faulty_byte, first_fault, goes_on_after_fault,
-    is_complete_after, is_mended, is_text, is_text_in_two, is_whole, last_letter, own_bytes,
-    push_again, push_more, push_pair, units_in,
+    behind_field, can_begin, drained, ends_with, faulty_byte, first_fault, goes_on_after_fault,
+    is_complete_after, is_mended, is_plain_text, is_text, is_text_in_two, is_whole, last_letter,
+    own_bytes, push_again, push_more, push_pair, push_piece, units_in,
 };
 use jser_prim::{Failed, TextFault, TextScan, ToWrite};
 use std::test::Fail;
@@ -26,6 +26,10 @@ fn spellings(rt: HostRuntime) -> Result<(), Fail> {
     let bytes = spelled(rt.alloc(), "a\0")?;
     same!(rt; bytes.as_slice(), [0x61, 0xC0, 0x80].as_slice());
     holds!(rt; spells(&[0xC3, 0xA9], 0xE9) && !spells(&[0xC3], 0xE9));
+    let mut first = vec![in rt.alloc(); 0x7A]?;
+    let mut second = Vec::new(rt.alloc());
+    holds!(rt; read_for_both(&[0x61, 0xC3, 0xA9], &mut first, &mut second)?);
+    holds!(rt; first.as_slice() == [0x61, 0xE9].as_slice() && first == second);
     Ok(())
 }
 
@@ -34,6 +38,7 @@ fn whole_texts(rt: HostRuntime) -> Result<(), Fail> {
     holds!(rt; is_text(b"abc") && !is_text(&[0x61, 0xFF]));
     holds!(rt; is_text_in_two(&[0x61, 0xC3], &[0xA9]) && !is_text_in_two(&[0x61, 0xC3], &[0x61]));
     holds!(rt; is_whole(2, b"ab") && !is_whole(3, b"ab"));
+    holds!(rt; is_plain_text(b"ab") && !is_plain_text(&[0xC3, 0xA9]));
     same!(rt; first_fault(&[0x61, 0x62, 0x00]), Some(2));
     holds!(rt; can_begin(2, 0xC3) && !can_begin(1, 0xC3));
     let units = units_in(rt.alloc(), &[0x61, 0xC3, 0xA9])?;
@@ -59,6 +64,7 @@ fn plain_fields(rt: HostRuntime) {
     ] {
         same!(rt; last_letter(record, from, to), letter, format_args!("{from} {to}"));
     }
+    same!(rt; behind_field(record, 17, 44), record.get(44..));
 }
 
 #[test]
@@ -72,6 +78,9 @@ fn texts_in_pieces(rt: HostRuntime) {
 #[test]
 fn whole_units_in_pieces(rt: HostRuntime) {
     holds!(rt; push_pair(&mut TextScan::new(2), 0xC3, 0xA9));
+    let mut scan = TextScan::new(5);
+    holds!(rt; push_piece(&mut scan, b"ab") && push_piece(&mut scan, &[0xC3, 0xA9]));
+    holds!(rt; !push_piece(&mut scan, &[0xC3]));
     same!(rt; push_again(&mut TextScan::new(1), 0xC3), Err(TextFault));
     holds!(rt; is_complete_after(&mut TextScan::new(1), b"a"));
     holds!(rt; !is_complete_after(&mut TextScan::new(2), b"a"));
