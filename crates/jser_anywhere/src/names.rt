@@ -4,7 +4,7 @@ ghost use Rattle.jser_anywhere.specs.NamesIn.{TellsNext, names_in, row_of, untol
 
 use crate::name::Units;
 use crate::search::text_of;
-use crate::tags::{TC_CLASSDESC, TC_PROXYCLASSDESC};
+use jser_grammar::wire::{TC_CLASSDESC, TC_PROXYCLASSDESC};
 use arrayvec::ArrayVec;
 use std::marker::Model;
 

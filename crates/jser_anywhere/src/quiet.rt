@@ -2,7 +2,7 @@
 ghost use Rattle.std.specs.Prelude.{◌≡◌, ◌+◌, ◌-◌, ◌≤◌, ◌==◌, length};
 ghost use Rattle.jser_anywhere.specs.Steps.{IsQuiet, IsText, AreNone, first_set, may_begin};
 
-use crate::tags::{TC_CLASSDESC, TC_PROXYCLASSDESC};
+use jser_grammar::wire::{TC_CLASSDESC, TC_PROXYCLASSDESC};
 use std::simd::prelude::*;
 
 /// How many bytes are looked at together.

@@ -2,7 +2,7 @@
 ghost use Rattle.std.specs.Prelude.{◌≡◌, ◌≤◌, length};
 ghost use Rattle.jser_anywhere.specs.Steps.{left_of, name_left, no_recent, recent_in, row_left, with_byte};
 
-use crate::tags::{TC_CLASSDESC, TC_PROXYCLASSDESC};
+use jser_grammar::wire::{TC_CLASSDESC, TC_PROXYCLASSDESC};
 
 /// The last six bytes. Where there were not so many, 0xFF stands for those that are missing: no name begins with it.
 #[derive(Clone, Copy, Debug)]

@@ -4,7 +4,7 @@ ghost use Rattle.jser_anywhere.specs.Search.{TellsFirst, TellsText, hidden_here,
 
 use crate::hidden::{Hidden, Judge};
 use crate::name::{MOST_BYTES, Units, read_name};
-use crate::tags::{TC_CLASSDESC, TC_PROXYCLASSDESC};
+use jser_grammar::wire::{TC_CLASSDESC, TC_PROXYCLASSDESC};
 use arrayvec::ArrayVec;
 
 /// How many bytes the name at the head of these bytes has, with its length, if one stands there; `units` then has

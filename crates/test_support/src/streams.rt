@@ -1,5 +1,6 @@
 //! Worked streams of the format, each of which is a stream, with their names.
 
+use jser_grammar::wire::TC_NULL;
 use std::alloc::{AllocError, Global};
 
 /// The header, and no content.
@@ -94,7 +95,7 @@ pub fn nest(alloc: Global, arrays: usize) -> Result<Vec<u8>, AllocError> {
     for _ in 1..arrays {
         bytes.extend_from_slice(b"\x75\x71\x00\x7E\x00\x00\x00\x00\x00\x01")?;
     }
-    bytes.push(0x70)?;
+    bytes.push(TC_NULL)?;
     Ok(bytes)
 }
 
@@ -168,6 +169,6 @@ fn push_nest_of_900(bytes: &mut Vec<u8>) -> Result<(), AllocError> {
     for _ in 1..900 {
         bytes.extend_from_slice(b"\x75\x71\x00\x7E\x01\x2D\x00\x00\x00\x01")?;
     }
-    bytes.push(0x70)?;
+    bytes.push(TC_NULL)?;
     Ok(())
 }
