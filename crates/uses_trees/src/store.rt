@@ -1,9 +1,12 @@
 //! A store, which writes contents and reads them again.
 ghost use Rattle.std.specs.Prelude.{◌≡◌, IfOk, List, ℕ, length, Some};
 ghost use Rattle.jser_grammar.specs.Spelling.{spelling};
+ghost use Rattle.jser_trees.specs.Building.{list_in};
 ghost use Rattle.jser_value.specs.View.{view_contents};
 
 use jser_prim::{Failed, Sink};
+use jser_reading::laws::one_reading;
+use jser_trees::laws::{finds_list, written_passes};
 use jser_trees::{OpenGate, Stop, read_all};
 use jser_value::{Contents, encode};
 use std::alloc::Global;
@@ -48,12 +51,23 @@ pub fn read_again(alloc: Global, written: &[u8], contents: &Contents) -> Result<
     ensures { IfOk result (λ again. view_contents again ≡ view_contents contents.now) }
 {
     let _ = contents.list();
+    one_reading();
+    written_passes();
     match read_all(alloc, written, &OpenGate) {
         Ok(again) => Ok(again),
         Err(Stop::OutOfMemory) => Err(NoMemory),
         Err(Stop::Refused(_)) => unreachable!(),
         Err(Stop::Spent) => unreachable!(),
     }
+}
+
+/// The bytes of contents say by themselves which list they are of: a store keeps nothing else.
+#[tactic(auto, using(crate::proofs::Again::said_by_bytes))]
+pub fn is_said_by_its_bytes(contents: &Contents)
+    ensures { list_in (spelling (view_contents contents.now)) ≡ Some (view_contents contents.now) }
+{
+    let _ = contents.list();
+    finds_list();
 }
 
 /// Writes the contents, and reads them again.
