@@ -4,6 +4,10 @@ import java.io.InputStream;
 import java.io.InvalidObjectException;
 import java.io.ObjectInputStream;
 import java.lang.ref.Cleaner;
+import java.lang.ref.Reference;
+import java.nio.ByteBuffer;
+import java.nio.CharBuffer;
+import java.nio.charset.CharacterCodingException;
 import java.nio.charset.StandardCharsets;
 import java.util.Arrays;
 
@@ -116,7 +120,7 @@ public final class SerialCheck implements AutoCloseable {
      */
     public SerialCheck(String filter, String modules, int flags) {
         long[] answer = new long[9];
-        held.handle = open(filter.getBytes(StandardCharsets.UTF_8), modules.getBytes(StandardCharsets.UTF_8), flags, answer);
+        held.handle = open(spelled(filter, "filter is not text"), spelled(modules, "modules are not text"), flags, answer);
         cleanable = CLEANER.register(this, held);
         if (answer[0] == MISUSE) {
             throw new IllegalArgumentException(String.format(CAUSES[(int) answer[1]], answer[2]));
@@ -139,7 +143,11 @@ public final class SerialCheck implements AutoCloseable {
             throw new IndexOutOfBoundsException(length);
         }
         long[] answer = new long[9];
-        held.check(bytes, length, answer);
+        try {
+            held.check(bytes, length, answer);
+        } finally {
+            Reference.reachabilityFence(this); // else the cleaner could close a filter whose last call is this one
+        }
         if (answer[0] == NO) {
             throw new Refused(REASONS[(int) answer[1]], answer[2], answer[3]);
         }
@@ -172,6 +180,16 @@ public final class SerialCheck implements AutoCloseable {
     @Override
     public void close() {
         cleanable.clean();
+    }
+
+    /** The bytes of a text. One with an unpaired surrogate has none, and is not made another text by a `?` in its place. */
+    private static byte[] spelled(String text, String fault) {
+        try {
+            ByteBuffer bytes = StandardCharsets.UTF_8.newEncoder().encode(CharBuffer.wrap(text));
+            return Arrays.copyOf(bytes.array(), bytes.limit());
+        } catch (CharacterCodingException unpaired) {
+            throw new IllegalArgumentException(fault, unpaired);
+        }
     }
 
     private static void settled(long[] answer) {
