@@ -17,8 +17,8 @@ use Rattle.jser_shown.specs.Laws.{Counted}
 use Rattle.jser_shown.specs.Listed.{listed}
 use Rattle.jser_shown.specs.Words.{quoted, quoted_unit}
 use Rattle.jser_names.specs.Sources.{HasNames}
-use Rattle.jser_words.specs.Says.{Says, Saying}
-use Rattle.jser_words.proofs.SaysLemmas.{says_before, says_on, says_same, says_both, says_five}
+use Rattle.jser_printer.specs.Says.{Says, Saying}
+use Rattle.jser_printer.proofs.SaysLemmas.{says_before, says_on, says_same, says_both, says_five}
 use Rattle.jser_commands.specs.Counts.{tallies_of, tally_line, lines_before}
 use Rattle.jser_commands.specs.Lines.{AppendsSome, SaysText, SaysRefusal, KeptOrCut, KeptOrSaidSome, marked_words, verdict_words, words_on}
 use Rattle.jser_commands.proofs.Lines.{yes_cut}

@@ -7,7 +7,7 @@ ghost use Rattle.jser_shown.specs.Counting.{name_tally, tally_all, tally_lines};
 ghost use Rattle.jser_shown.specs.Listed.{listed};
 ghost use Rattle.jser_index.specs.Reading.{IsRefused};
 ghost use Rattle.jser_names.specs.Sources.{HasNames};
-ghost use Rattle.jser_words.specs.Says.{SaysTo};
+ghost use Rattle.jser_printer.specs.Says.{SaysTo};
 ghost use Rattle.jser_commands.specs.Counts.{tallies_of, tally_line, lines_before};
 ghost use Rattle.jser_commands.specs.Inputs.{IfUnreadRefused, IsReadFault};
 ghost use Rattle.jser_commands.specs.Lines.{SaysText, SaysRefusal, SaysWhy, SaysUnwritten, KeptOrCut, KeptOrSaidSome, marked_words, verdict_words, words_on};
@@ -21,7 +21,7 @@ use jser_prim::{Outbox, Sink, Source};
 use jser_settings::{ACCEPTED, tell_failure};
 use jser_shown::laws::counted;
 use jser_table::{Element, element_of};
-use jser_words::{say, say_decimal, say_quoted};
+use jser_printer::{say, say_decimal, say_quoted};
 use std::alloc::Global;
 
 /// Reads the stream of the input in pieces, and prints the lines of its checked names.

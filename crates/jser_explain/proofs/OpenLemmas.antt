@@ -3,11 +3,11 @@ use Rattle.std.proofs.Common.{◌≡◌, ℕ, List, [], ◌∷◌, ◌++◌, Opt
 use denote.Bor.{Bor}
 use Rattle.std.specs.Prelude.{codes}
 use Rattle.jser_shown.specs.Words.{quoted}
-use Rattle.jser_walk.specs.Views.{view_name}
+use Rattle.jser_printer.specs.Views.{view_name}
 use Rattle.jser_prim.specs.Outgoing.{Outgoing, SinkState}
-use Rattle.jser_words.specs.Says.{Saying, Says}
-use Rattle.jser_words.proofs.SaysLemmas.{says_before}
-use Rattle.jser_walk.specs.declared.opened.Open.{Open}
+use Rattle.jser_printer.specs.Says.{Saying, Says}
+use Rattle.jser_printer.proofs.SaysLemmas.{says_before}
+use Rattle.jser_printer.specs.declared.opened.Open.{Open}
 use Rattle.jser_explain.specs.Opened.{name_words, open_words, opened_words, own_writer_words, writer_words}
 
 pub says_one : (a b : Outgoing) (d e : SinkState) (all others : List Open) (first : Open) → all ≡ first ∷ others → Says a b d e (λ k. open_words first k)

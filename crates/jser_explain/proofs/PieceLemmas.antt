@@ -1,7 +1,7 @@
 -- The piece of a filter that decides, if one does.
 use Rattle.std.proofs.Common.{◌≡◌, [], ◌++◌, Option, Some, None, sym, subst}
 use Rattle.jser_prim.specs.Outgoing.{Outgoing, SinkState}
-use Rattle.jser_words.specs.Says.{Says}
+use Rattle.jser_printer.specs.Says.{Says}
 use Rattle.jser_explain.specs.declared.piece.Piece.{Piece}
 use Rattle.jser_explain.specs.Rest.{known_piece_words, piece_words}
 

@@ -2,10 +2,10 @@
 use Rattle.std.proofs.Common.{◌≡◌, ℕ, true, false, List, [], ◌∷◌, ◌++◌, Option, Some, None, length, Bool, refl, sym, subst}
 use Rattle.jser_prim.specs.Outgoing.{Outgoing, SinkState, Puts, sink_state}
 use Rattle.jser_prim.proofs.OutgoingLemmas.{nothing}
-use Rattle.jser_words.specs.Says.{Says}
+use Rattle.jser_printer.specs.Says.{Says}
 use denote.Bor.{Bor}
-use Rattle.jser_walk.specs.Views.{view_name}
-use Rattle.jser_words.proofs.SaysLemmas.{says_none, says_both}
+use Rattle.jser_printer.specs.Views.{view_name}
+use Rattle.jser_printer.proofs.SaysLemmas.{says_none, says_both}
 use Rattle.jser_scan.proofs.ScanLemmas.{went, broke, kept}
 use Rattle.jser_scan.specs.declared.found.Found.{Found}
 use Rattle.jser_explain.specs.declared.field.Spot.{Spot}

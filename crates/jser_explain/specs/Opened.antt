@@ -2,9 +2,9 @@
 use Rattle.std.specs.Prelude.{ℕ, List, [], ◌∷◌, ◌++◌, codes, Option, Some, None}
 use Rattle.std.specs.Fmt.{decimal}
 use Rattle.jser_shown.specs.Words.{quoted}
-use Rattle.jser_walk.specs.Views.{view_name}
-use Rattle.jser_walk.specs.declared.opened.Open.{Open}
-use Rattle.jser_walk.specs.declared.opened.Open.TheVariants as part
+use Rattle.jser_printer.specs.Views.{view_name}
+use Rattle.jser_printer.specs.declared.opened.Open.{Open}
+use Rattle.jser_printer.specs.declared.opened.Open.TheVariants as part
 
 -- a class; a proxy class has no name
 abbrev pub name_words : Option (List ℕ) → List ℕ → List ℕ

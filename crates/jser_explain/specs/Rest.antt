@@ -2,7 +2,7 @@
 use Rattle.std.specs.Prelude.{ℕ, List, ◌++◌, codes, Option, Some, None}
 use Rattle.std.specs.Fmt.{decimal}
 use Rattle.jser_scan.specs.Paths.{path_words}
-use Rattle.jser_walk.specs.declared.opened.Open.{Open}
+use Rattle.jser_printer.specs.declared.opened.Open.{Open}
 use Rattle.jser_explain.specs.declared.piece.Piece.{Piece}
 use Rattle.jser_explain.specs.Opened.{opened_words, writer_words}
 use Rattle.jser_explain.specs.Whys.{class_line}

@@ -6,7 +6,7 @@ use Rattle.std.specs.Io.KnownBytes.{Appends}
 use Rattle.hex.specs.Hex.{encode_lower}
 use Rattle.jser_shown.specs.Words.{quoted}
 use Rattle.jser_prim.specs.Outgoing.{Outgoing}
-use Rattle.jser_words.specs.Says.{SaysTo}
+use Rattle.jser_printer.specs.Says.{SaysTo}
 use Rattle.jser_scan.specs.declared.found.Found.{Found}
 use Rattle.jser_scan.specs.declared.found.Found.TheVariants as found
 use Rattle.jser_explain.specs.declared.field.Spot.{Spot}

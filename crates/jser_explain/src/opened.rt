@@ -1,13 +1,12 @@
 //! What is open where a fault is, a line each.
 ghost use Rattle.std.specs.Prelude.{◌<◌, length};
-ghost use Rattle.jser_words.specs.Says.{SaysTo, SayingTo};
+ghost use Rattle.jser_printer.specs.Says.{SaysTo, SayingTo};
 ghost use Rattle.jser_shown.specs.Words.{quoted};
 ghost use Rattle.jser_explain.specs.Opened.{class_words, element_words, field_words, name_words, opened_words, open_words, own_writer_words, writer_words};
-ghost use Rattle.jser_walk.specs.Views.{view_name};
+ghost use Rattle.jser_printer.specs.Views.{view_name};
 
 use jser_prim::{Outbox, Sink};
-use jser_walk::{Name, Open};
-use jser_words::{say, say_decimal};
+use jser_printer::{Name, Open, say, say_decimal};
 
 /// Says what is open, the outermost first.
 pub(crate) fn say_opened<W: Sink>(outbox: &mut Outbox, sink: &mut W, opened: &[Open<'_>])

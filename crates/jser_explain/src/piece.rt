@@ -1,6 +1,6 @@
 //! The piece of a filter that decides.
 ghost use Rattle.std.specs.Prelude.{◌++◌};
-ghost use Rattle.jser_words.specs.Says.{SaysTo};
+ghost use Rattle.jser_printer.specs.Says.{SaysTo};
 ghost use Rattle.jser_explain.specs.Rest.{known_piece_words, piece_words};
 
 use jser_filter::{Limits, Verdict};
@@ -9,7 +9,7 @@ use jser_prim::{Outbox, Sink};
 use jser_reader::Reason;
 use jser_scan::{FilePath, Found, Rules, say_path};
 use jser_table::{Element, element_of};
-use jser_words::{say, say_decimal};
+use jser_printer::{say, say_decimal};
 use std::alloc::{AllocError, Global};
 
 /// A piece of a filter.

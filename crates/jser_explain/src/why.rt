@@ -1,9 +1,9 @@
 //! The lines behind that of a refusal.
 ghost use Rattle.std.specs.Prelude.{◌≡◌, ◌++◌, OnOk, IfErr, Some, true};
-ghost use Rattle.jser_words.specs.Says.{SaysTo};
+ghost use Rattle.jser_printer.specs.Says.{SaysTo};
 ghost use Rattle.jser_explain.specs.Rest.{rest_words};
 ghost use Rattle.jser_explain.specs.Whys.{field_of, head_words, sentence_line, SaysWhy, SaysWhyTo};
-ghost use Rattle.jser_walk.specs.Views.{view_name};
+ghost use Rattle.jser_printer.specs.Views.{view_name};
 
 use crate::field::{Spot, bytes_at, class_in, say_class, say_field, spot_of};
 use crate::hint::hint_of;
@@ -15,8 +15,7 @@ use jser_index::{text_units, walk_along};
 use jser_prim::{Outbox, Sink};
 use jser_reader::Reason;
 use jser_scan::{Found, Rules};
-use jser_walk::{Name, Open};
-use jser_words::say;
+use jser_printer::{Name, Open, say};
 use std::alloc::{AllocError, Global};
 
 /// Why the lines were not all printed.

@@ -1,8 +1,8 @@
 -- The owners as they are kept.
 use Rattle.std.proofs.Common.{◌≡◌, ℕ, zero, suc, ◌≤◌, List, [], ◌∷◌, ◌++◌, length, slice_set, refl, sym, ap, arith}
 use Rattle.std.proofs.lemmas.List.{map_push}
-use Rattle.jser_walk.specs.declared.owner.OwnerNode.{OwnerNode}
-use Rattle.jser_walk.specs.Given.{told_node, told_nodes}
+use Rattle.jser_printer.specs.declared.owner.OwnerNode.{OwnerNode}
+use Rattle.jser_printer.specs.Given.{told_node, told_nodes}
 
 pub told_set : (os : List OwnerNode) (k : ℕ) (node : OwnerNode) → told_nodes (slice_set os k node) ≡ slice_set (told_nodes os) k (told_node node)
 told_set [] k node = refl

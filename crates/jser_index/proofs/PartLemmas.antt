@@ -5,9 +5,9 @@ use Rattle.jser_prim.specs.ModifiedUtf8.{IsUnits, modified_utf8}
 use Rattle.jser_reading.specs.Labels.{StreamField, text_field}
 use Rattle.jser_reader.specs.declared.Item.{Item}
 use Rattle.jser_reader.specs.declared.Item.TheVariants as item
-use Rattle.jser_walk.specs.declared.Field.{Field}
-use Rattle.jser_walk.specs.declared.Field.TheVariants as field
-use Rattle.jser_walk.specs.Given.{IsOf}
+use Rattle.jser_printer.specs.declared.Field.{Field}
+use Rattle.jser_printer.specs.declared.Field.TheVariants as field
+use Rattle.jser_printer.specs.Given.{IsOf}
 use Rattle.jser_index.specs.declared.part.Part.{Part}
 use Rattle.jser_index.specs.declared.part.Part.TheVariants as part
 use Rattle.jser_index.specs.Along.{Ends, IsPartOf, IsTextOf, PartIs}

@@ -4,9 +4,9 @@ use Rattle.jser_prim.specs.Outgoing.{Outgoing, SinkState}
 use Rattle.jser_reading.specs.Labels.{StreamField, text_field}
 use Rattle.jser_shown.specs.Cues.{Teller}
 use Rattle.jser_shown.specs.Telling.{settled, goes}
-use Rattle.jser_words.specs.Passing.{says_next}
-use Rattle.jser_words.specs.Plain.{IsAscii}
-use Rattle.jser_words.specs.Says.{Says}
+use Rattle.jser_printer.specs.Passing.{says_next}
+use Rattle.jser_printer.specs.Plain.{IsAscii}
+use Rattle.jser_printer.specs.Says.{Says}
 use Rattle.jser_index.specs.Along.{IsTextOf}
 use Rattle.jser_index.proofs.DecodeLemmas.{narrow_units}
 

@@ -3,8 +3,8 @@ use Rattle.std.proofs.Common.{◌≡◌, ℕ, ◌-◌, ◌≤◌, true, false, l
 use Rattle.jser_reading.specs.FieldBytes.{tag_byte}
 use Rattle.jser_reading.specs.Labels.{Tag, null_tag, reference_tag, class_desc_tag, object_tag, string_tag, array_tag, class_tag, long_string_tag, proxy_desc_tag, enum_tag, StreamField, tag_field, block_tag_field, end_tag_field, reset_tag_field}
 use Rattle.jser_shown.specs.Finding.{Finding, begin_kind, kind_begun, take_field}
-use Rattle.jser_walk.specs.declared.Field.TheVariants as lent
-use Rattle.jser_walk.specs.Given.{IsOf}
+use Rattle.jser_printer.specs.declared.Field.TheVariants as lent
+use Rattle.jser_printer.specs.Given.{IsOf}
 use Rattle.jser_index.specs.Surveying.{GoesPastBoth}
 use Rattle.jser_index.proofs.SurveyLemmas.{finds_unmade, passes_unmade, tag_no_name, handle_quiet}
 

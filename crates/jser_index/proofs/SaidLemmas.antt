@@ -17,8 +17,8 @@ use Rattle.jser_reader.specs.declared.tally.Tally.{Tally}
 use Rattle.jser_reader.specs.ItemsTold.{TellsItems}
 use Rattle.jser_reader.specs.Readers.{Seen}
 use Rattle.jser_reader.specs.WholesTold.{TellsWhole}
-use Rattle.jser_words.specs.Passing.{says_next}
-use Rattle.jser_words.specs.Says.{Says}
+use Rattle.jser_printer.specs.Passing.{says_next}
+use Rattle.jser_printer.specs.Says.{Says}
 use Rattle.jser_index.specs.Along.{Ends, IsLength, IsTextOf, items_of, whole_size}
 use Rattle.jser_index.specs.SaidItems.{SaysField, SaysItems, BeginsItems}
 use Rattle.jser_index.specs.Showing.{PutsFront}

@@ -17,9 +17,9 @@ use Rattle.jser_reader.specs.Gates.{open_gate}
 use Rattle.jser_reader.specs.declared.Item.{Item}
 use Rattle.jser_reader.specs.declared.tally.Tally.{Tally}
 use Rattle.jser_reader.specs.Readers.{Seen}
-use Rattle.jser_words.specs.Passing.{says_next}
-use Rattle.jser_words.specs.Says.{Says, Begins, BeginsTo}
-use Rattle.jser_words.proofs.SaysLemmas.{says_none, says_both, says_same}
+use Rattle.jser_printer.specs.Passing.{says_next}
+use Rattle.jser_printer.specs.Says.{Says, Begins, BeginsTo}
+use Rattle.jser_printer.proofs.SaysLemmas.{says_none, says_both, says_same}
 use Rattle.jser_index.specs.Along.{Ends, IsLength, InText, IsStuck, GoesAlong}
 use Rattle.jser_index.specs.Showing.{PutsText, PutsSome, PutsFront}
 use Rattle.jser_index.proofs.TurnLemmas.{Turn, Does}

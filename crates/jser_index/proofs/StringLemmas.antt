@@ -6,8 +6,8 @@ use Rattle.jser_reading.specs.Labels.{Tag, null_tag, reference_tag, class_desc_t
 use Rattle.jser_shown.specs.Nodes.{Node, place_after, text_node}
 use Rattle.jser_shown.specs.Finding.{Finding, node_made, make_begun, begin_kind, kind_begun, take_field, find}
 use Rattle.jser_shown.specs.Finding.{Begun as ToldBegun}
-use Rattle.jser_walk.specs.declared.Field.TheVariants as lent
-use Rattle.jser_walk.specs.Given.{IsOf}
+use Rattle.jser_printer.specs.declared.Field.TheVariants as lent
+use Rattle.jser_printer.specs.Given.{IsOf}
 use Rattle.jser_index.specs.Along.{IsTextOf}
 use Rattle.jser_index.specs.Listed.{Listed}
 use Rattle.jser_index.specs.StoredNodes.{AddsNode}

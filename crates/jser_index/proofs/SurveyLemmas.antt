@@ -14,8 +14,8 @@ use Rattle.jser_shown.specs.Finding.{Begun as ToldBegun}
 use Rattle.jser_index.specs.declared.begun.Begun.{Begun}
 use Rattle.jser_index.specs.declared.node.NodeKind.{NodeKind}
 use Rattle.jser_index.specs.StoredNodes.{told_kind}
-use Rattle.jser_walk.specs.declared.Field.TheVariants as lent
-use Rattle.jser_walk.specs.Given.{IsOf}
+use Rattle.jser_printer.specs.declared.Field.TheVariants as lent
+use Rattle.jser_printer.specs.Given.{IsOf}
 use Rattle.jser_index.specs.Surveying.{told_begun, IsPlain, IsQuiet}
 
 -- ---- the tags whose nodes are not made yet

@@ -22,8 +22,8 @@ use Rattle.jser_reader.specs.Bounds.{AreAssigned}
 use Rattle.jser_reader.specs.ItemsTold.{TellsItems}
 use Rattle.jser_reader.specs.Readers.{Seen}
 use Rattle.jser_reader.specs.WholesTold.{TextEnds, TellsText, TellsWhole}
-use Rattle.jser_walk.specs.declared.Field.TheVariants as lent
-use Rattle.jser_walk.specs.Given.{IsOf}
+use Rattle.jser_printer.specs.declared.Field.TheVariants as lent
+use Rattle.jser_printer.specs.Given.{IsOf}
 use Rattle.jser_index.specs.Along.{Ends, IsLength, IsTextOf, Where, GoesAlong, whole_size}
 use Rattle.jser_index.specs.Reading.{SurveysAlong}
 use Rattle.jser_index.specs.Surveying.{IsAt, IsQuiet, GoesPast, GoesPastBoth, GoesPastOwner, GoesPastWhole}

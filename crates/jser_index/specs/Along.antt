@@ -18,8 +18,8 @@ use Rattle.jser_reader.specs.declared.OpenGate.{OpenGate}
 use Rattle.jser_reader.specs.Gates.{open_gate}
 use Rattle.jser_reader.specs.ReaderStates.{Reading}
 use Rattle.jser_reader.specs.ItemsTold.{StandsIn}
-use Rattle.jser_walk.specs.declared.Field.TheVariants as field
-use Rattle.jser_walk.specs.Given.{IsOf}
+use Rattle.jser_printer.specs.declared.Field.TheVariants as field
+use Rattle.jser_printer.specs.Given.{IsOf}
 use Rattle.jser_index.specs.declared.part.Part.{Part}
 use Rattle.jser_index.specs.declared.part.Part.TheVariants as part
 

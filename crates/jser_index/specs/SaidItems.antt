@@ -5,8 +5,8 @@ use Rattle.jser_reading.specs.Labels.{StreamField}
 use Rattle.jser_shown.specs.Cues.{Teller}
 use Rattle.jser_shown.specs.Telling.{goes, settled}
 use Rattle.jser_reader.specs.declared.Item.{Item}
-use Rattle.jser_words.specs.Passing.{says_next}
-use Rattle.jser_words.specs.Says.{Begins, Says}
+use Rattle.jser_printer.specs.Passing.{says_next}
+use Rattle.jser_printer.specs.Says.{Begins, Says}
 use Rattle.jser_index.specs.Along.{Ends}
 
 -- a field of this kind was said, and the walk went past it

@@ -11,8 +11,8 @@ use Rattle.jser_index.specs.declared.begun.Begun.{Begun}
 use Rattle.jser_reader.specs.declared.Whole.{Whole}
 use Rattle.jser_reader.specs.declared.Whole.TheVariants as whole
 use Rattle.jser_reader.specs.RawsTold.{AreRaws}
-use Rattle.jser_walk.specs.declared.Field.TheVariants as lent
-use Rattle.jser_walk.specs.Given.{IsOf}
+use Rattle.jser_printer.specs.declared.Field.TheVariants as lent
+use Rattle.jser_printer.specs.Given.{IsOf}
 use Rattle.jser_index.specs.Along.{IsTextOf}
 use Rattle.jser_index.specs.StoredNodes.{told_kind}
 

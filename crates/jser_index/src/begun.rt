@@ -3,7 +3,7 @@ ghost use Rattle.std.specs.Prelude.{◌≡◌, option_map};
 ghost use Rattle.jser_reading.specs.FieldBytes.{tag_byte};
 ghost use Rattle.jser_reading.specs.Labels.{StreamField, Tag};
 ghost use Rattle.jser_shown.specs.Finding.{elements_made, is_owner_kind, kind_begun};
-ghost use Rattle.jser_walk.specs.Given.{IsOf};
+ghost use Rattle.jser_printer.specs.Given.{IsOf};
 ghost use Rattle.jser_index.specs.StoredNodes.{told_kind};
 
 use crate::node::NodeKind;
@@ -11,7 +11,7 @@ use jser_grammar::wire::{
     TC_ARRAY, TC_CLASS, TC_CLASSDESC, TC_ENUM, TC_LONGSTRING, TC_OBJECT, TC_PROXYCLASSDESC,
     TC_STRING,
 };
-use jser_walk::Field;
+use jser_printer::Field;
 
 /// A tag whose node is not made yet.
 #[derive(Clone, Copy)]

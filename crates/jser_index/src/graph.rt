@@ -10,7 +10,7 @@ use crate::read::{Found, survey};
 use crate::texts::Texts;
 use jser_grammar::wire::BASE_WIRE_HANDLE;
 use jser_reader::{Stop, Totals};
-use jser_walk::OwnerNode;
+use jser_printer::OwnerNode;
 use std::alloc::{AllocError, Global};
 use std::marker::Model;
 
@@ -31,7 +31,7 @@ pub struct Index {
 }
 
 impl Model for Index {
-    ghost use Rattle.jser_walk.specs.Given.{told_nodes};
+    ghost use Rattle.jser_printer.specs.Given.{told_nodes};
     ghost use Rattle.jser_index.specs.Graphs.{GraphView, IsGraph};
     ghost use Rattle.jser_index.specs.Listed.{all_lists};
 

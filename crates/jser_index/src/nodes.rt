@@ -3,7 +3,7 @@ ghost use Rattle.std.specs.Prelude.{◌≡◌, [], None, Some, length, OnOk};
 ghost use Rattle.jser_reading.specs.Labels.{StreamField};
 ghost use Rattle.jser_shown.specs.Finding.{node_made};
 ghost use Rattle.jser_shown.specs.Nodes.{text_node};
-ghost use Rattle.jser_walk.specs.Given.{IsOf};
+ghost use Rattle.jser_printer.specs.Given.{IsOf};
 ghost use Rattle.jser_index.specs.StoredNodes.{told_kind, AddsNode};
 ghost use Rattle.jser_index.specs.Graphs.{IsNode, node_in, stored_in, text_of};
 ghost use Rattle.jser_index.specs.Listed.{IsList, all_lists, ended_last, with_last};
@@ -13,7 +13,7 @@ use crate::begun::Begun;
 use crate::lists::Lists;
 use crate::node::{Node, NodeKind, StoredNode};
 use crate::strings::Strings;
-use jser_walk::Field;
+use jser_printer::Field;
 use std::alloc::{AllocError, Global};
 use std::marker::Model;
 

@@ -1,9 +1,9 @@
 //! The owners of a stream: its objects, arrays, enum constants and class objects, in the order of their tags.
 ghost use Rattle.std.specs.Prelude.{◌≡◌, [], ◌∷◌, ◌++◌, length, slice_set, OnOk};
 ghost use Rattle.jser_shown.specs.Owners.{owner_node};
-ghost use Rattle.jser_walk.specs.Given.{told_node, told_nodes};
+ghost use Rattle.jser_printer.specs.Given.{told_node, told_nodes};
 
-use jser_walk::OwnerNode;
+use jser_printer::OwnerNode;
 use std::alloc::{AllocError, Global};
 use std::marker::Model;
 
@@ -16,7 +16,7 @@ pub(crate) struct Owners {
 impl Model for Owners {
     ghost use Rattle.std.specs.Prelude.{List};
     ghost use Rattle.jser_shown.specs.Owners.{OwnerNode as ToldNode};
-    ghost use Rattle.jser_walk.specs.Given.{told_nodes};
+    ghost use Rattle.jser_printer.specs.Given.{told_nodes};
 
     ghost Value = { List ToldNode };
 

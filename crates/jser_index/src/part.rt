@@ -3,7 +3,7 @@ ghost use Rattle.std.specs.Prelude.{◌≡◌};
 ghost use Rattle.jser_index.specs.Along.{IsPartOf, whole_size};
 
 use jser_reader::{Item, Whole};
-use jser_walk::Field;
+use jser_printer::Field;
 
 /// A field, or what leads to one.
 #[derive(Clone, Copy)]

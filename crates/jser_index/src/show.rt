@@ -2,9 +2,9 @@
 ghost use Rattle.std.specs.Prelude.{◌≡◌, OnOk, OnErr, IfOk, IfErr};
 ghost use Rattle.jser_reading.specs.Labels.{StreamField};
 ghost use Rattle.jser_shown.specs.Telling.{begin_telling, goes, settled};
-ghost use Rattle.jser_walk.specs.Given.{IsOf};
-ghost use Rattle.jser_words.specs.Passing.{says_next};
-ghost use Rattle.jser_words.specs.Says.{BeginsTo, SaysTo};
+ghost use Rattle.jser_printer.specs.Given.{IsOf};
+ghost use Rattle.jser_printer.specs.Passing.{says_next};
+ghost use Rattle.jser_printer.specs.Says.{BeginsTo, SaysTo};
 ghost use Rattle.jser_index.specs.Along.{BeginsAt, Ends, IsLength, IsTextOf, items_of};
 ghost use Rattle.jser_index.specs.Showing.{CountsText, WroteText, WroteFront, FailedIf, PutsTextTo, PutsFrontTo};
 ghost use Rattle.jser_index.specs.SaidItems.{SaysItemsTo, BeginsItemsTo};
@@ -17,9 +17,8 @@ use jser_grammar::wire::{TC_REFERENCE, TC_STRING};
 use jser_prim::{Outbox, Sink};
 use jser_reader::{Item, OpenGate, Reader, Step, Whole};
 use jser_shown::laws::{one_more, tells_fronts, told};
-use jser_walk::{Field, Walk};
-use jser_words::{
-    say_all_due, say_class_handle, say_class_reference, say_enum_name, say_next, say_plain_handle,
+use jser_printer::{
+    Field, Printer, say_all_due, say_class_handle, say_class_reference, say_enum_name, say_next, say_plain_handle,
     say_plain_string, say_section_raw, say_section_reference, say_top_reference,
 };
 use std::alloc::{AllocError, Global};
@@ -71,7 +70,7 @@ impl Index {
         ensures front { OnErr result (PutsFrontTo W.gone_out W.has_failed self.now.bytes (begin_telling self.now.owners) outbox.old outbox.new sink.old sink.new) }
     {
         let mut reader = Reader::new(alloc, OpenGate);
-        let mut walk = Walk::new(alloc, &self.owners);
+        let mut walk = Printer::new(alloc, &self.owners);
         let mut units = Vec::new(alloc);
         say_along(
             outbox,
@@ -89,7 +88,7 @@ fn say_along<W: Sink>(
     outbox: &mut Outbox,
     sink: &mut W,
     reader: &mut Reader<OpenGate>,
-    walk: &mut Walk<'_>,
+    walk: &mut Printer<'_>,
     units: &mut Vec<u16>,
     bytes: &[u8],
 ) -> Result<(), AllocError>
@@ -135,7 +134,7 @@ fn say_along<W: Sink>(
 fn say_item<W: Sink>(
     outbox: &mut Outbox,
     sink: &mut W,
-    walk: &mut Walk<'_>,
+    walk: &mut Printer<'_>,
     units: &mut Vec<u16>,
     item: Item<'_>,
 ) -> Result<(), AllocError>
@@ -164,7 +163,7 @@ fn say_item<W: Sink>(
 fn say_field<W: Sink>(
     outbox: &mut Outbox,
     sink: &mut W,
-    walk: &mut Walk<'_>,
+    walk: &mut Printer<'_>,
     field: Field<'_>,
 ) -> Result<(), AllocError>
     ensures said { OnOk result ((told : StreamField) → IsOf field.entry told
@@ -190,7 +189,7 @@ fn say_field<W: Sink>(
 fn say_whole<W: Sink>(
     outbox: &mut Outbox,
     sink: &mut W,
-    walk: &mut Walk<'_>,
+    walk: &mut Printer<'_>,
     units: &mut Vec<u16>,
     whole: Whole<'_>,
 ) -> Result<(), AllocError>
@@ -208,7 +207,7 @@ fn say_whole<W: Sink>(
 fn say_reference<W: Sink>(
     outbox: &mut Outbox,
     sink: &mut W,
-    walk: &mut Walk<'_>,
+    walk: &mut Printer<'_>,
     handle: u32,
 ) -> Result<(), AllocError>
     ensures said { OnOk result (SaysItemsTo W.gone_out W.has_failed (items_of (Whole.Reference handle)) outbox.old outbox.new sink.old sink.new walk.old walk.new) }
@@ -228,7 +227,7 @@ fn say_reference<W: Sink>(
 fn say_reference_tag<W: Sink>(
     outbox: &mut Outbox,
     sink: &mut W,
-    walk: &mut Walk<'_>,
+    walk: &mut Printer<'_>,
 ) -> Result<(), AllocError>
     ensures said { OnOk result ((told : StreamField) → IsOf (Field.Tag TC_REFERENCE) told
         → SaysTo W.gone_out W.has_failed outbox.old outbox.new sink.old sink.new (λ k. says_next walk.old told k)) }
@@ -260,7 +259,7 @@ fn say_reference_tag<W: Sink>(
 fn say_handle<W: Sink>(
     outbox: &mut Outbox,
     sink: &mut W,
-    walk: &mut Walk<'_>,
+    walk: &mut Printer<'_>,
     handle: u32,
 ) -> Result<(), AllocError>
     ensures said { OnOk result ((told : StreamField) → IsOf (Field.Handle handle) told
@@ -282,7 +281,7 @@ fn say_handle<W: Sink>(
 fn say_string<W: Sink>(
     outbox: &mut Outbox,
     sink: &mut W,
-    walk: &mut Walk<'_>,
+    walk: &mut Printer<'_>,
     units: &mut Vec<u16>,
     text: &[u8],
 ) -> Result<(), AllocError>
@@ -297,7 +296,7 @@ fn say_string<W: Sink>(
 fn say_owner<W: Sink>(
     outbox: &mut Outbox,
     sink: &mut W,
-    walk: &mut Walk<'_>,
+    walk: &mut Printer<'_>,
     tag: u8,
     class: u32,
 ) -> Result<(), AllocError>
@@ -316,7 +315,7 @@ fn say_owner<W: Sink>(
 fn say_text<W: Sink>(
     outbox: &mut Outbox,
     sink: &mut W,
-    walk: &mut Walk<'_>,
+    walk: &mut Printer<'_>,
     units: &mut Vec<u16>,
     bytes: &[u8],
 ) -> Result<(), AllocError>
@@ -340,7 +339,7 @@ fn say_text<W: Sink>(
 fn say_units<W: Sink>(
     outbox: &mut Outbox,
     sink: &mut W,
-    walk: &mut Walk<'_>,
+    walk: &mut Printer<'_>,
     units: &mut Vec<u16>,
     bytes: &[u8],
 ) -> Result<(), AllocError>

@@ -4,7 +4,7 @@ ghost use Rattle.jser_reading.specs.FieldBytes.{bytes_of, tag_byte};
 ghost use Rattle.jser_reading.specs.Labels.{StreamField, Tag};
 ghost use Rattle.jser_shown.specs.Finding.{begin_finding, begun_by, find, finished, make_begun, take_field, take_name};
 ghost use Rattle.jser_shown.specs.Nodes.{place_after};
-ghost use Rattle.jser_walk.specs.Given.{IsOf, told_nodes};
+ghost use Rattle.jser_printer.specs.Given.{IsOf, told_nodes};
 ghost use Rattle.jser_index.specs.Along.{Ends, IsLength, PartIs};
 ghost use Rattle.jser_index.specs.Surveying.{AddsString, IsPlain, IsQuiet, GoesPastRaws, GoesPastWhole};
 ghost use Rattle.jser_index.specs.Listed.{all_lists};
@@ -20,7 +20,7 @@ use jser_grammar::wire::{
     TC_BLOCKDATA, TC_BLOCKDATALONG, TC_ENDBLOCKDATA, TC_REFERENCE, TC_RESET, TC_STRING,
 };
 use jser_reader::{Item, Whole};
-use jser_walk::{Field, OwnerNode};
+use jser_printer::{Field, OwnerNode};
 use std::alloc::{AllocError, Global};
 use std::marker::Model;
 

@@ -5,7 +5,7 @@ ghost use Rattle.jser_prim.specs.ModifiedUtf8.{IsUnits, modified_utf8};
 use crate::decode::decode;
 use crate::part::{Part, part_of};
 use jser_reader::{OpenGate, Reader, Step, Stop};
-use jser_walk::{Field, Walk};
+use jser_printer::{Field, Printer};
 use std::alloc::{AllocError, Global};
 
 /// A walk past all fields of the bytes that end at `to` or before it. It has settled, so it waits for the field that begins
@@ -16,9 +16,9 @@ use std::alloc::{AllocError, Global};
 /// # Errors
 ///
 /// Where memory runs out.
-pub fn walk_along(alloc: Global, bytes: &[u8], to: u64) -> Result<Walk<'static>, AllocError> {
+pub fn walk_along(alloc: Global, bytes: &[u8], to: u64) -> Result<Printer<'static>, AllocError> {
     let mut reader = Reader::new(alloc, OpenGate);
-    let mut walk = Walk::new(alloc, &[]);
+    let mut walk = Printer::new(alloc, &[]);
     let mut room = Vec::new(alloc);
     let mut rest = bytes;
     for _ in 0..=bytes.len() {
@@ -34,7 +34,7 @@ pub fn walk_along(alloc: Global, bytes: &[u8], to: u64) -> Result<Walk<'static>,
 /// Goes past the next item, if it ends at `to` or before it, and returns the bytes behind it.
 fn pass_item<'b>(
     reader: &mut Reader<OpenGate>,
-    walk: &mut Walk<'static>,
+    walk: &mut Printer<'static>,
     room: &mut Vec<u16>,
     bytes: &[u8],
     rest: &'b [u8],
@@ -56,7 +56,7 @@ fn pass_item<'b>(
 
 /// Goes past a field, with all that is due before it.
 fn take_part(
-    walk: &mut Walk<'static>,
+    walk: &mut Printer<'static>,
     room: &mut Vec<u16>,
     part: Part<'_>,
 ) -> Result<(), AllocError> {
@@ -75,7 +75,7 @@ fn take_part(
 }
 
 /// Goes past all that is due.
-fn settle(walk: &mut Walk<'static>) -> Result<(), AllocError> {
+fn settle(walk: &mut Printer<'static>) -> Result<(), AllocError> {
     for _ in 0..u64::MAX {
         if walk.due().is_none() {
             return Ok(());

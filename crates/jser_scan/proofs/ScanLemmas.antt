@@ -8,8 +8,8 @@ use Rattle.jser_prim.proofs.OutgoingLemmas.{nothing, puts_both, went_out}
 use Rattle.jser_reader.specs.declared.Refusal.{Refusal}
 use Rattle.jser_reader.specs.ReasonNames.{reason_name}
 use Rattle.jser_shown.specs.Words.{quoted}
-use Rattle.jser_words.specs.Says.{Says}
-use Rattle.jser_words.proofs.SaysLemmas.{says_both, says_three, says_four}
+use Rattle.jser_printer.specs.Says.{Says}
+use Rattle.jser_printer.proofs.SaysLemmas.{says_both, says_three, says_four}
 use Rattle.jser_scan.specs.declared.found.Found.{Found}
 use Rattle.jser_scan.specs.declared.found.Found.TheVariants as found
 use Rattle.jser_scan.specs.Answers.{answer_words, class_words, count_words, place_words}

@@ -1,6 +1,6 @@
 //! The words of an answer: those of the line of `check`, with the class that was refused.
 ghost use Rattle.std.specs.Prelude.{◌++◌, ◌∷◌};
-ghost use Rattle.jser_words.specs.Says.{SaysTo};
+ghost use Rattle.jser_printer.specs.Says.{SaysTo};
 ghost use Rattle.jser_reader.specs.ReasonNames.{reason_name};
 ghost use Rattle.jser_scan.specs.Answers.{count_words, counts_words, place_words, class_words, fault_words, answer_words};
 
@@ -8,7 +8,7 @@ use crate::found::Found;
 use jser_inputs::InputFault;
 use jser_prim::{Outbox, Sink};
 use jser_reader::{Reason, Totals};
-use jser_words::{say, say_decimal, say_quoted};
+use jser_printer::{say, say_decimal, say_quoted};
 
 /// Says what was found.
 #[tactic(auto, using(crate::proofs::ScanLemmas::says_refused, crate::proofs::ScanLemmas::says_hidden))]

@@ -1,7 +1,7 @@
 //! What was found of a file as a JSON object. A quoted text is a JSON string, also of a name with a unit that is no
 //! character of its own.
 ghost use Rattle.std.specs.Prelude.{◌++◌};
-ghost use Rattle.jser_words.specs.Says.{SaysTo};
+ghost use Rattle.jser_printer.specs.Says.{SaysTo};
 ghost use Rattle.jser_scan.specs.Json.{object_words, report_words, more_report_words, refusal_words, error_words, class_member, found_members};
 
 use crate::answer::{say_answer, say_count, say_reason};
@@ -9,7 +9,7 @@ use crate::found::Found;
 use crate::path::FilePath;
 use jser_prim::{Outbox, Sink};
 use jser_reader::{Refusal, Totals};
-use jser_words::{say, say_quoted};
+use jser_printer::{say, say_quoted};
 
 /// Says the object of a file, on a line.
 pub(crate) fn say_object<W: Sink>(outbox: &mut Outbox, sink: &mut W, path: &FilePath, found: &Found)

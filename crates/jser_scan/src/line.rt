@@ -1,6 +1,6 @@
 //! The line of a file: its path, and what was found.
 ghost use Rattle.std.specs.Prelude.{◌++◌};
-ghost use Rattle.jser_words.specs.Says.{SaysTo};
+ghost use Rattle.jser_printer.specs.Says.{SaysTo};
 ghost use Rattle.jser_scan.specs.Paths.{path_words};
 ghost use Rattle.jser_scan.specs.Lines.{line_words};
 
@@ -8,7 +8,7 @@ use crate::answer::say_answer;
 use crate::found::Found;
 use crate::path::{FilePath, is_plain};
 use jser_prim::{Outbox, Sink};
-use jser_words::{say, say_quoted};
+use jser_printer::{say, say_quoted};
 
 /// Says the line of a file.
 pub(crate) fn say_line<W: Sink>(outbox: &mut Outbox, sink: &mut W, path: &FilePath, found: &Found)

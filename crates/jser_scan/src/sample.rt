@@ -1,7 +1,7 @@
 //! What is printed of good files, for which a filter is suggested: the filter, or why a file is none.
 ghost use Rattle.std.specs.Prelude.{◌≡◌, ◌⊎◌, [], ℕ, List, IfOk, OnOk, OnErr, string_bytes, true};
 ghost use Rattle.std.specs.Io.KnownBytes.{Appends};
-ghost use Rattle.jser_words.specs.Says.{SaysTo};
+ghost use Rattle.jser_printer.specs.Says.{SaysTo};
 ghost use Rattle.jser_suggest.specs.Samples.{AreKnown};
 ghost use Rattle.jser_scan.specs.Samples.{SaysSuggested, SpellsSuggested, no_sample_status, no_sample_words, unwritable_words};
 
@@ -12,7 +12,7 @@ use jser_prim::{Failed, Outbox, Sink, give_all};
 use jser_reader::Stop;
 use jser_settings::{ACCEPTED, FAILED, REFUSED, tell_failure};
 use jser_suggest::{SampleFault, Samples};
-use jser_words::{say, say_quoted};
+use jser_printer::{say, say_quoted};
 use std::alloc::{AllocError, Global};
 
 /// Prints the filter that is suggested, in a line, and returns the status: 0, or 3 where the output failed or memory ran out,

@@ -1,7 +1,7 @@
 //! What is printed of one file after another, and of all.
 ghost use Rattle.std.specs.Prelude.{◌≡◌, ◌≢◌, ◌⊎◌, [], IfOk, OnOk, OnErr, true};
 ghost use Rattle.std.specs.Io.KnownBytes.{Appends};
-ghost use Rattle.jser_words.specs.Says.{SaysTo};
+ghost use Rattle.jser_printer.specs.Says.{SaysTo};
 ghost use Rattle.jser_scan.specs.Lines.{is_accepted, is_unread, line_words, printed, says_found, summary_words};
 
 use crate::answer::say_count;
@@ -11,7 +11,7 @@ use crate::line::say_line;
 use crate::path::FilePath;
 use crate::tally::Tally;
 use jser_prim::{Failed, Outbox, Sink};
-use jser_words::{say, say_decimal};
+use jser_printer::{say, say_decimal};
 
 /// How the files of a scan are printed.
 #[derive(Clone, Copy, PartialEq, Eq, Debug)]

@@ -1,11 +1,11 @@
-//! The example of the README of `jser_walk`.
+//! The example of the README of `jser_printer`.
 
-// README: jser_walk
-use jser_walk::{Field, Prompt, Walk};
+// README: jser_printer
+use jser_printer::{Field, Printer, Prompt};
 use std::alloc::AllocError;
 
 /// One step of a walk: past what is due, or else past a field, of which it says whether it is the name of a class.
-fn step(walk: &mut Walk<'_>, field: Field<'_>) -> Result<Option<bool>, AllocError> {
+fn step(walk: &mut Printer<'_>, field: Field<'_>) -> Result<Option<bool>, AllocError> {
     if walk.due().is_some() {
         walk.pass()?;
         return Ok(None);
@@ -21,14 +21,14 @@ use std::test::Fail;
 
 #[test]
 fn the_name_of_a_class(rt: HostRuntime) -> Result<(), Fail> {
-    let mut walk = Walk::new(rt.alloc(), &[]);
+    let mut walk = Printer::new(rt.alloc(), &[]);
     finds_the_name(&rt, &mut walk)?;
     assert_eq!(rt; walk.count(), 1);
     Ok(())
 }
 
 /// Of the fields up to a suid, the text alone is the name of a class.
-fn finds_the_name(rt: &impl Abort, walk: &mut Walk<'_>) -> Result<(), AllocError> {
+fn finds_the_name(rt: &impl Abort, walk: &mut Printer<'_>) -> Result<(), AllocError> {
     let name = [0x41];
     let fields = [
         (Field::Header, false),

@@ -1,16 +1,15 @@
-//! The words of `jser_words`, and the example of its README.
+//! The words of `jser_printer`, and the example of its README.
 
-// README: jser_words
+// README: jser_printer
 use jser_prim::{Outbox, Sink};
-use jser_walk::{Field, Walk};
-use jser_words::{say_all_due, say_next};
+use jser_printer::{Field, Printer, say_all_due, say_next};
 use std::alloc::AllocError;
 
 /// Says these fields, and what is due after the last one.
 fn say_fields<W: Sink>(
     outbox: &mut Outbox,
     sink: &mut W,
-    walk: &mut Walk<'_>,
+    walk: &mut Printer<'_>,
     fields: &[Field<'_>],
 ) -> Result<(), AllocError> {
     for field in fields {
@@ -25,7 +24,7 @@ mod fields;
 mod single;
 mod streams;
 
-use jser_walk::OwnerNode;
+use jser_printer::OwnerNode;
 use std::alloc::AllocGlobal;
 use std::process::Abort;
 use std::test::Fail;
@@ -40,7 +39,7 @@ fn assert_said(
 ) -> Result<(), Fail> {
     let mut page = Page::new(rt.alloc(), 1, 4096);
     let mut outbox = Outbox::new();
-    let mut walk = Walk::new(rt.alloc(), owners);
+    let mut walk = Printer::new(rt.alloc(), owners);
     say_fields(&mut outbox, &mut page, &mut walk, fields)?;
     outbox.flush(&mut page);
     assert!(rt; page.bytes.as_slice() == text);

@@ -1,5 +1,5 @@
 use Rattle.std.proofs.Common.{sym, arith}
-use Rattle.jser_words.proofs.SaysLemmas.{says_none}
+use Rattle.jser_printer.proofs.SaysLemmas.{says_none}
 use Rattle.jser_commands.specs.Lines.{marked_words}
 use Rattle.jser_commands.proofs.ListLemmas.{lines_on, lines_ended}
 use Rattle.jser_commands.proofs.list.say_lines.Goals as goal

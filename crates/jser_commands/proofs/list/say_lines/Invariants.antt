@@ -1,6 +1,6 @@
 use Rattle.std.proofs.Common.{drop}
 use Rattle.jser_prim.specs.Outgoing.{sink_state}
-use Rattle.jser_words.specs.Says.{Saying}
+use Rattle.jser_printer.specs.Says.{Saying}
 use Rattle.jser_commands.specs.Counts.{tallies_of, lines_before}
 use Rattle.jser_commands.specs.Lines.{marked_words}
 use Rattle.jser_commands.proofs.list.say_lines.Given as goal

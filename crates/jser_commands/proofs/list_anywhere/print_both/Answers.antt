@@ -1,5 +1,5 @@
 use Rattle.std.proofs.Common.{sym, ◌∙◌, inr, codes}
-use Rattle.jser_words.proofs.SaysLemmas.{says_both}
+use Rattle.jser_printer.proofs.SaysLemmas.{says_both}
 use Rattle.jser_commands.specs.Counts.{tallies_of, lines_before}
 use Rattle.jser_commands.specs.Lines.{marked_words, words_on}
 use Rattle.jser_commands.proofs.ListLemmas.{both_are, text_went_out, text_failed, text_cut}

@@ -1,6 +1,6 @@
 use Rattle.std.specs.Prelude.{◌++◌, codes}
 use Rattle.hex.specs.Hex.{encode_lower}
-use Rattle.jser_words.proofs.SaysLemmas.{says_three}
+use Rattle.jser_printer.proofs.SaysLemmas.{says_three}
 use Rattle.jser_explain.proofs.field.say_digits.Goals as goal
 
 pub returns : goal.returns

@@ -1,6 +1,6 @@
 use Rattle.std.specs.Prelude.{◌++◌, codes}
 use Rattle.jser_shown.specs.Words.{quoted}
-use Rattle.jser_words.proofs.SaysLemmas.{says_three}
+use Rattle.jser_printer.proofs.SaysLemmas.{says_three}
 use Rattle.jser_explain.proofs.field.say_known_class.Goals as goal
 
 pub returns : goal.returns

@@ -1,6 +1,6 @@
 use Rattle.std.specs.Prelude.{◌++◌, codes}
 use Rattle.std.specs.Fmt.{decimal}
-use Rattle.jser_words.proofs.SaysLemmas.{says_five}
+use Rattle.jser_printer.proofs.SaysLemmas.{says_five}
 use Rattle.jser_explain.specs.Whys.{hex_end}
 use Rattle.jser_explain.proofs.field.say_shown.Goals as goal
 

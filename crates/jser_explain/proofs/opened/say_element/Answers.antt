@@ -1,6 +1,6 @@
 use Rattle.std.specs.Prelude.{◌++◌, codes}
 use Rattle.std.specs.Fmt.{decimal}
-use Rattle.jser_words.proofs.SaysLemmas.{says_three}
+use Rattle.jser_printer.proofs.SaysLemmas.{says_three}
 use Rattle.jser_explain.proofs.opened.say_element.Goals as goal
 
 pub returns : goal.returns

@@ -1,7 +1,7 @@
 use Rattle.std.specs.Prelude.{◌++◌, codes}
 use Rattle.jser_shown.specs.Words.{quoted}
-use Rattle.jser_walk.specs.Views.{view_name}
-use Rattle.jser_words.proofs.SaysLemmas.{says_three}
+use Rattle.jser_printer.specs.Views.{view_name}
+use Rattle.jser_printer.proofs.SaysLemmas.{says_three}
 use Rattle.jser_explain.specs.Opened.{class_words}
 use Rattle.jser_explain.proofs.opened.say_field.Goals as goal
 

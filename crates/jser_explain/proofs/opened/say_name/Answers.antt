@@ -1,5 +1,5 @@
 use Rattle.std.proofs.Common.{[]}
-use Rattle.jser_words.proofs.SaysLemmas.{says_name}
+use Rattle.jser_printer.proofs.SaysLemmas.{says_name}
 use Rattle.jser_explain.proofs.opened.say_name.Goals as goal
 
 pub returns : goal.returns

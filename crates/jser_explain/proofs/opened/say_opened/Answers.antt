@@ -1,6 +1,6 @@
 use Rattle.std.proofs.Common.{arith}
 use Rattle.std.proofs.lemmas.Grind.{common_steps}
-use Rattle.jser_words.proofs.SaysLemmas.{says_none, says_on}
+use Rattle.jser_printer.proofs.SaysLemmas.{says_none, says_on}
 use Rattle.jser_explain.proofs.OpenLemmas.{says_no_more}
 use Rattle.jser_explain.proofs.opened.say_opened.Goals as goal
 

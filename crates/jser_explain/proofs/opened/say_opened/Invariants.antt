@@ -1,6 +1,6 @@
 use Rattle.std.proofs.Common.{length}
 use Rattle.jser_prim.specs.Outgoing.{sink_state}
-use Rattle.jser_words.specs.Says.{Saying}
+use Rattle.jser_printer.specs.Says.{Saying}
 use Rattle.jser_explain.specs.Opened.{opened_words}
 use Rattle.jser_explain.proofs.opened.say_opened.Given as goal
 

@@ -1,7 +1,7 @@
 use Rattle.std.specs.Prelude.{◌++◌, codes}
 use Rattle.std.specs.Fmt.{decimal}
 use Rattle.jser_scan.specs.Paths.{path_words}
-use Rattle.jser_words.proofs.SaysLemmas.{says_five}
+use Rattle.jser_printer.proofs.SaysLemmas.{says_five}
 use Rattle.jser_explain.proofs.piece.say_known_piece.Goals as goal
 
 pub returns : goal.returns

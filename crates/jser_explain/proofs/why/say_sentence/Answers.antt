@@ -1,5 +1,5 @@
 use Rattle.std.specs.Prelude.{◌++◌, codes}
-use Rattle.jser_words.proofs.SaysLemmas.{says_three}
+use Rattle.jser_printer.proofs.SaysLemmas.{says_three}
 use Rattle.jser_explain.proofs.why.say_sentence.Goals as goal
 
 pub returns : goal.returns

@@ -9,4 +9,4 @@ returns-then-say_plain_string-clause-said g c =
 pub returns-then-say_plain_string-clause-goes : goal.returns-then-say_plain_string-clause-goes
 returns-then-say_plain_string-clause-goes g c =
     let is_plain = c.if-say_plain_string.true in
-    plain_goes c.args.walk.now c.say_plain_string.new.walk c.args.bytes.now (c.say_plain_string.ensures.ascii is_plain) (c.say_plain_string.ensures.goes is_plain)
+    plain_goes c.args.walk.now c.say_plain_string.new.printer c.args.bytes.now (c.say_plain_string.ensures.ascii is_plain) (c.say_plain_string.ensures.goes is_plain)

@@ -1,6 +1,6 @@
 use Rattle.std.specs.Prelude.{◌++◌}
 use Rattle.std.specs.Fmt.{decimal}
-use Rattle.jser_words.proofs.SaysLemmas.{says_both}
+use Rattle.jser_printer.proofs.SaysLemmas.{says_both}
 use Rattle.jser_scan.proofs.answer.say_count.Goals as goal
 
 pub returns : goal.returns

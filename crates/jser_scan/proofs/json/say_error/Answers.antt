@@ -1,5 +1,5 @@
 use Rattle.std.specs.Prelude.{◌++◌, ◌∷◌, codes}
-use Rattle.jser_words.proofs.SaysLemmas.{says_three}
+use Rattle.jser_printer.proofs.SaysLemmas.{says_three}
 use Rattle.jser_scan.specs.Answers.{answer_words}
 use Rattle.jser_scan.proofs.json.say_error.Goals as goal
 

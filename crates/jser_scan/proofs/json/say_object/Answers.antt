@@ -1,6 +1,6 @@
 use Rattle.std.proofs.Common.{ap, sym}
 use Rattle.std.specs.Prelude.{◌++◌, codes}
-use Rattle.jser_words.proofs.SaysLemmas.{says_four, says_same}
+use Rattle.jser_printer.proofs.SaysLemmas.{says_four, says_same}
 use Rattle.jser_shown.specs.Words.{quoted}
 use Rattle.jser_scan.specs.Json.{found_members}
 use Rattle.jser_scan.proofs.json.say_object.Goals as goal

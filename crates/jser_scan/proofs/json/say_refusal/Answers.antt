@@ -1,5 +1,5 @@
 use Rattle.std.specs.Prelude.{◌++◌, ◌∷◌, codes}
-use Rattle.jser_words.proofs.SaysLemmas.{says_five}
+use Rattle.jser_printer.proofs.SaysLemmas.{says_five}
 use Rattle.jser_reader.specs.ReasonNames.{reason_name}
 use Rattle.jser_scan.specs.Answers.{count_words}
 use Rattle.jser_scan.proofs.json.say_refusal.Goals as goal

@@ -1,6 +1,6 @@
 use Rattle.std.specs.Prelude.{◌++◌, ◌∷◌, codes}
 use Rattle.jser_shown.specs.Words.{quoted}
-use Rattle.jser_words.proofs.SaysLemmas.{says_four}
+use Rattle.jser_printer.proofs.SaysLemmas.{says_four}
 use Rattle.jser_scan.specs.Paths.{path_words}
 use Rattle.jser_scan.proofs.sample.say_unwritable.Goals as goal
 

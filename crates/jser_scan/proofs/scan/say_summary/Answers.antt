@@ -1,6 +1,6 @@
 use Rattle.std.specs.Prelude.{◌++◌, codes}
 use Rattle.std.specs.Fmt.{decimal}
-use Rattle.jser_words.proofs.SaysLemmas.{says_five}
+use Rattle.jser_printer.proofs.SaysLemmas.{says_five}
 use Rattle.jser_scan.specs.Answers.{count_words}
 use Rattle.jser_scan.proofs.scan.say_summary.Goals as goal
 

@@ -2,9 +2,8 @@
 
 use super::say_fields;
 use jser_prim::{Outbox, Sink};
-use jser_walk::{Field, OwnerNode, Walk};
-use jser_words::{
-    say_all_due, say_class_reference, say_next, say_plain_handle, say_plain_string,
+use jser_printer::{
+    Field, OwnerNode, Printer, say_all_due, say_class_reference, say_next, say_plain_handle, say_plain_string,
     say_section_raw, say_section_reference,
 };
 use std::alloc::{AllocError, AllocGlobal};
@@ -107,7 +106,7 @@ const CALLS: [Call; 18] = [
 fn is_right<W: Sink>(
     outbox: &mut Outbox,
     sink: &mut W,
-    walk: &mut Walk<'_>,
+    walk: &mut Printer<'_>,
     call: Call,
 ) -> Result<bool, AllocError> {
     match call {
@@ -151,7 +150,7 @@ fn say_objects(
     page: &mut Page,
 ) -> Result<(), AllocError> {
     let mut outbox = Outbox::new();
-    let mut walk = Walk::new(rt.alloc(), owners);
+    let mut walk = Printer::new(rt.alloc(), owners);
     make_calls(rt, &mut outbox, page, &mut walk)?;
     outbox.flush(page);
     Ok(())
@@ -162,7 +161,7 @@ fn make_calls<W: Sink>(
     rt: &impl Abort,
     outbox: &mut Outbox,
     sink: &mut W,
-    walk: &mut Walk<'_>,
+    walk: &mut Printer<'_>,
 ) -> Result<(), AllocError> {
     for (number, call) in CALLS.iter().enumerate() {
         assert!(rt; is_right(outbox, sink, walk, *call)?, "call {number}");

@@ -1,7 +1,7 @@
 //! Fields at the edges of what they are wanted for, in streams made for them.
 
 use super::assert_said;
-use jser_walk::{Field, OwnerNode};
+use jser_printer::{Field, OwnerNode};
 use std::test::Fail;
 
 #[test]

@@ -1,8 +1,9 @@
 //! Single words, with the numbers and units at their edges.
 
 use jser_prim::{Outbox, Sink};
-use jser_walk::{Due, Field, Name, Walk};
-use jser_words::{say, say_decimal, say_due, say_field, say_next, say_quoted};
+use jser_printer::{
+    Due, Field, Name, Printer, say, say_decimal, say_due, say_field, say_next, say_quoted,
+};
 use std::alloc::{AllocError, AllocGlobal};
 use std::process::Abort;
 use std::test::Fail;
@@ -64,7 +65,7 @@ fn lines_begin_with_two_spaces_a_level(rt: HostRuntime) {
 fn field_that_is_not_wanted(rt: HostRuntime) {
     let mut page = Page::new(rt.alloc(), 1, 1000);
     let mut outbox = Outbox::new();
-    let walk = Walk::new(rt.alloc(), &[]);
+    let walk = Printer::new(rt.alloc(), &[]);
     say_field(&mut outbox, &mut page, &walk, Field::Flags(3));
     outbox.flush(&mut page);
     assert!(rt; page.bytes.is_empty());
@@ -107,7 +108,7 @@ const BLOCK: [Field<'static>; 4] = [
 fn say_each<W: Sink>(
     outbox: &mut Outbox,
     sink: &mut W,
-    walk: &mut Walk<'_>,
+    walk: &mut Printer<'_>,
     fields: &[Field<'_>],
 ) -> Result<(), AllocError> {
     for field in fields {
@@ -130,7 +131,7 @@ fn has_200_bytes(rt: &impl Abort, text: &[u8]) {
 fn many_bytes_in_hexadecimal(rt: HostRuntime) -> Result<(), Fail> {
     let mut page = Page::new(rt.alloc(), 1, 1000);
     let mut outbox = Outbox::new();
-    let mut walk = Walk::new(rt.alloc(), &[]);
+    let mut walk = Printer::new(rt.alloc(), &[]);
     say_each(&mut outbox, &mut page, &mut walk, &BLOCK)?;
     outbox.flush(&mut page);
     has_200_bytes(&rt, &page.bytes);

@@ -1,7 +1,7 @@
 //! Worked streams, from their fields alone: a walk knows what each is for.
 
 use super::assert_said;
-use jser_walk::{Field, OwnerNode};
+use jser_printer::{Field, OwnerNode};
 use std::test::Fail;
 
 /// `List`

@@ -1,4 +1,4 @@
-use Rattle.jser_walk.specs.Given.{told_nodes}
+use Rattle.jser_printer.specs.Given.{told_nodes}
 use Rattle.jser_index.proofs.GraphLemmas.{stands_for, is_graph}
 use Rattle.jser_index.proofs.graph.Index.read.Goals as goal
 

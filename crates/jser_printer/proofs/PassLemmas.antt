@@ -1,0 +1,106 @@
+-- Steps that need no field, by the frame on top.
+use Rattle.std.proofs.Common.{◌≡◌, ℕ, suc, ◌+◌, Bool, true, false, List, [], ◌∷◌, ◌++◌, length, slice_set, Option, Some, None, ap, sym, ◌∙◌, subst, arith}
+use Rattle.jser_reading.specs.Roles.{enum_owner}
+use Rattle.jser_shown.specs.Known.{NamedLayer, Known, known_class, known_other, with_entry, classes_at, own_class_of, is_external_class, is_external_chain}
+use Rattle.jser_shown.specs.Shown.{field_named}
+use Rattle.jser_shown.specs.Owners.{OwnerNode}
+use Rattle.jser_shown.specs.Cues.{SectionPart, raw_part, value_part, note_part, note_cue, name_cue, parts_cue, teller, object_parts}
+use Rattle.jser_printer.specs.declared.frame.Frame.{Frame}
+use Rattle.jser_printer.specs.declared.frame.Frame.TheVariants as frame
+use Rattle.jser_printer.specs.declared.frame.Stage.{Stage}
+use Rattle.jser_printer.specs.declared.frame.Stage.TheVariants as stage
+use Rattle.jser_printer.specs.declared.owner.Owner.TheVariants as owner
+use Rattle.jser_printer.specs.Steps.{due_in, made_due, pass_part, pass_at, pass_in}
+use Rattle.jser_printer.specs.Tables.{TableView, layer_in, layers_in, IsChainOf}
+use Rattle.jser_printer.specs.Frames.{parts_from, cue_of, cues_of, tail_of, FramesFit, BeginsSection}
+use Rattle.jser_printer.proofs.FrameLemmas.{cues_more_chains, fit_more_chains, tail_fits}
+
+-- the frame of an object's sections
+
+sections_are : (chain : List NamedLayer) (b : Bool) → is_external_class (own_class_of chain) ≡ b → object_parts (is_external_chain chain) chain ≡ object_parts b chain
+sections_are chain b is = ap (λ t. object_parts t chain) is
+
+pub external_sections : (table : TableView) (level number chain : ℕ) (own : NamedLayer) (b : Bool) → IsChainOf table number (Some chain) → own_class_of (layers_in table.chains chain) ≡ own → b ≡ is_external_class own → b ≡ true → cue_of table.layers table.chains (frame.External level chain) ≡ parts_cue level (object_parts (is_external_chain (classes_at table.known number)) (classes_at table.known number))
+external_sections table level number chain own b is owns external holds =
+    let test : is_external_class (own_class_of (layers_in table.chains chain)) ≡ true = ap is_external_class owns ∙ sym external ∙ holds in
+    sym (ap (λ c. parts_cue level (object_parts (is_external_chain c) c)) is.1 ∙ ap (parts_cue level) (sections_are (layers_in table.chains chain) true test))
+
+pub serial_sections : (table : TableView) (level number chain : ℕ) (own : NamedLayer) (b : Bool) → IsChainOf table number (Some chain) → own_class_of (layers_in table.chains chain) ≡ own → b ≡ is_external_class own → b ≡ false → cue_of table.layers table.chains (frame.Sections level chain 0 stage.Start) ≡ parts_cue level (object_parts (is_external_chain (classes_at table.known number)) (classes_at table.known number))
+serial_sections table level number chain own b is owns external fails =
+    let test : is_external_class (own_class_of (layers_in table.chains chain)) ≡ false = ap is_external_class owns ∙ sym external ∙ fails in
+    sym (ap (λ c. parts_cue level (object_parts (is_external_chain c) c)) is.1 ∙ ap (parts_cue level) (sections_are (layers_in table.chains chain) false test))
+
+pub no_sections : (table : TableView) (level number : ℕ) → IsChainOf table number None → cue_of table.layers table.chains (frame.End level) ≡ parts_cue level (object_parts (is_external_chain (classes_at table.known number)) (classes_at table.known number))
+no_sections table level number is = sym (ap (λ c. parts_cue level (object_parts (is_external_chain c) c)) is)
+
+-- a step by the frame on top
+
+pub pass_first : (layers : List NamedLayer) (chains : List (List NamedLayer)) (frames : List Frame) (f : Frame) (e : ℕ) (known : Known) (os : List OwnerNode) → frames ≡ f ∷ tail_of frames → pass_in (cues_of layers chains frames) e known os ≡ pass_at (cue_of layers chains f) e known os (cues_of layers chains (tail_of frames))
+pass_first layers chains frames f e known os is = ap (λ fs. pass_in (cues_of layers chains fs) e known os) is
+
+pub part_first : (layers : List NamedLayer) (chains : List (List NamedLayer)) (frames : List Frame) (level chain index : ℕ) (s : Stage) (parts : List SectionPart) (e : ℕ) (known : Known) (os : List OwnerNode) → frames ≡ frame.Sections level chain index s ∷ tail_of frames → parts_from (layers_in chains chain) index s ≡ parts → pass_in (cues_of layers chains frames) e known os ≡ pass_part level parts e known os (cues_of layers chains (tail_of frames))
+part_first layers chains frames level chain index s parts e known os top is =
+    pass_first layers chains frames (frame.Sections level chain index s) e known os top
+    ∙ ap (λ ps. pass_part level ps e known os (cues_of layers chains (tail_of frames))) is
+
+pub section_passed : (layers : List NamedLayer) (chains : List (List NamedLayer)) (old new : List Frame) (level chain index index' : ℕ) (s s' : Stage) (name : Option (List ℕ)) (e : ℕ) (known : Known) (os : List OwnerNode) → old ≡ frame.Sections level chain index s ∷ tail_of old → new ≡ frame.Sections level chain index' s' ∷ tail_of old → BeginsSection (parts_from (layers_in chains chain) index s) name (parts_from (layers_in chains chain) index' s') → teller e known os (cues_of layers chains new) ≡ pass_in (cues_of layers chains old) e known os
+section_passed layers chains old new level chain index index' s s' name e known os top put begins =
+    ap (λ fs. teller e known os (cues_of layers chains fs)) put
+    ∙ sym (part_first layers chains old level chain index s _ e known os top begins.parts_are)
+
+pub notes_passed : (layers : List NamedLayer) (chains : List (List NamedLayer)) (old mid new : List Frame) (level inner chain index index' : ℕ) (s s' : Stage) (e : ℕ) (known : Known) (os : List OwnerNode) → old ≡ frame.Sections level chain index s ∷ tail_of old → mid ≡ frame.Sections level chain index' s' ∷ tail_of old → new ≡ frame.Notes inner ∷ mid → inner ≡ level + 1 → parts_from (layers_in chains chain) index s ≡ note_part ∷ parts_from (layers_in chains chain) index' s' → teller e known os (cues_of layers chains new) ≡ pass_in (cues_of layers chains old) e known os
+notes_passed layers chains old mid new level inner chain index index' s s' e known os top put pushed deep is =
+    let deep' : inner ≡ suc level = omega arith in
+    ap (λ fs. teller e known os (cues_of layers chains fs)) (pushed ∙ ap (λ fs. frame.Notes inner ∷ fs) put)
+    ∙ ap (λ n. teller e known os (note_cue n ∷ parts_cue level (parts_from (layers_in chains chain) index' s') ∷ cues_of layers chains (tail_of old))) deep'
+    ∙ sym (part_first layers chains old level chain index s _ e known os top is)
+
+pub sections_passed : (layers : List NamedLayer) (chains : List (List NamedLayer)) (old new : List Frame) (level chain index : ℕ) (s : Stage) (e : ℕ) (known : Known) (os : List OwnerNode) → old ≡ frame.Sections level chain index s ∷ tail_of old → new ≡ tail_of old → parts_from (layers_in chains chain) index s ≡ [] → teller e known os (cues_of layers chains new) ≡ pass_in (cues_of layers chains old) e known os
+sections_passed layers chains old new level chain index s e known os top put is =
+    ap (λ fs. teller e known os (cues_of layers chains fs)) put
+    ∙ sym (part_first layers chains old level chain index s [] e known os top is)
+
+pub raw_passed : (layers : List NamedLayer) (chains : List (List NamedLayer)) (old : List Frame) (level chain index : ℕ) (s : Stage) (name : List ℕ) (others : List SectionPart) (e : ℕ) (known : Known) (os : List OwnerNode) → old ≡ frame.Sections level chain index s ∷ tail_of old → parts_from (layers_in chains chain) index s ≡ raw_part (field_named name) ∷ others → teller e known os (cues_of layers chains old) ≡ pass_in (cues_of layers chains old) e known os
+raw_passed layers chains old level chain index s name others e known os top is =
+    ap (λ fs. teller e known os (cues_of layers chains fs)) top
+    ∙ ap (λ ps. teller e known os (parts_cue level ps ∷ cues_of layers chains (tail_of old))) is
+    ∙ sym (part_first layers chains old level chain index s _ e known os top is)
+
+pub value_passed : (layers : List NamedLayer) (chains : List (List NamedLayer)) (old : List Frame) (level chain index : ℕ) (s : Stage) (name : List ℕ) (others : List SectionPart) (e : ℕ) (known : Known) (os : List OwnerNode) → old ≡ frame.Sections level chain index s ∷ tail_of old → parts_from (layers_in chains chain) index s ≡ value_part (field_named name) ∷ others → teller e known os (cues_of layers chains old) ≡ pass_in (cues_of layers chains old) e known os
+value_passed layers chains old level chain index s name others e known os top is =
+    ap (λ fs. teller e known os (cues_of layers chains fs)) top
+    ∙ ap (λ ps. teller e known os (parts_cue level ps ∷ cues_of layers chains (tail_of old))) is
+    ∙ sym (part_first layers chains old level chain index s _ e known os top is)
+
+-- a class that ends has one chain more
+
+pub close_fits : (layers same : List NamedLayer) (old new : List (List NamedLayer)) (c : List NamedLayer) (frames popped : List Frame) → FramesFit (length layers) (length old) frames → same ≡ layers → new ≡ old ++ c ∷ [] → popped ≡ tail_of frames → FramesFit (length same) (length new) popped
+close_fits layers same old new c frames popped fits unchanged added put =
+    let all : FramesFit (length layers) (length new) (tail_of frames) =
+    fit_more_chains layers old new c (tail_of frames) (tail_fits (length layers) (length old) frames fits) added
+    in
+    subst (λ fs. FramesFit (length same) (length new) fs) (sym put)
+    (subst (λ (ls : List NamedLayer). FramesFit (length ls) (length new) (tail_of frames)) (sym unchanged) all)
+
+pub close_cues : (layers same : List NamedLayer) (old new : List (List NamedLayer)) (c : List NamedLayer) (frames popped : List Frame) → FramesFit (length layers) (length old) frames → same ≡ layers → new ≡ old ++ c ∷ [] → popped ≡ tail_of frames → cues_of same new popped ≡ cues_of layers old (tail_of frames)
+close_cues layers same old new c frames popped fits unchanged added put =
+    ap (λ fs. cues_of same new fs) put ∙ ap (λ ls. cues_of ls new (tail_of frames)) unchanged
+    ∙ ap (λ cs. cues_of layers cs (tail_of frames)) added
+    ∙ cues_more_chains layers old c (tail_of frames) (tail_fits (length layers) (length old) frames fits)
+
+pub close_passed : (layers same : List NamedLayer) (old new : List (List NamedLayer)) (c : List NamedLayer) (frames popped : List Frame) (number parent layer e : ℕ) (known known' : Known) (os : List OwnerNode) → FramesFit (length layers) (length old) frames → same ≡ layers → new ≡ old ++ c ∷ [] → popped ≡ tail_of frames → frames ≡ frame.Close number parent layer ∷ tail_of frames → known' ≡ slice_set known number (known_class (classes_at known parent ++ layer_in layers layer ∷ [])) → teller e known' os (cues_of same new popped) ≡ pass_in (cues_of layers old frames) e known os
+close_passed layers same old new c frames popped number parent layer e known known' os fits unchanged added put top is =
+    ap (λ cues. teller e known' os cues) (close_cues layers same old new c frames popped fits unchanged added put)
+    ∙ ap (λ k. teller e k os (cues_of layers old (tail_of frames))) is
+    ∙ sym (pass_first layers old frames (frame.Close number parent layer) e known os top)
+
+-- an enum constant gets its handle
+
+pub enum_due : (layers : List NamedLayer) (chains : List (List NamedLayer)) (frames : List Frame) (level number : ℕ) → frames ≡ frame.Made owner.EnumConst level number ∷ tail_of frames → due_in (cues_of layers chains frames) ≡ Some (made_due enum_owner)
+enum_due layers chains frames level number top = ap (λ fs. due_in (cues_of layers chains fs)) top
+
+pub enum_passed : (layers : List NamedLayer) (chains : List (List NamedLayer)) (frames popped : List Frame) (level number e : ℕ) (known known' : Known) (os : List OwnerNode) → frames ≡ frame.Made owner.EnumConst level number ∷ tail_of frames → popped ≡ tail_of frames → known' ≡ with_entry known known_other → pass_in (cues_of layers chains frames) e known os ≡ teller e known' os (name_cue level ∷ cues_of layers chains popped)
+enum_passed layers chains frames popped level number e known known' os top put is =
+    pass_first layers chains frames (frame.Made owner.EnumConst level number) e known os top
+    ∙ sym (ap (λ fs. teller e known' os (name_cue level ∷ cues_of layers chains fs)) put
+    ∙ ap (λ k. teller e k os (name_cue level ∷ cues_of layers chains (tail_of frames))) is)

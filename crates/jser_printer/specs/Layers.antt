@@ -1,0 +1,44 @@
+-- The classes of chains, and the fields of a class by their places.
+use Rattle.std.specs.Prelude.{ℕ, ◌≡◌, ◌+◌, ◌<◌, Bool, List, [], ◌∷◌, length, map, drop, slice_index_or, Option, Some, None, is_some}
+use Rattle.jser_grammar.specs.Codes.{prim_code_of}
+use Rattle.jser_shown.specs.Known.{NamedLayer, class_layer, proxy_layer, prim_names, object_names}
+use Rattle.jser_shown.specs.Known.{NamedField as ToldField}
+use Rattle.jser_printer.specs.declared.layer.Layer.{Layer}
+use Rattle.jser_printer.specs.declared.layer.Layer.TheVariants as layer
+use Rattle.jser_printer.specs.declared.layer.NamedField.{NamedField}
+
+abbrev pub told_field : NamedField → ToldField
+told_field f = record { code = f.code; name = f.name }
+
+abbrev pub told_fields : List NamedField → List ToldField
+told_fields fields = map told_field fields
+
+abbrev pub told_layer : Layer → NamedLayer
+told_layer (layer.Class name flags fields) = class_layer name flags (told_fields fields.items)
+told_layer layer.Proxy = proxy_layer
+
+abbrev pub told_layers : List Layer → List NamedLayer
+told_layers layers = map told_layer layers
+
+abbrev pub no_field : ToldField
+no_field = record { code = 0; name = [] }
+
+abbrev pub field_at : List ToldField → ℕ → ToldField
+field_at fields i = slice_index_or fields i no_field
+
+-- the field at this place is of a primitive type
+abbrev pub is_raw_at : List ToldField → ℕ → Bool
+is_raw_at fields i = is_some (prim_code_of (field_at fields i).code)
+
+-- the next field of a primitive type, at `from` or after it
+abbrev pub NextRaw : List ToldField → (from : ℕ) → Option ℕ → Type 0
+NextRaw fields from None = prim_names (drop from fields) ≡ []
+NextRaw fields from (Some i) =
+    (i < length fields) × (prim_names (drop from fields) ≡ (field_at fields i).name ∷ prim_names (drop (i + 1) fields))
+
+-- the next field of another type
+abbrev pub NextValue : List ToldField → (from : ℕ) → Option ℕ → Type 0
+NextValue fields from None = object_names (drop from fields) ≡ []
+NextValue fields from (Some i) =
+    (i < length fields)
+    × (object_names (drop from fields) ≡ (field_at fields i).name ∷ object_names (drop (i + 1) fields))

@@ -1,0 +1,64 @@
+-- What a printer sees of a field stands for what a teller sees of it.
+use Rattle.std.specs.Prelude.{ℕ, ◌≡◌, ◌==◌, true, false, if◌then◌else◌, Option, Some, None}
+use Rattle.jser_grammar.specs.Wire.{TC_NULL, TC_REFERENCE, TC_CLASSDESC, TC_OBJECT, TC_STRING, TC_ARRAY, TC_CLASS, TC_BLOCKDATA, TC_ENDBLOCKDATA, TC_RESET, TC_BLOCKDATALONG, TC_LONGSTRING, TC_PROXYCLASSDESC, TC_ENUM}
+use Rattle.jser_reading.specs.Labels.{null_tag, reference_tag, class_desc_tag, object_tag, string_tag, array_tag, class_tag, long_string_tag, proxy_desc_tag, enum_tag, StreamField}
+use Rattle.jser_reading.specs.Labels.{Tag as ToldTag}
+use Rattle.jser_shown.specs.Telling.{SeenField, seen_header, seen_end_tag, seen_reset_tag, seen_tag, seen_block_tag, seen_handle, seen_suid, seen_flags, seen_field_count, seen_interface_count, seen_array_length, seen_code, seen_block_length, seen_text, seen_bytes}
+use Rattle.jser_shown.specs.Telling.{seen as seen_of}
+use Rattle.jser_printer.specs.declared.seen.Tag.{Tag}
+use Rattle.jser_printer.specs.declared.seen.Tag.TheVariants as tag
+use Rattle.jser_printer.specs.declared.seen.Seen.{Seen}
+use Rattle.jser_printer.specs.declared.seen.Seen.TheVariants as seen
+
+abbrev pub told_tag : Tag → ToldTag
+told_tag tag.Null = null_tag
+told_tag tag.Reference = reference_tag
+told_tag tag.ClassDesc = class_desc_tag
+told_tag tag.Object = object_tag
+told_tag tag.String = string_tag
+told_tag tag.Array = array_tag
+told_tag tag.Class = class_tag
+told_tag tag.LongString = long_string_tag
+told_tag tag.ProxyDesc = proxy_desc_tag
+told_tag tag.Enum = enum_tag
+
+abbrev pub told_seen : Seen → SeenField
+told_seen seen.Header = seen_header
+told_seen (seen.Tag tag) = seen_tag (told_tag tag)
+told_seen (seen.BlockTag long) = seen_block_tag long
+told_seen seen.EndTag = seen_end_tag
+told_seen seen.ResetTag = seen_reset_tag
+told_seen (seen.Handle n) = seen_handle n
+told_seen (seen.Suid n) = seen_suid n
+told_seen (seen.Flags n) = seen_flags n
+told_seen (seen.FieldCount n) = seen_field_count n
+told_seen (seen.InterfaceCount n) = seen_interface_count n
+told_seen (seen.ArrayLength n) = seen_array_length n
+told_seen (seen.TypeCode n) = seen_code n
+told_seen (seen.BlockLength n) = seen_block_length n
+told_seen (seen.Text units) = seen_text units.now
+told_seen (seen.Bytes bytes) = seen_bytes bytes.now
+
+-- the field is seen as what it is
+abbrev pub Sees : Option Seen → StreamField → Type 0
+Sees None told = ⊥
+Sees (Some s) told = told_seen s ≡ seen_of told
+
+-- what is seen of a tag
+abbrev pub tag_seen : ℕ → Option SeenField
+tag_seen b =
+    if b == TC_NULL then Some (seen_tag null_tag)
+    else (if b == TC_REFERENCE then Some (seen_tag reference_tag)
+    else (if b == TC_CLASSDESC then Some (seen_tag class_desc_tag)
+    else (if b == TC_OBJECT then Some (seen_tag object_tag)
+    else (if b == TC_STRING then Some (seen_tag string_tag)
+    else (if b == TC_ARRAY then Some (seen_tag array_tag)
+    else (if b == TC_CLASS then Some (seen_tag class_tag)
+    else (if b == TC_BLOCKDATA then Some (seen_block_tag false)
+    else (if b == TC_ENDBLOCKDATA then Some seen_end_tag
+    else (if b == TC_RESET then Some seen_reset_tag
+    else (if b == TC_BLOCKDATALONG then Some (seen_block_tag true)
+    else (if b == TC_LONGSTRING then Some (seen_tag long_string_tag)
+    else (if b == TC_PROXYCLASSDESC then Some (seen_tag proxy_desc_tag)
+    else (if b == TC_ENUM then Some (seen_tag enum_tag)
+    else None)))))))))))))

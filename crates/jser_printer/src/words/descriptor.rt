@@ -1,0 +1,49 @@
+//! Words of class descriptors.
+ghost use Rattle.std.specs.Prelude.{◌++◌, ◌∷◌, [], codes};
+ghost use Rattle.hex.specs.Hex.{encode_lower};
+ghost use Rattle.jser_prim.specs.Bytes.{big_bytes};
+ghost use Rattle.jser_shown.specs.Words.{begin_line, end_line, quoted};
+ghost use Rattle.jser_printer.specs.Says.{SaysTo};
+
+use crate::words::line::{say, say_line_start};
+use crate::words::number::say_hex;
+use crate::words::quote::say_quoted_line;
+use crate::words::value::say_raw;
+use byteorder::{BigEndian, ByteOrder};
+use jser_prim::{Outbox, Sink};
+
+/// Says a serial version UID.
+pub(crate) fn say_suid_word<W: Sink>(outbox: &mut Outbox, sink: &mut W, suid: u64)
+    ensures { SaysTo W.gone_out W.has_failed outbox.old outbox.new sink.old sink.new (λ k. codes " suid " ++ (encode_lower (big_bytes 8 suid) ++ k)) }
+{
+    let mut bytes = [0; 8];
+    BigEndian::write_u64(&mut bytes, suid);
+    say(outbox, sink, b" suid ");
+    say_hex(outbox, sink, &bytes);
+}
+
+/// Says the flags of a descriptor.
+pub(crate) fn say_flags_word<W: Sink>(outbox: &mut Outbox, sink: &mut W, flags: u8)
+    ensures { SaysTo W.gone_out W.has_failed outbox.old outbox.new sink.old sink.new (λ k. codes " flags " ++ (encode_lower (flags ∷ []) ++ end_line k)) }
+{
+    say(outbox, sink, b" flags ");
+    say_raw(outbox, sink, &[flags]);
+}
+
+/// Says the type code of a field, which its name is to follow.
+pub(crate) fn say_field_word<W: Sink>(outbox: &mut Outbox, sink: &mut W, level: u64, code: u8)
+    ensures { SaysTo W.gone_out W.has_failed outbox.old outbox.new sink.old sink.new (λ k. begin_line level (codes "field " ++ (code ∷ 0x20 ∷ k))) }
+{
+    say_line_start(outbox, sink, level);
+    say(outbox, sink, b"field ");
+    say(outbox, sink, &[code, b' ']);
+}
+
+/// Says the name of an interface.
+pub(crate) fn say_interface<W: Sink>(outbox: &mut Outbox, sink: &mut W, level: u64, units: &[u16])
+    ensures { SaysTo W.gone_out W.has_failed outbox.old outbox.new sink.old sink.new (λ k. begin_line level (codes "interface " ++ quoted units.now (end_line k))) }
+{
+    say_line_start(outbox, sink, level);
+    say(outbox, sink, b"interface ");
+    say_quoted_line(outbox, sink, units);
+}

@@ -1,0 +1,117 @@
+//! Quoted texts.
+ghost use Rattle.std.specs.Prelude.{◌≡◌, ◌<◌, ◌≤◌, ◌∷◌, ◌++◌, [], true, length, take};
+ghost use Rattle.std.specs.List.{flat_map};
+ghost use Rattle.jser_prim.specs.Outgoing.{PutsTo};
+ghost use Rattle.jser_shown.specs.Words.{end_line, quoted, quoted_unit};
+ghost use Rattle.jser_printer.specs.Says.{SaysTo, SayingTo};
+
+use crate::words::line::say;
+use arrayvec::ArrayVec;
+use jser_prim::{Outbox, Sink};
+use crate::{Name, quoted_unit};
+
+/// How many units are put in one piece at most.
+const RUN: usize = 32;
+
+/// Says a quoted text: units from 0020 to 007E stand for themselves, but for `\"` and `\\`, and any other unit is `\u`
+/// and four digits.
+pub fn say_quoted<W: Sink>(outbox: &mut Outbox, sink: &mut W, units: &[u16])
+    ensures { SaysTo W.gone_out W.has_failed outbox.old outbox.new sink.old sink.new (λ k. quoted units.now k) }
+{
+    say(outbox, sink, b"\"");
+    say_units(outbox, sink, units);
+    say(outbox, sink, b"\"");
+}
+
+/// Says a quoted text, and the end of its line.
+pub(crate) fn say_quoted_line<W: Sink>(outbox: &mut Outbox, sink: &mut W, units: &[u16])
+    ensures { SaysTo W.gone_out W.has_failed outbox.old outbox.new sink.old sink.new (λ k. quoted units.now (end_line k)) }
+{
+    say_quoted(outbox, sink, units);
+    say(outbox, sink, b"\n");
+}
+
+/// Says a name as a quoted text, and the end of its line.
+#[inline(always)]
+pub(crate) fn say_name_line<W: Sink>(outbox: &mut Outbox, sink: &mut W, name: &Name)
+    ensures { SaysTo W.gone_out W.has_failed outbox.old outbox.new sink.old sink.new (λ k. quoted name.now (end_line k)) }
+{
+    say(outbox, sink, b"\"");
+    say(outbox, sink, name.quoted());
+    say(outbox, sink, b"\"\n");
+}
+
+/// Says the units of a quoted text.
+#[tactic(auto, using(crate::proofs::SaysLemmas::says_none, crate::proofs::SaysLemmas::says_no_units))]
+fn say_units<W: Sink>(outbox: &mut Outbox, sink: &mut W, units: &[u16])
+    ensures { SaysTo W.gone_out W.has_failed outbox.old outbox.new sink.old sink.new (λ k. flat_map quoted_unit units.now ++ k) }
+{
+    let mut rest = units;
+    'runs: while !rest.is_empty() {
+        if outbox.has_failed() {
+            return;
+        }
+        rest = say_run(outbox, sink, rest);
+    }
+}
+
+/// Says the first units of a quoted text: as many as stand for themselves, up to a few, or one that does not. The answer
+/// is what is left.
+#[inline(always)]
+fn say_run<'u, W: Sink>(outbox: &mut Outbox, sink: &mut W, units: &'u [u16]) -> &'u [u16]
+    requires { 0 < length units.now }
+    ensures said { SayingTo W.gone_out W.has_failed outbox.old outbox.new sink.old sink.new (λ k. flat_map quoted_unit units.now ++ k) (λ k. flat_map quoted_unit result.now ++ k) }
+    ensures less { length result.now < length units.now }
+{
+    let run = plain_run(units);
+    if run.is_empty() {
+        return say_first(outbox, sink, units);
+    }
+    let (_, after) = units.split_at(run.len());
+    say(outbox, sink, run.as_slice());
+    after
+}
+
+/// Says the first unit of a quoted text. The answer is what is left.
+#[tactic(auto, using(crate::proofs::SaysLemmas::says_unit))]
+fn say_first<'u, W: Sink>(outbox: &mut Outbox, sink: &mut W, units: &'u [u16]) -> &'u [u16]
+    requires { 0 < length units.now }
+    ensures said { SayingTo W.gone_out W.has_failed outbox.old outbox.new sink.old sink.new (λ k. flat_map quoted_unit units.now ++ k) (λ k. flat_map quoted_unit result.now ++ k) }
+    ensures less { length result.now < length units.now }
+{
+    let (front, after) = units.split_at(1);
+    put_unit(outbox, sink, front[0]);
+    after
+}
+
+/// The units at the front that stand for themselves, up to a few.
+#[tactic(auto, using(crate::proofs::SaysLemmas::plain_more, crate::proofs::SaysLemmas::run_within, crate::proofs::SaysLemmas::run_front))]
+#[inline(always)]
+fn plain_run(units: &[u16]) -> ArrayVec<u8, RUN>
+    ensures within { length result.items ≤ length units.now }
+    ensures plain { result.items ≡ flat_map quoted_unit (take (length result.items) units.now) }
+{
+    let mut run = ArrayVec::new();
+    for unit in units {
+        if run.is_full() || !is_plain(*unit) {
+            return run;
+        }
+        run.push(*unit as u8);
+    }
+    run
+}
+
+/// Whether a unit stands for itself.
+#[inline(always)]
+pub(crate) fn is_plain(unit: u16) -> bool
+    ensures { result ≡ true → (quoted_unit unit ≡ unit ∷ []) × (unit < 0x80) }
+{
+    unit != 0x22 && unit != 0x5C && 0x20 <= unit && unit <= 0x7E
+}
+
+/// Puts a unit of a quoted text.
+fn put_unit<W: Sink>(outbox: &mut Outbox, sink: &mut W, unit: u16)
+    ensures { PutsTo W.gone_out W.has_failed outbox.old outbox.new sink.old sink.new (quoted_unit unit) }
+{
+    outbox.put(sink, quoted_unit(unit).as_slice());
+}

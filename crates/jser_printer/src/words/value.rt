@@ -1,0 +1,115 @@
+//! Lines of values: what stands before a value, raw values, and the bytes of blocks.
+ghost use Rattle.std.specs.Prelude.{suc, ◌++◌, ◌∷◌};
+ghost use Rattle.hex.specs.Hex.{encode_lower};
+ghost use Rattle.jser_shown.specs.Words.{begin_line, end_line};
+ghost use Rattle.jser_shown.specs.Shown.{field_named, element_at, name_text};
+ghost use Rattle.jser_shown.specs.Telling.{raw_line, raw_lines, raw_elements_lines, block_length_says, seen_block_length};
+ghost use Rattle.jser_printer.specs.Says.{SaysTo};
+
+use crate::words::line::{say, say_deeper_quote, say_line_start};
+use crate::words::number::{say_decimal, say_hex};
+use jser_prim::{Outbox, Sink};
+use crate::Name;
+
+/// Says the beginning of the line of a field, in a section of this level, as `"next" = `.
+#[inline(always)]
+pub(crate) fn say_field_start<W: Sink>(outbox: &mut Outbox, sink: &mut W, level: u64, name: &Name)
+    ensures { SaysTo W.gone_out W.has_failed outbox.old outbox.new sink.old sink.new (λ k. begin_line (suc level) (name_text (field_named name.now) k)) }
+{
+    say_deeper_quote(outbox, sink, level);
+    say(outbox, sink, name.quoted());
+    say(outbox, sink, b"\" = ");
+}
+
+/// Says the index of an element before its value, as `[0] `.
+pub(crate) fn say_element_index<W: Sink>(outbox: &mut Outbox, sink: &mut W, index: u64)
+    ensures { SaysTo W.gone_out W.has_failed outbox.old outbox.new sink.old sink.new (λ k. name_text (element_at index) k) }
+{
+    say(outbox, sink, b"[");
+    say_decimal(outbox, sink, index);
+    say(outbox, sink, b"] ");
+}
+
+/// Says bytes in hexadecimal, and the end of their line.
+pub(crate) fn say_raw<W: Sink>(outbox: &mut Outbox, sink: &mut W, bytes: &[u8])
+    ensures { SaysTo W.gone_out W.has_failed outbox.old outbox.new sink.old sink.new (λ k. encode_lower bytes.now ++ end_line k) }
+{
+    say_hex(outbox, sink, bytes);
+    say(outbox, sink, b"\n");
+}
+
+/// Says the line of a raw value that is a field, in a section of this level.
+pub(crate) fn say_raw_field<W: Sink>(
+    outbox: &mut Outbox,
+    sink: &mut W,
+    level: u64,
+    name: &Name,
+    bytes: &[u8],
+)
+    ensures { SaysTo W.gone_out W.has_failed outbox.old outbox.new sink.old sink.new (λ k. raw_line (suc level) (field_named name.now) bytes.now k) }
+{
+    say_field_start(outbox, sink, level, name);
+    say_raw(outbox, sink, bytes);
+}
+
+/// Says the line of a raw value that is an element.
+fn say_raw_element<W: Sink>(outbox: &mut Outbox, sink: &mut W, level: u64, index: u64, bytes: &[u8])
+    ensures { SaysTo W.gone_out W.has_failed outbox.old outbox.new sink.old sink.new (λ k. raw_line level (element_at index) bytes.now k) }
+{
+    say_line_start(outbox, sink, level);
+    say_element_index(outbox, sink, index);
+    say_raw(outbox, sink, bytes);
+}
+
+/// Says the lines of so many raw elements, whose bytes are cut into pieces of one size. The first has this index.
+pub(crate) fn say_raw_elements<W: Sink>(
+    outbox: &mut Outbox,
+    sink: &mut W,
+    level: u64,
+    first: u32,
+    count: u32,
+    bytes: &[u8],
+)
+    ensures { SaysTo W.gone_out W.has_failed outbox.old outbox.new sink.old sink.new (λ k. raw_elements_lines level first count bytes.now k) }
+{
+    if count == 0 {
+        return;
+    }
+    let size = bytes.len() / count as usize;
+    say_pieces(outbox, sink, level, first, count, size, bytes);
+}
+
+/// Says the lines of so many raw elements of this size. After a failure no more lines are made, which nobody would get.
+fn say_pieces<W: Sink>(
+    outbox: &mut Outbox,
+    sink: &mut W,
+    level: u64,
+    first: u32,
+    count: u32,
+    size: usize,
+    bytes: &[u8],
+)
+    ensures { SaysTo W.gone_out W.has_failed outbox.old outbox.new sink.old sink.new (λ k. raw_lines level first size count bytes.now k) }
+{
+    let mut rest = bytes;
+    'elements: for index in 0..count {
+        if outbox.has_failed() {
+            return;
+        }
+        let (element, after) = rest.split_at(size.min(rest.len()));
+        say_raw_element(outbox, sink, level, first as u64 + index as u64, element);
+        rest = after;
+    }
+}
+
+/// Says the length of a block; where it is 0, the line ends there.
+pub(crate) fn say_block_length<W: Sink>(outbox: &mut Outbox, sink: &mut W, length: u32)
+    ensures { SaysTo W.gone_out W.has_failed outbox.old outbox.new sink.old sink.new (λ k. block_length_says (seen_block_length length) k) }
+{
+    say_decimal(outbox, sink, length as u64);
+    if length == 0 {
+        say(outbox, sink, b":\n");
+    } else {
+        say(outbox, sink, b": ");
+    }
+}

@@ -1,7 +1,0 @@
--- The check finds this with no answer too; with one, it refuses a wrong body sooner.
-use Rattle.std.proofs.lemmas.Grind.{common_steps}
-use Rattle.std.proofs.Common.{arith}
-use Rattle.jser_walk.proofs.name.numbered.Goals as goal
-
-pub returns : goal.returns
-returns c = grind (arith, common_steps)

@@ -1,5 +1,0 @@
-use Rattle.jser_walk.proofs.TableLemmas.{is_chain}
-use Rattle.jser_walk.proofs.table.Table.chain.Goals as goal
-
-pub returns : goal.returns
-returns c = is_chain _ _ _ _ c.self.view_is c.self.invariant _ _ c.class_at.ensures
