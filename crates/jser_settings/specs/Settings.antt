@@ -26,7 +26,7 @@ most_modules_bytes = 2 ^ 24
 abbrev pub Tells : (failed : Bool) → (old new : Option (List ℕ)) → (text : List ℕ) → Type 0
 Tells failed old new text = (failed ≡ true) ⊎ Appends old new text
 
--- a text in decimal digits is read as its number, which is below 2^64, and no other text is
+-- a text of decimal digits, behind a `+` or none, is read as its number, which is below 2^64, and no other text is
 abbrev pub ReadsLimit : {E : Type 0} → (text : List ℕ) → Result ℕ E → Type 0
 ReadsLimit text read = ParsesUnsigned 64 10 text read
 

@@ -5,7 +5,7 @@ ghost use Rattle.jser_settings.specs.Settings.{ReadsLimit, TellsNoLimit};
 use crate::status::tell_misuse;
 use jser_prim::Sink;
 
-/// The limit that a text says, in decimal digits.
+/// The limit that a text says: decimal digits, behind a `+` or none.
 ///
 /// # Errors
 ///
