@@ -45,6 +45,9 @@ class Answer(ctypes.Structure):
         ("handles", ctypes.c_uint64),
     ]
 
+    def __init__(self):
+        super().__init__(status=NO_MEMORY)  # no yes before a call has written it
+
     def __bool__(self):
         return self.status == YES
 
