@@ -53,7 +53,7 @@ function dumped(bytes, from, to, width) {
     return box;
 }
 
-/** The class name that a refusal is about, or null: its text is the field, or it stands where HiddenName says. */
+/** The class name that a refusal is about, quoted, or null: its text is the field, or it stands where HiddenName says. */
 function nameAt(bytes, reason, from, to) {
     if (reason === "ClassRejected" || reason === "ClassUnmatched") {
         return loose(bytes.subarray(from + 2, to));
@@ -75,7 +75,7 @@ function nameAt(bytes, reason, from, to) {
     return null;
 }
 
-/** The units of a name in modified UTF-8, in longer spellings too. */
+/** A name in modified UTF-8, in longer spellings too, quoted as `list` quotes names: no sign of it turns round what follows. */
 function loose(bytes) {
     const units = [];
     for (let at = 0; at < bytes.length; ) {
@@ -87,5 +87,13 @@ function loose(bytes) {
         units.push(unit);
         at += count;
     }
-    return String.fromCharCode(...units);
+    return `"${units.map(quotedUnit).join("")}"`;
+}
+
+function quotedUnit(unit) {
+    const sign = String.fromCharCode(unit);
+    if (unit < 0x20 || unit > 0x7e) {
+        return `\\u${unit.toString(16).padStart(4, "0")}`;
+    }
+    return sign === '"' || sign === "\\" ? `\\${sign}` : sign;
 }
