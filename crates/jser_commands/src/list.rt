@@ -18,10 +18,10 @@ use jser_filter::{Filter, Verdict};
 use jser_inputs::Input;
 use jser_names::{NameList, names_of};
 use jser_prim::{Outbox, Sink, Source};
+use jser_printer::{say, say_decimal, say_quoted};
 use jser_settings::{ACCEPTED, tell_failure};
 use jser_shown::laws::counted;
 use jser_table::{Element, element_of};
-use jser_printer::{say, say_decimal, say_quoted};
 use std::alloc::Global;
 
 /// Reads the stream of the input in pieces, and prints the lines of its checked names.

@@ -3,7 +3,7 @@ use Rattle.std.proofs.Common.{◌≡◌, ℕ, List, [], ◌∷◌, ◌++◌, Opt
 use denote.Bor.{Bor}
 use Rattle.std.specs.Prelude.{codes}
 use Rattle.jser_shown.specs.Words.{quoted}
-use Rattle.jser_printer.specs.Views.{view_name}
+use Rattle.jser_printer.specs.Names.{view_name}
 use Rattle.jser_prim.specs.Outgoing.{Outgoing, SinkState}
 use Rattle.jser_printer.specs.Says.{Saying, Says}
 use Rattle.jser_printer.proofs.SaysLemmas.{says_before}

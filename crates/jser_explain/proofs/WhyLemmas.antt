@@ -4,7 +4,7 @@ use Rattle.jser_prim.specs.Outgoing.{Outgoing, SinkState, Puts, sink_state}
 use Rattle.jser_prim.proofs.OutgoingLemmas.{nothing}
 use Rattle.jser_printer.specs.Says.{Says}
 use denote.Bor.{Bor}
-use Rattle.jser_printer.specs.Views.{view_name}
+use Rattle.jser_printer.specs.Names.{view_name}
 use Rattle.jser_printer.proofs.SaysLemmas.{says_none, says_both}
 use Rattle.jser_scan.proofs.ScanLemmas.{went, broke, kept}
 use Rattle.jser_scan.specs.declared.found.Found.{Found}

@@ -2,7 +2,7 @@
 use Rattle.std.specs.Prelude.{ℕ, List, [], ◌∷◌, ◌++◌, codes, Option, Some, None}
 use Rattle.std.specs.Fmt.{decimal}
 use Rattle.jser_shown.specs.Words.{quoted}
-use Rattle.jser_printer.specs.Views.{view_name}
+use Rattle.jser_printer.specs.Names.{view_name}
 use Rattle.jser_printer.specs.declared.opened.Open.{Open}
 use Rattle.jser_printer.specs.declared.opened.Open.TheVariants as part
 

@@ -1,12 +1,12 @@
 //! The bytes of a refusal, and its class.
 ghost use Rattle.std.specs.Prelude.{◌++◌, ◌≡◌, take, drop, IfSome};
 ghost use Rattle.jser_printer.specs.Says.{SaysTo};
-ghost use Rattle.jser_printer.specs.Views.{view_name};
+ghost use Rattle.jser_printer.specs.Names.{view_name};
 ghost use Rattle.jser_explain.specs.Whys.{class_in, class_line, digits_end, field_line, field_of, first_bytes, hex_end, known_class_line};
 
 use jser_prim::{Outbox, Sink};
-use jser_scan::Found;
 use jser_printer::{say, say_decimal, say_hex, say_quoted};
+use jser_scan::Found;
 
 /// How many bytes of a field are printed at most.
 const MOST: u64 = 32;

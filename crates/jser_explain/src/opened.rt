@@ -3,7 +3,7 @@ ghost use Rattle.std.specs.Prelude.{◌<◌, length};
 ghost use Rattle.jser_printer.specs.Says.{SaysTo, SayingTo};
 ghost use Rattle.jser_shown.specs.Words.{quoted};
 ghost use Rattle.jser_explain.specs.Opened.{class_words, element_words, field_words, name_words, opened_words, open_words, own_writer_words, writer_words};
-ghost use Rattle.jser_printer.specs.Views.{view_name};
+ghost use Rattle.jser_printer.specs.Names.{view_name};
 
 use jser_prim::{Outbox, Sink};
 use jser_printer::{Name, Open, say, say_decimal};

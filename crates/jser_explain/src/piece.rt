@@ -6,10 +6,10 @@ ghost use Rattle.jser_explain.specs.Rest.{known_piece_words, piece_words};
 use jser_filter::{Limits, Verdict};
 use jser_grammar::caps::{MOST_ARRAY, MOST_BYTES, MOST_DEPTH, MOST_REFS};
 use jser_prim::{Outbox, Sink};
+use jser_printer::{say, say_decimal};
 use jser_reader::Reason;
 use jser_scan::{FilePath, Found, Rules, say_path};
 use jser_table::{Element, element_of};
-use jser_printer::{say, say_decimal};
 use std::alloc::{AllocError, Global};
 
 /// A piece of a filter.

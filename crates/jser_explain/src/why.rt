@@ -3,7 +3,7 @@ ghost use Rattle.std.specs.Prelude.{◌≡◌, ◌++◌, OnOk, IfErr, Some, true
 ghost use Rattle.jser_printer.specs.Says.{SaysTo};
 ghost use Rattle.jser_explain.specs.Rest.{rest_words};
 ghost use Rattle.jser_explain.specs.Whys.{field_of, head_words, sentence_line, SaysWhy, SaysWhyTo};
-ghost use Rattle.jser_printer.specs.Views.{view_name};
+ghost use Rattle.jser_printer.specs.Names.{view_name};
 
 use crate::field::{Spot, bytes_at, class_in, say_class, say_field, spot_of};
 use crate::hint::hint_of;
@@ -13,9 +13,9 @@ use crate::sentence::sentence_of;
 use jser_grammar::wire::TC_CLASSDESC;
 use jser_index::{text_units, walk_along};
 use jser_prim::{Outbox, Sink};
+use jser_printer::{Name, Open, say};
 use jser_reader::Reason;
 use jser_scan::{Found, Rules};
-use jser_printer::{Name, Open, say};
 use std::alloc::{AllocError, Global};
 
 /// Why the lines were not all printed.

@@ -9,8 +9,8 @@ use crate::nodes::Nodes;
 use crate::read::{Found, survey};
 use crate::texts::Texts;
 use jser_grammar::wire::BASE_WIRE_HANDLE;
-use jser_reader::{Stop, Totals};
 use jser_printer::OwnerNode;
+use jser_reader::{Stop, Totals};
 use std::alloc::{AllocError, Global};
 use std::marker::Model;
 

@@ -2,8 +2,8 @@
 ghost use Rattle.std.specs.Prelude.{◌≡◌};
 ghost use Rattle.jser_index.specs.Along.{IsPartOf, whole_size};
 
-use jser_reader::{Item, Whole};
 use jser_printer::Field;
+use jser_reader::{Item, Whole};
 
 /// A field, or what leads to one.
 #[derive(Clone, Copy)]

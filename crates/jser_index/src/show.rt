@@ -15,12 +15,9 @@ use crate::output::GraphFault;
 use crate::part::{Part, part_of, size_of};
 use jser_grammar::wire::{TC_REFERENCE, TC_STRING};
 use jser_prim::{Outbox, Sink};
+use jser_printer::{Field, Plain, Printer};
 use jser_reader::{Item, OpenGate, Reader, Step, Whole};
 use jser_shown::laws::{one_more, tells_fronts, told};
-use jser_printer::{
-    Field, Printer, say_all_due, say_class_handle, say_class_reference, say_enum_name, say_next, say_plain_handle,
-    say_plain_string, say_section_raw, say_section_reference, say_top_reference,
-};
 use std::alloc::{AllocError, Global};
 
 impl Index {
@@ -70,13 +67,13 @@ impl Index {
         ensures front { OnErr result (PutsFrontTo W.gone_out W.has_failed self.now.bytes (begin_telling self.now.owners) outbox.old outbox.new sink.old sink.new) }
     {
         let mut reader = Reader::new(alloc, OpenGate);
-        let mut walk = Printer::new(alloc, &self.owners);
+        let mut printer = Printer::new(alloc, &self.owners);
         let mut units = Vec::new(alloc);
         say_along(
             outbox,
             sink,
             &mut reader,
-            &mut walk,
+            &mut printer,
             &mut units,
             &self.bytes,
         )
@@ -88,13 +85,13 @@ fn say_along<W: Sink>(
     outbox: &mut Outbox,
     sink: &mut W,
     reader: &mut Reader<OpenGate>,
-    walk: &mut Printer<'_>,
+    printer: &mut Printer<'_>,
     units: &mut Vec<u16>,
     bytes: &[u8],
 ) -> Result<(), AllocError>
     requires { BeginsAt reader.old }
-    ensures said { OnOk result (PutsTextTo W.gone_out W.has_failed bytes.now walk.old outbox.old outbox.new sink.old sink.new) }
-    ensures front { OnErr result (PutsFrontTo W.gone_out W.has_failed bytes.now walk.old outbox.old outbox.new sink.old sink.new) }
+    ensures said { OnOk result (PutsTextTo W.gone_out W.has_failed bytes.now printer.old outbox.old outbox.new sink.old sink.new) }
+    ensures front { OnErr result (PutsFrontTo W.gone_out W.has_failed bytes.now printer.old outbox.old outbox.new sink.old sink.new) }
 {
     one_more();
     tells_fronts();
@@ -109,7 +106,7 @@ fn say_along<W: Sink>(
             Err(_) => return Err(AllocError),
             Ok(Some(whole)) => {
                 let (_, after) = rest.split_at(size_of(whole));
-                say_whole(outbox, sink, walk, units, whole)?;
+                say_whole(outbox, sink, printer, units, whole)?;
                 rest = after;
             }
             Ok(None) => match reader.next(rest) {
@@ -117,13 +114,13 @@ fn say_along<W: Sink>(
                 Ok(Step::More) => rest = &[],
                 Ok(Step::Item { item, used }) => {
                     let (_, after) = rest.split_at(used);
-                    say_item(outbox, sink, walk, units, item)?;
+                    say_item(outbox, sink, printer, units, item)?;
                     rest = after;
                 }
             },
         }
     }
-    say_all_due(outbox, sink, walk)
+    printer.say_all_due(outbox, sink)
 }
 
 /// Says the field that an item ends, with all that is due before it.
@@ -134,50 +131,24 @@ fn say_along<W: Sink>(
 fn say_item<W: Sink>(
     outbox: &mut Outbox,
     sink: &mut W,
-    walk: &mut Printer<'_>,
+    printer: &mut Printer<'_>,
     units: &mut Vec<u16>,
     item: Item<'_>,
 ) -> Result<(), AllocError>
     ensures said { OnOk result ((told : StreamField) → Ends item.entry told
-        → SaysTo W.gone_out W.has_failed outbox.old outbox.new sink.old sink.new (λ k. says_next walk.old told k)) }
-    ensures goes { OnOk result ((told : StreamField) → Ends item.entry told → walk.new ≡ goes (settled walk.old) told) }
+        → SaysTo W.gone_out W.has_failed outbox.old outbox.new sink.old sink.new (λ k. says_next printer.old told k)) }
+    ensures goes { OnOk result ((told : StreamField) → Ends item.entry told → printer.new ≡ goes (settled printer.old) told) }
     ensures same { OnOk result (IsLength item.entry
-        → SaysTo W.gone_out W.has_failed outbox.old outbox.new sink.old sink.new (λ k. k) × (walk.new ≡ walk.old)) }
+        → SaysTo W.gone_out W.has_failed outbox.old outbox.new sink.old sink.new (λ k. k) × (printer.new ≡ printer.old)) }
     ensures front { OnErr result ((told : StreamField) → Ends item.entry told
-        → BeginsTo W.gone_out W.has_failed outbox.old outbox.new sink.old sink.new (λ k. says_next walk.old told k)) }
+        → BeginsTo W.gone_out W.has_failed outbox.old outbox.new sink.old sink.new (λ k. says_next printer.old told k)) }
     ensures length { OnErr result (IsLength item.entry → ⊥) }
 {
     match part_of(item) {
-        Part::Field(field) => say_field(outbox, sink, walk, field),
-        Part::Text(bytes) => say_text(outbox, sink, walk, units, bytes),
+        Part::Field(field) => printer.say_next(outbox, sink, field),
+        Part::Text(bytes) => say_text(outbox, sink, printer, units, bytes),
         Part::Length => Ok(()),
     }
-}
-
-/// Says a field with all that is due before it. Most raw values are those of fields of objects.
-///
-/// # Errors
-///
-/// Where memory runs out. What was said before is a beginning of that.
-#[inline(always)]
-fn say_field<W: Sink>(
-    outbox: &mut Outbox,
-    sink: &mut W,
-    walk: &mut Printer<'_>,
-    field: Field<'_>,
-) -> Result<(), AllocError>
-    ensures said { OnOk result ((told : StreamField) → IsOf field.entry told
-        → SaysTo W.gone_out W.has_failed outbox.old outbox.new sink.old sink.new (λ k. says_next walk.old told k)) }
-    ensures goes { OnOk result ((told : StreamField) → IsOf field.entry told → walk.new ≡ goes (settled walk.old) told) }
-    ensures front { OnErr result ((told : StreamField) → IsOf field.entry told
-        → BeginsTo W.gone_out W.has_failed outbox.old outbox.new sink.old sink.new (λ k. says_next walk.old told k)) }
-{
-    if let Field::Raw(bytes) = field {
-        if say_section_raw(outbox, sink, walk, bytes) {
-            return Ok(());
-        }
-    }
-    say_next(outbox, sink, walk, field)
 }
 
 /// Says the fields of a value that is lent at once, each with all that is due before it.
@@ -189,17 +160,17 @@ fn say_field<W: Sink>(
 fn say_whole<W: Sink>(
     outbox: &mut Outbox,
     sink: &mut W,
-    walk: &mut Printer<'_>,
+    printer: &mut Printer<'_>,
     units: &mut Vec<u16>,
     whole: Whole<'_>,
 ) -> Result<(), AllocError>
-    ensures said { OnOk result (SaysItemsTo W.gone_out W.has_failed (items_of whole.entry) outbox.old outbox.new sink.old sink.new walk.old walk.new) }
-    ensures front { OnErr result (BeginsItemsTo W.gone_out W.has_failed (items_of whole.entry) outbox.old outbox.new sink.old sink.new walk.old) }
+    ensures said { OnOk result (SaysItemsTo W.gone_out W.has_failed (items_of whole.entry) outbox.old outbox.new sink.old sink.new printer.old printer.new) }
+    ensures front { OnErr result (BeginsItemsTo W.gone_out W.has_failed (items_of whole.entry) outbox.old outbox.new sink.old sink.new printer.old) }
 {
     match whole {
-        Whole::Reference(handle) => say_reference(outbox, sink, walk, handle),
-        Whole::String(text) => say_string(outbox, sink, walk, units, text),
-        Whole::Owner { tag, class } => say_owner(outbox, sink, walk, tag, class),
+        Whole::Reference(handle) => say_reference(outbox, sink, printer, handle),
+        Whole::String(text) => say_string(outbox, sink, printer, units, text),
+        Whole::Owner { tag, class } => say_owner(outbox, sink, printer, tag, class),
     }
 }
 
@@ -207,107 +178,47 @@ fn say_whole<W: Sink>(
 fn say_reference<W: Sink>(
     outbox: &mut Outbox,
     sink: &mut W,
-    walk: &mut Printer<'_>,
+    printer: &mut Printer<'_>,
     handle: u32,
 ) -> Result<(), AllocError>
-    ensures said { OnOk result (SaysItemsTo W.gone_out W.has_failed (items_of (Whole.Reference handle)) outbox.old outbox.new sink.old sink.new walk.old walk.new) }
-    ensures front { OnErr result (BeginsItemsTo W.gone_out W.has_failed (items_of (Whole.Reference handle)) outbox.old outbox.new sink.old sink.new walk.old) }
+    ensures said { OnOk result (SaysItemsTo W.gone_out W.has_failed (items_of (Whole.Reference handle)) outbox.old outbox.new sink.old sink.new printer.old printer.new) }
+    ensures front { OnErr result (BeginsItemsTo W.gone_out W.has_failed (items_of (Whole.Reference handle)) outbox.old outbox.new sink.old sink.new printer.old) }
 {
-    say_reference_tag(outbox, sink, walk)?;
-    say_handle(outbox, sink, walk, handle)
-}
-
-/// Says the tag of a reference, with all that is due before it. Most references are classes, the values of fields, the
-/// names of enum constants, and contents of the stream itself.
-///
-/// # Errors
-///
-/// Where memory runs out. What was said before is a beginning of that.
-#[inline(always)]
-fn say_reference_tag<W: Sink>(
-    outbox: &mut Outbox,
-    sink: &mut W,
-    walk: &mut Printer<'_>,
-) -> Result<(), AllocError>
-    ensures said { OnOk result ((told : StreamField) → IsOf (Field.Tag TC_REFERENCE) told
-        → SaysTo W.gone_out W.has_failed outbox.old outbox.new sink.old sink.new (λ k. says_next walk.old told k)) }
-    ensures goes { OnOk result ((told : StreamField) → IsOf (Field.Tag TC_REFERENCE) told → walk.new ≡ goes (settled walk.old) told) }
-    ensures front { OnErr result ((told : StreamField) → IsOf (Field.Tag TC_REFERENCE) told
-        → BeginsTo W.gone_out W.has_failed outbox.old outbox.new sink.old sink.new (λ k. says_next walk.old told k)) }
-{
-    if say_section_reference(outbox, sink, walk) {
-        return Ok(());
-    }
-    if say_class_reference(outbox, sink, walk) {
-        return Ok(());
-    }
-    if say_top_reference(outbox, sink, walk) {
-        return Ok(());
-    }
-    if say_enum_name(outbox, sink, walk)? {
-        return Ok(());
-    }
-    say_next(outbox, sink, walk, Field::Tag(TC_REFERENCE))
-}
-
-/// Says the handle of a reference, with all that is due before it. Most are those of classes, or nothing is made of them.
-///
-/// # Errors
-///
-/// Where memory runs out. What was said before is a beginning of that.
-#[inline(always)]
-fn say_handle<W: Sink>(
-    outbox: &mut Outbox,
-    sink: &mut W,
-    walk: &mut Printer<'_>,
-    handle: u32,
-) -> Result<(), AllocError>
-    ensures said { OnOk result ((told : StreamField) → IsOf (Field.Handle handle) told
-        → SaysTo W.gone_out W.has_failed outbox.old outbox.new sink.old sink.new (λ k. says_next walk.old told k)) }
-    ensures goes { OnOk result ((told : StreamField) → IsOf (Field.Handle handle) told → walk.new ≡ goes (settled walk.old) told) }
-    ensures front { OnErr result ((told : StreamField) → IsOf (Field.Handle handle) told
-        → BeginsTo W.gone_out W.has_failed outbox.old outbox.new sink.old sink.new (λ k. says_next walk.old told k)) }
-{
-    if say_plain_handle(outbox, sink, walk, handle) {
-        return Ok(());
-    }
-    if say_class_handle(outbox, sink, walk, handle)? {
-        return Ok(());
-    }
-    say_next(outbox, sink, walk, Field::Handle(handle))
+    printer.say_next(outbox, sink, Field::Tag(TC_REFERENCE))?;
+    printer.say_next(outbox, sink, Field::Handle(handle))
 }
 
 /// Says a string.
 fn say_string<W: Sink>(
     outbox: &mut Outbox,
     sink: &mut W,
-    walk: &mut Printer<'_>,
+    printer: &mut Printer<'_>,
     units: &mut Vec<u16>,
     text: &[u8],
 ) -> Result<(), AllocError>
-    ensures said { OnOk result (SaysItemsTo W.gone_out W.has_failed (items_of (Whole.String text.entry)) outbox.old outbox.new sink.old sink.new walk.old walk.new) }
-    ensures front { OnErr result (BeginsItemsTo W.gone_out W.has_failed (items_of (Whole.String text.entry)) outbox.old outbox.new sink.old sink.new walk.old) }
+    ensures said { OnOk result (SaysItemsTo W.gone_out W.has_failed (items_of (Whole.String text.entry)) outbox.old outbox.new sink.old sink.new printer.old printer.new) }
+    ensures front { OnErr result (BeginsItemsTo W.gone_out W.has_failed (items_of (Whole.String text.entry)) outbox.old outbox.new sink.old sink.new printer.old) }
 {
-    say_next(outbox, sink, walk, Field::Tag(TC_STRING))?;
-    say_text(outbox, sink, walk, units, text)
+    printer.say_next(outbox, sink, Field::Tag(TC_STRING))?;
+    say_text(outbox, sink, printer, units, text)
 }
 
 /// Says the tag of what has a class, and the reference that is its class.
 fn say_owner<W: Sink>(
     outbox: &mut Outbox,
     sink: &mut W,
-    walk: &mut Printer<'_>,
+    printer: &mut Printer<'_>,
     tag: u8,
     class: u32,
 ) -> Result<(), AllocError>
-    ensures said { OnOk result (SaysItemsTo W.gone_out W.has_failed (items_of (Whole.Owner tag class)) outbox.old outbox.new sink.old sink.new walk.old walk.new) }
-    ensures front { OnErr result (BeginsItemsTo W.gone_out W.has_failed (items_of (Whole.Owner tag class)) outbox.old outbox.new sink.old sink.new walk.old) }
+    ensures said { OnOk result (SaysItemsTo W.gone_out W.has_failed (items_of (Whole.Owner tag class)) outbox.old outbox.new sink.old sink.new printer.old printer.new) }
+    ensures front { OnErr result (BeginsItemsTo W.gone_out W.has_failed (items_of (Whole.Owner tag class)) outbox.old outbox.new sink.old sink.new printer.old) }
 {
-    say_next(outbox, sink, walk, Field::Tag(tag))?;
-    say_reference(outbox, sink, walk, class)
+    printer.say_next(outbox, sink, Field::Tag(tag))?;
+    say_reference(outbox, sink, printer, class)
 }
 
-/// Says a text from its bytes, with all that is due before it. The bytes of most strings stand for themselves.
+/// Says a text from its bytes, with all that is due before it. The bytes of most texts stand for themselves.
 ///
 /// # Errors
 ///
@@ -315,20 +226,20 @@ fn say_owner<W: Sink>(
 fn say_text<W: Sink>(
     outbox: &mut Outbox,
     sink: &mut W,
-    walk: &mut Printer<'_>,
+    printer: &mut Printer<'_>,
     units: &mut Vec<u16>,
     bytes: &[u8],
 ) -> Result<(), AllocError>
     ensures said { OnOk result ((told : StreamField) → IsTextOf bytes.now told
-        → SaysTo W.gone_out W.has_failed outbox.old outbox.new sink.old sink.new (λ k. says_next walk.old told k)) }
-    ensures goes { OnOk result ((told : StreamField) → IsTextOf bytes.now told → walk.new ≡ goes (settled walk.old) told) }
+        → SaysTo W.gone_out W.has_failed outbox.old outbox.new sink.old sink.new (λ k. says_next printer.old told k)) }
+    ensures goes { OnOk result ((told : StreamField) → IsTextOf bytes.now told → printer.new ≡ goes (settled printer.old) told) }
     ensures front { OnErr result ((told : StreamField) → IsTextOf bytes.now told
-        → BeginsTo W.gone_out W.has_failed outbox.old outbox.new sink.old sink.new (λ k. says_next walk.old told k)) }
+        → BeginsTo W.gone_out W.has_failed outbox.old outbox.new sink.old sink.new (λ k. says_next printer.old told k)) }
 {
-    if say_plain_string(outbox, sink, walk, bytes) {
-        return Ok(());
+    match Plain::of(bytes) {
+        Some(plain) => printer.say_plain(outbox, sink, plain),
+        None => say_units(outbox, sink, printer, units, bytes),
     }
-    say_units(outbox, sink, walk, units, bytes)
 }
 
 /// Says a text by its units, with all that is due before it.
@@ -339,16 +250,16 @@ fn say_text<W: Sink>(
 fn say_units<W: Sink>(
     outbox: &mut Outbox,
     sink: &mut W,
-    walk: &mut Printer<'_>,
+    printer: &mut Printer<'_>,
     units: &mut Vec<u16>,
     bytes: &[u8],
 ) -> Result<(), AllocError>
     ensures said { OnOk result ((told : StreamField) → IsTextOf bytes.now told
-        → SaysTo W.gone_out W.has_failed outbox.old outbox.new sink.old sink.new (λ k. says_next walk.old told k)) }
-    ensures goes { OnOk result ((told : StreamField) → IsTextOf bytes.now told → walk.new ≡ goes (settled walk.old) told) }
+        → SaysTo W.gone_out W.has_failed outbox.old outbox.new sink.old sink.new (λ k. says_next printer.old told k)) }
+    ensures goes { OnOk result ((told : StreamField) → IsTextOf bytes.now told → printer.new ≡ goes (settled printer.old) told) }
     ensures front { OnErr result ((told : StreamField) → IsTextOf bytes.now told
-        → BeginsTo W.gone_out W.has_failed outbox.old outbox.new sink.old sink.new (λ k. says_next walk.old told k)) }
+        → BeginsTo W.gone_out W.has_failed outbox.old outbox.new sink.old sink.new (λ k. says_next printer.old told k)) }
 {
     let text = decode(bytes, units)?;
-    say_next(outbox, sink, walk, Field::Text(text))
+    printer.say_next(outbox, sink, Field::Text(text))
 }

@@ -19,8 +19,8 @@ use crate::texts::Texts;
 use jser_grammar::wire::{
     TC_BLOCKDATA, TC_BLOCKDATALONG, TC_ENDBLOCKDATA, TC_REFERENCE, TC_RESET, TC_STRING,
 };
-use jser_reader::{Item, Whole};
 use jser_printer::{Field, OwnerNode};
+use jser_reader::{Item, Whole};
 use std::alloc::{AllocError, Global};
 use std::marker::Model;
 

@@ -1,14 +1,14 @@
-//! A walk along the first fields of some bytes, for one who asks what is open at a place.
+//! A printer that went along the first fields of some bytes, for one who asks what is open at a place.
 ghost use Rattle.std.specs.Prelude.{ℕ, List, ◌≡◌, IfOk};
 ghost use Rattle.jser_prim.specs.ModifiedUtf8.{IsUnits, modified_utf8};
 
 use crate::decode::decode;
 use crate::part::{Part, part_of};
-use jser_reader::{OpenGate, Reader, Step, Stop};
 use jser_printer::{Field, Printer};
+use jser_reader::{OpenGate, Reader, Step, Stop};
 use std::alloc::{AllocError, Global};
 
-/// A walk past all fields of the bytes that end at `to` or before it. It has settled, so it waits for the field that begins
+/// A printer past all fields of the bytes that end at `to` or before it. It has settled, so it waits for the field that begins
 /// there or has that place in it. Where bytes before are refused by every filter, it stops in front of them.
 ///
 /// It takes memory for the names of classes and fields, and for what is open.
@@ -18,23 +18,23 @@ use std::alloc::{AllocError, Global};
 /// Where memory runs out.
 pub fn walk_along(alloc: Global, bytes: &[u8], to: u64) -> Result<Printer<'static>, AllocError> {
     let mut reader = Reader::new(alloc, OpenGate);
-    let mut walk = Printer::new(alloc, &[]);
+    let mut printer = Printer::new(alloc, &[]);
     let mut room = Vec::new(alloc);
     let mut rest = bytes;
     for _ in 0..=bytes.len() {
-        let Some(after) = pass_item(&mut reader, &mut walk, &mut room, bytes, rest, to)? else {
+        let Some(after) = pass_item(&mut reader, &mut printer, &mut room, bytes, rest, to)? else {
             break;
         };
         rest = after;
     }
-    settle(&mut walk)?;
-    Ok(walk)
+    printer.settle()?;
+    Ok(printer)
 }
 
 /// Goes past the next item, if it ends at `to` or before it, and returns the bytes behind it.
 fn pass_item<'b>(
     reader: &mut Reader<OpenGate>,
-    walk: &mut Printer<'static>,
+    printer: &mut Printer<'static>,
     room: &mut Vec<u16>,
     bytes: &[u8],
     rest: &'b [u8],
@@ -46,7 +46,7 @@ fn pass_item<'b>(
             if bytes.len().saturating_sub(after.len()) as u64 > to {
                 return Ok(None);
             }
-            take_part(walk, room, part_of(item))?;
+            take_part(printer, room, part_of(item))?;
             Ok(Some(after))
         }
         Ok(Step::More) | Err(Stop::Refused(_)) => Ok(None),
@@ -56,33 +56,18 @@ fn pass_item<'b>(
 
 /// Goes past a field, with all that is due before it.
 fn take_part(
-    walk: &mut Printer<'static>,
+    printer: &mut Printer<'static>,
     room: &mut Vec<u16>,
     part: Part<'_>,
 ) -> Result<(), AllocError> {
     match part {
         Part::Length => Ok(()),
-        Part::Field(field) => {
-            settle(walk)?;
-            walk.take(field)
-        }
+        Part::Field(field) => { printer.pass(field) }
         Part::Text(bytes) => {
             let units = decode(bytes, room)?;
-            settle(walk)?;
-            walk.take(Field::Text(units))
+            printer.pass(Field::Text(units))
         }
     }
-}
-
-/// Goes past all that is due.
-fn settle(walk: &mut Printer<'static>) -> Result<(), AllocError> {
-    for _ in 0..u64::MAX {
-        if walk.due().is_none() {
-            return Ok(());
-        }
-        walk.pass()?;
-    }
-    Ok(())
 }
 
 /// The UTF-16 units of a text in modified UTF-8. Bytes that are no such text have others.

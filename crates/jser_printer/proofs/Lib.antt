@@ -6,7 +6,6 @@ pub mod CloseLemmas
 pub mod PartLemmas
 pub mod SeenLemmas
 pub mod FrameLemmas
-pub mod WaitLemmas
 pub mod PassLemmas
 pub mod TakeLemmas
 pub mod DraftLemmas
@@ -14,8 +13,5 @@ pub mod WalkLemmas
 pub mod SaysLemmas
 pub mod LineLemmas
 pub mod ValueLemmas
-pub mod SilentLemmas
-pub mod FieldLemmas
-pub mod DueLemmas
 pub mod StepLemmas
 pub mod PlainLemmas

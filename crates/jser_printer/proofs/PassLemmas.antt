@@ -1,16 +1,24 @@
 -- Steps that need no field, by the frame on top.
-use Rattle.std.proofs.Common.{◌≡◌, ℕ, suc, ◌+◌, Bool, true, false, List, [], ◌∷◌, ◌++◌, length, slice_set, Option, Some, None, ap, sym, ◌∙◌, subst, arith}
-use Rattle.jser_reading.specs.Roles.{enum_owner}
-use Rattle.jser_shown.specs.Known.{NamedLayer, Known, known_class, known_other, with_entry, classes_at, own_class_of, is_external_class, is_external_chain}
+use Rattle.std.proofs.Common.{◌≡◌, ℕ, suc, ◌+◌, Bool, true, false, List, [], ◌∷◌, ◌++◌, length, slice_set, zero, Option, Some, None, refl, ap, sym, ◌∙◌, subst, arith}
+use Rattle.jser_shown.specs.Known.{NamedField, NamedLayer, Known, known_class, classes_at, own_class_of, is_external_class, is_external_chain}
 use Rattle.jser_shown.specs.Shown.{field_named}
 use Rattle.jser_shown.specs.Owners.{OwnerNode}
-use Rattle.jser_shown.specs.Cues.{SectionPart, raw_part, value_part, note_part, note_cue, name_cue, parts_cue, teller, object_parts}
+use Rattle.jser_shown.specs.Cues.{SectionPart, data_part, raw_part, value_part, note_part, note_cue, parts_cue, Teller, teller, object_parts}
 use Rattle.jser_printer.specs.declared.frame.Frame.{Frame}
 use Rattle.jser_printer.specs.declared.frame.Frame.TheVariants as frame
 use Rattle.jser_printer.specs.declared.frame.Stage.{Stage}
 use Rattle.jser_printer.specs.declared.frame.Stage.TheVariants as stage
-use Rattle.jser_printer.specs.declared.owner.Owner.TheVariants as owner
-use Rattle.jser_printer.specs.Steps.{due_in, made_due, pass_part, pass_at, pass_in}
+use Rattle.jser_printer.specs.Steps.{Due, section_due, external_due, quiet_due, layer_name, due, due_at, due_end, due_in, due_part, due_says, pass_part, pass_at, pass_in}
+use Rattle.jser_printer.specs.DueWords.{section_words}
+use Rattle.jser_printer.specs.Says.{Says}
+use Rattle.jser_prim.specs.Outgoing.{Outgoing, SinkState}
+use Rattle.std.specs.Prelude.{codes}
+use Rattle.jser_printer.proofs.SaysLemmas.{says_nothing}
+use Rattle.jser_printer.specs.Phases.{in_phase}
+use Rattle.jser_printer.specs.declared.phase.Head.{Head}
+use Rattle.jser_printer.specs.declared.phase.Over.{Over}
+use Rattle.jser_printer.specs.declared.phase.Phase.{Phase}
+use Rattle.jser_printer.specs.declared.phase.Phase.TheVariants as phase
 use Rattle.jser_printer.specs.Tables.{TableView, layer_in, layers_in, IsChainOf}
 use Rattle.jser_printer.specs.Frames.{parts_from, cue_of, cues_of, tail_of, FramesFit, BeginsSection}
 use Rattle.jser_printer.proofs.FrameLemmas.{cues_more_chains, fit_more_chains, tail_fits}
@@ -60,17 +68,73 @@ sections_passed layers chains old new level chain index s e known os top put is 
     ap (λ fs. teller e known os (cues_of layers chains fs)) put
     ∙ sym (part_first layers chains old level chain index s [] e known os top is)
 
-pub raw_passed : (layers : List NamedLayer) (chains : List (List NamedLayer)) (old : List Frame) (level chain index : ℕ) (s : Stage) (name : List ℕ) (others : List SectionPart) (e : ℕ) (known : Known) (os : List OwnerNode) → old ≡ frame.Sections level chain index s ∷ tail_of old → parts_from (layers_in chains chain) index s ≡ raw_part (field_named name) ∷ others → teller e known os (cues_of layers chains old) ≡ pass_in (cues_of layers chains old) e known os
-raw_passed layers chains old level chain index s name others e known os top is =
-    ap (λ fs. teller e known os (cues_of layers chains fs)) top
-    ∙ ap (λ ps. teller e known os (parts_cue level ps ∷ cues_of layers chains (tail_of old))) is
-    ∙ sym (part_first layers chains old level chain index s _ e known os top is)
+-- what is due by the frame on top
 
-pub value_passed : (layers : List NamedLayer) (chains : List (List NamedLayer)) (old : List Frame) (level chain index : ℕ) (s : Stage) (name : List ℕ) (others : List SectionPart) (e : ℕ) (known : Known) (os : List OwnerNode) → old ≡ frame.Sections level chain index s ∷ tail_of old → parts_from (layers_in chains chain) index s ≡ value_part (field_named name) ∷ others → teller e known os (cues_of layers chains old) ≡ pass_in (cues_of layers chains old) e known os
-value_passed layers chains old level chain index s name others e known os top is =
-    ap (λ fs. teller e known os (cues_of layers chains fs)) top
-    ∙ ap (λ ps. teller e known os (parts_cue level ps ∷ cues_of layers chains (tail_of old))) is
-    ∙ sym (part_first layers chains old level chain index s _ e known os top is)
+pub due_first : (layers : List NamedLayer) (chains : List (List NamedLayer)) (frames : List Frame) (f : Frame) → frames ≡ f ∷ tail_of frames → due_in (cues_of layers chains frames) ≡ due_at (cue_of layers chains f)
+due_first layers chains frames f is = ap (λ fs. due_in (cues_of layers chains fs)) is
+
+part_due : (layers : List NamedLayer) (chains : List (List NamedLayer)) (frames : List Frame) (level chain index : ℕ) (s : Stage) (parts : List SectionPart) → frames ≡ frame.Sections level chain index s ∷ tail_of frames → parts_from (layers_in chains chain) index s ≡ parts → due_in (cues_of layers chains frames) ≡ due_part level parts
+part_due layers chains frames level chain index s parts top is =
+    due_first layers chains frames (frame.Sections level chain index s) top ∙ ap (due_part level) is
+
+pub section_is_due : (layers : List NamedLayer) (chains : List (List NamedLayer)) (frames : List Frame) (level chain index : ℕ) (s : Stage) (name : Option (List ℕ)) (others : List SectionPart) → frames ≡ frame.Sections level chain index s ∷ tail_of frames → BeginsSection (parts_from (layers_in chains chain) index s) name others → due_in (cues_of layers chains frames) ≡ Some (section_due level name)
+section_is_due layers chains frames level chain index s name others top begins =
+    part_due layers chains frames level chain index s (data_part begins.layer ∷ others) top begins.parts_are
+    ∙ ap (λ n. Some (section_due level n)) begins.name_is
+
+pub notes_due : (layers : List NamedLayer) (chains : List (List NamedLayer)) (frames : List Frame) (level chain index : ℕ) (s : Stage) (others : List SectionPart) → frames ≡ frame.Sections level chain index s ∷ tail_of frames → parts_from (layers_in chains chain) index s ≡ note_part ∷ others → due_in (cues_of layers chains frames) ≡ Some quiet_due
+notes_due layers chains frames level chain index s others top is = part_due layers chains frames level chain index s (note_part ∷ others) top is
+
+pub end_due : (layers : List NamedLayer) (chains : List (List NamedLayer)) (frames : List Frame) (level chain index : ℕ) (s : Stage) → frames ≡ frame.Sections level chain index s ∷ tail_of frames → parts_from (layers_in chains chain) index s ≡ [] → due_in (cues_of layers chains frames) ≡ Some quiet_due
+end_due layers chains frames level chain index s top is = part_due layers chains frames level chain index s [] top is
+
+pub raw_waits : (layers : List NamedLayer) (chains : List (List NamedLayer)) (frames : List Frame) (level chain index : ℕ) (s : Stage) (name : List ℕ) (others : List SectionPart) → frames ≡ frame.Sections level chain index s ∷ tail_of frames → parts_from (layers_in chains chain) index s ≡ raw_part (field_named name) ∷ others → due_in (cues_of layers chains frames) ≡ None
+raw_waits layers chains frames level chain index s name others top is = part_due layers chains frames level chain index s (raw_part (field_named name) ∷ others) top is
+
+pub value_waits : (layers : List NamedLayer) (chains : List (List NamedLayer)) (frames : List Frame) (level chain index : ℕ) (s : Stage) (name : List ℕ) (others : List SectionPart) → frames ≡ frame.Sections level chain index s ∷ tail_of frames → parts_from (layers_in chains chain) index s ≡ value_part (field_named name) ∷ others → due_in (cues_of layers chains frames) ≡ None
+value_waits layers chains frames level chain index s name others top is = part_due layers chains frames level chain index s (value_part (field_named name) ∷ others) top is
+
+-- what is said of it
+
+pub due_said : (a b : Outgoing) (d e : SinkState) (due : Option Due) (due' : Option Due) → due ≡ due' → Says a b d e (λ k. due_says due' k) → Says a b d e (λ k. due_says due k)
+due_said a b d e due due' is h = subst (λ x. Says a b d e (λ k. due_says x k)) (sym is) h
+
+pub none_said : (a : Outgoing) (d : SinkState) (due : Option Due) → due ≡ None → Says a a d d (λ k. due_says due k)
+none_said a d due is = says_nothing a d (λ k. due_says due k) (λ k. ap (λ x. due_says x k) is)
+
+pub end_quiet : (left : ℕ) (k : List ℕ) → due_says (due_end left) k ≡ k
+end_quiet zero k = refl
+end_quiet (suc n) k = refl
+
+-- nothing is said at this frame
+pub quiet_frame : (a : Outgoing) (d : SinkState) (s : Teller) (e : ℕ) (known : Known) (os : List OwnerNode) (layers : List NamedLayer) (chains : List (List NamedLayer)) (frames : List Frame) (f f' : Frame) → teller e known os (cues_of layers chains frames) ≡ s → frames ≡ f ∷ tail_of frames → f ≡ f' → ((k : List ℕ) → due_says (due_at (cue_of layers chains f')) k ≡ k) → Says a a d d (λ k. due_says (due s) k)
+quiet_frame a d s e known os layers chains frames f f' here top is quiet =
+    says_nothing a d (λ k. due_says (due s) k)
+    (λ k. ap (λ t. due_says (due t) k) (sym here) ∙ ap (λ x. due_says x k) (due_first layers chains frames f top)
+    ∙ ap (λ x. due_says (due_at (cue_of layers chains x)) k) is ∙ quiet k)
+
+-- nothing is said at this part
+pub quiet_part : (a : Outgoing) (d : SinkState) (layers : List NamedLayer) (chains : List (List NamedLayer)) (frames : List Frame) (level chain index : ℕ) (s : Stage) (parts : List SectionPart) → frames ≡ frame.Sections level chain index s ∷ tail_of frames → parts_from (layers_in chains chain) index s ≡ parts → ((k : List ℕ) → due_says (due_part level parts) k ≡ k) → Says a a d d (λ k. due_says (due_in (cues_of layers chains frames)) k)
+quiet_part a d layers chains frames level chain index s parts top is quiet =
+    says_nothing a d (λ k. due_says (due_in (cues_of layers chains frames)) k)
+    (λ k. ap (λ x. due_says x k) (part_due layers chains frames level chain index s parts top is) ∙ quiet k)
+
+-- nothing is said in this phase
+pub quiet_phase : (a : Outgoing) (d : SinkState) (s : Teller) (p p' : Phase) (name : List ℕ) (done : List NamedField) (standing : Teller) → in_phase p name done standing ≡ s → p ≡ p' → ((k : List ℕ) → due_says (due (in_phase p' name done standing)) k ≡ k) → Says a a d d (λ k. due_says (due s) k)
+quiet_phase a d s p p' name done standing here is quiet =
+    says_nothing a d (λ k. due_says (due s) k)
+    (λ k. ap (λ t. due_says (due t) k) (sym here) ∙ ap (λ x. due_says (due (in_phase x name done standing)) k) is ∙ quiet k)
+
+pub none_in_phase : (p : Phase) (name : List ℕ) (done : List NamedField) (standing : Teller) → (p ≡ phase.Frames → ⊥)
+    → ((head : Head) (flags left : ℕ) (over : Over) → p ≡ phase.Fields head flags left over → ⊥)
+    → ((head : Head) (left : ℕ) → p ≡ phase.Interfaces head left → ⊥) → due (in_phase p name done standing) ≡ None
+none_in_phase phase.Frames name done standing a b c = absurd (a refl)
+none_in_phase (phase.Fields head flags left over) name done standing a b c = absurd (b head flags left over refl)
+none_in_phase (phase.Interfaces head left) name done standing a b c = absurd (c head left refl)
+none_in_phase p name done standing a b c = refl
+
+pub section_said : (a b : Outgoing) (d e : SinkState) (due : Option Due) (level : ℕ) (name : Option (List ℕ)) → due ≡ Some (section_due level name) → Says a b d e (λ k. section_words level (codes "data ") name k) → Says a b d e (λ k. due_says due k)
+section_said a b d e due level name is h = due_said a b d e due (Some (section_due level name)) is h
 
 -- a class that ends has one chain more
 
@@ -94,13 +158,7 @@ close_passed layers same old new c frames popped number parent layer e known kno
     ∙ ap (λ k. teller e k os (cues_of layers old (tail_of frames))) is
     ∙ sym (pass_first layers old frames (frame.Close number parent layer) e known os top)
 
--- an enum constant gets its handle
-
-pub enum_due : (layers : List NamedLayer) (chains : List (List NamedLayer)) (frames : List Frame) (level number : ℕ) → frames ≡ frame.Made owner.EnumConst level number ∷ tail_of frames → due_in (cues_of layers chains frames) ≡ Some (made_due enum_owner)
-enum_due layers chains frames level number top = ap (λ fs. due_in (cues_of layers chains fs)) top
-
-pub enum_passed : (layers : List NamedLayer) (chains : List (List NamedLayer)) (frames popped : List Frame) (level number e : ℕ) (known known' : Known) (os : List OwnerNode) → frames ≡ frame.Made owner.EnumConst level number ∷ tail_of frames → popped ≡ tail_of frames → known' ≡ with_entry known known_other → pass_in (cues_of layers chains frames) e known os ≡ teller e known' os (name_cue level ∷ cues_of layers chains popped)
-enum_passed layers chains frames popped level number e known known' os top put is =
-    pass_first layers chains frames (frame.Made owner.EnumConst level number) e known os top
-    ∙ sym (ap (λ fs. teller e known' os (name_cue level ∷ cues_of layers chains fs)) put
-    ∙ ap (λ k. teller e k os (name_cue level ∷ cues_of layers chains (tail_of frames))) is)
+pub external_said : (a b : Outgoing) (d e : SinkState) (layers : List NamedLayer) (chains : List (List NamedLayer)) (frames : List Frame) (level chain : ℕ) (name : Option (List ℕ)) → frames ≡ frame.External level chain ∷ tail_of frames → name ≡ layer_name (own_class_of (layers_in chains chain)) → Says a b d e (λ k. section_words level (codes "external ") name k) → Says a b d e (λ k. due_says (due_in (cues_of layers chains frames)) k)
+external_said a b d e layers chains frames level chain name top is h =
+    due_said a b d e (due_in (cues_of layers chains frames)) (Some (external_due level name))
+    (due_first layers chains frames (frame.External level chain) top ∙ ap (λ n. Some (external_due level n)) (sym is)) h

@@ -15,6 +15,10 @@ use Rattle.jser_printer.specs.Says.{Saying, Says}
 pub says_none : (a : Outgoing) (d : SinkState) (all : List ℕ → List ℕ) → Saying a a d d all all
 says_none a d all = record { bytes = []; puts = puts_none a d; is = λ k. refl }
 
+-- nothing is said
+pub says_nothing : (a : Outgoing) (d : SinkState) (text : List ℕ → List ℕ) → ((k : List ℕ) → text k ≡ k) → Says a a d d text
+says_nothing a d text is = record { bytes = []; puts = puts_none a d; is = is }
+
 pub says_bytes : (a b : Outgoing) (d e : SinkState) (bytes : List ℕ) → Puts a b d e bytes → Says a b d e (λ k. bytes ++ k)
 says_bytes a b d e bytes h = record { bytes = bytes; puts = h; is = λ k. refl }
 

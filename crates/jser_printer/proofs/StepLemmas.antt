@@ -1,28 +1,30 @@
 -- Steps between two fields.
-use Rattle.std.proofs.Common.{◌≡◌, ℕ, zero, suc, ◌<◌, List, [], ◌∷◌, Bool, true, false, None, Result, Ok, Err, OnOk, OnErr, refl, sym, ap, subst, ◌∙◌, rules, arith}
+use Rattle.std.proofs.Common.{◌≡◌, ℕ, zero, suc, ◌<◌, List, length, Bool, true, Some, None, Result, Ok, Err, OnOk, OnErr, refl, sym, ap, subst, ◌∙◌, rules, arith}
 use Rattle.jser_prim.specs.Outgoing.{Outgoing, SinkState}
 use Rattle.jser_prim.proofs.OutgoingLemmas.{puts_none}
 use Rattle.jser_reading.specs.Labels.{StreamField}
-use Rattle.jser_shown.specs.Cues.{raw_part, value_part, data_part, external_part, note_part, Cue, header_cue, top_cue, handle_cue, string_cue, text_place_cue, block_length_cue, block_cue, note_cue, name_cue, length_cue, elements_cue, parts_cue, class_cue, class_handle_cue, made_cue, super_cue, super_handle_cue, close_cue, class_name_cue, suid_cue, flags_cue, field_count_cue, fields_cue, field_name_cue, type_cue, interface_count_cue, interfaces_cue, Teller}
-use Rattle.jser_shown.specs.Telling.{says, settle_says, settled, goes}
-use Rattle.jser_printer.specs.Prompts.{Prompt, prompt_in, prompt_of}
-use Rattle.jser_printer.specs.Laws.{StepsSettle, StepsEnd, NothingDue}
-use Rattle.jser_printer.specs.Steps.{due, due_in, due_says, pass, steps_left}
-use Rattle.jser_printer.specs.Passing.{Passed, says_next, waits}
+use Rattle.jser_shown.specs.Cues.{Teller}
+use Rattle.jser_shown.specs.Telling.{SeenField, says, says_in, settle_says, settled, first_owner}
+use Rattle.jser_shown.specs.Telling.{seen as seen_of}
+use Rattle.jser_printer.specs.FieldWords.{field_words}
+use Rattle.jser_printer.specs.declared.words.tag.Place.{Place}
+use Rattle.jser_printer.specs.Steps.{Due, due, due_says, pass, steps_left}
+use Rattle.jser_printer.specs.Passing.{Passed, PlaceIs, says_next}
 use Rattle.jser_printer.specs.Says.{Saying, Says, Begins}
 use Rattle.jser_printer.proofs.SaysLemmas.{says_on, says_both, says_same}
 
-pub steps-settle : StepsSettle
+-- A step does not change where the teller settles; and what it says comes first.
+steps-settle : (s : Teller) → (settled s ≡ settled (pass s))
+    × ((k : List ℕ) → settle_says s.known s.cues k ≡ due_says (due s) (settle_says (pass s).known (pass s).cues k))
 steps-settle = search rules
 
-steps-end : StepsEnd
+-- After each step there is one step less.
+steps-end : (s : Teller) (d : Due) → due s ≡ Some d → steps_left s ≡ suc (steps_left (pass s))
 steps-end = search rules
 
-nothing-due : NothingDue
+-- Where nothing is due the teller has settled, and nothing more is said.
+nothing-due : (s : Teller) → due s ≡ None → (settled s ≡ s) × ((k : List ℕ) → settle_says s.known s.cues k ≡ k)
 nothing-due = search rules
-
-pub says_no_due : (a : Outgoing) (d : SinkState) (s : Teller) → due s ≡ None → Says a a d d (λ k. due_says (due s) k)
-says_no_due a d s is = record { bytes = []; puts = puts_none a d; is = λ k. ap (λ x. due_says x k) is }
 
 -- a step more
 pub says_step : (a b c : Outgoing) (d e f : SinkState) (all : List ℕ → List ℕ) (s t : Teller)
@@ -98,56 +100,12 @@ begins_dues a b d e s told h = record {
 pub begins_all : (a b : Outgoing) (d e : SinkState) (all : List ℕ → List ℕ) → Says a b d e all → Begins a b d e all
 begins_all a b d e all h = record { left = λ k. k; said = h }
 
--- where the prompt alone tells that nothing is due
-none-due : (cues : List Cue) → waits (prompt_in cues) ≡ true → due_in cues ≡ None
-none-due [] e = refl
-none-due (header_cue ∷ cues) e = refl
-none-due (top_cue ∷ cues) e = refl
-none-due (handle_cue ∷ cues) e = refl
-none-due (string_cue ∷ cues) e = refl
-none-due (text_place_cue ∷ cues) e = refl
-none-due (block_length_cue ∷ cues) e = refl
-none-due (block_cue ∷ cues) e = refl
-none-due (note_cue L ∷ cues) e = refl
-none-due (name_cue L ∷ cues) e = refl
-none-due (length_cue L ∷ cues) e = refl
-none-due (elements_cue L i zero ∷ cues) e = absurd (let no : false ≡ true = e in cc)
-none-due (elements_cue L i (suc n) ∷ cues) e = refl
-none-due (parts_cue L [] ∷ cues) e = absurd (let no : false ≡ true = e in cc)
-none-due (parts_cue L (raw_part name ∷ parts) ∷ cues) e = refl
-none-due (parts_cue L (value_part name ∷ parts) ∷ cues) e = refl
-none-due (parts_cue L (data_part l ∷ parts) ∷ cues) e = absurd (let no : false ≡ true = e in cc)
-none-due (parts_cue L (external_part l ∷ parts) ∷ cues) e = absurd (let no : false ≡ true = e in cc)
-none-due (parts_cue L (note_part ∷ parts) ∷ cues) e = absurd (let no : false ≡ true = e in cc)
-none-due (class_cue owner L ∷ cues) e = refl
-none-due (class_handle_cue owner L ∷ cues) e = refl
-none-due (made_cue owner L number ∷ cues) e = absurd (let no : false ≡ true = e in cc)
-none-due (super_cue L number layer ∷ cues) e = refl
-none-due (super_handle_cue L number layer ∷ cues) e = refl
-none-due (close_cue number parent layer ∷ cues) e = absurd (let no : false ≡ true = e in cc)
-none-due (class_name_cue L ∷ cues) e = refl
-none-due (suid_cue L name ∷ cues) e = refl
-none-due (flags_cue L number name ∷ cues) e = refl
-none-due (field_count_cue L number name flags ∷ cues) e = refl
-none-due (fields_cue L number name flags done left ∷ cues) e = absurd (let no : false ≡ true = e in cc)
-none-due (field_name_cue L number name flags done code left ∷ cues) e = refl
-none-due (type_cue b ∷ cues) e = absurd (let no : false ≡ true = e in cc)
-none-due (interface_count_cue L number ∷ cues) e = refl
-none-due (interfaces_cue L number left ∷ cues) e = absurd (let no : false ≡ true = e in cc)
-
-pub none_due : (s : Teller) → waits (prompt_of s) ≡ true → due s ≡ None
-none_due s e = none-due s.cues e
-
--- the same by an answer of a prompt
-pub waited_none : (s : Teller) (p : Prompt) (answer : Bool) → answer ≡ waits p → p ≡ prompt_of s → answer ≡ true → due s ≡ None
-waited_none s p answer waiting is holds = none_due s (ap waits (sym is) ∙ sym waiting ∙ holds)
-
--- a field before which nothing was due
-pub says_waited : (a b : Outgoing) (d e : SinkState) (s : Teller) (told : StreamField) → due s ≡ None → Says a b d e (λ k. says s told k)
-    → Says a b d e (λ k. says_next s told k)
-says_waited a b d e s told is h =
-    says_same a b d e (λ k. says s told k) (λ k. says_next s told k)
-    (λ k. (nothing-due s is).1 (says (settled s) told k) ∙ ap (λ t. says t told k) (nothing-due s is).0) h
-
-pub goes_waited : (s t : Teller) (told : StreamField) → due s ≡ None → t ≡ goes s told → t ≡ goes (settled s) told
-goes_waited s t told is e = e ∙ ap (λ u. goes u told) (sym (nothing-due s is).0)
+-- what is said of a field at a place of a teller is what the teller says of it
+pub says_told : (a b : Outgoing) (d e : SinkState) (place : Place) (seen : SeenField) (s : Teller) (told : StreamField)
+    → Says a b d e (λ k. field_words place s.cues seen k) → seen ≡ seen_of told → PlaceIs place s → Says a b d e (λ k. says s told k)
+says_told a b d e place seen s told h is here =
+    says_same a b d e (λ k. field_words place s.cues seen k) (λ k. says s told k)
+    (λ k. ap (λ x. says_in x (length s.known) (first_owner s.owners) s.cues (seen_of told) k) (sym here.0)
+    ∙ ap (λ x. says_in place.epoch x (first_owner s.owners) s.cues (seen_of told) k) (sym here.1)
+    ∙ ap (λ x. says_in place.epoch place.next x s.cues (seen_of told) k) (sym here.2)
+    ∙ ap (λ x. field_words place s.cues x k) (sym is)) h

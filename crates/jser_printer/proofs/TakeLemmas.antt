@@ -1,22 +1,30 @@
 -- Fields by the frame on top.
-use Rattle.std.proofs.Common.{◌≡◌, ℕ, suc, List, [], ◌∷◌, ◌++◌, length, slice_set, Option, Some, None, refl, ap, sym, ◌∙◌, arith}
-use Rattle.jser_reading.specs.Labels.{Tag, tag_field, null_tag, reference_tag}
+use Rattle.std.proofs.Common.{◌≡◌, ℕ, suc, List, [], ◌∷◌, ◌++◌, length, slice_set, Option, Some, None, refl, ap, sym, subst, ◌∙◌, arith}
+use Rattle.jser_reading.specs.Labels.{Tag, null_tag}
 use Rattle.jser_shown.specs.Known.{NamedLayer, Known, known_class}
 use Rattle.jser_shown.specs.Shown.{field_named}
 use Rattle.jser_shown.specs.Owners.{OwnerNode}
-use Rattle.jser_shown.specs.Cues.{SectionPart, data_part, raw_part, value_part, note_part, top_cue, handle_cue, name_cue, note_cue, elements_cue, parts_cue, Cue, Teller, teller}
-use Rattle.jser_shown.specs.Telling.{SeenField, seen_tag, seen_bytes, begin, goes, goes_at, goes_in, parts_goes}
+use Rattle.jser_shown.specs.Cues.{SectionPart, data_part, raw_part, value_part, note_part, top_cue, note_cue, elements_cue, parts_cue, Cue, teller}
+use Rattle.jser_shown.specs.Telling.{SeenField, seen_tag, seen_bytes, begin, goes_at, goes_in, parts_goes, raw_line}
 use Rattle.jser_printer.specs.declared.frame.Frame.{Frame}
 use Rattle.jser_printer.specs.declared.frame.Frame.TheVariants as frame
 use Rattle.jser_printer.specs.declared.frame.Stage.{Stage}
-use Rattle.jser_printer.specs.declared.part.Part.{Part}
-use Rattle.jser_printer.specs.declared.part.Part.TheVariants as part
-use Rattle.jser_printer.specs.Prompts.{Prompt, top_prompt, raw_prompt, value_prompt, enum_name_prompt, no_prompt, prompt_in, prompt_of}
-use Rattle.jser_printer.specs.Sections.{PassesPart}
+use Rattle.jser_prim.specs.Outgoing.{Outgoing, SinkState}
+use Rattle.std.proofs.Common.{Bor}
+use Rattle.jser_printer.specs.Seen.{told_seen}
+use Rattle.jser_printer.specs.declared.seen.Seen.{Seen}
+use Rattle.jser_printer.specs.declared.seen.Seen.TheVariants as seen
+use Rattle.jser_printer.specs.declared.seen.Tag.{Tag as DeclaredTag}
+use Rattle.jser_shown.specs.Shown.{ValueName, name_text}
+use Rattle.jser_shown.specs.Words.{begin_line}
+use Rattle.jser_printer.specs.FieldWords.{cue_words, field_words}
+use Rattle.jser_printer.specs.TagWords.{tag_words}
+use Rattle.jser_printer.specs.Says.{Says}
+use Rattle.jser_printer.specs.declared.words.tag.Place.{Place}
 use Rattle.jser_printer.specs.Tables.{layer_in, layers_in}
-use Rattle.jser_printer.specs.Frames.{parts_from, cue_of, cues_of, tail_of, FramesFit, BeginsSection, BeginsWith, others_of, TakesPart}
+use Rattle.jser_printer.specs.Frames.{parts_from, cue_of, cues_of, others_of, tail_of, FramesFit, BeginsSection, TakesPart}
 use Rattle.jser_printer.proofs.PassLemmas.{close_cues}
-use Rattle.jser_printer.proofs.WaitLemmas.{raw_waited, value_waited, nothing_waited}
+use Rattle.jser_printer.proofs.SaysLemmas.{says_nothing}
 
 pub goes_first : (layers : List NamedLayer) (chains : List (List NamedLayer)) (frames : List Frame) (f : Frame) (e : ℕ) (known : Known) (os : List OwnerNode) (field : SeenField) → frames ≡ f ∷ tail_of frames → goes_in e known os (cues_of layers chains frames) field ≡ goes_at e known os (cue_of layers chains f) (cues_of layers chains (tail_of frames)) field
 goes_first layers chains frames f e known os field is = ap (λ fs. goes_in e known os (cues_of layers chains fs) field) is
@@ -41,23 +49,6 @@ pub at_top : (layers : List NamedLayer) (chains : List (List NamedLayer)) (frame
 at_top layers chains frames none = ap (cues_of layers chains) none
 
 -- a content of the stream is waited for there
-pub top_waited : (cues : List Cue) → cues ≡ top_cue ∷ [] → prompt_in cues ≡ top_prompt
-top_waited cues is = ap prompt_in is
-
-pub top_reference : (e : ℕ) (known : Known) (os : List OwnerNode) (cues : List Cue) → cues ≡ top_cue ∷ []
-    → teller e known os (handle_cue ∷ cues) ≡ goes_in e known os cues (seen_tag reference_tag)
-top_reference e known os cues is =
-    ap (λ c. teller e known os (handle_cue ∷ c)) is ∙ sym (ap (λ c. goes_in e known os c (seen_tag reference_tag)) is)
-
--- the name of an enum constant
-
-pub enum_waited : (s : Teller) (e : ℕ) (known : Known) (os : List OwnerNode) (level : ℕ) (cues : List Cue) → s ≡ teller e known os (name_cue level ∷ cues)
-    → prompt_of s ≡ enum_name_prompt level
-enum_waited s e known os level cues is = ap prompt_of is
-
-pub enum_named : (s : Teller) (e : ℕ) (known : Known) (os : List OwnerNode) (level : ℕ) (cues : List Cue) → s ≡ teller e known os (name_cue level ∷ cues)
-    → teller e known os (handle_cue ∷ cues) ≡ goes s (tag_field reference_tag)
-enum_named s e known os level cues is = sym (ap (λ t. goes t (tag_field reference_tag)) is)
 
 -- at the sections of an object
 
@@ -102,35 +93,80 @@ value_taken layers chains old new level chain index index' s s' name tag top put
     part_goes layers chains old level chain index s _ e known os (seen_tag tag) top is
     ∙ sym (ap (λ fs. begin e (suc level) known os tag (cues_of layers chains fs)) put)
 
--- the first part is passed
+-- what is said of a field by the frame on top
 
-part_absent : (layers : List NamedLayer) (chains : List (List NamedLayer)) (old new : List Frame) → prompt_in (cues_of layers chains old) ≡ no_prompt → PassesPart layers chains old new
-part_absent layers chains old new none = record {
-  raw = λ L name w. absurd (let no : no_prompt ≡ raw_prompt L name = sym none ∙ w in cc);
-  value = λ L name w. absurd (let no : no_prompt ≡ value_prompt L name = sym none ∙ w in cc);
-}
+pub says_first : (a b : Outgoing) (d e : SinkState) (place : Place) (layers : List NamedLayer) (chains : List (List NamedLayer)) (frames : List Frame) (f : Frame) (field : SeenField) → frames ≡ f ∷ tail_of frames → Says a b d e (λ k. cue_words place (cue_of layers chains f) field k) → Says a b d e (λ k. field_words place (cues_of layers chains frames) field k)
+says_first a b d e place layers chains frames f field top h =
+    subst (λ fs. Says a b d e (λ k. field_words place (cues_of layers chains fs) field k)) (sym top) h
 
-abbrev level_in : Prompt → ℕ
-level_in (value_prompt L name) = L
-level_in p = 0
+pub says_last : (a b : Outgoing) (d e : SinkState) (place : Place) (layers : List NamedLayer) (chains : List (List NamedLayer)) (frames : List Frame) (field : SeenField) → frames ≡ [] → Says a b d e (λ k. cue_words place top_cue field k) → Says a b d e (λ k. field_words place (cues_of layers chains frames) field k)
+says_last a b d e place layers chains frames field none h =
+    subst (λ fs. Says a b d e (λ k. field_words place (cues_of layers chains fs) field k)) (sym none) h
 
-pub part_passed : (layers : List NamedLayer) (chains : List (List NamedLayer)) (old new : List Frame) (level chain index index' : ℕ) (s s' : Stage) (p : Part) → old ≡ frame.Sections level chain index s ∷ tail_of old → new ≡ frame.Sections level chain index' s' ∷ tail_of old → BeginsWith (parts_from (layers_in chains chain) index s) p (parts_from (layers_in chains chain) index' s') → PassesPart layers chains old new
-part_passed layers chains old new level chain index index' s s' (part.Raw n) top put is = record {
-  raw = λ L name w bytes e known os. sym (raw_taken layers chains old new level chain index index' s s' n.now bytes top put is e known os);
-  value = λ L name w. absurd (let no : raw_prompt level (field_named n.now) ≡ value_prompt L name = sym (raw_waited layers chains old level chain index s n.now (parts_from (layers_in chains chain) index' s') top is) ∙ w in cc);
-}
-part_passed layers chains old new level chain index index' s s' (part.Value n) top put is = record {
-  raw = λ L name w. absurd (let no : value_prompt level (field_named n.now) ≡ raw_prompt L name = sym (value_waited layers chains old level chain index s n.now (parts_from (layers_in chains chain) index' s') top is) ∙ w in cc);
-  value = λ L name w tag e known os.
-      ap (λ l. begin e (suc l) known os tag (cues_of layers chains new)) (ap level_in (sym w ∙ value_waited layers chains old level chain index s n.now (parts_from (layers_in chains chain) index' s') top is))
-      ∙ sym (value_taken layers chains old new level chain index index' s s' n.now tag top put is e known os);
-}
-part_passed layers chains old new level chain index index' s s' (part.Section n) top put is =
-    part_absent layers chains old new (nothing_waited layers chains old level chain index s (data_part is.layer ∷ parts_from (layers_in chains chain) index' s') top is.parts_are refl)
-part_passed layers chains old new level chain index index' s s' part.Notes top put is =
-    part_absent layers chains old new (nothing_waited layers chains old level chain index s (note_part ∷ parts_from (layers_in chains chain) index' s') top is refl)
-part_passed layers chains old new level chain index index' s s' part.End top put is =
-    part_absent layers chains old new (nothing_waited layers chains old level chain index s [] top is refl)
+part_says : (a b : Outgoing) (d e : SinkState) (place : Place) (layers : List NamedLayer) (chains : List (List NamedLayer)) (frames : List Frame) (level chain index : ℕ) (s : Stage) (parts : List SectionPart) (field : SeenField) → frames ≡ frame.Sections level chain index s ∷ tail_of frames → parts_from (layers_in chains chain) index s ≡ parts → Says a b d e (λ k. cue_words place (parts_cue level parts) field k) → Says a b d e (λ k. field_words place (cues_of layers chains frames) field k)
+part_says a b d e place layers chains frames level chain index s parts field top is h =
+    says_first a b d e place layers chains frames (frame.Sections level chain index s) field top
+    (subst (λ ps. Says a b d e (λ k. cue_words place (parts_cue level ps) field k)) (sym is) h)
+
+pub raw_said : (a b : Outgoing) (d e : SinkState) (place : Place) (layers : List NamedLayer) (chains : List (List NamedLayer)) (frames : List Frame) (level chain index : ℕ) (s : Stage) (name : List ℕ) (others : List SectionPart) (field : SeenField) (bytes : List ℕ) → frames ≡ frame.Sections level chain index s ∷ tail_of frames → parts_from (layers_in chains chain) index s ≡ raw_part (field_named name) ∷ others → field ≡ seen_bytes bytes → Says a b d e (λ k. raw_line (suc level) (field_named name) bytes k) → Says a b d e (λ k. field_words place (cues_of layers chains frames) field k)
+raw_said a b d e place layers chains frames level chain index s name others field bytes top is same h =
+    part_says a b d e place layers chains frames level chain index s (raw_part (field_named name) ∷ others) field top is
+    (subst (λ f. Says a b d e (λ k. cue_words place (parts_cue level (raw_part (field_named name) ∷ others)) f k)) (sym same) h)
+
+pub value_said : (a b : Outgoing) (d e : SinkState) (place : Place) (layers : List NamedLayer) (chains : List (List NamedLayer)) (frames : List Frame) (level chain index : ℕ) (s : Stage) (name : List ℕ) (others : List SectionPart) (field : SeenField) (tag : Tag) → frames ≡ frame.Sections level chain index s ∷ tail_of frames → parts_from (layers_in chains chain) index s ≡ value_part (field_named name) ∷ others → field ≡ seen_tag tag → Says a b d e (λ k. begin_line (suc level) (name_text (field_named name) (tag_words place tag k))) → Says a b d e (λ k. field_words place (cues_of layers chains frames) field k)
+value_said a b d e place layers chains frames level chain index s name others field tag top is same h =
+    part_says a b d e place layers chains frames level chain index s (value_part (field_named name) ∷ others) field top is
+    (subst (λ f. Says a b d e (λ k. cue_words place (parts_cue level (value_part (field_named name) ∷ others)) f k)) (sym same) h)
+
+-- a field of which this part says nothing
+pub part_silent : (a : Outgoing) (d : SinkState) (place : Place) (layers : List NamedLayer) (chains : List (List NamedLayer)) (frames : List Frame) (level chain index : ℕ) (s : Stage) (parts : List SectionPart) (field : SeenField) → frames ≡ frame.Sections level chain index s ∷ tail_of frames → parts_from (layers_in chains chain) index s ≡ parts → ((k : List ℕ) → cue_words place (parts_cue level parts) field k ≡ k) → Says a a d d (λ k. field_words place (cues_of layers chains frames) field k)
+part_silent a d place layers chains frames level chain index s parts field top is same =
+    part_says a a d d place layers chains frames level chain index s parts field top is
+    (says_nothing a d (λ k. cue_words place (parts_cue level parts) field k) same)
+
+pub section_silent : (a : Outgoing) (d : SinkState) (place : Place) (layers : List NamedLayer) (chains : List (List NamedLayer)) (frames : List Frame) (level chain index : ℕ) (s : Stage) (name : Option (List ℕ)) (others : List SectionPart) (field : SeenField) → frames ≡ frame.Sections level chain index s ∷ tail_of frames → BeginsSection (parts_from (layers_in chains chain) index s) name others → Says a a d d (λ k. field_words place (cues_of layers chains frames) field k)
+section_silent a d place layers chains frames level chain index s name others field top begins =
+    part_silent a d place layers chains frames level chain index s (data_part begins.layer ∷ others) field top begins.parts_are (λ k. refl)
+
+pub notes_silent : (a : Outgoing) (d : SinkState) (place : Place) (layers : List NamedLayer) (chains : List (List NamedLayer)) (frames : List Frame) (level chain index : ℕ) (s : Stage) (others : List SectionPart) (field : SeenField) → frames ≡ frame.Sections level chain index s ∷ tail_of frames → parts_from (layers_in chains chain) index s ≡ note_part ∷ others → Says a a d d (λ k. field_words place (cues_of layers chains frames) field k)
+notes_silent a d place layers chains frames level chain index s others field top is =
+    part_silent a d place layers chains frames level chain index s (note_part ∷ others) field top is (λ k. refl)
+
+pub end_silent : (a : Outgoing) (d : SinkState) (place : Place) (layers : List NamedLayer) (chains : List (List NamedLayer)) (frames : List Frame) (level chain index : ℕ) (s : Stage) (field : SeenField) → frames ≡ frame.Sections level chain index s ∷ tail_of frames → parts_from (layers_in chains chain) index s ≡ [] → Says a a d d (λ k. field_words place (cues_of layers chains frames) field k)
+end_silent a d place layers chains frames level chain index s field top is =
+    part_silent a d place layers chains frames level chain index s [] field top is (λ k. refl)
+
+raw-says_nothing : (place : Place) (level : ℕ) (name : ValueName) (parts : List SectionPart) (sight : Seen) (k : List ℕ) → ((x : Bor (List ℕ)) → sight ≡ seen.Bytes x → ⊥) → cue_words place (parts_cue level (raw_part name ∷ parts)) (told_seen sight) k ≡ k
+raw-says_nothing place level name parts (seen.Bytes x) k other = absurd (other x refl)
+raw-says_nothing place level name parts sight k other = refl
+
+raw-stays : (level : ℕ) (name : ValueName) (parts : List SectionPart) (sight : Seen) → ((x : Bor (List ℕ)) → sight ≡ seen.Bytes x → ⊥) → (e : ℕ) (known : Known) (os : List OwnerNode) (cues : List Cue) → parts_goes e known os cues level (raw_part name ∷ parts) (told_seen sight) ≡ teller e known os (parts_cue level (raw_part name ∷ parts) ∷ cues)
+raw-stays level name parts (seen.Bytes x) other e known os cues = absurd (other x refl)
+raw-stays level name parts sight other e known os cues = refl
+
+pub raw_silent : (a : Outgoing) (d : SinkState) (place : Place) (layers : List NamedLayer) (chains : List (List NamedLayer)) (frames : List Frame) (level chain index : ℕ) (s : Stage) (name : ValueName) (others : List SectionPart) (sight : Seen) → frames ≡ frame.Sections level chain index s ∷ tail_of frames → parts_from (layers_in chains chain) index s ≡ raw_part name ∷ others → ((x : Bor (List ℕ)) → sight ≡ seen.Bytes x → ⊥) → Says a a d d (λ k. field_words place (cues_of layers chains frames) (told_seen sight) k)
+raw_silent a d place layers chains frames level chain index s name others sight top is other =
+    part_silent a d place layers chains frames level chain index s (raw_part name ∷ others) (told_seen sight) top is (λ k. raw-says_nothing place level name others sight k other)
+
+pub raw_left : (layers : List NamedLayer) (chains : List (List NamedLayer)) (frames : List Frame) (level chain index : ℕ) (s : Stage) (name : ValueName) (others : List SectionPart) (sight : Seen) → frames ≡ frame.Sections level chain index s ∷ tail_of frames → parts_from (layers_in chains chain) index s ≡ raw_part name ∷ others → ((x : Bor (List ℕ)) → sight ≡ seen.Bytes x → ⊥) → TakesPart layers chains level frames frames (told_seen sight) None
+raw_left layers chains frames level chain index s name others sight top is other =
+    left_there layers chains frames level chain index s (raw_part name ∷ others) (told_seen sight) top is (raw-stays level name others sight other)
+
+value-says_nothing : (place : Place) (level : ℕ) (name : ValueName) (parts : List SectionPart) (sight : Seen) (k : List ℕ) → ((x : DeclaredTag) → sight ≡ seen.Tag x → ⊥) → cue_words place (parts_cue level (value_part name ∷ parts)) (told_seen sight) k ≡ k
+value-says_nothing place level name parts (seen.Tag x) k other = absurd (other x refl)
+value-says_nothing place level name parts sight k other = refl
+
+value-stays : (level : ℕ) (name : ValueName) (parts : List SectionPart) (sight : Seen) → ((x : DeclaredTag) → sight ≡ seen.Tag x → ⊥) → (e : ℕ) (known : Known) (os : List OwnerNode) (cues : List Cue) → parts_goes e known os cues level (value_part name ∷ parts) (told_seen sight) ≡ teller e known os (parts_cue level (value_part name ∷ parts) ∷ cues)
+value-stays level name parts (seen.Tag x) other e known os cues = absurd (other x refl)
+value-stays level name parts sight other e known os cues = refl
+
+pub value_silent : (a : Outgoing) (d : SinkState) (place : Place) (layers : List NamedLayer) (chains : List (List NamedLayer)) (frames : List Frame) (level chain index : ℕ) (s : Stage) (name : ValueName) (others : List SectionPart) (sight : Seen) → frames ≡ frame.Sections level chain index s ∷ tail_of frames → parts_from (layers_in chains chain) index s ≡ value_part name ∷ others → ((x : DeclaredTag) → sight ≡ seen.Tag x → ⊥) → Says a a d d (λ k. field_words place (cues_of layers chains frames) (told_seen sight) k)
+value_silent a d place layers chains frames level chain index s name others sight top is other =
+    part_silent a d place layers chains frames level chain index s (value_part name ∷ others) (told_seen sight) top is (λ k. value-says_nothing place level name others sight k other)
+
+pub value_left : (layers : List NamedLayer) (chains : List (List NamedLayer)) (frames : List Frame) (level chain index : ℕ) (s : Stage) (name : ValueName) (others : List SectionPart) (sight : Seen) → frames ≡ frame.Sections level chain index s ∷ tail_of frames → parts_from (layers_in chains chain) index s ≡ value_part name ∷ others → ((x : DeclaredTag) → sight ≡ seen.Tag x → ⊥) → TakesPart layers chains level frames frames (told_seen sight) None
+value_left layers chains frames level chain index s name others sight top is other =
+    left_there layers chains frames level chain index s (value_part name ∷ others) (told_seen sight) top is (value-stays level name others sight other)
 
 -- a class with no superclass ends
 

@@ -1,5 +1,5 @@
 -- What the printer keeps on its stack, in few bytes, and the cues for which that stands.
-use Rattle.std.specs.Prelude.{ℕ, ◌≡◌, ◌<◌, suc, List, [], ◌∷◌, drop, reverse, Option, Some, None}
+use Rattle.std.specs.Prelude.{ℕ, Bool, true, false, ◌≡◌, ◌<◌, suc, List, [], ◌∷◌, drop, reverse, Option, Some, None}
 use Rattle.jser_reading.specs.Labels.{Tag as ToldTag}
 use Rattle.jser_shown.specs.Owners.{OwnerNode}
 use Rattle.jser_shown.specs.Telling.{SeenField, begin, goes_in}
@@ -13,9 +13,9 @@ use Rattle.jser_printer.specs.declared.frame.Stage.TheVariants as stage
 use Rattle.jser_printer.specs.declared.part.Part.{Part}
 use Rattle.jser_printer.specs.declared.part.Part.TheVariants as part
 use Rattle.jser_printer.specs.declared.part.NextPart.{NextPart}
-use Rattle.jser_printer.specs.Steps.{layer_name}
+use Rattle.jser_printer.specs.Steps.{Due, due_in, layer_name, pass_in}
 use Rattle.jser_printer.specs.Given.{told_owner}
-use Rattle.jser_printer.specs.Views.{view_name}
+use Rattle.jser_printer.specs.Names.{view_name}
 use Rattle.jser_printer.specs.Tables.{layer_in, layers_in}
 
 -- the parts of the sections of these classes from a stage of the first one on
@@ -122,3 +122,10 @@ TakesPart layers chains level old new field None =
 TakesPart layers chains level old new field (Some tag) =
     (e : ℕ) (known : Known) (os : List OwnerNode)
     → goes_in e known os (cues_of layers chains old) field ≡ begin e (suc level) known os tag (cues_of layers chains new)
+
+-- What is due on top of a stack is done and leads to these frames, or nothing is due.
+abbrev pub PassesTop : List NamedLayer → List (List NamedLayer) → (more : Bool) → (old new : List Frame) → Type 0
+PassesTop layers chains true old new =
+    ((d : Due) × (due_in (cues_of layers chains old) ≡ Some d))
+    × ((e : ℕ) (known : Known) (os : List OwnerNode) → teller e known os (cues_of layers chains new) ≡ pass_in (cues_of layers chains old) e known os)
+PassesTop layers chains false old new = (due_in (cues_of layers chains old) ≡ None) × (new ≡ old)

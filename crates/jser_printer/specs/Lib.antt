@@ -1,14 +1,11 @@
+pub mod Names
 pub mod Given
 pub mod Steps
-pub mod Prompts
-pub mod Views
 pub mod Layers
 pub mod Tables
 pub mod Frames
-pub mod Sections
 pub mod Seen
 pub mod Phases
-pub mod Laws
 pub mod Says
 pub mod TagWords
 pub mod FieldWords

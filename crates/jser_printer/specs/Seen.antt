@@ -5,6 +5,7 @@ use Rattle.jser_reading.specs.Labels.{null_tag, reference_tag, class_desc_tag, o
 use Rattle.jser_reading.specs.Labels.{Tag as ToldTag}
 use Rattle.jser_shown.specs.Telling.{SeenField, seen_header, seen_end_tag, seen_reset_tag, seen_tag, seen_block_tag, seen_handle, seen_suid, seen_flags, seen_field_count, seen_interface_count, seen_array_length, seen_code, seen_block_length, seen_text, seen_bytes}
 use Rattle.jser_shown.specs.Telling.{seen as seen_of}
+use Rattle.jser_printer.specs.Names.{told_text}
 use Rattle.jser_printer.specs.declared.seen.Tag.{Tag}
 use Rattle.jser_printer.specs.declared.seen.Tag.TheVariants as tag
 use Rattle.jser_printer.specs.declared.seen.Seen.{Seen}
@@ -36,7 +37,7 @@ told_seen (seen.InterfaceCount n) = seen_interface_count n
 told_seen (seen.ArrayLength n) = seen_array_length n
 told_seen (seen.TypeCode n) = seen_code n
 told_seen (seen.BlockLength n) = seen_block_length n
-told_seen (seen.Text units) = seen_text units.now
+told_seen (seen.Text text) = seen_text (told_text text)
 told_seen (seen.Bytes bytes) = seen_bytes bytes.now
 
 -- the field is seen as what it is

@@ -3,9 +3,11 @@ ghost use Rattle.std.specs.Prelude.{◌≡◌, ◌∷◌, [], OnOk};
 ghost use Rattle.jser_shown.specs.Known.{class_layer};
 ghost use Rattle.jser_shown.specs.Cues.{fields_done};
 ghost use Rattle.jser_printer.specs.Layers.{told_layer};
+ghost use Rattle.jser_printer.specs.Names.{told_text};
 
 use crate::layer::{Layer, NamedField};
 use crate::name::Name;
+use crate::text::Text;
 use std::alloc::{AllocError, Global};
 use std::marker::Model;
 use std::mem;
@@ -40,8 +42,8 @@ impl Draft {
     }
 
     /// A descriptor of this name, with no field.
-    pub(crate) fn begin(&mut self, name: &[u16]) -> Result<(), AllocError>
-        ensures name { OnOk result (self.new.name ≡ name.now) }
+    pub(crate) fn begin(&mut self, name: Text<'_>) -> Result<(), AllocError>
+        ensures name { OnOk result (self.new.name ≡ told_text name.entry) }
     {
         self.name = Name::new(self.alloc, name)?;
         Ok(())
@@ -64,9 +66,9 @@ impl Draft {
 
     /// One field more.
     #[tactic(auto, using(crate::proofs::DraftLemmas::done_push))]
-    pub(crate) fn add_field(&mut self, code: u8, name: &[u16]) -> Result<(), AllocError>
+    pub(crate) fn add_field(&mut self, code: u8, name: Text<'_>) -> Result<(), AllocError>
         ensures name { OnOk result (self.new.name ≡ self.old.name) }
-        ensures done { OnOk result (self.new.done ≡ record { code = code; name = name.now } ∷ self.old.done) }
+        ensures done { OnOk result (self.new.done ≡ record { code = code; name = told_text name.entry } ∷ self.old.done) }
     {
         let name = Name::new(self.alloc, name)?;
         self.fields.push(NamedField { code, name })?;

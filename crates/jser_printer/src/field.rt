@@ -1,7 +1,7 @@
 //! Fields, as a reader lends them.
 
 /// A field of the stream (Java Object Serialization Specification, section 6.4.2).
-#[derive(Clone, Copy, PartialEq, Eq, Debug)]
+#[derive(Clone, Copy)]
 pub enum Field<'f> {
     /// The header: `STREAM_MAGIC` and `STREAM_VERSION`.
     Header,

@@ -4,7 +4,7 @@ ghost use Rattle.jser_grammar.specs.Codes.{prim_code_of, is_object_code};
 ghost use Rattle.jser_shown.specs.Known.{fields_in, has_notes, is_external_class};
 ghost use Rattle.jser_printer.specs.Steps.{layer_name};
 ghost use Rattle.jser_printer.specs.Layers.{told_layer, told_fields, field_at, is_raw_at, NextRaw, NextValue};
-ghost use Rattle.jser_printer.specs.Views.{view_name};
+ghost use Rattle.jser_printer.specs.Names.{view_name};
 
 use crate::name::Name;
 use jser_table::flags::{SC_EXTERNALIZABLE, SC_WRITE_METHOD};

@@ -3,10 +3,8 @@
 
 mod class;
 mod draft;
-mod due;
 mod field;
 mod frame;
-pub mod laws;
 mod layer;
 mod name;
 mod opened;
@@ -14,25 +12,20 @@ mod owner;
 mod part;
 mod phase;
 mod printer;
-mod prompt;
-mod section;
 mod seen;
+mod silent;
 mod stack;
 mod standing;
 mod table;
+mod text;
 mod words;
 
-pub use due::Due;
 pub use field::Field;
-pub use name::{Name, quoted_unit};
+pub use name::Name;
 pub use opened::Open;
-pub use owner::{Owner, OwnerNode};
+pub use owner::OwnerNode;
 pub use printer::Printer;
-pub use prompt::Prompt;
-pub use section::SectionField;
-pub use seen::{Seen, Tag, see};
-pub use words::{
-    say, say_all_due, say_class_handle, say_class_reference, say_decimal, say_due, say_enum_name,
-    say_field, say_hex, say_next, say_plain_handle, say_plain_string, say_quoted, say_section_raw,
-    say_section_reference, say_top_reference,
-};
+pub use text::Plain;
+pub use words::line::say;
+pub use words::number::{say_decimal, say_hex};
+pub use words::quote::say_quoted;

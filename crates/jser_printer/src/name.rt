@@ -4,7 +4,9 @@ ghost use Rattle.std.specs.List.{flat_map};
 ghost use Rattle.hex.specs.Hex.{encode_lower};
 ghost use Rattle.jser_prim.specs.Bytes.{big_bytes};
 ghost use Rattle.jser_shown.specs.Words.{quoted_unit};
+ghost use Rattle.jser_printer.specs.Names.{told_text};
 
+use crate::text::Text;
 use arrayvec::ArrayVec;
 use byteorder::{BigEndian, ByteOrder};
 use std::alloc::{AllocError, Global};
@@ -13,12 +15,14 @@ use std::marker::Model;
 /// How many bytes a unit has in a quoted text at most.
 const LONGEST: usize = 6;
 
-/// The name of a class or of a field. Contracts see its UTF-16 units; what these are in a quoted text is kept beside them,
-/// since the same name is written for each object.
+/// The name of a class or of a field. Contracts see its UTF-16 units; what is kept is what these are in a quoted text, since
+/// the same name is written for each object.
 #[derive(Drop)]
 pub struct Name {
-    units: Vec<u16>,
     quoted: Vec<u8>,
+    /// Whether its units are what is quoted, and no others are kept.
+    is_plain: bool,
+    units: Vec<u16>,
 }
 
 impl Model for Name {
@@ -26,13 +30,15 @@ impl Model for Name {
 
     ghost Value = { List ℕ };
 
-    ghost view = { λ a. a.units.items };
+    ghost use Rattle.jser_printer.specs.Names.{units_of};
+
+    ghost view = { λ a. units_of a.is_plain a.quoted.items a.units.items };
 
     ghost use Rattle.std.specs.Prelude.{◌≡◌};
     ghost use Rattle.std.specs.List.{flat_map};
     ghost use Rattle.jser_shown.specs.Words.{quoted_unit};
 
-    ghost invariant = { λ a. a.quoted.items ≡ flat_map quoted_unit a.units.items };
+    ghost invariant = { λ a. a.quoted.items ≡ flat_map quoted_unit (units_of a.is_plain a.quoted.items a.units.items) };
 }
 
 impl Name {
@@ -41,22 +47,32 @@ impl Name {
         ensures { result ≡ [] }
     {
         Name {
-            units: Vec::new(alloc),
             quoted: Vec::new(alloc),
+            is_plain: true,
+            units: Vec::new(alloc),
         }
     }
 
-    /// The name of these units.
+    /// The name that is this text.
     ///
     /// # Errors
     ///
     /// Where memory runs out.
-    pub fn new(alloc: Global, units: &[u16]) -> Result<Name, AllocError>
-        ensures { IfOk result (λ name. name ≡ units.now) }
+    pub(crate) fn new(alloc: Global, text: Text<'_>) -> Result<Name, AllocError>
+        ensures { IfOk result (λ name. name ≡ told_text text.entry) }
     {
-        let quoted = quoted_units(alloc, units)?;
-        let units = units.to_vec(alloc)?;
-        Ok(Name { units, quoted })
+        match text {
+            Text::Plain(plain) => Ok(Name {
+                quoted: plain.bytes().to_vec(alloc)?,
+                is_plain: true,
+                units: Vec::new(alloc),
+            }),
+            Text::Units(units) => Ok(Name {
+                quoted: quoted_units(alloc, units)?,
+                is_plain: false,
+                units: units.to_vec(alloc)?,
+            }),
+        }
     }
 
     /// What its units are in a quoted text, without the quotes.
@@ -82,7 +98,7 @@ fn quoted_units(alloc: Global, units: &[u16]) -> Result<Vec<u8>, AllocError>
 
 /// What a unit is in a quoted text: units from 0020 to 007E stand for themselves, but for `\"` and `\\`, and any other
 /// unit is `\u` and four digits.
-pub fn quoted_unit(unit: u16) -> ArrayVec<u8, LONGEST>
+pub(crate) fn quoted_unit(unit: u16) -> ArrayVec<u8, LONGEST>
     ensures { result.items ≡ quoted_unit unit }
 {
     match unit {

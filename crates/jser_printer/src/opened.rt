@@ -5,9 +5,9 @@ use crate::frame::{Frame, Stage};
 use crate::layer::{Layer, NamedField, next_raw, next_value};
 use crate::name::Name;
 use crate::phase::Phase;
+use crate::printer::Printer;
 use crate::standing::Standing;
 use crate::table::Table;
-use crate::printer::Printer;
 use std::alloc::{AllocError, Global};
 
 /// What has begun and not ended. A class has no name where it is a proxy class.

@@ -1,34 +1,32 @@
-//! The printer: where it stands, and its steps.
-ghost use Rattle.std.specs.Prelude.{◌≡◌, ℕ, List, Bool, true, false, ◌∷◌, [], length, Some, None, OnOk};
-ghost use Rattle.jser_reading.specs.Labels.{StreamField, handle_field, text_field};
-ghost use Rattle.jser_shown.specs.Telling.{begin_telling, goes, first_owner};
-ghost use Rattle.jser_printer.specs.Given.{IsOf, told_node, told_nodes};
+//! The printer: where it stands in a stream, in a phase before what is open.
+ghost use Rattle.std.specs.Prelude.{◌≡◌, Bool, Some, OnOk, OnErr};
+ghost use Rattle.jser_reading.specs.Labels.{StreamField, text_field};
+ghost use Rattle.jser_shown.specs.Telling.{begin_telling, goes, says, settle_says, settled};
+ghost use Rattle.jser_printer.specs.Given.{IsOf, told_nodes};
+ghost use Rattle.jser_printer.specs.Passing.{PlaceIs, says_next};
+ghost use Rattle.jser_printer.specs.Says.{BeginsTo, SaysTo};
 ghost use Rattle.jser_printer.specs.Seen.{Sees};
-ghost use Rattle.jser_printer.specs.Steps.{due, pass};
-ghost use Rattle.jser_printer.specs.Prompts.{handle_prompt, prompt_of, string_prompt};
-ghost use Rattle.jser_printer.specs.Views.{view_due, view_prompt};
 
 mod descriptors;
 mod passing;
-mod sections;
 mod taking;
 
 use crate::draft::Draft;
-use crate::due::Due;
 use crate::field::Field;
 use crate::owner::OwnerNode;
-use crate::phase::{Over, Phase};
-use crate::prompt::Prompt;
+use crate::phase::Phase;
 use crate::seen::{Seen, see};
 use crate::standing::Standing;
+use crate::text::{Plain, Text};
+use crate::words::tag::Place;
+use jser_prim::{Outbox, Sink};
 use std::alloc::{AllocError, Global};
 use std::marker::Model;
 
-/// Goes along the fields of a stream, and knows at each what it is for.
+/// Goes along the fields of a stream, and says what `show` writes of them.
 ///
-/// It asks no field whether it is right: on other fields than those of a stream it goes somewhere else, and never
-/// stops. What it keeps is the table of handles of the epoch, with the names of classes and fields, and the stack of
-/// what is open.
+/// It asks no field whether it is right: on other fields than those of a stream it says something else, and never stops.
+/// What it keeps is the table of handles of the epoch, with the names of classes and fields, and the stack of what is open.
 #[derive(Drop)]
 pub struct Printer<'a> {
     pub(crate) phase: Phase,
@@ -59,142 +57,115 @@ impl<'a> Printer<'a> {
         }
     }
 
-    /// The epoch: how many resets came.
-    #[inline(always)]
-    pub fn epoch(&self) -> u64
-        ensures { result ≡ self.now.epoch }
-    {
-        self.standing.epoch()
-    }
-
-    /// How many handles of the epoch are assigned.
-    #[inline(always)]
-    pub fn count(&self) -> usize
-        ensures { result ≡ length self.now.known }
-    {
-        self.standing.count()
-    }
-
-    /// The owner whose tag comes next, or one of zeros where no owners are left.
-    #[inline(always)]
-    pub fn first_owner(&self) -> OwnerNode
-        ensures { told_node result ≡ first_owner self.now.owners }
-    {
-        self.standing.first_owner()
-    }
-
-    /// What is due where no field belongs to what comes next; None where the printer waits for a field.
-    #[inline(always)]
-    pub fn due(&self) -> Option<Due<'_>>
-        ensures { view_due result ≡ due self.now }
-    {
-        match self.phase {
-            Phase::Frames => self.standing.due(),
-            Phase::Fields { left, over, .. } => match over {
-                Over::LineEnd => Some(Due::LineEnd),
-                Over::TypeWord => Some(Due::TypeWord),
-                Over::Nothing => { if left == 0 { Some(Due::Quiet) } else { None } }
-                Over::Place => None,
-                Over::Text => None,
-                Over::Handle => None,
-            },
-            Phase::Interfaces { left, .. } => { if left == 0 { Some(Due::Quiet) } else { None } }
-            _ => None,
-        }
-    }
-
-    /// What the next field is wanted for.
-    #[inline(always)]
-    pub fn prompt(&self) -> Prompt<'_>
-        ensures { view_prompt result ≡ prompt_of self.now }
-    {
-        match self.phase {
-            Phase::Frames => self.standing.prompt(),
-            Phase::Header => Prompt::Header,
-            Phase::Handle => Prompt::Handle,
-            Phase::Text => Prompt::Text,
-            Phase::BlockLength => Prompt::BlockLength,
-            Phase::Block => Prompt::Block,
-            Phase::ArrayLength { .. } => Prompt::ArrayLength,
-            Phase::EnumName { level } => Prompt::EnumName { level },
-            Phase::Class { level, .. } => Prompt::Class { level },
-            Phase::ClassHandle { .. } => Prompt::Handle,
-            Phase::ClassName { .. } => Prompt::ClassName,
-            Phase::Suid { .. } => Prompt::Suid,
-            Phase::Flags { .. } => Prompt::Flags,
-            Phase::FieldCount { .. } => Prompt::FieldCount,
-            Phase::Fields { head, over, .. } => match over {
-                Over::Nothing => Prompt::TypeCode { level: head.level },
-                Over::Place => Prompt::TypeText,
-                Over::Text => Prompt::Text,
-                Over::Handle => Prompt::Handle,
-                Over::LineEnd => Prompt::Due,
-                Over::TypeWord => Prompt::Due,
-            },
-            Phase::FieldName { .. } => Prompt::FieldName,
-            Phase::InterfaceCount { .. } => Prompt::InterfaceCount,
-            Phase::Interfaces { head, .. } => Prompt::Interface { level: head.level },
-        }
-    }
-
-    /// Goes past the units of a string, whatever these are, where they are waited for. False where something else is.
-    #[inline(always)]
-    pub fn pass_string(&mut self) -> bool
-        ensures waited { result ≡ true → prompt_of self.old ≡ string_prompt }
-        ensures goes { result ≡ true → (long : Bool) → (units : List ℕ) → self.new ≡ goes self.old (text_field long units) }
-        ensures kept { result ≡ false → self.new ≡ self.old }
-    {
-        match self.phase {
-            Phase::Text => {
-                self.phase = Phase::Frames;
-                true
-            }
-            _ => false,
-        }
-    }
-
-    /// Goes past the handle of a reference, whichever it is, where it is waited for and nothing is made of it. False where
-    /// something else is.
-    #[inline(always)]
-    pub fn pass_handle(&mut self) -> bool
-        ensures waited { result ≡ true → prompt_of self.old ≡ handle_prompt }
-        ensures goes { result ≡ true → (number : ℕ) → self.new ≡ goes self.old (handle_field number) }
-        ensures kept { result ≡ false → self.new ≡ self.old }
-    {
-        match self.phase {
-            Phase::Handle => {
-                self.phase = Phase::Frames;
-                true
-            }
-            _ => false,
-        }
-    }
-
-    /// Goes past what is seen of a field.
+    /// Says all that is due before a field, and then the field, and goes past it: what the teller says of it, and where it
+    /// goes.
     ///
     /// # Errors
     ///
-    /// Where memory runs out.
-    #[tactic(auto, using(crate::proofs::WalkLemmas::goes_seen))]
+    /// Where memory runs out. What was said before is a beginning of that, and the printer is of no use then.
     #[inline(always)]
-    pub fn take_seen(&mut self, seen: Seen<'_>) -> Result<(), AllocError>
-        ensures { OnOk result ((told : StreamField) → Sees (Some seen.entry) told → self.new ≡ goes self.old told) }
-    {
-        self.go_past(seen)
-    }
-
-    /// Goes past a field.
-    ///
-    /// # Errors
-    ///
-    /// Where memory runs out.
-    #[inline(always)]
-    pub fn take(&mut self, field: Field<'_>) -> Result<(), AllocError>
-        ensures { OnOk result ((told : StreamField) → IsOf field.entry told → self.new ≡ goes self.old told) }
+    pub fn say_next<W: Sink>(
+        &mut self,
+        outbox: &mut Outbox,
+        sink: &mut W,
+        field: Field<'_>,
+    ) -> Result<(), AllocError>
+        ensures said { OnOk result ((told : StreamField) → IsOf field.entry told
+            → SaysTo W.gone_out W.has_failed outbox.old outbox.new sink.old sink.new (λ k. says_next self.old told k)) }
+        ensures goes { OnOk result ((told : StreamField) → IsOf field.entry told → self.new ≡ goes (settled self.old) told) }
+        ensures front { OnErr result ((told : StreamField) → IsOf field.entry told
+            → BeginsTo W.gone_out W.has_failed outbox.old outbox.new sink.old sink.new (λ k. says_next self.old told k)) }
     {
         match see(field) {
-            Some(seen) => self.take_seen(seen),
+            Some(seen) => self.say_seen(outbox, sink, seen),
             None => Ok(()),
+        }
+    }
+
+    /// Says a text that is given by its bytes, with all that is due before it, and goes past it.
+    ///
+    /// # Errors
+    ///
+    /// As `say_next`.
+    #[inline(always)]
+    pub fn say_plain<W: Sink>(
+        &mut self,
+        outbox: &mut Outbox,
+        sink: &mut W,
+        plain: Plain<'_>,
+    ) -> Result<(), AllocError>
+        ensures said { OnOk result ((long : Bool)
+            → SaysTo W.gone_out W.has_failed outbox.old outbox.new sink.old sink.new (λ k. says_next self.old (text_field long plain.entry.bytes.now) k)) }
+        ensures goes { OnOk result ((long : Bool) → self.new ≡ goes (settled self.old) (text_field long plain.entry.bytes.now)) }
+        ensures front { OnErr result ((long : Bool)
+            → BeginsTo W.gone_out W.has_failed outbox.old outbox.new sink.old sink.new (λ k. says_next self.old (text_field long plain.entry.bytes.now) k)) }
+    {
+        self.say_seen(outbox, sink, Seen::Text(Text::Plain(plain)))
+    }
+
+    /// Says all that is due before the next field, and settles.
+    ///
+    /// # Errors
+    ///
+    /// Where memory runs out. What was said before is a beginning of what is due.
+    #[inline(always)]
+    pub fn say_all_due<W: Sink>(
+        &mut self,
+        outbox: &mut Outbox,
+        sink: &mut W,
+    ) -> Result<(), AllocError>
+        ensures said { OnOk result (SaysTo W.gone_out W.has_failed outbox.old outbox.new sink.old sink.new (λ k. settle_says self.old.known self.old.cues k)) }
+        ensures settled { OnOk result (self.new ≡ settled self.old) }
+        ensures front { OnErr result (BeginsTo W.gone_out W.has_failed outbox.old outbox.new sink.old sink.new (λ k. settle_says self.old.known self.old.cues k)) }
+    {
+        'dues: while self.say_one_due(outbox, sink)? {}
+        Ok(())
+    }
+
+    /// Says what is seen of a field, with all that is due before it.
+    #[inline(never)]
+    fn say_seen<W: Sink>(
+        &mut self,
+        outbox: &mut Outbox,
+        sink: &mut W,
+        seen: Seen<'_>,
+    ) -> Result<(), AllocError>
+        ensures said { OnOk result ((told : StreamField) → Sees (Some seen.entry) told
+            → SaysTo W.gone_out W.has_failed outbox.old outbox.new sink.old sink.new (λ k. says_next self.old told k)) }
+        ensures goes { OnOk result ((told : StreamField) → Sees (Some seen.entry) told → self.new ≡ goes (settled self.old) told) }
+        ensures front { OnErr result ((told : StreamField) → Sees (Some seen.entry) told
+            → BeginsTo W.gone_out W.has_failed outbox.old outbox.new sink.old sink.new (λ k. says_next self.old told k)) }
+    {
+        self.say_all_due(outbox, sink)?;
+        self.say_settled(outbox, sink, seen)
+    }
+
+    /// Says what is seen of a field, where nothing is due.
+    #[tactic(auto, using(crate::proofs::WalkLemmas::goes_seen))]
+    #[inline(always)]
+    fn say_settled<W: Sink>(
+        &mut self,
+        outbox: &mut Outbox,
+        sink: &mut W,
+        seen: Seen<'_>,
+    ) -> Result<(), AllocError>
+        ensures said { (told : StreamField) → Sees (Some seen.entry) told
+            → SaysTo W.gone_out W.has_failed outbox.old outbox.new sink.old sink.new (λ k. says self.old told k) }
+        ensures goes { OnOk result ((told : StreamField) → Sees (Some seen.entry) told → self.new ≡ goes self.old told) }
+    {
+        let place = self.place();
+        self.say_here(outbox, sink, place, seen)
+    }
+
+    /// What the words of a tag need of the printer.
+    #[inline(always)]
+    fn place(&self) -> Place
+        ensures { PlaceIs result self.now }
+    {
+        Place {
+            epoch: self.standing.epoch(),
+            next: self.standing.count() as u64,
+            owner: self.standing.first_owner(),
         }
     }
 }

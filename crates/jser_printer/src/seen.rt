@@ -6,6 +6,7 @@ ghost use Rattle.jser_printer.specs.Seen.{Sees, tag_seen, told_seen};
 ghost use Rattle.std.specs.Prelude.{◌≡◌, option_map};
 
 use crate::field::Field;
+use crate::text::Text;
 use jser_grammar::wire::{
     BASE_WIRE_HANDLE, TC_ARRAY, TC_BLOCKDATA, TC_BLOCKDATALONG, TC_CLASS, TC_CLASSDESC,
     TC_ENDBLOCKDATA, TC_ENUM, TC_LONGSTRING, TC_NULL, TC_OBJECT, TC_PROXYCLASSDESC, TC_REFERENCE,
@@ -13,8 +14,8 @@ use jser_grammar::wire::{
 };
 
 /// A tag that begins a value, or stands in a class place or a text place.
-#[derive(Clone, Copy, PartialEq, Eq, Hash, Debug)]
-pub enum Tag {
+#[derive(Clone, Copy)]
+pub(crate) enum Tag {
     /// TC_NULL.
     Null,
     /// TC_REFERENCE.
@@ -38,8 +39,8 @@ pub enum Tag {
 }
 
 /// What is seen of a field.
-#[derive(Clone, Copy, PartialEq, Eq, Hash, Debug)]
-pub enum Seen<'f> {
+#[derive(Clone, Copy)]
+pub(crate) enum Seen<'f> {
     /// The header.
     Header,
     /// The tag of a value.
@@ -66,8 +67,8 @@ pub enum Seen<'f> {
     TypeCode(u8),
     /// The number of bytes of a block.
     BlockLength(u32),
-    /// The UTF-16 units of a text.
-    Text(&'f [u16]),
+    /// A text.
+    Text(Text<'f>),
     /// The bytes of raw values or of a block.
     Bytes(&'f [u8]),
 }
@@ -75,7 +76,7 @@ pub enum Seen<'f> {
 /// What is seen of a field; None of one that no stream has.
 #[tactic(auto, using(crate::proofs::SeenLemmas::sees_tag))]
 #[inline(always)]
-pub fn see(field: Field<'_>) -> Option<Seen<'_>>
+pub(crate) fn see(field: Field<'_>) -> Option<Seen<'_>>
     ensures { (told : StreamField) → IsOf field.entry told → Sees result told }
 {
     match field {
@@ -92,7 +93,7 @@ pub fn see(field: Field<'_>) -> Option<Seen<'_>>
         Field::ArrayLength(length) => Some(Seen::ArrayLength(length)),
         Field::TypeCode(code) => Some(Seen::TypeCode(code)),
         Field::BlockLength(length) => Some(Seen::BlockLength(length)),
-        Field::Text(units) => Some(Seen::Text(units)),
+        Field::Text(units) => Some(Seen::Text(Text::Units(units))),
         Field::Raw(bytes) => Some(Seen::Bytes(bytes)),
     }
 }

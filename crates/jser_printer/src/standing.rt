@@ -11,9 +11,7 @@ ghost use Rattle.jser_printer.specs.Phases.{StandsIn};
 
 mod passing;
 mod places;
-mod sections;
 mod taking;
-mod waiting;
 
 use crate::frame::Frame;
 use crate::layer::Layer;
@@ -135,18 +133,6 @@ impl<'a> Standing<'a> {
             level,
             number,
         })
-    }
-
-    /// Whether nothing is open.
-    #[tactic(auto, using(crate::proofs::TakeLemmas::at_top))]
-    #[inline(always)]
-    pub(crate) fn is_at_top(&self) -> bool
-        ensures { result ≡ true → self.now.cues ≡ top_cue ∷ [] }
-    {
-        match self.frames.top() {
-            None => true,
-            Some(_) => false,
-        }
     }
 
     /// The elements of an array come.

@@ -7,8 +7,8 @@ ghost use Rattle.jser_scan.specs.Answers.{count_words, counts_words, place_words
 use crate::found::Found;
 use jser_inputs::InputFault;
 use jser_prim::{Outbox, Sink};
-use jser_reader::{Reason, Totals};
 use jser_printer::{say, say_decimal, say_quoted};
+use jser_reader::{Reason, Totals};
 
 /// Says what was found.
 #[tactic(auto, using(crate::proofs::ScanLemmas::says_refused, crate::proofs::ScanLemmas::says_hidden))]

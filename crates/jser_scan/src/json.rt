@@ -8,8 +8,8 @@ use crate::answer::{say_answer, say_count, say_reason};
 use crate::found::Found;
 use crate::path::FilePath;
 use jser_prim::{Outbox, Sink};
-use jser_reader::{Refusal, Totals};
 use jser_printer::{say, say_quoted};
+use jser_reader::{Refusal, Totals};
 
 /// Says the object of a file, on a line.
 pub(crate) fn say_object<W: Sink>(outbox: &mut Outbox, sink: &mut W, path: &FilePath, found: &Found)

@@ -9,10 +9,10 @@ use crate::found::Found;
 use crate::line::{say_line, say_path};
 use crate::path::FilePath;
 use jser_prim::{Failed, Outbox, Sink, give_all};
+use jser_printer::{say, say_quoted};
 use jser_reader::Stop;
 use jser_settings::{ACCEPTED, FAILED, REFUSED, tell_failure};
 use jser_suggest::{SampleFault, Samples};
-use jser_printer::{say, say_quoted};
 use std::alloc::{AllocError, Global};
 
 /// Prints the filter that is suggested, in a line, and returns the status: 0, or 3 where the output failed or memory ran out,

@@ -17,7 +17,6 @@ mod example;
 mod memory;
 mod rows;
 mod show;
-mod walks;
 mod words;
 
 /// The graph of a stream that is accepted.

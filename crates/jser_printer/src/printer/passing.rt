@@ -1,24 +1,39 @@
-//! The steps that need no field.
-ghost use Rattle.std.specs.Prelude.{◌≡◌, OnOk};
-ghost use Rattle.jser_printer.specs.Steps.{pass};
+//! What is due between two fields.
+ghost use Rattle.std.specs.Prelude.{IfOk};
+ghost use Rattle.jser_printer.specs.Passing.{Passed};
+ghost use Rattle.jser_printer.specs.Says.{SaysTo};
+ghost use Rattle.jser_printer.specs.Steps.{due, due_says};
 
 use crate::layer::Layer;
 use crate::phase::{Over, Phase};
 use crate::printer::Printer;
+use crate::words::line::say;
+use jser_prim::{Outbox, Sink};
 use std::alloc::AllocError;
 
 impl<'a> Printer<'a> {
-    /// Does what is due; nothing where nothing is.
+    /// Says what is due next where no field belongs to it, and does it. The answer is whether anything was due.
     ///
     /// # Errors
     ///
-    /// Where memory runs out. The printer is of no use then.
+    /// Where memory runs out. What is due was said then.
     #[inline(always)]
-    pub fn pass(&mut self) -> Result<(), AllocError>
-        ensures { OnOk result (self.new ≡ pass self.old) }
+    pub(crate) fn say_one_due<W: Sink>(
+        &mut self,
+        outbox: &mut Outbox,
+        sink: &mut W,
+    ) -> Result<bool, AllocError>
+        ensures said { SaysTo W.gone_out W.has_failed outbox.old outbox.new sink.old sink.new (λ k. due_says (due self.old) k) }
+        ensures passed { IfOk result (λ more. Passed more self.old self.new) }
     {
         match self.phase {
-            Phase::Frames => self.phase = self.standing.pass()?,
+            Phase::Frames => match self.standing.say_due(outbox, sink)? {
+                Some(phase) => {
+                    self.phase = phase;
+                    Ok(true)
+                }
+                None => Ok(false),
+            },
             Phase::Fields {
                 head,
                 flags,
@@ -26,40 +41,47 @@ impl<'a> Printer<'a> {
                 over,
             } => match over {
                 Over::LineEnd => {
+                    say(outbox, sink, b"\n");
                     self.phase = Phase::Fields {
                         head,
                         flags,
                         left,
                         over: Over::Nothing,
                     };
+                    Ok(true)
                 }
                 Over::TypeWord => {
+                    say(outbox, sink, b" type ");
                     self.phase = Phase::Fields {
                         head,
                         flags,
                         left,
                         over: Over::Place,
                     };
+                    Ok(true)
                 }
                 Over::Nothing => {
-                    if left == 0 {
-                        let layer = self.draft.finish(flags);
-                        self.standing.end_fields(head, layer)?;
-                        self.phase = Phase::Frames;
+                    if left > 0 {
+                        return Ok(false);
                     }
+                    let layer = self.draft.finish(flags);
+                    self.standing.end_fields(head, layer)?;
+                    self.phase = Phase::Frames;
+                    Ok(true)
                 }
-                Over::Place => (),
-                Over::Text => (),
-                Over::Handle => (),
+                Over::Place => Ok(false),
+                Over::Text => Ok(false),
+                Over::Handle => Ok(false),
             },
             Phase::Interfaces { head, left } => {
-                if left == 0 {
-                    self.standing.end_fields(head, Layer::Proxy)?;
-                    self.phase = Phase::Frames;
+                if left > 0 {
+                    return Ok(false);
                 }
+                self.standing.end_fields(head, Layer::Proxy)?;
+                self.phase = Phase::Frames;
+                Ok(true)
             }
-            _ => (),
+            _ => Ok(false),
         }
-        Ok(())
     }
 }

@@ -1,131 +1,193 @@
 //! Fields, by the phase.
 ghost use Rattle.std.specs.Prelude.{◌≡◌, OnOk};
-ghost use Rattle.jser_shown.specs.Telling.{goes_in};
-ghost use Rattle.jser_printer.specs.Seen.{told_seen};
+ghost use Rattle.jser_shown.specs.Telling.{block_length_says, block_says, goes_in, handle_says, header_says, string_says};
+ghost use Rattle.jser_printer.specs.FieldWords.{field_words};
 ghost use Rattle.jser_printer.specs.Phases.{Leads, in_phase, phase_cues};
+ghost use Rattle.jser_printer.specs.Says.{SaysTo};
+ghost use Rattle.jser_printer.specs.Seen.{told_seen};
 
 use crate::draft::Draft;
 use crate::phase::Phase;
-use crate::seen::Seen;
-use crate::standing::Standing;
 use crate::printer::Printer;
 use crate::printer::descriptors::{
-    take_class_name, take_field, take_field_count, take_field_name, take_flags, take_interface,
-    take_interface_count, take_suid,
+    say_class_field, say_class_name, say_field_name, say_flags, say_interface, say_suid,
+    take_field_count, take_interface_count,
 };
+use crate::seen::Seen;
+use crate::standing::Standing;
+use crate::words::line::say;
+use crate::words::number::say_mark_line;
+use crate::words::quote::say_text_line;
+use crate::words::tag::Place;
+use crate::words::value::{say_block_length, say_raw};
+use jser_prim::{Outbox, Sink};
 use std::alloc::AllocError;
 
 /// The header of the stream.
+#[tactic(auto, using(crate::proofs::SaysLemmas::says_nothing))]
 #[inline(always)]
-fn take_header(seen: Seen<'_>) -> Phase
-    ensures { Leads Phase.Header result (told_seen seen.entry) }
+fn say_header<W: Sink>(outbox: &mut Outbox, sink: &mut W, seen: Seen<'_>) -> Phase
+    ensures said { SaysTo W.gone_out W.has_failed outbox.old outbox.new sink.old sink.new (λ k. header_says (told_seen seen.entry) k) }
+    ensures leads { Leads Phase.Header result (told_seen seen.entry) }
 {
     match seen {
-        Seen::Header => Phase::Frames,
+        Seen::Header => {
+            say(outbox, sink, b"stream version 5\n");
+            Phase::Frames
+        }
         _ => Phase::Header,
     }
 }
 
 /// The handle of a reference.
+#[tactic(auto, using(crate::proofs::SaysLemmas::says_nothing))]
 #[inline(always)]
-fn take_handle(seen: Seen<'_>) -> Phase
-    ensures { Leads Phase.Handle result (told_seen seen.entry) }
+fn say_handle<W: Sink>(outbox: &mut Outbox, sink: &mut W, epoch: u64, seen: Seen<'_>) -> Phase
+    ensures said { SaysTo W.gone_out W.has_failed outbox.old outbox.new sink.old sink.new (λ k. handle_says epoch (told_seen seen.entry) k) }
+    ensures leads { Leads Phase.Handle result (told_seen seen.entry) }
 {
     match seen {
-        Seen::Handle(_) => Phase::Frames,
+        Seen::Handle(number) => {
+            say_mark_line(outbox, sink, epoch, number as u64);
+            Phase::Frames
+        }
         _ => Phase::Handle,
     }
 }
 
 /// The units of a string.
+#[tactic(auto, using(crate::proofs::SaysLemmas::says_nothing))]
 #[inline(always)]
-fn take_text(seen: Seen<'_>) -> Phase
-    ensures { Leads Phase.Text result (told_seen seen.entry) }
+fn say_string<W: Sink>(outbox: &mut Outbox, sink: &mut W, seen: Seen<'_>) -> Phase
+    ensures said { SaysTo W.gone_out W.has_failed outbox.old outbox.new sink.old sink.new (λ k. string_says (told_seen seen.entry) k) }
+    ensures leads { Leads Phase.Text result (told_seen seen.entry) }
 {
     match seen {
-        Seen::Text(_) => Phase::Frames,
+        Seen::Text(text) => {
+            say_text_line(outbox, sink, text);
+            Phase::Frames
+        }
         _ => Phase::Text,
     }
 }
 
 /// The length of a block.
+#[tactic(auto, using(crate::proofs::SaysLemmas::says_nothing))]
 #[inline(always)]
-fn take_block_length(seen: Seen<'_>) -> Phase
-    ensures { Leads Phase.BlockLength result (told_seen seen.entry) }
+fn say_length<W: Sink>(outbox: &mut Outbox, sink: &mut W, seen: Seen<'_>) -> Phase
+    ensures said { SaysTo W.gone_out W.has_failed outbox.old outbox.new sink.old sink.new (λ k. block_length_says (told_seen seen.entry) k) }
+    ensures leads { Leads Phase.BlockLength result (told_seen seen.entry) }
 {
     match seen {
-        Seen::BlockLength(0) => Phase::Frames,
-        Seen::BlockLength(_) => Phase::Block,
+        Seen::BlockLength(length) => {
+            say_block_length(outbox, sink, length);
+            if length == 0 {
+                Phase::Frames
+            } else {
+                Phase::Block
+            }
+        }
         _ => Phase::BlockLength,
     }
 }
 
 /// The bytes of a block.
+#[tactic(auto, using(crate::proofs::SaysLemmas::says_nothing))]
 #[inline(always)]
-fn take_block(seen: Seen<'_>) -> Phase
-    ensures { Leads Phase.Block result (told_seen seen.entry) }
+fn say_block<W: Sink>(outbox: &mut Outbox, sink: &mut W, seen: Seen<'_>) -> Phase
+    ensures said { SaysTo W.gone_out W.has_failed outbox.old outbox.new sink.old sink.new (λ k. block_says (told_seen seen.entry) k) }
+    ensures leads { Leads Phase.Block result (told_seen seen.entry) }
 {
     match seen {
-        Seen::Bytes(_) => Phase::Frames,
+        Seen::Bytes(bytes) => {
+            say_raw(outbox, sink, bytes);
+            Phase::Frames
+        }
         _ => Phase::Block,
     }
 }
 
-/// Goes past what is seen of a field in this phase, to the phase behind it.
+/// Says what is seen of a field in this phase, and goes past it to the phase behind it.
+#[tactic(auto, using(crate::proofs::SaysLemmas::says_nothing))]
 #[inline(always)]
-fn take_in_phase(
+fn say_in_phase<W: Sink>(
+    outbox: &mut Outbox,
+    sink: &mut W,
+    place: Place,
     phase: &mut Phase,
     draft: &mut Draft,
     standing: &mut Standing<'_>,
     seen: Seen<'_>,
 ) -> Result<(), AllocError>
-    ensures { OnOk result (in_phase phase.new draft.new.name draft.new.done standing.new ≡ goes_in standing.old.epoch standing.old.known standing.old.owners (phase_cues phase.old draft.old.name draft.old.done standing.old.cues) (told_seen seen.entry)) }
+    ensures said { SaysTo W.gone_out W.has_failed outbox.old outbox.new sink.old sink.new (λ k. field_words place (phase_cues phase.old draft.old.name draft.old.done standing.old.cues) (told_seen seen.entry) k) }
+    ensures goes { OnOk result (in_phase phase.new draft.new.name draft.new.done standing.new ≡ goes_in standing.old.epoch standing.old.known standing.old.owners (phase_cues phase.old draft.old.name draft.old.done standing.old.cues) (told_seen seen.entry)) }
 {
     match *phase {
-        Phase::Frames => *phase = standing.take(seen)?,
-        Phase::Header => *phase = take_header(seen),
-        Phase::Handle => *phase = take_handle(seen),
-        Phase::Text => *phase = take_text(seen),
-        Phase::BlockLength => *phase = take_block_length(seen),
-        Phase::Block => *phase = take_block(seen),
+        Phase::Frames => *phase = standing.say_field(outbox, sink, place, seen)?,
+        Phase::Header => *phase = say_header(outbox, sink, seen),
+        Phase::Handle => *phase = say_handle(outbox, sink, place.epoch, seen),
+        Phase::Text => *phase = say_string(outbox, sink, seen),
+        Phase::BlockLength => *phase = say_length(outbox, sink, seen),
+        Phase::Block => *phase = say_block(outbox, sink, seen),
         Phase::ArrayLength { level } => *phase = standing.take_array_length(level, seen)?,
-        Phase::EnumName { level } => *phase = standing.take_enum_name(level, seen)?,
-        Phase::Class { owner, level } => *phase = standing.take_class(owner, level, seen)?,
-        Phase::ClassHandle { owner, level } => {
-            *phase = standing.take_class_handle(owner, level, seen)?;
+        Phase::EnumName { level } => {
+            *phase = standing.say_enum_name(outbox, sink, place, level, seen)?;
         }
-        Phase::ClassName { level } => *phase = take_class_name(draft, level, seen)?,
-        Phase::Suid { level } => *phase = take_suid(standing, level, seen)?,
-        Phase::Flags { head } => *phase = take_flags(head, seen),
+        Phase::Class { owner, level } => {
+            *phase = standing.say_class(outbox, sink, place, owner, level, seen)?;
+        }
+        Phase::ClassHandle { owner, level } => {
+            *phase = standing.say_class_handle(outbox, sink, place.epoch, owner, level, seen)?;
+        }
+        Phase::ClassName { level } => *phase = say_class_name(outbox, sink, draft, level, seen)?,
+        Phase::Suid { level } => *phase = say_suid(outbox, sink, standing, level, seen)?,
+        Phase::Flags { head } => *phase = say_flags(outbox, sink, head, seen),
         Phase::FieldCount { head, flags } => *phase = take_field_count(draft, head, flags, seen),
         Phase::Fields {
             head,
             flags,
             left,
             over,
-        } => *phase = take_field(standing, head, flags, left, over, seen)?,
+        } => *phase = say_class_field(
+            outbox, sink, place, standing, head, flags, left, over, seen,
+        )?,
         Phase::FieldName {
             head,
             flags,
             code,
             left,
-        } => *phase = take_field_name(draft, head, flags, code, left, seen)?,
+        } => *phase = say_field_name(outbox, sink, draft, head, flags, code, left, seen)?,
         Phase::InterfaceCount { head } => *phase = take_interface_count(head, seen),
-        Phase::Interfaces { head, left } => *phase = take_interface(head, left, seen),
+        Phase::Interfaces { head, left } => *phase = say_interface(outbox, sink, head, left, seen),
     }
     Ok(())
 }
 
 impl<'a> Printer<'a> {
-    /// Goes past what is seen of a field.
+    /// Says what is seen of a field, and goes past it.
     ///
     /// # Errors
     ///
-    /// Where memory runs out.
-    #[inline(never)]
-    pub(crate) fn go_past(&mut self, seen: Seen<'_>) -> Result<(), AllocError>
-        ensures { OnOk result (self.new ≡ goes_in self.old.epoch self.old.known self.old.owners self.old.cues (told_seen seen.entry)) }
+    /// Where memory runs out. The field was said then.
+    #[inline(always)]
+    pub(crate) fn say_here<W: Sink>(
+        &mut self,
+        outbox: &mut Outbox,
+        sink: &mut W,
+        place: Place,
+        seen: Seen<'_>,
+    ) -> Result<(), AllocError>
+        ensures said { SaysTo W.gone_out W.has_failed outbox.old outbox.new sink.old sink.new (λ k. field_words place self.old.cues (told_seen seen.entry) k) }
+        ensures goes { OnOk result (self.new ≡ goes_in self.old.epoch self.old.known self.old.owners self.old.cues (told_seen seen.entry)) }
     {
-        take_in_phase(&mut self.phase, &mut self.draft, &mut self.standing, seen)
+        say_in_phase(
+            outbox,
+            sink,
+            place,
+            &mut self.phase,
+            &mut self.draft,
+            &mut self.standing,
+            seen,
+        )
     }
 }

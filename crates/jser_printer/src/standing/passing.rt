@@ -1,13 +1,14 @@
-//! The steps that need no field.
+//! What is due on a stack where no field belongs to it.
 ghost use Rattle.std.specs.Prelude.{◌≡◌, ◌∷◌, ◌<◌, ℕ, List, length, OnOk, IfOk};
 ghost use Rattle.jser_shown.specs.Known.{Known, classes_at, is_external_chain};
 ghost use Rattle.jser_shown.specs.Owners.{OwnerNode as ToldNode};
 ghost use Rattle.jser_shown.specs.Cues.{teller, parts_cue, made_cue, object_parts};
 ghost use Rattle.jser_printer.specs.Given.{told_owner};
-ghost use Rattle.jser_printer.specs.Steps.{pass, pass_in};
-ghost use Rattle.jser_printer.specs.Frames.{cue_of, cues_of, tail_of, FrameFits, FramesFit, FirstIs};
+ghost use Rattle.jser_printer.specs.Steps.{due, due_in, due_says, pass, pass_in};
+ghost use Rattle.jser_printer.specs.Frames.{cue_of, cues_of, tail_of, FrameFits, FramesFit, FirstIs, PassesTop};
 ghost use Rattle.jser_printer.specs.Phases.{StandsIn};
-ghost use Rattle.jser_printer.specs.Sections.{PassesEnumMade};
+ghost use Rattle.jser_printer.specs.Passing.{PassedTo};
+ghost use Rattle.jser_printer.specs.Says.{SaysTo};
 
 use crate::frame::{Frame, Stage};
 use crate::owner::Owner;
@@ -16,6 +17,8 @@ use crate::phase::Phase;
 use crate::stack::Stack;
 use crate::standing::{Standing, deeper};
 use crate::table::Table;
+use crate::words::section::say_section;
+use jser_prim::{Outbox, Sink};
 use std::alloc::AllocError;
 
 /// The sections of an object whose class is the one with this number.
@@ -42,22 +45,25 @@ fn sections(table: &Table, level: u64, number: usize) -> Frame
     }
 }
 
-/// A step in the sections of an object, which are on top.
-#[tactic(auto, using(crate::proofs::PassLemmas::section_passed, crate::proofs::PassLemmas::notes_passed, crate::proofs::PassLemmas::raw_passed, crate::proofs::PassLemmas::value_passed, crate::proofs::PassLemmas::sections_passed))]
+/// Says what is due in the sections of an object, which are on top, and does it. The answer is whether anything was due.
+#[tactic(auto, using(crate::proofs::PassLemmas::section_passed, crate::proofs::PassLemmas::notes_passed, crate::proofs::PassLemmas::raw_waits, crate::proofs::PassLemmas::value_waits, crate::proofs::PassLemmas::sections_passed, crate::proofs::PassLemmas::section_said, crate::proofs::PassLemmas::notes_due, crate::proofs::PassLemmas::end_due, crate::proofs::PassLemmas::section_is_due))]
 #[inline(always)]
-fn pass_sections(
+fn say_sections<W: Sink>(
+    outbox: &mut Outbox,
+    sink: &mut W,
     table: &Table,
     frames: &mut Stack,
     level: u64,
     chain: u32,
     index: usize,
     stage: Stage,
-) -> Result<(), AllocError>
+) -> Result<bool, AllocError>
     requires chain_in { chain < length table.now.chains }
     requires fit { FramesFit (length table.now.layers) (length table.now.chains) frames.old }
     requires top { frames.old ≡ Frame.Sections level chain index stage ∷ tail_of frames.old }
     ensures fit { FramesFit (length table.now.layers) (length table.now.chains) frames.new }
-    ensures passes { OnOk result ((e : ℕ) (known : Known) (os : List ToldNode) → teller e known os (cues_of table.now.layers table.now.chains frames.new) ≡ pass_in (cues_of table.now.layers table.now.chains frames.old) e known os) }
+    ensures said { SaysTo W.gone_out W.has_failed outbox.old outbox.new sink.old sink.new (λ k. due_says (due_in (cues_of table.now.layers table.now.chains frames.old)) k) }
+    ensures passed { IfOk result (λ more. PassesTop table.now.layers table.now.chains more frames.old frames.new) }
 {
     let next = next_part(table, chain, index, stage);
     let others = Frame::Sections {
@@ -67,35 +73,41 @@ fn pass_sections(
         stage: next.stage,
     };
     match next.part {
-        Part::Section(_) => {
+        Part::Section(name) => {
+            say_section(outbox, sink, level, b"data ", name);
             frames.set_top(others);
-            Ok(())
+            Ok(true)
         }
         Part::Notes => {
             let inner = deeper(level)?;
             frames.set_top(others);
             frames.push(Frame::Notes { level: inner })?;
-            Ok(())
+            Ok(true)
         }
         Part::End => {
             frames.pop();
-            Ok(())
+            Ok(true)
         }
-        Part::Raw(_) => Ok(()),
-        Part::Value(_) => Ok(()),
+        Part::Raw(_) => Ok(false),
+        Part::Value(_) => Ok(false),
     }
 }
 
 impl<'a> Standing<'a> {
-    /// Does what is due; nothing where nothing is.
+    /// Says what is due next, if anything is, and does it: the phase of what comes then.
     ///
     /// # Errors
     ///
-    /// Where memory runs out.
-    #[tactic(auto, using(crate::proofs::PassLemmas::pass_first, crate::proofs::PassLemmas::close_fits, crate::proofs::PassLemmas::close_passed, crate::proofs::FrameLemmas::top_fits, crate::proofs::FrameLemmas::tail_fits))]
+    /// Where memory runs out. What is due was said then.
+    #[tactic(auto, using(crate::proofs::PassLemmas::pass_first, crate::proofs::PassLemmas::close_fits, crate::proofs::PassLemmas::close_passed, crate::proofs::PassLemmas::due_first, crate::proofs::PassLemmas::external_said, crate::proofs::FrameLemmas::top_fits, crate::proofs::FrameLemmas::tail_fits))]
     #[inline(always)]
-    pub(crate) fn pass(&mut self) -> Result<Phase, AllocError>
-        ensures { IfOk result (λ phase. StandsIn phase self.new (pass self.old)) }
+    pub(crate) fn say_due<W: Sink>(
+        &mut self,
+        outbox: &mut Outbox,
+        sink: &mut W,
+    ) -> Result<Option<Phase>, AllocError>
+        ensures said { SaysTo W.gone_out W.has_failed outbox.old outbox.new sink.old sink.new (λ k. due_says (due self.old) k) }
+        ensures passed { IfOk result (λ phase. PassedTo phase self.old self.new) }
     {
         match self.frames.top() {
             Some(
@@ -105,21 +117,50 @@ impl<'a> Standing<'a> {
                     index,
                     stage,
                 },
-            ) => pass_sections(&self.table, &mut self.frames, level, chain, index, stage)?,
+            ) => {
+                let more = say_sections(
+                    outbox,
+                    sink,
+                    &self.table,
+                    &mut self.frames,
+                    level,
+                    chain,
+                    index,
+                    stage,
+                )?;
+                Ok(if more { Some(Phase::Frames) } else { None })
+            }
             Some(Frame::External { level, chain }) => {
+                say_section(
+                    outbox,
+                    sink,
+                    level,
+                    b"external ",
+                    self.table.own(chain).name(),
+                );
                 self.frames.set_top(Frame::ExternalNotes { level, chain });
+                Ok(Some(Phase::Frames))
             }
             Some(Frame::ExternalNotes { level, chain }) => {
                 let inner = deeper(level)?;
                 self.frames.set_top(Frame::ExternalEnd { level, chain });
                 self.frames.push(Frame::Notes { level: inner })?;
+                Ok(Some(Phase::Frames))
             }
-            Some(Frame::ExternalEnd { .. }) => self.frames.pop(),
-            Some(Frame::End { .. }) => self.frames.pop(),
+            Some(Frame::ExternalEnd { .. }) => {
+                self.frames.pop();
+                Ok(Some(Phase::Frames))
+            }
+            Some(Frame::End { .. }) => {
+                self.frames.pop();
+                Ok(Some(Phase::Frames))
+            }
             Some(Frame::Elements { left, .. }) => {
-                if left == 0 {
-                    self.frames.pop();
+                if left > 0 {
+                    return Ok(None);
                 }
+                self.frames.pop();
+                Ok(Some(Phase::Frames))
             }
             Some(
                 Frame::Made {
@@ -127,7 +168,7 @@ impl<'a> Standing<'a> {
                     level,
                     number,
                 },
-            ) => return self.make(owner, level, number),
+            ) => Ok(Some(self.make(owner, level, number)?)),
             Some(
                 Frame::Close {
                     number,
@@ -137,13 +178,13 @@ impl<'a> Standing<'a> {
             ) => {
                 self.table.close(number, Some(parent), layer)?;
                 self.frames.pop();
+                Ok(Some(Phase::Frames))
             }
-            Some(Frame::Notes { .. }) => (),
-            Some(Frame::Super { .. }) => (),
-            Some(Frame::SuperHandle { .. }) => (),
-            None => (),
+            Some(Frame::Notes { .. }) => Ok(None),
+            Some(Frame::Super { .. }) => Ok(None),
+            Some(Frame::SuperHandle { .. }) => Ok(None),
+            None => Ok(None),
         }
-        Ok(Phase::Frames)
     }
 
     /// An owner gets its handle, and what stands behind it comes in the place of the frame on top.
@@ -175,28 +216,6 @@ impl<'a> Standing<'a> {
                 self.frames.pop();
                 Ok(Phase::Frames)
             }
-        }
-    }
-
-    /// An enum constant gets its handle, where nothing else is due: its name is waited for, in a line of the level that is
-    /// returned. None where something else comes; nothing is done then.
-    #[tactic(auto, using(crate::proofs::PassLemmas::enum_due, crate::proofs::PassLemmas::enum_passed, crate::proofs::FrameLemmas::tail_fits))]
-    #[inline(always)]
-    pub(crate) fn pass_enum_made(&mut self) -> Result<Option<u64>, AllocError>
-        ensures { IfOk result (λ level. PassesEnumMade level self.old self.new) }
-    {
-        match self.frames.top() {
-            Some(Frame::Made { owner, level, .. }) => match owner {
-                Owner::EnumConst => {
-                    self.table.add_other()?;
-                    self.frames.pop();
-                    Ok(Some(level))
-                }
-                Owner::Object => Ok(None),
-                Owner::Array => Ok(None),
-                Owner::ClassObject => Ok(None),
-            },
-            _ => Ok(None),
         }
     }
 }

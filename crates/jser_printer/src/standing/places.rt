@@ -1,7 +1,8 @@
 //! Fields in the places of owners: their classes, and what stands behind these.
-ghost use Rattle.std.specs.Prelude.{IfOk};
-ghost use Rattle.jser_shown.specs.Telling.{class_goes, class_handle_goes, length_goes, name_goes};
-ghost use Rattle.jser_printer.specs.Given.{told_owner};
+ghost use Rattle.std.specs.Prelude.{IfOk, codes};
+ghost use Rattle.jser_shown.specs.Telling.{class_goes, class_handle_goes, handle_says, length_goes, name_goes, worded_says};
+ghost use Rattle.jser_printer.specs.Given.{told_node, told_owner};
+ghost use Rattle.jser_printer.specs.Says.{SaysTo};
 ghost use Rattle.jser_printer.specs.Seen.{told_seen};
 ghost use Rattle.jser_printer.specs.Phases.{StandsIn};
 
@@ -9,6 +10,10 @@ use crate::owner::Owner;
 use crate::phase::Phase;
 use crate::seen::Seen;
 use crate::standing::Standing;
+use crate::words::number::say_mark_line;
+use crate::words::tag::Place;
+use crate::words::tagged::say_worded_tag;
+use jser_prim::{Outbox, Sink};
 use std::alloc::AllocError;
 
 impl<'a> Standing<'a> {
@@ -29,45 +34,71 @@ impl<'a> Standing<'a> {
     }
 
     /// The tag in the place of the name of an enum constant.
+    #[tactic(auto, using(crate::proofs::SaysLemmas::says_nothing))]
     #[inline(always)]
-    pub(crate) fn take_enum_name(&mut self, level: u64, seen: Seen<'_>) -> Result<Phase, AllocError>
-        ensures { IfOk result (λ phase. StandsIn phase self.new (name_goes self.old.epoch self.old.known self.old.owners self.old.cues level (told_seen seen.entry))) }
+    pub(crate) fn say_enum_name<W: Sink>(
+        &mut self,
+        outbox: &mut Outbox,
+        sink: &mut W,
+        place: Place,
+        level: u64,
+        seen: Seen<'_>,
+    ) -> Result<Phase, AllocError>
+        ensures said { SaysTo W.gone_out W.has_failed outbox.old outbox.new sink.old sink.new (λ k. worded_says place.epoch place.next (told_node place.owner) level (codes "name ") (told_seen seen.entry) k) }
+        ensures goes { IfOk result (λ phase. StandsIn phase self.new (name_goes self.old.epoch self.old.known self.old.owners self.old.cues level (told_seen seen.entry))) }
     {
         match seen {
-            Seen::Tag(tag) => self.begin(level, tag),
+            Seen::Tag(tag) => {
+                say_worded_tag(outbox, sink, place, level, b"name ", tag);
+                self.begin(level, tag)
+            }
             _ => Ok(Phase::EnumName { level }),
         }
     }
 
     /// The tag in the class place of an owner.
+    #[tactic(auto, using(crate::proofs::SaysLemmas::says_nothing))]
     #[inline(always)]
-    pub(crate) fn take_class(
+    pub(crate) fn say_class<W: Sink>(
         &mut self,
+        outbox: &mut Outbox,
+        sink: &mut W,
+        place: Place,
         owner: Owner,
         level: u64,
         seen: Seen<'_>,
     ) -> Result<Phase, AllocError>
-        ensures { IfOk result (λ phase. StandsIn phase self.new (class_goes self.old.epoch self.old.known self.old.owners self.old.cues (told_owner owner) level (told_seen seen.entry))) }
+        ensures said { SaysTo W.gone_out W.has_failed outbox.old outbox.new sink.old sink.new (λ k. worded_says place.epoch place.next (told_node place.owner) level (codes "class ") (told_seen seen.entry) k) }
+        ensures goes { IfOk result (λ phase. StandsIn phase self.new (class_goes self.old.epoch self.old.known self.old.owners self.old.cues (told_owner owner) level (told_seen seen.entry))) }
     {
         match seen {
-            Seen::Tag(tag) => self.begin_class(owner, level, tag),
+            Seen::Tag(tag) => {
+                say_worded_tag(outbox, sink, place, level, b"class ", tag);
+                self.begin_class(owner, level, tag)
+            }
             _ => Ok(Phase::Class { owner, level }),
         }
     }
 
     /// The handle of a reference in the class place of an owner.
+    #[tactic(auto, using(crate::proofs::SaysLemmas::says_nothing))]
     #[inline(always)]
-    pub(crate) fn take_class_handle(
+    pub(crate) fn say_class_handle<W: Sink>(
         &mut self,
+        outbox: &mut Outbox,
+        sink: &mut W,
+        epoch: u64,
         owner: Owner,
         level: u64,
         seen: Seen<'_>,
     ) -> Result<Phase, AllocError>
-        ensures { IfOk result (λ phase. StandsIn phase self.new (class_handle_goes self.old.epoch self.old.known self.old.owners self.old.cues (told_owner owner) level (told_seen seen.entry))) }
+        ensures said { SaysTo W.gone_out W.has_failed outbox.old outbox.new sink.old sink.new (λ k. handle_says epoch (told_seen seen.entry) k) }
+        ensures goes { IfOk result (λ phase. StandsIn phase self.new (class_handle_goes self.old.epoch self.old.known self.old.owners self.old.cues (told_owner owner) level (told_seen seen.entry))) }
     {
         let Seen::Handle(number) = seen else {
             return Ok(Phase::ClassHandle { owner, level });
         };
+        say_mark_line(outbox, sink, epoch, number as u64);
         self.end_class(owner, level, number)?;
         Ok(Phase::Frames)
     }

@@ -1,10 +1,12 @@
 //! Fields that a frame belongs to.
-ghost use Rattle.std.specs.Prelude.{◌≡◌, ◌∷◌, ◌+◌, ◌<◌, ℕ, List, [], length, option_map, None, OnOk, IfOk};
+ghost use Rattle.std.specs.Prelude.{◌≡◌, ◌∷◌, ◌+◌, ◌<◌, ℕ, List, [], length, option_map, codes, None, OnOk, IfOk};
 ghost use Rattle.jser_shown.specs.Owners.{OwnerNode as ToldNode};
 ghost use Rattle.jser_shown.specs.Cues.{teller, top_cue, note_cue, elements_cue};
-ghost use Rattle.jser_shown.specs.Telling.{goes_in};
+ghost use Rattle.jser_shown.specs.Telling.{elements_says, goes_in, handle_says, note_says, top_says, worded_says};
+ghost use Rattle.jser_printer.specs.Given.{told_node};
 ghost use Rattle.jser_printer.specs.Frames.{FramesFit, FirstIs, TakesPart, cues_of, tail_of};
-ghost use Rattle.jser_printer.specs.Sections.{PassesPart};
+ghost use Rattle.jser_printer.specs.FieldWords.{cue_words, field_words};
+ghost use Rattle.jser_printer.specs.Says.{SaysTo};
 ghost use Rattle.jser_printer.specs.Seen.{told_seen, told_tag};
 ghost use Rattle.jser_printer.specs.Phases.{StandsIn};
 
@@ -15,13 +17,22 @@ use crate::seen::{Seen, Tag};
 use crate::stack::Stack;
 use crate::standing::{Standing, deeper};
 use crate::table::Table;
+use crate::words::line::say;
+use crate::words::number::say_mark_line;
+use crate::words::tag::{Place, say_block_word, say_value_tag};
+use crate::words::tagged::{say_element_tag, say_field_tag, say_note_block, say_worded_tag};
+use crate::words::value::{say_raw_elements, say_raw_field};
+use jser_prim::{Outbox, Sink};
 use std::alloc::AllocError;
 
 /// The field at the first part of the sections on top: that part is past, where the field is its, and this tag begins a
 /// value.
-#[tactic(auto, using(crate::proofs::TakeLemmas::raw_taken, crate::proofs::TakeLemmas::value_taken, crate::proofs::TakeLemmas::section_left, crate::proofs::TakeLemmas::notes_left, crate::proofs::TakeLemmas::end_left))]
+#[tactic(auto, using(crate::proofs::TakeLemmas::raw_taken, crate::proofs::TakeLemmas::value_taken, crate::proofs::TakeLemmas::section_left, crate::proofs::TakeLemmas::notes_left, crate::proofs::TakeLemmas::end_left, crate::proofs::TakeLemmas::raw_said, crate::proofs::TakeLemmas::value_said))]
 #[inline(always)]
-fn take_part(
+fn say_part<W: Sink>(
+    outbox: &mut Outbox,
+    sink: &mut W,
+    place: Place,
     table: &Table,
     frames: &mut Stack,
     level: u64,
@@ -34,6 +45,7 @@ fn take_part(
     requires fit { FramesFit (length table.now.layers) (length table.now.chains) frames.old }
     requires top { frames.old ≡ Frame.Sections level chain index stage ∷ tail_of frames.old }
     ensures fit { FramesFit (length table.now.layers) (length table.now.chains) frames.new }
+    ensures said { SaysTo W.gone_out W.has_failed outbox.old outbox.new sink.old sink.new (λ k. field_words place (cues_of table.now.layers table.now.chains frames.old) (told_seen seen.entry) k) }
     ensures takes { TakesPart table.now.layers table.now.chains level frames.old frames.new (told_seen seen.entry) (option_map told_tag result) }
 {
     let next = next_part(table, chain, index, stage);
@@ -44,16 +56,18 @@ fn take_part(
         stage: next.stage,
     };
     match next.part {
-        Part::Raw(_) => {
-            if let Seen::Bytes(_) = seen {
+        Part::Raw(name) => {
+            if let Seen::Bytes(bytes) = seen {
+                say_raw_field(outbox, sink, level, name, bytes);
                 frames.set_top(others);
             }
             None
         }
-        Part::Value(_) => {
+        Part::Value(name) => {
             let Seen::Tag(tag) = seen else {
                 return None;
             };
+            say_field_tag(outbox, sink, place, level, name, tag);
             frames.set_top(others);
             Some(tag)
         }
@@ -63,36 +77,13 @@ fn take_part(
     }
 }
 
-/// The first part of the sections on top is past.
-#[tactic(auto, using(crate::proofs::TakeLemmas::part_passed))]
-#[inline(always)]
-pub(crate) fn pass_part(
-    table: &Table,
-    frames: &mut Stack,
-    level: u64,
-    chain: u32,
-    index: usize,
-    stage: Stage,
-)
-    requires chain_in { chain < length table.now.chains }
-    requires fit { FramesFit (length table.now.layers) (length table.now.chains) frames.old }
-    requires top { frames.old ≡ Frame.Sections level chain index stage ∷ tail_of frames.old }
-    ensures fit { FramesFit (length table.now.layers) (length table.now.chains) frames.new }
-    ensures passes { PassesPart table.now.layers table.now.chains frames.old frames.new }
-{
-    let next = next_part(table, chain, index, stage);
-    frames.set_top(Frame::Sections {
-        level,
-        chain,
-        index: next.index,
-        stage: next.stage,
-    });
-}
-
 /// The tag in the superclass place of the class with this number and this layer, which is on top.
-#[tactic(auto, using(crate::proofs::TakeLemmas::goes_first, crate::proofs::PassLemmas::close_fits, crate::proofs::FrameLemmas::tail_fits))]
+#[tactic(auto, using(crate::proofs::SaysLemmas::says_nothing, crate::proofs::TakeLemmas::goes_first, crate::proofs::PassLemmas::close_fits, crate::proofs::FrameLemmas::tail_fits))]
 #[inline(always)]
-fn take_superclass(
+fn say_superclass<W: Sink>(
+    outbox: &mut Outbox,
+    sink: &mut W,
+    place: Place,
     table: &mut Table,
     frames: &mut Stack,
     level: u64,
@@ -104,11 +95,13 @@ fn take_superclass(
     requires fit { FramesFit (length table.old.layers) (length table.old.chains) frames.old }
     requires top { frames.old ≡ Frame.Super level number layer ∷ tail_of frames.old }
     ensures fit { FramesFit (length table.new.layers) (length table.new.chains) frames.new }
+    ensures said { SaysTo W.gone_out W.has_failed outbox.old outbox.new sink.old sink.new (λ k. worded_says place.epoch place.next (told_node place.owner) level (codes "super ") (told_seen seen.entry) k) }
     ensures takes { IfOk result (λ phase. (e : ℕ) (os : List ToldNode) → StandsIn phase (teller e table.new.known os (cues_of table.new.layers table.new.chains frames.new)) (goes_in e table.old.known os (cues_of table.old.layers table.old.chains frames.old) (told_seen seen.entry))) }
 {
     let Seen::Tag(tag) = seen else {
         return Ok(Phase::Frames);
     };
+    say_worded_tag(outbox, sink, place, level, b"super ", tag);
     match tag {
         Tag::Null => {
             table.close(number, None, layer)?;
@@ -152,9 +145,12 @@ fn take_superclass(
 }
 
 /// The handle of a reference in the superclass place of the class with this number and this layer. That is on top.
-#[tactic(auto, using(crate::proofs::TakeLemmas::goes_first, crate::proofs::FrameLemmas::tail_fits))]
+#[tactic(auto, using(crate::proofs::SaysLemmas::says_nothing, crate::proofs::TakeLemmas::goes_first, crate::proofs::FrameLemmas::tail_fits))]
 #[inline(always)]
-fn take_superclass_handle(
+fn say_superclass_handle<W: Sink>(
+    outbox: &mut Outbox,
+    sink: &mut W,
+    epoch: u64,
     table: &Table,
     frames: &mut Stack,
     level: u64,
@@ -166,9 +162,11 @@ fn take_superclass_handle(
     requires fit { FramesFit (length table.now.layers) (length table.now.chains) frames.old }
     requires top { frames.old ≡ Frame.SuperHandle level number layer ∷ tail_of frames.old }
     ensures fit { FramesFit (length table.now.layers) (length table.now.chains) frames.new }
+    ensures said { SaysTo W.gone_out W.has_failed outbox.old outbox.new sink.old sink.new (λ k. handle_says epoch (told_seen seen.entry) k) }
     ensures takes { TakesPart table.now.layers table.now.chains level frames.old frames.new (told_seen seen.entry) None }
 {
     if let Seen::Handle(parent) = seen {
+        say_mark_line(outbox, sink, epoch, parent as u64);
         frames.set_top(Frame::Close {
             number,
             parent,
@@ -178,21 +176,28 @@ fn take_superclass_handle(
 }
 
 impl<'a> Standing<'a> {
-    /// Goes past a field.
+    /// Says what is seen of a field, and goes past it.
     ///
     /// # Errors
     ///
-    /// Where memory runs out.
-    #[tactic(auto, using(crate::proofs::TakeLemmas::goes_first, crate::proofs::FrameLemmas::top_fits))]
+    /// Where memory runs out. The field was said then.
+    #[tactic(auto, using(crate::proofs::TakeLemmas::goes_first, crate::proofs::TakeLemmas::says_first, crate::proofs::TakeLemmas::says_last, crate::proofs::SaysLemmas::says_nothing, crate::proofs::FrameLemmas::top_fits))]
     #[inline(always)]
-    pub(crate) fn take(&mut self, seen: Seen<'_>) -> Result<Phase, AllocError>
-        ensures { IfOk result (λ phase. StandsIn phase self.new (goes_in self.old.epoch self.old.known self.old.owners self.old.cues (told_seen seen.entry))) }
+    pub(crate) fn say_field<W: Sink>(
+        &mut self,
+        outbox: &mut Outbox,
+        sink: &mut W,
+        place: Place,
+        seen: Seen<'_>,
+    ) -> Result<Phase, AllocError>
+        ensures said { SaysTo W.gone_out W.has_failed outbox.old outbox.new sink.old sink.new (λ k. field_words place self.old.cues (told_seen seen.entry) k) }
+        ensures goes { IfOk result (λ phase. StandsIn phase self.new (goes_in self.old.epoch self.old.known self.old.owners self.old.cues (told_seen seen.entry))) }
     {
         match self.frames.top() {
-            None => self.take_at_top(seen),
-            Some(Frame::Notes { level }) => self.take_note(level, seen),
+            None => self.say_top(outbox, sink, place, seen),
+            Some(Frame::Notes { level }) => self.say_note(outbox, sink, place, level, seen),
             Some(Frame::Elements { level, index, left }) => {
-                self.take_element(level, index, left, seen)
+                self.say_element(outbox, sink, place, level, index, left, seen)
             }
             Some(
                 Frame::Sections {
@@ -202,7 +207,10 @@ impl<'a> Standing<'a> {
                     stage,
                 },
             ) => {
-                let begun = take_part(
+                let begun = say_part(
+                    outbox,
+                    sink,
+                    place,
                     &self.table,
                     &mut self.frames,
                     level,
@@ -222,7 +230,10 @@ impl<'a> Standing<'a> {
                     number,
                     layer,
                 },
-            ) => take_superclass(
+            ) => say_superclass(
+                outbox,
+                sink,
+                place,
                 &mut self.table,
                 &mut self.frames,
                 level,
@@ -237,7 +248,17 @@ impl<'a> Standing<'a> {
                     layer,
                 },
             ) => {
-                take_superclass_handle(&self.table, &mut self.frames, level, number, layer, seen);
+                say_superclass_handle(
+                    outbox,
+                    sink,
+                    place.epoch,
+                    &self.table,
+                    &mut self.frames,
+                    level,
+                    number,
+                    layer,
+                    seen,
+                );
                 Ok(Phase::Frames)
             }
             Some(Frame::External { .. }) => Ok(Phase::Frames),
@@ -250,15 +271,30 @@ impl<'a> Standing<'a> {
     }
 
     /// A field at the top of the stream.
+    #[tactic(auto, using(crate::proofs::SaysLemmas::says_nothing))]
     #[inline(always)]
-    fn take_at_top(&mut self, seen: Seen<'_>) -> Result<Phase, AllocError>
+    fn say_top<W: Sink>(
+        &mut self,
+        outbox: &mut Outbox,
+        sink: &mut W,
+        place: Place,
+        seen: Seen<'_>,
+    ) -> Result<Phase, AllocError>
         requires { self.old.cues ≡ top_cue ∷ [] }
-        ensures { IfOk result (λ phase. StandsIn phase self.new (goes_in self.old.epoch self.old.known self.old.owners self.old.cues (told_seen seen.entry))) }
+        ensures said { SaysTo W.gone_out W.has_failed outbox.old outbox.new sink.old sink.new (λ k. top_says place.epoch place.next (told_node place.owner) (told_seen seen.entry) k) }
+        ensures goes { IfOk result (λ phase. StandsIn phase self.new (goes_in self.old.epoch self.old.known self.old.owners self.old.cues (told_seen seen.entry))) }
     {
         match seen {
-            Seen::Tag(tag) => self.begin(0, tag),
-            Seen::BlockTag(_) => Ok(Phase::BlockLength),
+            Seen::Tag(tag) => {
+                say_value_tag(outbox, sink, place, tag);
+                self.begin(0, tag)
+            }
+            Seen::BlockTag(long) => {
+                say_block_word(outbox, sink, long);
+                Ok(Phase::BlockLength)
+            }
             Seen::ResetTag => {
+                say(outbox, sink, b"reset\n");
                 self.reset()?;
                 Ok(Phase::Frames)
             }
@@ -278,15 +314,29 @@ impl<'a> Standing<'a> {
     }
 
     /// A field in an annotation, which is on top.
-    #[tactic(auto, using(crate::proofs::TakeLemmas::popped_note, crate::proofs::FrameLemmas::tail_fits))]
+    #[tactic(auto, using(crate::proofs::TakeLemmas::popped_note, crate::proofs::FrameLemmas::tail_fits, crate::proofs::SaysLemmas::says_nothing))]
     #[inline(always)]
-    fn take_note(&mut self, level: u64, seen: Seen<'_>) -> Result<Phase, AllocError>
+    fn say_note<W: Sink>(
+        &mut self,
+        outbox: &mut Outbox,
+        sink: &mut W,
+        place: Place,
+        level: u64,
+        seen: Seen<'_>,
+    ) -> Result<Phase, AllocError>
         requires { FirstIs (note_cue level) self.old }
-        ensures { IfOk result (λ phase. StandsIn phase self.new (goes_in self.old.epoch self.old.known self.old.owners self.old.cues (told_seen seen.entry))) }
+        ensures said { SaysTo W.gone_out W.has_failed outbox.old outbox.new sink.old sink.new (λ k. note_says place.epoch place.next (told_node place.owner) level (told_seen seen.entry) k) }
+        ensures goes { IfOk result (λ phase. StandsIn phase self.new (goes_in self.old.epoch self.old.known self.old.owners self.old.cues (told_seen seen.entry))) }
     {
         match seen {
-            Seen::Tag(tag) => self.begin(level, tag),
-            Seen::BlockTag(_) => Ok(Phase::BlockLength),
+            Seen::Tag(tag) => {
+                say_worded_tag(outbox, sink, place, level, b"note ", tag);
+                self.begin(level, tag)
+            }
+            Seen::BlockTag(long) => {
+                say_note_block(outbox, sink, level, long);
+                Ok(Phase::BlockLength)
+            }
             Seen::EndTag => {
                 self.frames.pop();
                 Ok(Phase::Frames)
@@ -296,24 +346,30 @@ impl<'a> Standing<'a> {
     }
 
     /// The raw elements of an array, or the tag of an element. The array is on top.
-    #[tactic(auto, using(crate::proofs::TakeLemmas::popped_elements, crate::proofs::FrameLemmas::tail_fits))]
+    #[tactic(auto, using(crate::proofs::TakeLemmas::popped_elements, crate::proofs::FrameLemmas::tail_fits, crate::proofs::SaysLemmas::says_nothing))]
     #[inline(always)]
-    fn take_element(
+    fn say_element<W: Sink>(
         &mut self,
+        outbox: &mut Outbox,
+        sink: &mut W,
+        place: Place,
         level: u64,
         index: u32,
         left: u32,
         seen: Seen<'_>,
     ) -> Result<Phase, AllocError>
         requires { FirstIs (elements_cue level index left) self.old }
-        ensures { IfOk result (λ phase. StandsIn phase self.new (goes_in self.old.epoch self.old.known self.old.owners self.old.cues (told_seen seen.entry))) }
+        ensures said { SaysTo W.gone_out W.has_failed outbox.old outbox.new sink.old sink.new (λ k. elements_says place.epoch place.next (told_node place.owner) level index left (told_seen seen.entry) k) }
+        ensures goes { IfOk result (λ phase. StandsIn phase self.new (goes_in self.old.epoch self.old.known self.old.owners self.old.cues (told_seen seen.entry))) }
     {
         match seen {
-            Seen::Bytes(_) => {
+            Seen::Bytes(bytes) => {
+                say_raw_elements(outbox, sink, level, index, left, bytes);
                 self.frames.pop();
                 Ok(Phase::Frames)
             }
             Seen::Tag(tag) => {
+                say_element_tag(outbox, sink, place, level, index, tag);
                 if left == 0 {
                     return Ok(Phase::Frames);
                 }

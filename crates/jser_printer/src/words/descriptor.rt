@@ -3,11 +3,13 @@ ghost use Rattle.std.specs.Prelude.{◌++◌, ◌∷◌, [], codes};
 ghost use Rattle.hex.specs.Hex.{encode_lower};
 ghost use Rattle.jser_prim.specs.Bytes.{big_bytes};
 ghost use Rattle.jser_shown.specs.Words.{begin_line, end_line, quoted};
+ghost use Rattle.jser_printer.specs.Names.{told_text};
 ghost use Rattle.jser_printer.specs.Says.{SaysTo};
 
+use crate::text::Text;
 use crate::words::line::{say, say_line_start};
 use crate::words::number::say_hex;
-use crate::words::quote::say_quoted_line;
+use crate::words::quote::say_text_line;
 use crate::words::value::say_raw;
 use byteorder::{BigEndian, ByteOrder};
 use jser_prim::{Outbox, Sink};
@@ -40,10 +42,15 @@ pub(crate) fn say_field_word<W: Sink>(outbox: &mut Outbox, sink: &mut W, level: 
 }
 
 /// Says the name of an interface.
-pub(crate) fn say_interface<W: Sink>(outbox: &mut Outbox, sink: &mut W, level: u64, units: &[u16])
-    ensures { SaysTo W.gone_out W.has_failed outbox.old outbox.new sink.old sink.new (λ k. begin_line level (codes "interface " ++ quoted units.now (end_line k))) }
+pub(crate) fn say_interface_word<W: Sink>(
+    outbox: &mut Outbox,
+    sink: &mut W,
+    level: u64,
+    name: Text<'_>,
+)
+    ensures { SaysTo W.gone_out W.has_failed outbox.old outbox.new sink.old sink.new (λ k. begin_line level (codes "interface " ++ quoted (told_text name.entry) (end_line k))) }
 {
     say_line_start(outbox, sink, level);
     say(outbox, sink, b"interface ");
-    say_quoted_line(outbox, sink, units);
+    say_text_line(outbox, sink, name);
 }

@@ -3,12 +3,14 @@ ghost use Rattle.std.specs.Prelude.{◌≡◌, ◌<◌, ◌≤◌, ◌∷◌, �
 ghost use Rattle.std.specs.List.{flat_map};
 ghost use Rattle.jser_prim.specs.Outgoing.{PutsTo};
 ghost use Rattle.jser_shown.specs.Words.{end_line, quoted, quoted_unit};
+ghost use Rattle.jser_printer.specs.Names.{told_text};
 ghost use Rattle.jser_printer.specs.Says.{SaysTo, SayingTo};
 
+use crate::name::{Name, quoted_unit};
+use crate::text::{Plain, Text, is_plain};
 use crate::words::line::say;
 use arrayvec::ArrayVec;
 use jser_prim::{Outbox, Sink};
-use crate::{Name, quoted_unit};
 
 /// How many units are put in one piece at most.
 const RUN: usize = 32;
@@ -23,12 +25,34 @@ pub fn say_quoted<W: Sink>(outbox: &mut Outbox, sink: &mut W, units: &[u16])
     say(outbox, sink, b"\"");
 }
 
-/// Says a quoted text, and the end of its line.
-pub(crate) fn say_quoted_line<W: Sink>(outbox: &mut Outbox, sink: &mut W, units: &[u16])
-    ensures { SaysTo W.gone_out W.has_failed outbox.old outbox.new sink.old sink.new (λ k. quoted units.now (end_line k)) }
+/// Says a text as a quoted text.
+#[inline(always)]
+pub(crate) fn say_text<W: Sink>(outbox: &mut Outbox, sink: &mut W, text: Text<'_>)
+    ensures { SaysTo W.gone_out W.has_failed outbox.old outbox.new sink.old sink.new (λ k. quoted (told_text text.entry) k) }
 {
-    say_quoted(outbox, sink, units);
+    match text {
+        Text::Units(units) => say_quoted(outbox, sink, units),
+        Text::Plain(plain) => say_plain(outbox, sink, plain),
+    }
+}
+
+/// Says a text as a quoted text, and the end of its line.
+#[inline(always)]
+pub(crate) fn say_text_line<W: Sink>(outbox: &mut Outbox, sink: &mut W, text: Text<'_>)
+    ensures { SaysTo W.gone_out W.has_failed outbox.old outbox.new sink.old sink.new (λ k. quoted (told_text text.entry) (end_line k)) }
+{
+    say_text(outbox, sink, text);
     say(outbox, sink, b"\n");
+}
+
+/// Says bytes that stand for themselves as a quoted text.
+#[inline(always)]
+fn say_plain<W: Sink>(outbox: &mut Outbox, sink: &mut W, plain: Plain<'_>)
+    ensures { SaysTo W.gone_out W.has_failed outbox.old outbox.new sink.old sink.new (λ k. quoted plain.entry.bytes.now k) }
+{
+    say(outbox, sink, b"\"");
+    say(outbox, sink, plain.bytes());
+    say(outbox, sink, b"\"");
 }
 
 /// Says a name as a quoted text, and the end of its line.
@@ -99,14 +123,6 @@ fn plain_run(units: &[u16]) -> ArrayVec<u8, RUN>
         run.push(*unit as u8);
     }
     run
-}
-
-/// Whether a unit stands for itself.
-#[inline(always)]
-pub(crate) fn is_plain(unit: u16) -> bool
-    ensures { result ≡ true → (quoted_unit unit ≡ unit ∷ []) × (unit < 0x80) }
-{
-    unit != 0x22 && unit != 0x5C && 0x20 <= unit && unit <= 0x7E
 }
 
 /// Puts a unit of a quoted text.

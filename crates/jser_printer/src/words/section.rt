@@ -1,57 +1,52 @@
-//! The values of fields, in the sections of objects.
-ghost use Rattle.std.specs.Prelude.{◌≡◌, true, false};
-ghost use Rattle.jser_grammar.specs.Wire.{TC_REFERENCE};
-ghost use Rattle.jser_reading.specs.Labels.{StreamField};
-ghost use Rattle.jser_shown.specs.Telling.{goes, settled};
-ghost use Rattle.jser_printer.specs.Given.{IsOf};
-ghost use Rattle.jser_printer.specs.Passing.{says_next};
+//! The first lines of sections.
+ghost use Rattle.std.specs.Prelude.{None, Some};
+ghost use Rattle.jser_printer.specs.DueWords.{section_words};
+ghost use Rattle.jser_printer.specs.Names.{view_name};
 ghost use Rattle.jser_printer.specs.Says.{SaysTo};
 
-use crate::words::line::say;
-use crate::words::value::{say_field_start, say_raw_field};
+use crate::name::Name;
+use crate::words::line::{say, say_line_start};
+use crate::words::quote::say_name_line;
 use jser_prim::{Outbox, Sink};
-use crate::{Field, Printer};
 
-/// Says the line of a raw value and goes past it, where the printer waits for the raw value of a field. Nothing is done where
-/// that is not so, and the answer is false.
+/// Says the first line of a section, of a class with this name or of a proxy.
 #[inline(always)]
-pub fn say_section_raw<W: Sink>(
+pub(crate) fn say_section<W: Sink>(
     outbox: &mut Outbox,
     sink: &mut W,
-    printer: &mut Printer<'_>,
-    bytes: &[u8],
-) -> bool
-    ensures said { result ≡ true → (told : StreamField) → IsOf (Field.Raw bytes.entry) told
-        → SaysTo W.gone_out W.has_failed outbox.old outbox.new sink.old sink.new (λ k. says_next printer.old told k) }
-    ensures goes { result ≡ true → (told : StreamField) → IsOf (Field.Raw bytes.entry) told → printer.new ≡ goes (settled printer.old) told }
-    ensures same { result ≡ false → (outbox.new ≡ outbox.old) × (sink.new ≡ sink.old) × (printer.new ≡ printer.old) }
+    level: u64,
+    word: &[u8],
+    name: Option<&Name>,
+)
+    ensures { SaysTo W.gone_out W.has_failed outbox.old outbox.new sink.old sink.new (λ k. section_words level word.now (view_name name.entry) k) }
 {
-    let Some(field) = printer.raw_field() else {
-        return false;
-    };
-    say_raw_field(outbox, sink, field.level, field.name, bytes);
-    printer.pass_raw();
-    true
+    match name {
+        Some(name) => say_class_section(outbox, sink, level, word, name),
+        None => say_proxy_section(outbox, sink, level, word),
+    }
 }
 
-/// Says the beginning of the line of a reference and goes past its tag, where the printer waits for the value of a field.
-/// Nothing is done where that is not so, and the answer is false.
+/// Says the first line of the section of a class.
 #[inline(always)]
-pub fn say_section_reference<W: Sink>(
+fn say_class_section<W: Sink>(
     outbox: &mut Outbox,
     sink: &mut W,
-    printer: &mut Printer<'_>,
-) -> bool
-    ensures said { result ≡ true → (told : StreamField) → IsOf (Field.Tag TC_REFERENCE) told
-        → SaysTo W.gone_out W.has_failed outbox.old outbox.new sink.old sink.new (λ k. says_next printer.old told k) }
-    ensures goes { result ≡ true → (told : StreamField) → IsOf (Field.Tag TC_REFERENCE) told → printer.new ≡ goes (settled printer.old) told }
-    ensures same { result ≡ false → (outbox.new ≡ outbox.old) × (sink.new ≡ sink.old) × (printer.new ≡ printer.old) }
+    level: u64,
+    word: &[u8],
+    name: &Name,
+)
+    ensures { SaysTo W.gone_out W.has_failed outbox.old outbox.new sink.old sink.new (λ k. section_words level word.now (Some name.now) k) }
 {
-    let Some(field) = printer.value_field() else {
-        return false;
-    };
-    say_field_start(outbox, sink, field.level, field.name);
-    say(outbox, sink, b"ref ");
-    printer.pass_reference();
-    true
+    say_line_start(outbox, sink, level);
+    say(outbox, sink, word);
+    say_name_line(outbox, sink, name);
+}
+
+/// Says the first line of the section of a proxy.
+fn say_proxy_section<W: Sink>(outbox: &mut Outbox, sink: &mut W, level: u64, word: &[u8])
+    ensures { SaysTo W.gone_out W.has_failed outbox.old outbox.new sink.old sink.new (λ k. section_words level word.now None k) }
+{
+    say_line_start(outbox, sink, level);
+    say(outbox, sink, word);
+    say(outbox, sink, b"proxy\n");
 }

@@ -5,10 +5,11 @@ ghost use Rattle.jser_printer.specs.Seen.{told_tag};
 ghost use Rattle.jser_printer.specs.Says.{SaysTo};
 ghost use Rattle.jser_printer.specs.TagWords.{marked_text, tag_words};
 
+use crate::owner::OwnerNode;
+use crate::seen::Tag;
 use crate::words::line::say;
 use crate::words::number::{say_decimal, say_mark};
 use jser_prim::{Outbox, Sink};
-use crate::{OwnerNode, Tag};
 
 /// What the words of a tag need besides it.
 #[derive(Clone, Copy)]

@@ -6,11 +6,12 @@ ghost use Rattle.jser_printer.specs.Seen.{told_tag};
 ghost use Rattle.jser_printer.specs.Says.{SaysTo};
 ghost use Rattle.jser_printer.specs.TagWords.{tag_words};
 
+use crate::name::Name;
+use crate::seen::Tag;
 use crate::words::line::{say, say_line_start};
 use crate::words::tag::{Place, say_block_word, say_value_tag};
 use crate::words::value::{say_element_index, say_field_start};
 use jser_prim::{Outbox, Sink};
-use crate::{Name, Tag};
 
 /// Says a tag whose line begins with a word.
 #[inline(always)]

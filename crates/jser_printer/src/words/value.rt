@@ -6,10 +6,10 @@ ghost use Rattle.jser_shown.specs.Shown.{field_named, element_at, name_text};
 ghost use Rattle.jser_shown.specs.Telling.{raw_line, raw_lines, raw_elements_lines, block_length_says, seen_block_length};
 ghost use Rattle.jser_printer.specs.Says.{SaysTo};
 
+use crate::name::Name;
 use crate::words::line::{say, say_deeper_quote, say_line_start};
 use crate::words::number::{say_decimal, say_hex};
 use jser_prim::{Outbox, Sink};
-use crate::Name;
 
 /// Says the beginning of the line of a field, in a section of this level, as `"next" = `.
 #[inline(always)]

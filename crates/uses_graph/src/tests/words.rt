@@ -2,25 +2,25 @@
 
 // README: jser_printer
 use jser_prim::{Outbox, Sink};
-use jser_printer::{Field, Printer, say_all_due, say_next};
+use jser_printer::{Field, Printer};
 use std::alloc::AllocError;
 
 /// Says these fields, and what is due after the last one.
 fn say_fields<W: Sink>(
     outbox: &mut Outbox,
     sink: &mut W,
-    walk: &mut Printer<'_>,
+    printer: &mut Printer<'_>,
     fields: &[Field<'_>],
 ) -> Result<(), AllocError> {
     for field in fields {
-        say_next(outbox, sink, walk, *field)?;
+        printer.say_next(outbox, sink, *field)?;
     }
-    say_all_due(outbox, sink, walk)
+    printer.say_all_due(outbox, sink)
 }
 // end
 
-mod at_once;
 mod fields;
+mod objects;
 mod single;
 mod streams;
 
@@ -39,8 +39,8 @@ fn assert_said(
 ) -> Result<(), Fail> {
     let mut page = Page::new(rt.alloc(), 1, 4096);
     let mut outbox = Outbox::new();
-    let mut walk = Printer::new(rt.alloc(), owners);
-    say_fields(&mut outbox, &mut page, &mut walk, fields)?;
+    let mut printer = Printer::new(rt.alloc(), owners);
+    say_fields(&mut outbox, &mut page, &mut printer, fields)?;
     outbox.flush(&mut page);
     assert!(rt; page.bytes.as_slice() == text);
     Ok(())

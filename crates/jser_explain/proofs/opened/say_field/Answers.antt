@@ -1,6 +1,6 @@
 use Rattle.std.specs.Prelude.{◌++◌, codes}
 use Rattle.jser_shown.specs.Words.{quoted}
-use Rattle.jser_printer.specs.Views.{view_name}
+use Rattle.jser_printer.specs.Names.{view_name}
 use Rattle.jser_printer.proofs.SaysLemmas.{says_three}
 use Rattle.jser_explain.specs.Opened.{class_words}
 use Rattle.jser_explain.proofs.opened.say_field.Goals as goal

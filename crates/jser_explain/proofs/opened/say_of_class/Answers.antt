@@ -1,5 +1,5 @@
 use Rattle.std.specs.Prelude.{◌++◌, codes}
-use Rattle.jser_printer.specs.Views.{view_name}
+use Rattle.jser_printer.specs.Names.{view_name}
 use Rattle.jser_printer.proofs.SaysLemmas.{says_three}
 use Rattle.jser_explain.specs.Opened.{name_words}
 use Rattle.jser_explain.proofs.opened.say_of_class.Goals as goal

@@ -1,4 +1,4 @@
-use Rattle.jser_printer.specs.Views.{view_name}
+use Rattle.jser_printer.specs.Names.{view_name}
 use Rattle.jser_printer.proofs.SaysLemmas.{says_three}
 use Rattle.jser_explain.specs.Whys.{class_line, field_line, first_bytes, sentence_line}
 use Rattle.jser_explain.proofs.why.say_head.Goals as goal

@@ -1,4 +1,4 @@
-use Rattle.jser_printer.specs.Views.{view_name}
+use Rattle.jser_printer.specs.Names.{view_name}
 use Rattle.jser_explain.specs.Rest.{rest_words}
 use Rattle.jser_explain.proofs.WhyLemmas.{why_all}
 use Rattle.jser_explain.proofs.why.say_lines.Goals as goal

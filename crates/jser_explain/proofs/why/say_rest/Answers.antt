@@ -1,5 +1,5 @@
 use Rattle.std.specs.Prelude.{◌++◌}
-use Rattle.jser_printer.specs.Views.{view_name}
+use Rattle.jser_printer.specs.Names.{view_name}
 use Rattle.jser_printer.proofs.SaysLemmas.{says_five}
 use Rattle.jser_explain.specs.Opened.{opened_words, writer_words}
 use Rattle.jser_explain.specs.Rest.{piece_words}

@@ -11,19 +11,19 @@ use Rattle.jser_index.proofs.show.say_along.Goals as goal
 
 pub returns-then-has_failed-clause-said : goal.returns-then-has_failed-clause-said
 returns-then-has_failed-clause-said g c =
-    says_stopped c.args.bytes.now c.items.rest.now c.items.reader.machine c.items.reader.tally c.args.walk.now c.items.walk c.args.outbox.now c.items.outbox _ _
+    says_stopped c.args.bytes.now c.items.rest.now c.items.reader.machine c.items.reader.tally c.args.printer.now c.items.printer c.args.outbox.now c.items.outbox _ _
     (show_laws c.told.ensures c.tells_fronts.ensures) c.items.invariant (search rules)
 
 pub returns-in-Err-clause-front : goal.returns-in-Err-clause-front
 returns-in-Err-clause-front g c =
-    says_front c.args.bytes.now c.items.rest.now c.items.reader.machine c.items.reader.tally c.args.walk.now c.items.walk c.args.outbox.now c.items.outbox _ _
+    says_front c.args.bytes.now c.items.rest.now c.items.reader.machine c.items.reader.tally c.args.printer.now c.items.printer c.args.outbox.now c.items.outbox _ _
     (show_laws c.told.ensures c.tells_fronts.ensures) c.items.invariant
 
 pub returns-in_err-say_whole-in-Ok-Some-clause-front : goal.returns-in_err-say_whole-in-Ok-Some-clause-front
 returns-in_err-say_whole-in-Ok-Some-clause-front g c =
     err_any c.from_residual.result
     (whole_front c.args.bytes.now c.items.rest.now c.split_at.result.1.now c.in-Ok-Some.whole c.items.reader.machine c.items.reader.tally
-    c.next_whole.new.self.machine c.next_whole.new.self.tally c.args.walk.now c.items.walk c.args.outbox.now c.items.outbox c.say_whole.new.outbox _ _ _
+    c.next_whole.new.self.machine c.next_whole.new.self.tally c.args.printer.now c.items.printer c.args.outbox.now c.items.outbox c.say_whole.new.outbox _ _ _
     (said_laws c.one_more.ensures (show_laws c.told.ensures c.tells_fronts.ensures)) c.items.invariant
     (subst (λ o. WholeCases open_gate c.items.rest.now (Ok o) c.items.reader.machine c.items.reader.tally c.next_whole.new.self.machine c.next_whole.new.self.tally)
     c.in-Ok-Some.field-0-is c.in-Ok-Some.ensures.tells) (search rules) c.in_err-say_whole-in-Ok-Some.ensures.front)
@@ -31,14 +31,14 @@ returns-in_err-say_whole-in-Ok-Some-clause-front g c =
 pub items-preserved-in-Ok-Some : goal.items-preserved-in-Ok-Some
 items-preserved-in-Ok-Some g c =
     said_whole c.args.bytes.now c.items.rest.now c.split_at.result.1.now c.in-Ok-Some.whole c.items.reader.machine c.items.reader.tally
-    c.next_whole.new.self.machine c.next_whole.new.self.tally c.args.walk.now c.items.walk c.say_whole.new.walk c.args.outbox.now c.items.outbox c.say_whole.new.outbox _ _ _
+    c.next_whole.new.self.machine c.next_whole.new.self.tally c.args.printer.now c.items.printer c.say_whole.new.printer c.args.outbox.now c.items.outbox c.say_whole.new.outbox _ _ _
     c.one_more.ensures c.items.invariant
     (subst (λ o. WholeCases open_gate c.items.rest.now (Ok o) c.items.reader.machine c.items.reader.tally c.next_whole.new.self.machine c.next_whole.new.self.tally)
     c.in-Ok-Some.field-0-is c.in-Ok-Some.ensures.tells) (search rules) c.in_ok-say_whole-in-Ok-Some.ensures.said
 
 pub returns-in-Err-next-clause-front : goal.returns-in-Err-next-clause-front
 returns-in-Err-next-clause-front g c =
-    says_front c.args.bytes.now c.items.rest.now c.next_whole.new.self.machine c.next_whole.new.self.tally c.args.walk.now c.items.walk c.args.outbox.now c.items.outbox _ _
+    says_front c.args.bytes.now c.items.rest.now c.next_whole.new.self.machine c.next_whole.new.self.tally c.args.printer.now c.items.printer c.args.outbox.now c.items.outbox _ _
     (show_laws c.told.ensures c.tells_fronts.ensures)
     (nothing_done c.args.bytes.now c.items.rest.now c.items.reader.machine c.items.reader.tally c.next_whole.new.self.machine c.next_whole.new.self.tally _
     (subst (λ o. WholeCases open_gate c.items.rest.now (Ok o) c.items.reader.machine c.items.reader.tally c.next_whole.new.self.machine c.next_whole.new.self.tally)
@@ -56,7 +56,7 @@ items-preserved-in-Ok-More g c =
 pub returns-in_err-say_item-in-Ok-Item-clause-front : goal.returns-in_err-say_item-in-Ok-Item-clause-front
 returns-in_err-say_item-in-Ok-Item-clause-front g c =
     err_any c.from_residual-in_err-say_item-in-Ok-Item.result
-    (item_front c.args.bytes.now c.split_at-in-Ok-Item.result.1.now c.in-Ok-Item.item c.next.new.self.machine c.next.new.self.tally c.args.walk.now c.items.walk
+    (item_front c.args.bytes.now c.split_at-in-Ok-Item.result.1.now c.in-Ok-Item.item c.next.new.self.machine c.next.new.self.tally c.args.printer.now c.items.printer
     c.args.outbox.now c.items.outbox c.say_item.new.outbox _ _ _ c.one_more.ensures (show_laws c.told.ensures c.tells_fronts.ensures)
     (turns c.args.bytes.now c.items.rest.now c.split_at-in-Ok-Item.result.0.now c.split_at-in-Ok-Item.result.1.now c.in-Ok-Item.item c.in-Ok-Item.used
     c.next_whole.new.self.machine c.next_whole.new.self.tally c.next.new.self.machine c.next.new.self.tally _
@@ -83,18 +83,18 @@ items-preserved g c =
     (subst (HasProgress c.items.rest.now) c.in-Ok-Item.field-0-is c.in-Ok-Item.ensures.progress).0
     (subst (HasProgress c.items.rest.now) c.in-Ok-Item.field-0-is c.in-Ok-Item.ensures.progress).1
     (search rules) (search rules))
-    (does_say c.args.bytes.now c.split_at-in-Ok-Item.result.1.now c.in-Ok-Item.item c.args.walk.now c.items.walk c.say_item.new.walk c.args.outbox.now c.items.outbox
+    (does_say c.args.bytes.now c.split_at-in-Ok-Item.result.1.now c.in-Ok-Item.item c.args.printer.now c.items.printer c.say_item.new.printer c.args.outbox.now c.items.outbox
     c.say_item.new.outbox _ _ _ c.one_more.ensures c.in_ok-say_item-in-Ok-Item.ensures.said c.in_ok-say_item-in-Ok-Item.ensures.goes
     c.in_ok-say_item-in-Ok-Item.ensures.same)
 
 pub returns-clause-said : goal.returns-clause-said
 returns-clause-said g c =
     ok_by c.say_all_due.result c.say_all_due.ensures.said
-    (says_all c.args.bytes.now c.items.rest.now c.items.reader.machine c.items.reader.tally c.args.walk.now c.items.walk c.args.outbox.now c.items.outbox
+    (says_all c.args.bytes.now c.items.rest.now c.items.reader.machine c.items.reader.tally c.args.printer.now c.items.printer c.args.outbox.now c.items.outbox
     c.say_all_due.new.outbox _ _ _ (show_laws c.told.ensures c.tells_fronts.ensures) c.items.invariant (search rules))
 
 pub returns-clause-front : goal.returns-clause-front
 returns-clause-front g c =
     err_by c.say_all_due.result c.say_all_due.ensures.front
-    (due_front c.args.bytes.now c.items.rest.now c.items.reader.machine c.items.reader.tally c.args.walk.now c.items.walk c.args.outbox.now c.items.outbox
+    (due_front c.args.bytes.now c.items.rest.now c.items.reader.machine c.items.reader.tally c.args.printer.now c.items.printer c.args.outbox.now c.items.outbox
     c.say_all_due.new.outbox _ _ _ (show_laws c.told.ensures c.tells_fronts.ensures) c.items.invariant (search rules))

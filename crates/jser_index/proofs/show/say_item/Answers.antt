@@ -5,11 +5,11 @@ use Rattle.jser_index.proofs.show.say_item.Goals as goal
 
 pub returns-in-Field-clause-said : goal.returns-in-Field-clause-said
 returns-in-Field-clause-said g c =
-    ok_by c.say_field.result c.say_field.ensures.said (λ says told e. says told (part_field c.args.item c.in-Field.field told (search rules) e))
+    ok_by c.say_next.result c.say_next.ensures.said (λ says told e. says told (part_field c.args.item c.in-Field.field told (search rules) e))
 
 pub returns-in-Field-clause-front : goal.returns-in-Field-clause-front
 returns-in-Field-clause-front g c =
-    err_by c.say_field.result c.say_field.ensures.front (λ begins told e. begins told (part_field c.args.item c.in-Field.field told (search rules) e))
+    err_by c.say_next.result c.say_next.ensures.front (λ begins told e. begins told (part_field c.args.item c.in-Field.field told (search rules) e))
 
 pub returns-in-Text-clause-said : goal.returns-in-Text-clause-said
 returns-in-Text-clause-said g c =

@@ -10,9 +10,9 @@ returns-in_err-say_next-clause-front g c = err_any c.from_residual.result (inl c
 pub returns-clause-said : goal.returns-clause-said
 returns-clause-said g c =
     ok_by c.say_reference.result c.say_reference.ensures.said
-    (λ says. said_first (item.Tag c.args.tag) (item.Tag 0x71) (item.Handle c.args.class ∷ []) _ _ _ _ _ _ c.args.walk.now _ _ c.in_ok-say_next.ensures.said c.in_ok-say_next.ensures.goes says)
+    (λ says. said_first (item.Tag c.args.tag) (item.Tag 0x71) (item.Handle c.args.class ∷ []) _ _ _ _ _ _ c.args.printer.now _ _ c.in_ok-say_next.ensures.said c.in_ok-say_next.ensures.goes says)
 
 pub returns-clause-front : goal.returns-clause-front
 returns-clause-front g c =
     err_by c.say_reference.result c.say_reference.ensures.front
-    (λ begins. begun_first (item.Tag c.args.tag) (item.Tag 0x71) (item.Handle c.args.class ∷ []) _ _ _ _ _ _ c.args.walk.now _ c.in_ok-say_next.ensures.said c.in_ok-say_next.ensures.goes begins)
+    (λ begins. begun_first (item.Tag c.args.tag) (item.Tag 0x71) (item.Handle c.args.class ∷ []) _ _ _ _ _ _ c.args.printer.now _ c.in_ok-say_next.ensures.said c.in_ok-say_next.ensures.goes begins)

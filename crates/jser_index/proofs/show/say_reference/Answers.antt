@@ -5,16 +5,16 @@ use Rattle.jser_index.proofs.WholeLemmas.{ok_both}
 use Rattle.jser_index.proofs.SaidLemmas.{said_first, begun_first}
 use Rattle.jser_index.proofs.show.say_reference.Goals as goal
 
-pub returns-in_err-say_reference_tag-clause-front : goal.returns-in_err-say_reference_tag-clause-front
-returns-in_err-say_reference_tag-clause-front g c = err_any c.from_residual.result (inl c.in_err-say_reference_tag.ensures.front)
+pub returns-in_err-say_next-clause-front : goal.returns-in_err-say_next-clause-front
+returns-in_err-say_next-clause-front g c = err_any c.from_residual.result (inl c.in_err-say_next.ensures.front)
 
 pub returns-clause-said : goal.returns-clause-said
 returns-clause-said g c =
-    ok_both c.say_handle.result c.say_handle.ensures.said c.say_handle.ensures.goes
-    (λ says goes_on. said_first (item.Tag 0x71) (item.Handle c.args.handle) [] _ _ _ _ _ _ c.args.walk.now _ _ c.in_ok-say_reference_tag.ensures.said c.in_ok-say_reference_tag.ensures.goes
+    ok_both c.say_next-2.result c.say_next-2.ensures.said c.say_next-2.ensures.goes
+    (λ says goes_on. said_first (item.Tag 0x71) (item.Handle c.args.handle) [] _ _ _ _ _ _ c.args.printer.now _ _ c.in_ok-say_next.ensures.said c.in_ok-say_next.ensures.goes
     (record { said = says; goes_on = goes_on }))
 
 pub returns-clause-front : goal.returns-clause-front
 returns-clause-front g c =
-    err_by c.say_handle.result c.say_handle.ensures.front
-    (λ begins. begun_first (item.Tag 0x71) (item.Handle c.args.handle) [] _ _ _ _ _ _ c.args.walk.now _ c.in_ok-say_reference_tag.ensures.said c.in_ok-say_reference_tag.ensures.goes begins)
+    err_by c.say_next-2.result c.say_next-2.ensures.front
+    (λ begins. begun_first (item.Tag 0x71) (item.Handle c.args.handle) [] _ _ _ _ _ _ c.args.printer.now _ c.in_ok-say_next.ensures.said c.in_ok-say_next.ensures.goes begins)

@@ -11,10 +11,10 @@ returns-in_err-say_next-clause-front g c = err_any c.from_residual.result (inl c
 pub returns-clause-said : goal.returns-clause-said
 returns-clause-said g c =
     ok_both c.say_text.result c.say_text.ensures.said c.say_text.ensures.goes
-    (λ says goes_on. said_first (item.Tag 0x74) (item.TextPart c.args.text) [] _ _ _ _ _ _ c.args.walk.now _ _ c.in_ok-say_next.ensures.said c.in_ok-say_next.ensures.goes
+    (λ says goes_on. said_first (item.Tag 0x74) (item.TextPart c.args.text) [] _ _ _ _ _ _ c.args.printer.now _ _ c.in_ok-say_next.ensures.said c.in_ok-say_next.ensures.goes
     (record { said = λ told e. says told (as_text c.args.text told e); goes_on = λ told e. goes_on told (as_text c.args.text told e) }))
 
 pub returns-clause-front : goal.returns-clause-front
 returns-clause-front g c =
     err_by c.say_text.result c.say_text.ensures.front
-    (λ begins. begun_first (item.Tag 0x74) (item.TextPart c.args.text) [] _ _ _ _ _ _ c.args.walk.now _ c.in_ok-say_next.ensures.said c.in_ok-say_next.ensures.goes (λ told e. begins told (as_text c.args.text told e)))
+    (λ begins. begun_first (item.Tag 0x74) (item.TextPart c.args.text) [] _ _ _ _ _ _ c.args.printer.now _ c.in_ok-say_next.ensures.said c.in_ok-say_next.ensures.goes (λ told e. begins told (as_text c.args.text told e)))

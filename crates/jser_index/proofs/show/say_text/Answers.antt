@@ -1,12 +1,15 @@
-use Rattle.jser_index.proofs.PlainLemmas.{plain_said, plain_goes}
+use Rattle.jser_index.proofs.PlainLemmas.{plain_said, plain_goes, plain_begins}
+use Rattle.jser_index.proofs.ShowLemmas.{ok_by, err_by}
 use Rattle.jser_index.proofs.show.say_text.Goals as goal
 
-pub returns-then-say_plain_string-clause-said : goal.returns-then-say_plain_string-clause-said
-returns-then-say_plain_string-clause-said g c =
-    let is_plain = c.if-say_plain_string.true in
-    plain_said _ _ _ _ c.args.walk.now c.args.bytes.now (c.say_plain_string.ensures.ascii is_plain) (c.say_plain_string.ensures.said is_plain)
+pub returns-in-Some-clause-said : goal.returns-in-Some-clause-said
+returns-in-Some-clause-said g c =
+    ok_by c.say_plain.result c.say_plain.ensures.said (plain_said _ _ _ _ c.args.printer.now c.in-Some.plain.bytes.now c.args.bytes.now c.in-Some.ensures.is c.in-Some.ensures.ascii)
 
-pub returns-then-say_plain_string-clause-goes : goal.returns-then-say_plain_string-clause-goes
-returns-then-say_plain_string-clause-goes g c =
-    let is_plain = c.if-say_plain_string.true in
-    plain_goes c.args.walk.now c.say_plain_string.new.printer c.args.bytes.now (c.say_plain_string.ensures.ascii is_plain) (c.say_plain_string.ensures.goes is_plain)
+pub returns-in-Some-clause-goes : goal.returns-in-Some-clause-goes
+returns-in-Some-clause-goes g c =
+    ok_by c.say_plain.result c.say_plain.ensures.goes (plain_goes c.args.printer.now c.say_plain.new.self c.in-Some.plain.bytes.now c.args.bytes.now c.in-Some.ensures.is c.in-Some.ensures.ascii)
+
+pub returns-in-Some-clause-front : goal.returns-in-Some-clause-front
+returns-in-Some-clause-front g c =
+    err_by c.say_plain.result c.say_plain.ensures.front (plain_begins _ _ _ _ c.args.printer.now c.in-Some.plain.bytes.now c.args.bytes.now c.in-Some.ensures.is c.in-Some.ensures.ascii)

@@ -1,74 +1,109 @@
 //! Single words, with the numbers and units at their edges.
 
+use super::assert_said;
 use jser_prim::{Outbox, Sink};
-use jser_printer::{
-    Due, Field, Name, Printer, say, say_decimal, say_due, say_field, say_next, say_quoted,
-};
+use jser_printer::{Field, OwnerNode, Printer, say, say_decimal, say_quoted};
 use std::alloc::{AllocError, AllocGlobal};
 use std::process::Abort;
 use std::test::Fail;
 use test_support::Page;
 
-/// This is due as this text.
-fn assert_due(rt: &(impl Abort + AllocGlobal), due: Due<'_>, text: &[u8]) {
-    let mut page = Page::new(rt.alloc(), 1, 1000);
-    let mut outbox = Outbox::new();
-    say_due(&mut outbox, &mut page, due);
-    outbox.flush(&mut page);
-    assert!(rt; page.bytes.as_slice() == text);
-}
-
-#[test]
-fn dues(rt: HostRuntime) {
-    let section = Due::Section {
-        level: 1,
-        name: None,
-    };
-    assert_due(&rt, section, b"  data proxy\n");
-    assert_due(&rt, Due::Quiet, b"");
-}
-
-/// The section of an externalizable object whose class has this name begins with this text.
-fn assert_external(rt: &(impl Abort + AllocGlobal), name: &Name, text: &[u8]) {
-    let external = Due::External {
-        level: 0,
-        name: Some(name),
-    };
-    assert_due(rt, external, text);
-}
+/// An externalizable object of a class whose name has units that do not stand for themselves.
+const EXTERNAL: [Field<'static>; 10] = [
+    Field::Header,
+    Field::Tag(0x73),
+    Field::Tag(0x72),
+    Field::Text(&[0x22, 0x41, 0x5C, 0xE9]),
+    Field::Suid(1),
+    Field::Flags(0x0C),
+    Field::FieldCount(0),
+    Field::Tag(0x78),
+    Field::Tag(0x70),
+    Field::Tag(0x78),
+];
 
 #[test]
 fn name_of_a_section(rt: HostRuntime) -> Result<(), Fail> {
-    let name = Name::new(rt.alloc(), &[0x22, 0x41, 0x5C, 0xE9])?;
-    assert_external(&rt, &name, b"external \"\\\"A\\\\\\u00e9\"\n");
-    Ok(())
+    let owners = [OwnerNode {
+        number: 1,
+        elements: 0,
+    }];
+    let want = b"stream version 5
+object #0.7e0001
+  class desc #0.7e0000 \"\\\"A\\\\\\u00e9\" suid 0000000000000001 flags 0c
+    super null
+  external \"\\\"A\\\\\\u00e9\"
+";
+    assert_said(&rt, &owners, &EXTERNAL, want)
+}
+
+/// How an array of one element begins, whose class was named before.
+const ARRAY: [Field<'static>; 4] = [
+    Field::Tag(0x75),
+    Field::Tag(0x71),
+    Field::Handle(0x7E0000),
+    Field::ArrayLength(1),
+];
+
+/// Says a null inside so many arrays, in one that is the content of the stream.
+fn say_nested<W: Sink>(
+    outbox: &mut Outbox,
+    sink: &mut W,
+    printer: &mut Printer<'_>,
+    levels: u32,
+) -> Result<(), AllocError> {
+    say_each(outbox, sink, printer, &[Field::Header])?;
+    for _ in 0..levels {
+        say_each(outbox, sink, printer, &ARRAY)?;
+    }
+    say_each(outbox, sink, printer, &[Field::Tag(0x70)])
+}
+
+/// How many spaces the last line begins with.
+fn spaces_of_last(text: &[u8]) -> Option<usize> {
+    text.split(|byte| *byte == b'\n')
+        .filter(|line| !line.is_empty())
+        .last()
+        .and_then(|line| line.iter().position(|byte| *byte != b' '))
 }
 
 /// How many spaces a line of this level begins with, up to its first word.
-fn spaces_at(rt: &impl AllocGlobal, level: u64) -> Option<usize> {
-    let mut page = Page::new(rt.alloc(), 1, 1000);
+fn spaces_at(rt: &impl AllocGlobal, levels: u32) -> Result<Option<usize>, AllocError> {
+    let mut page = Page::new(rt.alloc(), 512, 100000);
     let mut outbox = Outbox::new();
-    say_due(&mut outbox, &mut page, Due::Section { level, name: None });
+    let mut printer = Printer::new(rt.alloc(), &[]);
+    say_nested(&mut outbox, &mut page, &mut printer, levels)?;
     outbox.flush(&mut page);
-    page.bytes.as_slice().iter().position(|byte| *byte != b' ')
+    Ok(spaces_of_last(page.bytes.as_slice()))
 }
 
 #[test]
-fn lines_begin_with_two_spaces_a_level(rt: HostRuntime) {
-    for (level, count) in [(0u64, 0usize), (1, 2), (32, 64), (33, 66), (100, 200)] {
-        assert_eq!(rt; spaces_at(&rt, level), Some(count), "at {level}");
+fn lines_begin_with_two_spaces_a_level(rt: HostRuntime) -> Result<(), Fail> {
+    for (level, count) in [
+        (0u32, 0usize),
+        (1, 2),
+        (2, 4),
+        (3, 6),
+        (4, 8),
+        (32, 64),
+        (33, 66),
+        (100, 200),
+    ] {
+        assert_eq!(rt; spaces_at(&rt, level)?, Some(count), "at {level}");
     }
+    Ok(())
 }
 
 /// Of a field that is not wanted nothing is said.
 #[test]
-fn field_that_is_not_wanted(rt: HostRuntime) {
+fn field_that_is_not_wanted(rt: HostRuntime) -> Result<(), Fail> {
     let mut page = Page::new(rt.alloc(), 1, 1000);
     let mut outbox = Outbox::new();
-    let walk = Printer::new(rt.alloc(), &[]);
-    say_field(&mut outbox, &mut page, &walk, Field::Flags(3));
+    let mut printer = Printer::new(rt.alloc(), &[]);
+    printer.say_next(&mut outbox, &mut page, Field::Flags(3))?;
     outbox.flush(&mut page);
     assert!(rt; page.bytes.is_empty());
+    Ok(())
 }
 
 #[test]
@@ -108,11 +143,11 @@ const BLOCK: [Field<'static>; 4] = [
 fn say_each<W: Sink>(
     outbox: &mut Outbox,
     sink: &mut W,
-    walk: &mut Printer<'_>,
+    printer: &mut Printer<'_>,
     fields: &[Field<'_>],
 ) -> Result<(), AllocError> {
     for field in fields {
-        say_next(outbox, sink, walk, *field)?;
+        printer.say_next(outbox, sink, *field)?;
     }
     Ok(())
 }
@@ -131,8 +166,8 @@ fn has_200_bytes(rt: &impl Abort, text: &[u8]) {
 fn many_bytes_in_hexadecimal(rt: HostRuntime) -> Result<(), Fail> {
     let mut page = Page::new(rt.alloc(), 1, 1000);
     let mut outbox = Outbox::new();
-    let mut walk = Printer::new(rt.alloc(), &[]);
-    say_each(&mut outbox, &mut page, &mut walk, &BLOCK)?;
+    let mut printer = Printer::new(rt.alloc(), &[]);
+    say_each(&mut outbox, &mut page, &mut printer, &BLOCK)?;
     outbox.flush(&mut page);
     has_200_bytes(&rt, &page.bytes);
     Ok(())

@@ -1,5 +1,0 @@
-use Rattle.jser_printer.proofs.SilentLemmas.{nothing_of_reset}
-use Rattle.jser_printer.proofs.words.field.say_reset.Goals as goal
-
-pub returns-in_default : goal.returns-in_default
-returns-in_default g c = nothing_of_reset _ _ _ _ c.in_default.not-Top

@@ -1,0 +1,50 @@
+//! Fields that are gone past and not said, for one who asks only what is open.
+ghost use Rattle.std.specs.Prelude.{◌≡◌, false, OnOk};
+ghost use Rattle.jser_reading.specs.Labels.{StreamField};
+ghost use Rattle.jser_shown.specs.Telling.{goes, settled};
+ghost use Rattle.jser_printer.specs.Given.{IsOf};
+
+use crate::field::Field;
+use crate::printer::Printer;
+use jser_prim::{Failed, Outbox, Sink};
+use std::alloc::AllocError;
+
+/// Takes all bytes, and keeps none.
+#[derive(Drop)]
+struct Nowhere;
+
+impl Sink for Nowhere {
+    ghost has_failed = { λ _. false };
+
+    fn give(&mut self, bytes: &[u8]) -> Result<usize, Failed> {
+        Ok(bytes.len())
+    }
+
+    fn failed(&self) -> bool {
+        false
+    }
+}
+
+impl Printer<'_> {
+    /// Goes past a field with all that is due before it, and says nothing.
+    ///
+    /// # Errors
+    ///
+    /// Where memory runs out. The printer is of no use then.
+    pub fn pass(&mut self, field: Field<'_>) -> Result<(), AllocError>
+        ensures { OnOk result ((told : StreamField) → IsOf field.entry told → self.new ≡ goes (settled self.old) told) }
+    {
+        self.say_next(&mut Outbox::new(), &mut Nowhere, field)
+    }
+
+    /// Goes past all that is due before the next field, and says nothing.
+    ///
+    /// # Errors
+    ///
+    /// Where memory runs out. The printer is of no use then.
+    pub fn settle(&mut self) -> Result<(), AllocError>
+        ensures { OnOk result (self.new ≡ settled self.old) }
+    {
+        self.say_all_due(&mut Outbox::new(), &mut Nowhere)
+    }
+}

@@ -1,0 +1,122 @@
+//! Objects with raw values and values, and texts that are given by their bytes.
+
+use super::{assert_said, say_fields};
+use jser_prim::Outbox;
+use jser_printer::{Field, OwnerNode, Plain, Printer};
+use std::alloc::{AllocError, AllocGlobal};
+use std::process::Abort;
+use std::test::Fail;
+use test_support::Page;
+
+/// An object of two raw values and a reference to itself, and a second one.
+const FIELDS: [Field<'static>; 28] = [
+    Field::Header,
+    Field::Tag(0x73),
+    Field::Tag(0x72),
+    Field::Text(&[0x41]),
+    Field::Suid(1),
+    Field::Flags(2),
+    Field::FieldCount(3),
+    Field::TypeCode(b'I'),
+    Field::Text(&[0x6D]),
+    Field::TypeCode(b'J'),
+    Field::Text(&[0x6E]),
+    Field::TypeCode(b'L'),
+    Field::Text(&[0x6F]),
+    Field::Tag(0x74),
+    Field::Text(&[0x4C, 0x41, 0x3B]),
+    Field::Tag(0x78),
+    Field::Tag(0x70),
+    Field::Raw(&[0, 0, 0, 5]),
+    Field::Raw(&[0, 0, 0, 0, 0, 0, 0, 7]),
+    Field::Tag(0x71),
+    Field::Handle(0x7E0002),
+    Field::Tag(0x73),
+    Field::Tag(0x71),
+    Field::Handle(0x7E0000),
+    Field::Raw(&[0, 0, 0, 6]),
+    Field::Raw(&[0, 0, 0, 0, 0, 0, 0, 8]),
+    Field::Tag(0x74),
+    Field::Text(&[0x79, 0x65, 0x73]),
+];
+
+/// What is said of them.
+const WANT: &[u8] = b"stream version 5
+object #0.7e0002
+  class desc #0.7e0000 \"A\" suid 0000000000000001 flags 02
+    field I \"m\"
+    field J \"n\"
+    field L \"o\" type text #0.7e0001 \"LA;\"
+    super null
+  data \"A\"
+    \"m\" = 00000005
+    \"n\" = 0000000000000007
+    \"o\" = ref #0.7e0002
+object #0.7e0003
+  class ref #0.7e0000
+  data \"A\"
+    \"m\" = 00000006
+    \"n\" = 0000000000000008
+    \"o\" = text #0.7e0004 \"yes\"
+";
+
+const OWNERS: [OwnerNode; 2] = [
+    OwnerNode {
+        number: 2,
+        elements: 0,
+    },
+    OwnerNode {
+        number: 3,
+        elements: 0,
+    },
+];
+
+#[test]
+fn two_objects(rt: HostRuntime) -> Result<(), Fail> {
+    assert_said(&rt, &OWNERS, &FIELDS, WANT)
+}
+
+/// A string that is given by its bytes.
+fn say_plain(
+    rt: &(impl Abort + AllocGlobal),
+    page: &mut Page,
+    bytes: &[u8],
+) -> Result<bool, AllocError> {
+    let Some(plain) = Plain::of(bytes) else {
+        return Ok(false);
+    };
+    let mut outbox = Outbox::new();
+    let mut printer = Printer::new(rt.alloc(), &[]);
+    say_fields(
+        &mut outbox,
+        page,
+        &mut printer,
+        &[Field::Header, Field::Tag(0x74)],
+    )?;
+    printer.say_plain(&mut outbox, page, plain)?;
+    outbox.flush(page);
+    Ok(true)
+}
+
+#[test]
+fn a_text_by_its_bytes(rt: HostRuntime) -> Result<(), Fail> {
+    let mut page = Page::new(rt.alloc(), 1, 100);
+    assert!(rt; say_plain(&rt, &mut page, b"yes ~")?);
+    let want = b"stream version 5\ntext #0.7e0000 \"yes ~\"\n";
+    assert!(rt; page.bytes.as_slice() == want.as_slice());
+    Ok(())
+}
+
+/// Quotes, backslashes and all outside 20 to 7E do not stand for themselves.
+#[test]
+fn bytes_that_are_not_plain(rt: HostRuntime) {
+    for bytes in [
+        b"a\"".as_slice(),
+        b"\\".as_slice(),
+        b"\x1F".as_slice(),
+        b"\x7F".as_slice(),
+    ] {
+        assert!(rt; Plain::of(bytes).is_none());
+    }
+    assert!(rt; Plain::of(b"").is_some());
+}
