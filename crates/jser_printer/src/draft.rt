@@ -42,6 +42,7 @@ impl Draft {
     }
 
     /// A descriptor of this name, with no field.
+    #[inline(never)]
     pub(crate) fn begin(&mut self, name: Text<'_>) -> Result<(), AllocError>
         ensures name { OnOk result (self.new.name ≡ told_text name.entry) }
     {
@@ -66,6 +67,7 @@ impl Draft {
 
     /// One field more.
     #[tactic(auto, using(crate::proofs::DraftLemmas::done_push))]
+    #[inline(never)]
     pub(crate) fn add_field(&mut self, code: u8, name: Text<'_>) -> Result<(), AllocError>
         ensures name { OnOk result (self.new.name ≡ self.old.name) }
         ensures done { OnOk result (self.new.done ≡ record { code = code; name = told_text name.entry } ∷ self.old.done) }

@@ -109,6 +109,7 @@ impl<'a> Standing<'a> {
     }
 
     /// Assigns the next handle to a descriptor, and gives its number.
+    #[inline(never)]
     pub(crate) fn add_descriptor(&mut self) -> Result<usize, AllocError>
         ensures added { OnOk result (self.new ≡ teller self.old.epoch (with_entry self.old.known known_pending) self.old.owners self.old.cues) }
         ensures number { IfOk result (λ number. number ≡ length self.old.known) }

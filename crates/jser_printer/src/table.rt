@@ -136,6 +136,7 @@ impl Table {
     ///
     /// Where memory runs out, where no descriptor with this number is open, or where its chain has more layers than 32 bits
     /// count. No stream that was checked leads to the last two.
+    #[inline(never)]
     pub(crate) fn close(
         &mut self,
         number: usize,

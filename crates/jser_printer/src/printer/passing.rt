@@ -1,15 +1,40 @@
 //! What is due between two fields.
-ghost use Rattle.std.specs.Prelude.{IfOk};
+ghost use Rattle.std.specs.Prelude.{◌≡◌, [], IfOk, OnOk};
+ghost use Rattle.jser_shown.specs.Cues.{fields_done, rest_of_desc, teller};
+ghost use Rattle.jser_shown.specs.Known.{class_layer, proxy_layer};
 ghost use Rattle.jser_printer.specs.Passing.{Passed};
 ghost use Rattle.jser_printer.specs.Says.{SaysTo};
 ghost use Rattle.jser_printer.specs.Steps.{due, due_says};
 
+use crate::draft::Draft;
 use crate::layer::Layer;
-use crate::phase::{Over, Phase};
+use crate::phase::{Head, Over, Phase};
 use crate::printer::Printer;
+use crate::standing::Standing;
 use crate::words::line::say;
 use jser_prim::{Outbox, Sink};
 use std::alloc::AllocError;
+
+/// The fields of a class have ended: its annotation and its superclass come.
+#[inline(never)]
+fn end_class(
+    draft: &mut Draft,
+    standing: &mut Standing<'_>,
+    head: Head,
+    flags: u8,
+) -> Result<(), AllocError>
+    ensures { OnOk result (standing.new ≡ teller standing.old.epoch standing.old.known standing.old.owners (rest_of_desc head.level head.number (class_layer draft.old.name flags (fields_done draft.old.done [])) standing.old.cues)) }
+{
+    standing.end_fields(head, draft.finish(flags))
+}
+
+/// The interfaces of a proxy class have ended: the same.
+#[inline(never)]
+fn end_proxy(standing: &mut Standing<'_>, head: Head) -> Result<(), AllocError>
+    ensures { OnOk result (standing.new ≡ teller standing.old.epoch standing.old.known standing.old.owners (rest_of_desc head.level head.number proxy_layer standing.old.cues)) }
+{
+    standing.end_fields(head, Layer::Proxy)
+}
 
 impl<'a> Printer<'a> {
     /// Says what is due next where no field belongs to it, and does it. The answer is whether anything was due.
@@ -64,8 +89,7 @@ impl<'a> Printer<'a> {
                     if left > 0 {
                         return Ok(false);
                     }
-                    let layer = self.draft.finish(flags);
-                    self.standing.end_fields(head, layer)?;
+                    end_class(&mut self.draft, &mut self.standing, head, flags)?;
                     self.phase = Phase::Frames;
                     Ok(true)
                 }
@@ -77,7 +101,7 @@ impl<'a> Printer<'a> {
                 if left > 0 {
                     return Ok(false);
                 }
-                self.standing.end_fields(head, Layer::Proxy)?;
+                end_proxy(&mut self.standing, head)?;
                 self.phase = Phase::Frames;
                 Ok(true)
             }

@@ -15,6 +15,7 @@ use byteorder::{BigEndian, ByteOrder};
 use jser_prim::{Outbox, Sink};
 
 /// Says a serial version UID.
+#[inline(never)]
 pub(crate) fn say_suid_word<W: Sink>(outbox: &mut Outbox, sink: &mut W, suid: u64)
     ensures { SaysTo W.gone_out W.has_failed outbox.old outbox.new sink.old sink.new (λ k. codes " suid " ++ (encode_lower (big_bytes 8 suid) ++ k)) }
 {
@@ -25,6 +26,7 @@ pub(crate) fn say_suid_word<W: Sink>(outbox: &mut Outbox, sink: &mut W, suid: u6
 }
 
 /// Says the flags of a descriptor.
+#[inline(never)]
 pub(crate) fn say_flags_word<W: Sink>(outbox: &mut Outbox, sink: &mut W, flags: u8)
     ensures { SaysTo W.gone_out W.has_failed outbox.old outbox.new sink.old sink.new (λ k. codes " flags " ++ (encode_lower (flags ∷ []) ++ end_line k)) }
 {
@@ -33,6 +35,7 @@ pub(crate) fn say_flags_word<W: Sink>(outbox: &mut Outbox, sink: &mut W, flags: 
 }
 
 /// Says the type code of a field, which its name is to follow.
+#[inline(never)]
 pub(crate) fn say_field_word<W: Sink>(outbox: &mut Outbox, sink: &mut W, level: u64, code: u8)
     ensures { SaysTo W.gone_out W.has_failed outbox.old outbox.new sink.old sink.new (λ k. begin_line level (codes "field " ++ (code ∷ 0x20 ∷ k))) }
 {
@@ -42,6 +45,7 @@ pub(crate) fn say_field_word<W: Sink>(outbox: &mut Outbox, sink: &mut W, level: 
 }
 
 /// Says the name of an interface.
+#[inline(never)]
 pub(crate) fn say_interface_word<W: Sink>(
     outbox: &mut Outbox,
     sink: &mut W,

@@ -26,7 +26,7 @@ pub fn say_quoted<W: Sink>(outbox: &mut Outbox, sink: &mut W, units: &[u16])
 }
 
 /// Says a text as a quoted text.
-#[inline(always)]
+#[inline(never)]
 pub(crate) fn say_text<W: Sink>(outbox: &mut Outbox, sink: &mut W, text: Text<'_>)
     ensures { SaysTo W.gone_out W.has_failed outbox.old outbox.new sink.old sink.new (λ k. quoted (told_text text.entry) k) }
 {
@@ -37,7 +37,7 @@ pub(crate) fn say_text<W: Sink>(outbox: &mut Outbox, sink: &mut W, text: Text<'_
 }
 
 /// Says a text as a quoted text, and the end of its line.
-#[inline(always)]
+#[inline(never)]
 pub(crate) fn say_text_line<W: Sink>(outbox: &mut Outbox, sink: &mut W, text: Text<'_>)
     ensures { SaysTo W.gone_out W.has_failed outbox.old outbox.new sink.old sink.new (λ k. quoted (told_text text.entry) (end_line k)) }
 {

@@ -10,7 +10,7 @@ use crate::words::quote::say_name_line;
 use jser_prim::{Outbox, Sink};
 
 /// Says the first line of a section, of a class with this name or of a proxy.
-#[inline(always)]
+#[inline(never)]
 pub(crate) fn say_section<W: Sink>(
     outbox: &mut Outbox,
     sink: &mut W,

@@ -23,7 +23,7 @@ pub(crate) struct Place {
 }
 
 /// Says what a tag begins: the whole line of a null, else the words before what comes next.
-#[inline(always)]
+#[inline(never)]
 pub(crate) fn say_value_tag<W: Sink>(outbox: &mut Outbox, sink: &mut W, place: Place, tag: Tag)
     ensures { SaysTo W.gone_out W.has_failed outbox.old outbox.new sink.old sink.new (λ k. tag_words place (told_tag tag) k) }
 {
@@ -71,6 +71,7 @@ fn say_array<W: Sink>(outbox: &mut Outbox, sink: &mut W, place: Place)
 }
 
 /// Says the word of a block.
+#[inline(never)]
 pub(crate) fn say_block_word<W: Sink>(outbox: &mut Outbox, sink: &mut W, long: bool)
     ensures { SaysTo W.gone_out W.has_failed outbox.old outbox.new sink.old sink.new (λ k. block_word long k) }
 {

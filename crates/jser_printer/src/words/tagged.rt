@@ -14,7 +14,7 @@ use crate::words::value::{say_element_index, say_field_start};
 use jser_prim::{Outbox, Sink};
 
 /// Says a tag whose line begins with a word.
-#[inline(always)]
+#[inline(never)]
 pub(crate) fn say_worded_tag<W: Sink>(
     outbox: &mut Outbox,
     sink: &mut W,
@@ -31,6 +31,7 @@ pub(crate) fn say_worded_tag<W: Sink>(
 }
 
 /// Says the tag of an element.
+#[inline(never)]
 pub(crate) fn say_element_tag<W: Sink>(
     outbox: &mut Outbox,
     sink: &mut W,
@@ -47,6 +48,7 @@ pub(crate) fn say_element_tag<W: Sink>(
 }
 
 /// Says the tag of a field's value, in a section of this level.
+#[inline(never)]
 pub(crate) fn say_field_tag<W: Sink>(
     outbox: &mut Outbox,
     sink: &mut W,
@@ -62,6 +64,7 @@ pub(crate) fn say_field_tag<W: Sink>(
 }
 
 /// Says the tag of a block in an annotation.
+#[inline(never)]
 pub(crate) fn say_note_block<W: Sink>(outbox: &mut Outbox, sink: &mut W, level: u64, long: bool)
     ensures { SaysTo W.gone_out W.has_failed outbox.old outbox.new sink.old sink.new (λ k. begin_line level (codes "note " ++ block_word long k)) }
 {

@@ -39,6 +39,7 @@ pub(crate) fn say_raw<W: Sink>(outbox: &mut Outbox, sink: &mut W, bytes: &[u8])
 }
 
 /// Says the line of a raw value that is a field, in a section of this level.
+#[inline(never)]
 pub(crate) fn say_raw_field<W: Sink>(
     outbox: &mut Outbox,
     sink: &mut W,
@@ -62,6 +63,7 @@ fn say_raw_element<W: Sink>(outbox: &mut Outbox, sink: &mut W, level: u64, index
 }
 
 /// Says the lines of so many raw elements, whose bytes are cut into pieces of one size. The first has this index.
+#[inline(never)]
 pub(crate) fn say_raw_elements<W: Sink>(
     outbox: &mut Outbox,
     sink: &mut W,
@@ -103,6 +105,7 @@ fn say_pieces<W: Sink>(
 }
 
 /// Says the length of a block; where it is 0, the line ends there.
+#[inline(never)]
 pub(crate) fn say_block_length<W: Sink>(outbox: &mut Outbox, sink: &mut W, length: u32)
     ensures { SaysTo W.gone_out W.has_failed outbox.old outbox.new sink.old sink.new (λ k. block_length_says (seen_block_length length) k) }
 {

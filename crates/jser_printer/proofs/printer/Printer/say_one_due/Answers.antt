@@ -20,13 +20,19 @@ returns-in-Handle-clause-said g c = quiet_phase _ _ _ _ (phase.Fields c.in-Field
 pub returns-then-left-gt0-2-clause-said : goal.returns-then-left-gt0-2-clause-said
 returns-then-left-gt0-2-clause-said g c = quiet_phase _ _ _ _ (phase.Interfaces c.in-Interfaces.head c.in-Interfaces.left) _ _ _ c.self.view_is c.in-Interfaces.is (λ k. end_quiet c.in-Interfaces.left k)
 
-pub returns-in_err-end_fields-in-Interfaces-clause-said : goal.returns-in_err-end_fields-in-Interfaces-clause-said
-returns-in_err-end_fields-in-Interfaces-clause-said g c = quiet_phase _ _ _ _ (phase.Interfaces c.in-Interfaces.head c.in-Interfaces.left) _ _ _ c.self.view_is c.in-Interfaces.is (λ k. end_quiet c.in-Interfaces.left k)
+pub returns-in_err-end_proxy-in-Interfaces-clause-said : goal.returns-in_err-end_proxy-in-Interfaces-clause-said
+returns-in_err-end_proxy-in-Interfaces-clause-said g c = quiet_phase _ _ _ _ (phase.Interfaces c.in-Interfaces.head c.in-Interfaces.left) _ _ _ c.self.view_is c.in-Interfaces.is (λ k. end_quiet c.in-Interfaces.left k)
 
-pub returns-in_ok-end_fields-in-Interfaces-clause-said : goal.returns-in_ok-end_fields-in-Interfaces-clause-said
-returns-in_ok-end_fields-in-Interfaces-clause-said g c = quiet_phase _ _ _ _ (phase.Interfaces c.in-Interfaces.head c.in-Interfaces.left) _ _ _ c.self.view_is c.in-Interfaces.is (λ k. end_quiet c.in-Interfaces.left k)
+pub returns-in_ok-end_proxy-in-Interfaces-clause-said : goal.returns-in_ok-end_proxy-in-Interfaces-clause-said
+returns-in_ok-end_proxy-in-Interfaces-clause-said g c = quiet_phase _ _ _ _ (phase.Interfaces c.in-Interfaces.head c.in-Interfaces.left) _ _ _ c.self.view_is c.in-Interfaces.is (λ k. end_quiet c.in-Interfaces.left k)
 
 pub returns-in_default : goal.returns-in_default
 returns-in_default g c =
     let none = ap due (sym c.self.view_is) ∙ none_in_phase c.self.inside.phase c.self.inside.draft.name c.self.inside.draft.done c.self.inside.standing c.in_default.not-Frames c.in_default.not-Fields c.in_default.not-Interfaces in
     record { said = none_said _ _ _ none; passed = (none, refl) }
+
+pub returns-in_err-end_class-in-Nothing-clause-said : goal.returns-in_err-end_class-in-Nothing-clause-said
+returns-in_err-end_class-in-Nothing-clause-said g c = quiet_phase _ _ _ _ (phase.Fields c.in-Fields.head c.in-Fields.flags c.in-Fields.left over.Nothing) _ _ _ c.self.view_is (c.in-Fields.is ∙ ap (λ o. phase.Fields c.in-Fields.head c.in-Fields.flags c.in-Fields.left o) c.in-Nothing.is) (λ k. end_quiet c.in-Fields.left k)
+
+pub returns-in_ok-end_class-in-Nothing-clause-said : goal.returns-in_ok-end_class-in-Nothing-clause-said
+returns-in_ok-end_class-in-Nothing-clause-said g c = quiet_phase _ _ _ _ (phase.Fields c.in-Fields.head c.in-Fields.flags c.in-Fields.left over.Nothing) _ _ _ c.self.view_is (c.in-Fields.is ∙ ap (λ o. phase.Fields c.in-Fields.head c.in-Fields.flags c.in-Fields.left o) c.in-Nothing.is) (λ k. end_quiet c.in-Fields.left k)
