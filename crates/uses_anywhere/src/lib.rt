@@ -1,8 +1,9 @@
-//! Callers of `jser_check_anywhere`, whose contracts are its promises in one sentence each and follow from its public clauses
-//! alone; and its tests.
+//! Callers of `jser_anywhere` and `jser_check_anywhere`, whose contracts are promises of theirs in one sentence each and
+//! follow from public clauses alone; and the tests of `jser_check_anywhere`.
 #![tactic(auto)]
 
 pub mod exact;
 pub mod messages;
+pub mod places;
 #[cfg(test)]
 mod tests;
