@@ -1,13 +1,15 @@
 //! A store, which writes contents and reads them again.
-ghost use Rattle.std.specs.Prelude.{◌≡◌, IfOk, List, ℕ, length, Some};
+ghost use Rattle.std.specs.Prelude.{◌≡◌, IfOk, IfSome, List, ℕ, length, Some};
 ghost use Rattle.jser_grammar.specs.Spelling.{spelling};
+ghost use Rattle.jser_reader.specs.Gates.{open_gate};
+ghost use Rattle.jser_trees.specs.Answers.{CarriesFirst, tree_gate};
 ghost use Rattle.jser_trees.specs.Building.{list_in};
 ghost use Rattle.jser_value.specs.View.{view_contents};
 
 use jser_prim::{Failed, Sink};
 use jser_reading::laws::one_reading;
 use jser_trees::laws::{finds_list, written_passes};
-use jser_trees::{OpenGate, Stop, read_all};
+use jser_trees::{OpenGate, Refusal, Stop, read_all};
 use jser_value::{Contents, encode};
 use std::alloc::Global;
 
@@ -68,6 +70,22 @@ pub fn is_said_by_its_bytes(contents: &Contents)
 {
     let _ = contents.list();
     finds_list();
+}
+
+/// The first fault of bytes that the store did not write, if they have one.
+///
+/// # Errors
+///
+/// `NoMemory` where memory ran out.
+pub fn fault_of(alloc: Global, bytes: &[u8]) -> Result<Option<Refusal>, NoMemory>
+    ensures { IfOk result (λ found. IfSome found (CarriesFirst (tree_gate open_gate) bytes.now)) }
+{
+    match read_all(alloc, bytes, &OpenGate) {
+        Ok(_) => Ok(None),
+        Err(Stop::Refused(refusal)) => Ok(Some(refusal)),
+        Err(Stop::OutOfMemory) => Err(NoMemory),
+        Err(Stop::Spent) => unreachable!(),
+    }
 }
 
 /// Writes the contents, and reads them again.
