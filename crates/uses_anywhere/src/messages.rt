@@ -5,7 +5,9 @@ ghost use Rattle.jser_check_anywhere.specs.Answers.{AreUndecided, HasTaken, Repo
 ghost use Rattle.jser_check_anywhere.specs.FaultTexts.{anywhere_fault_text};
 ghost use Rattle.jser_check_anywhere.specs.Joins.{repeated};
 
+use jser_check::Options;
 use jser_check_anywhere::{AnywhereChecker, AnywhereFault};
+use jser_filter::Filter;
 use jser_reader::Totals;
 use std::alloc::{AllocError, Global};
 
@@ -26,6 +28,46 @@ pub fn check_message<'f>(
         Ok(()) => checker.finish(),
         Err(fault) => Err(fault),
     }
+}
+
+/// Checks a message that came whole, under a filter that is another's.
+///
+/// # Errors
+///
+/// As `feed` and `finish` of `AnywhereChecker`.
+#[tactic(auto, using(crate::proofs::ExactLemmas::reports_end))]
+pub fn check_one(
+    alloc: Global,
+    filter: &Filter,
+    options: Options,
+    message: &[u8],
+) -> Result<Totals, AnywhereFault>
+    ensures accepted { IfOk result (ReportsAnywhere filter.now options message.now) }
+{
+    let mut checker = AnywhereChecker::lent(alloc, filter, options);
+    match checker.feed(message) {
+        Ok(()) => checker.finish(),
+        Err(fault) => Err(fault),
+    }
+}
+
+/// The same under a filter of its own, with the check for the next messages.
+#[tactic(auto, using(crate::proofs::ExactLemmas::reports_end))]
+pub fn check_first<'f>(
+    alloc: Global,
+    filter: Filter,
+    options: Options,
+    message: &[u8],
+) -> (AnywhereChecker<'f>, Result<Totals, AnywhereFault>)
+    ensures gate { (result.0.reader.gate.filter ≡ filter) × (result.0.reader.gate.options ≡ options) }
+    ensures accepted { IfOk result.1 (ReportsAnywhere filter options message.now) }
+{
+    let mut checker = AnywhereChecker::new(alloc, filter, options);
+    let answer = match checker.feed(message) {
+        Ok(()) => checker.finish(),
+        Err(fault) => Err(fault),
+    };
+    (checker, answer)
 }
 
 /// Takes the piece, and returns whether the stream may go on.
