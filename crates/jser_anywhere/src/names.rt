@@ -4,8 +4,8 @@ ghost use Rattle.jser_anywhere.specs.NamesIn.{TellsNext, names_in, row_of, untol
 
 use crate::name::Units;
 use crate::search::text_of;
-use jser_grammar::wire::{TC_CLASSDESC, TC_PROXYCLASSDESC};
 use arrayvec::ArrayVec;
+use jser_grammar::wire::{TC_CLASSDESC, TC_PROXYCLASSDESC};
 use std::marker::Model;
 
 /// Where a name stands.

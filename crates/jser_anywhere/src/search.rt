@@ -4,8 +4,8 @@ ghost use Rattle.jser_anywhere.specs.Search.{TellsFirst, TellsText, hidden_here,
 
 use crate::hidden::{Hidden, Judge};
 use crate::name::{MOST_BYTES, Units, read_name};
-use jser_grammar::wire::{TC_CLASSDESC, TC_PROXYCLASSDESC};
 use arrayvec::ArrayVec;
+use jser_grammar::wire::{TC_CLASSDESC, TC_PROXYCLASSDESC};
 
 /// How many bytes the name at the head of these bytes has, with its length, if one stands there; `units` then has
 /// its units.
