@@ -1,5 +1,5 @@
 //! Fields that are gone past and not said, for one who asks only what is open.
-ghost use Rattle.std.specs.Prelude.{◌≡◌, false, OnOk};
+ghost use Rattle.std.specs.Prelude.{◌≡◌, true, OnOk};
 ghost use Rattle.jser_reading.specs.Labels.{StreamField};
 ghost use Rattle.jser_shown.specs.Telling.{goes, settled};
 ghost use Rattle.jser_printer.specs.Given.{IsOf};
@@ -9,19 +9,19 @@ use crate::printer::Printer;
 use jser_prim::{Failed, Outbox, Sink};
 use std::alloc::AllocError;
 
-/// Takes all bytes, and keeps none.
+/// A device that fails. Once it has, nothing more is made for it, so a field that would be long to say costs little.
 #[derive(Drop)]
 struct Nowhere;
 
 impl Sink for Nowhere {
-    ghost has_failed = { λ _. false };
+    ghost has_failed = { λ _. true };
 
-    fn give(&mut self, bytes: &[u8]) -> Result<usize, Failed> {
-        Ok(bytes.len())
+    fn give(&mut self, _bytes: &[u8]) -> Result<usize, Failed> {
+        Err(Failed)
     }
 
     fn failed(&self) -> bool {
-        false
+        true
     }
 }
 
