@@ -18,6 +18,7 @@ use crate::phase::Phase;
 use crate::seen::{Seen, see};
 use crate::standing::Standing;
 use crate::text::{Plain, Text};
+use crate::words::quote::say_plain_line;
 use crate::words::tag::Place;
 use jser_prim::{Outbox, Sink};
 use std::alloc::{AllocError, Global};
@@ -100,6 +101,12 @@ impl<'a> Printer<'a> {
         ensures front { OnErr result ((long : Bool)
             → BeginsTo W.gone_out W.has_failed outbox.old outbox.new sink.old sink.new (λ k. says_next self.old (text_field long plain.entry.bytes.now) k)) }
     {
+        if let Phase::Text = self.phase {
+            // Nothing is due before the units of a string, and most texts are those.
+            say_plain_line(outbox, sink, plain);
+            self.phase = Phase::Frames;
+            return Ok(());
+        }
         self.say_seen(outbox, sink, Seen::Text(Text::Plain(plain)))
     }
 

@@ -45,6 +45,16 @@ pub(crate) fn say_text_line<W: Sink>(outbox: &mut Outbox, sink: &mut W, text: Te
     say(outbox, sink, b"\n");
 }
 
+/// Says bytes that stand for themselves as a quoted text, and the end of its line.
+#[inline(always)]
+pub(crate) fn say_plain_line<W: Sink>(outbox: &mut Outbox, sink: &mut W, plain: Plain<'_>)
+    ensures { SaysTo W.gone_out W.has_failed outbox.old outbox.new sink.old sink.new (λ k. quoted plain.entry.bytes.now (end_line k)) }
+{
+    say(outbox, sink, b"\"");
+    say(outbox, sink, plain.bytes());
+    say(outbox, sink, b"\"\n");
+}
+
 /// Says bytes that stand for themselves as a quoted text.
 #[inline(always)]
 fn say_plain<W: Sink>(outbox: &mut Outbox, sink: &mut W, plain: Plain<'_>)
