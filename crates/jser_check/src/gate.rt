@@ -1,7 +1,7 @@
 //! The gate of a filter: what a filter and its options let pass besides being a stream.
 ghost use Rattle.std.specs.Prelude.{◌≡◌, ◌≤◌, ◌↔◌, ℕ, List};
 ghost use Rattle.jser_grammar.specs.Trees.{ContentTrees};
-ghost use Rattle.jser_reader.specs.Gates.{told_answer};
+ghost use Rattle.jser_reader.specs.Gates.{view_answer};
 ghost use Rattle.jser_verdict.specs.Passing.{Passes};
 ghost use Rattle.jser_check.specs.Admitted.{lesser, answer_at, gate_of_filter, IsAdmitted};
 
@@ -82,7 +82,7 @@ impl<'f> Gate for FilterGate<'f> {
 
 /// What a gate answers to a name of which the filter says this.
 fn answer_at(options: Options, verdict: Verdict) -> Answer
-    ensures { told_answer result ≡ answer_at options verdict }
+    ensures { view_answer result ≡ answer_at options verdict }
 {
     match verdict {
         Verdict::Allowed(_) | Verdict::NoClass => Answer::Pass,

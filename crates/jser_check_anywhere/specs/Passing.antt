@@ -1,7 +1,7 @@
 -- What a filter admits where it is asked about every class name that stands at any place.
 use Rattle.std.specs.Prelude.{◌≡◌, ◌≢◌, ℕ, Bool, true, false, List, Option, Some, None}
 use Rattle.jser_table.specs.declared.layer.LayerKind.{LayerKind}
-use Rattle.jser_table.specs.Names.{name_kind, malformed_name, told_kind}
+use Rattle.jser_table.specs.Names.{name_kind, malformed_name, view_kind}
 use Rattle.jser_filter.specs.Filters.{FilterView}
 use Rattle.jser_grammar.specs.Trees.{ContentTrees}
 use Rattle.jser_verdict.specs.Gates.{Answer, is_pass}
@@ -24,7 +24,7 @@ passes_as answer None = false
 passes_as answer (Some kind) = is_pass answer
 
 abbrev pub passes_name : FilterView → Options → List ℕ → Bool
-passes_name filter options name = passes_as ((gate_of_filter filter options).answer name) (told_kind (name_kind name))
+passes_name filter options name = passes_as ((gate_of_filter filter options).answer name) (view_kind (name_kind name))
 
 -- The bytes are a stream of this list which the filter admits, and it admits each name that stands at any place of them.
 pub record IsAdmittedAnywhere (filter : FilterView) (options : Options) (bytes : List ℕ) (list : ContentTrees) : Type 0 where

@@ -18,7 +18,7 @@ use jser_filter::{Filter, Verdict};
 use jser_inputs::Input;
 use jser_names::{NameList, names_of};
 use jser_prim::{Outbox, Sink, Source};
-use jser_printer::{say, say_decimal, say_quoted};
+use jser_printer::{write, write_decimal, write_quoted};
 use jser_settings::{ACCEPTED, tell_failure};
 use jser_shown::laws::counted;
 use jser_table::{Element, element_of};
@@ -105,7 +105,7 @@ fn print_counts<W: Sink, E: Sink>(
     ensures quiet { result ≡ 0 → faults.new ≡ faults.old }
 {
     let mut outbox = Outbox::new();
-    say_lines(&mut outbox, output, filter, b"", counts);
+    write_lines(&mut outbox, output, filter, b"", counts);
     outbox.flush(output);
     if outbox.has_failed() {
         return tell_failure(faults, "write failed\n");
@@ -113,8 +113,8 @@ fn print_counts<W: Sink, E: Sink>(
     ACCEPTED
 }
 
-/// Says a line for each name that was counted, with this mark before its verdict.
-pub(crate) fn say_lines<W: Sink>(
+/// Writes a line for each name that was counted, with this mark before its verdict.
+pub(crate) fn write_lines<W: Sink>(
     outbox: &mut Outbox,
     sink: &mut W,
     filter: &Filter,
@@ -125,14 +125,14 @@ pub(crate) fn say_lines<W: Sink>(
 {
     'lines: for number in 0..counts.len() {
         match counts.get_index(number) {
-            Some((name, times)) => say_line(outbox, sink, filter, mark, *name, *times),
+            Some((name, times)) => write_line(outbox, sink, filter, mark, *name, *times),
             None => unreachable!(),
         }
     }
 }
 
-/// Says the line of a name: how often it was counted, the mark, what the filter says of it, and the name.
-fn say_line<W: Sink>(
+/// Writes the line of a name: how often it was counted, the mark, what the filter says of it, and the name.
+fn write_line<W: Sink>(
     outbox: &mut Outbox,
     sink: &mut W,
     filter: &Filter,
@@ -142,17 +142,17 @@ fn say_line<W: Sink>(
 )
     ensures { SaysTo W.gone_out W.has_failed outbox.old outbox.new sink.old sink.new (λ k. tally_line (marked_words mark.now filter.now) (name_tally name.now times) k) }
 {
-    say_decimal(outbox, sink, times);
-    say(outbox, sink, b" ");
-    say_marked(outbox, sink, filter, mark, name);
-    say(outbox, sink, b" ");
-    say_quoted(outbox, sink, name);
-    say(outbox, sink, b"\n");
+    write_decimal(outbox, sink, times);
+    write(outbox, sink, b" ");
+    write_marked(outbox, sink, filter, mark, name);
+    write(outbox, sink, b" ");
+    write_quoted(outbox, sink, name);
+    write(outbox, sink, b"\n");
 }
 
-/// Says the mark, and what the filter says of a name.
+/// Writes the mark, and what the filter says of a name.
 #[tactic(auto, using(crate::proofs::ListLemmas::says_marked))]
-fn say_marked<W: Sink>(
+fn write_marked<W: Sink>(
     outbox: &mut Outbox,
     sink: &mut W,
     filter: &Filter,
@@ -161,25 +161,25 @@ fn say_marked<W: Sink>(
 )
     ensures { SaysTo W.gone_out W.has_failed outbox.old outbox.new sink.old sink.new (λ k. marked_words mark.now filter.now name.now ++ k) }
 {
-    say(outbox, sink, mark);
-    say_verdict(outbox, sink, verdict_on(filter, name));
+    write(outbox, sink, mark);
+    write_verdict(outbox, sink, verdict_on(filter, name));
 }
 
-/// Says a verdict: `allowed:I`, `rejected:I`, `undecided` or `noclass`, with the index of the piece that decides.
-fn say_verdict<W: Sink>(outbox: &mut Outbox, sink: &mut W, verdict: Verdict)
+/// Writes a verdict: `allowed:I`, `rejected:I`, `undecided` or `noclass`, with the index of the piece that decides.
+fn write_verdict<W: Sink>(outbox: &mut Outbox, sink: &mut W, verdict: Verdict)
     ensures { SaysTo W.gone_out W.has_failed outbox.old outbox.new sink.old sink.new (λ k. verdict_words verdict ++ k) }
 {
     match verdict {
         Verdict::Allowed(index) => {
-            say(outbox, sink, b"allowed:");
-            say_decimal(outbox, sink, index as u64);
+            write(outbox, sink, b"allowed:");
+            write_decimal(outbox, sink, index as u64);
         }
         Verdict::Rejected(index) => {
-            say(outbox, sink, b"rejected:");
-            say_decimal(outbox, sink, index as u64);
+            write(outbox, sink, b"rejected:");
+            write_decimal(outbox, sink, index as u64);
         }
-        Verdict::Undecided => say(outbox, sink, b"undecided"),
-        Verdict::NoClass => say(outbox, sink, b"noclass"),
+        Verdict::Undecided => write(outbox, sink, b"undecided"),
+        Verdict::NoClass => write(outbox, sink, b"noclass"),
     }
 }
 

@@ -15,7 +15,7 @@ ghost use Rattle.jser_commands.specs.Places.{HasWhole, lines_of_both, names_in_t
 use crate::counting::{NameCounts, count_names};
 use crate::hidden::hidden_names;
 use crate::input::{Unread, print_unread, stream_of, unread_of};
-use crate::list::say_lines;
+use crate::list::write_lines;
 use jser_filter::Filter;
 use jser_index::Index;
 use jser_inputs::Input;
@@ -191,8 +191,8 @@ fn print_both<W: Sink, E: Sink>(
     ensures quiet { result ≡ 0 → faults.new ≡ faults.old }
 {
     let mut outbox = Outbox::new();
-    say_lines(&mut outbox, output, filter, b"", checked);
-    say_lines(&mut outbox, output, filter, b"hidden ", hidden);
+    write_lines(&mut outbox, output, filter, b"", checked);
+    write_lines(&mut outbox, output, filter, b"hidden ", hidden);
     outbox.flush(output);
     if outbox.has_failed() {
         return tell_failure(faults, "write failed\n");

@@ -40,7 +40,7 @@ pub fn explain<R: Input + Drop, W: Sink, E: Sink>(
     if status != REFUSED {
         return status;
     }
-    say_more(alloc, &rules_of(job), text, kept.bytes(), output, faults)
+    write_more(alloc, &rules_of(job), text, kept.bytes(), output, faults)
 }
 
 /// The check under these rules.
@@ -78,7 +78,7 @@ fn rules_of(job: Job) -> Rules
 
 /// Prints why these bytes are refused, which were just refused under these rules.
 #[tactic(auto, using(crate::proofs::ExplainLemmas::told_of_write, crate::proofs::ExplainLemmas::told_of_memory))]
-fn say_more<W: Sink, E: Sink>(
+fn write_more<W: Sink, E: Sink>(
     alloc: Global,
     rules: &Rules,
     text: &str,

@@ -5,7 +5,7 @@ ghost use Rattle.jser_printer.specs.Names.{view_name};
 ghost use Rattle.jser_explain.specs.Whys.{class_in, class_line, digits_end, field_line, field_of, first_bytes, hex_end, known_class_line};
 
 use jser_prim::{Outbox, Sink};
-use jser_printer::{say, say_decimal, say_hex, say_quoted};
+use jser_printer::{write, write_decimal, write_hex, write_quoted};
 use jser_scan::Found;
 
 /// How many bytes of a field are printed at most.
@@ -57,24 +57,24 @@ pub(crate) fn bytes_at(bytes: &[u8], spot: Spot) -> &[u8] {
     front(behind(bytes, spot.from), spot.to.saturating_sub(spot.from))
 }
 
-/// Says the line of the bytes at a place, of which the first are printed.
+/// Writes the line of the bytes at a place, of which the first are printed.
 #[tactic(auto, using(crate::proofs::WhyLemmas::shown_said))]
-pub(crate) fn say_field<W: Sink>(outbox: &mut Outbox, sink: &mut W, bytes: &[u8], spot: Spot)
+pub(crate) fn write_field<W: Sink>(outbox: &mut Outbox, sink: &mut W, bytes: &[u8], spot: Spot)
     ensures { SaysTo W.gone_out W.has_failed outbox.old outbox.new sink.old sink.new (λ k. field_line spot (first_bytes bytes.now spot) k) }
 {
     let shown = first_bytes(bytes, spot);
-    say_shown(outbox, sink, spot, shown);
+    write_shown(outbox, sink, spot, shown);
 }
 
-/// Says the line of a place with these of its bytes.
-fn say_shown<W: Sink>(outbox: &mut Outbox, sink: &mut W, spot: Spot, shown: &[u8])
+/// Writes the line of a place with these of its bytes.
+fn write_shown<W: Sink>(outbox: &mut Outbox, sink: &mut W, spot: Spot, shown: &[u8])
     ensures { SaysTo W.gone_out W.has_failed outbox.old outbox.new sink.old sink.new (λ k. field_line spot shown.now k) }
 {
-    say(outbox, sink, b"  bytes ");
-    say_decimal(outbox, sink, spot.from);
-    say(outbox, sink, b" to ");
-    say_decimal(outbox, sink, spot.to);
-    say_hex_end(outbox, sink, shown);
+    write(outbox, sink, b"  bytes ");
+    write_decimal(outbox, sink, spot.from);
+    write(outbox, sink, b" to ");
+    write_decimal(outbox, sink, spot.to);
+    write_hex_end(outbox, sink, shown);
 }
 
 /// The first bytes of a place.
@@ -109,43 +109,43 @@ fn front(bytes: &[u8], most: u64) -> &[u8]
     first
 }
 
-/// Says the end of the line of some bytes.
+/// Writes the end of the line of some bytes.
 #[tactic(auto, using(crate::proofs::WhyLemmas::hex_some))]
-fn say_hex_end<W: Sink>(outbox: &mut Outbox, sink: &mut W, bytes: &[u8])
+fn write_hex_end<W: Sink>(outbox: &mut Outbox, sink: &mut W, bytes: &[u8])
     ensures { SaysTo W.gone_out W.has_failed outbox.old outbox.new sink.old sink.new (λ k. hex_end bytes.now k) }
 {
     if bytes.is_empty() {
-        say(outbox, sink, b":\n");
+        write(outbox, sink, b":\n");
     } else {
-        say_digits(outbox, sink, bytes);
+        write_digits(outbox, sink, bytes);
     }
 }
 
-/// Says bytes in hexadecimal, and the end of the line.
-fn say_digits<W: Sink>(outbox: &mut Outbox, sink: &mut W, bytes: &[u8])
+/// Writes bytes in hexadecimal, and the end of the line.
+fn write_digits<W: Sink>(outbox: &mut Outbox, sink: &mut W, bytes: &[u8])
     ensures { SaysTo W.gone_out W.has_failed outbox.old outbox.new sink.old sink.new (λ k. digits_end bytes.now k) }
 {
-    say(outbox, sink, b": ");
-    say_hex(outbox, sink, bytes);
-    say(outbox, sink, b"\n");
+    write(outbox, sink, b": ");
+    write_hex(outbox, sink, bytes);
+    write(outbox, sink, b"\n");
 }
 
-/// Says the line of a class, if one is known.
+/// Writes the line of a class, if one is known.
 #[tactic(auto, using(crate::proofs::WhyLemmas::class_known, crate::proofs::WhyLemmas::class_unknown))]
-pub(crate) fn say_class<W: Sink>(outbox: &mut Outbox, sink: &mut W, class: Option<&[u16]>)
+pub(crate) fn write_class<W: Sink>(outbox: &mut Outbox, sink: &mut W, class: Option<&[u16]>)
     ensures { SaysTo W.gone_out W.has_failed outbox.old outbox.new sink.old sink.new (λ k. class_line (view_name class.entry) k) }
 {
     match class {
-        Some(units) => say_known_class(outbox, sink, units),
-        None => say(outbox, sink, b""),
+        Some(units) => write_known_class(outbox, sink, units),
+        None => write(outbox, sink, b""),
     }
 }
 
-/// Says the line of a class.
-fn say_known_class<W: Sink>(outbox: &mut Outbox, sink: &mut W, units: &[u16])
+/// Writes the line of a class.
+fn write_known_class<W: Sink>(outbox: &mut Outbox, sink: &mut W, units: &[u16])
     ensures { SaysTo W.gone_out W.has_failed outbox.old outbox.new sink.old sink.new (λ k. known_class_line units.now k) }
 {
-    say(outbox, sink, b"  class ");
-    say_quoted(outbox, sink, units);
-    say(outbox, sink, b"\n");
+    write(outbox, sink, b"  class ");
+    write_quoted(outbox, sink, units);
+    write(outbox, sink, b"\n");
 }

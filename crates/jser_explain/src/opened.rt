@@ -6,21 +6,21 @@ ghost use Rattle.jser_explain.specs.Opened.{class_words, element_words, field_wo
 ghost use Rattle.jser_printer.specs.Names.{view_name};
 
 use jser_prim::{Outbox, Sink};
-use jser_printer::{Name, Open, say, say_decimal};
+use jser_printer::{Name, Open, write, write_decimal};
 
-/// Says what is open, the outermost first.
-pub(crate) fn say_opened<W: Sink>(outbox: &mut Outbox, sink: &mut W, opened: &[Open<'_>])
+/// Writes what is open, the outermost first.
+pub(crate) fn write_opened<W: Sink>(outbox: &mut Outbox, sink: &mut W, opened: &[Open<'_>])
     ensures { SaysTo W.gone_out W.has_failed outbox.old outbox.new sink.old sink.new (λ k. opened_words opened.now k) }
 {
     let mut rest = opened;
     'opened: while !rest.is_empty() {
-        rest = say_first(outbox, sink, rest);
+        rest = write_first(outbox, sink, rest);
     }
 }
 
-/// Says the first of what is open. The answer is the others.
+/// Writes the first of what is open. The answer is the others.
 #[tactic(auto, using(crate::proofs::OpenLemmas::says_one))]
-fn say_first<'o, 'w, W: Sink>(
+fn write_first<'o, 'w, W: Sink>(
     outbox: &mut Outbox,
     sink: &mut W,
     opened: &'o [Open<'w>],
@@ -31,91 +31,91 @@ fn say_first<'o, 'w, W: Sink>(
 {
     match opened {
         [first, others @ ..] => {
-            say_open(outbox, sink, *first);
+            write_open(outbox, sink, *first);
             others
         }
         [] => unreachable!(),
     }
 }
 
-/// Says the line of one that is open.
-fn say_open<W: Sink>(outbox: &mut Outbox, sink: &mut W, part: Open<'_>)
+/// Writes the line of one that is open.
+fn write_open<W: Sink>(outbox: &mut Outbox, sink: &mut W, part: Open<'_>)
     ensures { SaysTo W.gone_out W.has_failed outbox.old outbox.new sink.old sink.new (λ k. open_words part.entry k) }
 {
     match part {
-        Open::Object { class, .. } => say_of_class(outbox, sink, b"  in object of ", class),
-        Open::Field { name, class } => say_field(outbox, sink, name, class),
-        Open::Element { index } => say_element(outbox, sink, index),
-        Open::Annotation { class } => say_of_class(outbox, sink, b"  in annotation of ", class),
-        Open::Descriptor { class } => say_of_class(outbox, sink, b"  in descriptor ", class),
+        Open::Object { class, .. } => write_of_class(outbox, sink, b"  in object of ", class),
+        Open::Field { name, class } => write_field(outbox, sink, name, class),
+        Open::Element { index } => write_element(outbox, sink, index),
+        Open::Annotation { class } => write_of_class(outbox, sink, b"  in annotation of ", class),
+        Open::Descriptor { class } => write_of_class(outbox, sink, b"  in descriptor ", class),
     }
 }
 
-/// Says the line of an element.
-fn say_element<W: Sink>(outbox: &mut Outbox, sink: &mut W, index: u32)
+/// Writes the line of an element.
+fn write_element<W: Sink>(outbox: &mut Outbox, sink: &mut W, index: u32)
     ensures { SaysTo W.gone_out W.has_failed outbox.old outbox.new sink.old sink.new (λ k. element_words index k) }
 {
-    say(outbox, sink, b"  in element ");
-    say_decimal(outbox, sink, index as u64);
-    say(outbox, sink, b"\n");
+    write(outbox, sink, b"  in element ");
+    write_decimal(outbox, sink, index as u64);
+    write(outbox, sink, b"\n");
 }
 
-/// Says the line of a field.
-fn say_field<W: Sink>(outbox: &mut Outbox, sink: &mut W, name: &Name, class: Option<&Name>)
+/// Writes the line of a field.
+fn write_field<W: Sink>(outbox: &mut Outbox, sink: &mut W, name: &Name, class: Option<&Name>)
     ensures { SaysTo W.gone_out W.has_failed outbox.old outbox.new sink.old sink.new (λ k. field_words name.now (view_name class.entry) k) }
 {
-    say(outbox, sink, b"  in field ");
-    say_name(outbox, sink, name);
-    say_of_class(outbox, sink, b" of ", class);
+    write(outbox, sink, b"  in field ");
+    write_name(outbox, sink, name);
+    write_of_class(outbox, sink, b" of ", class);
 }
 
-/// Says some words, a class, and the end of the line.
-fn say_of_class<W: Sink>(outbox: &mut Outbox, sink: &mut W, words: &[u8], class: Option<&Name>)
+/// Writes some words, a class, and the end of the line.
+fn write_of_class<W: Sink>(outbox: &mut Outbox, sink: &mut W, words: &[u8], class: Option<&Name>)
     ensures { SaysTo W.gone_out W.has_failed outbox.old outbox.new sink.old sink.new (λ k. class_words words.now (view_name class.entry) k) }
 {
-    say(outbox, sink, words);
-    say_class_name(outbox, sink, class);
-    say(outbox, sink, b"\n");
+    write(outbox, sink, words);
+    write_class_name(outbox, sink, class);
+    write(outbox, sink, b"\n");
 }
 
-/// Says a class; a proxy class has no name.
+/// Writes a class; a proxy class has no name.
 #[tactic(auto, using(crate::proofs::OpenLemmas::class_named, crate::proofs::OpenLemmas::class_of_proxy))]
-fn say_class_name<W: Sink>(outbox: &mut Outbox, sink: &mut W, class: Option<&Name>)
+fn write_class_name<W: Sink>(outbox: &mut Outbox, sink: &mut W, class: Option<&Name>)
     ensures { SaysTo W.gone_out W.has_failed outbox.old outbox.new sink.old sink.new (λ k. name_words (view_name class.entry) k) }
 {
     match class {
-        Some(name) => say_name(outbox, sink, name),
-        None => say(outbox, sink, b"a proxy class"),
+        Some(name) => write_name(outbox, sink, name),
+        None => write(outbox, sink, b"a proxy class"),
     }
 }
 
-/// Says a name, quoted.
-fn say_name<W: Sink>(outbox: &mut Outbox, sink: &mut W, name: &Name)
+/// Writes a name, quoted.
+fn write_name<W: Sink>(outbox: &mut Outbox, sink: &mut W, name: &Name)
     ensures { SaysTo W.gone_out W.has_failed outbox.old outbox.new sink.old sink.new (λ k. quoted name.now k) }
 {
-    say(outbox, sink, b"\"");
-    say(outbox, sink, name.quoted());
-    say(outbox, sink, b"\"");
+    write(outbox, sink, b"\"");
+    write(outbox, sink, name.quoted());
+    write(outbox, sink, b"\"");
 }
 
-/// Says that a class wrote its data by code of its own, if one did.
+/// Writes that a class wrote its data by code of its own, if one did.
 #[tactic(auto, using(crate::proofs::OpenLemmas::writer_known, crate::proofs::OpenLemmas::writer_unknown))]
-pub(crate) fn say_writer<W: Sink>(outbox: &mut Outbox, sink: &mut W, writer: Option<&Name>)
+pub(crate) fn write_writer<W: Sink>(outbox: &mut Outbox, sink: &mut W, writer: Option<&Name>)
     ensures { SaysTo W.gone_out W.has_failed outbox.old outbox.new sink.old sink.new (λ k. writer_words (view_name writer.entry) k) }
 {
     match writer {
-        Some(name) => say_own_writer(outbox, sink, name),
-        None => say(outbox, sink, b""),
+        Some(name) => write_own_writer(outbox, sink, name),
+        None => write(outbox, sink, b""),
     }
 }
 
-/// Says the line of a class that wrote its data by code of its own.
-fn say_own_writer<W: Sink>(outbox: &mut Outbox, sink: &mut W, name: &Name)
+/// Writes the line of a class that wrote its data by code of its own.
+fn write_own_writer<W: Sink>(outbox: &mut Outbox, sink: &mut W, name: &Name)
     ensures { SaysTo W.gone_out W.has_failed outbox.old outbox.new sink.old sink.new (λ k. own_writer_words name.now k) }
 {
-    say(outbox, sink, b"  ");
-    say_name(outbox, sink, name);
-    say(
+    write(outbox, sink, b"  ");
+    write_name(outbox, sink, name);
+    write(
         outbox,
         sink,
         b" has a writeObject of its own: if it does not write its fields first, this stream cannot be read without that class\n",

@@ -6,9 +6,9 @@ ghost use Rattle.jser_explain.specs.Rest.{known_piece_words, piece_words};
 use jser_filter::{Limits, Verdict};
 use jser_grammar::caps::{MOST_ARRAY, MOST_BYTES, MOST_DEPTH, MOST_REFS};
 use jser_prim::{Outbox, Sink};
-use jser_printer::{say, say_decimal};
+use jser_printer::{write, write_decimal};
 use jser_reader::Reason;
-use jser_scan::{FilePath, Found, Rules, say_path};
+use jser_scan::{FilePath, Found, Rules, write_path};
 use jser_table::{Element, element_of};
 use std::alloc::{AllocError, Global};
 
@@ -98,24 +98,24 @@ fn last_index(text: &str, beginning: &str) -> Option<usize> {
     last
 }
 
-/// Says the line of a piece, if one decides.
+/// Writes the line of a piece, if one decides.
 #[tactic(auto, using(crate::proofs::PieceLemmas::piece_known, crate::proofs::PieceLemmas::piece_unknown))]
-pub(crate) fn say_piece<W: Sink>(outbox: &mut Outbox, sink: &mut W, piece: &Option<Piece>)
+pub(crate) fn write_piece<W: Sink>(outbox: &mut Outbox, sink: &mut W, piece: &Option<Piece>)
     ensures { SaysTo W.gone_out W.has_failed outbox.old outbox.new sink.old sink.new (λ k. piece_words piece.now k) }
 {
     match piece {
-        Some(piece) => say_known_piece(outbox, sink, piece),
-        None => say(outbox, sink, b""),
+        Some(piece) => write_known_piece(outbox, sink, piece),
+        None => write(outbox, sink, b""),
     }
 }
 
-/// Says the line of a piece.
-fn say_known_piece<W: Sink>(outbox: &mut Outbox, sink: &mut W, piece: &Piece)
+/// Writes the line of a piece.
+fn write_known_piece<W: Sink>(outbox: &mut Outbox, sink: &mut W, piece: &Piece)
     ensures { SaysTo W.gone_out W.has_failed outbox.old outbox.new sink.old sink.new (λ k. known_piece_words piece.now k) }
 {
-    say(outbox, sink, b"  piece ");
-    say_decimal(outbox, sink, piece.index as u64);
-    say(outbox, sink, b": ");
-    say_path(outbox, sink, &piece.text);
-    say(outbox, sink, b"\n");
+    write(outbox, sink, b"  piece ");
+    write_decimal(outbox, sink, piece.index as u64);
+    write(outbox, sink, b": ");
+    write_path(outbox, sink, &piece.text);
+    write(outbox, sink, b"\n");
 }

@@ -5,15 +5,15 @@ ghost use Rattle.jser_explain.specs.Rest.{rest_words};
 ghost use Rattle.jser_explain.specs.Whys.{field_of, head_words, sentence_line, SaysWhy, SaysWhyTo};
 ghost use Rattle.jser_printer.specs.Names.{view_name};
 
-use crate::field::{Spot, bytes_at, class_in, say_class, say_field, spot_of};
+use crate::field::{Spot, bytes_at, class_in, spot_of, write_class, write_field};
 use crate::hint::hint_of;
-use crate::opened::{say_opened, say_writer, writer_in};
-use crate::piece::{Piece, deciding_piece, say_piece};
+use crate::opened::{write_opened, write_writer, writer_in};
+use crate::piece::{Piece, deciding_piece, write_piece};
 use crate::sentence::sentence_of;
 use jser_grammar::wire::TC_CLASSDESC;
 use jser_index::{text_units, walk_along};
 use jser_prim::{Outbox, Sink};
-use jser_printer::{Name, Open, say};
+use jser_printer::{Name, Open, write};
 use jser_reader::Reason;
 use jser_scan::{Found, Rules};
 use std::alloc::{AllocError, Global};
@@ -49,7 +49,7 @@ pub fn print_why<W: Sink>(
     ensures failed { IfErr result (λ fault. fault ≡ WhyFault.Write → W.has_failed output.new ≡ true) }
 {
     let mut outbox = Outbox::new();
-    if say_why(alloc, &mut outbox, output, rules, text, bytes, found).is_err() {
+    if write_why(alloc, &mut outbox, output, rules, text, bytes, found).is_err() {
         return Err(WhyFault::OutOfMemory);
     }
     outbox.flush(output);
@@ -60,9 +60,9 @@ pub fn print_why<W: Sink>(
     }
 }
 
-/// Says why the bytes are refused.
+/// Writes why the bytes are refused.
 #[tactic(auto, using(crate::proofs::WhyLemmas::why_nothing))]
-fn say_why<W: Sink>(
+fn write_why<W: Sink>(
     alloc: Global,
     outbox: &mut Outbox,
     sink: &mut W,
@@ -87,13 +87,13 @@ fn say_why<W: Sink>(
         writer: writer_in(&opened),
         hint: hint_of(found, bytes),
     };
-    say_lines(outbox, sink, bytes, found, spot, &rest);
+    write_lines(outbox, sink, bytes, found, spot, &rest);
     Ok(())
 }
 
-/// Says why the bytes at a place are refused, and what is known besides.
+/// Writes why the bytes at a place are refused, and what is known besides.
 #[tactic(auto, using(crate::proofs::WhyLemmas::why_all))]
-fn say_lines<W: Sink>(
+fn write_lines<W: Sink>(
     outbox: &mut Outbox,
     sink: &mut W,
     bytes: &[u8],
@@ -105,12 +105,12 @@ fn say_lines<W: Sink>(
     ensures { SaysWhyTo W.gone_out W.has_failed bytes.now found.now outbox.old outbox.new sink.old sink.new }
 {
     let sentence = sentence_of(found);
-    say_head(outbox, sink, sentence, bytes, spot, class_in(found));
-    say_rest(outbox, sink, rest);
+    write_head(outbox, sink, sentence, bytes, spot, class_in(found));
+    write_rest(outbox, sink, rest);
 }
 
-/// Says the sentence, the bytes and the class of a refusal.
-fn say_head<W: Sink>(
+/// Writes the sentence, the bytes and the class of a refusal.
+fn write_head<W: Sink>(
     outbox: &mut Outbox,
     sink: &mut W,
     sentence: &[u8],
@@ -120,18 +120,18 @@ fn say_head<W: Sink>(
 )
     ensures { SaysTo W.gone_out W.has_failed outbox.old outbox.new sink.old sink.new (λ k. head_words sentence.now bytes.now spot (view_name class.entry) k) }
 {
-    say_sentence(outbox, sink, sentence);
-    say_field(outbox, sink, bytes, spot);
-    say_class(outbox, sink, class);
+    write_sentence(outbox, sink, sentence);
+    write_field(outbox, sink, bytes, spot);
+    write_class(outbox, sink, class);
 }
 
-/// Says the line of a sentence.
-fn say_sentence<W: Sink>(outbox: &mut Outbox, sink: &mut W, sentence: &[u8])
+/// Writes the line of a sentence.
+fn write_sentence<W: Sink>(outbox: &mut Outbox, sink: &mut W, sentence: &[u8])
     ensures { SaysTo W.gone_out W.has_failed outbox.old outbox.new sink.old sink.new (λ k. sentence_line sentence.now k) }
 {
-    say(outbox, sink, b"  ");
-    say(outbox, sink, sentence);
-    say(outbox, sink, b"\n");
+    write(outbox, sink, b"  ");
+    write(outbox, sink, sentence);
+    write(outbox, sink, b"\n");
 }
 
 /// What is said behind the class of a refusal.
@@ -149,15 +149,15 @@ struct Rest<'r> {
     hint: &'static [u8],
 }
 
-/// Says it.
-fn say_rest<W: Sink>(outbox: &mut Outbox, sink: &mut W, rest: &Rest<'_>)
+/// Writes it.
+fn write_rest<W: Sink>(outbox: &mut Outbox, sink: &mut W, rest: &Rest<'_>)
     ensures { SaysTo W.gone_out W.has_failed outbox.old outbox.new sink.old sink.new (λ k. rest_words (view_name rest.now.class) rest.now.piece rest.now.opened.now (view_name rest.now.writer) rest.now.hint.now k) }
 {
-    say_class(outbox, sink, rest.class);
-    say_piece(outbox, sink, &rest.piece);
-    say_opened(outbox, sink, rest.opened);
-    say_writer(outbox, sink, rest.writer);
-    say(outbox, sink, rest.hint);
+    write_class(outbox, sink, rest.class);
+    write_piece(outbox, sink, &rest.piece);
+    write_opened(outbox, sink, rest.opened);
+    write_writer(outbox, sink, rest.writer);
+    write(outbox, sink, rest.hint);
 }
 
 /// The name of a class that is refused before the filter is asked: it begins as that of an array and is none, or what has

@@ -5,7 +5,7 @@ use Rattle.jser_index.specs.declared.node.Node.{Node}
 use Rattle.jser_index.specs.declared.node.StoredNode.{StoredNode}
 use Rattle.jser_index.specs.declared.spot.Spot.{Spot}
 use Rattle.jser_index.specs.Keeping.{Kept, units_at}
-use Rattle.jser_index.specs.StoredNodes.{told_node, spot_in, units_in}
+use Rattle.jser_index.specs.StoredNodes.{view_node, spot_in, units_in}
 use Rattle.jser_index.specs.Listed.{Listed, IsList}
 use Rattle.jser_index.specs.Graphs.{in_list, node_in, stored_in, IsNode, text_of}
 
@@ -14,13 +14,13 @@ get_map f [] k = refl
 get_map f (x ∷ xs) zero = refl
 get_map f (x ∷ xs) (suc k) = get_map f xs k
 
-told_in : (kept : Kept) (ended : List (List StoredNode)) (last : List StoredNode) (epoch number : ℕ)
-    → node_in (map (map (told_node kept)) ended ++ (map (told_node kept) last ∷ [])) epoch number
-    ≡ option_map (told_node kept) (in_list (slice_get (ended ++ (last ∷ [])) epoch) number)
-told_in kept [] last zero number = get_map (told_node kept) last number
-told_in kept [] last (suc epoch) number = refl
-told_in kept (list ∷ ended) last zero number = get_map (told_node kept) list number
-told_in kept (list ∷ ended) last (suc epoch) number = told_in kept ended last epoch number
+view_in : (kept : Kept) (ended : List (List StoredNode)) (last : List StoredNode) (epoch number : ℕ)
+    → node_in (map (map (view_node kept)) ended ++ (map (view_node kept) last ∷ [])) epoch number
+    ≡ option_map (view_node kept) (in_list (slice_get (ended ++ (last ∷ [])) epoch) number)
+view_in kept [] last zero number = get_map (view_node kept) last number
+view_in kept [] last (suc epoch) number = refl
+view_in kept (list ∷ ended) last zero number = get_map (view_node kept) list number
+view_in kept (list ∷ ended) last (suc epoch) number = view_in kept ended last epoch number
 
 -- the list of an epoch
 
@@ -48,18 +48,18 @@ none_stored f o e = ap (option_map f) e
 -- what was found is told
 
 pub node_is : (kept : Kept) (lists : Listed StoredNode) (epoch number : ℕ) (stored : Option StoredNode) (node : Option Node)
-    → stored ≡ stored_in lists epoch number → IsNode (option_map (told_node kept) stored) node
-    → IsNode (node_in (map (map (told_node kept)) lists.ended ++ (map (told_node kept) lists.last ∷ [])) epoch number) node
+    → stored ≡ stored_in lists epoch number → IsNode (option_map (view_node kept) stored) node
+    → IsNode (node_in (map (map (view_node kept)) lists.ended ++ (map (view_node kept) lists.last ∷ [])) epoch number) node
 node_is kept lists epoch number stored node e h =
-    subst (λ o. IsNode o node) (ap (option_map (told_node kept)) e ∙ sym (told_in kept lists.ended lists.last epoch number)) h
+    subst (λ o. IsNode o node) (ap (option_map (view_node kept)) e ∙ sym (view_in kept lists.ended lists.last epoch number)) h
 
 pub text_is : (kept : Kept) (lists : Listed StoredNode) (epoch number : ℕ) (stored : Option StoredNode) (text : Option (Bor (List ℕ)))
-    → stored ≡ stored_in lists epoch number → IsList (text_of (option_map (told_node kept) stored)) text
-    → IsList (text_of (node_in (map (map (told_node kept)) lists.ended ++ (map (told_node kept) lists.last ∷ [])) epoch number)) text
+    → stored ≡ stored_in lists epoch number → IsList (text_of (option_map (view_node kept) stored)) text
+    → IsList (text_of (node_in (map (map (view_node kept)) lists.ended ++ (map (view_node kept) lists.last ∷ [])) epoch number)) text
 text_is kept lists epoch number stored text e h =
-    subst (λ o. IsList (text_of o) text) (ap (option_map (told_node kept)) e ∙ sym (told_in kept lists.ended lists.last epoch number)) h
+    subst (λ o. IsList (text_of o) text) (ap (option_map (view_node kept)) e ∙ sym (view_in kept lists.ended lists.last epoch number)) h
 
 -- the units at its spot are its text
 pub text_lent : (kept : Kept) (stored : StoredNode) (spot : Spot) (text : Bor (List ℕ)) → spot_in stored ≡ Some spot → text.now ≡ units_at kept spot
-    → IsList (text_of (option_map (told_node kept) (Some stored))) (Some text)
+    → IsList (text_of (option_map (view_node kept) (Some stored))) (Some text)
 text_lent kept stored spot text e is = subst (λ o. IsList (units_in kept o) (Some text)) (sym e) is

@@ -13,49 +13,49 @@ use Rattle.jser_shown.specs.Finding.{Finding, is_owner_kind, units_made, element
 use Rattle.jser_shown.specs.Finding.{Begun as ToldBegun}
 use Rattle.jser_index.specs.declared.begun.Begun.{Begun}
 use Rattle.jser_index.specs.declared.node.NodeKind.{NodeKind}
-use Rattle.jser_index.specs.StoredNodes.{told_kind}
+use Rattle.jser_index.specs.StoredNodes.{view_kind}
 use Rattle.jser_printer.specs.declared.Field.TheVariants as lent
 use Rattle.jser_printer.specs.Given.{IsOf}
-use Rattle.jser_index.specs.Surveying.{told_begun, IsPlain, IsQuiet}
+use Rattle.jser_index.specs.Surveying.{view_begun, IsPlain, IsQuiet}
 
 -- ---- the tags whose nodes are not made yet
 
-begun_last : (items : List Begun) (b : Begun) → reverse (map told_begun (items ++ (b ∷ []))) ≡ told_begun b ∷ reverse (map told_begun items)
-begun_last items b = ap reverse (map_push told_begun items b) ∙ reverse-append (map told_begun items) (told_begun b ∷ [])
+begun_last : (items : List Begun) (b : Begun) → reverse (map view_begun (items ++ (b ∷ []))) ≡ view_begun b ∷ reverse (map view_begun items)
+begun_last items b = ap reverse (map_push view_begun items b) ∙ reverse-append (map view_begun items) (view_begun b ∷ [])
 
 -- there is none
 
-pub begun_none : (field : StreamField) (items : List Begun) (now : Finding) → items ≡ [] → now.begun ≡ reverse (map told_begun items)
+pub begun_none : (field : StreamField) (items : List Begun) (now : Finding) → items ≡ [] → now.begun ≡ reverse (map view_begun items)
     → now ≡ make_begun field now.begun now
-begun_none field items now none is = sym (ap (λ b. make_begun field b now) (is ∙ ap (λ xs. reverse (map told_begun xs)) none))
+begun_none field items now none is = sym (ap (λ b. make_begun field b now) (is ∙ ap (λ xs. reverse (map view_begun xs)) none))
 
 -- the last one is made
 
 pub made_owner : (field : StreamField) (items popped : List Begun) (b : Begun) (number elements : ℕ) (now new : Finding) → items ≡ popped ++ (b ∷ [])
-    → now.begun ≡ reverse (map told_begun items) → is_owner_kind (told_kind b.kind) ≡ true → number ≡ length now.nodes
-    → elements ≡ elements_made (told_kind b.kind) field
+    → now.begun ≡ reverse (map view_begun items) → is_owner_kind (view_kind b.kind) ≡ true → number ≡ length now.nodes
+    → elements ≡ elements_made (view_kind b.kind) field
     → new ≡ record now {
-      begun = reverse (map told_begun popped);
-      nodes = now.nodes ++ (node_made (told_begun b) field ∷ []);
+      begun = reverse (map view_begun popped);
+      nodes = now.nodes ++ (node_made (view_begun b) field ∷ []);
       owners = slice_set now.owners b.position (owner_node number elements);
     }
     → new ≡ make_begun field now.begun now
 made_owner field items popped b number elements now new e begun owner n k is =
-    is ∙ sym (ap (λ bs. make_begun field bs now) (begun ∙ ap (λ xs. reverse (map told_begun xs)) e ∙ begun_last popped b)
-    ∙ ap (λ o. record now { begun = reverse (map told_begun popped); nodes = now.nodes ++ (node_made (told_begun b) field ∷ []); owners = o })
-    (ap (λ t. if t then slice_set now.owners b.position (owner_node (length now.nodes) (elements_made (told_kind b.kind) field)) else now.owners) owner
+    is ∙ sym (ap (λ bs. make_begun field bs now) (begun ∙ ap (λ xs. reverse (map view_begun xs)) e ∙ begun_last popped b)
+    ∙ ap (λ o. record now { begun = reverse (map view_begun popped); nodes = now.nodes ++ (node_made (view_begun b) field ∷ []); owners = o })
+    (ap (λ t. if t then slice_set now.owners b.position (owner_node (length now.nodes) (elements_made (view_kind b.kind) field)) else now.owners) owner
     ∙ ap₂ (λ x y. slice_set now.owners b.position (owner_node x y)) (sym n) (sym k)))
 
 pub made_other : (field : StreamField) (items popped : List Begun) (b : Begun) (now new : Finding) → items ≡ popped ++ (b ∷ [])
-    → now.begun ≡ reverse (map told_begun items) → is_owner_kind (told_kind b.kind) ≡ false
-    → new ≡ record now { begun = reverse (map told_begun popped); nodes = now.nodes ++ (node_made (told_begun b) field ∷ []) }
+    → now.begun ≡ reverse (map view_begun items) → is_owner_kind (view_kind b.kind) ≡ false
+    → new ≡ record now { begun = reverse (map view_begun popped); nodes = now.nodes ++ (node_made (view_begun b) field ∷ []) }
     → new ≡ make_begun field now.begun now
 made_other field items popped b now new e begun other is =
-    is ∙ sym (ap (λ bs. make_begun field bs now) (begun ∙ ap (λ xs. reverse (map told_begun xs)) e ∙ begun_last popped b)
+    is ∙ sym (ap (λ bs. make_begun field bs now) (begun ∙ ap (λ xs. reverse (map view_begun xs)) e ∙ begun_last popped b)
     ∙ ap (λ t. record now {
-      begun = reverse (map told_begun popped);
-      nodes = now.nodes ++ (node_made (told_begun b) field ∷ []);
-      owners = if t then slice_set now.owners b.position (owner_node (length now.nodes) (elements_made (told_kind b.kind) field)) else now.owners;
+      begun = reverse (map view_begun popped);
+      nodes = now.nodes ++ (node_made (view_begun b) field ∷ []);
+      owners = if t then slice_set now.owners b.position (owner_node (length now.nodes) (elements_made (view_kind b.kind) field)) else now.owners;
     }) other)
 
 -- at a field of which it gets nothing
@@ -95,50 +95,50 @@ made_plain told now new plain made = made (array_length_field 0) refl ∙ plain_
 
 -- ---- a tag
 
-pub begins_none : (told : Tag) (kind : Option NodeKind) (now : Finding) → option_map told_kind kind ≡ kind_begun told → kind ≡ None
+pub begins_none : (told : Tag) (kind : Option NodeKind) (now : Finding) → option_map view_kind kind ≡ kind_begun told → kind ≡ None
     → record now { is_name = true } ≡ begun_by told now
-begins_none told kind now is none = ap (λ k. record (begin_kind k now) { is_name = true }) (ap (option_map told_kind) (sym none) ∙ is)
+begins_none told kind now is none = ap (λ k. record (begin_kind k now) { is_name = true }) (ap (option_map view_kind) (sym none) ∙ is)
 
-begins_some : (told : Tag) (kind : Option NodeKind) (k : NodeKind) (now : Finding) (items : List Begun) → option_map told_kind kind ≡ kind_begun told → kind ≡ Some k
-    → now.begun ≡ reverse (map told_begun items)
+begins_some : (told : Tag) (kind : Option NodeKind) (k : NodeKind) (now : Finding) (items : List Begun) → option_map view_kind kind ≡ kind_begun told → kind ≡ Some k
+    → now.begun ≡ reverse (map view_begun items)
     → begun_by told now ≡ record now {
-      begun = reverse (map told_begun (items ++ (record { kind = k; tag_byte = now.place; position = length now.owners } ∷ [])));
-      owners = if is_owner_kind (told_kind k) then now.owners ++ (owner_node 0 0 ∷ []) else now.owners;
+      begun = reverse (map view_begun (items ++ (record { kind = k; tag_byte = now.place; position = length now.owners } ∷ [])));
+      owners = if is_owner_kind (view_kind k) then now.owners ++ (owner_node 0 0 ∷ []) else now.owners;
       is_name = true;
     }
 begins_some told kind k now items is some begun =
     let b : Begun = record { kind = k; tag_byte = now.place; position = length now.owners } in
-    ap (λ o. record (begin_kind o now) { is_name = true }) (sym is ∙ ap (option_map told_kind) some)
-    ∙ ap (λ bs. record now { begun = bs; owners = if is_owner_kind (told_kind k) then now.owners ++ (owner_node 0 0 ∷ []) else now.owners; is_name = true })
-    (ap (λ bs. told_begun b ∷ bs) begun ∙ sym (begun_last items b))
+    ap (λ o. record (begin_kind o now) { is_name = true }) (sym is ∙ ap (option_map view_kind) some)
+    ∙ ap (λ bs. record now { begun = bs; owners = if is_owner_kind (view_kind k) then now.owners ++ (owner_node 0 0 ∷ []) else now.owners; is_name = true })
+    (ap (λ bs. view_begun b ∷ bs) begun ∙ sym (begun_last items b))
 
 pub begins_owner : (told : Tag) (kind : Option NodeKind) (k : NodeKind) (position : ℕ) (now : Finding) (items : List Begun)
-    → option_map told_kind kind ≡ kind_begun told → kind ≡ Some k → now.begun ≡ reverse (map told_begun items) → is_owner_kind (told_kind k) ≡ true
+    → option_map view_kind kind ≡ kind_begun told → kind ≡ Some k → now.begun ≡ reverse (map view_begun items) → is_owner_kind (view_kind k) ≡ true
     → position ≡ length now.owners
     → record now {
-      begun = reverse (map told_begun (items ++ (record { kind = k; tag_byte = now.place; position = position } ∷ [])));
+      begun = reverse (map view_begun (items ++ (record { kind = k; tag_byte = now.place; position = position } ∷ [])));
       owners = now.owners ++ (owner_node 0 0 ∷ []);
       is_name = true;
     } ≡ begun_by told now
 begins_owner told kind k position now items is some begun owner p =
     sym (begins_some told kind k now items is some begun
     ∙ ap₂ (λ n t. record now {
-      begun = reverse (map told_begun (items ++ (record { kind = k; tag_byte = now.place; position = n } ∷ [])));
+      begun = reverse (map view_begun (items ++ (record { kind = k; tag_byte = now.place; position = n } ∷ [])));
       owners = if t then now.owners ++ (owner_node 0 0 ∷ []) else now.owners;
       is_name = true;
     }) (sym p) owner)
 
 pub begins_other : (told : Tag) (kind : Option NodeKind) (k : NodeKind) (position : ℕ) (now : Finding) (items : List Begun)
-    → option_map told_kind kind ≡ kind_begun told → kind ≡ Some k → now.begun ≡ reverse (map told_begun items) → is_owner_kind (told_kind k) ≡ false
+    → option_map view_kind kind ≡ kind_begun told → kind ≡ Some k → now.begun ≡ reverse (map view_begun items) → is_owner_kind (view_kind k) ≡ false
     → position ≡ length now.owners
     → record now {
-      begun = reverse (map told_begun (items ++ (record { kind = k; tag_byte = now.place; position = position } ∷ [])));
+      begun = reverse (map view_begun (items ++ (record { kind = k; tag_byte = now.place; position = position } ∷ [])));
       is_name = true;
     } ≡ begun_by told now
 begins_other told kind k position now items is some begun other p =
     sym (begins_some told kind k now items is some begun
     ∙ ap₂ (λ n t. record now {
-      begun = reverse (map told_begun (items ++ (record { kind = k; tag_byte = now.place; position = n } ∷ [])));
+      begun = reverse (map view_begun (items ++ (record { kind = k; tag_byte = now.place; position = n } ∷ [])));
       owners = if t then now.owners ++ (owner_node 0 0 ∷ []) else now.owners;
       is_name = true;
     }) (sym p) other)

@@ -14,7 +14,7 @@ use Rattle.jser_reader.specs.Tallies.{AreTotals}
 pub use Rattle.jser_reader.specs.Answers.{IfRefused}
 use Rattle.jser_index.specs.declared.node.Node.{Node}
 use Rattle.jser_index.specs.declared.node.StoredNode.{StoredNode}
-use Rattle.jser_index.specs.StoredNodes.{told_kind}
+use Rattle.jser_index.specs.StoredNodes.{view_kind}
 use Rattle.jser_index.specs.Listed.{Listed, all_lists}
 
 -- the bytes of the stream, the nodes of each epoch in the order of their handles, the checked names in the order of the
@@ -61,7 +61,7 @@ stored_in lists epoch number = in_list (slice_get (all_lists lists) epoch) numbe
 -- a node, as it is told
 abbrev pub IsNode : Option ToldNode → Option Node → Type 0
 IsNode None None = Unit {0}
-IsNode (Some told) (Some node) = (told_kind node.kind ≡ told.kind) × (node.tag_byte ≡ told.place)
+IsNode (Some told) (Some node) = (view_kind node.kind ≡ told.kind) × (node.tag_byte ≡ told.place)
 IsNode _ _ = ⊥
 
 -- the units of a string

@@ -14,14 +14,14 @@ use Rattle.jser_index.specs.declared.spot.Spot.TheVariants as spot
 use Rattle.jser_index.specs.Keeping.{Kept, units_at, IsIn}
 use Rattle.jser_index.specs.Listed.{Listed, with_last}
 
-abbrev pub told_kind : NodeKind → ToldKind
-told_kind kind.Text = text_node
-told_kind kind.PlainDesc = plain_desc_node
-told_kind kind.ProxyDesc = proxy_desc_node
-told_kind kind.ClassObject = class_object_node
-told_kind kind.Array = array_node
-told_kind kind.EnumConst = enum_const_node
-told_kind kind.Object = object_node
+abbrev pub view_kind : NodeKind → ToldKind
+view_kind kind.Text = text_node
+view_kind kind.PlainDesc = plain_desc_node
+view_kind kind.ProxyDesc = proxy_desc_node
+view_kind kind.ClassObject = class_object_node
+view_kind kind.Array = array_node
+view_kind kind.EnumConst = enum_const_node
+view_kind kind.Object = object_node
 
 abbrev pub kind_in : StoredKind → ToldKind
 kind_in stored_kind.Text = text_node
@@ -51,8 +51,8 @@ abbrev pub units_in : Kept → Option Spot → Option (List ℕ)
 units_in kept None = None
 units_in kept (Some spot) = Some (units_at kept spot)
 
-abbrev pub told_node : Kept → StoredNode → ToldNode
-told_node kept stored = record { kind = kind_in stored.kind; place = place_in stored; units = units_in kept (spot_in stored) }
+abbrev pub view_node : Kept → StoredNode → ToldNode
+view_node kept stored = record { kind = kind_in stored.kind; place = place_in stored; units = units_in kept (spot_in stored) }
 
 -- a node of this kind, whose tag stands at this place, and whose units, if it has any, are kept at this spot
 pub record IsStored (stored : StoredNode) (kind : ToldKind) (place : ℕ) (spot : Option Spot) : Type 0 where

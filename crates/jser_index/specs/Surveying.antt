@@ -14,11 +14,11 @@ use Rattle.jser_reader.specs.RawsTold.{AreRaws}
 use Rattle.jser_printer.specs.declared.Field.TheVariants as lent
 use Rattle.jser_printer.specs.Given.{IsOf}
 use Rattle.jser_index.specs.Along.{IsTextOf}
-use Rattle.jser_index.specs.StoredNodes.{told_kind}
+use Rattle.jser_index.specs.StoredNodes.{view_kind}
 
 -- a tag whose node is not made yet
-abbrev pub told_begun : Begun → ToldBegun
-told_begun b = record { kind = told_kind b.kind; place = b.tag_byte; position = b.position }
+abbrev pub view_begun : Begun → ToldBegun
+view_begun b = record { kind = view_kind b.kind; place = b.tag_byte; position = b.position }
 
 -- a node that is made at this field gets nothing of it: it is neither a text nor the length of an array
 abbrev pub IsPlain : StreamField → Type 0

@@ -4,7 +4,7 @@ ghost use Rattle.jser_reading.specs.FieldBytes.{tag_byte};
 ghost use Rattle.jser_reading.specs.Labels.{StreamField, Tag};
 ghost use Rattle.jser_shown.specs.Finding.{elements_made, is_owner_kind, kind_begun};
 ghost use Rattle.jser_printer.specs.Given.{IsOf};
-ghost use Rattle.jser_index.specs.StoredNodes.{told_kind};
+ghost use Rattle.jser_index.specs.StoredNodes.{view_kind};
 
 use crate::node::NodeKind;
 use jser_grammar::wire::{
@@ -26,7 +26,7 @@ pub(crate) struct Begun {
 /// What the tag of a value begins; nothing where it is `TC_NULL` or `TC_REFERENCE`.
 #[inline(always)]
 pub(crate) fn kind_begun(tag: u8) -> Option<NodeKind>
-    ensures { (told : Tag) → tag ≡ tag_byte told → option_map told_kind result ≡ kind_begun told }
+    ensures { (told : Tag) → tag ≡ tag_byte told → option_map view_kind result ≡ kind_begun told }
 {
     match tag {
         TC_CLASSDESC => Some(NodeKind::PlainDesc),
@@ -44,7 +44,7 @@ pub(crate) fn kind_begun(tag: u8) -> Option<NodeKind>
 /// Whether it is the owner of a class place.
 #[inline(always)]
 pub(crate) fn is_owner(kind: NodeKind) -> bool
-    ensures { result ≡ is_owner_kind (told_kind kind) }
+    ensures { result ≡ is_owner_kind (view_kind kind) }
 {
     match kind {
         NodeKind::Object => true,
@@ -60,7 +60,7 @@ pub(crate) fn is_owner(kind: NodeKind) -> bool
 /// How many elements a node has that is made at this field; 0 where it is no array.
 #[inline(always)]
 pub(crate) fn elements_made(kind: NodeKind, field: Field<'_>) -> u32
-    ensures { (told : StreamField) → IsOf field.entry told → result ≡ elements_made (told_kind kind) told }
+    ensures { (told : StreamField) → IsOf field.entry told → result ≡ elements_made (view_kind kind) told }
 {
     match kind {
         NodeKind::Array => match field {

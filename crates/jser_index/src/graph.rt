@@ -31,7 +31,7 @@ pub struct Index {
 }
 
 impl Model for Index {
-    ghost use Rattle.jser_printer.specs.Given.{told_nodes};
+    ghost use Rattle.jser_printer.specs.Given.{view_nodes};
     ghost use Rattle.jser_index.specs.Graphs.{GraphView, IsGraph};
     ghost use Rattle.jser_index.specs.Listed.{all_lists};
 
@@ -41,7 +41,7 @@ impl Model for Index {
       bytes = a.bytes.items;
       nodes = all_lists a.nodes;
       names = a.names;
-      owners = told_nodes a.owners.items;
+      owners = view_nodes a.owners.items;
       totals = a.totals;
     } };
 
@@ -49,7 +49,7 @@ impl Model for Index {
       bytes = a.bytes.items;
       nodes = all_lists a.nodes;
       names = a.names;
-      owners = told_nodes a.owners.items;
+      owners = view_nodes a.owners.items;
       totals = a.totals;
     }) };
 }

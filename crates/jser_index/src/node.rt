@@ -1,7 +1,7 @@
 //! Nodes: what the handles of a stream name.
 ghost use Rattle.std.specs.Prelude.{ℕ, ◌≡◌, ◌/◌, None, Some, IfOk};
 ghost use Rattle.jser_shown.specs.Nodes.{text_node};
-ghost use Rattle.jser_index.specs.StoredNodes.{told_kind, kind_in, place_in, spot_of, spot_in, IsStored};
+ghost use Rattle.jser_index.specs.StoredNodes.{view_kind, kind_in, place_in, spot_of, spot_in, IsStored};
 
 use crate::spot::Spot;
 use std::alloc::AllocError;
@@ -85,7 +85,7 @@ fn high_bits(place: u64) -> Result<u8, AllocError>
 /// What a node of this kind is kept as that has no units.
 #[inline(always)]
 fn stored_kind(kind: NodeKind) -> StoredKind
-    ensures kind { kind_in result ≡ told_kind kind }
+    ensures kind { kind_in result ≡ view_kind kind }
     ensures none { (start len : ℕ) → spot_of result start len ≡ None }
 {
     match kind {
@@ -103,7 +103,7 @@ impl StoredNode {
     /// A node of this kind that has no units.
     #[inline(always)]
     pub(crate) fn without_units(kind: NodeKind, tag_byte: u64) -> Result<StoredNode, AllocError>
-        ensures { IfOk result (λ stored. IsStored stored (told_kind kind) tag_byte None) }
+        ensures { IfOk result (λ stored. IsStored stored (view_kind kind) tag_byte None) }
     {
         let place_high = high_bits(tag_byte)?;
         Ok(StoredNode {
@@ -163,7 +163,7 @@ impl StoredNode {
 
     /// What it is, and where its tag stands.
     pub(crate) fn node(self) -> Node
-        ensures kind { told_kind result.kind ≡ kind_in self.kind }
+        ensures kind { view_kind result.kind ≡ kind_in self.kind }
         ensures tag_byte { result.tag_byte ≡ place_in self }
     {
         let kind = match self.kind {

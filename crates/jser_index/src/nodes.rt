@@ -4,10 +4,10 @@ ghost use Rattle.jser_reading.specs.Labels.{StreamField};
 ghost use Rattle.jser_shown.specs.Finding.{node_made};
 ghost use Rattle.jser_shown.specs.Nodes.{text_node};
 ghost use Rattle.jser_printer.specs.Given.{IsOf};
-ghost use Rattle.jser_index.specs.StoredNodes.{told_kind, AddsNode};
+ghost use Rattle.jser_index.specs.StoredNodes.{view_kind, AddsNode};
 ghost use Rattle.jser_index.specs.Graphs.{IsNode, node_in, stored_in, text_of};
 ghost use Rattle.jser_index.specs.Listed.{IsList, all_lists, ended_last, with_last};
-ghost use Rattle.jser_index.specs.Surveying.{told_begun};
+ghost use Rattle.jser_index.specs.Surveying.{view_begun};
 
 use crate::begun::Begun;
 use crate::lists::Lists;
@@ -30,11 +30,11 @@ impl Model for Nodes {
     ghost use Rattle.std.specs.List.{All};
     ghost use Rattle.jser_shown.specs.Nodes.{Node as ToldNode};
     ghost use Rattle.jser_index.specs.Listed.{Listed};
-    ghost use Rattle.jser_index.specs.StoredNodes.{told_node, IsAmong};
+    ghost use Rattle.jser_index.specs.StoredNodes.{view_node, IsAmong};
 
     ghost Value = { Listed ToldNode };
 
-    ghost view = { λ a. record { ended = map (map (told_node a.strings)) a.nodes.ended; last = map (told_node a.strings) a.nodes.last } };
+    ghost view = { λ a. record { ended = map (map (view_node a.strings)) a.nodes.ended; last = map (view_node a.strings) a.nodes.last } };
 
     ghost invariant = { λ a. All (IsAmong a.strings) a.nodes.last × All (All (IsAmong a.strings)) a.nodes.ended };
 }
@@ -63,7 +63,7 @@ impl Nodes {
     #[tactic(auto, using(crate::proofs::StoredLemmas::no_units))]
     #[inline(always)]
     pub(crate) fn make(&mut self, begun: Begun, field: Field<'_>) -> Result<(), AllocError>
-        ensures { OnOk result ((told : StreamField) → IsOf field.entry told → self.new ≡ with_last self.old (node_made (told_begun begun) told)) }
+        ensures { OnOk result ((told : StreamField) → IsOf field.entry told → self.new ≡ with_last self.old (node_made (view_begun begun) told)) }
     {
         match begun.kind {
             NodeKind::Text => match field {
@@ -77,7 +77,7 @@ impl Nodes {
     /// Adds a node that has no text.
     #[inline(always)]
     fn push(&mut self, begun: Begun) -> Result<(), AllocError>
-        ensures { OnOk result (self.new ≡ with_last self.old (record { kind = told_kind begun.kind; place = begun.tag_byte; units = None })) }
+        ensures { OnOk result (self.new ≡ with_last self.old (record { kind = view_kind begun.kind; place = begun.tag_byte; units = None })) }
     {
         let stored = StoredNode::without_units(begun.kind, begun.tag_byte)?;
         self.nodes.push(stored)
@@ -111,7 +111,7 @@ impl Nodes {
     }
 
     /// Begins the next epoch.
-    #[tactic(auto, using(crate::proofs::StoredLemmas::among_end, crate::proofs::StoredLemmas::told_end))]
+    #[tactic(auto, using(crate::proofs::StoredLemmas::among_end, crate::proofs::StoredLemmas::view_end))]
     pub(crate) fn end(&mut self) -> Result<(), AllocError>
         ensures { OnOk result (self.new ≡ ended_last self.old) }
     {

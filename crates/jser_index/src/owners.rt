@@ -1,7 +1,7 @@
 //! The owners of a stream: its objects, arrays, enum constants and class objects, in the order of their tags.
 ghost use Rattle.std.specs.Prelude.{◌≡◌, [], ◌∷◌, ◌++◌, length, slice_set, OnOk};
 ghost use Rattle.jser_shown.specs.Owners.{owner_node};
-ghost use Rattle.jser_printer.specs.Given.{told_node, told_nodes};
+ghost use Rattle.jser_printer.specs.Given.{view_node, view_nodes};
 
 use jser_printer::OwnerNode;
 use std::alloc::{AllocError, Global};
@@ -16,11 +16,11 @@ pub(crate) struct Owners {
 impl Model for Owners {
     ghost use Rattle.std.specs.Prelude.{List};
     ghost use Rattle.jser_shown.specs.Owners.{OwnerNode as ToldNode};
-    ghost use Rattle.jser_printer.specs.Given.{told_nodes};
+    ghost use Rattle.jser_printer.specs.Given.{view_nodes};
 
     ghost Value = { List ToldNode };
 
-    ghost view = { λ a. told_nodes a.owners.items };
+    ghost view = { λ a. view_nodes a.owners.items };
 }
 
 impl Owners {
@@ -43,7 +43,7 @@ impl Owners {
     }
 
     /// Adds one that is not filled in.
-    #[tactic(auto, using(crate::proofs::OwnerLemmas::told_push))]
+    #[tactic(auto, using(crate::proofs::OwnerLemmas::view_push))]
     #[inline(always)]
     pub(crate) fn begin(&mut self) -> Result<(), AllocError>
         ensures { OnOk result (self.new ≡ self.old ++ owner_node 0 0 ∷ []) }
@@ -58,10 +58,10 @@ impl Owners {
     }
 
     /// Fills in the one at this position, if there is one.
-    #[tactic(auto, using(crate::proofs::OwnerLemmas::told_set, crate::proofs::OwnerLemmas::told_past))]
+    #[tactic(auto, using(crate::proofs::OwnerLemmas::view_set, crate::proofs::OwnerLemmas::view_past))]
     #[inline(always)]
     pub(crate) fn fill(&mut self, position: usize, node: OwnerNode)
-        ensures { self.new ≡ slice_set self.old position (told_node node) }
+        ensures { self.new ≡ slice_set self.old position (view_node node) }
     {
         if position < self.owners.len() {
             self.owners[position] = node;
@@ -70,7 +70,7 @@ impl Owners {
 
     /// The owners. Takes no memory.
     pub(crate) fn into_vec(self) -> Vec<OwnerNode>
-        ensures { told_nodes result.items ≡ self }
+        ensures { view_nodes result.items ≡ self }
     {
         let Owners { owners } = self;
         owners

@@ -40,7 +40,7 @@ impl Index {
     {
         let _ = &self.totals;
         let mut outbox = Outbox::new();
-        let told = self.say(alloc, &mut outbox, sink);
+        let told = self.write(alloc, &mut outbox, sink);
         outbox.flush(sink);
         let written = outbox.written();
         if outbox.has_failed() {
@@ -52,12 +52,12 @@ impl Index {
         }
     }
 
-    /// Says the text, or a beginning of it where the sink failed.
+    /// Writes the text, or a beginning of it where the sink failed.
     ///
     /// # Errors
     ///
     /// Where memory ran out. What was said before is a beginning of the text.
-    fn say<W: Sink>(
+    fn write<W: Sink>(
         &self,
         alloc: Global,
         outbox: &mut Outbox,
@@ -69,7 +69,7 @@ impl Index {
         let mut reader = Reader::new(alloc, OpenGate);
         let mut printer = Printer::new(alloc, &self.owners);
         let mut units = Vec::new(alloc);
-        say_along(
+        write_along(
             outbox,
             sink,
             &mut reader,
@@ -80,8 +80,8 @@ impl Index {
     }
 }
 
-/// Says the text of a stream along its bytes, until the sink fails. `units` is room for those of a text.
-fn say_along<W: Sink>(
+/// Writes the text of a stream along its bytes, until the sink fails. `units` is room for those of a text.
+fn write_along<W: Sink>(
     outbox: &mut Outbox,
     sink: &mut W,
     reader: &mut Reader<OpenGate>,
@@ -106,7 +106,7 @@ fn say_along<W: Sink>(
             Err(_) => return Err(AllocError),
             Ok(Some(whole)) => {
                 let (_, after) = rest.split_at(size_of(whole));
-                say_whole(outbox, sink, printer, units, whole)?;
+                write_whole(outbox, sink, printer, units, whole)?;
                 rest = after;
             }
             Ok(None) => match reader.next(rest) {
@@ -114,21 +114,21 @@ fn say_along<W: Sink>(
                 Ok(Step::More) => rest = &[],
                 Ok(Step::Item { item, used }) => {
                     let (_, after) = rest.split_at(used);
-                    say_item(outbox, sink, printer, units, item)?;
+                    write_item(outbox, sink, printer, units, item)?;
                     rest = after;
                 }
             },
         }
     }
-    printer.say_all_due(outbox, sink)
+    printer.write_all_due(outbox, sink)
 }
 
-/// Says the field that an item ends, with all that is due before it.
+/// Writes the field that an item ends, with all that is due before it.
 ///
 /// # Errors
 ///
 /// Where memory runs out. What was said before is a beginning of that.
-fn say_item<W: Sink>(
+fn write_item<W: Sink>(
     outbox: &mut Outbox,
     sink: &mut W,
     printer: &mut Printer<'_>,
@@ -145,19 +145,19 @@ fn say_item<W: Sink>(
     ensures length { OnErr result (IsLength item.entry → ⊥) }
 {
     match part_of(item) {
-        Part::Field(field) => printer.say_next(outbox, sink, field),
-        Part::Text(bytes) => say_text(outbox, sink, printer, units, bytes),
+        Part::Field(field) => printer.write_next(outbox, sink, field),
+        Part::Text(bytes) => write_text(outbox, sink, printer, units, bytes),
         Part::Length => Ok(()),
     }
 }
 
-/// Says the fields of a value that is lent at once, each with all that is due before it.
+/// Writes the fields of a value that is lent at once, each with all that is due before it.
 ///
 /// # Errors
 ///
 /// Where memory runs out. What was said before is a beginning of that.
 #[inline(always)]
-fn say_whole<W: Sink>(
+fn write_whole<W: Sink>(
     outbox: &mut Outbox,
     sink: &mut W,
     printer: &mut Printer<'_>,
@@ -168,14 +168,14 @@ fn say_whole<W: Sink>(
     ensures front { OnErr result (BeginsItemsTo W.gone_out W.has_failed (items_of whole.entry) outbox.old outbox.new sink.old sink.new printer.old) }
 {
     match whole {
-        Whole::Reference(handle) => say_reference(outbox, sink, printer, handle),
-        Whole::String(text) => say_string(outbox, sink, printer, units, text),
-        Whole::Owner { tag, class } => say_owner(outbox, sink, printer, tag, class),
+        Whole::Reference(handle) => write_reference(outbox, sink, printer, handle),
+        Whole::String(text) => write_string(outbox, sink, printer, units, text),
+        Whole::Owner { tag, class } => write_owner(outbox, sink, printer, tag, class),
     }
 }
 
-/// Says a reference.
-fn say_reference<W: Sink>(
+/// Writes a reference.
+fn write_reference<W: Sink>(
     outbox: &mut Outbox,
     sink: &mut W,
     printer: &mut Printer<'_>,
@@ -184,12 +184,12 @@ fn say_reference<W: Sink>(
     ensures said { OnOk result (SaysItemsTo W.gone_out W.has_failed (items_of (Whole.Reference handle)) outbox.old outbox.new sink.old sink.new printer.old printer.new) }
     ensures front { OnErr result (BeginsItemsTo W.gone_out W.has_failed (items_of (Whole.Reference handle)) outbox.old outbox.new sink.old sink.new printer.old) }
 {
-    printer.say_next(outbox, sink, Field::Tag(TC_REFERENCE))?;
-    printer.say_next(outbox, sink, Field::Handle(handle))
+    printer.write_next(outbox, sink, Field::Tag(TC_REFERENCE))?;
+    printer.write_next(outbox, sink, Field::Handle(handle))
 }
 
-/// Says a string.
-fn say_string<W: Sink>(
+/// Writes a string.
+fn write_string<W: Sink>(
     outbox: &mut Outbox,
     sink: &mut W,
     printer: &mut Printer<'_>,
@@ -199,12 +199,12 @@ fn say_string<W: Sink>(
     ensures said { OnOk result (SaysItemsTo W.gone_out W.has_failed (items_of (Whole.String text.entry)) outbox.old outbox.new sink.old sink.new printer.old printer.new) }
     ensures front { OnErr result (BeginsItemsTo W.gone_out W.has_failed (items_of (Whole.String text.entry)) outbox.old outbox.new sink.old sink.new printer.old) }
 {
-    printer.say_next(outbox, sink, Field::Tag(TC_STRING))?;
-    say_text(outbox, sink, printer, units, text)
+    printer.write_next(outbox, sink, Field::Tag(TC_STRING))?;
+    write_text(outbox, sink, printer, units, text)
 }
 
-/// Says the tag of what has a class, and the reference that is its class.
-fn say_owner<W: Sink>(
+/// Writes the tag of what has a class, and the reference that is its class.
+fn write_owner<W: Sink>(
     outbox: &mut Outbox,
     sink: &mut W,
     printer: &mut Printer<'_>,
@@ -214,16 +214,16 @@ fn say_owner<W: Sink>(
     ensures said { OnOk result (SaysItemsTo W.gone_out W.has_failed (items_of (Whole.Owner tag class)) outbox.old outbox.new sink.old sink.new printer.old printer.new) }
     ensures front { OnErr result (BeginsItemsTo W.gone_out W.has_failed (items_of (Whole.Owner tag class)) outbox.old outbox.new sink.old sink.new printer.old) }
 {
-    printer.say_next(outbox, sink, Field::Tag(tag))?;
-    say_reference(outbox, sink, printer, class)
+    printer.write_next(outbox, sink, Field::Tag(tag))?;
+    write_reference(outbox, sink, printer, class)
 }
 
-/// Says a text from its bytes, with all that is due before it. The bytes of most texts stand for themselves.
+/// Writes a text from its bytes, with all that is due before it. The bytes of most texts stand for themselves.
 ///
 /// # Errors
 ///
 /// Where memory runs out. What was said before is a beginning of that.
-fn say_text<W: Sink>(
+fn write_text<W: Sink>(
     outbox: &mut Outbox,
     sink: &mut W,
     printer: &mut Printer<'_>,
@@ -237,17 +237,17 @@ fn say_text<W: Sink>(
         → BeginsTo W.gone_out W.has_failed outbox.old outbox.new sink.old sink.new (λ k. says_next printer.old told k)) }
 {
     match Plain::of(bytes) {
-        Some(plain) => printer.say_plain(outbox, sink, plain),
-        None => say_units(outbox, sink, printer, units, bytes),
+        Some(plain) => printer.write_plain(outbox, sink, plain),
+        None => write_units(outbox, sink, printer, units, bytes),
     }
 }
 
-/// Says a text by its units, with all that is due before it.
+/// Writes a text by its units, with all that is due before it.
 ///
 /// # Errors
 ///
 /// Where memory runs out. What was said before is a beginning of that.
-fn say_units<W: Sink>(
+fn write_units<W: Sink>(
     outbox: &mut Outbox,
     sink: &mut W,
     printer: &mut Printer<'_>,
@@ -261,5 +261,5 @@ fn say_units<W: Sink>(
         → BeginsTo W.gone_out W.has_failed outbox.old outbox.new sink.old sink.new (λ k. says_next printer.old told k)) }
 {
     let text = decode(bytes, units)?;
-    printer.say_next(outbox, sink, Field::Text(text))
+    printer.write_next(outbox, sink, Field::Text(text))
 }

@@ -4,7 +4,7 @@ ghost use Rattle.jser_reading.specs.FieldBytes.{bytes_of, tag_byte};
 ghost use Rattle.jser_reading.specs.Labels.{StreamField, Tag};
 ghost use Rattle.jser_shown.specs.Finding.{begin_finding, begun_by, find, finished, make_begun, take_field, take_name};
 ghost use Rattle.jser_shown.specs.Nodes.{place_after};
-ghost use Rattle.jser_printer.specs.Given.{IsOf, told_nodes};
+ghost use Rattle.jser_printer.specs.Given.{IsOf, view_nodes};
 ghost use Rattle.jser_index.specs.Along.{Ends, IsLength, PartIs};
 ghost use Rattle.jser_index.specs.Surveying.{AddsString, IsPlain, IsQuiet, GoesPastRaws, GoesPastWhole};
 ghost use Rattle.jser_index.specs.Listed.{all_lists};
@@ -45,13 +45,13 @@ pub(crate) struct Survey {
 impl Model for Survey {
     ghost use Rattle.std.specs.Prelude.{map, reverse};
     ghost use Rattle.jser_shown.specs.Finding.{Finding};
-    ghost use Rattle.jser_index.specs.Surveying.{told_begun};
+    ghost use Rattle.jser_index.specs.Surveying.{view_begun};
 
     ghost Value = { Finding };
 
     ghost view = { λ a. record {
       place = a.place;
-      begun = reverse (map told_begun a.begun.items);
+      begun = reverse (map view_begun a.begun.items);
       nodes = a.nodes.last;
       ended = a.nodes.ended;
       owners = a.owners;
@@ -415,7 +415,7 @@ impl Survey {
     /// What was found. Takes no memory.
     pub(crate) fn into_found(self) -> Finds
         ensures nodes { result.nodes ≡ record { ended = self.ended; last = self.nodes } }
-        ensures owners { told_nodes result.owners.items ≡ self.owners }
+        ensures owners { view_nodes result.owners.items ≡ self.owners }
         ensures names { result.names ≡ self.names }
     {
         let Survey {

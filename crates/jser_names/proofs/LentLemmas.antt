@@ -13,7 +13,7 @@ use Rattle.jser_reader.specs.Readers.{Seen}
 use Rattle.jser_reader.specs.WholesTold.{TellsText, TellsWhole, WholeCases}
 use Rattle.jser_names.specs.Collecting.{begin_collecting, collect, collected}
 use Rattle.jser_names.specs.Pieces.{Taking}
-use Rattle.jser_names.specs.Standing.{Names, told_of, Closes, ClosesThen, left_behind, IsAt, Stands}
+use Rattle.jser_names.specs.Standing.{Names, view_of, Closes, ClosesThen, left_behind, IsAt, Stands}
 use Rattle.jser_names.specs.Wholes.{whole_size}
 use Rattle.jser_names.proofs.ItemLemmas.{collected_one, joined_one, text_none, IsTextField, text_told}
 use Rattle.jser_names.proofs.StepLemmas.{no_text, takes_item}
@@ -66,12 +66,12 @@ past_text taken given text r tally next after y h closed none t =
         is = closed;
         so_far =
             collected_one begin_collecting h.front x.label x.ends.field ∙ ap (λ f. collect f (collected begin_collecting h.front)) told.2
-            ∙ ap (collect (text_field false told.0)) (so_far h.at) ∙ text_none told.0 (told_of y) none;
+            ∙ ap (collect (text_field false told.0)) (so_far h.at) ∙ text_none told.0 (view_of y) none;
         plain = λ i. absurd (no_text (h.front ++ (piece x.label x.ends.field ∷ [])) i);
       });
     }
   where
-    so_far : IsAt h.front h.cut y → collected begin_collecting h.front ≡ told_of y
+    so_far : IsAt h.front h.cut y → collected begin_collecting h.front ≡ view_of y
     so_far (inl c) = c.so_far
     so_far (inr (inl e)) = absurd (let no : true ≡ false = sym e.is ∙ closed in cc)
     so_far (inr (inr g)) = g.so_far

@@ -16,7 +16,7 @@ use Rattle.jser_reader.specs.Items.{text_items, items_at, first_size, IsOfText, 
 use Rattle.jser_reader.specs.ItemsTold.{StandsIn, FieldEnds, IsFull, MayGoOn, FieldGoesOn, Lends, WantsMore, TellsItems}
 use Rattle.jser_reader.specs.Readers.{Seen}
 use Rattle.jser_names.specs.Collecting.{begin_collecting, collect, collected}
-use Rattle.jser_names.specs.Standing.{Names, told_of, ClosesName, Closes, Adds, begun, left_behind, ClosesThen, Takes, InText, Closed, Ended, GoesOn, IsAt, Stands}
+use Rattle.jser_names.specs.Standing.{Names, view_of, ClosesName, Closes, Adds, begun, left_behind, ClosesThen, Takes, InText, Closed, Ended, GoesOn, IsAt, Stands}
 use Rattle.jser_names.proofs.ItemLemmas.{collected_one, joined_one, same_label, text_none, less_one, IsTextField, text_told, behind_head, IsTextItem, text_at, ends_plain}
 
 -- ---- no text, and the end of a name
@@ -39,7 +39,7 @@ close_ended front cut old mid e closes =
       is = c.is;
       so_far =
           ap (collected begin_collecting) e.front_is ∙ collected_one begin_collecting e.before e.label (text_field e.long e.units)
-          ∙ ap (collect (text_field e.long e.units)) e.so_far ∙ less_one e.units (told_of old) old.left e.some
+          ∙ ap (collect (text_field e.long e.units)) e.so_far ∙ less_one e.units (view_of old) old.left e.some
           ∙ ap (λ names. record { names = names; left = old.left - 1 }) (sym (c.names e.units e.are_units e.spelled))
           ∙ ap (λ n. record { names = mid.names; left = n }) (sym c.left);
       plain = λ t. absurd (e.plain t);
@@ -86,7 +86,7 @@ part_closed front cut taken label long r tally old new c comes texts past same e
       is = ap (λ y. y.is_open) same ∙ c.is;
       so_far =
           collected_one begin_collecting front label e.field ∙ ap (λ f. collect f (collected begin_collecting front)) t.2
-          ∙ ap (collect (text_field long t.0)) c.so_far ∙ text_none t.0 (told_of old) none ∙ ap told_of (sym same);
+          ∙ ap (collect (text_field long t.0)) c.so_far ∙ text_none t.0 (view_of old) none ∙ ap view_of (sym same);
       plain = λ i. absurd (no_text (front ++ (piece label e.field ∷ [])) i);
     }))
 
@@ -96,7 +96,7 @@ part_closed_on : (front : List Piece) (cut taken : List ℕ) (label : Label) (lo
 part_closed_on front cut taken label long r tally old new c comes texts past same st =
     let none : old.left ≡ 0 = c.plain (record { label = label; comes = comes; long = long; is_text = texts; past = past }) in
     in_field front cut taken r tally new st
-    (inl (record { is = ap (λ y. y.is_open) same ∙ c.is; so_far = c.so_far ∙ ap told_of (sym same); plain = λ i. ap (λ y. y.left) same ∙ none }))
+    (inl (record { is = ap (λ y. y.is_open) same ∙ c.is; so_far = c.so_far ∙ ap view_of (sym same); plain = λ i. ap (λ y. y.left) same ∙ none }))
 
 part_goes : (front : List Piece) (cut taken : List ℕ) (label : Label) (long : Bool) (r : Seen) (tally : Tally) (old new : Names) (g : GoesOn front cut old)
     → items_at label.position ≡ text_items g.long → new ≡ record old { text = old.text ++ taken }
@@ -114,7 +114,7 @@ part_goes front cut taken label long r tally old new g texts is e =
       long = g.long;
       units = t.0;
       front_is = ap (λ f. front ++ (piece label f ∷ [])) t.2;
-      so_far = g.so_far ∙ ap told_of (sym is);
+      so_far = g.so_far ∙ ap view_of (sym is);
       are_units = t.1.0;
       spelled = behind_head g.long t.0 g.head (old.text ++ taken) e.field t.2 g.size bytes ∙ ap (λ y. y.text) (sym is);
       plain = λ i. no_text (front ++ (piece label e.field ∷ [])) i;
@@ -127,7 +127,7 @@ part_goes_on front cut taken r tally old new g is st =
     (inr (inr (record {
       is = ap (λ y. y.is_open) is ∙ g.is;
       some = subst (λ n. 0 < n) (sym (ap (λ y. y.left) is)) g.some;
-      so_far = g.so_far ∙ ap told_of (sym is);
+      so_far = g.so_far ∙ ap view_of (sym is);
       label = g.label;
       comes = g.comes;
       long = g.long;
@@ -173,7 +173,7 @@ length_ends front cut taken label long r tally mid new c comes texts size is (no
       is = ap (λ y. y.is_open) same ∙ c.is;
       so_far =
           collected_one begin_collecting front label e.field ∙ ap (λ f. collect f (collected begin_collecting front)) t.2
-          ∙ ap (collect (text_field long t.0)) c.so_far ∙ text_none t.0 (told_of mid) none ∙ ap told_of (sym same);
+          ∙ ap (collect (text_field long t.0)) c.so_far ∙ text_none t.0 (view_of mid) none ∙ ap view_of (sym same);
       plain = λ i. absurd (no_text (front ++ (piece label e.field ∷ [])) i);
     }))
 length_ends front cut taken label long r tally mid new c comes texts size is (some_left some) e =
@@ -188,7 +188,7 @@ length_ends front cut taken label long r tally mid new c comes texts size is (so
       long = long;
       units = t.0;
       front_is = ap (λ f. front ++ (piece label f ∷ [])) t.2;
-      so_far = c.so_far ∙ ap told_of (sym same);
+      so_far = c.so_far ∙ ap view_of (sym same);
       are_units = t.1.0;
       spelled =
           behind_head long t.0 (cut ++ taken) [] e.field t.2 size (e.spelled ∙ sym (append-nil (cut ++ taken))) ∙ ap (λ y. y.text) (sym same);
@@ -201,14 +201,14 @@ length_goes_on : (front : List Piece) (cut taken : List ℕ) (label : Label) (lo
 length_goes_on front cut taken label long r tally mid new c comes texts size is (none_left none) st =
     let same : new ≡ mid = is ∙ begun_none mid none in
     in_field front cut taken r tally new st
-    (inl (record { is = ap (λ y. y.is_open) same ∙ c.is; so_far = c.so_far ∙ ap told_of (sym same); plain = λ i. ap (λ y. y.left) same ∙ none }))
+    (inl (record { is = ap (λ y. y.is_open) same ∙ c.is; so_far = c.so_far ∙ ap view_of (sym same); plain = λ i. ap (λ y. y.left) same ∙ none }))
 length_goes_on front cut taken label long r tally mid new c comes texts size is (some_left some) st =
     let same : new ≡ record mid { is_open = true; text = [] } = is ∙ begun_some mid.left mid some in
     in_field front cut taken r tally new st
     (inr (inr (record {
       is = ap (λ y. y.is_open) same;
       some = subst (λ n. 0 < n) (sym (ap (λ y. y.left) same)) some;
-      so_far = c.so_far ∙ ap told_of (sym same);
+      so_far = c.so_far ∙ ap view_of (sym same);
       label = label;
       comes = comes;
       long = long;
@@ -229,7 +229,7 @@ plain_ends front cut taken lent label r tally mid new c plain h is e =
       is = ap (λ y. y.is_open) is ∙ c.is;
       so_far =
           collected_one begin_collecting front label e.field ∙ ap (collect e.field) c.so_far
-          ∙ ends_plain label.position label.moment e.field cut taken lent (told_of mid) e.accepted plain e.spelled h ∙ ap told_of (sym is);
+          ∙ ends_plain label.position label.moment e.field cut taken lent (view_of mid) e.accepted plain e.spelled h ∙ ap view_of (sym is);
       plain = λ i. absurd (no_text (front ++ (piece label e.field ∷ [])) i);
     }))
 
@@ -253,7 +253,7 @@ plain_goes_on front cut given used lent label r tally mid new c comes plain h is
     in_field front cut (take used given) r tally new o.stands
     (inl (record {
       is = ap (λ y. y.is_open) same ∙ c.is;
-      so_far = c.so_far ∙ ap told_of (sym same);
+      so_far = c.so_far ∙ ap view_of (sym same);
       plain = λ i.
           let texts : items_at label.position ≡ text_items i.long = ap (λ l. items_at l.position) (same_label front label i.label comes i.comes) ∙ i.is_text in
           absurd (no_text_lent i.long cut (take used given) lent plain (subst (λ k. IsLent k cut (take used given) lent) texts h));

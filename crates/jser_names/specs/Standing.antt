@@ -23,8 +23,8 @@ pub record Names : Type 0 where
   pub is_open : Bool
   pub text : List ℕ
 
-abbrev pub told_of : Names → Collected
-told_of x = record { names = x.names; left = x.left }
+abbrev pub view_of : Names → Collected
+view_of x = record { names = x.names; left = x.left }
 
 -- ---- what is done
 
@@ -77,7 +77,7 @@ pub record InText (front : List Piece) (cut : List ℕ) : Type 0 where
 -- no name is being read
 pub record Closed (front : List Piece) (cut : List ℕ) (x : Names) : Type 0 where
   pub is : x.is_open ≡ false
-  pub so_far : collected begin_collecting front ≡ told_of x
+  pub so_far : collected begin_collecting front ≡ view_of x
   pub plain : InText front cut → x.left ≡ 0
 
 -- a name was read to its end
@@ -89,7 +89,7 @@ pub record Ended (front : List Piece) (cut : List ℕ) (x : Names) : Type 0 wher
   pub long : Bool
   pub units : List ℕ
   pub front_is : front ≡ before ++ (piece label (text_field long units) ∷ [])
-  pub so_far : collected begin_collecting before ≡ told_of x
+  pub so_far : collected begin_collecting before ≡ view_of x
   pub are_units : IsUnits units
   pub spelled : modified_utf8 units ≡ x.text
   pub plain : InText front cut → ⊥
@@ -98,7 +98,7 @@ pub record Ended (front : List Piece) (cut : List ℕ) (x : Names) : Type 0 wher
 pub record GoesOn (front : List Piece) (cut : List ℕ) (x : Names) : Type 0 where
   pub is : x.is_open ≡ true
   pub some : 0 < x.left
-  pub so_far : collected begin_collecting front ≡ told_of x
+  pub so_far : collected begin_collecting front ≡ view_of x
   pub label : Label
   pub comes : ComesNext front label
   pub long : Bool

@@ -11,8 +11,8 @@ use Rattle.jser_table.specs.Tables.{TableView as Handles}
 use Rattle.jser_shown.specs.Known.{NamedLayer, known_class}
 use Rattle.jser_printer.specs.declared.class.KeptClass.{KeptClass}
 use Rattle.jser_printer.specs.declared.class.Parent.{Parent}
-use Rattle.jser_printer.specs.Tables.{TableView, layer_in, layers_above, no_class, class_in, named_class, named_line, named_lines, told_entries, told_handles, table_of, IsAmong, AreAmong, IsOwn, IsNumbered, counted, IsSound, HasClass, IsParent, handle_of, layers_under, IsStraight, IsChainOf, Closes}
-use Rattle.jser_printer.proofs.HandleLemmas.{told_set, told_more}
+use Rattle.jser_printer.specs.Tables.{TableView, layer_in, layers_above, no_class, class_in, named_class, named_line, named_lines, view_entries, view_handles, table_of, IsAmong, AreAmong, IsOwn, IsNumbered, counted, IsSound, HasClass, IsParent, handle_of, layers_under, IsStraight, IsChainOf, Closes}
+use Rattle.jser_printer.proofs.HandleLemmas.{view_set, view_more}
 use Rattle.jser_printer.proofs.TableLemmas.{length_view, length_classes, length_chains, line_same, lines_same, line_named, range_push, long_alike, counted_line, is_chain}
 
 among_more : (m n : ℕ) → m ≤ n → (number : Option ℕ) → IsAmong m number → IsAmong n number
@@ -150,20 +150,20 @@ module _ (h : Handles) (layers : List NamedLayer) (classes : List KeptClass) (vi
       ∙ ap (λ cs. cs ++ (layers_above view.known given ++ layer_in view.layers c.own ∷ []) ∷ []) (lines_same with_c (named_class layers classes) n same h.lines sound.of)
       ∙ ap (λ (v : TableView). v.chains ++ (layers_above view.known given ++ layer_in view.layers c.own ∷ []) ∷ []) is
 
-  pub known_closed : (new : Handles) (more : List KeptClass) (c : KeptClass) (handle : ℕ) (given : Option ℕ) (parent : Option Parent) → IsParent h given parent → Closes h new handle (handle_of parent) → more ≡ classes ++ c ∷ [] → told_handles (named_lines layers more new.lines) new ≡ set view.known handle (known_class (layers_above view.known given ++ layer_in view.layers c.own ∷ []))
+  pub known_closed : (new : Handles) (more : List KeptClass) (c : KeptClass) (handle : ℕ) (given : Option ℕ) (parent : Option Parent) → IsParent h given parent → Closes h new handle (handle_of parent) → more ≡ classes ++ c ∷ [] → view_handles (named_lines layers more new.lines) new ≡ set view.known handle (known_class (layers_above view.known given ++ layer_in view.layers c.own ∷ []))
   known_closed new more c handle given parent at closes added =
       let C : List (List NamedLayer) = view.chains in
       let made : List NamedLayer = layers_above view.known given ++ layer_in view.layers c.own ∷ [] in
       let long : length C ≡ length h.lines = length_view h layers classes view is sound in
       let last : length C ≡ length h.chains = long ∙ sym (length_chains h layers classes view is sound) in
       let closed : TableEntry = closed_under h.entries (handle_of parent) closes.layer in
-      ap (λ cs. told_handles cs new) (chains_closed new more c handle given parent at closes added)
-      ∙ ap (λ es. told_entries (C ++ made ∷ []) (zip es new.numbers)) closes.entries
-      ∙ ap (λ ns. told_entries (C ++ made ∷ []) (zip (set h.entries handle closed) ns)) closes.numbers
-      ∙ told_set (C ++ made ∷ []) h.entries h.numbers handle closed (Some (length h.chains))
-      ∙ ap (λ ls. set (told_entries (C ++ made ∷ []) (zip h.entries h.numbers)) handle (known_class ls)) (get_or_push C made [] (length h.chains) last)
-      ∙ ap (λ es. set es handle (known_class made)) (told_more C made h.entries h.numbers (subst (λ m. All (IsAmong m) h.numbers) (sym long) sound.among))
-      ∙ ap (λ cs. set (told_handles cs h) handle (known_class made)) (ap (λ (v : TableView). v.chains) (sym is))
+      ap (λ cs. view_handles cs new) (chains_closed new more c handle given parent at closes added)
+      ∙ ap (λ es. view_entries (C ++ made ∷ []) (zip es new.numbers)) closes.entries
+      ∙ ap (λ ns. view_entries (C ++ made ∷ []) (zip (set h.entries handle closed) ns)) closes.numbers
+      ∙ view_set (C ++ made ∷ []) h.entries h.numbers handle closed (Some (length h.chains))
+      ∙ ap (λ ls. set (view_entries (C ++ made ∷ []) (zip h.entries h.numbers)) handle (known_class ls)) (get_or_push C made [] (length h.chains) last)
+      ∙ ap (λ es. set es handle (known_class made)) (view_more C made h.entries h.numbers (subst (λ m. All (IsAmong m) h.numbers) (sym long) sound.among))
+      ∙ ap (λ cs. set (view_handles cs h) handle (known_class made)) (ap (λ (v : TableView). v.chains) (sym is))
       ∙ ap (λ (v : TableView). set v.known handle (known_class made)) is
 
   pub sound_closed : (new : Handles) (more : List KeptClass) (c : KeptClass) (handle : ℕ) (given : Option ℕ) (parent : Option Parent) → IsParent h given parent → Closes h new handle (handle_of parent) → more ≡ classes ++ c ∷ [] → c.chain ≡ length h.chains → c.own < length view.layers → c.layers ≡ layers_under classes parent → IsStraight classes parent c.straight → length new.chains < 2 ^ 32 → IsSound new layers more

@@ -4,12 +4,12 @@ use Rattle.std.proofs.lemmas.List.{map-append, reverse-append}
 use Rattle.jser_shown.specs.Known.{NamedField as ToldField}
 use Rattle.jser_shown.specs.Cues.{fields_done}
 use Rattle.jser_printer.specs.declared.layer.NamedField.{NamedField}
-use Rattle.jser_printer.specs.Layers.{told_field, told_fields}
+use Rattle.jser_printer.specs.Layers.{view_field, view_fields}
 use Rattle.jser_printer.specs.Phases.{done_of}
 
-pub done_push : (old new : List NamedField) (f : NamedField) → new ≡ old ++ f ∷ [] → done_of new ≡ told_field f ∷ done_of old
+pub done_push : (old new : List NamedField) (f : NamedField) → new ≡ old ++ f ∷ [] → done_of new ≡ view_field f ∷ done_of old
 done_push old new f is =
-    ap done_of is ∙ ap reverse (map-append told_field old (f ∷ [])) ∙ reverse-append (told_fields old) (told_field f ∷ [])
+    ap done_of is ∙ ap reverse (map-append view_field old (f ∷ [])) ∙ reverse-append (view_fields old) (view_field f ∷ [])
 
 -- in their order again
 
@@ -24,5 +24,5 @@ in_order (f ∷ fields) others =
     ∙ done_append (reverse fields) (f ∷ []) others
     ∙ ap (λ fs. f ∷ fs) (in_order fields others)
 
-pub done_in_order : (fields : List NamedField) → told_fields fields ≡ fields_done (done_of fields) []
-done_in_order fields = sym (in_order (told_fields fields) [] ∙ append-nil (told_fields fields))
+pub done_in_order : (fields : List NamedField) → view_fields fields ≡ fields_done (done_of fields) []
+done_in_order fields = sym (in_order (view_fields fields) [] ∙ append-nil (view_fields fields))

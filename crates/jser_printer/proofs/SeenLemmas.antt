@@ -5,9 +5,9 @@ use Rattle.jser_shown.specs.Telling.{seen as seen_of}
 use Rattle.jser_printer.specs.declared.field.Field.TheVariants as field
 use Rattle.jser_printer.specs.declared.seen.Seen.{Seen}
 use Rattle.jser_printer.specs.Given.{IsOf}
-use Rattle.jser_printer.specs.Seen.{told_seen, Sees, tag_seen}
+use Rattle.jser_printer.specs.Seen.{view_seen, Sees, tag_seen}
 
-sees_by : (s : Option Seen) (told : StreamField) → option_map told_seen s ≡ Some (seen_of told) → Sees s told
+sees_by : (s : Option Seen) (told : StreamField) → option_map view_seen s ≡ Some (seen_of told) → Sees s told
 sees_by None told is = cc
 sees_by (Some s) told is = cc
 
@@ -28,5 +28,5 @@ seen_byte b end_tag_field is = rw is refl
 seen_byte b reset_tag_field is = rw is refl
 seen_byte b _ is = absurd is
 
-pub sees_tag : (b : ℕ) (s : Option Seen) → option_map told_seen s ≡ tag_seen b → (told : StreamField) → IsOf (field.Tag b) told → Sees s told
+pub sees_tag : (b : ℕ) (s : Option Seen) → option_map view_seen s ≡ tag_seen b → (told : StreamField) → IsOf (field.Tag b) told → Sees s told
 sees_tag b s same told is = sees_by s told (same ∙ seen_byte b told is)

@@ -13,13 +13,13 @@ use Rattle.jser_table.specs.Tables.{TableView as Handles}
 use Rattle.jser_shown.specs.Known.{NamedLayer, proxy_layer, with_entry, classes_at, own_class_of}
 use Rattle.jser_printer.specs.declared.class.KeptClass.{KeptClass}
 use Rattle.jser_printer.specs.declared.layer.Layer.{Layer}
-use Rattle.jser_printer.specs.Layers.{told_layer, told_layers}
-use Rattle.jser_printer.specs.Tables.{TableView, layer_in, layers_in, no_class, class_in, named_class, named_line, named_lines, told_new, told_entries, told_handles, table_of, AreAmong, IsNumbered, counted, IsSound, IsClassAt, IsChainOf}
-use Rattle.jser_printer.proofs.HandleLemmas.{told_push, classes_of_handle}
+use Rattle.jser_printer.specs.Layers.{view_layer, view_layers}
+use Rattle.jser_printer.specs.Tables.{TableView, layer_in, layers_in, no_class, class_in, named_class, named_line, named_lines, view_new, view_entries, view_handles, table_of, AreAmong, IsNumbered, counted, IsSound, IsClassAt, IsChainOf}
+use Rattle.jser_printer.proofs.HandleLemmas.{view_push, classes_of_handle}
 
 -- an empty table
 
-pub sound_none : (h : Handles) (layers : List Layer) (classes : List KeptClass) → h.entries ≡ [] → h.chains ≡ [] → h.numbers ≡ [] → h.lines ≡ [] → h.max < 2 ^ 32 → layers ≡ [] → classes ≡ [] → IsSound h (told_layers layers) classes
+pub sound_none : (h : Handles) (layers : List Layer) (classes : List KeptClass) → h.entries ≡ [] → h.chains ≡ [] → h.numbers ≡ [] → h.lines ≡ [] → h.max < 2 ^ 32 → layers ≡ [] → classes ≡ [] → IsSound h (view_layers layers) classes
 sound_none h layers classes entries chains numbers lines max l c = record {
   most = max;
   within = omega (arith, ap length entries);
@@ -33,7 +33,7 @@ sound_none h layers classes entries chains numbers lines max l c = record {
   numbered = λ n inside. absurd (omega (arith, ap length lines));
 }
 
-pub table_none : (h : Handles) (layers : List Layer) (classes : List KeptClass) → h.entries ≡ [] → h.lines ≡ [] → layers ≡ [] → table_of h (told_layers layers) classes ≡ record { known = []; layers = []; chains = [] }
+pub table_none : (h : Handles) (layers : List Layer) (classes : List KeptClass) → h.entries ≡ [] → h.lines ≡ [] → layers ≡ [] → table_of h (view_layers layers) classes ≡ record { known = []; layers = []; chains = [] }
 table_none h layers classes entries lines l = rw (entries, lines, l) refl
 
 -- where the names of so many classes are the same, so are those of lines of them
@@ -145,18 +145,18 @@ module _ (h : Handles) (layers : List NamedLayer) (classes : List KeptClass) (vi
       let numbered : IsNumbered h.lines classes n = sound.numbered n inside in
       ap own_class_of (line_ends n inside numbered) ∙ own_of_push (named_line layers classes (front_of n numbered)) (named_class layers classes n)
 
-  pub own_kept : (kept : List Layer) (n : ℕ) (class : KeptClass) (l : Layer) → layers ≡ told_layers kept → n < length view.chains → class ≡ slice_index_or classes n class → l ≡ slice_index_or kept class.own l → own_class_of (layers_in view.chains n) ≡ told_layer l
+  pub own_kept : (kept : List Layer) (n : ℕ) (class : KeptClass) (l : Layer) → layers ≡ view_layers kept → n < length view.chains → class ≡ slice_index_or classes n class → l ≡ slice_index_or kept class.own l → own_class_of (layers_in view.chains n) ≡ view_layer l
   own_kept kept n class l told inside read read_layer =
       let here : n < length h.lines = omega (arith, inside, length_view) in
       let same : class ≡ class_in classes n = class_read n class here read in
       let below : class.own < length kept =
-      omega (arith, own_inside n here, ap (λ (c : KeptClass). c.own) same, ap length told, length-map kept told_layer)
+      omega (arith, own_inside n here, ap (λ (c : KeptClass). c.own) same, ap length told, length-map kept view_layer)
       in
       own_named n here
       ∙ ap (λ (c : KeptClass). layer_in layers c.own) (sym same)
       ∙ ap (λ ls. layer_in ls class.own) told
-      ∙ get_or-map told_layer kept class.own l proxy_layer below
-      ∙ ap told_layer (sym read_layer)
+      ∙ get_or-map view_layer kept class.own l proxy_layer below
+      ∙ ap view_layer (sym read_layer)
 
   -- the class that has the layer of a chain at some index
 
@@ -218,27 +218,27 @@ module _ (h : Handles) (layers : List NamedLayer) (classes : List KeptClass) (vi
   )
 
   -- one more layer changes no chain
-  pub chains_same : (old new : List Layer) (l : Layer) → layers ≡ told_layers old → new ≡ old ++ l ∷ [] → named_lines (told_layers new) classes h.lines ≡ view.chains
+  pub chains_same : (old new : List Layer) (l : Layer) → layers ≡ view_layers old → new ≡ old ++ l ∷ [] → named_lines (view_layers new) classes h.lines ≡ view.chains
   chains_same old new l told added =
-      let more : told_layers new ≡ layers ++ told_layer l ∷ [] =
-      ap told_layers added ∙ map_push told_layer old l ∙ ap (λ ls. ls ++ told_layer l ∷ []) (sym told)
+      let more : view_layers new ≡ layers ++ view_layer l ∷ [] =
+      ap view_layers added ∙ map_push view_layer old l ∙ ap (λ ls. ls ++ view_layer l ∷ []) (sym told)
       in
       ap (λ ls. named_lines ls classes h.lines) more
-      ∙ lines_same (named_class (layers ++ told_layer l ∷ []) classes) (named_class layers classes) (length h.lines)
-      (λ m inside. get_or_append_left layers (told_layer l ∷ []) proxy_layer (class_in classes m).own (own_inside m inside)) h.lines sound.of
+      ∙ lines_same (named_class (layers ++ view_layer l ∷ []) classes) (named_class layers classes) (length h.lines)
+      (λ m inside. get_or_append_left layers (view_layer l ∷ []) proxy_layer (class_in classes m).own (own_inside m inside)) h.lines sound.of
       ∙ ap (λ (v : TableView). v.chains) is
 
-  pub known_same : (old new : List Layer) (l : Layer) → layers ≡ told_layers old → new ≡ old ++ l ∷ [] → told_handles (named_lines (told_layers new) classes h.lines) h ≡ view.known
+  pub known_same : (old new : List Layer) (l : Layer) → layers ≡ view_layers old → new ≡ old ++ l ∷ [] → view_handles (named_lines (view_layers new) classes h.lines) h ≡ view.known
   known_same old new l told added =
-      ap (λ chains. told_handles chains h) (chains_same old new l told added ∙ ap (λ (v : TableView). v.chains) (sym is))
+      ap (λ chains. view_handles chains h) (chains_same old new l told added ∙ ap (λ (v : TableView). v.chains) (sym is))
       ∙ ap (λ (v : TableView). v.known) is
 
   -- one more handle
-  pub known_more : (new : Handles) (kind : Kind) → new.entries ≡ h.entries ++ new_entry kind ∷ [] → new.numbers ≡ h.numbers ++ None ∷ [] → new.lines ≡ h.lines → told_handles (named_lines layers classes new.lines) new ≡ with_entry view.known (told_new kind)
+  pub known_more : (new : Handles) (kind : Kind) → new.entries ≡ h.entries ++ new_entry kind ∷ [] → new.numbers ≡ h.numbers ++ None ∷ [] → new.lines ≡ h.lines → view_handles (named_lines layers classes new.lines) new ≡ with_entry view.known (view_new kind)
   known_more new kind entries numbers lines =
       let C = named_lines layers classes h.lines in
-      ap (λ ls. told_handles (named_lines layers classes ls) new) lines
-      ∙ ap (λ es. told_entries C (zip es new.numbers)) entries
-      ∙ ap (λ ns. told_entries C (zip (h.entries ++ new_entry kind ∷ []) ns)) numbers
-      ∙ told_push C h.entries h.numbers (new_entry kind) sound.paired
-      ∙ ap (λ (v : TableView). v.known ++ told_new kind ∷ []) is
+      ap (λ ls. view_handles (named_lines layers classes ls) new) lines
+      ∙ ap (λ es. view_entries C (zip es new.numbers)) entries
+      ∙ ap (λ ns. view_entries C (zip (h.entries ++ new_entry kind ∷ []) ns)) numbers
+      ∙ view_push C h.entries h.numbers (new_entry kind) sound.paired
+      ∙ ap (λ (v : TableView). v.known ++ view_new kind ∷ []) is

@@ -11,7 +11,7 @@ use Rattle.jser_printer.specs.declared.frame.Frame.TheVariants as frame
 use Rattle.jser_printer.specs.declared.frame.Stage.{Stage}
 use Rattle.jser_prim.specs.Outgoing.{Outgoing, SinkState}
 use Rattle.std.proofs.Common.{Bor}
-use Rattle.jser_printer.specs.Seen.{told_seen}
+use Rattle.jser_printer.specs.Seen.{view_seen}
 use Rattle.jser_printer.specs.declared.seen.Seen.{Seen}
 use Rattle.jser_printer.specs.declared.seen.Seen.TheVariants as seen
 use Rattle.jser_printer.specs.declared.seen.Tag.{Tag as DeclaredTag}
@@ -136,37 +136,37 @@ pub end_silent : (a : Outgoing) (d : SinkState) (place : Place) (layers : List N
 end_silent a d place layers chains frames level chain index s field top is =
     part_silent a d place layers chains frames level chain index s [] field top is (λ k. refl)
 
-raw-says_nothing : (place : Place) (level : ℕ) (name : ValueName) (parts : List SectionPart) (sight : Seen) (k : List ℕ) → ((x : Bor (List ℕ)) → sight ≡ seen.Bytes x → ⊥) → cue_words place (parts_cue level (raw_part name ∷ parts)) (told_seen sight) k ≡ k
+raw-says_nothing : (place : Place) (level : ℕ) (name : ValueName) (parts : List SectionPart) (sight : Seen) (k : List ℕ) → ((x : Bor (List ℕ)) → sight ≡ seen.Bytes x → ⊥) → cue_words place (parts_cue level (raw_part name ∷ parts)) (view_seen sight) k ≡ k
 raw-says_nothing place level name parts (seen.Bytes x) k other = absurd (other x refl)
 raw-says_nothing place level name parts sight k other = refl
 
-raw-stays : (level : ℕ) (name : ValueName) (parts : List SectionPart) (sight : Seen) → ((x : Bor (List ℕ)) → sight ≡ seen.Bytes x → ⊥) → (e : ℕ) (known : Known) (os : List OwnerNode) (cues : List Cue) → parts_goes e known os cues level (raw_part name ∷ parts) (told_seen sight) ≡ teller e known os (parts_cue level (raw_part name ∷ parts) ∷ cues)
+raw-stays : (level : ℕ) (name : ValueName) (parts : List SectionPart) (sight : Seen) → ((x : Bor (List ℕ)) → sight ≡ seen.Bytes x → ⊥) → (e : ℕ) (known : Known) (os : List OwnerNode) (cues : List Cue) → parts_goes e known os cues level (raw_part name ∷ parts) (view_seen sight) ≡ teller e known os (parts_cue level (raw_part name ∷ parts) ∷ cues)
 raw-stays level name parts (seen.Bytes x) other e known os cues = absurd (other x refl)
 raw-stays level name parts sight other e known os cues = refl
 
-pub raw_silent : (a : Outgoing) (d : SinkState) (place : Place) (layers : List NamedLayer) (chains : List (List NamedLayer)) (frames : List Frame) (level chain index : ℕ) (s : Stage) (name : ValueName) (others : List SectionPart) (sight : Seen) → frames ≡ frame.Sections level chain index s ∷ tail_of frames → parts_from (layers_in chains chain) index s ≡ raw_part name ∷ others → ((x : Bor (List ℕ)) → sight ≡ seen.Bytes x → ⊥) → Says a a d d (λ k. field_words place (cues_of layers chains frames) (told_seen sight) k)
+pub raw_silent : (a : Outgoing) (d : SinkState) (place : Place) (layers : List NamedLayer) (chains : List (List NamedLayer)) (frames : List Frame) (level chain index : ℕ) (s : Stage) (name : ValueName) (others : List SectionPart) (sight : Seen) → frames ≡ frame.Sections level chain index s ∷ tail_of frames → parts_from (layers_in chains chain) index s ≡ raw_part name ∷ others → ((x : Bor (List ℕ)) → sight ≡ seen.Bytes x → ⊥) → Says a a d d (λ k. field_words place (cues_of layers chains frames) (view_seen sight) k)
 raw_silent a d place layers chains frames level chain index s name others sight top is other =
-    part_silent a d place layers chains frames level chain index s (raw_part name ∷ others) (told_seen sight) top is (λ k. raw-says_nothing place level name others sight k other)
+    part_silent a d place layers chains frames level chain index s (raw_part name ∷ others) (view_seen sight) top is (λ k. raw-says_nothing place level name others sight k other)
 
-pub raw_left : (layers : List NamedLayer) (chains : List (List NamedLayer)) (frames : List Frame) (level chain index : ℕ) (s : Stage) (name : ValueName) (others : List SectionPart) (sight : Seen) → frames ≡ frame.Sections level chain index s ∷ tail_of frames → parts_from (layers_in chains chain) index s ≡ raw_part name ∷ others → ((x : Bor (List ℕ)) → sight ≡ seen.Bytes x → ⊥) → TakesPart layers chains level frames frames (told_seen sight) None
+pub raw_left : (layers : List NamedLayer) (chains : List (List NamedLayer)) (frames : List Frame) (level chain index : ℕ) (s : Stage) (name : ValueName) (others : List SectionPart) (sight : Seen) → frames ≡ frame.Sections level chain index s ∷ tail_of frames → parts_from (layers_in chains chain) index s ≡ raw_part name ∷ others → ((x : Bor (List ℕ)) → sight ≡ seen.Bytes x → ⊥) → TakesPart layers chains level frames frames (view_seen sight) None
 raw_left layers chains frames level chain index s name others sight top is other =
-    left_there layers chains frames level chain index s (raw_part name ∷ others) (told_seen sight) top is (raw-stays level name others sight other)
+    left_there layers chains frames level chain index s (raw_part name ∷ others) (view_seen sight) top is (raw-stays level name others sight other)
 
-value-says_nothing : (place : Place) (level : ℕ) (name : ValueName) (parts : List SectionPart) (sight : Seen) (k : List ℕ) → ((x : DeclaredTag) → sight ≡ seen.Tag x → ⊥) → cue_words place (parts_cue level (value_part name ∷ parts)) (told_seen sight) k ≡ k
+value-says_nothing : (place : Place) (level : ℕ) (name : ValueName) (parts : List SectionPart) (sight : Seen) (k : List ℕ) → ((x : DeclaredTag) → sight ≡ seen.Tag x → ⊥) → cue_words place (parts_cue level (value_part name ∷ parts)) (view_seen sight) k ≡ k
 value-says_nothing place level name parts (seen.Tag x) k other = absurd (other x refl)
 value-says_nothing place level name parts sight k other = refl
 
-value-stays : (level : ℕ) (name : ValueName) (parts : List SectionPart) (sight : Seen) → ((x : DeclaredTag) → sight ≡ seen.Tag x → ⊥) → (e : ℕ) (known : Known) (os : List OwnerNode) (cues : List Cue) → parts_goes e known os cues level (value_part name ∷ parts) (told_seen sight) ≡ teller e known os (parts_cue level (value_part name ∷ parts) ∷ cues)
+value-stays : (level : ℕ) (name : ValueName) (parts : List SectionPart) (sight : Seen) → ((x : DeclaredTag) → sight ≡ seen.Tag x → ⊥) → (e : ℕ) (known : Known) (os : List OwnerNode) (cues : List Cue) → parts_goes e known os cues level (value_part name ∷ parts) (view_seen sight) ≡ teller e known os (parts_cue level (value_part name ∷ parts) ∷ cues)
 value-stays level name parts (seen.Tag x) other e known os cues = absurd (other x refl)
 value-stays level name parts sight other e known os cues = refl
 
-pub value_silent : (a : Outgoing) (d : SinkState) (place : Place) (layers : List NamedLayer) (chains : List (List NamedLayer)) (frames : List Frame) (level chain index : ℕ) (s : Stage) (name : ValueName) (others : List SectionPart) (sight : Seen) → frames ≡ frame.Sections level chain index s ∷ tail_of frames → parts_from (layers_in chains chain) index s ≡ value_part name ∷ others → ((x : DeclaredTag) → sight ≡ seen.Tag x → ⊥) → Says a a d d (λ k. field_words place (cues_of layers chains frames) (told_seen sight) k)
+pub value_silent : (a : Outgoing) (d : SinkState) (place : Place) (layers : List NamedLayer) (chains : List (List NamedLayer)) (frames : List Frame) (level chain index : ℕ) (s : Stage) (name : ValueName) (others : List SectionPart) (sight : Seen) → frames ≡ frame.Sections level chain index s ∷ tail_of frames → parts_from (layers_in chains chain) index s ≡ value_part name ∷ others → ((x : DeclaredTag) → sight ≡ seen.Tag x → ⊥) → Says a a d d (λ k. field_words place (cues_of layers chains frames) (view_seen sight) k)
 value_silent a d place layers chains frames level chain index s name others sight top is other =
-    part_silent a d place layers chains frames level chain index s (value_part name ∷ others) (told_seen sight) top is (λ k. value-says_nothing place level name others sight k other)
+    part_silent a d place layers chains frames level chain index s (value_part name ∷ others) (view_seen sight) top is (λ k. value-says_nothing place level name others sight k other)
 
-pub value_left : (layers : List NamedLayer) (chains : List (List NamedLayer)) (frames : List Frame) (level chain index : ℕ) (s : Stage) (name : ValueName) (others : List SectionPart) (sight : Seen) → frames ≡ frame.Sections level chain index s ∷ tail_of frames → parts_from (layers_in chains chain) index s ≡ value_part name ∷ others → ((x : DeclaredTag) → sight ≡ seen.Tag x → ⊥) → TakesPart layers chains level frames frames (told_seen sight) None
+pub value_left : (layers : List NamedLayer) (chains : List (List NamedLayer)) (frames : List Frame) (level chain index : ℕ) (s : Stage) (name : ValueName) (others : List SectionPart) (sight : Seen) → frames ≡ frame.Sections level chain index s ∷ tail_of frames → parts_from (layers_in chains chain) index s ≡ value_part name ∷ others → ((x : DeclaredTag) → sight ≡ seen.Tag x → ⊥) → TakesPart layers chains level frames frames (view_seen sight) None
 value_left layers chains frames level chain index s name others sight top is other =
-    left_there layers chains frames level chain index s (value_part name ∷ others) (told_seen sight) top is (value-stays level name others sight other)
+    left_there layers chains frames level chain index s (value_part name ∷ others) (view_seen sight) top is (value-stays level name others sight other)
 
 -- a class with no superclass ends
 

@@ -14,7 +14,7 @@ use Rattle.jser_printer.specs.declared.part.Part.{Part}
 use Rattle.jser_printer.specs.declared.part.Part.TheVariants as part
 use Rattle.jser_printer.specs.declared.part.NextPart.{NextPart}
 use Rattle.jser_printer.specs.Steps.{Due, due_in, layer_name, pass_in}
-use Rattle.jser_printer.specs.Given.{told_owner}
+use Rattle.jser_printer.specs.Given.{view_owner}
 use Rattle.jser_printer.specs.Names.{view_name}
 use Rattle.jser_printer.specs.Tables.{layer_in, layers_in}
 
@@ -44,7 +44,7 @@ cue_of layers chains (frame.External level chain) =
 cue_of layers chains (frame.ExternalNotes level chain) = parts_cue level (note_part ∷ [])
 cue_of layers chains (frame.ExternalEnd level chain) = parts_cue level []
 cue_of layers chains (frame.End level) = parts_cue level []
-cue_of layers chains (frame.Made owner level number) = made_cue (told_owner owner) level number
+cue_of layers chains (frame.Made owner level number) = made_cue (view_owner owner) level number
 cue_of layers chains (frame.Super level number layer) = super_cue level number (layer_in layers layer)
 cue_of layers chains (frame.SuperHandle level number layer) = super_handle_cue level number (layer_in layers layer)
 cue_of layers chains (frame.Close number parent layer) = close_cue number parent (layer_in layers layer)

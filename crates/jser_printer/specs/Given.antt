@@ -36,14 +36,14 @@ IsOf (field.Raw bytes) (prims_field ps) = bytes.now ≡ prims_spelling ps
 IsOf (field.Raw bytes) (bytes_field told) = bytes.now ≡ told
 IsOf lent told = ⊥
 
-abbrev pub told_owner : Owner → ToldOwner
-told_owner owner.Object = object_owner
-told_owner owner.Array = array_owner
-told_owner owner.EnumConst = enum_owner
-told_owner owner.ClassObject = class_owner
+abbrev pub view_owner : Owner → ToldOwner
+view_owner owner.Object = object_owner
+view_owner owner.Array = array_owner
+view_owner owner.EnumConst = enum_owner
+view_owner owner.ClassObject = class_owner
 
-abbrev pub told_node : OwnerNode → ToldNode
-told_node o = owner_node o.number o.elements
+abbrev pub view_node : OwnerNode → ToldNode
+view_node o = owner_node o.number o.elements
 
-abbrev pub told_nodes : List OwnerNode → List ToldNode
-told_nodes os = map told_node os
+abbrev pub view_nodes : List OwnerNode → List ToldNode
+view_nodes os = map view_node os

@@ -7,18 +7,18 @@ use Rattle.jser_printer.specs.declared.layer.Layer.{Layer}
 use Rattle.jser_printer.specs.declared.layer.Layer.TheVariants as layer
 use Rattle.jser_printer.specs.declared.layer.NamedField.{NamedField}
 
-abbrev pub told_field : NamedField → ToldField
-told_field f = record { code = f.code; name = f.name }
+abbrev pub view_field : NamedField → ToldField
+view_field f = record { code = f.code; name = f.name }
 
-abbrev pub told_fields : List NamedField → List ToldField
-told_fields fields = map told_field fields
+abbrev pub view_fields : List NamedField → List ToldField
+view_fields fields = map view_field fields
 
-abbrev pub told_layer : Layer → NamedLayer
-told_layer (layer.Class name flags fields) = class_layer name flags (told_fields fields.items)
-told_layer layer.Proxy = proxy_layer
+abbrev pub view_layer : Layer → NamedLayer
+view_layer (layer.Class name flags fields) = class_layer name flags (view_fields fields.items)
+view_layer layer.Proxy = proxy_layer
 
-abbrev pub told_layers : List Layer → List NamedLayer
-told_layers layers = map told_layer layers
+abbrev pub view_layers : List Layer → List NamedLayer
+view_layers layers = map view_layer layers
 
 abbrev pub no_field : ToldField
 no_field = record { code = 0; name = [] }

@@ -4,9 +4,9 @@ use Rattle.std.specs.Borrow.{Bor}
 use Rattle.jser_printer.specs.declared.text.Text.{Text}
 use Rattle.jser_printer.specs.declared.text.Text.TheVariants as text
 
-abbrev pub told_text : Text → List ℕ
-told_text (text.Units units) = units.now
-told_text (text.Plain plain) = plain.bytes.now
+abbrev pub view_text : Text → List ℕ
+view_text (text.Units units) = units.now
+view_text (text.Plain plain) = plain.bytes.now
 
 -- what is quoted, where that stands for itself
 abbrev pub units_of : (is_plain : Bool) → (quoted units : List ℕ) → List ℕ

@@ -3,7 +3,7 @@ use Rattle.std.specs.Prelude.{ℕ, List, length, ◌≡◌, Bool, true, false, O
 use Rattle.jser_shown.specs.Cues.{Teller}
 use Rattle.jser_reading.specs.Labels.{StreamField}
 use Rattle.jser_shown.specs.Telling.{says, settle_says, settled, first_owner}
-use Rattle.jser_printer.specs.Given.{told_node}
+use Rattle.jser_printer.specs.Given.{view_node}
 use Rattle.jser_printer.specs.Phases.{StandsIn}
 use Rattle.jser_printer.specs.Steps.{Due, due, pass}
 use Rattle.jser_printer.specs.declared.phase.Phase.{Phase}
@@ -12,7 +12,7 @@ use Rattle.jser_printer.specs.declared.words.tag.Place.{Place}
 -- what the words of a tag need of a teller
 abbrev pub PlaceIs : Place → Teller → Type 0
 PlaceIs place s =
-    (place.epoch ≡ s.epoch) × (place.next ≡ length s.known) × (told_node place.owner ≡ first_owner s.owners)
+    (place.epoch ≡ s.epoch) × (place.next ≡ length s.known) × (view_node place.owner ≡ first_owner s.owners)
 
 abbrev pub IsDue : Teller → Type 0
 IsDue s = (d : Due) × (due s ≡ Some d)

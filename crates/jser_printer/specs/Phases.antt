@@ -9,8 +9,8 @@ use Rattle.jser_printer.specs.declared.phase.Over.TheVariants as over
 use Rattle.jser_printer.specs.declared.phase.Phase.{Phase}
 use Rattle.jser_printer.specs.declared.phase.Phase.TheVariants as phase
 use Rattle.jser_printer.specs.declared.layer.NamedField.{NamedField}
-use Rattle.jser_printer.specs.Given.{told_owner}
-use Rattle.jser_printer.specs.Layers.{told_fields}
+use Rattle.jser_printer.specs.Given.{view_owner}
+use Rattle.jser_printer.specs.Layers.{view_fields}
 
 abbrev pub over_fields : Over → List Cue → List Cue
 over_fields over.Nothing cues = cues
@@ -31,8 +31,8 @@ phase_cues phase.BlockLength name done cues = block_length_cue ∷ cues
 phase_cues phase.Block name done cues = block_cue ∷ cues
 phase_cues (phase.ArrayLength level) name done cues = length_cue level ∷ cues
 phase_cues (phase.EnumName level) name done cues = name_cue level ∷ cues
-phase_cues (phase.Class owner level) name done cues = class_cue (told_owner owner) level ∷ cues
-phase_cues (phase.ClassHandle owner level) name done cues = class_handle_cue (told_owner owner) level ∷ cues
+phase_cues (phase.Class owner level) name done cues = class_cue (view_owner owner) level ∷ cues
+phase_cues (phase.ClassHandle owner level) name done cues = class_handle_cue (view_owner owner) level ∷ cues
 phase_cues (phase.ClassName level) name done cues = class_name_cue level ∷ cues
 phase_cues (phase.Suid level) name done cues = suid_cue level name ∷ cues
 phase_cues (phase.Flags head) name done cues = flags_cue head.level head.number name ∷ cues
@@ -60,7 +60,7 @@ Leads from to field =
 
 -- the fields of a descriptor, the last one first
 abbrev pub done_of : List NamedField → List ToldField
-done_of fields = reverse (told_fields fields)
+done_of fields = reverse (view_fields fields)
 
 -- what is kept of the descriptor that is going by: its name and its fields so far, the last field first
 pub record DraftView : Type 0 where

@@ -5,45 +5,45 @@ use Rattle.jser_reading.specs.Labels.{null_tag, reference_tag, class_desc_tag, o
 use Rattle.jser_reading.specs.Labels.{Tag as ToldTag}
 use Rattle.jser_shown.specs.Telling.{SeenField, seen_header, seen_end_tag, seen_reset_tag, seen_tag, seen_block_tag, seen_handle, seen_suid, seen_flags, seen_field_count, seen_interface_count, seen_array_length, seen_code, seen_block_length, seen_text, seen_bytes}
 use Rattle.jser_shown.specs.Telling.{seen as seen_of}
-use Rattle.jser_printer.specs.Names.{told_text}
+use Rattle.jser_printer.specs.Names.{view_text}
 use Rattle.jser_printer.specs.declared.seen.Tag.{Tag}
 use Rattle.jser_printer.specs.declared.seen.Tag.TheVariants as tag
 use Rattle.jser_printer.specs.declared.seen.Seen.{Seen}
 use Rattle.jser_printer.specs.declared.seen.Seen.TheVariants as seen
 
-abbrev pub told_tag : Tag → ToldTag
-told_tag tag.Null = null_tag
-told_tag tag.Reference = reference_tag
-told_tag tag.ClassDesc = class_desc_tag
-told_tag tag.Object = object_tag
-told_tag tag.String = string_tag
-told_tag tag.Array = array_tag
-told_tag tag.Class = class_tag
-told_tag tag.LongString = long_string_tag
-told_tag tag.ProxyDesc = proxy_desc_tag
-told_tag tag.Enum = enum_tag
+abbrev pub view_tag : Tag → ToldTag
+view_tag tag.Null = null_tag
+view_tag tag.Reference = reference_tag
+view_tag tag.ClassDesc = class_desc_tag
+view_tag tag.Object = object_tag
+view_tag tag.String = string_tag
+view_tag tag.Array = array_tag
+view_tag tag.Class = class_tag
+view_tag tag.LongString = long_string_tag
+view_tag tag.ProxyDesc = proxy_desc_tag
+view_tag tag.Enum = enum_tag
 
-abbrev pub told_seen : Seen → SeenField
-told_seen seen.Header = seen_header
-told_seen (seen.Tag tag) = seen_tag (told_tag tag)
-told_seen (seen.BlockTag long) = seen_block_tag long
-told_seen seen.EndTag = seen_end_tag
-told_seen seen.ResetTag = seen_reset_tag
-told_seen (seen.Handle n) = seen_handle n
-told_seen (seen.Suid n) = seen_suid n
-told_seen (seen.Flags n) = seen_flags n
-told_seen (seen.FieldCount n) = seen_field_count n
-told_seen (seen.InterfaceCount n) = seen_interface_count n
-told_seen (seen.ArrayLength n) = seen_array_length n
-told_seen (seen.TypeCode n) = seen_code n
-told_seen (seen.BlockLength n) = seen_block_length n
-told_seen (seen.Text text) = seen_text (told_text text)
-told_seen (seen.Bytes bytes) = seen_bytes bytes.now
+abbrev pub view_seen : Seen → SeenField
+view_seen seen.Header = seen_header
+view_seen (seen.Tag tag) = seen_tag (view_tag tag)
+view_seen (seen.BlockTag long) = seen_block_tag long
+view_seen seen.EndTag = seen_end_tag
+view_seen seen.ResetTag = seen_reset_tag
+view_seen (seen.Handle n) = seen_handle n
+view_seen (seen.Suid n) = seen_suid n
+view_seen (seen.Flags n) = seen_flags n
+view_seen (seen.FieldCount n) = seen_field_count n
+view_seen (seen.InterfaceCount n) = seen_interface_count n
+view_seen (seen.ArrayLength n) = seen_array_length n
+view_seen (seen.TypeCode n) = seen_code n
+view_seen (seen.BlockLength n) = seen_block_length n
+view_seen (seen.Text text) = seen_text (view_text text)
+view_seen (seen.Bytes bytes) = seen_bytes bytes.now
 
 -- the field is seen as what it is
 abbrev pub Sees : Option Seen → StreamField → Type 0
 Sees None told = ⊥
-Sees (Some s) told = told_seen s ≡ seen_of told
+Sees (Some s) told = view_seen s ≡ seen_of told
 
 -- what is seen of a tag
 abbrev pub tag_seen : ℕ → Option SeenField

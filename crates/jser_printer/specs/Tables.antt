@@ -56,30 +56,30 @@ abbrev pub named_lines : List NamedLayer → List KeptClass → List (List ℕ) 
 named_lines layers classes lines = map (named_line layers classes) lines
 
 -- an entry that is no class
-abbrev pub told_other : TableEntry → KnownEntry
-told_other text_entry = known_text
-told_other other_entry = known_other
-told_other pending_entry = known_pending
-told_other (closed_entry chain) = known_other
+abbrev pub view_other : TableEntry → KnownEntry
+view_other text_entry = known_text
+view_other other_entry = known_other
+view_other pending_entry = known_pending
+view_other (closed_entry chain) = known_other
 
 -- an entry, with the number of its class, if it is one
-abbrev pub told_entry : List (List NamedLayer) → TableEntry → Option ℕ → KnownEntry
-told_entry chains entry None = told_other entry
-told_entry chains entry (Some n) = known_class (layers_in chains n)
+abbrev pub view_entry : List (List NamedLayer) → TableEntry → Option ℕ → KnownEntry
+view_entry chains entry None = view_other entry
+view_entry chains entry (Some n) = known_class (layers_in chains n)
 
 -- the entry of a new handle
-abbrev pub told_new : Kind → KnownEntry
-told_new kind = told_other (new_entry kind)
+abbrev pub view_new : Kind → KnownEntry
+view_new kind = view_other (new_entry kind)
 
-abbrev pub told_entries : List (List NamedLayer) → List (TableEntry × Option ℕ) → Known
-told_entries chains entries = map (λ (e : TableEntry × Option ℕ). told_entry chains e.0 e.1) entries
+abbrev pub view_entries : List (List NamedLayer) → List (TableEntry × Option ℕ) → Known
+view_entries chains entries = map (λ (e : TableEntry × Option ℕ). view_entry chains e.0 e.1) entries
 
-abbrev pub told_handles : List (List NamedLayer) → Handles → Known
-told_handles chains handles = told_entries chains (zip handles.entries handles.numbers)
+abbrev pub view_handles : List (List NamedLayer) → Handles → Known
+view_handles chains handles = view_entries chains (zip handles.entries handles.numbers)
 
 abbrev pub table_of : Handles → List NamedLayer → List KeptClass → TableView
 table_of handles layers classes = record {
-  known = told_handles (named_lines layers classes handles.lines) handles;
+  known = view_handles (named_lines layers classes handles.lines) handles;
   layers = layers;
   chains = named_lines layers classes handles.lines;
 }

@@ -3,7 +3,7 @@ use Rattle.std.specs.Prelude.{ℕ, List, ◌++◌}
 use Rattle.jser_reading.specs.Labels.{Tag}
 use Rattle.jser_shown.specs.Words.{mark}
 use Rattle.jser_shown.specs.Telling.{tag_says}
-use Rattle.jser_printer.specs.Given.{told_node}
+use Rattle.jser_printer.specs.Given.{view_node}
 use Rattle.jser_printer.specs.declared.words.tag.Place.{Place}
 
 -- a word, a mark and what is behind it
@@ -12,4 +12,4 @@ marked_text word epoch number behind k = word ++ mark epoch number (behind ++ k)
 
 -- what a tag says where a teller stands
 abbrev pub tag_words : Place → Tag → List ℕ → List ℕ
-tag_words place tag k = tag_says place.epoch place.next (told_node place.owner) tag k
+tag_words place tag k = tag_says place.epoch place.next (view_node place.owner) tag k

@@ -2,8 +2,8 @@
 ghost use Rattle.std.specs.Prelude.{◌≡◌, ◌∷◌, [], OnOk};
 ghost use Rattle.jser_shown.specs.Known.{class_layer};
 ghost use Rattle.jser_shown.specs.Cues.{fields_done};
-ghost use Rattle.jser_printer.specs.Layers.{told_layer};
-ghost use Rattle.jser_printer.specs.Names.{told_text};
+ghost use Rattle.jser_printer.specs.Layers.{view_layer};
+ghost use Rattle.jser_printer.specs.Names.{view_text};
 
 use crate::layer::{Layer, NamedField};
 use crate::name::Name;
@@ -44,7 +44,7 @@ impl Draft {
     /// A descriptor of this name, with no field.
     #[inline(never)]
     pub(crate) fn begin(&mut self, name: Text<'_>) -> Result<(), AllocError>
-        ensures name { OnOk result (self.new.name ≡ told_text name.entry) }
+        ensures name { OnOk result (self.new.name ≡ view_text name.entry) }
     {
         self.name = Name::new(self.alloc, name)?;
         Ok(())
@@ -70,7 +70,7 @@ impl Draft {
     #[inline(never)]
     pub(crate) fn add_field(&mut self, code: u8, name: Text<'_>) -> Result<(), AllocError>
         ensures name { OnOk result (self.new.name ≡ self.old.name) }
-        ensures done { OnOk result (self.new.done ≡ record { code = code; name = told_text name.entry } ∷ self.old.done) }
+        ensures done { OnOk result (self.new.done ≡ record { code = code; name = view_text name.entry } ∷ self.old.done) }
     {
         let name = Name::new(self.alloc, name)?;
         self.fields.push(NamedField { code, name })?;
@@ -80,7 +80,7 @@ impl Draft {
     /// The class with this name and these fields, which are kept no longer. Takes no memory.
     #[tactic(auto, using(crate::proofs::DraftLemmas::done_in_order))]
     pub(crate) fn finish(&mut self, flags: u8) -> Layer
-        ensures { told_layer result ≡ class_layer self.old.name flags (fields_done self.old.done []) }
+        ensures { view_layer result ≡ class_layer self.old.name flags (fields_done self.old.done []) }
     {
         let name = mem::replace(&mut self.name, Name::empty(self.alloc));
         let fields = mem::replace(&mut self.fields, Vec::new(self.alloc));

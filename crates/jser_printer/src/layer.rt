@@ -3,7 +3,7 @@ ghost use Rattle.std.specs.Prelude.{◌≡◌, ◌<◌, length, is_some, option_
 ghost use Rattle.jser_grammar.specs.Codes.{prim_code_of, is_object_code};
 ghost use Rattle.jser_shown.specs.Known.{fields_in, has_notes, is_external_class};
 ghost use Rattle.jser_printer.specs.Steps.{layer_name};
-ghost use Rattle.jser_printer.specs.Layers.{told_layer, told_fields, field_at, is_raw_at, NextRaw, NextValue};
+ghost use Rattle.jser_printer.specs.Layers.{view_layer, view_fields, field_at, is_raw_at, NextRaw, NextValue};
 ghost use Rattle.jser_printer.specs.Names.{view_name};
 
 use crate::name::Name;
@@ -38,7 +38,7 @@ impl Layer {
     /// The name; None for a proxy.
     #[inline(always)]
     pub(crate) fn name(&self) -> Option<&Name>
-        ensures { view_name result ≡ layer_name (told_layer self.now) }
+        ensures { view_name result ≡ layer_name (view_layer self.now) }
     {
         match self {
             Layer::Class { name, .. } => Some(name),
@@ -49,7 +49,7 @@ impl Layer {
     /// The fields; a proxy has none.
     #[inline(always)]
     pub(crate) fn fields(&self) -> &[NamedField]
-        ensures { told_fields result.now ≡ fields_in (told_layer self.now) }
+        ensures { view_fields result.now ≡ fields_in (view_layer self.now) }
     {
         match self {
             Layer::Class { fields, .. } => fields.as_slice(),
@@ -60,7 +60,7 @@ impl Layer {
     /// Whether an annotation stands behind the values of its section.
     #[inline(always)]
     pub(crate) fn has_notes(&self) -> bool
-        ensures { result ≡ has_notes (told_layer self.now) }
+        ensures { result ≡ has_notes (view_layer self.now) }
     {
         match self {
             Layer::Class { flags, .. } => flags & SC_WRITE_METHOD != 0,
@@ -72,7 +72,7 @@ impl Layer {
     #[tactic(auto, using(jser_table::proofs::FlagLemmas::externalizable_bit))]
     #[inline(always)]
     pub(crate) fn is_external(&self) -> bool
-        ensures { result ≡ is_external_class (told_layer self.now) }
+        ensures { result ≡ is_external_class (view_layer self.now) }
     {
         match self {
             Layer::Class { flags, .. } => flags & SC_EXTERNALIZABLE != 0,
@@ -101,7 +101,7 @@ pub(crate) fn has_type_text(code: u8) -> bool
 #[inline(always)]
 fn is_raw(fields: &[NamedField], place: usize) -> bool
     requires { place < length fields.now }
-    ensures { result ≡ is_raw_at (told_fields fields.now) place }
+    ensures { result ≡ is_raw_at (view_fields fields.now) place }
 {
     is_primitive(fields[place].code)
 }
@@ -111,7 +111,7 @@ fn is_raw(fields: &[NamedField], place: usize) -> bool
 #[inline(always)]
 pub(crate) fn name_of(fields: &[NamedField], place: usize) -> &Name
     requires { place < length fields.now }
-    ensures { result.now ≡ (field_at (told_fields fields.now) place).name }
+    ensures { result.now ≡ (field_at (view_fields fields.now) place).name }
 {
     &fields[place].name
 }
@@ -120,7 +120,7 @@ pub(crate) fn name_of(fields: &[NamedField], place: usize) -> &Name
 #[tactic(auto, using(crate::proofs::LayerLemmas::raw_found, crate::proofs::LayerLemmas::raw_passed, crate::proofs::LayerLemmas::no_raw))]
 #[inline(always)]
 pub(crate) fn next_raw(fields: &[NamedField], from: usize) -> Option<usize>
-    ensures { NextRaw (told_fields fields.now) from result }
+    ensures { NextRaw (view_fields fields.now) from result }
 {
     let mut place = from;
     'fields: while place < fields.len() {
@@ -136,7 +136,7 @@ pub(crate) fn next_raw(fields: &[NamedField], from: usize) -> Option<usize>
 #[tactic(auto, using(crate::proofs::LayerLemmas::value_found, crate::proofs::LayerLemmas::value_passed, crate::proofs::LayerLemmas::no_value))]
 #[inline(always)]
 pub(crate) fn next_value(fields: &[NamedField], from: usize) -> Option<usize>
-    ensures { NextValue (told_fields fields.now) from result }
+    ensures { NextValue (view_fields fields.now) from result }
 {
     let mut place = from;
     'fields: while place < fields.len() {

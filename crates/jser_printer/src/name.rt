@@ -4,7 +4,7 @@ ghost use Rattle.std.specs.List.{flat_map};
 ghost use Rattle.hex.specs.Hex.{encode_lower};
 ghost use Rattle.jser_prim.specs.Bytes.{big_bytes};
 ghost use Rattle.jser_shown.specs.Words.{quoted_unit};
-ghost use Rattle.jser_printer.specs.Names.{told_text};
+ghost use Rattle.jser_printer.specs.Names.{view_text};
 
 use crate::text::Text;
 use arrayvec::ArrayVec;
@@ -59,7 +59,7 @@ impl Name {
     ///
     /// Where memory runs out.
     pub(crate) fn new(alloc: Global, text: Text<'_>) -> Result<Name, AllocError>
-        ensures { IfOk result (λ name. name ≡ told_text text.entry) }
+        ensures { IfOk result (λ name. name ≡ view_text text.entry) }
     {
         match text {
             Text::Plain(plain) => Ok(Name {

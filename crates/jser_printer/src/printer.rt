@@ -2,7 +2,7 @@
 ghost use Rattle.std.specs.Prelude.{◌≡◌, Bool, Some, OnOk, OnErr};
 ghost use Rattle.jser_reading.specs.Labels.{StreamField, text_field};
 ghost use Rattle.jser_shown.specs.Telling.{begin_telling, goes, says, settle_says, settled};
-ghost use Rattle.jser_printer.specs.Given.{IsOf, told_nodes};
+ghost use Rattle.jser_printer.specs.Given.{IsOf, view_nodes};
 ghost use Rattle.jser_printer.specs.Passing.{PlaceIs, says_next};
 ghost use Rattle.jser_printer.specs.Says.{BeginsTo, SaysTo};
 ghost use Rattle.jser_printer.specs.Seen.{Sees};
@@ -18,7 +18,7 @@ use crate::phase::Phase;
 use crate::seen::{Seen, see};
 use crate::standing::Standing;
 use crate::text::{Plain, Text};
-use crate::words::quote::say_plain_line;
+use crate::words::quote::write_plain_line;
 use crate::words::tag::Place;
 use jser_prim::{Outbox, Sink};
 use std::alloc::{AllocError, Global};
@@ -49,7 +49,7 @@ impl<'a> Printer<'a> {
     ///
     /// `owners` are the nodes of all owners of the stream in the order of their tags.
     pub fn new(alloc: Global, owners: &'a [OwnerNode]) -> Printer<'a>
-        ensures { result ≡ begin_telling (told_nodes owners.now) }
+        ensures { result ≡ begin_telling (view_nodes owners.now) }
     {
         Printer {
             phase: Phase::Header,
@@ -58,14 +58,14 @@ impl<'a> Printer<'a> {
         }
     }
 
-    /// Says all that is due before a field, and then the field, and goes past it: what the teller says of it, and where it
+    /// Writes all that is due before a field, and then the field, and goes past it: what the teller says of it, and where it
     /// goes.
     ///
     /// # Errors
     ///
     /// Where memory runs out. What was said before is a beginning of that, and the printer is of no use then.
     #[inline(always)]
-    pub fn say_next<W: Sink>(
+    pub fn write_next<W: Sink>(
         &mut self,
         outbox: &mut Outbox,
         sink: &mut W,
@@ -78,18 +78,18 @@ impl<'a> Printer<'a> {
             → BeginsTo W.gone_out W.has_failed outbox.old outbox.new sink.old sink.new (λ k. says_next self.old told k)) }
     {
         match see(field) {
-            Some(seen) => self.say_seen(outbox, sink, seen),
+            Some(seen) => self.write_seen(outbox, sink, seen),
             None => Ok(()),
         }
     }
 
-    /// Says a text that is given by its bytes, with all that is due before it, and goes past it.
+    /// Writes a text that is given by its bytes, with all that is due before it, and goes past it.
     ///
     /// # Errors
     ///
-    /// As `say_next`.
+    /// As `write_next`.
     #[inline(always)]
-    pub fn say_plain<W: Sink>(
+    pub fn write_plain<W: Sink>(
         &mut self,
         outbox: &mut Outbox,
         sink: &mut W,
@@ -103,20 +103,20 @@ impl<'a> Printer<'a> {
     {
         if let Phase::Text = self.phase {
             // Nothing is due before the units of a string, and most texts are those.
-            say_plain_line(outbox, sink, plain);
+            write_plain_line(outbox, sink, plain);
             self.phase = Phase::Frames;
             return Ok(());
         }
-        self.say_seen(outbox, sink, Seen::Text(Text::Plain(plain)))
+        self.write_seen(outbox, sink, Seen::Text(Text::Plain(plain)))
     }
 
-    /// Says all that is due before the next field, and settles.
+    /// Writes all that is due before the next field, and settles.
     ///
     /// # Errors
     ///
     /// Where memory runs out. What was said before is a beginning of what is due.
     #[inline(always)]
-    pub fn say_all_due<W: Sink>(
+    pub fn write_all_due<W: Sink>(
         &mut self,
         outbox: &mut Outbox,
         sink: &mut W,
@@ -125,13 +125,13 @@ impl<'a> Printer<'a> {
         ensures settled { OnOk result (self.new ≡ settled self.old) }
         ensures front { OnErr result (BeginsTo W.gone_out W.has_failed outbox.old outbox.new sink.old sink.new (λ k. settle_says self.old.known self.old.cues k)) }
     {
-        'dues: while self.say_one_due(outbox, sink)? {}
+        'dues: while self.write_one_due(outbox, sink)? {}
         Ok(())
     }
 
-    /// Says what is seen of a field, with all that is due before it.
+    /// Writes what is seen of a field, with all that is due before it.
     #[inline(never)]
-    fn say_seen<W: Sink>(
+    fn write_seen<W: Sink>(
         &mut self,
         outbox: &mut Outbox,
         sink: &mut W,
@@ -143,14 +143,14 @@ impl<'a> Printer<'a> {
         ensures front { OnErr result ((told : StreamField) → Sees (Some seen.entry) told
             → BeginsTo W.gone_out W.has_failed outbox.old outbox.new sink.old sink.new (λ k. says_next self.old told k)) }
     {
-        self.say_all_due(outbox, sink)?;
-        self.say_settled(outbox, sink, seen)
+        self.write_all_due(outbox, sink)?;
+        self.write_settled(outbox, sink, seen)
     }
 
-    /// Says what is seen of a field, where nothing is due.
+    /// Writes what is seen of a field, where nothing is due.
     #[tactic(auto, using(crate::proofs::WalkLemmas::goes_seen))]
     #[inline(always)]
-    fn say_settled<W: Sink>(
+    fn write_settled<W: Sink>(
         &mut self,
         outbox: &mut Outbox,
         sink: &mut W,
@@ -161,7 +161,7 @@ impl<'a> Printer<'a> {
         ensures goes { OnOk result ((told : StreamField) → Sees (Some seen.entry) told → self.new ≡ goes self.old told) }
     {
         let place = self.place();
-        self.say_here(outbox, sink, place, seen)
+        self.write_here(outbox, sink, place, seen)
     }
 
     /// What the words of a tag need of the printer.

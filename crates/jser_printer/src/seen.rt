@@ -2,7 +2,7 @@
 //! blocks.
 ghost use Rattle.jser_reading.specs.Labels.{StreamField};
 ghost use Rattle.jser_printer.specs.Given.{IsOf};
-ghost use Rattle.jser_printer.specs.Seen.{Sees, tag_seen, told_seen};
+ghost use Rattle.jser_printer.specs.Seen.{Sees, tag_seen, view_seen};
 ghost use Rattle.std.specs.Prelude.{◌≡◌, option_map};
 
 use crate::field::Field;
@@ -101,7 +101,7 @@ pub(crate) fn see(field: Field<'_>) -> Option<Seen<'_>>
 /// What is seen of a tag; None of a byte that is no tag.
 #[inline(always)]
 fn see_tag(byte: u8) -> Option<Seen<'static>>
-    ensures { option_map told_seen result ≡ tag_seen byte }
+    ensures { option_map view_seen result ≡ tag_seen byte }
 {
     match byte {
         TC_NULL => Some(Seen::Tag(Tag::Null)),

@@ -34,7 +34,7 @@ impl Printer<'_> {
     pub fn pass(&mut self, field: Field<'_>) -> Result<(), AllocError>
         ensures { OnOk result ((told : StreamField) → IsOf field.entry told → self.new ≡ goes (settled self.old) told) }
     {
-        self.say_next(&mut Outbox::new(), &mut Nowhere, field)
+        self.write_next(&mut Outbox::new(), &mut Nowhere, field)
     }
 
     /// Goes past all that is due before the next field, and says nothing.
@@ -45,6 +45,6 @@ impl Printer<'_> {
     pub fn settle(&mut self) -> Result<(), AllocError>
         ensures { OnOk result (self.new ≡ settled self.old) }
     {
-        self.say_all_due(&mut Outbox::new(), &mut Nowhere)
+        self.write_all_due(&mut Outbox::new(), &mut Nowhere)
     }
 }

@@ -4,9 +4,9 @@ ghost use Rattle.std.specs.Prelude.{◌≡◌, ◌∷◌, ◌+◌, [], true, len
 ghost use Rattle.jser_shown.specs.Cues.{top_cue, teller, made_cue, class_cue, elements_cue, note_cue, super_cue, rest_of_desc};
 ghost use Rattle.jser_shown.specs.Known.{with_entry, known_pending, known_text};
 ghost use Rattle.jser_shown.specs.Telling.{first_owner, without_first, begin, class_tag_goes};
-ghost use Rattle.jser_printer.specs.Given.{told_owner, told_node, told_nodes};
-ghost use Rattle.jser_printer.specs.Layers.{told_layer};
-ghost use Rattle.jser_printer.specs.Seen.{told_tag};
+ghost use Rattle.jser_printer.specs.Given.{view_owner, view_node, view_nodes};
+ghost use Rattle.jser_printer.specs.Layers.{view_layer};
+ghost use Rattle.jser_printer.specs.Seen.{view_tag};
 ghost use Rattle.jser_printer.specs.Phases.{StandsIn};
 
 mod passing;
@@ -35,12 +35,12 @@ pub(crate) struct Standing<'a> {
 impl<'a> Model for Standing<'a> {
     ghost use Rattle.std.specs.Prelude.{length};
     ghost use Rattle.jser_shown.specs.Cues.{Teller, teller};
-    ghost use Rattle.jser_printer.specs.Given.{told_nodes};
+    ghost use Rattle.jser_printer.specs.Given.{view_nodes};
     ghost use Rattle.jser_printer.specs.Frames.{cues_of, FramesFit};
 
     ghost Value = { Teller };
 
-    ghost view = { λ a. teller a.epoch a.table.known (told_nodes a.owners.now) (cues_of a.table.layers a.table.chains a.frames) };
+    ghost view = { λ a. teller a.epoch a.table.known (view_nodes a.owners.now) (cues_of a.table.layers a.table.chains a.frames) };
 
     ghost invariant = { λ a. FramesFit (length a.table.layers) (length a.table.chains) a.frames };
 }
@@ -60,7 +60,7 @@ pub(crate) fn deeper(level: u64) -> Result<u64, AllocError>
 impl<'a> Standing<'a> {
     /// At the top of a stream. Takes no memory.
     pub(crate) fn new(alloc: Global, owners: &'a [OwnerNode]) -> Standing<'a>
-        ensures { result ≡ teller 0 [] (told_nodes owners.now) (top_cue ∷ []) }
+        ensures { result ≡ teller 0 [] (view_nodes owners.now) (top_cue ∷ []) }
     {
         Standing {
             epoch: 0,
@@ -89,7 +89,7 @@ impl<'a> Standing<'a> {
     /// The owner whose tag comes next, or one of zeros.
     #[inline(always)]
     pub(crate) fn first_owner(&self) -> OwnerNode
-        ensures { told_node result ≡ first_owner self.now.owners }
+        ensures { view_node result ≡ first_owner self.now.owners }
     {
         match self.owners.first() {
             Some(owner) => *owner,
@@ -127,7 +127,7 @@ impl<'a> Standing<'a> {
         level: u64,
         number: usize,
     ) -> Result<(), AllocError>
-        ensures { OnOk result (self.new ≡ teller self.old.epoch self.old.known self.old.owners (made_cue (told_owner owner) level number ∷ self.old.cues)) }
+        ensures { OnOk result (self.new ≡ teller self.old.epoch self.old.known self.old.owners (made_cue (view_owner owner) level number ∷ self.old.cues)) }
     {
         self.frames.push(Frame::Made {
             owner,
@@ -149,7 +149,7 @@ impl<'a> Standing<'a> {
 
     /// The fields or interfaces of a descriptor have ended: its annotation and its superclass come.
     pub(crate) fn end_fields(&mut self, head: Head, layer: Layer) -> Result<(), AllocError>
-        ensures { OnOk result (self.new ≡ teller self.old.epoch self.old.known self.old.owners (rest_of_desc head.level head.number (told_layer layer) self.old.cues)) }
+        ensures { OnOk result (self.new ≡ teller self.old.epoch self.old.known self.old.owners (rest_of_desc head.level head.number (view_layer layer) self.old.cues)) }
     {
         self.begin_super(head, layer)?;
         self.begin_notes(head.level)
@@ -158,7 +158,7 @@ impl<'a> Standing<'a> {
     /// A superclass place comes.
     #[tactic(auto, using(crate::proofs::FrameLemmas::super_pushed, crate::proofs::FrameLemmas::fit_more_layers, crate::proofs::FrameLemmas::super_fits))]
     fn begin_super(&mut self, head: Head, layer: Layer) -> Result<(), AllocError>
-        ensures { OnOk result (self.new ≡ teller self.old.epoch self.old.known self.old.owners (super_cue head.level head.number (told_layer layer) ∷ self.old.cues)) }
+        ensures { OnOk result (self.new ≡ teller self.old.epoch self.old.known self.old.owners (super_cue head.level head.number (view_layer layer) ∷ self.old.cues)) }
     {
         let layer = self.table.add_layer(layer)?;
         self.frames.push(Frame::Super {
@@ -179,7 +179,7 @@ impl<'a> Standing<'a> {
     /// The tag of a value.
     #[inline(always)]
     pub(crate) fn begin(&mut self, level: u64, tag: Tag) -> Result<Phase, AllocError>
-        ensures { IfOk result (λ phase. StandsIn phase self.new (begin self.old.epoch level self.old.known self.old.owners (told_tag tag) self.old.cues)) }
+        ensures { IfOk result (λ phase. StandsIn phase self.new (begin self.old.epoch level self.old.known self.old.owners (view_tag tag) self.old.cues)) }
     {
         match tag {
             Tag::Null => Ok(Phase::Frames),
@@ -208,7 +208,7 @@ impl<'a> Standing<'a> {
     /// The tag of an owner: its class place comes, one level deeper.
     #[inline(always)]
     fn begin_owner(&mut self, owner: Owner, level: u64) -> Result<Phase, AllocError>
-        ensures { IfOk result (λ phase. StandsIn phase self.new (teller self.old.epoch self.old.known (without_first self.old.owners) (class_cue (told_owner owner) (level + 1) ∷ self.old.cues))) }
+        ensures { IfOk result (λ phase. StandsIn phase self.new (teller self.old.epoch self.old.known (without_first self.old.owners) (class_cue (view_owner owner) (level + 1) ∷ self.old.cues))) }
     {
         let level = deeper(level)?;
         if let Some((_, others)) = self.owners.split_first() {
@@ -225,7 +225,7 @@ impl<'a> Standing<'a> {
         level: u64,
         tag: Tag,
     ) -> Result<Phase, AllocError>
-        ensures { IfOk result (λ phase. StandsIn phase self.new (class_tag_goes self.old.epoch self.old.known self.old.owners self.old.cues (told_owner owner) level (told_tag tag))) }
+        ensures { IfOk result (λ phase. StandsIn phase self.new (class_tag_goes self.old.epoch self.old.known self.old.owners self.old.cues (view_owner owner) level (view_tag tag))) }
     {
         match tag {
             Tag::ClassDesc => {

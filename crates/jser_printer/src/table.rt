@@ -6,8 +6,8 @@ ghost use Rattle.std.specs.Prelude.{◌≡◌, ◌<◌, ◌+◌, ◌^◌, [], �
 ghost use Rattle.std.specs.Option.{ForSome};
 ghost use Rattle.jser_table.specs.Entries.{is_closed, is_pending};
 ghost use Rattle.jser_shown.specs.Known.{known_text, known_other, known_pending, known_class, with_entry, own_class_of};
-ghost use Rattle.jser_printer.specs.Layers.{told_layer};
-ghost use Rattle.jser_printer.specs.Tables.{layer_in, layers_in, layers_above, told_new, IsChainOf, IsClassAt, IsParent, handle_of, layers_under, IsStraight, IsPending, Closes};
+ghost use Rattle.jser_printer.specs.Layers.{view_layer};
+ghost use Rattle.jser_printer.specs.Tables.{layer_in, layers_in, layers_above, view_new, IsChainOf, IsClassAt, IsParent, handle_of, layers_under, IsStraight, IsPending, Closes};
 
 use crate::class::{KeptClass, Parent};
 use crate::layer::Layer;
@@ -25,14 +25,14 @@ pub(crate) struct Table {
 }
 
 impl Model for Table {
-    ghost use Rattle.jser_printer.specs.Layers.{told_layers};
+    ghost use Rattle.jser_printer.specs.Layers.{view_layers};
     ghost use Rattle.jser_printer.specs.Tables.{TableView, table_of, IsSound};
 
     ghost Value = { TableView };
 
-    ghost view = { λ a. table_of a.handles (told_layers a.layers.items) a.classes.items };
+    ghost view = { λ a. table_of a.handles (view_layers a.layers.items) a.classes.items };
 
-    ghost invariant = { λ a. IsSound a.handles (told_layers a.layers.items) a.classes.items };
+    ghost invariant = { λ a. IsSound a.handles (view_layers a.layers.items) a.classes.items };
 }
 
 impl Table {
@@ -103,7 +103,7 @@ impl Table {
     /// Assigns the next handle. There may be 2^32 - 1 of them, more than any stream that was checked has.
     #[inline(always)]
     fn add(&mut self, kind: Kind) -> Result<(), AllocError>
-        ensures known { OnOk result (self.new.known ≡ with_entry self.old.known (told_new kind)) }
+        ensures known { OnOk result (self.new.known ≡ with_entry self.old.known (view_new kind)) }
         ensures layers { self.new.layers ≡ self.old.layers }
         ensures chains { self.new.chains ≡ self.old.chains }
     {
@@ -115,7 +115,7 @@ impl Table {
 
     /// Keeps a layer, and gives its number.
     pub(crate) fn add_layer(&mut self, layer: Layer) -> Result<u32, AllocError>
-        ensures layers { OnOk result (self.new.layers ≡ self.old.layers ++ told_layer layer ∷ []) }
+        ensures layers { OnOk result (self.new.layers ≡ self.old.layers ++ view_layer layer ∷ []) }
         ensures number { IfOk result (λ number. number ≡ length self.old.layers) }
         ensures known { self.new.known ≡ self.old.known }
         ensures chains { self.new.chains ≡ self.old.chains }
@@ -192,7 +192,7 @@ impl Table {
     pub(crate) fn layer(&self, chain: u32, index: usize) -> &Layer
         requires chain_in { chain < length self.now.chains }
         requires index_in { index < length (layers_in self.now.chains chain) }
-        ensures { slice_get (layers_in self.now.chains chain) index ≡ Some (told_layer result.now) }
+        ensures { slice_get (layers_in self.now.chains chain) index ≡ Some (view_layer result.now) }
     {
         self.layer_of_class(self.class_of_layer(chain, index))
     }
@@ -218,7 +218,7 @@ impl Table {
     #[inline(always)]
     pub(crate) fn own(&self, chain: u32) -> &Layer
         requires { chain < length self.now.chains }
-        ensures { own_class_of (layers_in self.now.chains chain) ≡ told_layer result.now }
+        ensures { own_class_of (layers_in self.now.chains chain) ≡ view_layer result.now }
     {
         self.layer_of_class(chain as usize)
     }
@@ -227,7 +227,7 @@ impl Table {
     #[inline(always)]
     fn layer_of_class(&self, class: usize) -> &Layer
         requires { class < length self.now.chains }
-        ensures { own_class_of (layers_in self.now.chains class) ≡ told_layer result.now }
+        ensures { own_class_of (layers_in self.now.chains class) ≡ view_layer result.now }
     {
         let own = self.classes[class].own;
         &self.layers[own as usize]

@@ -26,7 +26,7 @@ use Rattle.jser_reader.specs.declared.refusal.Reason.TheVariants as reason
 use Rattle.jser_reader.specs.declared.refusal.Reason.{Reason as CodeReason}
 use Rattle.jser_reader.specs.declared.tag.ValueTag.{ValueTag}
 use Rattle.jser_reader.specs.declared.tag.ValueTag.TheVariants as value
-use Rattle.jser_reader.specs.Tags.{told_tag, block_byte, IsTagOf}
+use Rattle.jser_reader.specs.Tags.{view_tag, block_byte, IsTagOf}
 use Rattle.jser_reader.specs.Reasons.{named}
 use Rattle.jser_reader.specs.Frames.{goal_owner}
 use Rattle.jser_reader.specs.Readers.{Seen, Ready}
@@ -66,7 +66,7 @@ class_other b s found old new (inr (inl e)) h ef = rw e (refused bad_tag (goal_o
 class_other b s found old new (inr (inr e)) h ef = rw e (refused bad_tag (goal_owner old.owner) 0x7B s found old new refl h ef)
 
 pub null_class_tag : (s : State) (found : Bool) (old new : Seen) → StopsWith (refusal old.meter (named null_class)) old new → found ≡ false
-    → Tells (tag_reason old (goal_owner old.owner) (tag_byte (told_tag value.Null))) s found old new
+    → Tells (tag_reason old (goal_owner old.owner) (tag_byte (view_tag value.Null))) s found old new
 null_class_tag s found old new h ef = refused null_class (goal_owner old.owner) 0x70 s found old new refl h ef
 
 abbrev IsNoClass : ValueTag → Type 0
@@ -76,7 +76,7 @@ IsNoClass value.ClassDesc = ⊥
 IsNoClass value.ProxyClassDesc = ⊥
 IsNoClass _ = Unit {0}
 
-no_class_reason : (t : ValueTag) (o : GoalOwner) (r : Seen) → IsNoClass t → tag_reason r o (tag_byte (told_tag t)) ≡ Some bad_tag
+no_class_reason : (t : ValueTag) (o : GoalOwner) (r : Seen) → IsNoClass t → tag_reason r o (tag_byte (view_tag t)) ≡ Some bad_tag
 no_class_reason value.Object o r i = refl
 no_class_reason value.String o r i = refl
 no_class_reason value.LongString o r i = refl
@@ -89,11 +89,11 @@ no_class_reason value.ClassDesc o r i = absurd i
 no_class_reason value.ProxyClassDesc o r i = absurd i
 
 pub no_class_value : (t : ValueTag) (s : State) (found : Bool) (old new : Seen) → StopsWith (refusal old.meter (named bad_tag)) old new → found ≡ false → IsNoClass t
-    → Tells (tag_reason old (goal_owner old.owner) (tag_byte (told_tag t))) s found old new
-no_class_value t s found old new h ef i = refused bad_tag (goal_owner old.owner) (tag_byte (told_tag t)) s found old new (no_class_reason t (goal_owner old.owner) old i) h ef
+    → Tells (tag_reason old (goal_owner old.owner) (tag_byte (view_tag t))) s found old new
+no_class_value t s found old new h ef i = refused bad_tag (goal_owner old.owner) (tag_byte (view_tag t)) s found old new (no_class_reason t (goal_owner old.owner) old i) h ef
 
-pub value_tag : (t : ValueTag) (b : ℕ) (found : Bool) (old new : Seen) → b ≡ tag_byte (told_tag t)
-    → Tells (tag_reason old (goal_owner old.owner) (tag_byte (told_tag t))) (after_class_tag old (tag_from (tag_byte (told_tag t)))) found old new
+pub value_tag : (t : ValueTag) (b : ℕ) (found : Bool) (old new : Seen) → b ≡ tag_byte (view_tag t)
+    → Tells (tag_reason old (goal_owner old.owner) (tag_byte (view_tag t))) (after_class_tag old (tag_from (tag_byte (view_tag t)))) found old new
     → Tells (tag_reason old (goal_owner old.owner) b) (after_class_tag old (tag_from b)) found old new
 value_tag t b found old new e h = rw e h
 
@@ -114,20 +114,20 @@ quiet_class enum_owner r = refl
 quiet_class class_owner r = refl
 
 pub class_reference : (found : Bool) (old new : Seen) → IsNext phase.ClassHandle old.owner old.elements old.header old.text old new → found ≡ true
-    → Tells (tag_reason old (goal_owner old.owner) (tag_byte (told_tag value.Reference))) (after_class_tag old (tag_from (tag_byte (told_tag value.Reference)))) found old new
+    → Tells (tag_reason old (goal_owner old.owner) (tag_byte (view_tag value.Reference))) (after_class_tag old (tag_from (tag_byte (view_tag value.Reference)))) found old new
 unfolding tag_from Ready
 class_reference found old new n ef =
     let ready : Ready new (after_class_tag old (tag_from 0x71)) = rw (next_is phase.ClassHandle old.owner old.elements old.header old.text old new n) refl in
     tells_next (tag_reason old (goal_owner old.owner) 0x71) (after_class_tag old (tag_from 0x71)) found old new (record { ready = ready; meter = n.meter; max = ap (λ t. t.max) n.table }) ef (quiet_reference (goal_owner old.owner) old)
 
 pub new_class : (found : Bool) (old new : Seen) → Tells None (opens_class old (role.ClassOf old.owner)) found old new
-    → Tells (tag_reason old (goal_owner old.owner) (tag_byte (told_tag value.ClassDesc))) (after_class_tag old (tag_from (tag_byte (told_tag value.ClassDesc)))) found old new
+    → Tells (tag_reason old (goal_owner old.owner) (tag_byte (view_tag value.ClassDesc))) (after_class_tag old (tag_from (tag_byte (view_tag value.ClassDesc)))) found old new
 unfolding tag_from
 new_class found old new h =
     subst (λ k. Tells k (after_class_tag old (tag_from 0x72)) found old new) (sym (quiet_class (goal_owner old.owner) old)) h
 
 pub proxy_tag : (found : Bool) (old new : Seen) → Tells (tag_reason old (goal_owner old.owner) 0x7D) (after_class_tag old (tag_from 0x7D)) found old new
-    → Tells (tag_reason old (goal_owner old.owner) (tag_byte (told_tag value.ProxyClassDesc))) (after_class_tag old (tag_from (tag_byte (told_tag value.ProxyClassDesc)))) found old new
+    → Tells (tag_reason old (goal_owner old.owner) (tag_byte (view_tag value.ProxyClassDesc))) (after_class_tag old (tag_from (tag_byte (view_tag value.ProxyClassDesc)))) found old new
 proxy_tag found old new h = h
 
 at_owner : (o : Owner) (found : Bool) (old new : Seen) → old.owner ≡ o → Tells (tag_reason old (goal_owner o) 0x7D) (opens_proxy old (role.ClassOf o)) found old new

@@ -24,7 +24,7 @@ use Rattle.jser_reader.specs.declared.tag.ValueTag.{ValueTag}
 use Rattle.jser_reader.specs.declared.tag.ValueTag.TheVariants as value
 use Rattle.jser_reader.specs.declared.tally.Mark.{Mark}
 use Rattle.jser_reader.specs.declared.tally.Tally.{Tally}
-use Rattle.jser_reader.specs.Tags.{told_tag}
+use Rattle.jser_reader.specs.Tags.{view_tag}
 use Rattle.jser_reader.specs.Readers.{Seen}
 use Rattle.jser_reader.specs.Steps.{after_value}
 use Rattle.jser_reader.specs.Handlers.{Comes, Tells, added, place_reason, after_tag}
@@ -74,13 +74,13 @@ makes_tag phase.Value piece b r i e is some =
 makes_tag _ piece b r i e is some = absurd i
 
 tag_tells : (gate : Gate) (t : ValueTag) (piece : List ℕ) (r m : Seen) (before after : Tally) → IsGate gate → CanPass r piece → IsPlace r.phase
-    → 0 < length piece → tag_byte (told_tag t) ≡ get_or piece 0 0
-    → Tells (place_reason (farther r 1) (told_tag t)) (after_tag (farther r 1) (told_tag t)) true (farther r 1) m
-    → CountsField r m before after → TellsItems gate piece (Ok (step.Item (item.Tag (tag_byte (told_tag t))) 1)) r before m after
+    → 0 < length piece → tag_byte (view_tag t) ≡ get_or piece 0 0
+    → Tells (place_reason (farther r 1) (view_tag t)) (after_tag (farther r 1) (view_tag t)) true (farther r 1) m
+    → CountsField r m before after → TellsItems gate piece (Ok (step.Item (item.Tag (tag_byte (view_tag t))) 1)) r before m after
 tag_tells gate t piece r m before after g can i some first h c =
-    tells_end (step.Item (item.Tag (tag_byte (told_tag t))) 1) (open_phase r) (cut_of r) 1 (taken.Ended 1) piece piece gate r m before after
-    (one_taken (tag_byte (told_tag t)) true (taken.Ended 1) piece r m (tag_taken r.phase t r m i refl h) refl first some (place_is_one r.phase i) gate)
-    refl c g can.within can.all_bytes refl refl refl (makes_tag r.phase piece (tag_byte (told_tag t)) r i refl first some)
+    tells_end (step.Item (item.Tag (tag_byte (view_tag t))) 1) (open_phase r) (cut_of r) 1 (taken.Ended 1) piece piece gate r m before after
+    (one_taken (tag_byte (view_tag t)) true (taken.Ended 1) piece r m (tag_taken r.phase t r m i refl h) refl first some (place_is_one r.phase i) gate)
+    refl c g can.within can.all_bytes refl refl refl (makes_tag r.phase piece (tag_byte (view_tag t)) r i refl first some)
 
 -- ---- a field with which no count changes
 
@@ -212,7 +212,7 @@ unfolding MakesItem
 makes_class_handle piece n small spelled = λ _. ap item.Handle (sym (number_4 n small) ∙ ap number_of spelled)
 
 pub owner_told : (gate : Gate) (o : Owner) (n : ℕ) (found : Bool) (piece : List ℕ) (old mid new : Seen) (m1 m2 : Mark) (before after : Tally) → IsGate gate → CanPass old piece
-    → IsPlace old.phase → tag_byte (told_tag (tag_of_owner o)) ≡ get_or piece 0 0 → HasReference piece n → n < 2 ^ 32 → HasPlace old
+    → IsPlace old.phase → tag_byte (view_tag (tag_of_owner o)) ≡ get_or piece 0 0 → HasReference piece n → n < 2 ^ 32 → HasPlace old
     → mid ≡ with_class o old → TellsClass n found mid new → m1 ≡ mark_of old → m2 ≡ mark_of mid → CountsMarks m1 m2 before after
     → OwnerCases gate piece (get_or piece 0 0) n found old before new after
 owner_told gate o n false piece old mid new m1 m2 before after g can i first h small p em told e1 e2 count =

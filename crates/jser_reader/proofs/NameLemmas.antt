@@ -3,7 +3,7 @@ use Rattle.std.proofs.Common.{◌≡◌, ◌≢◌, ℕ, ◌-◌, Bool, true, fa
 use Rattle.jser_table.specs.declared.layer.LayerKind.{LayerKind}
 use Rattle.jser_table.specs.declared.layer.LayerKind.TheVariants as kind
 use Rattle.jser_table.specs.Chains.{is_array_kind}
-use Rattle.jser_table.specs.Names.{NameKind, plain_name, array_name, malformed_name, name_kind, told_kind}
+use Rattle.jser_table.specs.Names.{NameKind, plain_name, array_name, malformed_name, name_kind, view_kind}
 use Rattle.jser_grammar.specs.Parts.{is_malformed}
 use Rattle.jser_reading.specs.Goals.{State, settle}
 use Rattle.jser_verdict.specs.Gates.{Gate}
@@ -19,7 +19,7 @@ use Rattle.jser_reader.specs.declared.phase.Phase.TheVariants as phase
 use Rattle.jser_reader.specs.declared.refusal.Reason.{Reason as CodeReason}
 use Rattle.jser_reader.specs.declared.refusal.Reason.TheVariants as reason
 use Rattle.jser_reader.specs.Reasons.{named}
-use Rattle.jser_reader.specs.Gates.{told_answer}
+use Rattle.jser_reader.specs.Gates.{view_answer}
 use Rattle.jser_reader.specs.Fitting.{HasDescriptor}
 use Rattle.jser_reader.specs.Frames.{chain_owner, goal_role}
 use Rattle.jser_reader.specs.Readers.{Seen, Header, Ready, moment_of, head_role, name_kind_of, interfaces_goals}
@@ -34,14 +34,14 @@ use Rattle.jser_reader.proofs.NumberLemmas.{surely_next}
 abbrev asked : ToldAnswer → Option Reason
 asked a = checked_reason (record { bytes = 0; depth = 0; refs = 0; array = 0; handles = 0; answer = λ name. a }) []
 
-pub passes : (g : Gate) (name : List ℕ) → told_answer answer.Pass ≡ g.answer name → None ≡ option_map named (checked_reason g name)
+pub passes : (g : Gate) (name : List ℕ) → view_answer answer.Pass ≡ g.answer name → None ≡ option_map named (checked_reason g name)
 passes g name e = ap (λ a. option_map named (asked a)) e
 
-pub rejected_name : (g : Gate) (name : List ℕ) → told_answer answer.Rejected ≡ g.answer name
+pub rejected_name : (g : Gate) (name : List ℕ) → view_answer answer.Rejected ≡ g.answer name
     → Some reason.ClassRejected ≡ option_map named (checked_reason g name)
 rejected_name g name e = ap (λ a. option_map named (asked a)) e
 
-pub unmatched_name : (g : Gate) (name : List ℕ) → told_answer answer.Unmatched ≡ g.answer name
+pub unmatched_name : (g : Gate) (name : List ℕ) → view_answer answer.Unmatched ≡ g.answer name
     → Some reason.ClassUnmatched ≡ option_map named (checked_reason g name)
 unmatched_name g name e = ap (λ a. option_map named (asked a)) e
 
@@ -78,50 +78,50 @@ right_super r k strict e = wrong_at r (role.Superclass strict) k false e refl
 
 -- ---- a name that is malformed, or not
 
-pub well_formed : (name : List ℕ) (k : LayerKind) → Some k ≡ told_kind (name_kind name) → name_kind name ≢ malformed_name
+pub well_formed : (name : List ℕ) (k : LayerKind) → Some k ≡ view_kind (name_kind name) → name_kind name ≢ malformed_name
 well_formed name k e m = go (name_kind name) m e
   where
-    go : (n : NameKind) → n ≡ malformed_name → Some k ≡ told_kind n → ⊥
+    go : (n : NameKind) → n ≡ malformed_name → Some k ≡ view_kind n → ⊥
     go plain_name m e = absurd (cc)
     go (array_name body) m e = absurd (cc)
     go malformed_name m e = absurd (cc)
 
-is_kind : (n : NameKind) (k : LayerKind) → Some k ≡ told_kind n → (is_malformed n ≡ false) × (name_kind_of k ≡ n)
+is_kind : (n : NameKind) (k : LayerKind) → Some k ≡ view_kind n → (is_malformed n ≡ false) × (name_kind_of k ≡ n)
 is_kind plain_name k e = let h : k ≡ kind.Other = cc in (refl, ap name_kind_of h)
 is_kind (array_name body) k e = let h : k ≡ kind.Array body = cc in (refl, ap name_kind_of h)
 is_kind malformed_name k e = absurd (cc)
 
-no_kind : (n : NameKind) → None ≡ told_kind n → is_malformed n ≡ true
+no_kind : (n : NameKind) → None ≡ view_kind n → is_malformed n ≡ true
 no_kind plain_name e = absurd (cc)
 no_kind (array_name body) e = absurd (cc)
 no_kind malformed_name e = refl
 
 -- ---- what a class is
 
-pub malformed_class : (g : Gate) (r : Seen) (name : List ℕ) → None ≡ told_kind (name_kind name)
+pub malformed_class : (g : Gate) (r : Seen) (name : List ℕ) → None ≡ view_kind (name_kind name)
     → IsKindOf (Err reason.BadArrayName) (class_name_reason g (head_role r) name) name
 unfolding IsKindOf
 malformed_class g r name e = let m = no_kind (name_kind name) e in rw m refl
 
-class_told : (g : Gate) (r : Seen) (name : List ℕ) (k : LayerKind) → Some k ≡ told_kind (name_kind name)
+class_told : (g : Gate) (r : Seen) (name : List ℕ) (k : LayerKind) → Some k ≡ view_kind (name_kind name)
     → class_name_reason g (head_role r) name ≡ told_if (is_wrong_name (head_role r) (name_kind_of k)) wrong_class (checked_reason g name)
 class_told g r name k e =
     let x = is_kind (name_kind name) k e in
     ap (λ b. told_if b bad_array_name (told_if (is_wrong_name (head_role r) (name_kind name)) wrong_class (checked_reason g name))) x.0
     ∙ ap (λ n. told_if (is_wrong_name (head_role r) n) wrong_class (checked_reason g name)) (sym x.1)
 
-pub wrong_class_name : (g : Gate) (r : Seen) (name : List ℕ) (k : LayerKind) → Some k ≡ told_kind (name_kind name)
+pub wrong_class_name : (g : Gate) (r : Seen) (name : List ℕ) (k : LayerKind) → Some k ≡ view_kind (name_kind name)
     → true ≡ is_wrong_name (head_role r) (name_kind_of k)
     → IsKindOf (Err reason.WrongClass) (class_name_reason g (head_role r) name) name
 unfolding IsKindOf
 wrong_class_name g r name k e w =
     ap (option_map named) (class_told g r name k e ∙ ap (λ b. told_if b wrong_class (checked_reason g name)) (sym w))
 
-class_judged : (g : Gate) (r : Seen) (name : List ℕ) (k : LayerKind) → Some k ≡ told_kind (name_kind name)
+class_judged : (g : Gate) (r : Seen) (name : List ℕ) (k : LayerKind) → Some k ≡ view_kind (name_kind name)
     → false ≡ is_wrong_name (head_role r) (name_kind_of k) → class_name_reason g (head_role r) name ≡ checked_reason g name
 class_judged g r name k e w = class_told g r name k e ∙ ap (λ b. told_if b wrong_class (checked_reason g name)) (sym w)
 
-pub judged_class : (g : Gate) (r : Seen) (name : List ℕ) (k : LayerKind) (why : CodeReason) → Some k ≡ told_kind (name_kind name)
+pub judged_class : (g : Gate) (r : Seen) (name : List ℕ) (k : LayerKind) (why : CodeReason) → Some k ≡ view_kind (name_kind name)
     → false ≡ is_wrong_name (head_role r) (name_kind_of k) → Some why ≡ option_map named (checked_reason g name)
     → IsKindOf (Err why) (class_name_reason g (head_role r) name) name
 unfolding IsKindOf
@@ -131,7 +131,7 @@ none_named : (told : Option Reason) → None ≡ option_map named told → told 
 none_named None e = refl
 none_named (Some k) e = absurd (cc)
 
-pub right_class_name : (g : Gate) (r : Seen) (name : List ℕ) (k : LayerKind) → Some k ≡ told_kind (name_kind name)
+pub right_class_name : (g : Gate) (r : Seen) (name : List ℕ) (k : LayerKind) → Some k ≡ view_kind (name_kind name)
     → false ≡ is_wrong_name (head_role r) (name_kind_of k) → None ≡ option_map named (checked_reason g name)
     → IsKindOf (Ok k) (class_name_reason g (head_role r) name) name
 unfolding IsKindOf
@@ -167,12 +167,12 @@ class_named told k name b old mid new n eb is eh em ef ey et er =
     surely_next told (named_state old name) b old new
     (record { ready = ready; meter = n.meter ∙ ap moved em; max = ap (λ t. t.max) (n.table ∙ et) }) eb is.0
 
-pub malformed_interface : (g : Gate) (name : List ℕ) → None ≡ told_kind (name_kind name)
+pub malformed_interface : (g : Gate) (name : List ℕ) → None ≡ view_kind (name_kind name)
     → Some reason.BadArrayName ≡ option_map named (interface_reason g name)
 malformed_interface g name e = let m = no_kind (name_kind name) e in rw m refl
 
 pub judged_interface : (g : Gate) (name : List ℕ) (k : LayerKind) (fault : Option CodeReason) → fault ≡ option_map named (checked_reason g name)
-    → Some k ≡ told_kind (name_kind name) → fault ≡ option_map named (interface_reason g name)
+    → Some k ≡ view_kind (name_kind name) → fault ≡ option_map named (interface_reason g name)
 judged_interface g name k fault h e =
     h ∙ sym (ap (λ b. option_map named (told_if b bad_array_name (checked_reason g name))) (is_kind (name_kind name) k e).0)
 

@@ -19,7 +19,7 @@ use Rattle.jser_verdict.specs.Verdicts.{told_if, other_tag_reason}
 use Rattle.jser_reader.specs.declared.phase.Phase.TheVariants as phase
 use Rattle.jser_reader.specs.declared.tag.ValueTag.{ValueTag}
 use Rattle.jser_reader.specs.declared.tag.ValueTag.TheVariants as value
-use Rattle.jser_reader.specs.Tags.{told_tag, block_byte, IsTagOf}
+use Rattle.jser_reader.specs.Tags.{view_tag, block_byte, IsTagOf}
 use Rattle.jser_reader.specs.Reasons.{named}
 use Rattle.jser_reader.specs.Readers.{Seen, Ready}
 use Rattle.jser_reader.specs.Handlers.{StopsWith, refusal, Tells, IsNext, counted, is_full, plain_gate, label_at, opens_class, opens_proxy}
@@ -188,7 +188,7 @@ IsNoClass value.ClassDesc = ⊥
 IsNoClass value.ProxyClassDesc = ⊥
 IsNoClass _ = Unit {0}
 
-pub no_super_value : (t : ValueTag) (s : State) (found : Bool) (old new : Seen) → StopsWith (refusal old.meter (named bad_tag)) old new → found ≡ false → IsNoClass t → Tells (super_reason old (tag_byte (told_tag t))) s found old new
+pub no_super_value : (t : ValueTag) (s : State) (found : Bool) (old new : Seen) → StopsWith (refusal old.meter (named bad_tag)) old new → found ≡ false → IsNoClass t → Tells (super_reason old (tag_byte (view_tag t))) s found old new
 no_super_value value.Object s found old new h ef i = tells_refusal bad_tag (Some bad_tag) s found old new h ef refl
 no_super_value value.String s found old new h ef i = tells_refusal bad_tag (Some bad_tag) s found old new h ef refl
 no_super_value value.LongString s found old new h ef i = tells_refusal bad_tag (Some bad_tag) s found old new h ef refl
@@ -200,8 +200,8 @@ no_super_value value.Reference s found old new h ef i = absurd i
 no_super_value value.ClassDesc s found old new h ef i = absurd i
 no_super_value value.ProxyClassDesc s found old new h ef i = absurd i
 
-pub super_value_tag : (t : ValueTag) (b : ℕ) (found : Bool) (old new : Seen) → b ≡ tag_byte (told_tag t)
-    → (HasDescriptor old.frames → Tells (super_reason old (tag_byte (told_tag t))) (after_super_tag old (tag_from (tag_byte (told_tag t)))) found old new)
+pub super_value_tag : (t : ValueTag) (b : ℕ) (found : Bool) (old new : Seen) → b ≡ tag_byte (view_tag t)
+    → (HasDescriptor old.frames → Tells (super_reason old (tag_byte (view_tag t))) (after_super_tag old (tag_from (tag_byte (view_tag t)))) found old new)
     → HasDescriptor old.frames → Tells (super_reason old b) (after_super_tag old (tag_from b)) found old new
 super_value_tag t b found old new e h d = rw e (h d)
 

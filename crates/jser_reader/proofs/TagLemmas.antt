@@ -14,7 +14,7 @@ use Rattle.jser_reader.specs.declared.frame.Role.{Role}
 use Rattle.jser_reader.specs.declared.phase.Phase.TheVariants as phase
 use Rattle.jser_reader.specs.declared.tag.ValueTag.{ValueTag}
 use Rattle.jser_reader.specs.declared.tag.ValueTag.TheVariants as value
-use Rattle.jser_reader.specs.Tags.{told_tag, block_byte, IsTagOf}
+use Rattle.jser_reader.specs.Tags.{view_tag, block_byte, IsTagOf}
 use Rattle.jser_reader.specs.Stacks.{tail_of}
 use Rattle.jser_reader.specs.Reasons.{named}
 use Rattle.jser_reader.specs.Frames.{frame_goals}
@@ -48,7 +48,7 @@ no_value_tag b found old new s t h e =
 
 -- tags of values
 
-tag_told : (t : ValueTag) → tag_from (tag_byte (told_tag t)) ≡ Some (tag_field (told_tag t))
+tag_told : (t : ValueTag) → tag_from (tag_byte (view_tag t)) ≡ Some (tag_field (view_tag t))
 unfolding tag_from
 tag_told value.Null = refl
 tag_told value.Reference = refl
@@ -61,7 +61,7 @@ tag_told value.Class = refl
 tag_told value.ProxyClassDesc = refl
 tag_told value.Enum = refl
 
-top_reason : (t : ValueTag) (r : Seen) → r.frames ≡ [] → content_reason (plain_gate r) (label_at top_at 1 r) (tag_byte (told_tag t)) ≡ place_reason r (told_tag t)
+top_reason : (t : ValueTag) (r : Seen) → r.frames ≡ [] → content_reason (plain_gate r) (label_at top_at 1 r) (tag_byte (view_tag t)) ≡ place_reason r (view_tag t)
 unfolding tag_from
 top_reason value.Null r e = rw e refl
 top_reason value.Reference r e = rw e refl
@@ -74,7 +74,7 @@ top_reason value.Class r e = rw e refl
 top_reason value.ProxyClassDesc r e = rw e refl
 top_reason value.Enum r e = rw e refl
 
-note_reason : (t : ValueTag) (r : Seen) → inner_reason (plain_gate r) (label_at annotation_at (suc (length r.frames)) r) (tag_byte (told_tag t)) ≡ place_reason r (told_tag t)
+note_reason : (t : ValueTag) (r : Seen) → inner_reason (plain_gate r) (label_at annotation_at (suc (length r.frames)) r) (tag_byte (view_tag t)) ≡ place_reason r (view_tag t)
 unfolding tag_from
 note_reason value.Null r = refl
 note_reason value.Reference r = refl
@@ -87,7 +87,7 @@ note_reason value.Class r = refl
 note_reason value.ProxyClassDesc r = refl
 note_reason value.Enum r = refl
 
-value_reason : (t : ValueTag) (r : Seen) → inner_reason (plain_gate r) (label_at value_at (suc (length r.frames)) r) (tag_byte (told_tag t)) ≡ place_reason r (told_tag t)
+value_reason : (t : ValueTag) (r : Seen) → inner_reason (plain_gate r) (label_at value_at (suc (length r.frames)) r) (tag_byte (view_tag t)) ≡ place_reason r (view_tag t)
 unfolding tag_from
 value_reason value.Null r = refl
 value_reason value.Reference r = refl
@@ -100,18 +100,18 @@ value_reason value.Class r = refl
 value_reason value.ProxyClassDesc r = refl
 value_reason value.Enum r = refl
 
-pub top_value : (t : ValueTag) (b : ℕ) (found : Bool) (old new : Seen) → b ≡ tag_byte (told_tag t) → old.frames ≡ []
-    → Tells (place_reason old (told_tag t)) (after_tag old (told_tag t)) found old new
+pub top_value : (t : ValueTag) (b : ℕ) (found : Bool) (old new : Seen) → b ≡ tag_byte (view_tag t) → old.frames ≡ []
+    → Tells (place_reason old (view_tag t)) (after_tag old (view_tag t)) found old new
     → Tells (content_reason (plain_gate old) (label_at top_at 1 old) b) (after_content old (tag_from b)) found old new
 top_value t b found old new e f h = rw e (rw (top_reason t old f) (rw (tag_told t) h))
 
-pub note_value : (t : ValueTag) (b : ℕ) (found : Bool) (old new : Seen) → b ≡ tag_byte (told_tag t)
-    → Tells (place_reason old (told_tag t)) (after_tag old (told_tag t)) found old new
+pub note_value : (t : ValueTag) (b : ℕ) (found : Bool) (old new : Seen) → b ≡ tag_byte (view_tag t)
+    → Tells (place_reason old (view_tag t)) (after_tag old (view_tag t)) found old new
     → Tells (inner_reason (plain_gate old) (label_at annotation_at (suc (length old.frames)) old) b) (after_content old (tag_from b)) found old new
 note_value t b found old new e h = rw e (rw (note_reason t old) (rw (tag_told t) h))
 
-pub value_value : (t : ValueTag) (b : ℕ) (found : Bool) (old new : Seen) → b ≡ tag_byte (told_tag t)
-    → Tells (place_reason old (told_tag t)) (after_tag old (told_tag t)) found old new
+pub value_value : (t : ValueTag) (b : ℕ) (found : Bool) (old new : Seen) → b ≡ tag_byte (view_tag t)
+    → Tells (place_reason old (view_tag t)) (after_tag old (view_tag t)) found old new
     → Tells (inner_reason (plain_gate old) (label_at value_at (suc (length old.frames)) old) b) (after_content old (tag_from b)) found old new
 value_value t b found old new e h = rw e (rw (value_reason t old) (rw (tag_told t) h))
 

@@ -16,7 +16,7 @@ use Rattle.jser_reader.specs.declared.phase.TextFor.{TextFor}
 use Rattle.jser_reader.specs.declared.phase.TextFor.TheVariants as text
 use Rattle.jser_reader.specs.declared.tag.ValueTag.{ValueTag}
 use Rattle.jser_reader.specs.declared.tag.ValueTag.TheVariants as value
-use Rattle.jser_reader.specs.Tags.{told_tag, block_byte, IsTagOf}
+use Rattle.jser_reader.specs.Tags.{view_tag, block_byte, IsTagOf}
 use Rattle.jser_reader.specs.Reasons.{named}
 use Rattle.jser_reader.specs.Fitting.{HasDescriptor}
 use Rattle.jser_reader.specs.Steps.{after_value}
@@ -59,7 +59,7 @@ IsNoText value.String = ⊥
 IsNoText value.LongString = ⊥
 IsNoText _ = Unit {0}
 
-no_text_reason : (t : ValueTag) (r : Seen) → IsNoText t → text_tag_reason r (tag_byte (told_tag t)) ≡ Some bad_tag
+no_text_reason : (t : ValueTag) (r : Seen) → IsNoText t → text_tag_reason r (tag_byte (view_tag t)) ≡ Some bad_tag
 no_text_reason value.Null r i = refl
 no_text_reason value.ClassDesc r i = refl
 no_text_reason value.ProxyClassDesc r i = refl
@@ -72,8 +72,8 @@ no_text_reason value.String r i = absurd i
 no_text_reason value.LongString r i = absurd i
 
 pub no_text_value : (t : ValueTag) (s : State) (found : Bool) (old new : Seen) → StopsWith (refusal old.meter (named bad_tag)) old new → found ≡ false → IsNoText t
-    → Tells (text_tag_reason old (tag_byte (told_tag t))) s found old new
-no_text_value t s found old new h ef i = refused (tag_byte (told_tag t)) s found old new (no_text_reason t old i) h ef
+    → Tells (text_tag_reason old (tag_byte (view_tag t))) s found old new
+no_text_value t s found old new h ef i = refused (tag_byte (view_tag t)) s found old new (no_text_reason t old i) h ef
 
 -- ---- tags that are taken
 
@@ -91,7 +91,7 @@ long_told r = refl
 
 pub text_reference : (found : Bool) (old new : Seen) → IsNext phase.TextHandle old.owner old.elements old.header old.text old new → found ≡ true
     → IsForm old.text true → IsInside old.text old.frames
-    → Tells (text_tag_reason old (tag_byte (told_tag value.Reference))) (after_text_tag old (tag_from (tag_byte (told_tag value.Reference)))) found old new
+    → Tells (text_tag_reason old (tag_byte (view_tag value.Reference))) (after_text_tag old (tag_from (tag_byte (view_tag value.Reference)))) found old new
 unfolding tag_from Ready
 text_reference found old new n ef form inside =
     let ready : Ready new (after_text_tag old (tag_from 0x71)) = rw (next_is phase.TextHandle old.owner old.elements old.header old.text old new n) (form, inside, refl) in
@@ -101,7 +101,7 @@ text_reference found old new n ef form inside =
 pub short_text : (found : Bool) (old new : Seen)
     → (IsForm old.text true → IsInside old.text old.frames → Tells (told_if (is_full old) handle_space None) (opens_text old old.text false) found old new)
     → IsForm old.text true → IsInside old.text old.frames
-    → Tells (text_tag_reason old (tag_byte (told_tag value.String))) (after_text_tag old (tag_from (tag_byte (told_tag value.String)))) found old new
+    → Tells (text_tag_reason old (tag_byte (view_tag value.String))) (after_text_tag old (tag_from (tag_byte (view_tag value.String)))) found old new
 unfolding tag_from
 short_text found old new h form inside =
     subst (λ k. Tells k (after_text_tag old (tag_from 0x74)) found old new) (sym (string_told old)) (h form inside)
@@ -109,14 +109,14 @@ short_text found old new h form inside =
 pub long_text : (found : Bool) (old new : Seen)
     → (IsForm old.text true → IsInside old.text old.frames → Tells (told_if (is_full old) handle_space None) (opens_text old old.text true) found old new)
     → IsForm old.text true → IsInside old.text old.frames
-    → Tells (text_tag_reason old (tag_byte (told_tag value.LongString))) (after_text_tag old (tag_from (tag_byte (told_tag value.LongString)))) found old new
+    → Tells (text_tag_reason old (tag_byte (view_tag value.LongString))) (after_text_tag old (tag_from (tag_byte (view_tag value.LongString)))) found old new
 unfolding tag_from
 long_text found old new h form inside =
     subst (λ k. Tells k (after_text_tag old (tag_from 0x7C)) found old new) (sym (long_told old)) (h form inside)
 
-pub text_value_tag : (t : ValueTag) (b : ℕ) (found : Bool) (old new : Seen) → b ≡ tag_byte (told_tag t)
+pub text_value_tag : (t : ValueTag) (b : ℕ) (found : Bool) (old new : Seen) → b ≡ tag_byte (view_tag t)
     → (IsForm old.text true → IsInside old.text old.frames
-    → Tells (text_tag_reason old (tag_byte (told_tag t))) (after_text_tag old (tag_from (tag_byte (told_tag t)))) found old new)
+    → Tells (text_tag_reason old (tag_byte (view_tag t))) (after_text_tag old (tag_from (tag_byte (view_tag t)))) found old new)
     → IsForm old.text true → IsInside old.text old.frames
     → Tells (text_tag_reason old b) (after_text_tag old (tag_from b)) found old new
 text_value_tag t b found old new e h form inside = rw e (h form inside)

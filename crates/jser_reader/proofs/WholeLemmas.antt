@@ -23,7 +23,7 @@ use Rattle.jser_reader.specs.declared.tag.ValueTag.{ValueTag}
 use Rattle.jser_reader.specs.declared.tag.ValueTag.TheVariants as value
 use Rattle.jser_reader.specs.declared.tally.Tally.{Tally}
 use Rattle.jser_reader.specs.declared.tally.Mark.{Mark}
-use Rattle.jser_reader.specs.Tags.{told_tag}
+use Rattle.jser_reader.specs.Tags.{view_tag}
 use Rattle.jser_reader.specs.Readers.{Seen, Ready}
 use Rattle.jser_reader.specs.Steps.{after_value}
 use Rattle.jser_reader.specs.Handlers.{Comes, Tells, Assigns, moved, with_entry, added, counted, is_full, handle_reason, begun, place_reason, after_tag, plain_gate, label_at, owner_state}
@@ -56,23 +56,23 @@ place_is_one phase.Value i = tt
 place_is_one _ i = absurd i
 
 pub tag_taken : (p : Phase) (t : ValueTag) (r m : Seen) → IsPlace p → r.phase ≡ p
-    → Tells (place_reason (farther r 1) (told_tag t)) (after_tag (farther r 1) (told_tag t)) true (farther r 1) m
-    → TakesByte (tag_byte (told_tag t)) true r m
+    → Tells (place_reason (farther r 1) (view_tag t)) (after_tag (farther r 1) (view_tag t)) true (farther r 1) m
+    → TakesByte (tag_byte (view_tag t)) true r m
 tag_taken phase.Top t r m i e h =
-    takes_top (tag_byte (told_tag t)) true r (farther r 1) m (λ none. top_value t (tag_byte (told_tag t)) true (farther r 1) m refl none h) refl e
+    takes_top (tag_byte (view_tag t)) true r (farther r 1) m (λ none. top_value t (tag_byte (view_tag t)) true (farther r 1) m refl none h) refl e
 tag_taken phase.Note t r m i e h =
-    takes_note (tag_byte (told_tag t)) true r (farther r 1) m (λ _. note_value t (tag_byte (told_tag t)) true (farther r 1) m refl h) refl e
+    takes_note (tag_byte (view_tag t)) true r (farther r 1) m (λ _. note_value t (tag_byte (view_tag t)) true (farther r 1) m refl h) refl e
 tag_taken phase.Value t r m i e h =
-    takes_value (tag_byte (told_tag t)) true r (farther r 1) m (value_value t (tag_byte (told_tag t)) true (farther r 1) m refl h) refl e
+    takes_value (tag_byte (view_tag t)) true r (farther r 1) m (value_value t (tag_byte (view_tag t)) true (farther r 1) m refl h) refl e
 tag_taken _ t r m i e h = absurd i
 
 pub tag_passes : (gate : Gate) (t : ValueTag) (piece : List ℕ) (r m : Seen) (before after : Tally) → IsGate gate → CanPass r piece → IsPlace r.phase
-    → 0 < length piece → tag_byte (told_tag t) ≡ get_or piece 0 0
-    → Tells (place_reason (farther r 1) (told_tag t)) (after_tag (farther r 1) (told_tag t)) true (farther r 1) m
+    → 0 < length piece → tag_byte (view_tag t) ≡ get_or piece 0 0
+    → Tells (place_reason (farther r 1) (view_tag t)) (after_tag (farther r 1) (view_tag t)) true (farther r 1) m
     → CountsField r m before after → Passes gate piece (Some 1) r before m after
 tag_passes gate t piece r m before after g can i some first h c =
     passes_end gate 1 (taken.Ended 1) piece r m before after
-    (one_taken (tag_byte (told_tag t)) true (taken.Ended 1) piece r m (tag_taken r.phase t r m i refl h) refl first some (place_is_one r.phase i) gate)
+    (one_taken (tag_byte (view_tag t)) true (taken.Ended 1) piece r m (tag_taken r.phase t r m i refl h) refl first some (place_is_one r.phase i) gate)
     refl c g can
 
 -- what is left of the piece may be taken as well
@@ -230,7 +230,7 @@ begun_owner o r = record {
 }
 
 owner_counted : (o : Owner) (r : Seen)
-    → Tells (handle_reason (counted (farther r 1)) (told_tag (tag_of_owner o))) (begun (counted (farther r 1)) (told_tag (tag_of_owner o))) true (counted (farther r 1)) (begun_owner o r)
+    → Tells (handle_reason (counted (farther r 1)) (view_tag (tag_of_owner o))) (begun (counted (farther r 1)) (view_tag (tag_of_owner o))) true (counted (farther r 1)) (begun_owner o r)
 owner_counted owner.Object r =
     object_begun true (counted (farther r 1)) (begun_owner owner.Object r)
     (record { phase_is = refl; frames = refl; layers = refl; table = refl; refs = refl; owner_is = refl; chain_is = refl; header_is = refl; text_is = refl; left = refl; meter = refl })
@@ -249,11 +249,11 @@ owner_counted owner.ClassObject r =
     refl
 
 pub owner_begins : (o : Owner) (r : Seen) → HasPlace r
-    → Tells (place_reason (farther r 1) (told_tag (tag_of_owner o))) (after_tag (farther r 1) (told_tag (tag_of_owner o))) true (farther r 1) (begun_owner o r)
+    → Tells (place_reason (farther r 1) (view_tag (tag_of_owner o))) (after_tag (farther r 1) (view_tag (tag_of_owner o))) true (farther r 1) (begun_owner o r)
 owner_begins o r h =
     let deep = h.shallow in
     let few = h.few in
-    counted_tag (told_tag (tag_of_owner o)) true (farther r 1) (counted (farther r 1)) (begun_owner o r) (owner_counted o r) refl
+    counted_tag (view_tag (tag_of_owner o)) true (farther r 1) (counted (farther r 1)) (begun_owner o r) (owner_counted o r) refl
     (λ over. absurd (omega arith)) (λ over. absurd (omega arith))
 
 -- after the tag of the reference that is its class
@@ -356,7 +356,7 @@ two_on (x ∷ []) = refl
 two_on (x ∷ y ∷ piece) = refl
 
 pub owner_passes : (gate : Gate) (o : Owner) (n : ℕ) (found : Bool) (piece : List ℕ) (old mid new : Seen) (m1 m2 : Mark) (before after : Tally) → IsGate gate → CanPass old piece
-    → IsPlace old.phase → tag_byte (told_tag (tag_of_owner o)) ≡ get_or piece 0 0 → HasReference piece n → n < 2 ^ 32 → HasPlace old
+    → IsPlace old.phase → tag_byte (view_tag (tag_of_owner o)) ≡ get_or piece 0 0 → HasReference piece n → n < 2 ^ 32 → HasPlace old
     → mid ≡ with_class o old → TellsClass n found mid new → m1 ≡ mark_of old → m2 ≡ mark_of mid → CountsMarks m1 m2 before after
     → Passes gate piece (all_or_none found 6) old before new after
 owner_passes gate o n found piece old mid new m1 m2 before after g can i first h small p em told e1 e2 count =

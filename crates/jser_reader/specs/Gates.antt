@@ -5,10 +5,10 @@ use Rattle.jser_verdict.specs.Gates.{Answer as ToldAnswer}
 use Rattle.jser_reader.specs.declared.gate.Answer.{Answer}
 use Rattle.jser_reader.specs.declared.gate.Answer.TheVariants as answer
 
-abbrev pub told_answer : Answer → ToldAnswer
-told_answer answer.Pass = pass
-told_answer answer.Rejected = rejected
-told_answer answer.Unmatched = unmatched
+abbrev pub view_answer : Answer → ToldAnswer
+view_answer answer.Pass = pass
+view_answer answer.Rejected = rejected
+view_answer answer.Unmatched = unmatched
 
 -- all names pass, and each limit is its cap
 abbrev pub open_gate : Gate

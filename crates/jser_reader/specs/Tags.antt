@@ -9,17 +9,17 @@ use Rattle.jser_reader.specs.declared.tag.Tag.TheVariants as tag
 use Rattle.jser_reader.specs.declared.tag.ValueTag.{ValueTag}
 use Rattle.jser_reader.specs.declared.tag.ValueTag.TheVariants as value
 
-abbrev pub told_tag : ValueTag → ToldTag
-told_tag value.Null = null_tag
-told_tag value.Reference = reference_tag
-told_tag value.ClassDesc = class_desc_tag
-told_tag value.Object = object_tag
-told_tag value.String = string_tag
-told_tag value.LongString = long_string_tag
-told_tag value.Array = array_tag
-told_tag value.Class = class_tag
-told_tag value.ProxyClassDesc = proxy_desc_tag
-told_tag value.Enum = enum_tag
+abbrev pub view_tag : ValueTag → ToldTag
+view_tag value.Null = null_tag
+view_tag value.Reference = reference_tag
+view_tag value.ClassDesc = class_desc_tag
+view_tag value.Object = object_tag
+view_tag value.String = string_tag
+view_tag value.LongString = long_string_tag
+view_tag value.Array = array_tag
+view_tag value.Class = class_tag
+view_tag value.ProxyClassDesc = proxy_desc_tag
+view_tag value.Enum = enum_tag
 
 -- TC_BLOCKDATA and TC_BLOCKDATALONG
 abbrev pub block_byte : (long : Bool) → ℕ
@@ -27,7 +27,7 @@ block_byte false = TC_BLOCKDATA
 block_byte true = TC_BLOCKDATALONG
 
 abbrev pub byte_of : Tag → ℕ
-byte_of (tag.Value t) = tag_byte (told_tag t)
+byte_of (tag.Value t) = tag_byte (view_tag t)
 byte_of (tag.Block long) = block_byte long
 byte_of tag.EndBlockData = TC_ENDBLOCKDATA
 byte_of tag.Reset = TC_RESET

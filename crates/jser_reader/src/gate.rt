@@ -3,7 +3,7 @@
 ghost use Rattle.std.specs.Prelude.{◌≡◌, ℕ, ◌≢◌};
 ghost use Rattle.jser_table.specs.Names.{name_kind, malformed_name};
 ghost use Rattle.jser_verdict.specs.Gates.{Gate as ToldGate, IsGate, pass};
-ghost use Rattle.jser_reader.specs.Gates.{told_answer, open_gate};
+ghost use Rattle.jser_reader.specs.Gates.{view_answer, open_gate};
 
 use jser_grammar::caps::{MOST_ARRAY, MOST_BYTES, MOST_DEPTH, MOST_HANDLES, MOST_REFS};
 
@@ -29,7 +29,7 @@ pub trait Gate {
     /// What it says of this name, which is not malformed.
     fn name(&self, name: &[u16]) -> Answer
         requires { name_kind name.now ≢ malformed_name }
-        ensures { told_answer result ≡ (told self.now).answer name.now };
+        ensures { view_answer result ≡ (told self.now).answer name.now };
 
     /// The greatest number of bytes.
     fn max_bytes(&self) -> u64

@@ -19,7 +19,7 @@ mod tally;
 
 pub use check::{Rules, check_file};
 pub use found::Found;
-pub use line::say_path;
+pub use line::write_path;
 pub use path::FilePath;
 pub use sample::{print_suggested, tell_no_sample};
 pub use scan::{How, print_found, print_summary, tell_found};

@@ -6,10 +6,10 @@ ghost use Rattle.jser_suggest.specs.Samples.{AreKnown};
 ghost use Rattle.jser_scan.specs.Samples.{SaysSuggested, SpellsSuggested, no_sample_status, no_sample_words, unwritable_words};
 
 use crate::found::Found;
-use crate::line::{say_line, say_path};
+use crate::line::{write_line, write_path};
 use crate::path::FilePath;
 use jser_prim::{Failed, Outbox, Sink, give_all};
-use jser_printer::{say, say_quoted};
+use jser_printer::{write, write_quoted};
 use jser_reader::Stop;
 use jser_settings::{ACCEPTED, FAILED, REFUSED, tell_failure};
 use jser_suggest::{SampleFault, Samples};
@@ -70,7 +70,7 @@ fn print_no_sample<W: Sink>(
     ensures failed { OnErr result (W.has_failed sink.new ≡ true) }
 {
     let mut outbox = Outbox::new();
-    say_no_sample(&mut outbox, sink, path, fault);
+    write_no_sample(&mut outbox, sink, path, fault);
     outbox.flush(sink);
     if outbox.has_failed() {
         Err(Failed)
@@ -79,29 +79,29 @@ fn print_no_sample<W: Sink>(
     }
 }
 
-/// Says why a file is no sample.
-fn say_no_sample<W: Sink>(outbox: &mut Outbox, sink: &mut W, path: &FilePath, fault: &SampleFault)
+/// Writes why a file is no sample.
+fn write_no_sample<W: Sink>(outbox: &mut Outbox, sink: &mut W, path: &FilePath, fault: &SampleFault)
     ensures { SaysTo W.gone_out W.has_failed outbox.old outbox.new sink.old sink.new (λ k. no_sample_words path.now fault.now k) }
 {
     match fault {
-        SampleFault::Unwritable(name) => say_unwritable(outbox, sink, path, name.as_slice()),
+        SampleFault::Unwritable(name) => write_unwritable(outbox, sink, path, name.as_slice()),
         SampleFault::Stop(Stop::Refused(refusal)) => {
             let found = Found::Refused {
                 refusal: *refusal,
                 class: None,
             };
-            say_line(outbox, sink, path, &found);
+            write_line(outbox, sink, path, &found);
         }
-        SampleFault::Stop(_) => say_line(outbox, sink, path, &Found::OutOfMemory),
+        SampleFault::Stop(_) => write_line(outbox, sink, path, &Found::OutOfMemory),
     }
 }
 
-/// Says that no pattern means a class alone.
-fn say_unwritable<W: Sink>(outbox: &mut Outbox, sink: &mut W, path: &FilePath, name: &[u16])
+/// Writes that no pattern means a class alone.
+fn write_unwritable<W: Sink>(outbox: &mut Outbox, sink: &mut W, path: &FilePath, name: &[u16])
     ensures { SaysTo W.gone_out W.has_failed outbox.old outbox.new sink.old sink.new (λ k. unwritable_words path.now name.now k) }
 {
-    say_path(outbox, sink, path);
-    say(outbox, sink, b": no pattern means only ");
-    say_quoted(outbox, sink, name);
-    say(outbox, sink, b"\n");
+    write_path(outbox, sink, path);
+    write(outbox, sink, b": no pattern means only ");
+    write_quoted(outbox, sink, name);
+    write(outbox, sink, b"\n");
 }

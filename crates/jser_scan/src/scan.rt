@@ -4,14 +4,14 @@ ghost use Rattle.std.specs.Io.KnownBytes.{Appends};
 ghost use Rattle.jser_printer.specs.Says.{SaysTo};
 ghost use Rattle.jser_scan.specs.Lines.{is_accepted, is_unread, line_words, printed, says_found, summary_words};
 
-use crate::answer::say_count;
+use crate::answer::write_count;
 use crate::found::Found;
-use crate::json::say_object;
-use crate::line::say_line;
+use crate::json::write_object;
+use crate::line::write_line;
 use crate::path::FilePath;
 use crate::tally::Tally;
 use jser_prim::{Failed, Outbox, Sink};
-use jser_printer::{say, say_decimal};
+use jser_printer::{write, write_decimal};
 
 /// How the files of a scan are printed.
 #[derive(Clone, Copy, PartialEq, Eq, Debug)]
@@ -62,7 +62,7 @@ fn print_line<W: Sink>(path: &FilePath, found: &Found, sink: &mut W) -> Result<(
     ensures failed { OnErr result (W.has_failed sink.new ≡ true) }
 {
     let mut outbox = Outbox::new();
-    say_line(&mut outbox, sink, path, found);
+    write_line(&mut outbox, sink, path, found);
     outbox.flush(sink);
     if outbox.has_failed() {
         Err(Failed)
@@ -84,7 +84,7 @@ fn print_to_output<W: Sink>(
     ensures failed { OnErr result (W.has_failed output.new ≡ true) }
 {
     let mut outbox = Outbox::new();
-    say_found(&mut outbox, output, how, path, found);
+    write_found(&mut outbox, output, how, path, found);
     outbox.flush(output);
     if outbox.has_failed() {
         Err(Failed)
@@ -93,18 +93,18 @@ fn print_to_output<W: Sink>(
     }
 }
 
-/// Says what goes to the output.
-fn say_found<W: Sink>(outbox: &mut Outbox, sink: &mut W, how: How, path: &FilePath, found: &Found)
+/// Writes what goes to the output.
+fn write_found<W: Sink>(outbox: &mut Outbox, sink: &mut W, how: How, path: &FilePath, found: &Found)
     ensures { SaysTo W.gone_out W.has_failed outbox.old outbox.new sink.old sink.new (λ k. says_found how path.now found.now k) }
 {
     if how.refused && is_accepted(found) {
-        say(outbox, sink, b"");
+        write(outbox, sink, b"");
     } else if how.json {
-        say_object(outbox, sink, path, found);
+        write_object(outbox, sink, path, found);
     } else if is_unread(found) {
-        say(outbox, sink, b"");
+        write(outbox, sink, b"");
     } else {
-        say_line(outbox, sink, path, found);
+        write_line(outbox, sink, path, found);
     }
 }
 
@@ -119,7 +119,7 @@ pub fn print_summary<E: Sink>(tally: Tally, faults: &mut E) -> Result<(), Failed
     ensures failed { OnErr result (E.has_failed faults.new ≡ true) }
 {
     let mut outbox = Outbox::new();
-    say_summary(&mut outbox, faults, tally);
+    write_summary(&mut outbox, faults, tally);
     outbox.flush(faults);
     if outbox.has_failed() {
         Err(Failed)
@@ -128,15 +128,15 @@ pub fn print_summary<E: Sink>(tally: Tally, faults: &mut E) -> Result<(), Failed
     }
 }
 
-/// Says the counts of all files.
-fn say_summary<W: Sink>(outbox: &mut Outbox, sink: &mut W, tally: Tally)
+/// Writes the counts of all files.
+fn write_summary<W: Sink>(outbox: &mut Outbox, sink: &mut W, tally: Tally)
     ensures { SaysTo W.gone_out W.has_failed outbox.old outbox.new sink.old sink.new (λ k. summary_words tally k) }
 {
-    say_decimal(outbox, sink, tally.files);
-    say_count(outbox, sink, b" files, ", tally.accepted);
-    say_count(outbox, sink, b" accepted, ", tally.refused);
-    say_count(outbox, sink, b" refused, ", tally.unread);
-    say(outbox, sink, b" not read\n");
+    write_decimal(outbox, sink, tally.files);
+    write_count(outbox, sink, b" files, ", tally.accepted);
+    write_count(outbox, sink, b" accepted, ", tally.refused);
+    write_count(outbox, sink, b" refused, ", tally.unread);
+    write(outbox, sink, b" not read\n");
 }
 
 /// Whether a file was accepted.

@@ -5,7 +5,7 @@ use Rattle.jser_table.specs.declared.layer.LayerKind.{LayerKind}
 use Rattle.jser_table.specs.declared.layer.LayerKind.TheVariants as kind
 use Rattle.jser_table.specs.declared.name.Element.{Element}
 use Rattle.jser_table.specs.declared.name.Element.TheVariants.{Name, Primitive, Malformed}
-use Rattle.jser_table.specs.Names.{view_element, is_primitive_code, ends_in, all_but_last, NameKind, plain_name, array_name, malformed_name, primitive_array, array_of_arrays, array_kind, ElementOf, element, primitive_element, malformed_element, primitive_array_element, class_element, array_element, is_primitive_name, plain_element, name_kind, element_of, told_kind}
+use Rattle.jser_table.specs.Names.{view_element, is_primitive_code, ends_in, all_but_last, NameKind, plain_name, array_name, malformed_name, primitive_array, array_of_arrays, array_kind, ElementOf, element, primitive_element, malformed_element, primitive_array_element, class_element, array_element, is_primitive_name, plain_element, name_kind, element_of, view_kind}
 use Rattle.jser_table.specs.Laws.{MalformedAlike}
 
 ends_in-push : (last : ℕ) (units : List ℕ) (x : ℕ) → ends_in last (units ++ x ∷ []) ≡ (x == last)
@@ -45,38 +45,38 @@ arrays_twice plain_name = refl
 arrays_twice (array_name body) = refl
 arrays_twice malformed_name = refl
 
-primitive_arrays : (c : ℕ) (units : List ℕ) → told_kind (array_of_arrays (primitive_array c units)) ≡ values_kind (primitive_array_element c units)
-primitive_arrays c [] = by_cond (λ n. told_kind (array_of_arrays n)) values_kind (is_primitive_code c) _ _ _ _ refl refl
+primitive_arrays : (c : ℕ) (units : List ℕ) → view_kind (array_of_arrays (primitive_array c units)) ≡ values_kind (primitive_array_element c units)
+primitive_arrays c [] = by_cond (λ n. view_kind (array_of_arrays n)) values_kind (is_primitive_code c) _ _ _ _ refl refl
 primitive_arrays c (d ∷ units) = refl
 
-arrays_of_arrays : (units : List ℕ) → told_kind (array_of_arrays (array_kind units)) ≡ values_kind (array_element units)
+arrays_of_arrays : (units : List ℕ) → view_kind (array_of_arrays (array_kind units)) ≡ values_kind (array_element units)
 arrays_of_arrays [] = refl
 arrays_of_arrays (c ∷ units) =
-    let inner : NameKind → Option LayerKind = λ n. told_kind (array_of_arrays n) in
+    let inner : NameKind → Option LayerKind = λ n. view_kind (array_of_arrays n) in
     by_cond inner values_kind (c == 0x5B) _ _ _ _
-    (ap told_kind (arrays_twice (array_kind units)) ∙ arrays_of_arrays units)
+    (ap view_kind (arrays_twice (array_kind units)) ∙ arrays_of_arrays units)
     (by_cond inner values_kind (c == 0x4C) _ _ _ _
     (by_cond inner values_kind (ends_in 0x3B units) _ _ _ _ refl refl)
     (primitive_arrays c units))
 
 -- an array name of two units and more behind its first `[` has values
-long_array : (c d : ℕ) (units : List ℕ) → told_kind (array_kind (c ∷ d ∷ units)) ≡ values_kind (array_element (c ∷ d ∷ units))
+long_array : (c d : ℕ) (units : List ℕ) → view_kind (array_kind (c ∷ d ∷ units)) ≡ values_kind (array_element (c ∷ d ∷ units))
 long_array c d units =
-    by_cond told_kind values_kind (c == 0x5B) _ _ _ _
+    by_cond view_kind values_kind (c == 0x5B) _ _ _ _
     (arrays_of_arrays (d ∷ units))
-    (by_cond told_kind values_kind (c == 0x4C) _ _ _ _
-    (by_cond told_kind values_kind (ends_in 0x3B (d ∷ units)) _ _ _ _ refl refl)
+    (by_cond view_kind values_kind (c == 0x4C) _ _ _ _
+    (by_cond view_kind values_kind (ends_in 0x3B (d ∷ units)) _ _ _ _ refl refl)
     refl)
 
-long_kind : (units : List ℕ) → (length units ≡ 1 → ⊥) → told_kind (array_kind units) ≡ values_kind (array_element units)
+long_kind : (units : List ℕ) → (length units ≡ 1 → ⊥) → view_kind (array_kind units) ≡ values_kind (array_element units)
 long_kind [] long = refl
 long_kind (c ∷ []) long = absurd (long refl)
 long_kind (c ∷ d ∷ units) long = long_array c d units
 
-pub long_malformed : (units : List ℕ) (told : Element) → (length units ≡ 1 → ⊥) → view_element told ≡ array_element units → told ≡ Malformed → None ≡ told_kind (array_kind units)
+pub long_malformed : (units : List ℕ) (told : Element) → (length units ≡ 1 → ⊥) → view_element told ≡ array_element units → told ≡ Malformed → None ≡ view_kind (array_kind units)
 long_malformed units told long answer is = sym (long_kind units long ∙ ap values_kind (sym answer) ∙ ap (λ e. values_kind (view_element e)) is)
 
-pub long_values : (units : List ℕ) (told : Element) → (length units ≡ 1 → ⊥) → view_element told ≡ array_element units → (told ≡ Malformed → ⊥) → Some (kind.Array Values) ≡ told_kind (array_kind units)
+pub long_values : (units : List ℕ) (told : Element) → (length units ≡ 1 → ⊥) → view_element told ≡ array_element units → (told ≡ Malformed → ⊥) → Some (kind.Array Values) ≡ view_kind (array_kind units)
 long_values units (Name class) long answer other = sym (long_kind units long ∙ ap values_kind (sym answer))
 long_values units Primitive long answer other = sym (long_kind units long ∙ ap values_kind (sym answer))
 long_values units Malformed long answer other = absurd (other refl)
@@ -165,11 +165,11 @@ pub malformed_kind_of_element : (name : List ℕ) → element_of name ≡ malfor
 malformed_kind_of_element name is = is_malformed_name (name_kind name) (malformed_alike name ∙ ap is_malformed_element is)
 
 -- no layer is made
-none_of_kind : (kind : NameKind) → told_kind kind ≡ None → kind ≡ malformed_name
+none_of_kind : (kind : NameKind) → view_kind kind ≡ None → kind ≡ malformed_name
 none_of_kind plain_name none = absurd (cc)
 none_of_kind (array_name body) none = absurd (cc)
 none_of_kind malformed_name none = refl
 
 pub malformed_both : MalformedAlike
 malformed_both name =
-    (λ none. malformed_element_of_kind name (none_of_kind (name_kind name) none), λ is. ap told_kind (malformed_kind_of_element name is))
+    (λ none. malformed_element_of_kind name (none_of_kind (name_kind name) none), λ is. ap view_kind (malformed_kind_of_element name is))

@@ -105,10 +105,10 @@ layer_kind (array_name body) = kind.Array body
 layer_kind malformed_name = kind.Other
 
 -- the same, and nothing for a malformed name
-abbrev pub told_kind : NameKind → Option LayerKind
-told_kind plain_name = Some kind.Other
-told_kind (array_name body) = Some (kind.Array body)
-told_kind malformed_name = None
+abbrev pub view_kind : NameKind → Option LayerKind
+view_kind plain_name = Some kind.Other
+view_kind (array_name body) = Some (kind.Array body)
+view_kind malformed_name = None
 
 -- an answer of the call `element_of`, seen as the definition's
 abbrev pub view_element : Element → ElementOf

@@ -4,7 +4,7 @@
 //! one or more `[`, and then the code of a primitive type, or `L`, any units and `;`.
 ghost use Rattle.std.specs.Prelude.{◌≡◌, [], ◌∷◌};
 ghost use Rattle.std.specs.Str.{bytes_eq};
-ghost use Rattle.jser_table.specs.Names.{is_primitive_code, is_primitive_name, name_kind, array_kind, element_of, array_element, class_element, told_kind, view_element};
+ghost use Rattle.jser_table.specs.Names.{is_primitive_code, is_primitive_name, name_kind, array_kind, element_of, array_element, class_element, view_kind, view_element};
 
 use crate::layer::{BodyKind, LayerKind};
 
@@ -104,7 +104,7 @@ pub fn is_text(name: &[u16], text: &[u8]) -> bool
 /// The kind of the layer that a plain descriptor of this name makes, or `None` for a malformed name.
 /// Takes no memory.
 pub fn layer_kind_of(name: &[u16]) -> Option<LayerKind>
-    ensures { result ≡ told_kind (name_kind name.now) }
+    ensures { result ≡ view_kind (name_kind name.now) }
 {
     match name {
         [OPEN, units @ ..] => array_kind(units),
@@ -115,7 +115,7 @@ pub fn layer_kind_of(name: &[u16]) -> Option<LayerKind>
 /// The kind that the array name makes that has these units behind its first `[`.
 #[tactic(auto, using(crate::proofs::NameLemmas::long_malformed, crate::proofs::NameLemmas::long_values))]
 fn array_kind(units: &[u16]) -> Option<LayerKind>
-    ensures { result ≡ told_kind (array_kind units.now) }
+    ensures { result ≡ view_kind (array_kind units.now) }
 {
     match units {
         [] => None,
@@ -129,7 +129,7 @@ fn array_kind(units: &[u16]) -> Option<LayerKind>
 
 /// The kind that the array name makes that has one unit behind its first `[`.
 fn primitive_array_kind(code: u16) -> Option<LayerKind>
-    ensures { result ≡ told_kind (array_kind (code ∷ [])) }
+    ensures { result ≡ view_kind (array_kind (code ∷ [])) }
 {
     if is_primitive_code(code) {
         Some(LayerKind::Array(BodyKind::Prim(code as u8)))

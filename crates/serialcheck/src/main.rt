@@ -201,7 +201,7 @@ fn show_job<E: Sink>(limit: &Option<String>, faults: &mut E) -> Result<Job, u8>
     }
 }
 
-/// Says why a line is none of the commands.
+/// Writes why a line is none of the commands.
 fn tell_line_fault<E: Sink>(alloc: Global, fault: &LineFault, faults: &mut E) -> u8
     ensures { (result ≡ 2) ⊎ (result ≡ 3) }
 {

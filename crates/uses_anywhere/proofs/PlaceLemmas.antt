@@ -11,7 +11,7 @@ use Rattle.jser_filter.specs.Filters.{FilterView}
 use Rattle.jser_check.specs.declared.Options.{Options}
 use Rattle.jser_check.specs.Admitted.{gate_of_filter}
 use Rattle.jser_check_anywhere.specs.Passing.{NamesAreJudged, passes_as, passes_name}
-use Rattle.jser_table.specs.Names.{NameKind, plain_name, array_name, malformed_name, name_kind, told_kind}
+use Rattle.jser_table.specs.Names.{NameKind, plain_name, array_name, malformed_name, name_kind, view_kind}
 use Rattle.jser_verdict.specs.Gates.{Answer, is_pass}
 
 -- of a name with these units, the names that are still to come tell as much as all
@@ -60,7 +60,7 @@ hidden_for_good passes bytes from to good first more all =
     let hidden = first.hidden in
     all from to (record { units = hidden.units; stands = good bytes more from to hidden.units hidden.stands; fails = hidden.fails })
 
-answer_of : (answer : Answer) (kind : NameKind) → kind ≢ malformed_name → passes_as answer (told_kind kind) ≡ is_pass answer
+answer_of : (answer : Answer) (kind : NameKind) → kind ≢ malformed_name → passes_as answer (view_kind kind) ≡ is_pass answer
 answer_of answer plain_name other = refl
 answer_of answer (array_name body) other = refl
 answer_of answer malformed_name other = absurd (other refl)

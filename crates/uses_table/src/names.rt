@@ -1,7 +1,7 @@
 //! What the name of a class says before anything else of its descriptor is read.
 ghost use Rattle.std.specs.Prelude.{◌≡◌, ◌≢◌, ◌↔◌, IsTrue, Some, codes};
 ghost use Rattle.std.specs.Str.{bytes_eq};
-ghost use Rattle.jser_table.specs.Names.{element_of, malformed_element, name_kind, told_kind, layer_kind};
+ghost use Rattle.jser_table.specs.Names.{element_of, malformed_element, name_kind, view_kind, layer_kind};
 
 use jser_table::laws::malformed_alike;
 use jser_table::{Element, LayerKind, element_of, is_text, layer_kind_of};
@@ -23,7 +23,7 @@ pub fn kind_of(name: &[u16]) -> LayerKind
 /// The kind of the class with this name, which a filter judged before.
 pub fn kind_of_judged(name: &[u16]) -> LayerKind
     requires { element_of name.now ≢ malformed_element }
-    ensures { told_kind (name_kind name.now) ≡ Some result }
+    ensures { view_kind (name_kind name.now) ≡ Some result }
 {
     malformed_alike();
     match layer_kind_of(name) {

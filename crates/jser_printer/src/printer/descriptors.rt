@@ -4,7 +4,7 @@ ghost use Rattle.jser_shown.specs.Known.{Known, NamedField};
 ghost use Rattle.jser_shown.specs.Owners.{OwnerNode as ToldNode};
 ghost use Rattle.jser_shown.specs.Cues.{Cue, teller};
 ghost use Rattle.jser_shown.specs.Telling.{goes_in, class_name_goes, suid_goes, field_count_goes, code_goes, field_name_goes, name_says, suid_says, flags_says, code_says, interface_says};
-ghost use Rattle.jser_printer.specs.Seen.{told_seen};
+ghost use Rattle.jser_printer.specs.Seen.{view_seen};
 ghost use Rattle.jser_printer.specs.FieldWords.{field_words};
 ghost use Rattle.jser_printer.specs.Says.{SaysTo};
 ghost use Rattle.jser_printer.specs.Phases.{Leads, in_phase, over_fields, phase_cues};
@@ -14,30 +14,32 @@ use crate::layer::has_type_text;
 use crate::phase::{Head, Over, Phase};
 use crate::seen::{Seen, Tag};
 use crate::standing::Standing;
-use crate::words::descriptor::{say_field_word, say_flags_word, say_interface_word, say_suid_word};
-use crate::words::number::say_mark_line;
-use crate::words::quote::{say_text, say_text_line};
-use crate::words::tag::{Place, say_value_tag};
+use crate::words::descriptor::{
+    write_field_word, write_flags_word, write_interface_word, write_suid_word,
+};
+use crate::words::number::write_mark_line;
+use crate::words::quote::{write_text, write_text_line};
+use crate::words::tag::{Place, write_value_tag};
 use jser_prim::{Outbox, Sink};
 use std::alloc::AllocError;
 
 /// The name of a class.
 #[tactic(auto, using(crate::proofs::SaysLemmas::says_nothing))]
 #[inline(always)]
-pub(crate) fn say_class_name<W: Sink>(
+pub(crate) fn write_class_name<W: Sink>(
     outbox: &mut Outbox,
     sink: &mut W,
     draft: &mut Draft,
     level: u64,
     seen: Seen<'_>,
 ) -> Result<Phase, AllocError>
-    ensures said { SaysTo W.gone_out W.has_failed outbox.old outbox.new sink.old sink.new (λ k. name_says (told_seen seen.entry) k) }
-    ensures leads { IfOk result (λ phase. (e : ℕ) (known : Known) (os : List ToldNode) (cues : List Cue) → teller e known os (phase_cues phase draft.new.name draft.new.done cues) ≡ class_name_goes e known os cues level (told_seen seen.entry)) }
+    ensures said { SaysTo W.gone_out W.has_failed outbox.old outbox.new sink.old sink.new (λ k. name_says (view_seen seen.entry) k) }
+    ensures leads { IfOk result (λ phase. (e : ℕ) (known : Known) (os : List ToldNode) (cues : List Cue) → teller e known os (phase_cues phase draft.new.name draft.new.done cues) ≡ class_name_goes e known os cues level (view_seen seen.entry)) }
 {
     let Seen::Text(name) = seen else {
         return Ok(Phase::ClassName { level });
     };
-    say_text(outbox, sink, name);
+    write_text(outbox, sink, name);
     draft.begin(name)?;
     Ok(Phase::Suid { level })
 }
@@ -45,20 +47,20 @@ pub(crate) fn say_class_name<W: Sink>(
 /// The serial version UID of a class, behind which its descriptor gets its handle.
 #[tactic(auto, using(crate::proofs::SaysLemmas::says_nothing))]
 #[inline(always)]
-pub(crate) fn say_suid<W: Sink>(
+pub(crate) fn write_suid<W: Sink>(
     outbox: &mut Outbox,
     sink: &mut W,
     standing: &mut Standing<'_>,
     level: u64,
     seen: Seen<'_>,
 ) -> Result<Phase, AllocError>
-    ensures said { SaysTo W.gone_out W.has_failed outbox.old outbox.new sink.old sink.new (λ k. suid_says (told_seen seen.entry) k) }
-    ensures leads { IfOk result (λ phase. (name : List ℕ) (done : List NamedField) → in_phase phase name done standing.new ≡ suid_goes standing.old.epoch standing.old.known standing.old.owners standing.old.cues level name (told_seen seen.entry)) }
+    ensures said { SaysTo W.gone_out W.has_failed outbox.old outbox.new sink.old sink.new (λ k. suid_says (view_seen seen.entry) k) }
+    ensures leads { IfOk result (λ phase. (name : List ℕ) (done : List NamedField) → in_phase phase name done standing.new ≡ suid_goes standing.old.epoch standing.old.known standing.old.owners standing.old.cues level name (view_seen seen.entry)) }
 {
     let Seen::Suid(suid) = seen else {
         return Ok(Phase::Suid { level });
     };
-    say_suid_word(outbox, sink, suid);
+    write_suid_word(outbox, sink, suid);
     let number = standing.add_descriptor()?;
     Ok(Phase::Flags {
         head: Head { level, number },
@@ -68,18 +70,18 @@ pub(crate) fn say_suid<W: Sink>(
 /// The flags of a class.
 #[tactic(auto, using(crate::proofs::SaysLemmas::says_nothing))]
 #[inline(always)]
-pub(crate) fn say_flags<W: Sink>(
+pub(crate) fn write_flags<W: Sink>(
     outbox: &mut Outbox,
     sink: &mut W,
     head: Head,
     seen: Seen<'_>,
 ) -> Phase
-    ensures said { SaysTo W.gone_out W.has_failed outbox.old outbox.new sink.old sink.new (λ k. flags_says (told_seen seen.entry) k) }
-    ensures leads { Leads (Phase.Flags head) result (told_seen seen.entry) }
+    ensures said { SaysTo W.gone_out W.has_failed outbox.old outbox.new sink.old sink.new (λ k. flags_says (view_seen seen.entry) k) }
+    ensures leads { Leads (Phase.Flags head) result (view_seen seen.entry) }
 {
     match seen {
         Seen::Flags(flags) => {
-            say_flags_word(outbox, sink, flags);
+            write_flags_word(outbox, sink, flags);
             Phase::FieldCount { head, flags }
         }
         _ => Phase::Flags { head },
@@ -89,7 +91,7 @@ pub(crate) fn say_flags<W: Sink>(
 /// The number of fields of a class.
 #[inline(always)]
 pub(crate) fn take_field_count(draft: &mut Draft, head: Head, flags: u8, seen: Seen<'_>) -> Phase
-    ensures { (e : ℕ) (known : Known) (os : List ToldNode) (cues : List Cue) → teller e known os (phase_cues result draft.new.name draft.new.done cues) ≡ field_count_goes e known os cues head.level head.number draft.old.name flags (told_seen seen.entry) }
+    ensures { (e : ℕ) (known : Known) (os : List ToldNode) (cues : List Cue) → teller e known os (phase_cues result draft.new.name draft.new.done cues) ≡ field_count_goes e known os cues head.level head.number draft.old.name flags (view_seen seen.entry) }
 {
     let Seen::FieldCount(left) = seen else {
         return Phase::FieldCount { head, flags };
@@ -105,7 +107,7 @@ pub(crate) fn take_field_count(draft: &mut Draft, head: Head, flags: u8, seen: S
 
 /// The type code of the next field of a descriptor, where one is left.
 #[tactic(auto, using(crate::proofs::SaysLemmas::says_nothing))]
-fn say_code<W: Sink>(
+fn write_code<W: Sink>(
     outbox: &mut Outbox,
     sink: &mut W,
     head: Head,
@@ -113,11 +115,11 @@ fn say_code<W: Sink>(
     left: u16,
     seen: Seen<'_>,
 ) -> Phase
-    ensures said { SaysTo W.gone_out W.has_failed outbox.old outbox.new sink.old sink.new (λ k. code_says head.level (told_seen seen.entry) k) }
-    ensures leads { (e : ℕ) (known : Known) (os : List ToldNode) (cues : List Cue) (name : List ℕ) (done : List NamedField) → teller e known os (phase_cues result name done cues) ≡ code_goes e known os cues head.level head.number name flags done left (told_seen seen.entry) }
+    ensures said { SaysTo W.gone_out W.has_failed outbox.old outbox.new sink.old sink.new (λ k. code_says head.level (view_seen seen.entry) k) }
+    ensures leads { (e : ℕ) (known : Known) (os : List ToldNode) (cues : List Cue) (name : List ℕ) (done : List NamedField) → teller e known os (phase_cues result name done cues) ≡ code_goes e known os cues head.level head.number name flags done left (view_seen seen.entry) }
 {
     if let Seen::TypeCode(code) = seen {
-        say_field_word(outbox, sink, head.level, code);
+        write_field_word(outbox, sink, head.level, code);
         if left > 0 {
             return Phase::FieldName {
                 head,
@@ -137,7 +139,7 @@ fn say_code<W: Sink>(
 
 /// A field of the type text of a field: what comes before the next field of the descriptor then.
 #[tactic(auto, using(crate::proofs::SaysLemmas::says_nothing))]
-fn say_type<W: Sink>(
+fn write_type<W: Sink>(
     outbox: &mut Outbox,
     sink: &mut W,
     place: Place,
@@ -146,8 +148,8 @@ fn say_type<W: Sink>(
     seen: Seen<'_>,
 ) -> Result<Over, AllocError>
     requires { over ≡ Over.Nothing → ⊥ }
-    ensures said { (cues : List Cue) → SaysTo W.gone_out W.has_failed outbox.old outbox.new sink.old sink.new (λ k. field_words place (over_fields over cues) (told_seen seen.entry) k) }
-    ensures leads { IfOk result (λ next. (cues : List Cue) → teller standing.new.epoch standing.new.known standing.new.owners (over_fields next cues) ≡ goes_in standing.old.epoch standing.old.known standing.old.owners (over_fields over cues) (told_seen seen.entry)) }
+    ensures said { (cues : List Cue) → SaysTo W.gone_out W.has_failed outbox.old outbox.new sink.old sink.new (λ k. field_words place (over_fields over cues) (view_seen seen.entry) k) }
+    ensures leads { IfOk result (λ next. (cues : List Cue) → teller standing.new.epoch standing.new.known standing.new.owners (over_fields next cues) ≡ goes_in standing.old.epoch standing.old.known standing.old.owners (over_fields over cues) (view_seen seen.entry)) }
     ensures below { IfOk result (λ _. standing.new.cues ≡ standing.old.cues) }
 {
     match over {
@@ -155,7 +157,7 @@ fn say_type<W: Sink>(
             let Seen::Tag(tag) = seen else {
                 return Ok(over);
             };
-            say_value_tag(outbox, sink, place, tag);
+            write_value_tag(outbox, sink, place, tag);
             match tag {
                 Tag::Reference => Ok(Over::Handle),
                 Tag::String | Tag::LongString => {
@@ -167,14 +169,14 @@ fn say_type<W: Sink>(
         }
         Over::Text => match seen {
             Seen::Text(text) => {
-                say_text_line(outbox, sink, text);
+                write_text_line(outbox, sink, text);
                 Ok(Over::Nothing)
             }
             _ => Ok(over),
         },
         Over::Handle => match seen {
             Seen::Handle(number) => {
-                say_mark_line(outbox, sink, place.epoch, number as u64);
+                write_mark_line(outbox, sink, place.epoch, number as u64);
                 Ok(Over::Nothing)
             }
             _ => Ok(over),
@@ -187,7 +189,7 @@ fn say_type<W: Sink>(
 
 /// A field where the fields of a class stand: a type code, or a field of a type text.
 #[inline(always)]
-pub(crate) fn say_class_field<W: Sink>(
+pub(crate) fn write_class_field<W: Sink>(
     outbox: &mut Outbox,
     sink: &mut W,
     place: Place,
@@ -198,13 +200,13 @@ pub(crate) fn say_class_field<W: Sink>(
     over: Over,
     seen: Seen<'_>,
 ) -> Result<Phase, AllocError>
-    ensures said { (name : List ℕ) (done : List NamedField) → SaysTo W.gone_out W.has_failed outbox.old outbox.new sink.old sink.new (λ k. field_words place (phase_cues (Phase.Fields head flags left over) name done standing.old.cues) (told_seen seen.entry) k) }
-    ensures leads { IfOk result (λ phase. (name : List ℕ) (done : List NamedField) → in_phase phase name done standing.new ≡ goes_in standing.old.epoch standing.old.known standing.old.owners (phase_cues (Phase.Fields head flags left over) name done standing.old.cues) (told_seen seen.entry)) }
+    ensures said { (name : List ℕ) (done : List NamedField) → SaysTo W.gone_out W.has_failed outbox.old outbox.new sink.old sink.new (λ k. field_words place (phase_cues (Phase.Fields head flags left over) name done standing.old.cues) (view_seen seen.entry) k) }
+    ensures leads { IfOk result (λ phase. (name : List ℕ) (done : List NamedField) → in_phase phase name done standing.new ≡ goes_in standing.old.epoch standing.old.known standing.old.owners (phase_cues (Phase.Fields head flags left over) name done standing.old.cues) (view_seen seen.entry)) }
 {
     match over {
-        Over::Nothing => Ok(say_code(outbox, sink, head, flags, left, seen)),
+        Over::Nothing => Ok(write_code(outbox, sink, head, flags, left, seen)),
         _ => {
-            let over = say_type(outbox, sink, place, standing, over, seen)?;
+            let over = write_type(outbox, sink, place, standing, over, seen)?;
             Ok(Phase::Fields {
                 head,
                 flags,
@@ -218,7 +220,7 @@ pub(crate) fn say_class_field<W: Sink>(
 /// The name of a field of a class.
 #[tactic(auto, using(crate::proofs::SaysLemmas::says_nothing))]
 #[inline(always)]
-pub(crate) fn say_field_name<W: Sink>(
+pub(crate) fn write_field_name<W: Sink>(
     outbox: &mut Outbox,
     sink: &mut W,
     draft: &mut Draft,
@@ -228,8 +230,8 @@ pub(crate) fn say_field_name<W: Sink>(
     left: u16,
     seen: Seen<'_>,
 ) -> Result<Phase, AllocError>
-    ensures said { SaysTo W.gone_out W.has_failed outbox.old outbox.new sink.old sink.new (λ k. name_says (told_seen seen.entry) k) }
-    ensures leads { IfOk result (λ phase. (e : ℕ) (known : Known) (os : List ToldNode) (cues : List Cue) → teller e known os (phase_cues phase draft.new.name draft.new.done cues) ≡ field_name_goes e known os cues head.level head.number draft.old.name flags draft.old.done code left (told_seen seen.entry)) }
+    ensures said { SaysTo W.gone_out W.has_failed outbox.old outbox.new sink.old sink.new (λ k. name_says (view_seen seen.entry) k) }
+    ensures leads { IfOk result (λ phase. (e : ℕ) (known : Known) (os : List ToldNode) (cues : List Cue) → teller e known os (phase_cues phase draft.new.name draft.new.done cues) ≡ field_name_goes e known os cues head.level head.number draft.old.name flags draft.old.done code left (view_seen seen.entry)) }
 {
     let Seen::Text(name) = seen else {
         return Ok(Phase::FieldName {
@@ -239,7 +241,7 @@ pub(crate) fn say_field_name<W: Sink>(
             left,
         });
     };
-    say_text(outbox, sink, name);
+    write_text(outbox, sink, name);
     draft.add_field(code, name)?;
     Ok(Phase::Fields {
         head,
@@ -256,7 +258,7 @@ pub(crate) fn say_field_name<W: Sink>(
 /// The number of interfaces of a proxy class.
 #[inline(always)]
 pub(crate) fn take_interface_count(head: Head, seen: Seen<'_>) -> Phase
-    ensures { Leads (Phase.InterfaceCount head) result (told_seen seen.entry) }
+    ensures { Leads (Phase.InterfaceCount head) result (view_seen seen.entry) }
 {
     match seen {
         Seen::InterfaceCount(left) => Phase::Interfaces { head, left },
@@ -267,18 +269,18 @@ pub(crate) fn take_interface_count(head: Head, seen: Seen<'_>) -> Phase
 /// The name of an interface of a proxy class.
 #[tactic(auto, using(crate::proofs::SaysLemmas::says_nothing))]
 #[inline(always)]
-pub(crate) fn say_interface<W: Sink>(
+pub(crate) fn write_interface<W: Sink>(
     outbox: &mut Outbox,
     sink: &mut W,
     head: Head,
     left: u32,
     seen: Seen<'_>,
 ) -> Phase
-    ensures said { SaysTo W.gone_out W.has_failed outbox.old outbox.new sink.old sink.new (λ k. interface_says head.level (told_seen seen.entry) k) }
-    ensures leads { Leads (Phase.Interfaces head left) result (told_seen seen.entry) }
+    ensures said { SaysTo W.gone_out W.has_failed outbox.old outbox.new sink.old sink.new (λ k. interface_says head.level (view_seen seen.entry) k) }
+    ensures leads { Leads (Phase.Interfaces head left) result (view_seen seen.entry) }
 {
     if let Seen::Text(name) = seen {
-        say_interface_word(outbox, sink, head.level, name);
+        write_interface_word(outbox, sink, head.level, name);
         if left > 0 {
             return Phase::Interfaces {
                 head,

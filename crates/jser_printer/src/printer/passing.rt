@@ -11,7 +11,7 @@ use crate::layer::Layer;
 use crate::phase::{Head, Over, Phase};
 use crate::printer::Printer;
 use crate::standing::Standing;
-use crate::words::line::say;
+use crate::words::line::write;
 use jser_prim::{Outbox, Sink};
 use std::alloc::AllocError;
 
@@ -37,13 +37,13 @@ fn end_proxy(standing: &mut Standing<'_>, head: Head) -> Result<(), AllocError>
 }
 
 impl<'a> Printer<'a> {
-    /// Says what is due next where no field belongs to it, and does it. The answer is whether anything was due.
+    /// Writes what is due next where no field belongs to it, and does it. The answer is whether anything was due.
     ///
     /// # Errors
     ///
     /// Where memory runs out. What is due was said then.
     #[inline(always)]
-    pub(crate) fn say_one_due<W: Sink>(
+    pub(crate) fn write_one_due<W: Sink>(
         &mut self,
         outbox: &mut Outbox,
         sink: &mut W,
@@ -52,7 +52,7 @@ impl<'a> Printer<'a> {
         ensures passed { IfOk result (λ more. Passed more self.old self.new) }
     {
         match self.phase {
-            Phase::Frames => match self.standing.say_due(outbox, sink)? {
+            Phase::Frames => match self.standing.write_due(outbox, sink)? {
                 Some(phase) => {
                     self.phase = phase;
                     Ok(true)
@@ -66,7 +66,7 @@ impl<'a> Printer<'a> {
                 over,
             } => match over {
                 Over::LineEnd => {
-                    say(outbox, sink, b"\n");
+                    write(outbox, sink, b"\n");
                     self.phase = Phase::Fields {
                         head,
                         flags,
@@ -76,7 +76,7 @@ impl<'a> Printer<'a> {
                     Ok(true)
                 }
                 Over::TypeWord => {
-                    say(outbox, sink, b" type ");
+                    write(outbox, sink, b" type ");
                     self.phase = Phase::Fields {
                         head,
                         flags,

@@ -4,35 +4,35 @@ ghost use Rattle.jser_shown.specs.Telling.{block_length_says, block_says, goes_i
 ghost use Rattle.jser_printer.specs.FieldWords.{field_words};
 ghost use Rattle.jser_printer.specs.Phases.{Leads, in_phase, phase_cues};
 ghost use Rattle.jser_printer.specs.Says.{SaysTo};
-ghost use Rattle.jser_printer.specs.Seen.{told_seen};
+ghost use Rattle.jser_printer.specs.Seen.{view_seen};
 
 use crate::draft::Draft;
 use crate::phase::Phase;
 use crate::printer::Printer;
 use crate::printer::descriptors::{
-    say_class_field, say_class_name, say_field_name, say_flags, say_interface, say_suid,
-    take_field_count, take_interface_count,
+    take_field_count, take_interface_count, write_class_field, write_class_name, write_field_name,
+    write_flags, write_interface, write_suid,
 };
 use crate::seen::Seen;
 use crate::standing::Standing;
-use crate::words::line::say;
-use crate::words::number::say_mark_line;
-use crate::words::quote::say_text_line;
+use crate::words::line::write;
+use crate::words::number::write_mark_line;
+use crate::words::quote::write_text_line;
 use crate::words::tag::Place;
-use crate::words::value::{say_block_length, say_raw};
+use crate::words::value::{write_block_length, write_raw};
 use jser_prim::{Outbox, Sink};
 use std::alloc::AllocError;
 
 /// The header of the stream.
 #[tactic(auto, using(crate::proofs::SaysLemmas::says_nothing))]
 #[inline(always)]
-fn say_header<W: Sink>(outbox: &mut Outbox, sink: &mut W, seen: Seen<'_>) -> Phase
-    ensures said { SaysTo W.gone_out W.has_failed outbox.old outbox.new sink.old sink.new (λ k. header_says (told_seen seen.entry) k) }
-    ensures leads { Leads Phase.Header result (told_seen seen.entry) }
+fn write_header<W: Sink>(outbox: &mut Outbox, sink: &mut W, seen: Seen<'_>) -> Phase
+    ensures said { SaysTo W.gone_out W.has_failed outbox.old outbox.new sink.old sink.new (λ k. header_says (view_seen seen.entry) k) }
+    ensures leads { Leads Phase.Header result (view_seen seen.entry) }
 {
     match seen {
         Seen::Header => {
-            say(outbox, sink, b"stream version 5\n");
+            write(outbox, sink, b"stream version 5\n");
             Phase::Frames
         }
         _ => Phase::Header,
@@ -42,13 +42,13 @@ fn say_header<W: Sink>(outbox: &mut Outbox, sink: &mut W, seen: Seen<'_>) -> Pha
 /// The handle of a reference.
 #[tactic(auto, using(crate::proofs::SaysLemmas::says_nothing))]
 #[inline(always)]
-fn say_handle<W: Sink>(outbox: &mut Outbox, sink: &mut W, epoch: u64, seen: Seen<'_>) -> Phase
-    ensures said { SaysTo W.gone_out W.has_failed outbox.old outbox.new sink.old sink.new (λ k. handle_says epoch (told_seen seen.entry) k) }
-    ensures leads { Leads Phase.Handle result (told_seen seen.entry) }
+fn write_handle<W: Sink>(outbox: &mut Outbox, sink: &mut W, epoch: u64, seen: Seen<'_>) -> Phase
+    ensures said { SaysTo W.gone_out W.has_failed outbox.old outbox.new sink.old sink.new (λ k. handle_says epoch (view_seen seen.entry) k) }
+    ensures leads { Leads Phase.Handle result (view_seen seen.entry) }
 {
     match seen {
         Seen::Handle(number) => {
-            say_mark_line(outbox, sink, epoch, number as u64);
+            write_mark_line(outbox, sink, epoch, number as u64);
             Phase::Frames
         }
         _ => Phase::Handle,
@@ -58,13 +58,13 @@ fn say_handle<W: Sink>(outbox: &mut Outbox, sink: &mut W, epoch: u64, seen: Seen
 /// The units of a string.
 #[tactic(auto, using(crate::proofs::SaysLemmas::says_nothing))]
 #[inline(always)]
-fn say_string<W: Sink>(outbox: &mut Outbox, sink: &mut W, seen: Seen<'_>) -> Phase
-    ensures said { SaysTo W.gone_out W.has_failed outbox.old outbox.new sink.old sink.new (λ k. string_says (told_seen seen.entry) k) }
-    ensures leads { Leads Phase.Text result (told_seen seen.entry) }
+fn write_string<W: Sink>(outbox: &mut Outbox, sink: &mut W, seen: Seen<'_>) -> Phase
+    ensures said { SaysTo W.gone_out W.has_failed outbox.old outbox.new sink.old sink.new (λ k. string_says (view_seen seen.entry) k) }
+    ensures leads { Leads Phase.Text result (view_seen seen.entry) }
 {
     match seen {
         Seen::Text(text) => {
-            say_text_line(outbox, sink, text);
+            write_text_line(outbox, sink, text);
             Phase::Frames
         }
         _ => Phase::Text,
@@ -74,13 +74,13 @@ fn say_string<W: Sink>(outbox: &mut Outbox, sink: &mut W, seen: Seen<'_>) -> Pha
 /// The length of a block.
 #[tactic(auto, using(crate::proofs::SaysLemmas::says_nothing))]
 #[inline(always)]
-fn say_length<W: Sink>(outbox: &mut Outbox, sink: &mut W, seen: Seen<'_>) -> Phase
-    ensures said { SaysTo W.gone_out W.has_failed outbox.old outbox.new sink.old sink.new (λ k. block_length_says (told_seen seen.entry) k) }
-    ensures leads { Leads Phase.BlockLength result (told_seen seen.entry) }
+fn write_length<W: Sink>(outbox: &mut Outbox, sink: &mut W, seen: Seen<'_>) -> Phase
+    ensures said { SaysTo W.gone_out W.has_failed outbox.old outbox.new sink.old sink.new (λ k. block_length_says (view_seen seen.entry) k) }
+    ensures leads { Leads Phase.BlockLength result (view_seen seen.entry) }
 {
     match seen {
         Seen::BlockLength(length) => {
-            say_block_length(outbox, sink, length);
+            write_block_length(outbox, sink, length);
             if length == 0 {
                 Phase::Frames
             } else {
@@ -94,23 +94,23 @@ fn say_length<W: Sink>(outbox: &mut Outbox, sink: &mut W, seen: Seen<'_>) -> Pha
 /// The bytes of a block.
 #[tactic(auto, using(crate::proofs::SaysLemmas::says_nothing))]
 #[inline(always)]
-fn say_block<W: Sink>(outbox: &mut Outbox, sink: &mut W, seen: Seen<'_>) -> Phase
-    ensures said { SaysTo W.gone_out W.has_failed outbox.old outbox.new sink.old sink.new (λ k. block_says (told_seen seen.entry) k) }
-    ensures leads { Leads Phase.Block result (told_seen seen.entry) }
+fn write_block<W: Sink>(outbox: &mut Outbox, sink: &mut W, seen: Seen<'_>) -> Phase
+    ensures said { SaysTo W.gone_out W.has_failed outbox.old outbox.new sink.old sink.new (λ k. block_says (view_seen seen.entry) k) }
+    ensures leads { Leads Phase.Block result (view_seen seen.entry) }
 {
     match seen {
         Seen::Bytes(bytes) => {
-            say_raw(outbox, sink, bytes);
+            write_raw(outbox, sink, bytes);
             Phase::Frames
         }
         _ => Phase::Block,
     }
 }
 
-/// Says what is seen of a field in this phase, and goes past it to the phase behind it.
+/// Writes what is seen of a field in this phase, and goes past it to the phase behind it.
 #[tactic(auto, using(crate::proofs::SaysLemmas::says_nothing))]
 #[inline(always)]
-fn say_in_phase<W: Sink>(
+fn write_in_phase<W: Sink>(
     outbox: &mut Outbox,
     sink: &mut W,
     place: Place,
@@ -119,36 +119,36 @@ fn say_in_phase<W: Sink>(
     standing: &mut Standing<'_>,
     seen: Seen<'_>,
 ) -> Result<(), AllocError>
-    ensures said { SaysTo W.gone_out W.has_failed outbox.old outbox.new sink.old sink.new (λ k. field_words place (phase_cues phase.old draft.old.name draft.old.done standing.old.cues) (told_seen seen.entry) k) }
-    ensures goes { OnOk result (in_phase phase.new draft.new.name draft.new.done standing.new ≡ goes_in standing.old.epoch standing.old.known standing.old.owners (phase_cues phase.old draft.old.name draft.old.done standing.old.cues) (told_seen seen.entry)) }
+    ensures said { SaysTo W.gone_out W.has_failed outbox.old outbox.new sink.old sink.new (λ k. field_words place (phase_cues phase.old draft.old.name draft.old.done standing.old.cues) (view_seen seen.entry) k) }
+    ensures goes { OnOk result (in_phase phase.new draft.new.name draft.new.done standing.new ≡ goes_in standing.old.epoch standing.old.known standing.old.owners (phase_cues phase.old draft.old.name draft.old.done standing.old.cues) (view_seen seen.entry)) }
 {
     match *phase {
-        Phase::Frames => *phase = standing.say_field(outbox, sink, place, seen)?,
-        Phase::Header => *phase = say_header(outbox, sink, seen),
-        Phase::Handle => *phase = say_handle(outbox, sink, place.epoch, seen),
-        Phase::Text => *phase = say_string(outbox, sink, seen),
-        Phase::BlockLength => *phase = say_length(outbox, sink, seen),
-        Phase::Block => *phase = say_block(outbox, sink, seen),
+        Phase::Frames => *phase = standing.write_field(outbox, sink, place, seen)?,
+        Phase::Header => *phase = write_header(outbox, sink, seen),
+        Phase::Handle => *phase = write_handle(outbox, sink, place.epoch, seen),
+        Phase::Text => *phase = write_string(outbox, sink, seen),
+        Phase::BlockLength => *phase = write_length(outbox, sink, seen),
+        Phase::Block => *phase = write_block(outbox, sink, seen),
         Phase::ArrayLength { level } => *phase = standing.take_array_length(level, seen)?,
         Phase::EnumName { level } => {
-            *phase = standing.say_enum_name(outbox, sink, place, level, seen)?;
+            *phase = standing.write_enum_name(outbox, sink, place, level, seen)?;
         }
         Phase::Class { owner, level } => {
-            *phase = standing.say_class(outbox, sink, place, owner, level, seen)?;
+            *phase = standing.write_class(outbox, sink, place, owner, level, seen)?;
         }
         Phase::ClassHandle { owner, level } => {
-            *phase = standing.say_class_handle(outbox, sink, place.epoch, owner, level, seen)?;
+            *phase = standing.write_class_handle(outbox, sink, place.epoch, owner, level, seen)?;
         }
-        Phase::ClassName { level } => *phase = say_class_name(outbox, sink, draft, level, seen)?,
-        Phase::Suid { level } => *phase = say_suid(outbox, sink, standing, level, seen)?,
-        Phase::Flags { head } => *phase = say_flags(outbox, sink, head, seen),
+        Phase::ClassName { level } => *phase = write_class_name(outbox, sink, draft, level, seen)?,
+        Phase::Suid { level } => *phase = write_suid(outbox, sink, standing, level, seen)?,
+        Phase::Flags { head } => *phase = write_flags(outbox, sink, head, seen),
         Phase::FieldCount { head, flags } => *phase = take_field_count(draft, head, flags, seen),
         Phase::Fields {
             head,
             flags,
             left,
             over,
-        } => *phase = say_class_field(
+        } => *phase = write_class_field(
             outbox, sink, place, standing, head, flags, left, over, seen,
         )?,
         Phase::FieldName {
@@ -156,31 +156,33 @@ fn say_in_phase<W: Sink>(
             flags,
             code,
             left,
-        } => *phase = say_field_name(outbox, sink, draft, head, flags, code, left, seen)?,
+        } => *phase = write_field_name(outbox, sink, draft, head, flags, code, left, seen)?,
         Phase::InterfaceCount { head } => *phase = take_interface_count(head, seen),
-        Phase::Interfaces { head, left } => *phase = say_interface(outbox, sink, head, left, seen),
+        Phase::Interfaces { head, left } => *phase = write_interface(
+            outbox, sink, head, left, seen,
+        ),
     }
     Ok(())
 }
 
 impl<'a> Printer<'a> {
-    /// Says what is seen of a field, and goes past it.
+    /// Writes what is seen of a field, and goes past it.
     ///
     /// # Errors
     ///
     /// Where memory runs out. The field was said then.
     #[inline(always)]
-    pub(crate) fn say_here<W: Sink>(
+    pub(crate) fn write_here<W: Sink>(
         &mut self,
         outbox: &mut Outbox,
         sink: &mut W,
         place: Place,
         seen: Seen<'_>,
     ) -> Result<(), AllocError>
-        ensures said { SaysTo W.gone_out W.has_failed outbox.old outbox.new sink.old sink.new (λ k. field_words place self.old.cues (told_seen seen.entry) k) }
-        ensures goes { OnOk result (self.new ≡ goes_in self.old.epoch self.old.known self.old.owners self.old.cues (told_seen seen.entry)) }
+        ensures said { SaysTo W.gone_out W.has_failed outbox.old outbox.new sink.old sink.new (λ k. field_words place self.old.cues (view_seen seen.entry) k) }
+        ensures goes { OnOk result (self.new ≡ goes_in self.old.epoch self.old.known self.old.owners self.old.cues (view_seen seen.entry)) }
     {
-        say_in_phase(
+        write_in_phase(
             outbox,
             sink,
             place,

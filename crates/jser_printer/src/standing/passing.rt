@@ -3,7 +3,7 @@ ghost use Rattle.std.specs.Prelude.{◌≡◌, ◌∷◌, ◌<◌, ℕ, List, le
 ghost use Rattle.jser_shown.specs.Known.{Known, classes_at, is_external_chain};
 ghost use Rattle.jser_shown.specs.Owners.{OwnerNode as ToldNode};
 ghost use Rattle.jser_shown.specs.Cues.{teller, parts_cue, made_cue, object_parts};
-ghost use Rattle.jser_printer.specs.Given.{told_owner};
+ghost use Rattle.jser_printer.specs.Given.{view_owner};
 ghost use Rattle.jser_printer.specs.Steps.{due, due_in, due_says, pass, pass_in};
 ghost use Rattle.jser_printer.specs.Frames.{cue_of, cues_of, tail_of, FrameFits, FramesFit, FirstIs, PassesTop};
 ghost use Rattle.jser_printer.specs.Phases.{StandsIn};
@@ -17,7 +17,7 @@ use crate::phase::Phase;
 use crate::stack::Stack;
 use crate::standing::{Standing, deeper};
 use crate::table::Table;
-use crate::words::section::say_section;
+use crate::words::section::write_section;
 use jser_prim::{Outbox, Sink};
 use std::alloc::AllocError;
 
@@ -45,10 +45,10 @@ fn sections(table: &Table, level: u64, number: usize) -> Frame
     }
 }
 
-/// Says what is due in the sections of an object, which are on top, and does it. The answer is whether anything was due.
+/// Writes what is due in the sections of an object, which are on top, and does it. The answer is whether anything was due.
 #[tactic(auto, using(crate::proofs::PassLemmas::section_passed, crate::proofs::PassLemmas::notes_passed, crate::proofs::PassLemmas::raw_waits, crate::proofs::PassLemmas::value_waits, crate::proofs::PassLemmas::sections_passed, crate::proofs::PassLemmas::section_said, crate::proofs::PassLemmas::notes_due, crate::proofs::PassLemmas::end_due, crate::proofs::PassLemmas::section_is_due))]
 #[inline(always)]
-fn say_sections<W: Sink>(
+fn write_sections<W: Sink>(
     outbox: &mut Outbox,
     sink: &mut W,
     table: &Table,
@@ -74,7 +74,7 @@ fn say_sections<W: Sink>(
     };
     match next.part {
         Part::Section(name) => {
-            say_section(outbox, sink, level, b"data ", name);
+            write_section(outbox, sink, level, b"data ", name);
             frames.set_top(others);
             Ok(true)
         }
@@ -94,14 +94,14 @@ fn say_sections<W: Sink>(
 }
 
 impl<'a> Standing<'a> {
-    /// Says what is due next, if anything is, and does it: the phase of what comes then.
+    /// Writes what is due next, if anything is, and does it: the phase of what comes then.
     ///
     /// # Errors
     ///
     /// Where memory runs out. What is due was said then.
     #[tactic(auto, using(crate::proofs::PassLemmas::pass_first, crate::proofs::PassLemmas::close_fits, crate::proofs::PassLemmas::close_passed, crate::proofs::PassLemmas::due_first, crate::proofs::PassLemmas::external_said, crate::proofs::FrameLemmas::top_fits, crate::proofs::FrameLemmas::tail_fits))]
     #[inline(always)]
-    pub(crate) fn say_due<W: Sink>(
+    pub(crate) fn write_due<W: Sink>(
         &mut self,
         outbox: &mut Outbox,
         sink: &mut W,
@@ -118,7 +118,7 @@ impl<'a> Standing<'a> {
                     stage,
                 },
             ) => {
-                let more = say_sections(
+                let more = write_sections(
                     outbox,
                     sink,
                     &self.table,
@@ -131,7 +131,7 @@ impl<'a> Standing<'a> {
                 Ok(if more { Some(Phase::Frames) } else { None })
             }
             Some(Frame::External { level, chain }) => {
-                say_section(
+                write_section(
                     outbox,
                     sink,
                     level,
@@ -191,7 +191,7 @@ impl<'a> Standing<'a> {
     #[tactic(auto, using(crate::proofs::FrameLemmas::tail_fits))]
     #[inline(always)]
     fn make(&mut self, owner: Owner, level: u64, number: usize) -> Result<Phase, AllocError>
-        requires { FirstIs (made_cue (told_owner owner) level number) self.old }
+        requires { FirstIs (made_cue (view_owner owner) level number) self.old }
         ensures { IfOk result (λ phase. StandsIn phase self.new (pass self.old)) }
     {
         match owner {

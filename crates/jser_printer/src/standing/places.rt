@@ -1,18 +1,18 @@
 //! Fields in the places of owners: their classes, and what stands behind these.
 ghost use Rattle.std.specs.Prelude.{IfOk, codes};
 ghost use Rattle.jser_shown.specs.Telling.{class_goes, class_handle_goes, handle_says, length_goes, name_goes, worded_says};
-ghost use Rattle.jser_printer.specs.Given.{told_node, told_owner};
+ghost use Rattle.jser_printer.specs.Given.{view_node, view_owner};
 ghost use Rattle.jser_printer.specs.Says.{SaysTo};
-ghost use Rattle.jser_printer.specs.Seen.{told_seen};
+ghost use Rattle.jser_printer.specs.Seen.{view_seen};
 ghost use Rattle.jser_printer.specs.Phases.{StandsIn};
 
 use crate::owner::Owner;
 use crate::phase::Phase;
 use crate::seen::Seen;
 use crate::standing::Standing;
-use crate::words::number::say_mark_line;
+use crate::words::number::write_mark_line;
 use crate::words::tag::Place;
-use crate::words::tagged::say_worded_tag;
+use crate::words::tagged::write_worded_tag;
 use jser_prim::{Outbox, Sink};
 use std::alloc::AllocError;
 
@@ -24,7 +24,7 @@ impl<'a> Standing<'a> {
         level: u64,
         seen: Seen<'_>,
     ) -> Result<Phase, AllocError>
-        ensures { IfOk result (λ phase. StandsIn phase self.new (length_goes self.old.epoch self.old.known self.old.owners self.old.cues level (told_seen seen.entry))) }
+        ensures { IfOk result (λ phase. StandsIn phase self.new (length_goes self.old.epoch self.old.known self.old.owners self.old.cues level (view_seen seen.entry))) }
     {
         let Seen::ArrayLength(length) = seen else {
             return Ok(Phase::ArrayLength { level });
@@ -36,7 +36,7 @@ impl<'a> Standing<'a> {
     /// The tag in the place of the name of an enum constant.
     #[tactic(auto, using(crate::proofs::SaysLemmas::says_nothing))]
     #[inline(always)]
-    pub(crate) fn say_enum_name<W: Sink>(
+    pub(crate) fn write_enum_name<W: Sink>(
         &mut self,
         outbox: &mut Outbox,
         sink: &mut W,
@@ -44,12 +44,12 @@ impl<'a> Standing<'a> {
         level: u64,
         seen: Seen<'_>,
     ) -> Result<Phase, AllocError>
-        ensures said { SaysTo W.gone_out W.has_failed outbox.old outbox.new sink.old sink.new (λ k. worded_says place.epoch place.next (told_node place.owner) level (codes "name ") (told_seen seen.entry) k) }
-        ensures goes { IfOk result (λ phase. StandsIn phase self.new (name_goes self.old.epoch self.old.known self.old.owners self.old.cues level (told_seen seen.entry))) }
+        ensures said { SaysTo W.gone_out W.has_failed outbox.old outbox.new sink.old sink.new (λ k. worded_says place.epoch place.next (view_node place.owner) level (codes "name ") (view_seen seen.entry) k) }
+        ensures goes { IfOk result (λ phase. StandsIn phase self.new (name_goes self.old.epoch self.old.known self.old.owners self.old.cues level (view_seen seen.entry))) }
     {
         match seen {
             Seen::Tag(tag) => {
-                say_worded_tag(outbox, sink, place, level, b"name ", tag);
+                write_worded_tag(outbox, sink, place, level, b"name ", tag);
                 self.begin(level, tag)
             }
             _ => Ok(Phase::EnumName { level }),
@@ -59,7 +59,7 @@ impl<'a> Standing<'a> {
     /// The tag in the class place of an owner.
     #[tactic(auto, using(crate::proofs::SaysLemmas::says_nothing))]
     #[inline(always)]
-    pub(crate) fn say_class<W: Sink>(
+    pub(crate) fn write_class<W: Sink>(
         &mut self,
         outbox: &mut Outbox,
         sink: &mut W,
@@ -68,12 +68,12 @@ impl<'a> Standing<'a> {
         level: u64,
         seen: Seen<'_>,
     ) -> Result<Phase, AllocError>
-        ensures said { SaysTo W.gone_out W.has_failed outbox.old outbox.new sink.old sink.new (λ k. worded_says place.epoch place.next (told_node place.owner) level (codes "class ") (told_seen seen.entry) k) }
-        ensures goes { IfOk result (λ phase. StandsIn phase self.new (class_goes self.old.epoch self.old.known self.old.owners self.old.cues (told_owner owner) level (told_seen seen.entry))) }
+        ensures said { SaysTo W.gone_out W.has_failed outbox.old outbox.new sink.old sink.new (λ k. worded_says place.epoch place.next (view_node place.owner) level (codes "class ") (view_seen seen.entry) k) }
+        ensures goes { IfOk result (λ phase. StandsIn phase self.new (class_goes self.old.epoch self.old.known self.old.owners self.old.cues (view_owner owner) level (view_seen seen.entry))) }
     {
         match seen {
             Seen::Tag(tag) => {
-                say_worded_tag(outbox, sink, place, level, b"class ", tag);
+                write_worded_tag(outbox, sink, place, level, b"class ", tag);
                 self.begin_class(owner, level, tag)
             }
             _ => Ok(Phase::Class { owner, level }),
@@ -83,7 +83,7 @@ impl<'a> Standing<'a> {
     /// The handle of a reference in the class place of an owner.
     #[tactic(auto, using(crate::proofs::SaysLemmas::says_nothing))]
     #[inline(always)]
-    pub(crate) fn say_class_handle<W: Sink>(
+    pub(crate) fn write_class_handle<W: Sink>(
         &mut self,
         outbox: &mut Outbox,
         sink: &mut W,
@@ -92,13 +92,13 @@ impl<'a> Standing<'a> {
         level: u64,
         seen: Seen<'_>,
     ) -> Result<Phase, AllocError>
-        ensures said { SaysTo W.gone_out W.has_failed outbox.old outbox.new sink.old sink.new (λ k. handle_says epoch (told_seen seen.entry) k) }
-        ensures goes { IfOk result (λ phase. StandsIn phase self.new (class_handle_goes self.old.epoch self.old.known self.old.owners self.old.cues (told_owner owner) level (told_seen seen.entry))) }
+        ensures said { SaysTo W.gone_out W.has_failed outbox.old outbox.new sink.old sink.new (λ k. handle_says epoch (view_seen seen.entry) k) }
+        ensures goes { IfOk result (λ phase. StandsIn phase self.new (class_handle_goes self.old.epoch self.old.known self.old.owners self.old.cues (view_owner owner) level (view_seen seen.entry))) }
     {
         let Seen::Handle(number) = seen else {
             return Ok(Phase::ClassHandle { owner, level });
         };
-        say_mark_line(outbox, sink, epoch, number as u64);
+        write_mark_line(outbox, sink, epoch, number as u64);
         self.end_class(owner, level, number)?;
         Ok(Phase::Frames)
     }

@@ -3,11 +3,11 @@ ghost use Rattle.std.specs.Prelude.{◌≡◌, ◌∷◌, ◌+◌, ◌<◌, ℕ,
 ghost use Rattle.jser_shown.specs.Owners.{OwnerNode as ToldNode};
 ghost use Rattle.jser_shown.specs.Cues.{teller, top_cue, note_cue, elements_cue};
 ghost use Rattle.jser_shown.specs.Telling.{elements_says, goes_in, handle_says, note_says, top_says, worded_says};
-ghost use Rattle.jser_printer.specs.Given.{told_node};
+ghost use Rattle.jser_printer.specs.Given.{view_node};
 ghost use Rattle.jser_printer.specs.Frames.{FramesFit, FirstIs, TakesPart, cues_of, tail_of};
 ghost use Rattle.jser_printer.specs.FieldWords.{cue_words, field_words};
 ghost use Rattle.jser_printer.specs.Says.{SaysTo};
-ghost use Rattle.jser_printer.specs.Seen.{told_seen, told_tag};
+ghost use Rattle.jser_printer.specs.Seen.{view_seen, view_tag};
 ghost use Rattle.jser_printer.specs.Phases.{StandsIn};
 
 use crate::frame::{Frame, Stage};
@@ -17,11 +17,13 @@ use crate::seen::{Seen, Tag};
 use crate::stack::Stack;
 use crate::standing::{Standing, deeper};
 use crate::table::Table;
-use crate::words::line::say;
-use crate::words::number::say_mark_line;
-use crate::words::tag::{Place, say_block_word, say_value_tag};
-use crate::words::tagged::{say_element_tag, say_field_tag, say_note_block, say_worded_tag};
-use crate::words::value::{say_raw_elements, say_raw_field};
+use crate::words::line::write;
+use crate::words::number::write_mark_line;
+use crate::words::tag::{Place, write_block_word, write_value_tag};
+use crate::words::tagged::{
+    write_element_tag, write_field_tag, write_note_block, write_worded_tag,
+};
+use crate::words::value::{write_raw_elements, write_raw_field};
 use jser_prim::{Outbox, Sink};
 use std::alloc::AllocError;
 
@@ -29,7 +31,7 @@ use std::alloc::AllocError;
 /// value.
 #[tactic(auto, using(crate::proofs::TakeLemmas::raw_taken, crate::proofs::TakeLemmas::value_taken, crate::proofs::TakeLemmas::section_left, crate::proofs::TakeLemmas::notes_left, crate::proofs::TakeLemmas::end_left, crate::proofs::TakeLemmas::raw_said, crate::proofs::TakeLemmas::value_said))]
 #[inline(always)]
-fn say_part<W: Sink>(
+fn write_part<W: Sink>(
     outbox: &mut Outbox,
     sink: &mut W,
     place: Place,
@@ -45,8 +47,8 @@ fn say_part<W: Sink>(
     requires fit { FramesFit (length table.now.layers) (length table.now.chains) frames.old }
     requires top { frames.old ≡ Frame.Sections level chain index stage ∷ tail_of frames.old }
     ensures fit { FramesFit (length table.now.layers) (length table.now.chains) frames.new }
-    ensures said { SaysTo W.gone_out W.has_failed outbox.old outbox.new sink.old sink.new (λ k. field_words place (cues_of table.now.layers table.now.chains frames.old) (told_seen seen.entry) k) }
-    ensures takes { TakesPart table.now.layers table.now.chains level frames.old frames.new (told_seen seen.entry) (option_map told_tag result) }
+    ensures said { SaysTo W.gone_out W.has_failed outbox.old outbox.new sink.old sink.new (λ k. field_words place (cues_of table.now.layers table.now.chains frames.old) (view_seen seen.entry) k) }
+    ensures takes { TakesPart table.now.layers table.now.chains level frames.old frames.new (view_seen seen.entry) (option_map view_tag result) }
 {
     let next = next_part(table, chain, index, stage);
     let others = Frame::Sections {
@@ -58,7 +60,7 @@ fn say_part<W: Sink>(
     match next.part {
         Part::Raw(name) => {
             if let Seen::Bytes(bytes) = seen {
-                say_raw_field(outbox, sink, level, name, bytes);
+                write_raw_field(outbox, sink, level, name, bytes);
                 frames.set_top(others);
             }
             None
@@ -67,7 +69,7 @@ fn say_part<W: Sink>(
             let Seen::Tag(tag) = seen else {
                 return None;
             };
-            say_field_tag(outbox, sink, place, level, name, tag);
+            write_field_tag(outbox, sink, place, level, name, tag);
             frames.set_top(others);
             Some(tag)
         }
@@ -80,7 +82,7 @@ fn say_part<W: Sink>(
 /// The tag in the superclass place of the class with this number and this layer, which is on top.
 #[tactic(auto, using(crate::proofs::SaysLemmas::says_nothing, crate::proofs::TakeLemmas::goes_first, crate::proofs::PassLemmas::close_fits, crate::proofs::FrameLemmas::tail_fits))]
 #[inline(always)]
-fn say_superclass<W: Sink>(
+fn write_superclass<W: Sink>(
     outbox: &mut Outbox,
     sink: &mut W,
     place: Place,
@@ -95,13 +97,13 @@ fn say_superclass<W: Sink>(
     requires fit { FramesFit (length table.old.layers) (length table.old.chains) frames.old }
     requires top { frames.old ≡ Frame.Super level number layer ∷ tail_of frames.old }
     ensures fit { FramesFit (length table.new.layers) (length table.new.chains) frames.new }
-    ensures said { SaysTo W.gone_out W.has_failed outbox.old outbox.new sink.old sink.new (λ k. worded_says place.epoch place.next (told_node place.owner) level (codes "super ") (told_seen seen.entry) k) }
-    ensures takes { IfOk result (λ phase. (e : ℕ) (os : List ToldNode) → StandsIn phase (teller e table.new.known os (cues_of table.new.layers table.new.chains frames.new)) (goes_in e table.old.known os (cues_of table.old.layers table.old.chains frames.old) (told_seen seen.entry))) }
+    ensures said { SaysTo W.gone_out W.has_failed outbox.old outbox.new sink.old sink.new (λ k. worded_says place.epoch place.next (view_node place.owner) level (codes "super ") (view_seen seen.entry) k) }
+    ensures takes { IfOk result (λ phase. (e : ℕ) (os : List ToldNode) → StandsIn phase (teller e table.new.known os (cues_of table.new.layers table.new.chains frames.new)) (goes_in e table.old.known os (cues_of table.old.layers table.old.chains frames.old) (view_seen seen.entry))) }
 {
     let Seen::Tag(tag) = seen else {
         return Ok(Phase::Frames);
     };
-    say_worded_tag(outbox, sink, place, level, b"super ", tag);
+    write_worded_tag(outbox, sink, place, level, b"super ", tag);
     match tag {
         Tag::Null => {
             table.close(number, None, layer)?;
@@ -147,7 +149,7 @@ fn say_superclass<W: Sink>(
 /// The handle of a reference in the superclass place of the class with this number and this layer. That is on top.
 #[tactic(auto, using(crate::proofs::SaysLemmas::says_nothing, crate::proofs::TakeLemmas::goes_first, crate::proofs::FrameLemmas::tail_fits))]
 #[inline(always)]
-fn say_superclass_handle<W: Sink>(
+fn write_superclass_handle<W: Sink>(
     outbox: &mut Outbox,
     sink: &mut W,
     epoch: u64,
@@ -162,11 +164,11 @@ fn say_superclass_handle<W: Sink>(
     requires fit { FramesFit (length table.now.layers) (length table.now.chains) frames.old }
     requires top { frames.old ≡ Frame.SuperHandle level number layer ∷ tail_of frames.old }
     ensures fit { FramesFit (length table.now.layers) (length table.now.chains) frames.new }
-    ensures said { SaysTo W.gone_out W.has_failed outbox.old outbox.new sink.old sink.new (λ k. handle_says epoch (told_seen seen.entry) k) }
-    ensures takes { TakesPart table.now.layers table.now.chains level frames.old frames.new (told_seen seen.entry) None }
+    ensures said { SaysTo W.gone_out W.has_failed outbox.old outbox.new sink.old sink.new (λ k. handle_says epoch (view_seen seen.entry) k) }
+    ensures takes { TakesPart table.now.layers table.now.chains level frames.old frames.new (view_seen seen.entry) None }
 {
     if let Seen::Handle(parent) = seen {
-        say_mark_line(outbox, sink, epoch, parent as u64);
+        write_mark_line(outbox, sink, epoch, parent as u64);
         frames.set_top(Frame::Close {
             number,
             parent,
@@ -176,28 +178,28 @@ fn say_superclass_handle<W: Sink>(
 }
 
 impl<'a> Standing<'a> {
-    /// Says what is seen of a field, and goes past it.
+    /// Writes what is seen of a field, and goes past it.
     ///
     /// # Errors
     ///
     /// Where memory runs out. The field was said then.
     #[tactic(auto, using(crate::proofs::TakeLemmas::goes_first, crate::proofs::TakeLemmas::says_first, crate::proofs::TakeLemmas::says_last, crate::proofs::SaysLemmas::says_nothing, crate::proofs::FrameLemmas::top_fits))]
     #[inline(always)]
-    pub(crate) fn say_field<W: Sink>(
+    pub(crate) fn write_field<W: Sink>(
         &mut self,
         outbox: &mut Outbox,
         sink: &mut W,
         place: Place,
         seen: Seen<'_>,
     ) -> Result<Phase, AllocError>
-        ensures said { SaysTo W.gone_out W.has_failed outbox.old outbox.new sink.old sink.new (λ k. field_words place self.old.cues (told_seen seen.entry) k) }
-        ensures goes { IfOk result (λ phase. StandsIn phase self.new (goes_in self.old.epoch self.old.known self.old.owners self.old.cues (told_seen seen.entry))) }
+        ensures said { SaysTo W.gone_out W.has_failed outbox.old outbox.new sink.old sink.new (λ k. field_words place self.old.cues (view_seen seen.entry) k) }
+        ensures goes { IfOk result (λ phase. StandsIn phase self.new (goes_in self.old.epoch self.old.known self.old.owners self.old.cues (view_seen seen.entry))) }
     {
         match self.frames.top() {
-            None => self.say_top(outbox, sink, place, seen),
-            Some(Frame::Notes { level }) => self.say_note(outbox, sink, place, level, seen),
+            None => self.write_top(outbox, sink, place, seen),
+            Some(Frame::Notes { level }) => self.write_note(outbox, sink, place, level, seen),
             Some(Frame::Elements { level, index, left }) => {
-                self.say_element(outbox, sink, place, level, index, left, seen)
+                self.write_element(outbox, sink, place, level, index, left, seen)
             }
             Some(
                 Frame::Sections {
@@ -207,7 +209,7 @@ impl<'a> Standing<'a> {
                     stage,
                 },
             ) => {
-                let begun = say_part(
+                let begun = write_part(
                     outbox,
                     sink,
                     place,
@@ -230,7 +232,7 @@ impl<'a> Standing<'a> {
                     number,
                     layer,
                 },
-            ) => say_superclass(
+            ) => write_superclass(
                 outbox,
                 sink,
                 place,
@@ -248,7 +250,7 @@ impl<'a> Standing<'a> {
                     layer,
                 },
             ) => {
-                say_superclass_handle(
+                write_superclass_handle(
                     outbox,
                     sink,
                     place.epoch,
@@ -273,7 +275,7 @@ impl<'a> Standing<'a> {
     /// A field at the top of the stream.
     #[tactic(auto, using(crate::proofs::SaysLemmas::says_nothing))]
     #[inline(always)]
-    fn say_top<W: Sink>(
+    fn write_top<W: Sink>(
         &mut self,
         outbox: &mut Outbox,
         sink: &mut W,
@@ -281,20 +283,20 @@ impl<'a> Standing<'a> {
         seen: Seen<'_>,
     ) -> Result<Phase, AllocError>
         requires { self.old.cues ≡ top_cue ∷ [] }
-        ensures said { SaysTo W.gone_out W.has_failed outbox.old outbox.new sink.old sink.new (λ k. top_says place.epoch place.next (told_node place.owner) (told_seen seen.entry) k) }
-        ensures goes { IfOk result (λ phase. StandsIn phase self.new (goes_in self.old.epoch self.old.known self.old.owners self.old.cues (told_seen seen.entry))) }
+        ensures said { SaysTo W.gone_out W.has_failed outbox.old outbox.new sink.old sink.new (λ k. top_says place.epoch place.next (view_node place.owner) (view_seen seen.entry) k) }
+        ensures goes { IfOk result (λ phase. StandsIn phase self.new (goes_in self.old.epoch self.old.known self.old.owners self.old.cues (view_seen seen.entry))) }
     {
         match seen {
             Seen::Tag(tag) => {
-                say_value_tag(outbox, sink, place, tag);
+                write_value_tag(outbox, sink, place, tag);
                 self.begin(0, tag)
             }
             Seen::BlockTag(long) => {
-                say_block_word(outbox, sink, long);
+                write_block_word(outbox, sink, long);
                 Ok(Phase::BlockLength)
             }
             Seen::ResetTag => {
-                say(outbox, sink, b"reset\n");
+                write(outbox, sink, b"reset\n");
                 self.reset()?;
                 Ok(Phase::Frames)
             }
@@ -316,7 +318,7 @@ impl<'a> Standing<'a> {
     /// A field in an annotation, which is on top.
     #[tactic(auto, using(crate::proofs::TakeLemmas::popped_note, crate::proofs::FrameLemmas::tail_fits, crate::proofs::SaysLemmas::says_nothing))]
     #[inline(always)]
-    fn say_note<W: Sink>(
+    fn write_note<W: Sink>(
         &mut self,
         outbox: &mut Outbox,
         sink: &mut W,
@@ -325,16 +327,16 @@ impl<'a> Standing<'a> {
         seen: Seen<'_>,
     ) -> Result<Phase, AllocError>
         requires { FirstIs (note_cue level) self.old }
-        ensures said { SaysTo W.gone_out W.has_failed outbox.old outbox.new sink.old sink.new (λ k. note_says place.epoch place.next (told_node place.owner) level (told_seen seen.entry) k) }
-        ensures goes { IfOk result (λ phase. StandsIn phase self.new (goes_in self.old.epoch self.old.known self.old.owners self.old.cues (told_seen seen.entry))) }
+        ensures said { SaysTo W.gone_out W.has_failed outbox.old outbox.new sink.old sink.new (λ k. note_says place.epoch place.next (view_node place.owner) level (view_seen seen.entry) k) }
+        ensures goes { IfOk result (λ phase. StandsIn phase self.new (goes_in self.old.epoch self.old.known self.old.owners self.old.cues (view_seen seen.entry))) }
     {
         match seen {
             Seen::Tag(tag) => {
-                say_worded_tag(outbox, sink, place, level, b"note ", tag);
+                write_worded_tag(outbox, sink, place, level, b"note ", tag);
                 self.begin(level, tag)
             }
             Seen::BlockTag(long) => {
-                say_note_block(outbox, sink, level, long);
+                write_note_block(outbox, sink, level, long);
                 Ok(Phase::BlockLength)
             }
             Seen::EndTag => {
@@ -348,7 +350,7 @@ impl<'a> Standing<'a> {
     /// The raw elements of an array, or the tag of an element. The array is on top.
     #[tactic(auto, using(crate::proofs::TakeLemmas::popped_elements, crate::proofs::FrameLemmas::tail_fits, crate::proofs::SaysLemmas::says_nothing))]
     #[inline(always)]
-    fn say_element<W: Sink>(
+    fn write_element<W: Sink>(
         &mut self,
         outbox: &mut Outbox,
         sink: &mut W,
@@ -359,17 +361,17 @@ impl<'a> Standing<'a> {
         seen: Seen<'_>,
     ) -> Result<Phase, AllocError>
         requires { FirstIs (elements_cue level index left) self.old }
-        ensures said { SaysTo W.gone_out W.has_failed outbox.old outbox.new sink.old sink.new (λ k. elements_says place.epoch place.next (told_node place.owner) level index left (told_seen seen.entry) k) }
-        ensures goes { IfOk result (λ phase. StandsIn phase self.new (goes_in self.old.epoch self.old.known self.old.owners self.old.cues (told_seen seen.entry))) }
+        ensures said { SaysTo W.gone_out W.has_failed outbox.old outbox.new sink.old sink.new (λ k. elements_says place.epoch place.next (view_node place.owner) level index left (view_seen seen.entry) k) }
+        ensures goes { IfOk result (λ phase. StandsIn phase self.new (goes_in self.old.epoch self.old.known self.old.owners self.old.cues (view_seen seen.entry))) }
     {
         match seen {
             Seen::Bytes(bytes) => {
-                say_raw_elements(outbox, sink, level, index, left, bytes);
+                write_raw_elements(outbox, sink, level, index, left, bytes);
                 self.frames.pop();
                 Ok(Phase::Frames)
             }
             Seen::Tag(tag) => {
-                say_element_tag(outbox, sink, place, level, index, tag);
+                write_element_tag(outbox, sink, place, level, index, tag);
                 if left == 0 {
                     return Ok(Phase::Frames);
                 }

@@ -3,58 +3,58 @@ ghost use Rattle.std.specs.Prelude.{◌++◌, ◌∷◌, [], codes};
 ghost use Rattle.hex.specs.Hex.{encode_lower};
 ghost use Rattle.jser_prim.specs.Bytes.{big_bytes};
 ghost use Rattle.jser_shown.specs.Words.{begin_line, end_line, quoted};
-ghost use Rattle.jser_printer.specs.Names.{told_text};
+ghost use Rattle.jser_printer.specs.Names.{view_text};
 ghost use Rattle.jser_printer.specs.Says.{SaysTo};
 
 use crate::text::Text;
-use crate::words::line::{say, say_line_start};
-use crate::words::number::say_hex;
-use crate::words::quote::say_text_line;
-use crate::words::value::say_raw;
+use crate::words::line::{write, write_line_start};
+use crate::words::number::write_hex;
+use crate::words::quote::write_text_line;
+use crate::words::value::write_raw;
 use byteorder::{BigEndian, ByteOrder};
 use jser_prim::{Outbox, Sink};
 
-/// Says a serial version UID.
+/// Writes a serial version UID.
 #[inline(never)]
-pub(crate) fn say_suid_word<W: Sink>(outbox: &mut Outbox, sink: &mut W, suid: u64)
+pub(crate) fn write_suid_word<W: Sink>(outbox: &mut Outbox, sink: &mut W, suid: u64)
     ensures { SaysTo W.gone_out W.has_failed outbox.old outbox.new sink.old sink.new (λ k. codes " suid " ++ (encode_lower (big_bytes 8 suid) ++ k)) }
 {
     let mut bytes = [0; 8];
     BigEndian::write_u64(&mut bytes, suid);
-    say(outbox, sink, b" suid ");
-    say_hex(outbox, sink, &bytes);
+    write(outbox, sink, b" suid ");
+    write_hex(outbox, sink, &bytes);
 }
 
-/// Says the flags of a descriptor.
+/// Writes the flags of a descriptor.
 #[inline(never)]
-pub(crate) fn say_flags_word<W: Sink>(outbox: &mut Outbox, sink: &mut W, flags: u8)
+pub(crate) fn write_flags_word<W: Sink>(outbox: &mut Outbox, sink: &mut W, flags: u8)
     ensures { SaysTo W.gone_out W.has_failed outbox.old outbox.new sink.old sink.new (λ k. codes " flags " ++ (encode_lower (flags ∷ []) ++ end_line k)) }
 {
-    say(outbox, sink, b" flags ");
-    say_raw(outbox, sink, &[flags]);
+    write(outbox, sink, b" flags ");
+    write_raw(outbox, sink, &[flags]);
 }
 
-/// Says the type code of a field, which its name is to follow.
+/// Writes the type code of a field, which its name is to follow.
 #[inline(never)]
-pub(crate) fn say_field_word<W: Sink>(outbox: &mut Outbox, sink: &mut W, level: u64, code: u8)
+pub(crate) fn write_field_word<W: Sink>(outbox: &mut Outbox, sink: &mut W, level: u64, code: u8)
     ensures { SaysTo W.gone_out W.has_failed outbox.old outbox.new sink.old sink.new (λ k. begin_line level (codes "field " ++ (code ∷ 0x20 ∷ k))) }
 {
-    say_line_start(outbox, sink, level);
-    say(outbox, sink, b"field ");
-    say(outbox, sink, &[code, b' ']);
+    write_line_start(outbox, sink, level);
+    write(outbox, sink, b"field ");
+    write(outbox, sink, &[code, b' ']);
 }
 
-/// Says the name of an interface.
+/// Writes the name of an interface.
 #[inline(never)]
-pub(crate) fn say_interface_word<W: Sink>(
+pub(crate) fn write_interface_word<W: Sink>(
     outbox: &mut Outbox,
     sink: &mut W,
     level: u64,
     name: Text<'_>,
 )
-    ensures { SaysTo W.gone_out W.has_failed outbox.old outbox.new sink.old sink.new (λ k. begin_line level (codes "interface " ++ quoted (told_text name.entry) (end_line k))) }
+    ensures { SaysTo W.gone_out W.has_failed outbox.old outbox.new sink.old sink.new (λ k. begin_line level (codes "interface " ++ quoted (view_text name.entry) (end_line k))) }
 {
-    say_line_start(outbox, sink, level);
-    say(outbox, sink, b"interface ");
-    say_text_line(outbox, sink, name);
+    write_line_start(outbox, sink, level);
+    write(outbox, sink, b"interface ");
+    write_text_line(outbox, sink, name);
 }

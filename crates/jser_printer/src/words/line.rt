@@ -8,70 +8,70 @@ use jser_prim::{Outbox, Sink};
 /// How many levels are begun by one piece of spaces at most.
 const LEVELS: usize = 32;
 
-/// Says these bytes.
+/// Writes these bytes.
 #[tactic(auto, using(crate::proofs::SaysLemmas::says_bytes))]
 #[inline(always)]
-pub fn say<W: Sink>(outbox: &mut Outbox, sink: &mut W, words: &[u8])
+pub fn write<W: Sink>(outbox: &mut Outbox, sink: &mut W, words: &[u8])
     ensures { SaysTo W.gone_out W.has_failed outbox.old outbox.new sink.old sink.new (λ k. words.now ++ k) }
 {
     outbox.put(sink, words);
 }
 
-/// Says the beginning of a line of this level: two spaces for each.
+/// Writes the beginning of a line of this level: two spaces for each.
 #[inline(always)]
-pub(crate) fn say_line_start<W: Sink>(outbox: &mut Outbox, sink: &mut W, level: u64)
+pub(crate) fn write_line_start<W: Sink>(outbox: &mut Outbox, sink: &mut W, level: u64)
     ensures { SaysTo W.gone_out W.has_failed outbox.old outbox.new sink.old sink.new (λ k. begin_line level k) }
 {
     match level {
         0 => {}
-        1 => say(outbox, sink, b"  "),
-        2 => say(outbox, sink, b"    "),
-        3 => say(outbox, sink, b"      "),
-        _ => say_many_levels(outbox, sink, level),
+        1 => write(outbox, sink, b"  "),
+        2 => write(outbox, sink, b"    "),
+        3 => write(outbox, sink, b"      "),
+        _ => write_many_levels(outbox, sink, level),
     }
 }
 
-/// Says the beginning of a line that is one level deeper than this one, and a quote.
+/// Writes the beginning of a line that is one level deeper than this one, and a quote.
 #[inline(always)]
-pub(crate) fn say_deeper_quote<W: Sink>(outbox: &mut Outbox, sink: &mut W, level: u64)
+pub(crate) fn write_deeper_quote<W: Sink>(outbox: &mut Outbox, sink: &mut W, level: u64)
     ensures { SaysTo W.gone_out W.has_failed outbox.old outbox.new sink.old sink.new (λ k. begin_line (suc level) (0x22 ∷ k)) }
 {
     match level {
-        0 => say(outbox, sink, b"  \""),
-        1 => say(outbox, sink, b"    \""),
-        2 => say(outbox, sink, b"      \""),
-        _ => say_far_quote(outbox, sink, level),
+        0 => write(outbox, sink, b"  \""),
+        1 => write(outbox, sink, b"    \""),
+        2 => write(outbox, sink, b"      \""),
+        _ => write_far_quote(outbox, sink, level),
     }
 }
 
 /// The same, whatever the level is.
 #[inline(never)]
-fn say_far_quote<W: Sink>(outbox: &mut Outbox, sink: &mut W, level: u64)
+fn write_far_quote<W: Sink>(outbox: &mut Outbox, sink: &mut W, level: u64)
     ensures { SaysTo W.gone_out W.has_failed outbox.old outbox.new sink.old sink.new (λ k. begin_line (suc level) (0x22 ∷ k)) }
 {
-    say(outbox, sink, b"  ");
-    say_many_levels(outbox, sink, level);
-    say(outbox, sink, b"\"");
+    write(outbox, sink, b"  ");
+    write_many_levels(outbox, sink, level);
+    write(outbox, sink, b"\"");
 }
 
-/// Says the beginning of a line of any level, in runs of spaces.
+/// Writes the beginning of a line of any level, in runs of spaces.
 #[inline(never)]
-fn say_many_levels<W: Sink>(outbox: &mut Outbox, sink: &mut W, level: u64)
+fn write_many_levels<W: Sink>(outbox: &mut Outbox, sink: &mut W, level: u64)
     ensures { SaysTo W.gone_out W.has_failed outbox.old outbox.new sink.old sink.new (λ k. begin_line level k) }
 {
     let mut left = level;
     'runs: while left > LEVELS as u64 {
-        say_levels(outbox, sink, LEVELS);
+        write_levels(outbox, sink, LEVELS);
         left -= LEVELS as u64;
     }
-    say_levels(outbox, sink, left as usize);
+    write_levels(outbox, sink, left as usize);
 }
 
-/// Says the spaces of a few levels.
-fn say_levels<W: Sink>(outbox: &mut Outbox, sink: &mut W, levels: usize)
+/// Writes the spaces of a few levels.
+fn write_levels<W: Sink>(outbox: &mut Outbox, sink: &mut W, levels: usize)
     requires { levels ≤ 32 }
     ensures { SaysTo W.gone_out W.has_failed outbox.old outbox.new sink.old sink.new (λ k. begin_line levels k) }
 {
     let spaces = [b' '; 2 * LEVELS];
-    say(outbox, sink, &spaces[..2 * levels]);
+    write(outbox, sink, &spaces[..2 * levels]);
 }

@@ -6,7 +6,7 @@ ghost use Rattle.jser_prim.specs.Bytes.{big_bytes};
 ghost use Rattle.jser_shown.specs.Words.{end_line, mark, without_zeros};
 ghost use Rattle.jser_printer.specs.Says.{SaysTo};
 
-use crate::words::line::say;
+use crate::words::line::write;
 use byteorder::{BigEndian, ByteOrder};
 use itoa::Buffer;
 use jser_grammar::wire::BASE_WIRE_HANDLE;
@@ -15,28 +15,28 @@ use jser_prim::{Outbox, Sink};
 /// How many bytes are put in hexadecimal at a time.
 const PIECE: usize = 64;
 
-/// Says a number in decimal.
-pub fn say_decimal<W: Sink>(outbox: &mut Outbox, sink: &mut W, number: u64)
+/// Writes a number in decimal.
+pub fn write_decimal<W: Sink>(outbox: &mut Outbox, sink: &mut W, number: u64)
     ensures { SaysTo W.gone_out W.has_failed outbox.old outbox.new sink.old sink.new (λ k. decimal number ++ k) }
 {
     let mut buffer = Buffer::new();
-    say(outbox, sink, buffer.format(number).as_bytes());
+    write(outbox, sink, buffer.format(number).as_bytes());
 }
 
-/// Says bytes in lower-case hexadecimal, two digits a byte.
-pub fn say_hex<W: Sink>(outbox: &mut Outbox, sink: &mut W, bytes: &[u8])
+/// Writes bytes in lower-case hexadecimal, two digits a byte.
+pub fn write_hex<W: Sink>(outbox: &mut Outbox, sink: &mut W, bytes: &[u8])
     ensures { SaysTo W.gone_out W.has_failed outbox.old outbox.new sink.old sink.new (λ k. encode_lower bytes.now ++ k) }
 {
     match bytes.len() {
-        4 => say_hex_of_four(outbox, sink, bytes),
-        8 => say_hex_of_eight(outbox, sink, bytes),
-        _ => say_hex_pieces(outbox, sink, bytes),
+        4 => write_hex_of_four(outbox, sink, bytes),
+        8 => write_hex_of_eight(outbox, sink, bytes),
+        _ => write_hex_pieces(outbox, sink, bytes),
     }
 }
 
-/// Says four bytes in hexadecimal.
+/// Writes four bytes in hexadecimal.
 #[inline(always)]
-fn say_hex_of_four<W: Sink>(outbox: &mut Outbox, sink: &mut W, bytes: &[u8])
+fn write_hex_of_four<W: Sink>(outbox: &mut Outbox, sink: &mut W, bytes: &[u8])
     requires { length bytes.now ≡ 4 }
     ensures { SaysTo W.gone_out W.has_failed outbox.old outbox.new sink.old sink.new (λ k. encode_lower bytes.now ++ k) }
 {
@@ -45,12 +45,12 @@ fn say_hex_of_four<W: Sink>(outbox: &mut Outbox, sink: &mut W, bytes: &[u8])
         Ok(()) => {}
         Err(_) => unreachable!(),
     }
-    say(outbox, sink, &digits);
+    write(outbox, sink, &digits);
 }
 
-/// Says eight bytes in hexadecimal.
+/// Writes eight bytes in hexadecimal.
 #[inline(always)]
-fn say_hex_of_eight<W: Sink>(outbox: &mut Outbox, sink: &mut W, bytes: &[u8])
+fn write_hex_of_eight<W: Sink>(outbox: &mut Outbox, sink: &mut W, bytes: &[u8])
     requires { length bytes.now ≡ 8 }
     ensures { SaysTo W.gone_out W.has_failed outbox.old outbox.new sink.old sink.new (λ k. encode_lower bytes.now ++ k) }
 {
@@ -59,11 +59,11 @@ fn say_hex_of_eight<W: Sink>(outbox: &mut Outbox, sink: &mut W, bytes: &[u8])
         Ok(()) => {}
         Err(_) => unreachable!(),
     }
-    say(outbox, sink, &digits);
+    write(outbox, sink, &digits);
 }
 
-/// Says bytes in hexadecimal, a piece at a time.
-fn say_hex_pieces<W: Sink>(outbox: &mut Outbox, sink: &mut W, bytes: &[u8])
+/// Writes bytes in hexadecimal, a piece at a time.
+fn write_hex_pieces<W: Sink>(outbox: &mut Outbox, sink: &mut W, bytes: &[u8])
     ensures { SaysTo W.gone_out W.has_failed outbox.old outbox.new sink.old sink.new (λ k. encode_lower bytes.now ++ k) }
 {
     let mut rest = bytes;
@@ -72,14 +72,14 @@ fn say_hex_pieces<W: Sink>(outbox: &mut Outbox, sink: &mut W, bytes: &[u8])
             return;
         }
         let (piece, after) = rest.split_at(PIECE);
-        say_hex_piece(outbox, sink, piece);
+        write_hex_piece(outbox, sink, piece);
         rest = after;
     }
-    say_hex_piece(outbox, sink, rest);
+    write_hex_piece(outbox, sink, rest);
 }
 
-/// Says a few bytes in hexadecimal.
-fn say_hex_piece<W: Sink>(outbox: &mut Outbox, sink: &mut W, bytes: &[u8])
+/// Writes a few bytes in hexadecimal.
+fn write_hex_piece<W: Sink>(outbox: &mut Outbox, sink: &mut W, bytes: &[u8])
     requires { length bytes.now ≤ 64 }
     ensures { SaysTo W.gone_out W.has_failed outbox.old outbox.new sink.old sink.new (λ k. encode_lower bytes.now ++ k) }
 {
@@ -89,50 +89,50 @@ fn say_hex_piece<W: Sink>(outbox: &mut Outbox, sink: &mut W, bytes: &[u8])
         Ok(()) => {}
         Err(_) => unreachable!(),
     }
-    say(outbox, sink, room);
+    write(outbox, sink, room);
 }
 
-/// Says the mark of the handle with this number in this epoch, as `#0.7e0000`.
-pub(crate) fn say_mark<W: Sink>(outbox: &mut Outbox, sink: &mut W, epoch: u64, number: u64)
+/// Writes the mark of the handle with this number in this epoch, as `#0.7e0000`.
+pub(crate) fn write_mark<W: Sink>(outbox: &mut Outbox, sink: &mut W, epoch: u64, number: u64)
     ensures { SaysTo W.gone_out W.has_failed outbox.old outbox.new sink.old sink.new (λ k. mark epoch number k) }
 {
-    say_epoch(outbox, sink, epoch);
-    say_handle(outbox, sink, number);
+    write_epoch(outbox, sink, epoch);
+    write_handle(outbox, sink, number);
 }
 
-/// Says the first part of a mark.
+/// Writes the first part of a mark.
 #[tactic(auto, using(crate::proofs::SaysLemmas::says_first_epoch))]
 #[inline(always)]
-fn say_epoch<W: Sink>(outbox: &mut Outbox, sink: &mut W, epoch: u64)
+fn write_epoch<W: Sink>(outbox: &mut Outbox, sink: &mut W, epoch: u64)
     ensures { SaysTo W.gone_out W.has_failed outbox.old outbox.new sink.old sink.new (λ k. 0x23 ∷ (decimal epoch ++ (0x2E ∷ k))) }
 {
     match epoch {
-        0 => say(outbox, sink, b"#0."),
-        _ => say_later_epoch(outbox, sink, epoch),
+        0 => write(outbox, sink, b"#0."),
+        _ => write_later_epoch(outbox, sink, epoch),
     }
 }
 
-/// Says the first part of a mark, whatever the epoch is.
+/// Writes the first part of a mark, whatever the epoch is.
 #[inline(never)]
-fn say_later_epoch<W: Sink>(outbox: &mut Outbox, sink: &mut W, epoch: u64)
+fn write_later_epoch<W: Sink>(outbox: &mut Outbox, sink: &mut W, epoch: u64)
     ensures { SaysTo W.gone_out W.has_failed outbox.old outbox.new sink.old sink.new (λ k. 0x23 ∷ (decimal epoch ++ (0x2E ∷ k))) }
 {
-    say(outbox, sink, b"#");
-    say_decimal(outbox, sink, epoch);
-    say(outbox, sink, b".");
+    write(outbox, sink, b"#");
+    write_decimal(outbox, sink, epoch);
+    write(outbox, sink, b".");
 }
 
-/// Says a mark, and the end of its line.
-pub(crate) fn say_mark_line<W: Sink>(outbox: &mut Outbox, sink: &mut W, epoch: u64, number: u64)
+/// Writes a mark, and the end of its line.
+pub(crate) fn write_mark_line<W: Sink>(outbox: &mut Outbox, sink: &mut W, epoch: u64, number: u64)
     ensures { SaysTo W.gone_out W.has_failed outbox.old outbox.new sink.old sink.new (λ k. mark epoch number (end_line k)) }
 {
-    say_mark(outbox, sink, epoch, number);
-    say(outbox, sink, b"\n");
+    write_mark(outbox, sink, epoch, number);
+    write(outbox, sink, b"\n");
 }
 
-/// Says a handle as it is written, in hexadecimal without zeros at the beginning.
+/// Writes a handle as it is written, in hexadecimal without zeros at the beginning.
 #[inline(always)]
-fn say_handle<W: Sink>(outbox: &mut Outbox, sink: &mut W, number: u64)
+fn write_handle<W: Sink>(outbox: &mut Outbox, sink: &mut W, number: u64)
     ensures { SaysTo W.gone_out W.has_failed outbox.old outbox.new sink.old sink.new (λ k. without_zeros (encode_lower (big_bytes 4 (BASE_WIRE_HANDLE + number))) ++ k) }
 {
     let mut bytes = [0; 4];
@@ -142,18 +142,18 @@ fn say_handle<W: Sink>(outbox: &mut Outbox, sink: &mut W, number: u64)
         Ok(()) => {}
         Err(_) => unreachable!(),
     }
-    say_without_zeros(outbox, sink, &digits);
+    write_without_zeros(outbox, sink, &digits);
 }
 
-/// Says digits without the zeros at the beginning. Nearly always there are two of these.
+/// Writes digits without the zeros at the beginning. Nearly always there are two of these.
 #[tactic(auto, using(crate::proofs::SaysLemmas::says_significant))]
 #[inline(always)]
-fn say_without_zeros<W: Sink>(outbox: &mut Outbox, sink: &mut W, digits: &[u8])
+fn write_without_zeros<W: Sink>(outbox: &mut Outbox, sink: &mut W, digits: &[u8])
     ensures { SaysTo W.gone_out W.has_failed outbox.old outbox.new sink.old sink.new (λ k. without_zeros digits.now ++ k) }
 {
     match digits {
-        [b'0', b'0', rest @ ..] if is_significant(rest) => say(outbox, sink, rest),
-        _ => say(outbox, sink, without_first_zeros(digits)),
+        [b'0', b'0', rest @ ..] if is_significant(rest) => write(outbox, sink, rest),
+        _ => write(outbox, sink, without_first_zeros(digits)),
     }
 }
 

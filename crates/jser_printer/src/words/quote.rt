@@ -3,81 +3,81 @@ ghost use Rattle.std.specs.Prelude.{◌≡◌, ◌<◌, ◌≤◌, ◌∷◌, �
 ghost use Rattle.std.specs.List.{flat_map};
 ghost use Rattle.jser_prim.specs.Outgoing.{PutsTo};
 ghost use Rattle.jser_shown.specs.Words.{end_line, quoted, quoted_unit};
-ghost use Rattle.jser_printer.specs.Names.{told_text};
+ghost use Rattle.jser_printer.specs.Names.{view_text};
 ghost use Rattle.jser_printer.specs.Says.{SaysTo, SayingTo};
 
 use crate::name::{Name, quoted_unit};
 use crate::text::{Plain, Text, is_plain};
-use crate::words::line::say;
+use crate::words::line::write;
 use arrayvec::ArrayVec;
 use jser_prim::{Outbox, Sink};
 
 /// How many units are put in one piece at most.
 const RUN: usize = 32;
 
-/// Says a quoted text: units from 0020 to 007E stand for themselves, but for `\"` and `\\`, and any other unit is `\u`
+/// Writes a quoted text: units from 0020 to 007E stand for themselves, but for `\"` and `\\`, and any other unit is `\u`
 /// and four digits.
-pub fn say_quoted<W: Sink>(outbox: &mut Outbox, sink: &mut W, units: &[u16])
+pub fn write_quoted<W: Sink>(outbox: &mut Outbox, sink: &mut W, units: &[u16])
     ensures { SaysTo W.gone_out W.has_failed outbox.old outbox.new sink.old sink.new (λ k. quoted units.now k) }
 {
-    say(outbox, sink, b"\"");
-    say_units(outbox, sink, units);
-    say(outbox, sink, b"\"");
+    write(outbox, sink, b"\"");
+    write_units(outbox, sink, units);
+    write(outbox, sink, b"\"");
 }
 
-/// Says a text as a quoted text.
+/// Writes a text as a quoted text.
 #[inline(never)]
-pub(crate) fn say_text<W: Sink>(outbox: &mut Outbox, sink: &mut W, text: Text<'_>)
-    ensures { SaysTo W.gone_out W.has_failed outbox.old outbox.new sink.old sink.new (λ k. quoted (told_text text.entry) k) }
+pub(crate) fn write_text<W: Sink>(outbox: &mut Outbox, sink: &mut W, text: Text<'_>)
+    ensures { SaysTo W.gone_out W.has_failed outbox.old outbox.new sink.old sink.new (λ k. quoted (view_text text.entry) k) }
 {
     match text {
-        Text::Units(units) => say_quoted(outbox, sink, units),
-        Text::Plain(plain) => say_plain(outbox, sink, plain),
+        Text::Units(units) => write_quoted(outbox, sink, units),
+        Text::Plain(plain) => write_plain(outbox, sink, plain),
     }
 }
 
-/// Says a text as a quoted text, and the end of its line.
+/// Writes a text as a quoted text, and the end of its line.
 #[inline(never)]
-pub(crate) fn say_text_line<W: Sink>(outbox: &mut Outbox, sink: &mut W, text: Text<'_>)
-    ensures { SaysTo W.gone_out W.has_failed outbox.old outbox.new sink.old sink.new (λ k. quoted (told_text text.entry) (end_line k)) }
+pub(crate) fn write_text_line<W: Sink>(outbox: &mut Outbox, sink: &mut W, text: Text<'_>)
+    ensures { SaysTo W.gone_out W.has_failed outbox.old outbox.new sink.old sink.new (λ k. quoted (view_text text.entry) (end_line k)) }
 {
-    say_text(outbox, sink, text);
-    say(outbox, sink, b"\n");
+    write_text(outbox, sink, text);
+    write(outbox, sink, b"\n");
 }
 
-/// Says bytes that stand for themselves as a quoted text, and the end of its line.
+/// Writes bytes that stand for themselves as a quoted text, and the end of its line.
 #[inline(always)]
-pub(crate) fn say_plain_line<W: Sink>(outbox: &mut Outbox, sink: &mut W, plain: Plain<'_>)
+pub(crate) fn write_plain_line<W: Sink>(outbox: &mut Outbox, sink: &mut W, plain: Plain<'_>)
     ensures { SaysTo W.gone_out W.has_failed outbox.old outbox.new sink.old sink.new (λ k. quoted plain.entry.bytes.now (end_line k)) }
 {
-    say(outbox, sink, b"\"");
-    say(outbox, sink, plain.bytes());
-    say(outbox, sink, b"\"\n");
+    write(outbox, sink, b"\"");
+    write(outbox, sink, plain.bytes());
+    write(outbox, sink, b"\"\n");
 }
 
-/// Says bytes that stand for themselves as a quoted text.
+/// Writes bytes that stand for themselves as a quoted text.
 #[inline(always)]
-fn say_plain<W: Sink>(outbox: &mut Outbox, sink: &mut W, plain: Plain<'_>)
+fn write_plain<W: Sink>(outbox: &mut Outbox, sink: &mut W, plain: Plain<'_>)
     ensures { SaysTo W.gone_out W.has_failed outbox.old outbox.new sink.old sink.new (λ k. quoted plain.entry.bytes.now k) }
 {
-    say(outbox, sink, b"\"");
-    say(outbox, sink, plain.bytes());
-    say(outbox, sink, b"\"");
+    write(outbox, sink, b"\"");
+    write(outbox, sink, plain.bytes());
+    write(outbox, sink, b"\"");
 }
 
-/// Says a name as a quoted text, and the end of its line.
+/// Writes a name as a quoted text, and the end of its line.
 #[inline(always)]
-pub(crate) fn say_name_line<W: Sink>(outbox: &mut Outbox, sink: &mut W, name: &Name)
+pub(crate) fn write_name_line<W: Sink>(outbox: &mut Outbox, sink: &mut W, name: &Name)
     ensures { SaysTo W.gone_out W.has_failed outbox.old outbox.new sink.old sink.new (λ k. quoted name.now (end_line k)) }
 {
-    say(outbox, sink, b"\"");
-    say(outbox, sink, name.quoted());
-    say(outbox, sink, b"\"\n");
+    write(outbox, sink, b"\"");
+    write(outbox, sink, name.quoted());
+    write(outbox, sink, b"\"\n");
 }
 
-/// Says the units of a quoted text.
+/// Writes the units of a quoted text.
 #[tactic(auto, using(crate::proofs::SaysLemmas::says_none, crate::proofs::SaysLemmas::says_no_units))]
-fn say_units<W: Sink>(outbox: &mut Outbox, sink: &mut W, units: &[u16])
+fn write_units<W: Sink>(outbox: &mut Outbox, sink: &mut W, units: &[u16])
     ensures { SaysTo W.gone_out W.has_failed outbox.old outbox.new sink.old sink.new (λ k. flat_map quoted_unit units.now ++ k) }
 {
     let mut rest = units;
@@ -85,30 +85,30 @@ fn say_units<W: Sink>(outbox: &mut Outbox, sink: &mut W, units: &[u16])
         if outbox.has_failed() {
             return;
         }
-        rest = say_run(outbox, sink, rest);
+        rest = write_run(outbox, sink, rest);
     }
 }
 
-/// Says the first units of a quoted text: as many as stand for themselves, up to a few, or one that does not. The answer
+/// Writes the first units of a quoted text: as many as stand for themselves, up to a few, or one that does not. The answer
 /// is what is left.
 #[inline(always)]
-fn say_run<'u, W: Sink>(outbox: &mut Outbox, sink: &mut W, units: &'u [u16]) -> &'u [u16]
+fn write_run<'u, W: Sink>(outbox: &mut Outbox, sink: &mut W, units: &'u [u16]) -> &'u [u16]
     requires { 0 < length units.now }
     ensures said { SayingTo W.gone_out W.has_failed outbox.old outbox.new sink.old sink.new (λ k. flat_map quoted_unit units.now ++ k) (λ k. flat_map quoted_unit result.now ++ k) }
     ensures less { length result.now < length units.now }
 {
     let run = plain_run(units);
     if run.is_empty() {
-        return say_first(outbox, sink, units);
+        return write_first(outbox, sink, units);
     }
     let (_, after) = units.split_at(run.len());
-    say(outbox, sink, run.as_slice());
+    write(outbox, sink, run.as_slice());
     after
 }
 
-/// Says the first unit of a quoted text. The answer is what is left.
+/// Writes the first unit of a quoted text. The answer is what is left.
 #[tactic(auto, using(crate::proofs::SaysLemmas::says_unit))]
-fn say_first<'u, W: Sink>(outbox: &mut Outbox, sink: &mut W, units: &'u [u16]) -> &'u [u16]
+fn write_first<'u, W: Sink>(outbox: &mut Outbox, sink: &mut W, units: &'u [u16]) -> &'u [u16]
     requires { 0 < length units.now }
     ensures said { SayingTo W.gone_out W.has_failed outbox.old outbox.new sink.old sink.new (λ k. flat_map quoted_unit units.now ++ k) (λ k. flat_map quoted_unit result.now ++ k) }
     ensures less { length result.now < length units.now }

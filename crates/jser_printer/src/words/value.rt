@@ -7,40 +7,40 @@ ghost use Rattle.jser_shown.specs.Telling.{raw_line, raw_lines, raw_elements_lin
 ghost use Rattle.jser_printer.specs.Says.{SaysTo};
 
 use crate::name::Name;
-use crate::words::line::{say, say_deeper_quote, say_line_start};
-use crate::words::number::{say_decimal, say_hex};
+use crate::words::line::{write, write_deeper_quote, write_line_start};
+use crate::words::number::{write_decimal, write_hex};
 use jser_prim::{Outbox, Sink};
 
-/// Says the beginning of the line of a field, in a section of this level, as `"next" = `.
+/// Writes the beginning of the line of a field, in a section of this level, as `"next" = `.
 #[inline(always)]
-pub(crate) fn say_field_start<W: Sink>(outbox: &mut Outbox, sink: &mut W, level: u64, name: &Name)
+pub(crate) fn write_field_start<W: Sink>(outbox: &mut Outbox, sink: &mut W, level: u64, name: &Name)
     ensures { SaysTo W.gone_out W.has_failed outbox.old outbox.new sink.old sink.new (λ k. begin_line (suc level) (name_text (field_named name.now) k)) }
 {
-    say_deeper_quote(outbox, sink, level);
-    say(outbox, sink, name.quoted());
-    say(outbox, sink, b"\" = ");
+    write_deeper_quote(outbox, sink, level);
+    write(outbox, sink, name.quoted());
+    write(outbox, sink, b"\" = ");
 }
 
-/// Says the index of an element before its value, as `[0] `.
-pub(crate) fn say_element_index<W: Sink>(outbox: &mut Outbox, sink: &mut W, index: u64)
+/// Writes the index of an element before its value, as `[0] `.
+pub(crate) fn write_element_index<W: Sink>(outbox: &mut Outbox, sink: &mut W, index: u64)
     ensures { SaysTo W.gone_out W.has_failed outbox.old outbox.new sink.old sink.new (λ k. name_text (element_at index) k) }
 {
-    say(outbox, sink, b"[");
-    say_decimal(outbox, sink, index);
-    say(outbox, sink, b"] ");
+    write(outbox, sink, b"[");
+    write_decimal(outbox, sink, index);
+    write(outbox, sink, b"] ");
 }
 
-/// Says bytes in hexadecimal, and the end of their line.
-pub(crate) fn say_raw<W: Sink>(outbox: &mut Outbox, sink: &mut W, bytes: &[u8])
+/// Writes bytes in hexadecimal, and the end of their line.
+pub(crate) fn write_raw<W: Sink>(outbox: &mut Outbox, sink: &mut W, bytes: &[u8])
     ensures { SaysTo W.gone_out W.has_failed outbox.old outbox.new sink.old sink.new (λ k. encode_lower bytes.now ++ end_line k) }
 {
-    say_hex(outbox, sink, bytes);
-    say(outbox, sink, b"\n");
+    write_hex(outbox, sink, bytes);
+    write(outbox, sink, b"\n");
 }
 
-/// Says the line of a raw value that is a field, in a section of this level.
+/// Writes the line of a raw value that is a field, in a section of this level.
 #[inline(never)]
-pub(crate) fn say_raw_field<W: Sink>(
+pub(crate) fn write_raw_field<W: Sink>(
     outbox: &mut Outbox,
     sink: &mut W,
     level: u64,
@@ -49,22 +49,28 @@ pub(crate) fn say_raw_field<W: Sink>(
 )
     ensures { SaysTo W.gone_out W.has_failed outbox.old outbox.new sink.old sink.new (λ k. raw_line (suc level) (field_named name.now) bytes.now k) }
 {
-    say_field_start(outbox, sink, level, name);
-    say_raw(outbox, sink, bytes);
+    write_field_start(outbox, sink, level, name);
+    write_raw(outbox, sink, bytes);
 }
 
-/// Says the line of a raw value that is an element.
-fn say_raw_element<W: Sink>(outbox: &mut Outbox, sink: &mut W, level: u64, index: u64, bytes: &[u8])
+/// Writes the line of a raw value that is an element.
+fn write_raw_element<W: Sink>(
+    outbox: &mut Outbox,
+    sink: &mut W,
+    level: u64,
+    index: u64,
+    bytes: &[u8],
+)
     ensures { SaysTo W.gone_out W.has_failed outbox.old outbox.new sink.old sink.new (λ k. raw_line level (element_at index) bytes.now k) }
 {
-    say_line_start(outbox, sink, level);
-    say_element_index(outbox, sink, index);
-    say_raw(outbox, sink, bytes);
+    write_line_start(outbox, sink, level);
+    write_element_index(outbox, sink, index);
+    write_raw(outbox, sink, bytes);
 }
 
-/// Says the lines of so many raw elements, whose bytes are cut into pieces of one size. The first has this index.
+/// Writes the lines of so many raw elements, whose bytes are cut into pieces of one size. The first has this index.
 #[inline(never)]
-pub(crate) fn say_raw_elements<W: Sink>(
+pub(crate) fn write_raw_elements<W: Sink>(
     outbox: &mut Outbox,
     sink: &mut W,
     level: u64,
@@ -78,11 +84,11 @@ pub(crate) fn say_raw_elements<W: Sink>(
         return;
     }
     let size = bytes.len() / count as usize;
-    say_pieces(outbox, sink, level, first, count, size, bytes);
+    write_pieces(outbox, sink, level, first, count, size, bytes);
 }
 
-/// Says the lines of so many raw elements of this size. After a failure no more lines are made, which nobody would get.
-fn say_pieces<W: Sink>(
+/// Writes the lines of so many raw elements of this size. After a failure no more lines are made, which nobody would get.
+fn write_pieces<W: Sink>(
     outbox: &mut Outbox,
     sink: &mut W,
     level: u64,
@@ -99,20 +105,20 @@ fn say_pieces<W: Sink>(
             return;
         }
         let (element, after) = rest.split_at(size.min(rest.len()));
-        say_raw_element(outbox, sink, level, first as u64 + index as u64, element);
+        write_raw_element(outbox, sink, level, first as u64 + index as u64, element);
         rest = after;
     }
 }
 
-/// Says the length of a block; where it is 0, the line ends there.
+/// Writes the length of a block; where it is 0, the line ends there.
 #[inline(never)]
-pub(crate) fn say_block_length<W: Sink>(outbox: &mut Outbox, sink: &mut W, length: u32)
+pub(crate) fn write_block_length<W: Sink>(outbox: &mut Outbox, sink: &mut W, length: u32)
     ensures { SaysTo W.gone_out W.has_failed outbox.old outbox.new sink.old sink.new (λ k. block_length_says (seen_block_length length) k) }
 {
-    say_decimal(outbox, sink, length as u64);
+    write_decimal(outbox, sink, length as u64);
     if length == 0 {
-        say(outbox, sink, b":\n");
+        write(outbox, sink, b":\n");
     } else {
-        say(outbox, sink, b": ");
+        write(outbox, sink, b": ");
     }
 }

@@ -11,7 +11,7 @@ ghost use Rattle.jser_verdict.specs.Verdicts.{class_tag_reason, class_handle_rea
 ghost use Rattle.jser_reader.specs.Frames.{goal_owner};
 ghost use Rattle.jser_reader.specs.Handlers.{Tells, plain_gate, label_at, after_class_tag, owner_state};
 ghost use Rattle.jser_reader.specs.Classes.{fit_reason};
-ghost use Rattle.jser_reader.specs.Tags.{told_tag};
+ghost use Rattle.jser_reader.specs.Tags.{view_tag};
 
 use crate::frame::{Owner, Role};
 use crate::machine::Machine;
@@ -39,8 +39,8 @@ impl Machine {
     /// A value's tag in a class place.
     #[tactic(auto, using(crate::proofs::ClassLemmas::class_reference, crate::proofs::ClassLemmas::new_class, crate::proofs::ClassLemmas::null_class_tag, crate::proofs::ClassLemmas::proxy_tag, crate::proofs::ClassLemmas::no_class_value))]
     fn class_value(&mut self, tag: ValueTag) -> bool
-        ensures { Tells (class_tag_reason (plain_gate self.old) (label_at (class_place_at (goal_owner self.old.owner)) (suc (length self.old.frames)) self.old) (goal_owner self.old.owner) (tag_byte (told_tag tag)))
-            (after_class_tag self.old (tag_from (tag_byte (told_tag tag)))) result self.old self.new }
+        ensures { Tells (class_tag_reason (plain_gate self.old) (label_at (class_place_at (goal_owner self.old.owner)) (suc (length self.old.frames)) self.old) (goal_owner self.old.owner) (tag_byte (view_tag tag)))
+            (after_class_tag self.old (tag_from (tag_byte (view_tag tag)))) result self.old self.new }
     {
         match tag {
             ValueTag::Reference => self.done(Phase::ClassHandle),

@@ -3,7 +3,7 @@ ghost use Rattle.std.specs.Prelude.{◌≡◌, ◌-◌, Some};
 ghost use Rattle.jser_grammar.specs.Wire.{TC_NULL, TC_REFERENCE, TC_CLASSDESC, TC_PROXYCLASSDESC, BASE_WIRE_HANDLE};
 ghost use Rattle.jser_reading.specs.FieldBytes.{tag_byte};
 ghost use Rattle.jser_reading.specs.FieldsFromBytes.{tag_from};
-ghost use Rattle.jser_reader.specs.Tags.{told_tag};
+ghost use Rattle.jser_reader.specs.Tags.{view_tag};
 ghost use Rattle.jser_reader.specs.Fitting.{HasDescriptor};
 ghost use Rattle.jser_reader.specs.Handlers.{Tells};
 ghost use Rattle.jser_reader.specs.Closing.{closed_state};
@@ -103,7 +103,7 @@ impl Machine {
     /// A value's tag in a superclass place.
     #[tactic(auto, using(crate::proofs::SuperTagLemmas::no_super_value))]
     fn super_value(&mut self, tag: ValueTag) -> bool
-        ensures { HasDescriptor self.old.frames → Tells (super_reason self.old (tag_byte (told_tag tag))) (after_super_tag self.old (tag_from (tag_byte (told_tag tag)))) result self.old self.new }
+        ensures { HasDescriptor self.old.frames → Tells (super_reason self.old (tag_byte (view_tag tag))) (after_super_tag self.old (tag_from (tag_byte (view_tag tag)))) result self.old self.new }
     {
         match tag {
             ValueTag::Null => self.null_super(),

@@ -4,7 +4,7 @@ ghost use Rattle.std.specs.Prelude.{◌≡◌, ℕ, true, List, None};
 ghost use Rattle.jser_reading.specs.FieldBytes.{tag_byte};
 ghost use Rattle.jser_reading.specs.FieldsFromBytes.{tag_from};
 ghost use Rattle.jser_reading.specs.Goals.{settle};
-ghost use Rattle.jser_reader.specs.Tags.{told_tag};
+ghost use Rattle.jser_reader.specs.Tags.{view_tag};
 ghost use Rattle.jser_reader.specs.Readers.{IsForm, IsInside, moment_of, text_rest};
 ghost use Rattle.jser_reader.specs.Handlers.{Tells, TellsSurely, IsNext};
 ghost use Rattle.jser_reader.specs.TextStates.{text_tag_reason, handle_reason, after_text_tag, EndsText, text_reason, after_text};
@@ -23,7 +23,7 @@ impl Machine {
     #[inline(always)]
     fn text_value(&mut self, tag: ValueTag) -> bool
         ensures { IsForm self.old.text true → IsInside self.old.text self.old.frames
-            → Tells (text_tag_reason self.old (tag_byte (told_tag tag))) (after_text_tag self.old (tag_from (tag_byte (told_tag tag)))) result self.old self.new }
+            → Tells (text_tag_reason self.old (tag_byte (view_tag tag))) (after_text_tag self.old (tag_from (tag_byte (view_tag tag)))) result self.old self.new }
     {
         match tag {
             ValueTag::Reference => self.done(Phase::TextHandle),

@@ -3,7 +3,7 @@ ghost use Rattle.std.specs.Prelude.{◌≡◌, true, false, Some, None, IfSome};
 ghost use Rattle.jser_table.specs.Tables.{new_entry};
 ghost use Rattle.jser_verdict.specs.Reasons.{handle_space};
 ghost use Rattle.jser_verdict.specs.Verdicts.{told_if};
-ghost use Rattle.jser_reader.specs.Tags.{told_tag};
+ghost use Rattle.jser_reader.specs.Tags.{view_tag};
 ghost use Rattle.jser_reader.specs.Readers.{length_phase, IsForm, IsInside};
 ghost use Rattle.jser_reader.specs.Handlers.{Tells, Assigns, IsNext, is_full, handle_reason, begun, place_reason, after_tag, opens_class, opens_proxy, opens_text};
 
@@ -93,7 +93,7 @@ impl Machine {
     #[tactic(auto, using(crate::proofs::ValueLemmas::null_begun, crate::proofs::ValueLemmas::back_begun, crate::proofs::ValueLemmas::object_begun, crate::proofs::ValueLemmas::array_begun, crate::proofs::ValueLemmas::class_begun, crate::proofs::ValueLemmas::enum_begun, crate::proofs::ValueLemmas::desc_begun, crate::proofs::ValueLemmas::proxy_begun, crate::proofs::ValueLemmas::string_begun, crate::proofs::ValueLemmas::long_string_begun))]
     #[inline(always)]
     fn begin(&mut self, tag: ValueTag) -> bool
-        ensures { Tells (handle_reason self.old (told_tag tag)) (begun self.old (told_tag tag)) result self.old self.new }
+        ensures { Tells (handle_reason self.old (view_tag tag)) (begun self.old (view_tag tag)) result self.old self.new }
     {
         match tag {
             ValueTag::Null => self.ended(),
@@ -113,7 +113,7 @@ impl Machine {
     #[tactic(auto, using(crate::proofs::ValueLemmas::too_deep, crate::proofs::ValueLemmas::too_many, crate::proofs::ValueLemmas::counted_tag))]
     #[inline(always)]
     pub(super) fn place(&mut self, tag: ValueTag) -> bool
-        ensures { Tells (place_reason self.old (told_tag tag)) (after_tag self.old (told_tag tag)) result self.old self.new }
+        ensures { Tells (place_reason self.old (view_tag tag)) (after_tag self.old (view_tag tag)) result self.old self.new }
     {
         if self.frames.len() >= self.limits.depth as usize {
             return self.refuse(Reason::DepthExceeded);

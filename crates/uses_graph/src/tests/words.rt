@@ -5,17 +5,17 @@ use jser_prim::{Outbox, Sink};
 use jser_printer::{Field, Printer};
 use std::alloc::AllocError;
 
-/// Says these fields, and what is due after the last one.
-fn say_fields<W: Sink>(
+/// Writes these fields, and what is due after the last one.
+fn write_fields<W: Sink>(
     outbox: &mut Outbox,
     sink: &mut W,
     printer: &mut Printer<'_>,
     fields: &[Field<'_>],
 ) -> Result<(), AllocError> {
     for field in fields {
-        printer.say_next(outbox, sink, *field)?;
+        printer.write_next(outbox, sink, *field)?;
     }
-    printer.say_all_due(outbox, sink)
+    printer.write_all_due(outbox, sink)
 }
 // end
 
@@ -40,7 +40,7 @@ fn assert_said(
     let mut page = Page::new(rt.alloc(), 1, 4096);
     let mut outbox = Outbox::new();
     let mut printer = Printer::new(rt.alloc(), owners);
-    say_fields(&mut outbox, &mut page, &mut printer, fields)?;
+    write_fields(&mut outbox, &mut page, &mut printer, fields)?;
     outbox.flush(&mut page);
     assert!(rt; page.bytes.as_slice() == text);
     Ok(())

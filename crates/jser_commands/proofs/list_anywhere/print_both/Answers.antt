@@ -11,13 +11,13 @@ returns-clause-printed g c = λ done.
     (both_are (words_on c.args.filter.now) (marked_words (codes "hidden ") c.args.filter.now) (tallies_of c.args.checked.now.entries) (tallies_of c.args.hidden.now.entries))
     c.new-outbox.ensures
     (says_both _ _ _ _ _ _ (λ k. lines_before (words_on c.args.filter.now) (tallies_of c.args.checked.now.entries) k)
-    (λ k. lines_before (marked_words (codes "hidden ") c.args.filter.now) (tallies_of c.args.hidden.now.entries) k) c.say_lines.ensures c.say_lines-2.ensures)
+    (λ k. lines_before (marked_words (codes "hidden ") c.args.filter.now) (tallies_of c.args.hidden.now.entries) k) c.write_lines.ensures c.write_lines-2.ensures)
     c.flush.ensures.puts (sym c.has_failed.ensures ∙ c.if-has_failed.false) c.flush.ensures.empty
 
 pub returns-then-has_failed-clause-failed : goal.returns-then-has_failed-clause-failed
 returns-then-has_failed-clause-failed g c = λ three.
     let said = says_both _ _ _ _ _ _ (λ k. lines_before (words_on c.args.filter.now) (tallies_of c.args.checked.now.entries) k)
-    (λ k. lines_before (marked_words (codes "hidden ") c.args.filter.now) (tallies_of c.args.hidden.now.entries) k) c.say_lines.ensures c.say_lines-2.ensures in
+    (λ k. lines_before (marked_words (codes "hidden ") c.args.filter.now) (tallies_of c.args.hidden.now.entries) k) c.write_lines.ensures c.write_lines-2.ensures in
     inr (
       text_failed _ _ _ _ _ _ _ c.new-outbox.ensures said c.flush.ensures.puts (sym c.has_failed.ensures ∙ c.if-has_failed.true),
       text_cut _ _ _ _ _ _ _ _

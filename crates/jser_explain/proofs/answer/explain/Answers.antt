@@ -13,11 +13,11 @@ returns-then-status-ne-REFUSED-clause-status g c = status_of c.job_of-job.result
 pub returns-clause-refused : goal.returns-clause-refused
 returns-clause-refused g c = λ one_is.
     says_more c.job_of-job.result c.args.rules _ _ _ _ _ c.job_of-job.ensures.asked c.new-kept.ensures.bytes (c.run-status.ensures.refused (grind (arith, common_steps)))
-    (c.say_more.ensures.more one_is)
+    (c.write_more.ensures.more one_is)
 
 pub returns-then-status-ne-REFUSED-clause-why : goal.returns-then-status-ne-REFUSED-clause-why
 returns-then-status-ne-REFUSED-clause-why g c = λ three_is. told_of_job _ _ _ _ _ _ _ _ (c.run-status.ensures.why three_is)
 
 pub returns-clause-why : goal.returns-clause-why
 returns-clause-why g c = λ three_is.
-    told_since _ _ _ _ _ (ap g.E.Sink.gone_out (c.run-status.ensures.quiet (grind (arith, common_steps)))) (c.say_more.ensures.why three_is)
+    told_since _ _ _ _ _ (ap g.E.Sink.gone_out (c.run-status.ensures.quiet (grind (arith, common_steps)))) (c.write_more.ensures.why three_is)

@@ -1,10 +1,10 @@
 use Rattle.std.proofs.Common.{◌≡◌, ◌-◌, drop, length}
 use Rattle.jser_shown.specs.Known.{object_names}
-use Rattle.jser_printer.specs.Layers.{told_fields}
+use Rattle.jser_printer.specs.Layers.{view_fields}
 use Rattle.jser_printer.proofs.layer.next_value.Given as goal
 
 abbrev pub invariant-fields : goal.invariant-fields
-invariant-fields l = object_names (drop l.from (told_fields l.fields)) ≡ object_names (drop l.place (told_fields l.fields))
+invariant-fields l = object_names (drop l.from (view_fields l.fields)) ≡ object_names (drop l.place (view_fields l.fields))
 
 abbrev pub decreases-fields : goal.decreases-fields
 decreases-fields l = length l.fields - l.place

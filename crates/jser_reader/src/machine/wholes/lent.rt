@@ -4,7 +4,7 @@ ghost use Rattle.std.specs.Prelude.{◌≡◌, ◌+◌, ◌<◌, ◌≤◌, get_
 ghost use Rattle.jser_grammar.specs.Wire.{TC_REFERENCE, TC_STRING};
 ghost use Rattle.jser_verdict.specs.Gates.{Gate as ToldGate, IsGate};
 ghost use Rattle.jser_reader.specs.Passes.{CanPass};
-ghost use Rattle.jser_reader.specs.Tags.{told_tag};
+ghost use Rattle.jser_reader.specs.Tags.{view_tag};
 ghost use Rattle.jser_reader.specs.Wholes.{IsPlace, HasPlace, HasReference, tag_of_owner};
 ghost use Rattle.jser_reader.specs.WholesTold.{TellsReference, TellsString, LentCases, OwnerCases};
 ghost use Rattle.jser_reading.specs.FieldBytes.{tag_byte};
@@ -76,7 +76,7 @@ impl Machine {
     fn lend_class(&mut self, tally: &mut Tally, piece: &[u8], owner: Owner, n: u32) -> bool
         requires can { CanPass self.old piece.now }
         requires place { IsPlace self.old.phase }
-        requires tag { tag_byte (told_tag (tag_of_owner owner)) ≡ get_or piece.now 0 0 }
+        requires tag { tag_byte (view_tag (tag_of_owner owner)) ≡ get_or piece.now 0 0 }
         requires class { HasReference piece.now n }
         requires room { HasPlace self.old }
         ensures { (gate : ToldGate) → IsGate gate → OwnerCases gate piece.now (get_or piece.now 0 0) n result self.old tally.old self.new tally.new }
@@ -98,7 +98,7 @@ impl Machine {
     fn lend_owner<'p>(&mut self, tally: &mut Tally, piece: &'p [u8], owner: Owner) -> Lent<'p>
         requires can { CanPass self.old piece.now }
         requires place { IsPlace self.old.phase }
-        requires tag { tag_byte (told_tag (tag_of_owner owner)) ≡ get_or piece.now 0 0 }
+        requires tag { tag_byte (view_tag (tag_of_owner owner)) ≡ get_or piece.now 0 0 }
         ensures { (gate : ToldGate) → IsGate gate → LentCases gate piece.now result self.old tally.old self.new tally.new }
     {
         let Some(class) = reference_after(piece) else {

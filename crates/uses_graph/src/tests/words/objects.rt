@@ -1,6 +1,6 @@
 //! Objects with raw values and values, and texts that are given by their bytes.
 
-use super::{assert_said, say_fields};
+use super::{assert_said, write_fields};
 use jser_prim::Outbox;
 use jser_printer::{Field, OwnerNode, Plain, Printer};
 use std::alloc::{AllocError, AllocGlobal};
@@ -77,7 +77,7 @@ fn two_objects(rt: HostRuntime) -> Result<(), Fail> {
 }
 
 /// A string that is given by its bytes.
-fn say_plain(
+fn write_plain(
     rt: &(impl Abort + AllocGlobal),
     page: &mut Page,
     bytes: &[u8],
@@ -87,13 +87,13 @@ fn say_plain(
     };
     let mut outbox = Outbox::new();
     let mut printer = Printer::new(rt.alloc(), &[]);
-    say_fields(
+    write_fields(
         &mut outbox,
         page,
         &mut printer,
         &[Field::Header, Field::Tag(0x74)],
     )?;
-    printer.say_plain(&mut outbox, page, plain)?;
+    printer.write_plain(&mut outbox, page, plain)?;
     outbox.flush(page);
     Ok(true)
 }
@@ -101,7 +101,7 @@ fn say_plain(
 #[test]
 fn a_text_by_its_bytes(rt: HostRuntime) -> Result<(), Fail> {
     let mut page = Page::new(rt.alloc(), 1, 100);
-    assert!(rt; say_plain(&rt, &mut page, b"yes ~")?);
+    assert!(rt; write_plain(&rt, &mut page, b"yes ~")?);
     let want = b"stream version 5\ntext #0.7e0000 \"yes ~\"\n";
     assert!(rt; page.bytes.as_slice() == want.as_slice());
     Ok(())

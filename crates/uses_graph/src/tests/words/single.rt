@@ -2,7 +2,7 @@
 
 use super::assert_said;
 use jser_prim::{Outbox, Sink};
-use jser_printer::{Field, OwnerNode, Printer, say, say_decimal, say_quoted};
+use jser_printer::{Field, OwnerNode, Printer, write, write_decimal, write_quoted};
 use std::alloc::{AllocError, AllocGlobal};
 use std::process::Abort;
 use std::test::Fail;
@@ -45,18 +45,18 @@ const ARRAY: [Field<'static>; 4] = [
     Field::ArrayLength(1),
 ];
 
-/// Says a null inside so many arrays, in one that is the content of the stream.
-fn say_nested<W: Sink>(
+/// Writes a null inside so many arrays, in one that is the content of the stream.
+fn write_nested<W: Sink>(
     outbox: &mut Outbox,
     sink: &mut W,
     printer: &mut Printer<'_>,
     levels: u32,
 ) -> Result<(), AllocError> {
-    say_each(outbox, sink, printer, &[Field::Header])?;
+    write_each(outbox, sink, printer, &[Field::Header])?;
     for _ in 0..levels {
-        say_each(outbox, sink, printer, &ARRAY)?;
+        write_each(outbox, sink, printer, &ARRAY)?;
     }
-    say_each(outbox, sink, printer, &[Field::Tag(0x70)])
+    write_each(outbox, sink, printer, &[Field::Tag(0x70)])
 }
 
 /// How many spaces the last line begins with.
@@ -72,7 +72,7 @@ fn spaces_at(rt: &impl AllocGlobal, levels: u32) -> Result<Option<usize>, AllocE
     let mut page = Page::new(rt.alloc(), 512, 100000);
     let mut outbox = Outbox::new();
     let mut printer = Printer::new(rt.alloc(), &[]);
-    say_nested(&mut outbox, &mut page, &mut printer, levels)?;
+    write_nested(&mut outbox, &mut page, &mut printer, levels)?;
     outbox.flush(&mut page);
     Ok(spaces_of_last(page.bytes.as_slice()))
 }
@@ -100,7 +100,7 @@ fn field_that_is_not_wanted(rt: HostRuntime) -> Result<(), Fail> {
     let mut page = Page::new(rt.alloc(), 1, 1000);
     let mut outbox = Outbox::new();
     let mut printer = Printer::new(rt.alloc(), &[]);
-    printer.say_next(&mut outbox, &mut page, Field::Flags(3))?;
+    printer.write_next(&mut outbox, &mut page, Field::Flags(3))?;
     outbox.flush(&mut page);
     assert!(rt; page.bytes.is_empty());
     Ok(())
@@ -111,8 +111,8 @@ fn decimals(rt: HostRuntime) {
     let mut page = Page::new(rt.alloc(), 1, 1000);
     let mut outbox = Outbox::new();
     for number in [0, 1, 18446744073709551615] {
-        say_decimal(&mut outbox, &mut page, number);
-        say(&mut outbox, &mut page, b" ");
+        write_decimal(&mut outbox, &mut page, number);
+        write(&mut outbox, &mut page, b" ");
     }
     outbox.flush(&mut page);
     let want = b"0 1 18446744073709551615 ";
@@ -124,8 +124,8 @@ fn quoted_texts(rt: HostRuntime) {
     let mut page = Page::new(rt.alloc(), 1, 1000);
     let mut outbox = Outbox::new();
     let units = [0x20, 0x7E, 0x22, 0x5C, 0x1F, 0x7F, 0, 0xE9, 0xD83D, 0xFFFF];
-    say_quoted(&mut outbox, &mut page, &units);
-    say_quoted(&mut outbox, &mut page, &[]);
+    write_quoted(&mut outbox, &mut page, &units);
+    write_quoted(&mut outbox, &mut page, &[]);
     outbox.flush(&mut page);
     let want = b"\" ~\\\"\\\\\\u001f\\u007f\\u0000\\u00e9\\ud83d\\uffff\"\"\"";
     assert!(rt; page.bytes.as_slice() == want.as_slice());
@@ -139,15 +139,15 @@ const BLOCK: [Field<'static>; 4] = [
     Field::Raw(&[0xAF; 200]),
 ];
 
-/// Says these fields, one after the other.
-fn say_each<W: Sink>(
+/// Writes these fields, one after the other.
+fn write_each<W: Sink>(
     outbox: &mut Outbox,
     sink: &mut W,
     printer: &mut Printer<'_>,
     fields: &[Field<'_>],
 ) -> Result<(), AllocError> {
     for field in fields {
-        printer.say_next(outbox, sink, *field)?;
+        printer.write_next(outbox, sink, *field)?;
     }
     Ok(())
 }
@@ -167,7 +167,7 @@ fn many_bytes_in_hexadecimal(rt: HostRuntime) -> Result<(), Fail> {
     let mut page = Page::new(rt.alloc(), 1, 1000);
     let mut outbox = Outbox::new();
     let mut printer = Printer::new(rt.alloc(), &[]);
-    say_each(&mut outbox, &mut page, &mut printer, &BLOCK)?;
+    write_each(&mut outbox, &mut page, &mut printer, &BLOCK)?;
     outbox.flush(&mut page);
     has_200_bytes(&rt, &page.bytes);
     Ok(())
@@ -178,7 +178,7 @@ fn after_a_failure_nothing_more_goes_out(rt: HostRuntime) {
     let mut page = Page::new(rt.alloc(), 1, 3);
     let mut outbox = Outbox::new();
     for number in [12345, 6] {
-        say_decimal(&mut outbox, &mut page, number);
+        write_decimal(&mut outbox, &mut page, number);
         outbox.flush(&mut page);
     }
     assert!(rt; outbox.has_failed());

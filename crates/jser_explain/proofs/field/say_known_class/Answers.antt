@@ -1,9 +1,0 @@
-use Rattle.std.specs.Prelude.{◌++◌, codes}
-use Rattle.jser_shown.specs.Words.{quoted}
-use Rattle.jser_printer.proofs.SaysLemmas.{says_three}
-use Rattle.jser_explain.proofs.field.say_known_class.Goals as goal
-
-pub returns : goal.returns
-returns g c =
-    says_three _ _ _ _ _ _ _ _ (λ k. codes "  class " ++ k) (λ k. quoted c.args.units.now k) (λ k. codes "\n" ++ k)
-    c.say.ensures c.say_quoted.ensures c.say-2.ensures

@@ -1,9 +1,0 @@
-use Rattle.jser_printer.specs.Names.{view_name}
-use Rattle.jser_printer.proofs.SaysLemmas.{says_three}
-use Rattle.jser_explain.specs.Whys.{class_line, field_line, first_bytes, sentence_line}
-use Rattle.jser_explain.proofs.why.say_head.Goals as goal
-
-pub returns : goal.returns
-returns g c =
-    says_three _ _ _ _ _ _ _ _ (λ k. sentence_line c.args.sentence.now k) (λ k. field_line c.args.spot (first_bytes c.args.bytes.now c.args.spot) k)
-    (λ k. class_line (view_name c.args.class) k) c.say_sentence.ensures c.say_field.ensures c.say_class.ensures

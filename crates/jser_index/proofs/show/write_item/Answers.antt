@@ -1,0 +1,24 @@
+use Rattle.std.proofs.Common.{rules}
+use Rattle.jser_index.proofs.PartLemmas.{part_field, part_text}
+use Rattle.jser_index.proofs.ShowLemmas.{ok_by, err_by}
+use Rattle.jser_index.proofs.show.write_item.Goals as goal
+
+pub returns-in-Field-clause-said : goal.returns-in-Field-clause-said
+returns-in-Field-clause-said g c =
+    ok_by c.write_next.result c.write_next.ensures.said (λ says told e. says told (part_field c.args.item c.in-Field.field told (search rules) e))
+
+pub returns-in-Field-clause-front : goal.returns-in-Field-clause-front
+returns-in-Field-clause-front g c =
+    err_by c.write_next.result c.write_next.ensures.front (λ begins told e. begins told (part_field c.args.item c.in-Field.field told (search rules) e))
+
+pub returns-in-Text-clause-said : goal.returns-in-Text-clause-said
+returns-in-Text-clause-said g c =
+    ok_by c.write_text.result c.write_text.ensures.said (λ says told e. says told (part_text c.args.item c.in-Text.bytes told (search rules) e))
+
+pub returns-in-Text-clause-goes : goal.returns-in-Text-clause-goes
+returns-in-Text-clause-goes g c =
+    ok_by c.write_text.result c.write_text.ensures.goes (λ goes_on told e. goes_on told (part_text c.args.item c.in-Text.bytes told (search rules) e))
+
+pub returns-in-Text-clause-front : goal.returns-in-Text-clause-front
+returns-in-Text-clause-front g c =
+    err_by c.write_text.result c.write_text.ensures.front (λ begins told e. begins told (part_text c.args.item c.in-Text.bytes told (search rules) e))

@@ -1,0 +1,18 @@
+use Rattle.std.proofs.Common.{inl, [], ◌∷◌}
+use Rattle.jser_reader.specs.declared.Item.TheVariants as item
+use Rattle.jser_index.proofs.ShowLemmas.{ok_by, err_by, err_any}
+use Rattle.jser_index.proofs.SaidLemmas.{said_first, begun_first}
+use Rattle.jser_index.proofs.show.write_owner.Goals as goal
+
+pub returns-in_err-write_next-clause-front : goal.returns-in_err-write_next-clause-front
+returns-in_err-write_next-clause-front g c = err_any c.from_residual.result (inl c.in_err-write_next.ensures.front)
+
+pub returns-clause-said : goal.returns-clause-said
+returns-clause-said g c =
+    ok_by c.write_reference.result c.write_reference.ensures.said
+    (λ says. said_first (item.Tag c.args.tag) (item.Tag 0x71) (item.Handle c.args.class ∷ []) _ _ _ _ _ _ c.args.printer.now _ _ c.in_ok-write_next.ensures.said c.in_ok-write_next.ensures.goes says)
+
+pub returns-clause-front : goal.returns-clause-front
+returns-clause-front g c =
+    err_by c.write_reference.result c.write_reference.ensures.front
+    (λ begins. begun_first (item.Tag c.args.tag) (item.Tag 0x71) (item.Handle c.args.class ∷ []) _ _ _ _ _ _ c.args.printer.now _ c.in_ok-write_next.ensures.said c.in_ok-write_next.ensures.goes begins)

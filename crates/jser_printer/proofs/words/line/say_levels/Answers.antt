@@ -1,6 +1,0 @@
-use Rattle.std.proofs.Common.{rules}
-use Rattle.jser_printer.proofs.LineLemmas.{says_levels}
-use Rattle.jser_printer.proofs.words.line.say_levels.Goals as goal
-
-pub returns : goal.returns
-returns g c = says_levels _ _ _ _ _ c.args.levels c.say.ensures c.requires (search rules)

@@ -1,5 +1,0 @@
-use Rattle.jser_printer.proofs.SaysLemmas.{says_both}
-use Rattle.jser_printer.proofs.words.number.say_mark.Goals as goal
-
-pub returns : goal.returns
-returns g c = says_both _ _ _ _ _ _ _ _ c.say_epoch.ensures c.say_handle.ensures

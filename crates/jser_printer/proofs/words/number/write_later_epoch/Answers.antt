@@ -1,0 +1,5 @@
+use Rattle.jser_printer.proofs.SaysLemmas.{says_three}
+use Rattle.jser_printer.proofs.words.number.write_later_epoch.Goals as goal
+
+pub returns : goal.returns
+returns g c = says_three _ _ _ _ _ _ _ _ _ _ _ c.write.ensures c.write_decimal.ensures c.write-2.ensures

@@ -1,0 +1,5 @@
+use Rattle.jser_printer.proofs.SaysLemmas.{says_three}
+use Rattle.jser_printer.proofs.words.tagged.write_element_tag.Goals as goal
+
+pub returns : goal.returns
+returns g c = says_three _ _ _ _ _ _ _ _ _ _ _ c.write_line_start.ensures c.write_element_index.ensures c.write_value_tag.ensures

@@ -1,6 +1,0 @@
-use Rattle.std.proofs.Common.{rules}
-use Rattle.jser_printer.proofs.ValueLemmas.{says_no_count}
-use Rattle.jser_printer.proofs.words.value.say_raw_elements.Goals as goal
-
-pub returns-then-count-eq0 : goal.returns-then-count-eq0
-returns-then-count-eq0 g c = says_no_count _ _ _ _ _ _ (search rules)

@@ -1,6 +1,0 @@
-use Rattle.jser_scan.proofs.ScanLemmas.{says_class}
-use Rattle.jser_scan.proofs.answer.say_class.Goals as goal
-
-pub returns-in-Some : goal.returns-in-Some
-returns-in-Some g c =
-    says_class _ _ _ _ _ _ c.args.class.now c.in-Some.units c.as_slice.result.now c.in-Some.is c.as_slice.ensures.value c.say.ensures c.say_quoted.ensures
