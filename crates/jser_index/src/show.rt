@@ -56,7 +56,7 @@ impl Index {
     ///
     /// # Errors
     ///
-    /// Where memory ran out. What was said before is a beginning of the text.
+    /// Where memory ran out. What was written before is a beginning of the text.
     fn write<W: Sink>(
         &self,
         alloc: Global,
@@ -127,7 +127,7 @@ fn write_along<W: Sink>(
 ///
 /// # Errors
 ///
-/// Where memory runs out. What was said before is a beginning of that.
+/// Where memory runs out. What was written before is a beginning of that.
 fn write_item<W: Sink>(
     outbox: &mut Outbox,
     sink: &mut W,
@@ -155,7 +155,7 @@ fn write_item<W: Sink>(
 ///
 /// # Errors
 ///
-/// Where memory runs out. What was said before is a beginning of that.
+/// Where memory runs out. What was written before is a beginning of that.
 #[inline(always)]
 fn write_whole<W: Sink>(
     outbox: &mut Outbox,
@@ -222,7 +222,7 @@ fn write_owner<W: Sink>(
 ///
 /// # Errors
 ///
-/// Where memory runs out. What was said before is a beginning of that.
+/// Where memory runs out. What was written before is a beginning of that.
 fn write_text<W: Sink>(
     outbox: &mut Outbox,
     sink: &mut W,
@@ -246,7 +246,7 @@ fn write_text<W: Sink>(
 ///
 /// # Errors
 ///
-/// Where memory runs out. What was said before is a beginning of that.
+/// Where memory runs out. What was written before is a beginning of that.
 fn write_units<W: Sink>(
     outbox: &mut Outbox,
     sink: &mut W,

@@ -1,4 +1,4 @@
-//! The text of `show`, said along the fields of a stream.
+//! The text of `show`, written along the fields of a stream.
 #![tactic(auto)]
 
 mod class;

@@ -24,9 +24,9 @@ use jser_prim::{Outbox, Sink};
 use std::alloc::{AllocError, Global};
 use std::marker::Model;
 
-/// Goes along the fields of a stream, and says what `show` writes of them.
+/// Goes along the fields of a stream, and writes what `show` says of them.
 ///
-/// It asks no field whether it is right: on other fields than those of a stream it says something else, and never stops.
+/// It asks no field whether it is right: of other fields than those of a stream it writes something else, and never stops.
 /// What it keeps is the table of handles of the epoch, with the names of classes and fields, and the stack of what is open.
 #[derive(Drop)]
 pub struct Printer<'a> {
@@ -63,7 +63,7 @@ impl<'a> Printer<'a> {
     ///
     /// # Errors
     ///
-    /// Where memory runs out. What was said before is a beginning of that, and the printer is of no use then.
+    /// Where memory runs out. What was written before is a beginning of that, and the printer is of no use then.
     #[inline(always)]
     pub fn write_next<W: Sink>(
         &mut self,
@@ -114,7 +114,7 @@ impl<'a> Printer<'a> {
     ///
     /// # Errors
     ///
-    /// Where memory runs out. What was said before is a beginning of what is due.
+    /// Where memory runs out. What was written before is a beginning of what is due.
     #[inline(always)]
     pub fn write_all_due<W: Sink>(
         &mut self,

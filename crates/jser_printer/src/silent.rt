@@ -1,4 +1,4 @@
-//! Fields that are gone past and not said, for one who asks only what is open.
+//! Fields that are gone past with no text, for one who asks only what is open.
 ghost use Rattle.std.specs.Prelude.{◌≡◌, true, OnOk};
 ghost use Rattle.jser_reading.specs.Labels.{StreamField};
 ghost use Rattle.jser_shown.specs.Telling.{goes, settled};
@@ -9,7 +9,7 @@ use crate::printer::Printer;
 use jser_prim::{Failed, Outbox, Sink};
 use std::alloc::AllocError;
 
-/// A device that fails. Once it has, nothing more is made for it, so a field that would be long to say costs little.
+/// A device that fails. Once it has, nothing more is made for it, so a field with a long text costs little.
 #[derive(Drop)]
 struct Nowhere;
 
@@ -26,7 +26,7 @@ impl Sink for Nowhere {
 }
 
 impl Printer<'_> {
-    /// Goes past a field with all that is due before it, and says nothing.
+    /// Goes past a field with all that is due before it, and writes nothing.
     ///
     /// # Errors
     ///
@@ -37,7 +37,7 @@ impl Printer<'_> {
         self.write_next(&mut Outbox::new(), &mut Nowhere, field)
     }
 
-    /// Goes past all that is due before the next field, and says nothing.
+    /// Goes past all that is due before the next field, and writes nothing.
     ///
     /// # Errors
     ///

@@ -41,7 +41,7 @@ impl<'a> Printer<'a> {
     ///
     /// # Errors
     ///
-    /// Where memory runs out. What is due was said then.
+    /// Where memory runs out. What is due was written then.
     #[inline(always)]
     pub(crate) fn write_one_due<W: Sink>(
         &mut self,

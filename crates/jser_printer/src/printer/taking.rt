@@ -170,7 +170,7 @@ impl<'a> Printer<'a> {
     ///
     /// # Errors
     ///
-    /// Where memory runs out. The field was said then.
+    /// Where memory runs out. What the teller says of the field was written then.
     #[inline(always)]
     pub(crate) fn write_here<W: Sink>(
         &mut self,

@@ -98,7 +98,7 @@ impl<'a> Standing<'a> {
     ///
     /// # Errors
     ///
-    /// Where memory runs out. What is due was said then.
+    /// Where memory runs out. What is due was written then.
     #[tactic(auto, using(crate::proofs::PassLemmas::pass_first, crate::proofs::PassLemmas::close_fits, crate::proofs::PassLemmas::close_passed, crate::proofs::PassLemmas::due_first, crate::proofs::PassLemmas::external_said, crate::proofs::FrameLemmas::top_fits, crate::proofs::FrameLemmas::tail_fits))]
     #[inline(always)]
     pub(crate) fn write_due<W: Sink>(

@@ -182,7 +182,7 @@ impl<'a> Standing<'a> {
     ///
     /// # Errors
     ///
-    /// Where memory runs out. The field was said then.
+    /// Where memory runs out. What the teller says of the field was written then.
     #[tactic(auto, using(crate::proofs::TakeLemmas::goes_first, crate::proofs::TakeLemmas::says_first, crate::proofs::TakeLemmas::says_last, crate::proofs::SaysLemmas::says_nothing, crate::proofs::FrameLemmas::top_fits))]
     #[inline(always)]
     pub(crate) fn write_field<W: Sink>(

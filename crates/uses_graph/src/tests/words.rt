@@ -30,7 +30,7 @@ use std::process::Abort;
 use std::test::Fail;
 use test_support::Page;
 
-/// The fields are said as this text, with these owners, to a sink that takes a byte a call.
+/// The fields are written as this text, with these owners, to a sink that takes a byte a call.
 fn assert_said(
     rt: &(impl Abort + AllocGlobal),
     owners: &[OwnerNode],

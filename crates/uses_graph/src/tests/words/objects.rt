@@ -40,7 +40,7 @@ const FIELDS: [Field<'static>; 28] = [
     Field::Text(&[0x79, 0x65, 0x73]),
 ];
 
-/// What is said of them.
+/// What is written of them.
 const WANT: &[u8] = b"stream version 5
 object #0.7e0002
   class desc #0.7e0000 \"A\" suid 0000000000000001 flags 02

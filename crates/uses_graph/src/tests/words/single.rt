@@ -94,7 +94,7 @@ fn lines_begin_with_two_spaces_a_level(rt: HostRuntime) -> Result<(), Fail> {
     Ok(())
 }
 
-/// Of a field that is not wanted nothing is said.
+/// Of a field that is not wanted nothing is written.
 #[test]
 fn field_that_is_not_wanted(rt: HostRuntime) -> Result<(), Fail> {
     let mut page = Page::new(rt.alloc(), 1, 1000);
