@@ -11,7 +11,7 @@ use Rattle.jser_table.specs.Tables.{TableView as Handles}
 use Rattle.jser_shown.specs.Known.{NamedLayer, known_class}
 use Rattle.jser_printer.specs.declared.class.KeptClass.{KeptClass}
 use Rattle.jser_printer.specs.declared.class.Parent.{Parent}
-use Rattle.jser_printer.specs.Tables.{TableView, layer_in, layers_above, no_class, class_in, named_class, named_line, named_lines, view_entries, view_handles, table_of, IsAmong, AreAmong, IsOwn, IsNumbered, counted, IsSound, HasClass, IsParent, handle_of, layers_under, IsStraight, IsChainOf, Closes}
+use Rattle.jser_printer.specs.Tables.{NamesView, layer_in, layers_above, no_class, class_in, named_class, named_line, named_lines, view_entries, view_handles, table_of, IsAmong, AreAmong, IsOwn, IsNumbered, counted, IsSound, HasClass, IsParent, handle_of, layers_under, IsStraight, IsChainOf, Closes}
 use Rattle.jser_printer.proofs.HandleLemmas.{view_set, view_more}
 use Rattle.jser_printer.proofs.TableLemmas.{length_view, length_classes, length_chains, line_same, lines_same, line_named, range_push, long_alike, counted_line, is_chain}
 
@@ -86,7 +86,7 @@ abbrev parent_line : Handles → Option Parent → List ℕ
 parent_line h parent = line_of_parent h.lines (parent_number h.numbers (handle_of parent))
 
 -- `given` is the handle that was asked for, `parent` the class that it names, if it is one
-module _ (h : Handles) (layers : List NamedLayer) (classes : List KeptClass) (view : TableView) (is : table_of h layers classes ≡ view) (sound : IsSound h layers classes) where
+module _ (h : Handles) (layers : List NamedLayer) (classes : List KeptClass) (view : NamesView) (is : table_of h layers classes ≡ view) (sound : IsSound h layers classes) where
   class_inside : (p : Parent) → HasClass h p.handle p.class → p.class < length h.lines
   class_inside p has = omega (arith, has.inside, length_chains h layers classes view is sound)
 
@@ -136,7 +136,7 @@ module _ (h : Handles) (layers : List NamedLayer) (classes : List KeptClass) (vi
       in
       let own : with_c n ≡ layer_in view.layers c.own =
       ap (λ (class : KeptClass). layer_in layers class.own) (get_or_push classes c no_class n long)
-      ∙ ap (λ (v : TableView). layer_in v.layers c.own) is
+      ∙ ap (λ (v : NamesView). layer_in v.layers c.own) is
       in
       let made : map with_c (line ++ n ∷ []) ≡ layers_above view.known given ++ layer_in view.layers c.own ∷ [] =
       map_push with_c line n
@@ -148,7 +148,7 @@ module _ (h : Handles) (layers : List NamedLayer) (classes : List KeptClass) (vi
       ∙ map_push (map with_c) h.lines (line ++ n ∷ [])
       ∙ ap (λ cs. map (map with_c) h.lines ++ cs ∷ []) made
       ∙ ap (λ cs. cs ++ (layers_above view.known given ++ layer_in view.layers c.own ∷ []) ∷ []) (lines_same with_c (named_class layers classes) n same h.lines sound.of)
-      ∙ ap (λ (v : TableView). v.chains ++ (layers_above view.known given ++ layer_in view.layers c.own ∷ []) ∷ []) is
+      ∙ ap (λ (v : NamesView). v.chains ++ (layers_above view.known given ++ layer_in view.layers c.own ∷ []) ∷ []) is
 
   pub known_closed : (new : Handles) (more : List KeptClass) (c : KeptClass) (handle : ℕ) (given : Option ℕ) (parent : Option Parent) → IsParent h given parent → Closes h new handle (handle_of parent) → more ≡ classes ++ c ∷ [] → view_handles (named_lines layers more new.lines) new ≡ set view.known handle (known_class (layers_above view.known given ++ layer_in view.layers c.own ∷ []))
   known_closed new more c handle given parent at closes added =
@@ -163,8 +163,8 @@ module _ (h : Handles) (layers : List NamedLayer) (classes : List KeptClass) (vi
       ∙ view_set (C ++ made ∷ []) h.entries h.numbers handle closed (Some (length h.chains))
       ∙ ap (λ ls. set (view_entries (C ++ made ∷ []) (zip h.entries h.numbers)) handle (known_class ls)) (get_or_push C made [] (length h.chains) last)
       ∙ ap (λ es. set es handle (known_class made)) (view_more C made h.entries h.numbers (subst (λ m. All (IsAmong m) h.numbers) (sym long) sound.among))
-      ∙ ap (λ cs. set (view_handles cs h) handle (known_class made)) (ap (λ (v : TableView). v.chains) (sym is))
-      ∙ ap (λ (v : TableView). set v.known handle (known_class made)) is
+      ∙ ap (λ cs. set (view_handles cs h) handle (known_class made)) (ap (λ (v : NamesView). v.chains) (sym is))
+      ∙ ap (λ (v : NamesView). set v.known handle (known_class made)) is
 
   pub sound_closed : (new : Handles) (more : List KeptClass) (c : KeptClass) (handle : ℕ) (given : Option ℕ) (parent : Option Parent) → IsParent h given parent → Closes h new handle (handle_of parent) → more ≡ classes ++ c ∷ [] → c.chain ≡ length h.chains → c.own < length view.layers → c.layers ≡ layers_under classes parent → IsStraight classes parent c.straight → length new.chains < 2 ^ 32 → IsSound new layers more
   sound_closed new more c handle given parent at closes added chain own count straight fewer =
@@ -194,7 +194,7 @@ module _ (h : Handles) (layers : List NamedLayer) (classes : List KeptClass) (vi
             ∙ ap (λ ls. ls ++ c.layers ∷ []) sound.counts
             ∙ ap (λ k. map length h.lines ++ k ∷ []) (count ∙ parent_counted given parent at ∙ sym ends)
             ∙ sym (map_push length h.lines made));
-        owns = rw added (All-push (IsOwn (length layers)) classes c sound.owns (omega (arith, own, ap (λ (v : TableView). length v.layers) is)));
+        owns = rw added (All-push (IsOwn (length layers)) classes c sound.owns (omega (arith, own, ap (λ (v : NamesView). length v.layers) is)));
         of = rw closes.lines
             (All-push (AreAmong (length (h.lines ++ made ∷ []))) h.lines made
             (All-weaker (AreAmong n) (AreAmong (length (h.lines ++ made ∷ []))) (are_among_more n _ (omega (arith, long))) h.lines sound.of)

@@ -15,12 +15,14 @@ use Rattle.jser_prim.specs.Outgoing.{Outgoing, SinkState}
 use Rattle.std.specs.Prelude.{codes}
 use Rattle.jser_printer.proofs.SaysLemmas.{says_nothing}
 use Rattle.jser_printer.specs.Phases.{in_phase}
+use Rattle.jser_printer.specs.declared.phase.FieldsLeft.{FieldsLeft}
 use Rattle.jser_printer.specs.declared.phase.Head.{Head}
 use Rattle.jser_printer.specs.declared.phase.Over.{Over}
 use Rattle.jser_printer.specs.declared.phase.Phase.{Phase}
 use Rattle.jser_printer.specs.declared.phase.Phase.TheVariants as phase
-use Rattle.jser_printer.specs.Tables.{TableView, layer_in, layers_in, IsChainOf}
-use Rattle.jser_printer.specs.Frames.{parts_from, cue_of, cues_of, tail_of, FramesFit, BeginsSection}
+use Rattle.jser_printer.specs.Tables.{NamesView, layer_in, layers_in, IsChainOf}
+use Rattle.jser_printer.specs.declared.frame.Sections.{Sections}
+use Rattle.jser_printer.specs.Frames.{parts_of, go_on, cue_of, cues_of, tail_of, FramesFit, BeginsSection}
 use Rattle.jser_printer.proofs.FrameLemmas.{cues_more_chains, fit_more_chains, tail_fits}
 
 -- the frame of an object's sections
@@ -28,17 +30,17 @@ use Rattle.jser_printer.proofs.FrameLemmas.{cues_more_chains, fit_more_chains, t
 sections_are : (chain : List NamedLayer) (b : Bool) → is_external_class (own_class_of chain) ≡ b → object_parts (is_external_chain chain) chain ≡ object_parts b chain
 sections_are chain b is = ap (λ t. object_parts t chain) is
 
-pub external_sections : (table : TableView) (level number chain : ℕ) (own : NamedLayer) (b : Bool) → IsChainOf table number (Some chain) → own_class_of (layers_in table.chains chain) ≡ own → b ≡ is_external_class own → b ≡ true → cue_of table.layers table.chains (frame.External level chain) ≡ parts_cue level (object_parts (is_external_chain (classes_at table.known number)) (classes_at table.known number))
+pub external_sections : (table : NamesView) (level number chain : ℕ) (own : NamedLayer) (b : Bool) → IsChainOf table number (Some chain) → own_class_of (layers_in table.chains chain) ≡ own → b ≡ is_external_class own → b ≡ true → cue_of table.layers table.chains (frame.External level chain) ≡ parts_cue level (object_parts (is_external_chain (classes_at table.known number)) (classes_at table.known number))
 external_sections table level number chain own b is owns external holds =
     let test : is_external_class (own_class_of (layers_in table.chains chain)) ≡ true = ap is_external_class owns ∙ sym external ∙ holds in
     sym (ap (λ c. parts_cue level (object_parts (is_external_chain c) c)) is.1 ∙ ap (parts_cue level) (sections_are (layers_in table.chains chain) true test))
 
-pub serial_sections : (table : TableView) (level number chain : ℕ) (own : NamedLayer) (b : Bool) → IsChainOf table number (Some chain) → own_class_of (layers_in table.chains chain) ≡ own → b ≡ is_external_class own → b ≡ false → cue_of table.layers table.chains (frame.Sections level chain 0 stage.Start) ≡ parts_cue level (object_parts (is_external_chain (classes_at table.known number)) (classes_at table.known number))
+pub serial_sections : (table : NamesView) (level number chain : ℕ) (own : NamedLayer) (b : Bool) → IsChainOf table number (Some chain) → own_class_of (layers_in table.chains chain) ≡ own → b ≡ is_external_class own → b ≡ false → cue_of table.layers table.chains (frame.Sections (record { level = level; chain = chain; index = 0; stage = stage.Start })) ≡ parts_cue level (object_parts (is_external_chain (classes_at table.known number)) (classes_at table.known number))
 serial_sections table level number chain own b is owns external fails =
     let test : is_external_class (own_class_of (layers_in table.chains chain)) ≡ false = ap is_external_class owns ∙ sym external ∙ fails in
     sym (ap (λ c. parts_cue level (object_parts (is_external_chain c) c)) is.1 ∙ ap (parts_cue level) (sections_are (layers_in table.chains chain) false test))
 
-pub no_sections : (table : TableView) (level number : ℕ) → IsChainOf table number None → cue_of table.layers table.chains (frame.End level) ≡ parts_cue level (object_parts (is_external_chain (classes_at table.known number)) (classes_at table.known number))
+pub no_sections : (table : NamesView) (level number : ℕ) → IsChainOf table number None → cue_of table.layers table.chains (frame.End level) ≡ parts_cue level (object_parts (is_external_chain (classes_at table.known number)) (classes_at table.known number))
 no_sections table level number is = sym (ap (λ c. parts_cue level (object_parts (is_external_chain c) c)) is)
 
 -- a step by the frame on top
@@ -46,53 +48,53 @@ no_sections table level number is = sym (ap (λ c. parts_cue level (object_parts
 pub pass_first : (layers : List NamedLayer) (chains : List (List NamedLayer)) (frames : List Frame) (f : Frame) (e : ℕ) (known : Known) (os : List OwnerNode) → frames ≡ f ∷ tail_of frames → pass_in (cues_of layers chains frames) e known os ≡ pass_at (cue_of layers chains f) e known os (cues_of layers chains (tail_of frames))
 pass_first layers chains frames f e known os is = ap (λ fs. pass_in (cues_of layers chains fs) e known os) is
 
-pub part_first : (layers : List NamedLayer) (chains : List (List NamedLayer)) (frames : List Frame) (level chain index : ℕ) (s : Stage) (parts : List SectionPart) (e : ℕ) (known : Known) (os : List OwnerNode) → frames ≡ frame.Sections level chain index s ∷ tail_of frames → parts_from (layers_in chains chain) index s ≡ parts → pass_in (cues_of layers chains frames) e known os ≡ pass_part level parts e known os (cues_of layers chains (tail_of frames))
-part_first layers chains frames level chain index s parts e known os top is =
-    pass_first layers chains frames (frame.Sections level chain index s) e known os top
-    ∙ ap (λ ps. pass_part level ps e known os (cues_of layers chains (tail_of frames))) is
+pub part_first : (layers : List NamedLayer) (chains : List (List NamedLayer)) (frames : List Frame) (at : Sections) (parts : List SectionPart) (e : ℕ) (known : Known) (os : List OwnerNode) → frames ≡ frame.Sections at ∷ tail_of frames → parts_of chains at ≡ parts → pass_in (cues_of layers chains frames) e known os ≡ pass_part at.level parts e known os (cues_of layers chains (tail_of frames))
+part_first layers chains frames at parts e known os top is =
+    pass_first layers chains frames (frame.Sections at) e known os top
+    ∙ ap (λ ps. pass_part at.level ps e known os (cues_of layers chains (tail_of frames))) is
 
-pub section_passed : (layers : List NamedLayer) (chains : List (List NamedLayer)) (old new : List Frame) (level chain index index' : ℕ) (s s' : Stage) (name : Option (List ℕ)) (e : ℕ) (known : Known) (os : List OwnerNode) → old ≡ frame.Sections level chain index s ∷ tail_of old → new ≡ frame.Sections level chain index' s' ∷ tail_of old → BeginsSection (parts_from (layers_in chains chain) index s) name (parts_from (layers_in chains chain) index' s') → teller e known os (cues_of layers chains new) ≡ pass_in (cues_of layers chains old) e known os
-section_passed layers chains old new level chain index index' s s' name e known os top put begins =
+pub section_passed : (layers : List NamedLayer) (chains : List (List NamedLayer)) (old new : List Frame) (at : Sections) (index : ℕ) (s : Stage) (name : Option (List ℕ)) (e : ℕ) (known : Known) (os : List OwnerNode) → old ≡ frame.Sections at ∷ tail_of old → new ≡ frame.Sections (go_on at index s) ∷ tail_of old → BeginsSection (parts_of chains at) name (parts_of chains (go_on at index s)) → teller e known os (cues_of layers chains new) ≡ pass_in (cues_of layers chains old) e known os
+section_passed layers chains old new at index s name e known os top put begins =
     ap (λ fs. teller e known os (cues_of layers chains fs)) put
-    ∙ sym (part_first layers chains old level chain index s _ e known os top begins.parts_are)
+    ∙ sym (part_first layers chains old at _ e known os top begins.parts_are)
 
-pub notes_passed : (layers : List NamedLayer) (chains : List (List NamedLayer)) (old mid new : List Frame) (level inner chain index index' : ℕ) (s s' : Stage) (e : ℕ) (known : Known) (os : List OwnerNode) → old ≡ frame.Sections level chain index s ∷ tail_of old → mid ≡ frame.Sections level chain index' s' ∷ tail_of old → new ≡ frame.Notes inner ∷ mid → inner ≡ level + 1 → parts_from (layers_in chains chain) index s ≡ note_part ∷ parts_from (layers_in chains chain) index' s' → teller e known os (cues_of layers chains new) ≡ pass_in (cues_of layers chains old) e known os
-notes_passed layers chains old mid new level inner chain index index' s s' e known os top put pushed deep is =
-    let deep' : inner ≡ suc level = omega arith in
+pub notes_passed : (layers : List NamedLayer) (chains : List (List NamedLayer)) (old mid new : List Frame) (at : Sections) (inner index : ℕ) (s : Stage) (e : ℕ) (known : Known) (os : List OwnerNode) → old ≡ frame.Sections at ∷ tail_of old → mid ≡ frame.Sections (go_on at index s) ∷ tail_of old → new ≡ frame.Notes inner ∷ mid → inner ≡ at.level + 1 → parts_of chains at ≡ note_part ∷ parts_of chains (go_on at index s) → teller e known os (cues_of layers chains new) ≡ pass_in (cues_of layers chains old) e known os
+notes_passed layers chains old mid new at inner index s e known os top put pushed deep is =
+    let deep' : inner ≡ suc at.level = omega arith in
     ap (λ fs. teller e known os (cues_of layers chains fs)) (pushed ∙ ap (λ fs. frame.Notes inner ∷ fs) put)
-    ∙ ap (λ n. teller e known os (note_cue n ∷ parts_cue level (parts_from (layers_in chains chain) index' s') ∷ cues_of layers chains (tail_of old))) deep'
-    ∙ sym (part_first layers chains old level chain index s _ e known os top is)
+    ∙ ap (λ n. teller e known os (note_cue n ∷ parts_cue at.level (parts_of chains (go_on at index s)) ∷ cues_of layers chains (tail_of old))) deep'
+    ∙ sym (part_first layers chains old at _ e known os top is)
 
-pub sections_passed : (layers : List NamedLayer) (chains : List (List NamedLayer)) (old new : List Frame) (level chain index : ℕ) (s : Stage) (e : ℕ) (known : Known) (os : List OwnerNode) → old ≡ frame.Sections level chain index s ∷ tail_of old → new ≡ tail_of old → parts_from (layers_in chains chain) index s ≡ [] → teller e known os (cues_of layers chains new) ≡ pass_in (cues_of layers chains old) e known os
-sections_passed layers chains old new level chain index s e known os top put is =
+pub sections_passed : (layers : List NamedLayer) (chains : List (List NamedLayer)) (old new : List Frame) (at : Sections) (e : ℕ) (known : Known) (os : List OwnerNode) → old ≡ frame.Sections at ∷ tail_of old → new ≡ tail_of old → parts_of chains at ≡ [] → teller e known os (cues_of layers chains new) ≡ pass_in (cues_of layers chains old) e known os
+sections_passed layers chains old new at e known os top put is =
     ap (λ fs. teller e known os (cues_of layers chains fs)) put
-    ∙ sym (part_first layers chains old level chain index s [] e known os top is)
+    ∙ sym (part_first layers chains old at [] e known os top is)
 
 -- what is due by the frame on top
 
 pub due_first : (layers : List NamedLayer) (chains : List (List NamedLayer)) (frames : List Frame) (f : Frame) → frames ≡ f ∷ tail_of frames → due_in (cues_of layers chains frames) ≡ due_at (cue_of layers chains f)
 due_first layers chains frames f is = ap (λ fs. due_in (cues_of layers chains fs)) is
 
-part_due : (layers : List NamedLayer) (chains : List (List NamedLayer)) (frames : List Frame) (level chain index : ℕ) (s : Stage) (parts : List SectionPart) → frames ≡ frame.Sections level chain index s ∷ tail_of frames → parts_from (layers_in chains chain) index s ≡ parts → due_in (cues_of layers chains frames) ≡ due_part level parts
-part_due layers chains frames level chain index s parts top is =
-    due_first layers chains frames (frame.Sections level chain index s) top ∙ ap (due_part level) is
+part_due : (layers : List NamedLayer) (chains : List (List NamedLayer)) (frames : List Frame) (at : Sections) (parts : List SectionPart) → frames ≡ frame.Sections at ∷ tail_of frames → parts_of chains at ≡ parts → due_in (cues_of layers chains frames) ≡ due_part at.level parts
+part_due layers chains frames at parts top is =
+    due_first layers chains frames (frame.Sections at) top ∙ ap (due_part at.level) is
 
-pub section_is_due : (layers : List NamedLayer) (chains : List (List NamedLayer)) (frames : List Frame) (level chain index : ℕ) (s : Stage) (name : Option (List ℕ)) (others : List SectionPart) → frames ≡ frame.Sections level chain index s ∷ tail_of frames → BeginsSection (parts_from (layers_in chains chain) index s) name others → due_in (cues_of layers chains frames) ≡ Some (section_due level name)
-section_is_due layers chains frames level chain index s name others top begins =
-    part_due layers chains frames level chain index s (data_part begins.layer ∷ others) top begins.parts_are
-    ∙ ap (λ n. Some (section_due level n)) begins.name_is
+pub section_is_due : (layers : List NamedLayer) (chains : List (List NamedLayer)) (frames : List Frame) (at : Sections) (name : Option (List ℕ)) (others : List SectionPart) → frames ≡ frame.Sections at ∷ tail_of frames → BeginsSection (parts_of chains at) name others → due_in (cues_of layers chains frames) ≡ Some (section_due at.level name)
+section_is_due layers chains frames at name others top begins =
+    part_due layers chains frames at (data_part begins.layer ∷ others) top begins.parts_are
+    ∙ ap (λ n. Some (section_due at.level n)) begins.name_is
 
-pub notes_due : (layers : List NamedLayer) (chains : List (List NamedLayer)) (frames : List Frame) (level chain index : ℕ) (s : Stage) (others : List SectionPart) → frames ≡ frame.Sections level chain index s ∷ tail_of frames → parts_from (layers_in chains chain) index s ≡ note_part ∷ others → due_in (cues_of layers chains frames) ≡ Some quiet_due
-notes_due layers chains frames level chain index s others top is = part_due layers chains frames level chain index s (note_part ∷ others) top is
+pub notes_due : (layers : List NamedLayer) (chains : List (List NamedLayer)) (frames : List Frame) (at : Sections) (others : List SectionPart) → frames ≡ frame.Sections at ∷ tail_of frames → parts_of chains at ≡ note_part ∷ others → due_in (cues_of layers chains frames) ≡ Some quiet_due
+notes_due layers chains frames at others top is = part_due layers chains frames at (note_part ∷ others) top is
 
-pub end_due : (layers : List NamedLayer) (chains : List (List NamedLayer)) (frames : List Frame) (level chain index : ℕ) (s : Stage) → frames ≡ frame.Sections level chain index s ∷ tail_of frames → parts_from (layers_in chains chain) index s ≡ [] → due_in (cues_of layers chains frames) ≡ Some quiet_due
-end_due layers chains frames level chain index s top is = part_due layers chains frames level chain index s [] top is
+pub end_due : (layers : List NamedLayer) (chains : List (List NamedLayer)) (frames : List Frame) (at : Sections) → frames ≡ frame.Sections at ∷ tail_of frames → parts_of chains at ≡ [] → due_in (cues_of layers chains frames) ≡ Some quiet_due
+end_due layers chains frames at top is = part_due layers chains frames at [] top is
 
-pub raw_waits : (layers : List NamedLayer) (chains : List (List NamedLayer)) (frames : List Frame) (level chain index : ℕ) (s : Stage) (name : List ℕ) (others : List SectionPart) → frames ≡ frame.Sections level chain index s ∷ tail_of frames → parts_from (layers_in chains chain) index s ≡ raw_part (field_named name) ∷ others → due_in (cues_of layers chains frames) ≡ None
-raw_waits layers chains frames level chain index s name others top is = part_due layers chains frames level chain index s (raw_part (field_named name) ∷ others) top is
+pub raw_waits : (layers : List NamedLayer) (chains : List (List NamedLayer)) (frames : List Frame) (at : Sections) (name : List ℕ) (others : List SectionPart) → frames ≡ frame.Sections at ∷ tail_of frames → parts_of chains at ≡ raw_part (field_named name) ∷ others → due_in (cues_of layers chains frames) ≡ None
+raw_waits layers chains frames at name others top is = part_due layers chains frames at (raw_part (field_named name) ∷ others) top is
 
-pub value_waits : (layers : List NamedLayer) (chains : List (List NamedLayer)) (frames : List Frame) (level chain index : ℕ) (s : Stage) (name : List ℕ) (others : List SectionPart) → frames ≡ frame.Sections level chain index s ∷ tail_of frames → parts_from (layers_in chains chain) index s ≡ value_part (field_named name) ∷ others → due_in (cues_of layers chains frames) ≡ None
-value_waits layers chains frames level chain index s name others top is = part_due layers chains frames level chain index s (value_part (field_named name) ∷ others) top is
+pub value_waits : (layers : List NamedLayer) (chains : List (List NamedLayer)) (frames : List Frame) (at : Sections) (name : List ℕ) (others : List SectionPart) → frames ≡ frame.Sections at ∷ tail_of frames → parts_of chains at ≡ value_part (field_named name) ∷ others → due_in (cues_of layers chains frames) ≡ None
+value_waits layers chains frames at name others top is = part_due layers chains frames at (value_part (field_named name) ∷ others) top is
 
 -- what is said of it
 
@@ -114,10 +116,10 @@ quiet_frame a d s e known os layers chains frames f f' here top is quiet =
     ∙ ap (λ x. due_says (due_at (cue_of layers chains x)) k) is ∙ quiet k)
 
 -- nothing is said at this part
-pub quiet_part : (a : Outgoing) (d : SinkState) (layers : List NamedLayer) (chains : List (List NamedLayer)) (frames : List Frame) (level chain index : ℕ) (s : Stage) (parts : List SectionPart) → frames ≡ frame.Sections level chain index s ∷ tail_of frames → parts_from (layers_in chains chain) index s ≡ parts → ((k : List ℕ) → due_says (due_part level parts) k ≡ k) → Says a a d d (λ k. due_says (due_in (cues_of layers chains frames)) k)
-quiet_part a d layers chains frames level chain index s parts top is quiet =
+pub quiet_part : (a : Outgoing) (d : SinkState) (layers : List NamedLayer) (chains : List (List NamedLayer)) (frames : List Frame) (at : Sections) (parts : List SectionPart) → frames ≡ frame.Sections at ∷ tail_of frames → parts_of chains at ≡ parts → ((k : List ℕ) → due_says (due_part at.level parts) k ≡ k) → Says a a d d (λ k. due_says (due_in (cues_of layers chains frames)) k)
+quiet_part a d layers chains frames at parts top is quiet =
     says_nothing a d (λ k. due_says (due_in (cues_of layers chains frames)) k)
-    (λ k. ap (λ x. due_says x k) (part_due layers chains frames level chain index s parts top is) ∙ quiet k)
+    (λ k. ap (λ x. due_says x k) (part_due layers chains frames at parts top is) ∙ quiet k)
 
 -- nothing is said in this phase
 pub quiet_phase : (a : Outgoing) (d : SinkState) (s : Teller) (p p' : Phase) (name : List ℕ) (done : List NamedField) (standing : Teller) → in_phase p name done standing ≡ s → p ≡ p' → ((k : List ℕ) → due_says (due (in_phase p' name done standing)) k ≡ k) → Says a a d d (λ k. due_says (due s) k)
@@ -126,10 +128,10 @@ quiet_phase a d s p p' name done standing here is quiet =
     (λ k. ap (λ t. due_says (due t) k) (sym here) ∙ ap (λ x. due_says (due (in_phase x name done standing)) k) is ∙ quiet k)
 
 pub none_in_phase : (p : Phase) (name : List ℕ) (done : List NamedField) (standing : Teller) → (p ≡ phase.Frames → ⊥)
-    → ((head : Head) (flags left : ℕ) (over : Over) → p ≡ phase.Fields head flags left over → ⊥)
+    → ((fields : FieldsLeft) (over : Over) → p ≡ phase.Fields fields over → ⊥)
     → ((head : Head) (left : ℕ) → p ≡ phase.Interfaces head left → ⊥) → due (in_phase p name done standing) ≡ None
 none_in_phase phase.Frames name done standing a b c = absurd (a refl)
-none_in_phase (phase.Fields head flags left over) name done standing a b c = absurd (b head flags left over refl)
+none_in_phase (phase.Fields fields over) name done standing a b c = absurd (b fields over refl)
 none_in_phase (phase.Interfaces head left) name done standing a b c = absurd (c head left refl)
 none_in_phase p name done standing a b c = refl
 

@@ -1,15 +1,14 @@
 -- Steps between two fields.
-use Rattle.std.proofs.Common.{◌≡◌, ℕ, zero, suc, ◌<◌, List, length, Bool, true, Some, None, Result, Ok, Err, OnOk, OnErr, refl, sym, ap, subst, ◌∙◌, rules, arith}
+use Rattle.std.proofs.Common.{◌≡◌, ℕ, suc, ◌<◌, List, length, true, Some, None, Result, Ok, Err, OnOk, OnErr, refl, sym, ap, subst, ◌∙◌, rules, arith}
 use Rattle.jser_prim.specs.Outgoing.{Outgoing, SinkState}
-use Rattle.jser_prim.proofs.OutgoingLemmas.{puts_none}
 use Rattle.jser_reading.specs.Labels.{StreamField}
 use Rattle.jser_shown.specs.Cues.{Teller}
 use Rattle.jser_shown.specs.Telling.{SeenField, says, says_in, settle_says, settled, first_owner}
 use Rattle.jser_shown.specs.Telling.{seen as seen_of}
 use Rattle.jser_printer.specs.FieldWords.{field_words}
-use Rattle.jser_printer.specs.declared.words.tag.Place.{Place}
+use Rattle.jser_printer.specs.declared.words.tag.Marks.{Marks}
 use Rattle.jser_printer.specs.Steps.{Due, due, due_says, pass, steps_left}
-use Rattle.jser_printer.specs.Passing.{Passed, PlaceIs, says_next}
+use Rattle.jser_printer.specs.Passing.{Passed, MarksAre, says_next}
 use Rattle.jser_printer.specs.Says.{Saying, Says, Begins}
 use Rattle.jser_printer.proofs.SaysLemmas.{says_on, says_both, says_same}
 
@@ -101,11 +100,11 @@ pub begins_all : (a b : Outgoing) (d e : SinkState) (all : List ℕ → List ℕ
 begins_all a b d e all h = record { left = λ k. k; said = h }
 
 -- what is said of a field at a place of a teller is what the teller says of it
-pub says_told : (a b : Outgoing) (d e : SinkState) (place : Place) (seen : SeenField) (s : Teller) (told : StreamField)
-    → Says a b d e (λ k. field_words place s.cues seen k) → seen ≡ seen_of told → PlaceIs place s → Says a b d e (λ k. says s told k)
-says_told a b d e place seen s told h is here =
-    says_same a b d e (λ k. field_words place s.cues seen k) (λ k. says s told k)
+pub says_told : (a b : Outgoing) (d e : SinkState) (marks : Marks) (seen : SeenField) (s : Teller) (told : StreamField)
+    → Says a b d e (λ k. field_words marks s.cues seen k) → seen ≡ seen_of told → MarksAre marks s → Says a b d e (λ k. says s told k)
+says_told a b d e marks seen s told h is here =
+    says_same a b d e (λ k. field_words marks s.cues seen k) (λ k. says s told k)
     (λ k. ap (λ x. says_in x (length s.known) (first_owner s.owners) s.cues (seen_of told) k) (sym here.0)
-    ∙ ap (λ x. says_in place.epoch x (first_owner s.owners) s.cues (seen_of told) k) (sym here.1)
-    ∙ ap (λ x. says_in place.epoch place.next x s.cues (seen_of told) k) (sym here.2)
-    ∙ ap (λ x. field_words place s.cues x k) (sym is)) h
+    ∙ ap (λ x. says_in marks.epoch x (first_owner s.owners) s.cues (seen_of told) k) (sym here.1)
+    ∙ ap (λ x. says_in marks.epoch marks.next x s.cues (seen_of told) k) (sym here.2)
+    ∙ ap (λ x. field_words marks s.cues x k) (sym is)) h

@@ -14,7 +14,7 @@ use Rattle.jser_shown.specs.Known.{NamedLayer, proxy_layer, with_entry, classes_
 use Rattle.jser_printer.specs.declared.class.KeptClass.{KeptClass}
 use Rattle.jser_printer.specs.declared.layer.Layer.{Layer}
 use Rattle.jser_printer.specs.Layers.{view_layer, view_layers}
-use Rattle.jser_printer.specs.Tables.{TableView, layer_in, layers_in, no_class, class_in, named_class, named_line, named_lines, view_new, view_entries, view_handles, table_of, AreAmong, IsNumbered, counted, IsSound, IsClassAt, IsChainOf}
+use Rattle.jser_printer.specs.Tables.{NamesView, layer_in, layers_in, no_class, class_in, named_class, named_line, named_lines, view_new, view_entries, view_handles, table_of, AreAmong, IsNumbered, counted, IsSound, IsClassAt, IsChainOf}
 use Rattle.jser_printer.proofs.HandleLemmas.{view_push, classes_of_handle}
 
 -- an empty table
@@ -88,9 +88,9 @@ straight_at above line first straight n index back is last low at =
 
 -- a table with these fields, and what contracts see of it
 
-module _ (h : Handles) (layers : List NamedLayer) (classes : List KeptClass) (view : TableView) (is : table_of h layers classes ≡ view) (sound : IsSound h layers classes) where
+module _ (h : Handles) (layers : List NamedLayer) (classes : List KeptClass) (view : NamesView) (is : table_of h layers classes ≡ view) (sound : IsSound h layers classes) where
   pub length_view : length view.chains ≡ length h.lines
-  length_view = sym (ap (λ (v : TableView). length v.chains) is) ∙ length-map h.lines (named_line layers classes)
+  length_view = sym (ap (λ (v : NamesView). length v.chains) is) ∙ length-map h.lines (named_line layers classes)
 
   pub length_classes : length classes ≡ length h.lines
   length_classes = omega (arith, ap length sound.counts, length-map classes counted, length-map h.lines length)
@@ -99,7 +99,7 @@ module _ (h : Handles) (layers : List NamedLayer) (classes : List KeptClass) (vi
   length_chains = omega (arith, ap length sound.long, length-map h.chains length, length-map h.lines length)
 
   pub line_named : (n : ℕ) → n < length h.lines → layers_in view.chains n ≡ named_line layers classes (line_in h.lines n)
-  line_named n inside = ap (λ (v : TableView). layers_in v.chains n) (sym is) ∙ get_or-map (named_line layers classes) h.lines n [] [] inside
+  line_named n inside = ap (λ (v : NamesView). layers_in v.chains n) (sym is) ∙ get_or-map (named_line layers classes) h.lines n [] [] inside
 
   -- what is kept of a class
 
@@ -208,13 +208,13 @@ module _ (h : Handles) (layers : List NamedLayer) (classes : List KeptClass) (vi
   -- the chain of a handle
   pub is_chain : (handle : ℕ) (chain : Option ℕ) → IsClassAt h handle chain → IsChainOf view handle chain
   is_chain handle None at =
-      ap (λ (v : TableView). classes_at v.known handle) (sym is)
+      ap (λ (v : NamesView). classes_at v.known handle) (sym is)
       ∙ classes_of_handle (named_lines layers classes h.lines) h handle None sound.paired at
   is_chain handle (Some n) has = (
     omega (arith, has.inside, length_view, length_chains),
-    ap (λ (v : TableView). classes_at v.known handle) (sym is)
+    ap (λ (v : NamesView). classes_at v.known handle) (sym is)
         ∙ classes_of_handle (named_lines layers classes h.lines) h handle (Some n) sound.paired has.number_is
-        ∙ ap (λ (v : TableView). layers_in v.chains n) is,
+        ∙ ap (λ (v : NamesView). layers_in v.chains n) is,
   )
 
   -- one more layer changes no chain
@@ -226,12 +226,12 @@ module _ (h : Handles) (layers : List NamedLayer) (classes : List KeptClass) (vi
       ap (λ ls. named_lines ls classes h.lines) more
       ∙ lines_same (named_class (layers ++ view_layer l ∷ []) classes) (named_class layers classes) (length h.lines)
       (λ m inside. get_or_append_left layers (view_layer l ∷ []) proxy_layer (class_in classes m).own (own_inside m inside)) h.lines sound.of
-      ∙ ap (λ (v : TableView). v.chains) is
+      ∙ ap (λ (v : NamesView). v.chains) is
 
   pub known_same : (old new : List Layer) (l : Layer) → layers ≡ view_layers old → new ≡ old ++ l ∷ [] → view_handles (named_lines (view_layers new) classes h.lines) h ≡ view.known
   known_same old new l told added =
-      ap (λ chains. view_handles chains h) (chains_same old new l told added ∙ ap (λ (v : TableView). v.chains) (sym is))
-      ∙ ap (λ (v : TableView). v.known) is
+      ap (λ chains. view_handles chains h) (chains_same old new l told added ∙ ap (λ (v : NamesView). v.chains) (sym is))
+      ∙ ap (λ (v : NamesView). v.known) is
 
   -- one more handle
   pub known_more : (new : Handles) (kind : Kind) → new.entries ≡ h.entries ++ new_entry kind ∷ [] → new.numbers ≡ h.numbers ++ None ∷ [] → new.lines ≡ h.lines → view_handles (named_lines layers classes new.lines) new ≡ with_entry view.known (view_new kind)
@@ -241,4 +241,4 @@ module _ (h : Handles) (layers : List NamedLayer) (classes : List KeptClass) (vi
       ∙ ap (λ es. view_entries C (zip es new.numbers)) entries
       ∙ ap (λ ns. view_entries C (zip (h.entries ++ new_entry kind ∷ []) ns)) numbers
       ∙ view_push C h.entries h.numbers (new_entry kind) sound.paired
-      ∙ ap (λ (v : TableView). v.known ++ view_new kind ∷ []) is
+      ∙ ap (λ (v : NamesView). v.known ++ view_new kind ∷ []) is

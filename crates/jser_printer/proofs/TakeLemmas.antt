@@ -20,9 +20,11 @@ use Rattle.jser_shown.specs.Words.{begin_line}
 use Rattle.jser_printer.specs.FieldWords.{cue_words, field_words}
 use Rattle.jser_printer.specs.TagWords.{tag_words}
 use Rattle.jser_printer.specs.Says.{Says}
-use Rattle.jser_printer.specs.declared.words.tag.Place.{Place}
-use Rattle.jser_printer.specs.Tables.{layer_in, layers_in}
-use Rattle.jser_printer.specs.Frames.{parts_from, cue_of, cues_of, others_of, tail_of, FramesFit, BeginsSection, TakesPart}
+use Rattle.jser_printer.specs.declared.words.tag.Marks.{Marks}
+use Rattle.jser_printer.specs.Tables.{layer_in}
+use Rattle.jser_printer.specs.declared.frame.Sections.{Sections}
+use Rattle.jser_printer.specs.declared.frame.SuperPlace.{SuperPlace}
+use Rattle.jser_printer.specs.Frames.{parts_of, go_on, cue_of, cues_of, others_of, tail_of, FramesFit, BeginsSection, TakesPart}
 use Rattle.jser_printer.proofs.PassLemmas.{close_cues}
 use Rattle.jser_printer.proofs.SaysLemmas.{says_nothing}
 
@@ -52,126 +54,126 @@ at_top layers chains frames none = ap (cues_of layers chains) none
 
 -- at the sections of an object
 
-part_goes : (layers : List NamedLayer) (chains : List (List NamedLayer)) (frames : List Frame) (level chain index : ℕ) (s : Stage) (parts : List SectionPart) (e : ℕ) (known : Known) (os : List OwnerNode) (field : SeenField) → frames ≡ frame.Sections level chain index s ∷ tail_of frames → parts_from (layers_in chains chain) index s ≡ parts → goes_in e known os (cues_of layers chains frames) field ≡ parts_goes e known os (cues_of layers chains (tail_of frames)) level parts field
-part_goes layers chains frames level chain index s parts e known os field top is =
-    goes_first layers chains frames (frame.Sections level chain index s) e known os field top
-    ∙ ap (λ ps. parts_goes e known os (cues_of layers chains (tail_of frames)) level ps field) is
+part_goes : (layers : List NamedLayer) (chains : List (List NamedLayer)) (frames : List Frame) (at : Sections) (parts : List SectionPart) (e : ℕ) (known : Known) (os : List OwnerNode) (field : SeenField) → frames ≡ frame.Sections at ∷ tail_of frames → parts_of chains at ≡ parts → goes_in e known os (cues_of layers chains frames) field ≡ parts_goes e known os (cues_of layers chains (tail_of frames)) at.level parts field
+part_goes layers chains frames at parts e known os field top is =
+    goes_first layers chains frames (frame.Sections at) e known os field top
+    ∙ ap (λ ps. parts_goes e known os (cues_of layers chains (tail_of frames)) at.level ps field) is
 
-same_frames : (layers : List NamedLayer) (chains : List (List NamedLayer)) (frames : List Frame) (level chain index : ℕ) (s : Stage) (parts : List SectionPart) (e : ℕ) (known : Known) (os : List OwnerNode) → frames ≡ frame.Sections level chain index s ∷ tail_of frames → parts_from (layers_in chains chain) index s ≡ parts → teller e known os (cues_of layers chains frames) ≡ teller e known os (parts_cue level parts ∷ cues_of layers chains (tail_of frames))
-same_frames layers chains frames level chain index s parts e known os top is =
+same_frames : (layers : List NamedLayer) (chains : List (List NamedLayer)) (frames : List Frame) (at : Sections) (parts : List SectionPart) (e : ℕ) (known : Known) (os : List OwnerNode) → frames ≡ frame.Sections at ∷ tail_of frames → parts_of chains at ≡ parts → teller e known os (cues_of layers chains frames) ≡ teller e known os (parts_cue at.level parts ∷ cues_of layers chains (tail_of frames))
+same_frames layers chains frames at parts e known os top is =
     ap (λ fs. teller e known os (cues_of layers chains fs)) top
-    ∙ ap (λ ps. teller e known os (parts_cue level ps ∷ cues_of layers chains (tail_of frames))) is
+    ∙ ap (λ ps. teller e known os (parts_cue at.level ps ∷ cues_of layers chains (tail_of frames))) is
 
 -- the field is not this part's
-left_there : (layers : List NamedLayer) (chains : List (List NamedLayer)) (frames : List Frame) (level chain index : ℕ) (s : Stage) (parts : List SectionPart) (field : SeenField) → frames ≡ frame.Sections level chain index s ∷ tail_of frames → parts_from (layers_in chains chain) index s ≡ parts → ((e : ℕ) (known : Known) (os : List OwnerNode) (cues : List Cue) → parts_goes e known os cues level parts field ≡ teller e known os (parts_cue level parts ∷ cues)) → TakesPart layers chains level frames frames field None
-left_there layers chains frames level chain index s parts field top is stays = λ e known os.
-    part_goes layers chains frames level chain index s parts e known os field top is
+left_there : (layers : List NamedLayer) (chains : List (List NamedLayer)) (frames : List Frame) (at : Sections) (parts : List SectionPart) (field : SeenField) → frames ≡ frame.Sections at ∷ tail_of frames → parts_of chains at ≡ parts → ((e : ℕ) (known : Known) (os : List OwnerNode) (cues : List Cue) → parts_goes e known os cues at.level parts field ≡ teller e known os (parts_cue at.level parts ∷ cues)) → TakesPart layers chains at.level frames frames field None
+left_there layers chains frames at parts field top is stays = λ e known os.
+    part_goes layers chains frames at parts e known os field top is
     ∙ stays e known os (cues_of layers chains (tail_of frames))
-    ∙ sym (same_frames layers chains frames level chain index s parts e known os top is)
+    ∙ sym (same_frames layers chains frames at parts e known os top is)
 
-pub section_left : (layers : List NamedLayer) (chains : List (List NamedLayer)) (frames : List Frame) (level chain index : ℕ) (s : Stage) (name : Option (List ℕ)) (others : List SectionPart) (field : SeenField) → frames ≡ frame.Sections level chain index s ∷ tail_of frames → BeginsSection (parts_from (layers_in chains chain) index s) name others → TakesPart layers chains level frames frames field None
-section_left layers chains frames level chain index s name others field top begins =
-    left_there layers chains frames level chain index s (data_part begins.layer ∷ others) field top begins.parts_are (λ e known os cues. refl)
+pub section_left : (layers : List NamedLayer) (chains : List (List NamedLayer)) (frames : List Frame) (at : Sections) (name : Option (List ℕ)) (others : List SectionPart) (field : SeenField) → frames ≡ frame.Sections at ∷ tail_of frames → BeginsSection (parts_of chains at) name others → TakesPart layers chains at.level frames frames field None
+section_left layers chains frames at name others field top begins =
+    left_there layers chains frames at (data_part begins.layer ∷ others) field top begins.parts_are (λ e known os cues. refl)
 
-pub notes_left : (layers : List NamedLayer) (chains : List (List NamedLayer)) (frames : List Frame) (level chain index : ℕ) (s : Stage) (others : List SectionPart) (field : SeenField) → frames ≡ frame.Sections level chain index s ∷ tail_of frames → parts_from (layers_in chains chain) index s ≡ note_part ∷ others → TakesPart layers chains level frames frames field None
-notes_left layers chains frames level chain index s others field top is =
-    left_there layers chains frames level chain index s (note_part ∷ others) field top is (λ e known os cues. refl)
+pub notes_left : (layers : List NamedLayer) (chains : List (List NamedLayer)) (frames : List Frame) (at : Sections) (others : List SectionPart) (field : SeenField) → frames ≡ frame.Sections at ∷ tail_of frames → parts_of chains at ≡ note_part ∷ others → TakesPart layers chains at.level frames frames field None
+notes_left layers chains frames at others field top is =
+    left_there layers chains frames at (note_part ∷ others) field top is (λ e known os cues. refl)
 
-pub end_left : (layers : List NamedLayer) (chains : List (List NamedLayer)) (frames : List Frame) (level chain index : ℕ) (s : Stage) (field : SeenField) → frames ≡ frame.Sections level chain index s ∷ tail_of frames → parts_from (layers_in chains chain) index s ≡ [] → TakesPart layers chains level frames frames field None
-end_left layers chains frames level chain index s field top is =
-    left_there layers chains frames level chain index s [] field top is (λ e known os cues. refl)
+pub end_left : (layers : List NamedLayer) (chains : List (List NamedLayer)) (frames : List Frame) (at : Sections) (field : SeenField) → frames ≡ frame.Sections at ∷ tail_of frames → parts_of chains at ≡ [] → TakesPart layers chains at.level frames frames field None
+end_left layers chains frames at field top is =
+    left_there layers chains frames at [] field top is (λ e known os cues. refl)
 
 -- the field is this part's
 
-pub raw_taken : (layers : List NamedLayer) (chains : List (List NamedLayer)) (old new : List Frame) (level chain index index' : ℕ) (s s' : Stage) (name bytes : List ℕ) → old ≡ frame.Sections level chain index s ∷ tail_of old → new ≡ frame.Sections level chain index' s' ∷ tail_of old → parts_from (layers_in chains chain) index s ≡ raw_part (field_named name) ∷ parts_from (layers_in chains chain) index' s' → TakesPart layers chains level old new (seen_bytes bytes) None
-raw_taken layers chains old new level chain index index' s s' name bytes top put is = λ e known os.
-    part_goes layers chains old level chain index s _ e known os (seen_bytes bytes) top is
+pub raw_taken : (layers : List NamedLayer) (chains : List (List NamedLayer)) (old new : List Frame) (at : Sections) (index : ℕ) (s : Stage) (name bytes : List ℕ) → old ≡ frame.Sections at ∷ tail_of old → new ≡ frame.Sections (go_on at index s) ∷ tail_of old → parts_of chains at ≡ raw_part (field_named name) ∷ parts_of chains (go_on at index s) → TakesPart layers chains at.level old new (seen_bytes bytes) None
+raw_taken layers chains old new at index s name bytes top put is = λ e known os.
+    part_goes layers chains old at _ e known os (seen_bytes bytes) top is
     ∙ sym (ap (λ fs. teller e known os (cues_of layers chains fs)) put)
 
-pub value_taken : (layers : List NamedLayer) (chains : List (List NamedLayer)) (old new : List Frame) (level chain index index' : ℕ) (s s' : Stage) (name : List ℕ) (tag : Tag) → old ≡ frame.Sections level chain index s ∷ tail_of old → new ≡ frame.Sections level chain index' s' ∷ tail_of old → parts_from (layers_in chains chain) index s ≡ value_part (field_named name) ∷ parts_from (layers_in chains chain) index' s' → TakesPart layers chains level old new (seen_tag tag) (Some tag)
-value_taken layers chains old new level chain index index' s s' name tag top put is = λ e known os.
-    part_goes layers chains old level chain index s _ e known os (seen_tag tag) top is
-    ∙ sym (ap (λ fs. begin e (suc level) known os tag (cues_of layers chains fs)) put)
+pub value_taken : (layers : List NamedLayer) (chains : List (List NamedLayer)) (old new : List Frame) (at : Sections) (index : ℕ) (s : Stage) (name : List ℕ) (tag : Tag) → old ≡ frame.Sections at ∷ tail_of old → new ≡ frame.Sections (go_on at index s) ∷ tail_of old → parts_of chains at ≡ value_part (field_named name) ∷ parts_of chains (go_on at index s) → TakesPart layers chains at.level old new (seen_tag tag) (Some tag)
+value_taken layers chains old new at index s name tag top put is = λ e known os.
+    part_goes layers chains old at _ e known os (seen_tag tag) top is
+    ∙ sym (ap (λ fs. begin e (suc at.level) known os tag (cues_of layers chains fs)) put)
 
 -- what is said of a field by the frame on top
 
-pub says_first : (a b : Outgoing) (d e : SinkState) (place : Place) (layers : List NamedLayer) (chains : List (List NamedLayer)) (frames : List Frame) (f : Frame) (field : SeenField) → frames ≡ f ∷ tail_of frames → Says a b d e (λ k. cue_words place (cue_of layers chains f) field k) → Says a b d e (λ k. field_words place (cues_of layers chains frames) field k)
-says_first a b d e place layers chains frames f field top h =
-    subst (λ fs. Says a b d e (λ k. field_words place (cues_of layers chains fs) field k)) (sym top) h
+pub says_first : (a b : Outgoing) (d e : SinkState) (marks : Marks) (layers : List NamedLayer) (chains : List (List NamedLayer)) (frames : List Frame) (f : Frame) (field : SeenField) → frames ≡ f ∷ tail_of frames → Says a b d e (λ k. cue_words marks (cue_of layers chains f) field k) → Says a b d e (λ k. field_words marks (cues_of layers chains frames) field k)
+says_first a b d e marks layers chains frames f field top h =
+    subst (λ fs. Says a b d e (λ k. field_words marks (cues_of layers chains fs) field k)) (sym top) h
 
-pub says_last : (a b : Outgoing) (d e : SinkState) (place : Place) (layers : List NamedLayer) (chains : List (List NamedLayer)) (frames : List Frame) (field : SeenField) → frames ≡ [] → Says a b d e (λ k. cue_words place top_cue field k) → Says a b d e (λ k. field_words place (cues_of layers chains frames) field k)
-says_last a b d e place layers chains frames field none h =
-    subst (λ fs. Says a b d e (λ k. field_words place (cues_of layers chains fs) field k)) (sym none) h
+pub says_last : (a b : Outgoing) (d e : SinkState) (marks : Marks) (layers : List NamedLayer) (chains : List (List NamedLayer)) (frames : List Frame) (field : SeenField) → frames ≡ [] → Says a b d e (λ k. cue_words marks top_cue field k) → Says a b d e (λ k. field_words marks (cues_of layers chains frames) field k)
+says_last a b d e marks layers chains frames field none h =
+    subst (λ fs. Says a b d e (λ k. field_words marks (cues_of layers chains fs) field k)) (sym none) h
 
-part_says : (a b : Outgoing) (d e : SinkState) (place : Place) (layers : List NamedLayer) (chains : List (List NamedLayer)) (frames : List Frame) (level chain index : ℕ) (s : Stage) (parts : List SectionPart) (field : SeenField) → frames ≡ frame.Sections level chain index s ∷ tail_of frames → parts_from (layers_in chains chain) index s ≡ parts → Says a b d e (λ k. cue_words place (parts_cue level parts) field k) → Says a b d e (λ k. field_words place (cues_of layers chains frames) field k)
-part_says a b d e place layers chains frames level chain index s parts field top is h =
-    says_first a b d e place layers chains frames (frame.Sections level chain index s) field top
-    (subst (λ ps. Says a b d e (λ k. cue_words place (parts_cue level ps) field k)) (sym is) h)
+part_says : (a b : Outgoing) (d e : SinkState) (marks : Marks) (layers : List NamedLayer) (chains : List (List NamedLayer)) (frames : List Frame) (at : Sections) (parts : List SectionPart) (field : SeenField) → frames ≡ frame.Sections at ∷ tail_of frames → parts_of chains at ≡ parts → Says a b d e (λ k. cue_words marks (parts_cue at.level parts) field k) → Says a b d e (λ k. field_words marks (cues_of layers chains frames) field k)
+part_says a b d e marks layers chains frames at parts field top is h =
+    says_first a b d e marks layers chains frames (frame.Sections at) field top
+    (subst (λ ps. Says a b d e (λ k. cue_words marks (parts_cue at.level ps) field k)) (sym is) h)
 
-pub raw_said : (a b : Outgoing) (d e : SinkState) (place : Place) (layers : List NamedLayer) (chains : List (List NamedLayer)) (frames : List Frame) (level chain index : ℕ) (s : Stage) (name : List ℕ) (others : List SectionPart) (field : SeenField) (bytes : List ℕ) → frames ≡ frame.Sections level chain index s ∷ tail_of frames → parts_from (layers_in chains chain) index s ≡ raw_part (field_named name) ∷ others → field ≡ seen_bytes bytes → Says a b d e (λ k. raw_line (suc level) (field_named name) bytes k) → Says a b d e (λ k. field_words place (cues_of layers chains frames) field k)
-raw_said a b d e place layers chains frames level chain index s name others field bytes top is same h =
-    part_says a b d e place layers chains frames level chain index s (raw_part (field_named name) ∷ others) field top is
-    (subst (λ f. Says a b d e (λ k. cue_words place (parts_cue level (raw_part (field_named name) ∷ others)) f k)) (sym same) h)
+pub raw_said : (a b : Outgoing) (d e : SinkState) (marks : Marks) (layers : List NamedLayer) (chains : List (List NamedLayer)) (frames : List Frame) (at : Sections) (name : List ℕ) (others : List SectionPart) (field : SeenField) (bytes : List ℕ) → frames ≡ frame.Sections at ∷ tail_of frames → parts_of chains at ≡ raw_part (field_named name) ∷ others → field ≡ seen_bytes bytes → Says a b d e (λ k. raw_line (suc at.level) (field_named name) bytes k) → Says a b d e (λ k. field_words marks (cues_of layers chains frames) field k)
+raw_said a b d e marks layers chains frames at name others field bytes top is same h =
+    part_says a b d e marks layers chains frames at (raw_part (field_named name) ∷ others) field top is
+    (subst (λ f. Says a b d e (λ k. cue_words marks (parts_cue at.level (raw_part (field_named name) ∷ others)) f k)) (sym same) h)
 
-pub value_said : (a b : Outgoing) (d e : SinkState) (place : Place) (layers : List NamedLayer) (chains : List (List NamedLayer)) (frames : List Frame) (level chain index : ℕ) (s : Stage) (name : List ℕ) (others : List SectionPart) (field : SeenField) (tag : Tag) → frames ≡ frame.Sections level chain index s ∷ tail_of frames → parts_from (layers_in chains chain) index s ≡ value_part (field_named name) ∷ others → field ≡ seen_tag tag → Says a b d e (λ k. begin_line (suc level) (name_text (field_named name) (tag_words place tag k))) → Says a b d e (λ k. field_words place (cues_of layers chains frames) field k)
-value_said a b d e place layers chains frames level chain index s name others field tag top is same h =
-    part_says a b d e place layers chains frames level chain index s (value_part (field_named name) ∷ others) field top is
-    (subst (λ f. Says a b d e (λ k. cue_words place (parts_cue level (value_part (field_named name) ∷ others)) f k)) (sym same) h)
+pub value_said : (a b : Outgoing) (d e : SinkState) (marks : Marks) (layers : List NamedLayer) (chains : List (List NamedLayer)) (frames : List Frame) (at : Sections) (name : List ℕ) (others : List SectionPart) (field : SeenField) (tag : Tag) → frames ≡ frame.Sections at ∷ tail_of frames → parts_of chains at ≡ value_part (field_named name) ∷ others → field ≡ seen_tag tag → Says a b d e (λ k. begin_line (suc at.level) (name_text (field_named name) (tag_words marks tag k))) → Says a b d e (λ k. field_words marks (cues_of layers chains frames) field k)
+value_said a b d e marks layers chains frames at name others field tag top is same h =
+    part_says a b d e marks layers chains frames at (value_part (field_named name) ∷ others) field top is
+    (subst (λ f. Says a b d e (λ k. cue_words marks (parts_cue at.level (value_part (field_named name) ∷ others)) f k)) (sym same) h)
 
 -- a field of which this part says nothing
-pub part_silent : (a : Outgoing) (d : SinkState) (place : Place) (layers : List NamedLayer) (chains : List (List NamedLayer)) (frames : List Frame) (level chain index : ℕ) (s : Stage) (parts : List SectionPart) (field : SeenField) → frames ≡ frame.Sections level chain index s ∷ tail_of frames → parts_from (layers_in chains chain) index s ≡ parts → ((k : List ℕ) → cue_words place (parts_cue level parts) field k ≡ k) → Says a a d d (λ k. field_words place (cues_of layers chains frames) field k)
-part_silent a d place layers chains frames level chain index s parts field top is same =
-    part_says a a d d place layers chains frames level chain index s parts field top is
-    (says_nothing a d (λ k. cue_words place (parts_cue level parts) field k) same)
+pub part_silent : (a : Outgoing) (d : SinkState) (marks : Marks) (layers : List NamedLayer) (chains : List (List NamedLayer)) (frames : List Frame) (at : Sections) (parts : List SectionPart) (field : SeenField) → frames ≡ frame.Sections at ∷ tail_of frames → parts_of chains at ≡ parts → ((k : List ℕ) → cue_words marks (parts_cue at.level parts) field k ≡ k) → Says a a d d (λ k. field_words marks (cues_of layers chains frames) field k)
+part_silent a d marks layers chains frames at parts field top is same =
+    part_says a a d d marks layers chains frames at parts field top is
+    (says_nothing a d (λ k. cue_words marks (parts_cue at.level parts) field k) same)
 
-pub section_silent : (a : Outgoing) (d : SinkState) (place : Place) (layers : List NamedLayer) (chains : List (List NamedLayer)) (frames : List Frame) (level chain index : ℕ) (s : Stage) (name : Option (List ℕ)) (others : List SectionPart) (field : SeenField) → frames ≡ frame.Sections level chain index s ∷ tail_of frames → BeginsSection (parts_from (layers_in chains chain) index s) name others → Says a a d d (λ k. field_words place (cues_of layers chains frames) field k)
-section_silent a d place layers chains frames level chain index s name others field top begins =
-    part_silent a d place layers chains frames level chain index s (data_part begins.layer ∷ others) field top begins.parts_are (λ k. refl)
+pub section_silent : (a : Outgoing) (d : SinkState) (marks : Marks) (layers : List NamedLayer) (chains : List (List NamedLayer)) (frames : List Frame) (at : Sections) (name : Option (List ℕ)) (others : List SectionPart) (field : SeenField) → frames ≡ frame.Sections at ∷ tail_of frames → BeginsSection (parts_of chains at) name others → Says a a d d (λ k. field_words marks (cues_of layers chains frames) field k)
+section_silent a d marks layers chains frames at name others field top begins =
+    part_silent a d marks layers chains frames at (data_part begins.layer ∷ others) field top begins.parts_are (λ k. refl)
 
-pub notes_silent : (a : Outgoing) (d : SinkState) (place : Place) (layers : List NamedLayer) (chains : List (List NamedLayer)) (frames : List Frame) (level chain index : ℕ) (s : Stage) (others : List SectionPart) (field : SeenField) → frames ≡ frame.Sections level chain index s ∷ tail_of frames → parts_from (layers_in chains chain) index s ≡ note_part ∷ others → Says a a d d (λ k. field_words place (cues_of layers chains frames) field k)
-notes_silent a d place layers chains frames level chain index s others field top is =
-    part_silent a d place layers chains frames level chain index s (note_part ∷ others) field top is (λ k. refl)
+pub notes_silent : (a : Outgoing) (d : SinkState) (marks : Marks) (layers : List NamedLayer) (chains : List (List NamedLayer)) (frames : List Frame) (at : Sections) (others : List SectionPart) (field : SeenField) → frames ≡ frame.Sections at ∷ tail_of frames → parts_of chains at ≡ note_part ∷ others → Says a a d d (λ k. field_words marks (cues_of layers chains frames) field k)
+notes_silent a d marks layers chains frames at others field top is =
+    part_silent a d marks layers chains frames at (note_part ∷ others) field top is (λ k. refl)
 
-pub end_silent : (a : Outgoing) (d : SinkState) (place : Place) (layers : List NamedLayer) (chains : List (List NamedLayer)) (frames : List Frame) (level chain index : ℕ) (s : Stage) (field : SeenField) → frames ≡ frame.Sections level chain index s ∷ tail_of frames → parts_from (layers_in chains chain) index s ≡ [] → Says a a d d (λ k. field_words place (cues_of layers chains frames) field k)
-end_silent a d place layers chains frames level chain index s field top is =
-    part_silent a d place layers chains frames level chain index s [] field top is (λ k. refl)
+pub end_silent : (a : Outgoing) (d : SinkState) (marks : Marks) (layers : List NamedLayer) (chains : List (List NamedLayer)) (frames : List Frame) (at : Sections) (field : SeenField) → frames ≡ frame.Sections at ∷ tail_of frames → parts_of chains at ≡ [] → Says a a d d (λ k. field_words marks (cues_of layers chains frames) field k)
+end_silent a d marks layers chains frames at field top is =
+    part_silent a d marks layers chains frames at [] field top is (λ k. refl)
 
-raw-says_nothing : (place : Place) (level : ℕ) (name : ValueName) (parts : List SectionPart) (sight : Seen) (k : List ℕ) → ((x : Bor (List ℕ)) → sight ≡ seen.Bytes x → ⊥) → cue_words place (parts_cue level (raw_part name ∷ parts)) (view_seen sight) k ≡ k
-raw-says_nothing place level name parts (seen.Bytes x) k other = absurd (other x refl)
-raw-says_nothing place level name parts sight k other = refl
+raw-says_nothing : (marks : Marks) (level : ℕ) (name : ValueName) (parts : List SectionPart) (sight : Seen) (k : List ℕ) → ((x : Bor (List ℕ)) → sight ≡ seen.Bytes x → ⊥) → cue_words marks (parts_cue level (raw_part name ∷ parts)) (view_seen sight) k ≡ k
+raw-says_nothing marks level name parts (seen.Bytes x) k other = absurd (other x refl)
+raw-says_nothing marks level name parts sight k other = refl
 
 raw-stays : (level : ℕ) (name : ValueName) (parts : List SectionPart) (sight : Seen) → ((x : Bor (List ℕ)) → sight ≡ seen.Bytes x → ⊥) → (e : ℕ) (known : Known) (os : List OwnerNode) (cues : List Cue) → parts_goes e known os cues level (raw_part name ∷ parts) (view_seen sight) ≡ teller e known os (parts_cue level (raw_part name ∷ parts) ∷ cues)
 raw-stays level name parts (seen.Bytes x) other e known os cues = absurd (other x refl)
 raw-stays level name parts sight other e known os cues = refl
 
-pub raw_silent : (a : Outgoing) (d : SinkState) (place : Place) (layers : List NamedLayer) (chains : List (List NamedLayer)) (frames : List Frame) (level chain index : ℕ) (s : Stage) (name : ValueName) (others : List SectionPart) (sight : Seen) → frames ≡ frame.Sections level chain index s ∷ tail_of frames → parts_from (layers_in chains chain) index s ≡ raw_part name ∷ others → ((x : Bor (List ℕ)) → sight ≡ seen.Bytes x → ⊥) → Says a a d d (λ k. field_words place (cues_of layers chains frames) (view_seen sight) k)
-raw_silent a d place layers chains frames level chain index s name others sight top is other =
-    part_silent a d place layers chains frames level chain index s (raw_part name ∷ others) (view_seen sight) top is (λ k. raw-says_nothing place level name others sight k other)
+pub raw_silent : (a : Outgoing) (d : SinkState) (marks : Marks) (layers : List NamedLayer) (chains : List (List NamedLayer)) (frames : List Frame) (at : Sections) (name : ValueName) (others : List SectionPart) (sight : Seen) → frames ≡ frame.Sections at ∷ tail_of frames → parts_of chains at ≡ raw_part name ∷ others → ((x : Bor (List ℕ)) → sight ≡ seen.Bytes x → ⊥) → Says a a d d (λ k. field_words marks (cues_of layers chains frames) (view_seen sight) k)
+raw_silent a d marks layers chains frames at name others sight top is other =
+    part_silent a d marks layers chains frames at (raw_part name ∷ others) (view_seen sight) top is (λ k. raw-says_nothing marks at.level name others sight k other)
 
-pub raw_left : (layers : List NamedLayer) (chains : List (List NamedLayer)) (frames : List Frame) (level chain index : ℕ) (s : Stage) (name : ValueName) (others : List SectionPart) (sight : Seen) → frames ≡ frame.Sections level chain index s ∷ tail_of frames → parts_from (layers_in chains chain) index s ≡ raw_part name ∷ others → ((x : Bor (List ℕ)) → sight ≡ seen.Bytes x → ⊥) → TakesPart layers chains level frames frames (view_seen sight) None
-raw_left layers chains frames level chain index s name others sight top is other =
-    left_there layers chains frames level chain index s (raw_part name ∷ others) (view_seen sight) top is (raw-stays level name others sight other)
+pub raw_left : (layers : List NamedLayer) (chains : List (List NamedLayer)) (frames : List Frame) (at : Sections) (name : ValueName) (others : List SectionPart) (sight : Seen) → frames ≡ frame.Sections at ∷ tail_of frames → parts_of chains at ≡ raw_part name ∷ others → ((x : Bor (List ℕ)) → sight ≡ seen.Bytes x → ⊥) → TakesPart layers chains at.level frames frames (view_seen sight) None
+raw_left layers chains frames at name others sight top is other =
+    left_there layers chains frames at (raw_part name ∷ others) (view_seen sight) top is (raw-stays at.level name others sight other)
 
-value-says_nothing : (place : Place) (level : ℕ) (name : ValueName) (parts : List SectionPart) (sight : Seen) (k : List ℕ) → ((x : DeclaredTag) → sight ≡ seen.Tag x → ⊥) → cue_words place (parts_cue level (value_part name ∷ parts)) (view_seen sight) k ≡ k
-value-says_nothing place level name parts (seen.Tag x) k other = absurd (other x refl)
-value-says_nothing place level name parts sight k other = refl
+value-says_nothing : (marks : Marks) (level : ℕ) (name : ValueName) (parts : List SectionPart) (sight : Seen) (k : List ℕ) → ((x : DeclaredTag) → sight ≡ seen.Tag x → ⊥) → cue_words marks (parts_cue level (value_part name ∷ parts)) (view_seen sight) k ≡ k
+value-says_nothing marks level name parts (seen.Tag x) k other = absurd (other x refl)
+value-says_nothing marks level name parts sight k other = refl
 
 value-stays : (level : ℕ) (name : ValueName) (parts : List SectionPart) (sight : Seen) → ((x : DeclaredTag) → sight ≡ seen.Tag x → ⊥) → (e : ℕ) (known : Known) (os : List OwnerNode) (cues : List Cue) → parts_goes e known os cues level (value_part name ∷ parts) (view_seen sight) ≡ teller e known os (parts_cue level (value_part name ∷ parts) ∷ cues)
 value-stays level name parts (seen.Tag x) other e known os cues = absurd (other x refl)
 value-stays level name parts sight other e known os cues = refl
 
-pub value_silent : (a : Outgoing) (d : SinkState) (place : Place) (layers : List NamedLayer) (chains : List (List NamedLayer)) (frames : List Frame) (level chain index : ℕ) (s : Stage) (name : ValueName) (others : List SectionPart) (sight : Seen) → frames ≡ frame.Sections level chain index s ∷ tail_of frames → parts_from (layers_in chains chain) index s ≡ value_part name ∷ others → ((x : DeclaredTag) → sight ≡ seen.Tag x → ⊥) → Says a a d d (λ k. field_words place (cues_of layers chains frames) (view_seen sight) k)
-value_silent a d place layers chains frames level chain index s name others sight top is other =
-    part_silent a d place layers chains frames level chain index s (value_part name ∷ others) (view_seen sight) top is (λ k. value-says_nothing place level name others sight k other)
+pub value_silent : (a : Outgoing) (d : SinkState) (marks : Marks) (layers : List NamedLayer) (chains : List (List NamedLayer)) (frames : List Frame) (at : Sections) (name : ValueName) (others : List SectionPart) (sight : Seen) → frames ≡ frame.Sections at ∷ tail_of frames → parts_of chains at ≡ value_part name ∷ others → ((x : DeclaredTag) → sight ≡ seen.Tag x → ⊥) → Says a a d d (λ k. field_words marks (cues_of layers chains frames) (view_seen sight) k)
+value_silent a d marks layers chains frames at name others sight top is other =
+    part_silent a d marks layers chains frames at (value_part name ∷ others) (view_seen sight) top is (λ k. value-says_nothing marks at.level name others sight k other)
 
-pub value_left : (layers : List NamedLayer) (chains : List (List NamedLayer)) (frames : List Frame) (level chain index : ℕ) (s : Stage) (name : ValueName) (others : List SectionPart) (sight : Seen) → frames ≡ frame.Sections level chain index s ∷ tail_of frames → parts_from (layers_in chains chain) index s ≡ value_part name ∷ others → ((x : DeclaredTag) → sight ≡ seen.Tag x → ⊥) → TakesPart layers chains level frames frames (view_seen sight) None
-value_left layers chains frames level chain index s name others sight top is other =
-    left_there layers chains frames level chain index s (value_part name ∷ others) (view_seen sight) top is (value-stays level name others sight other)
+pub value_left : (layers : List NamedLayer) (chains : List (List NamedLayer)) (frames : List Frame) (at : Sections) (name : ValueName) (others : List SectionPart) (sight : Seen) → frames ≡ frame.Sections at ∷ tail_of frames → parts_of chains at ≡ value_part name ∷ others → ((x : DeclaredTag) → sight ≡ seen.Tag x → ⊥) → TakesPart layers chains at.level frames frames (view_seen sight) None
+value_left layers chains frames at name others sight top is other =
+    left_there layers chains frames at (value_part name ∷ others) (view_seen sight) top is (value-stays at.level name others sight other)
 
 -- a class with no superclass ends
 
-pub null_taken : (layers same : List NamedLayer) (old new : List (List NamedLayer)) (c : List NamedLayer) (frames popped : List Frame) (level number layer e : ℕ) (known known' : Known) (os : List OwnerNode) → FramesFit (length layers) (length old) frames → same ≡ layers → new ≡ old ++ c ∷ [] → popped ≡ tail_of frames → frames ≡ frame.Super level number layer ∷ tail_of frames → known' ≡ slice_set known number (known_class (layer_in layers layer ∷ [])) → teller e known' os (cues_of same new popped) ≡ goes_in e known os (cues_of layers old frames) (seen_tag null_tag)
-null_taken layers same old new c frames popped level number layer e known known' os fits unchanged added put top is =
+pub null_taken : (layers same : List NamedLayer) (old new : List (List NamedLayer)) (c : List NamedLayer) (frames popped : List Frame) (at : SuperPlace) (e : ℕ) (known known' : Known) (os : List OwnerNode) → FramesFit (length layers) (length old) frames → same ≡ layers → new ≡ old ++ c ∷ [] → popped ≡ tail_of frames → frames ≡ frame.Super at ∷ tail_of frames → known' ≡ slice_set known at.number (known_class (layer_in layers at.layer ∷ [])) → teller e known' os (cues_of same new popped) ≡ goes_in e known os (cues_of layers old frames) (seen_tag null_tag)
+null_taken layers same old new c frames popped at e known known' os fits unchanged added put top is =
     ap (λ cues. teller e known' os cues) (close_cues layers same old new c frames popped fits unchanged added put)
     ∙ ap (λ k. teller e k os (cues_of layers old (tail_of frames))) is
-    ∙ sym (goes_first layers old frames (frame.Super level number layer) e known os (seen_tag null_tag) top)
+    ∙ sym (goes_first layers old frames (frame.Super at) e known os (seen_tag null_tag) top)

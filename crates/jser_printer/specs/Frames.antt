@@ -8,6 +8,7 @@ use Rattle.jser_shown.specs.Shown.{field_named}
 use Rattle.jser_shown.specs.Cues.{SectionPart, data_part, external_part, raw_part, value_part, note_part, Cue, top_cue, note_cue, elements_cue, parts_cue, made_cue, super_cue, super_handle_cue, close_cue, raw_parts, value_parts, note_if, section_parts, Teller, teller}
 use Rattle.jser_printer.specs.declared.frame.Frame.{Frame}
 use Rattle.jser_printer.specs.declared.frame.Frame.TheVariants as frame
+use Rattle.jser_printer.specs.declared.frame.Sections.{Sections}
 use Rattle.jser_printer.specs.declared.frame.Stage.{Stage}
 use Rattle.jser_printer.specs.declared.frame.Stage.TheVariants as stage
 use Rattle.jser_printer.specs.declared.part.Part.{Part}
@@ -33,20 +34,27 @@ parts_at (stage.Value i) (l ∷ layers) =
 abbrev pub parts_from : List NamedLayer → (index : ℕ) → Stage → List SectionPart
 parts_from chain index stage = parts_at stage (drop index chain)
 
+-- the parts of an object's sections that are still to come
+abbrev pub parts_of : List (List NamedLayer) → Sections → List SectionPart
+parts_of chains at = parts_from (layers_in chains at.chain) at.index at.stage
+
+-- the same sections from a stage of the layer at this index on
+abbrev pub go_on : Sections → (index : ℕ) → Stage → Sections
+go_on at index stage = record { level = at.level; chain = at.chain; index = index; stage = stage }
+
 -- the cue of a frame, where these are the layers and the chains of the table
 abbrev pub cue_of : List NamedLayer → List (List NamedLayer) → Frame → Cue
 cue_of layers chains (frame.Notes level) = note_cue level
-cue_of layers chains (frame.Elements level index left) = elements_cue level index left
-cue_of layers chains (frame.Sections level chain index stage) =
-    parts_cue level (parts_from (layers_in chains chain) index stage)
+cue_of layers chains (frame.Elements at) = elements_cue at.level at.index at.left
+cue_of layers chains (frame.Sections at) = parts_cue at.level (parts_of chains at)
 cue_of layers chains (frame.External level chain) =
     parts_cue level (external_part (own_class_of (layers_in chains chain)) ∷ note_part ∷ [])
 cue_of layers chains (frame.ExternalNotes level chain) = parts_cue level (note_part ∷ [])
 cue_of layers chains (frame.ExternalEnd level chain) = parts_cue level []
 cue_of layers chains (frame.End level) = parts_cue level []
 cue_of layers chains (frame.Made owner level number) = made_cue (view_owner owner) level number
-cue_of layers chains (frame.Super level number layer) = super_cue level number (layer_in layers layer)
-cue_of layers chains (frame.SuperHandle level number layer) = super_handle_cue level number (layer_in layers layer)
+cue_of layers chains (frame.Super at) = super_cue at.level at.number (layer_in layers at.layer)
+cue_of layers chains (frame.SuperHandle at) = super_handle_cue at.level at.number (layer_in layers at.layer)
 cue_of layers chains (frame.Close number parent layer) = close_cue number parent (layer_in layers layer)
 
 -- the cues of a stack, the top first; below it is the top of the stream
@@ -56,12 +64,12 @@ cues_of layers chains (f ∷ frames) = cue_of layers chains f ∷ cues_of layers
 
 -- the frame has a layer and a chain of so many
 abbrev pub FrameFits : (layers chains : ℕ) → Frame → Type 0
-FrameFits layers chains (frame.Sections level chain index stage) = chain < chains
+FrameFits layers chains (frame.Sections at) = at.chain < chains
 FrameFits layers chains (frame.External level chain) = chain < chains
 FrameFits layers chains (frame.ExternalNotes level chain) = chain < chains
 FrameFits layers chains (frame.ExternalEnd level chain) = chain < chains
-FrameFits layers chains (frame.Super level number layer) = layer < layers
-FrameFits layers chains (frame.SuperHandle level number layer) = layer < layers
+FrameFits layers chains (frame.Super at) = at.layer < layers
+FrameFits layers chains (frame.SuperHandle at) = at.layer < layers
 FrameFits layers chains (frame.Close number parent layer) = layer < layers
 FrameFits layers chains f = Unit {0}
 

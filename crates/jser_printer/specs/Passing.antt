@@ -7,12 +7,12 @@ use Rattle.jser_printer.specs.Given.{view_node}
 use Rattle.jser_printer.specs.Phases.{StandsIn}
 use Rattle.jser_printer.specs.Steps.{Due, due, pass}
 use Rattle.jser_printer.specs.declared.phase.Phase.{Phase}
-use Rattle.jser_printer.specs.declared.words.tag.Place.{Place}
+use Rattle.jser_printer.specs.declared.words.tag.Marks.{Marks}
 
 -- what the words of a tag need of a teller
-abbrev pub PlaceIs : Place → Teller → Type 0
-PlaceIs place s =
-    (place.epoch ≡ s.epoch) × (place.next ≡ length s.known) × (view_node place.owner ≡ first_owner s.owners)
+abbrev pub MarksAre : Marks → Teller → Type 0
+MarksAre marks s =
+    (marks.epoch ≡ s.epoch) × (marks.next ≡ length s.known) × (view_node marks.owner ≡ first_owner s.owners)
 
 abbrev pub IsDue : Teller → Type 0
 IsDue s = (d : Due) × (due s ≡ Some d)

@@ -14,7 +14,7 @@ use Rattle.jser_printer.specs.declared.class.Parent.{Parent}
 
 -- what is known of the handles of the epoch; the layers of its classes, in the order in which their fields ended; the
 -- chains of the classes whose descriptors have ended, in this order
-pub record TableView : Type 0 where
+pub record NamesView : Type 0 where
   pub known : Known
   pub layers : List NamedLayer
   pub chains : List (List NamedLayer)
@@ -32,7 +32,7 @@ layers_above known None = []
 layers_above known (Some parent) = classes_at known parent
 
 -- the answer tells the chain of this class
-abbrev pub IsChainOf : TableView → ℕ → Option ℕ → Type 0
+abbrev pub IsChainOf : NamesView → ℕ → Option ℕ → Type 0
 IsChainOf table number None = classes_at table.known number ≡ []
 IsChainOf table number (Some chain) =
     (chain < length table.chains) × (classes_at table.known number ≡ layers_in table.chains chain)
@@ -77,7 +77,7 @@ view_entries chains entries = map (λ (e : TableEntry × Option ℕ). view_entry
 abbrev pub view_handles : List (List NamedLayer) → Handles → Known
 view_handles chains handles = view_entries chains (zip handles.entries handles.numbers)
 
-abbrev pub table_of : Handles → List NamedLayer → List KeptClass → TableView
+abbrev pub table_of : Handles → List NamedLayer → List KeptClass → NamesView
 table_of handles layers classes = record {
   known = view_handles (named_lines layers classes handles.lines) handles;
   layers = layers;

@@ -1,13 +1,13 @@
 //! What is open where a printer stands: for one who asks where in a stream a place is.
 
 use crate::draft::Draft;
-use crate::frame::{Frame, Stage};
+use crate::frame::{Frame, Sections, Stage, SuperPlace};
 use crate::layer::{Layer, NamedField, next_raw, next_value};
 use crate::name::Name;
 use crate::phase::Phase;
 use crate::printer::Printer;
 use crate::standing::Standing;
-use crate::table::Table;
+use crate::table::NameTable;
 use std::alloc::{AllocError, Global};
 
 /// What has begun and not ended. A class has no name where it is a proxy class.
@@ -101,7 +101,7 @@ fn add_frames<'w>(
 
 /// Adds what a frame holds open.
 fn add_frame<'w>(
-    table: &'w Table,
+    table: &'w NameTable,
     outer: Option<Frame>,
     frame: Frame,
     has_begun: bool,
@@ -111,25 +111,20 @@ fn add_frame<'w>(
         Frame::Notes { .. } => opened.push(Open::Annotation {
             class: writer_of_notes(table, outer),
         })?,
-        Frame::Elements { index, .. } => opened.push(Open::Element {
-            index: index.saturating_sub(u32::from(has_begun)),
+        Frame::Elements(at) => opened.push(Open::Element {
+            index: at.index.saturating_sub(u32::from(has_begun)),
         })?,
-        Frame::Sections {
-            chain,
-            index,
-            stage,
-            ..
-        } => {
-            opened.push(object_of(table, chain, section_at(index, stage)))?;
-            if let Some(field) = field_at(table, chain, index, stage, has_begun) {
+        Frame::Sections(at) => {
+            opened.push(object_of(table, at.chain, section_at(at)))?;
+            if let Some(field) = field_at(table, at, has_begun) {
                 opened.push(field)?;
             }
         }
         Frame::External { chain, .. }
         | Frame::ExternalNotes { chain, .. }
         | Frame::ExternalEnd { chain, .. } => opened.push(object_of(table, chain, 0))?,
-        Frame::Super { layer, .. }
-        | Frame::SuperHandle { layer, .. }
+        Frame::Super(SuperPlace { layer, .. })
+        | Frame::SuperHandle(SuperPlace { layer, .. })
         | Frame::Close { layer, .. } => opened.push(Open::Descriptor {
             class: table.layer_at(layer).and_then(Layer::name),
         })?,
@@ -139,7 +134,7 @@ fn add_frame<'w>(
 }
 
 /// An object of the class of this chain, whose section at this index is open or came last.
-fn object_of(table: &Table, chain: u32, section: usize) -> Open<'_> {
+fn object_of(table: &NameTable, chain: u32, section: usize) -> Open<'_> {
     Open::Object {
         class: table.own_of(chain).and_then(Layer::name),
         writer: writer_near(table, chain, section).and_then(Layer::name),
@@ -147,7 +142,7 @@ fn object_of(table: &Table, chain: u32, section: usize) -> Open<'_> {
 }
 
 /// The class that has a `writeObject` of its own, the nearest one up from this section, or else the next one behind it.
-fn writer_near(table: &Table, chain: u32, section: usize) -> Option<&Layer> {
+fn writer_near(table: &NameTable, chain: u32, section: usize) -> Option<&Layer> {
     let mut near = None;
     for index in 0..table.layers_of(chain) {
         if index > section && near.is_some() {
@@ -162,45 +157,31 @@ fn writer_near(table: &Table, chain: u32, section: usize) -> Option<&Layer> {
     near
 }
 
-/// The section that is open at a stage of the layer at this index, or that came last: at the first line of a section the
-/// one before.
-fn section_at(index: usize, stage: Stage) -> usize {
-    match stage {
-        Stage::Start => index.saturating_sub(1),
-        Stage::Raw(_) | Stage::Value(_) => index,
+/// The section that is open there, or that came last: at the first line of a section the one before.
+fn section_at(at: Sections) -> usize {
+    match at.stage {
+        Stage::Start => at.index.saturating_sub(1),
+        Stage::Raw(_) | Stage::Value(_) => at.index,
     }
 }
 
 /// The class whose annotation begins inside this frame.
-fn writer_of_notes(table: &Table, outer: Option<Frame>) -> Option<&Name> {
+fn writer_of_notes(table: &NameTable, outer: Option<Frame>) -> Option<&Name> {
     match outer {
-        Some(
-            Frame::Sections {
-                chain,
-                index,
-                stage,
-                ..
-            },
-        ) => table
-            .layer_of(chain, section_at(index, stage))
+        Some(Frame::Sections(at)) => table
+            .layer_of(at.chain, section_at(at))
             .and_then(Layer::name),
         Some(Frame::ExternalEnd { chain, .. }) => table.own_of(chain).and_then(Layer::name),
-        Some(Frame::Super { layer, .. }) => table.layer_at(layer).and_then(Layer::name),
+        Some(Frame::Super(at)) => table.layer_at(at.layer).and_then(Layer::name),
         _ => None,
     }
 }
 
-/// The field whose value is open at a stage of a section; where it has not begun, the one that comes next.
-fn field_at(
-    table: &Table,
-    chain: u32,
-    index: usize,
-    stage: Stage,
-    has_begun: bool,
-) -> Option<Open<'_>> {
-    let layer = table.layer_of(chain, index)?;
+/// The field whose value is open there; where it has not begun, the one that comes next.
+fn field_at(table: &NameTable, at: Sections, has_begun: bool) -> Option<Open<'_>> {
+    let layer = table.layer_of(at.chain, at.index)?;
     let fields = layer.fields();
-    let place = match stage {
+    let place = match at.stage {
         Stage::Start => return None,
         Stage::Raw(from) => next_raw(fields, from).or(next_value(fields, 0)),
         Stage::Value(from) if has_begun => last_value(fields, from),

@@ -7,7 +7,7 @@ use crate::frame::Stage;
 use crate::layer::{Layer, name_of, next_raw, next_value};
 use crate::name::Name;
 use crate::seen::Tag;
-use crate::table::Table;
+use crate::table::NameTable;
 
 /// A part of the sections of an object.
 #[derive(Clone, Copy)]
@@ -35,7 +35,7 @@ pub(crate) struct NextPart<'t> {
 
 /// The first part of the sections of this chain, from a stage of the layer at this index on.
 #[inline(always)]
-pub(crate) fn next_part(table: &Table, chain: u32, index: usize, stage: Stage) -> NextPart<'_>
+pub(crate) fn next_part(table: &NameTable, chain: u32, index: usize, stage: Stage) -> NextPart<'_>
     requires { chain < length table.now.chains }
     ensures next { IsNextPart (layers_in table.now.chains chain) index stage result }
     ensures fields { LeadsToFields result.part result.stage }
@@ -66,7 +66,7 @@ pub(crate) fn next_part(table: &Table, chain: u32, index: usize, stage: Stage) -
 
 /// The same from the first line of a section on.
 #[inline(always)]
-fn section_part(table: &Table, chain: u32, index: usize) -> NextPart<'_>
+fn section_part(table: &NameTable, chain: u32, index: usize) -> NextPart<'_>
     requires { chain < length table.now.chains }
     ensures next { IsNextPart (layers_in table.now.chains chain) index Stage.Start result }
     ensures fields { LeadsToFields result.part result.stage }
@@ -87,7 +87,7 @@ fn section_part(table: &Table, chain: u32, index: usize) -> NextPart<'_>
 
 /// The same from the values of a section on.
 #[inline(always)]
-fn value_part(table: &Table, chain: u32, index: usize, from: usize) -> NextPart<'_>
+fn value_part(table: &NameTable, chain: u32, index: usize, from: usize) -> NextPart<'_>
     requires chain_in { chain < length table.now.chains }
     requires index_in { index < length (layers_in table.now.chains chain) }
     requires fits { index < 2 ^ 64 - 1 }

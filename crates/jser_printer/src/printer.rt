@@ -3,7 +3,7 @@ ghost use Rattle.std.specs.Prelude.{◌≡◌, Bool, Some, OnOk, OnErr};
 ghost use Rattle.jser_reading.specs.Labels.{StreamField, text_field};
 ghost use Rattle.jser_shown.specs.Telling.{begin_telling, goes, says, settle_says, settled};
 ghost use Rattle.jser_printer.specs.Given.{IsOf, view_nodes};
-ghost use Rattle.jser_printer.specs.Passing.{PlaceIs, says_next};
+ghost use Rattle.jser_printer.specs.Passing.{MarksAre, says_next};
 ghost use Rattle.jser_printer.specs.Says.{BeginsTo, SaysTo};
 ghost use Rattle.jser_printer.specs.Seen.{Sees};
 
@@ -19,7 +19,7 @@ use crate::seen::{Seen, see};
 use crate::standing::Standing;
 use crate::text::{Plain, Text};
 use crate::words::quote::write_plain_line;
-use crate::words::tag::Place;
+use crate::words::tag::Marks;
 use jser_prim::{Outbox, Sink};
 use std::alloc::{AllocError, Global};
 use std::marker::Model;
@@ -160,16 +160,16 @@ impl<'a> Printer<'a> {
             → SaysTo W.gone_out W.has_failed outbox.old outbox.new sink.old sink.new (λ k. says self.old told k) }
         ensures goes { OnOk result ((told : StreamField) → Sees (Some seen.entry) told → self.new ≡ goes self.old told) }
     {
-        let place = self.place();
-        self.write_here(outbox, sink, place, seen)
+        let marks = self.marks();
+        self.write_here(outbox, sink, marks, seen)
     }
 
     /// What the words of a tag need of the printer.
     #[inline(always)]
-    fn place(&self) -> Place
-        ensures { PlaceIs result self.now }
+    fn marks(&self) -> Marks
+        ensures { MarksAre result self.now }
     {
-        Place {
+        Marks {
             epoch: self.standing.epoch(),
             next: self.standing.count() as u64,
             owner: self.standing.first_owner(),

@@ -13,13 +13,13 @@ mod passing;
 mod places;
 mod taking;
 
-use crate::frame::Frame;
+use crate::frame::{Elements, Frame, SuperPlace};
 use crate::layer::Layer;
 use crate::owner::{Owner, OwnerNode};
 use crate::phase::{Head, Phase};
 use crate::seen::Tag;
 use crate::stack::Stack;
-use crate::table::Table;
+use crate::table::NameTable;
 use std::alloc::{AllocError, Global};
 use std::marker::Model;
 
@@ -28,7 +28,7 @@ use std::marker::Model;
 pub(crate) struct Standing<'a> {
     pub(crate) epoch: u64,
     pub(crate) owners: &'a [OwnerNode],
-    pub(crate) table: Table,
+    pub(crate) table: NameTable,
     pub(crate) frames: Stack,
 }
 
@@ -65,7 +65,7 @@ impl<'a> Standing<'a> {
         Standing {
             epoch: 0,
             owners,
-            table: Table::new(alloc),
+            table: NameTable::new(alloc),
             frames: Stack::new(alloc),
         }
     }
@@ -140,11 +140,11 @@ impl<'a> Standing<'a> {
     pub(crate) fn begin_elements(&mut self, level: u64, left: u32) -> Result<(), AllocError>
         ensures { OnOk result (self.new ≡ teller self.old.epoch self.old.known self.old.owners (elements_cue level 0 left ∷ self.old.cues)) }
     {
-        self.frames.push(Frame::Elements {
+        self.frames.push(Frame::Elements(Elements {
             level,
             index: 0,
             left,
-        })
+        }))
     }
 
     /// The fields or interfaces of a descriptor have ended: its annotation and its superclass come.
@@ -161,11 +161,11 @@ impl<'a> Standing<'a> {
         ensures { OnOk result (self.new ≡ teller self.old.epoch self.old.known self.old.owners (super_cue head.level head.number (view_layer layer) ∷ self.old.cues)) }
     {
         let layer = self.table.add_layer(layer)?;
-        self.frames.push(Frame::Super {
+        self.frames.push(Frame::Super(SuperPlace {
             level: head.level,
             number: head.number,
             layer,
-        })?;
+        }))?;
         Ok(())
     }
 

@@ -17,33 +17,33 @@ use std::marker::Model;
 
 /// The handles of an epoch, the layers of its classes, and the chains of those whose descriptors have ended.
 #[derive(Drop)]
-pub(crate) struct Table {
+pub(crate) struct NameTable {
     handles: Handles,
     layers: Vec<Layer>,
     /// The classes in the order of their numbers.
     classes: Vec<KeptClass>,
 }
 
-impl Model for Table {
+impl Model for NameTable {
     ghost use Rattle.jser_printer.specs.Layers.{view_layers};
-    ghost use Rattle.jser_printer.specs.Tables.{TableView, table_of, IsSound};
+    ghost use Rattle.jser_printer.specs.Tables.{NamesView, table_of, IsSound};
 
-    ghost Value = { TableView };
+    ghost Value = { NamesView };
 
     ghost view = { λ a. table_of a.handles (view_layers a.layers.items) a.classes.items };
 
     ghost invariant = { λ a. IsSound a.handles (view_layers a.layers.items) a.classes.items };
 }
 
-impl Table {
+impl NameTable {
     /// An empty table. Takes no memory.
     #[tactic(auto, using(crate::proofs::TableLemmas::sound_none, crate::proofs::TableLemmas::table_none))]
-    pub(crate) fn new(alloc: Global) -> Table
+    pub(crate) fn new(alloc: Global) -> NameTable
         ensures known { result.known ≡ [] }
         ensures layers { result.layers ≡ [] }
         ensures chains { result.chains ≡ [] }
     {
-        Table {
+        NameTable {
             handles: Handles::new(alloc, 0xFFFF_FFFF),
             layers: Vec::new(alloc),
             classes: Vec::new(alloc),

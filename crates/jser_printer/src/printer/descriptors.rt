@@ -11,7 +11,7 @@ ghost use Rattle.jser_printer.specs.Phases.{Leads, in_phase, over_fields, phase_
 
 use crate::draft::Draft;
 use crate::layer::has_type_text;
-use crate::phase::{Head, Over, Phase};
+use crate::phase::{FieldsLeft, Head, Over, Phase};
 use crate::seen::{Seen, Tag};
 use crate::standing::Standing;
 use crate::words::descriptor::{
@@ -19,7 +19,7 @@ use crate::words::descriptor::{
 };
 use crate::words::number::write_mark_line;
 use crate::words::quote::{write_text, write_text_line};
-use crate::words::tag::{Place, write_value_tag};
+use crate::words::tag::{Marks, write_value_tag};
 use jser_prim::{Outbox, Sink};
 use std::alloc::AllocError;
 
@@ -98,9 +98,7 @@ pub(crate) fn take_field_count(draft: &mut Draft, head: Head, flags: u8, seen: S
     };
     draft.begin_fields();
     Phase::Fields {
-        head,
-        flags,
-        left,
+        fields: FieldsLeft { head, flags, left },
         over: Over::Nothing,
     }
 }
@@ -110,29 +108,27 @@ pub(crate) fn take_field_count(draft: &mut Draft, head: Head, flags: u8, seen: S
 fn write_code<W: Sink>(
     outbox: &mut Outbox,
     sink: &mut W,
-    head: Head,
-    flags: u8,
-    left: u16,
+    fields: FieldsLeft,
     seen: Seen<'_>,
 ) -> Phase
-    ensures said { SaysTo W.gone_out W.has_failed outbox.old outbox.new sink.old sink.new (λ k. code_says head.level (view_seen seen.entry) k) }
-    ensures leads { (e : ℕ) (known : Known) (os : List ToldNode) (cues : List Cue) (name : List ℕ) (done : List NamedField) → teller e known os (phase_cues result name done cues) ≡ code_goes e known os cues head.level head.number name flags done left (view_seen seen.entry) }
+    ensures said { SaysTo W.gone_out W.has_failed outbox.old outbox.new sink.old sink.new (λ k. code_says fields.head.level (view_seen seen.entry) k) }
+    ensures leads { (e : ℕ) (known : Known) (os : List ToldNode) (cues : List Cue) (name : List ℕ) (done : List NamedField) → teller e known os (phase_cues result name done cues) ≡ code_goes e known os cues fields.head.level fields.head.number name fields.flags done fields.left (view_seen seen.entry) }
 {
     if let Seen::TypeCode(code) = seen {
-        write_field_word(outbox, sink, head.level, code);
-        if left > 0 {
+        write_field_word(outbox, sink, fields.head.level, code);
+        if fields.left > 0 {
             return Phase::FieldName {
-                head,
-                flags,
                 code,
-                left: left - 1,
+                fields: FieldsLeft {
+                    head: fields.head,
+                    flags: fields.flags,
+                    left: fields.left - 1,
+                },
             };
         }
     }
     Phase::Fields {
-        head,
-        flags,
-        left,
+        fields,
         over: Over::Nothing,
     }
 }
@@ -142,13 +138,13 @@ fn write_code<W: Sink>(
 fn write_type<W: Sink>(
     outbox: &mut Outbox,
     sink: &mut W,
-    place: Place,
+    marks: Marks,
     standing: &mut Standing<'_>,
     over: Over,
     seen: Seen<'_>,
 ) -> Result<Over, AllocError>
     requires { over ≡ Over.Nothing → ⊥ }
-    ensures said { (cues : List Cue) → SaysTo W.gone_out W.has_failed outbox.old outbox.new sink.old sink.new (λ k. field_words place (over_fields over cues) (view_seen seen.entry) k) }
+    ensures said { (cues : List Cue) → SaysTo W.gone_out W.has_failed outbox.old outbox.new sink.old sink.new (λ k. field_words marks (over_fields over cues) (view_seen seen.entry) k) }
     ensures leads { IfOk result (λ next. (cues : List Cue) → teller standing.new.epoch standing.new.known standing.new.owners (over_fields next cues) ≡ goes_in standing.old.epoch standing.old.known standing.old.owners (over_fields over cues) (view_seen seen.entry)) }
     ensures below { IfOk result (λ _. standing.new.cues ≡ standing.old.cues) }
 {
@@ -157,7 +153,7 @@ fn write_type<W: Sink>(
             let Seen::Tag(tag) = seen else {
                 return Ok(over);
             };
-            write_value_tag(outbox, sink, place, tag);
+            write_value_tag(outbox, sink, marks, tag);
             match tag {
                 Tag::Reference => Ok(Over::Handle),
                 Tag::String | Tag::LongString => {
@@ -176,7 +172,7 @@ fn write_type<W: Sink>(
         },
         Over::Handle => match seen {
             Seen::Handle(number) => {
-                write_mark_line(outbox, sink, place.epoch, number as u64);
+                write_mark_line(outbox, sink, marks.epoch, number as u64);
                 Ok(Over::Nothing)
             }
             _ => Ok(over),
@@ -192,27 +188,20 @@ fn write_type<W: Sink>(
 pub(crate) fn write_class_field<W: Sink>(
     outbox: &mut Outbox,
     sink: &mut W,
-    place: Place,
+    marks: Marks,
     standing: &mut Standing<'_>,
-    head: Head,
-    flags: u8,
-    left: u16,
+    fields: FieldsLeft,
     over: Over,
     seen: Seen<'_>,
 ) -> Result<Phase, AllocError>
-    ensures said { (name : List ℕ) (done : List NamedField) → SaysTo W.gone_out W.has_failed outbox.old outbox.new sink.old sink.new (λ k. field_words place (phase_cues (Phase.Fields head flags left over) name done standing.old.cues) (view_seen seen.entry) k) }
-    ensures leads { IfOk result (λ phase. (name : List ℕ) (done : List NamedField) → in_phase phase name done standing.new ≡ goes_in standing.old.epoch standing.old.known standing.old.owners (phase_cues (Phase.Fields head flags left over) name done standing.old.cues) (view_seen seen.entry)) }
+    ensures said { (name : List ℕ) (done : List NamedField) → SaysTo W.gone_out W.has_failed outbox.old outbox.new sink.old sink.new (λ k. field_words marks (phase_cues (Phase.Fields fields over) name done standing.old.cues) (view_seen seen.entry) k) }
+    ensures leads { IfOk result (λ phase. (name : List ℕ) (done : List NamedField) → in_phase phase name done standing.new ≡ goes_in standing.old.epoch standing.old.known standing.old.owners (phase_cues (Phase.Fields fields over) name done standing.old.cues) (view_seen seen.entry)) }
 {
     match over {
-        Over::Nothing => Ok(write_code(outbox, sink, head, flags, left, seen)),
+        Over::Nothing => Ok(write_code(outbox, sink, fields, seen)),
         _ => {
-            let over = write_type(outbox, sink, place, standing, over, seen)?;
-            Ok(Phase::Fields {
-                head,
-                flags,
-                left,
-                over,
-            })
+            let over = write_type(outbox, sink, marks, standing, over, seen)?;
+            Ok(Phase::Fields { fields, over })
         }
     }
 }
@@ -224,29 +213,20 @@ pub(crate) fn write_field_name<W: Sink>(
     outbox: &mut Outbox,
     sink: &mut W,
     draft: &mut Draft,
-    head: Head,
-    flags: u8,
     code: u8,
-    left: u16,
+    fields: FieldsLeft,
     seen: Seen<'_>,
 ) -> Result<Phase, AllocError>
     ensures said { SaysTo W.gone_out W.has_failed outbox.old outbox.new sink.old sink.new (λ k. name_says (view_seen seen.entry) k) }
-    ensures leads { IfOk result (λ phase. (e : ℕ) (known : Known) (os : List ToldNode) (cues : List Cue) → teller e known os (phase_cues phase draft.new.name draft.new.done cues) ≡ field_name_goes e known os cues head.level head.number draft.old.name flags draft.old.done code left (view_seen seen.entry)) }
+    ensures leads { IfOk result (λ phase. (e : ℕ) (known : Known) (os : List ToldNode) (cues : List Cue) → teller e known os (phase_cues phase draft.new.name draft.new.done cues) ≡ field_name_goes e known os cues fields.head.level fields.head.number draft.old.name fields.flags draft.old.done code fields.left (view_seen seen.entry)) }
 {
     let Seen::Text(name) = seen else {
-        return Ok(Phase::FieldName {
-            head,
-            flags,
-            code,
-            left,
-        });
+        return Ok(Phase::FieldName { code, fields });
     };
     write_text(outbox, sink, name);
     draft.add_field(code, name)?;
     Ok(Phase::Fields {
-        head,
-        flags,
-        left,
+        fields,
         over: if has_type_text(code) {
             Over::TypeWord
         } else {

@@ -59,18 +59,11 @@ impl<'a> Printer<'a> {
                 }
                 None => Ok(false),
             },
-            Phase::Fields {
-                head,
-                flags,
-                left,
-                over,
-            } => match over {
+            Phase::Fields { fields, over } => match over {
                 Over::LineEnd => {
                     write(outbox, sink, b"\n");
                     self.phase = Phase::Fields {
-                        head,
-                        flags,
-                        left,
+                        fields,
                         over: Over::Nothing,
                     };
                     Ok(true)
@@ -78,18 +71,21 @@ impl<'a> Printer<'a> {
                 Over::TypeWord => {
                     write(outbox, sink, b" type ");
                     self.phase = Phase::Fields {
-                        head,
-                        flags,
-                        left,
+                        fields,
                         over: Over::Place,
                     };
                     Ok(true)
                 }
                 Over::Nothing => {
-                    if left > 0 {
+                    if fields.left > 0 {
                         return Ok(false);
                     }
-                    end_class(&mut self.draft, &mut self.standing, head, flags)?;
+                    end_class(
+                        &mut self.draft,
+                        &mut self.standing,
+                        fields.head,
+                        fields.flags,
+                    )?;
                     self.phase = Phase::Frames;
                     Ok(true)
                 }

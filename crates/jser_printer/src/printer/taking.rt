@@ -18,7 +18,7 @@ use crate::standing::Standing;
 use crate::words::line::write;
 use crate::words::number::write_mark_line;
 use crate::words::quote::write_text_line;
-use crate::words::tag::Place;
+use crate::words::tag::Marks;
 use crate::words::value::{write_block_length, write_raw};
 use jser_prim::{Outbox, Sink};
 use std::alloc::AllocError;
@@ -113,50 +113,42 @@ fn write_block<W: Sink>(outbox: &mut Outbox, sink: &mut W, seen: Seen<'_>) -> Ph
 fn write_in_phase<W: Sink>(
     outbox: &mut Outbox,
     sink: &mut W,
-    place: Place,
+    marks: Marks,
     phase: &mut Phase,
     draft: &mut Draft,
     standing: &mut Standing<'_>,
     seen: Seen<'_>,
 ) -> Result<(), AllocError>
-    ensures said { SaysTo W.gone_out W.has_failed outbox.old outbox.new sink.old sink.new (λ k. field_words place (phase_cues phase.old draft.old.name draft.old.done standing.old.cues) (view_seen seen.entry) k) }
+    ensures said { SaysTo W.gone_out W.has_failed outbox.old outbox.new sink.old sink.new (λ k. field_words marks (phase_cues phase.old draft.old.name draft.old.done standing.old.cues) (view_seen seen.entry) k) }
     ensures goes { OnOk result (in_phase phase.new draft.new.name draft.new.done standing.new ≡ goes_in standing.old.epoch standing.old.known standing.old.owners (phase_cues phase.old draft.old.name draft.old.done standing.old.cues) (view_seen seen.entry)) }
 {
     match *phase {
-        Phase::Frames => *phase = standing.write_field(outbox, sink, place, seen)?,
+        Phase::Frames => *phase = standing.write_field(outbox, sink, marks, seen)?,
         Phase::Header => *phase = write_header(outbox, sink, seen),
-        Phase::Handle => *phase = write_handle(outbox, sink, place.epoch, seen),
+        Phase::Handle => *phase = write_handle(outbox, sink, marks.epoch, seen),
         Phase::Text => *phase = write_string(outbox, sink, seen),
         Phase::BlockLength => *phase = write_length(outbox, sink, seen),
         Phase::Block => *phase = write_block(outbox, sink, seen),
         Phase::ArrayLength { level } => *phase = standing.take_array_length(level, seen)?,
         Phase::EnumName { level } => {
-            *phase = standing.write_enum_name(outbox, sink, place, level, seen)?;
+            *phase = standing.write_enum_name(outbox, sink, marks, level, seen)?;
         }
         Phase::Class { owner, level } => {
-            *phase = standing.write_class(outbox, sink, place, owner, level, seen)?;
+            *phase = standing.write_class(outbox, sink, marks, owner, level, seen)?;
         }
         Phase::ClassHandle { owner, level } => {
-            *phase = standing.write_class_handle(outbox, sink, place.epoch, owner, level, seen)?;
+            *phase = standing.write_class_handle(outbox, sink, marks.epoch, owner, level, seen)?;
         }
         Phase::ClassName { level } => *phase = write_class_name(outbox, sink, draft, level, seen)?,
         Phase::Suid { level } => *phase = write_suid(outbox, sink, standing, level, seen)?,
         Phase::Flags { head } => *phase = write_flags(outbox, sink, head, seen),
         Phase::FieldCount { head, flags } => *phase = take_field_count(draft, head, flags, seen),
-        Phase::Fields {
-            head,
-            flags,
-            left,
-            over,
-        } => *phase = write_class_field(
-            outbox, sink, place, standing, head, flags, left, over, seen,
-        )?,
-        Phase::FieldName {
-            head,
-            flags,
-            code,
-            left,
-        } => *phase = write_field_name(outbox, sink, draft, head, flags, code, left, seen)?,
+        Phase::Fields { fields, over } => {
+            *phase = write_class_field(outbox, sink, marks, standing, fields, over, seen)?;
+        }
+        Phase::FieldName { code, fields } => {
+            *phase = write_field_name(outbox, sink, draft, code, fields, seen)?;
+        }
         Phase::InterfaceCount { head } => *phase = take_interface_count(head, seen),
         Phase::Interfaces { head, left } => *phase = write_interface(
             outbox, sink, head, left, seen,
@@ -176,16 +168,16 @@ impl<'a> Printer<'a> {
         &mut self,
         outbox: &mut Outbox,
         sink: &mut W,
-        place: Place,
+        marks: Marks,
         seen: Seen<'_>,
     ) -> Result<(), AllocError>
-        ensures said { SaysTo W.gone_out W.has_failed outbox.old outbox.new sink.old sink.new (λ k. field_words place self.old.cues (view_seen seen.entry) k) }
+        ensures said { SaysTo W.gone_out W.has_failed outbox.old outbox.new sink.old sink.new (λ k. field_words marks self.old.cues (view_seen seen.entry) k) }
         ensures goes { OnOk result (self.new ≡ goes_in self.old.epoch self.old.known self.old.owners self.old.cues (view_seen seen.entry)) }
     {
         write_in_phase(
             outbox,
             sink,
-            place,
+            marks,
             &mut self.phase,
             &mut self.draft,
             &mut self.standing,

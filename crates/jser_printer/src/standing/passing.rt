@@ -10,13 +10,13 @@ ghost use Rattle.jser_printer.specs.Phases.{StandsIn};
 ghost use Rattle.jser_printer.specs.Passing.{PassedTo};
 ghost use Rattle.jser_printer.specs.Says.{SaysTo};
 
-use crate::frame::{Frame, Stage};
+use crate::frame::{Frame, Sections, Stage};
 use crate::owner::Owner;
 use crate::part::{Part, next_part};
 use crate::phase::Phase;
 use crate::stack::Stack;
 use crate::standing::{Standing, deeper};
-use crate::table::Table;
+use crate::table::NameTable;
 use crate::words::section::write_section;
 use jser_prim::{Outbox, Sink};
 use std::alloc::AllocError;
@@ -24,7 +24,7 @@ use std::alloc::AllocError;
 /// The sections of an object whose class is the one with this number.
 #[tactic(auto, using(crate::proofs::PassLemmas::external_sections, crate::proofs::PassLemmas::serial_sections, crate::proofs::PassLemmas::no_sections))]
 #[inline(always)]
-fn sections(table: &Table, level: u64, number: usize) -> Frame
+fn sections(table: &NameTable, level: u64, number: usize) -> Frame
     ensures cue { cue_of table.now.layers table.now.chains result ≡ parts_cue level (object_parts (is_external_chain (classes_at table.now.known number)) (classes_at table.now.known number)) }
     ensures fits { FrameFits (length table.now.layers) (length table.now.chains) result }
 {
@@ -33,12 +33,12 @@ fn sections(table: &Table, level: u64, number: usize) -> Frame
             if table.own(chain).is_external() {
                 Frame::External { level, chain }
             } else {
-                Frame::Sections {
+                Frame::Sections(Sections {
                     level,
                     chain,
                     index: 0,
                     stage: Stage::Start,
-                }
+                })
             }
         }
         None => Frame::End { level },
@@ -51,35 +51,27 @@ fn sections(table: &Table, level: u64, number: usize) -> Frame
 fn write_sections<W: Sink>(
     outbox: &mut Outbox,
     sink: &mut W,
-    table: &Table,
+    table: &NameTable,
     frames: &mut Stack,
-    level: u64,
-    chain: u32,
-    index: usize,
-    stage: Stage,
+    at: Sections,
 ) -> Result<bool, AllocError>
-    requires chain_in { chain < length table.now.chains }
+    requires chain_in { at.chain < length table.now.chains }
     requires fit { FramesFit (length table.now.layers) (length table.now.chains) frames.old }
-    requires top { frames.old ≡ Frame.Sections level chain index stage ∷ tail_of frames.old }
+    requires top { frames.old ≡ Frame.Sections at ∷ tail_of frames.old }
     ensures fit { FramesFit (length table.now.layers) (length table.now.chains) frames.new }
     ensures said { SaysTo W.gone_out W.has_failed outbox.old outbox.new sink.old sink.new (λ k. due_says (due_in (cues_of table.now.layers table.now.chains frames.old)) k) }
     ensures passed { IfOk result (λ more. PassesTop table.now.layers table.now.chains more frames.old frames.new) }
 {
-    let next = next_part(table, chain, index, stage);
-    let others = Frame::Sections {
-        level,
-        chain,
-        index: next.index,
-        stage: next.stage,
-    };
+    let next = next_part(table, at.chain, at.index, at.stage);
+    let others = Frame::Sections(at.go_on(next.index, next.stage));
     match next.part {
         Part::Section(name) => {
-            write_section(outbox, sink, level, b"data ", name);
+            write_section(outbox, sink, at.level, b"data ", name);
             frames.set_top(others);
             Ok(true)
         }
         Part::Notes => {
-            let inner = deeper(level)?;
+            let inner = deeper(at.level)?;
             frames.set_top(others);
             frames.push(Frame::Notes { level: inner })?;
             Ok(true)
@@ -110,24 +102,8 @@ impl<'a> Standing<'a> {
         ensures passed { IfOk result (λ phase. PassedTo phase self.old self.new) }
     {
         match self.frames.top() {
-            Some(
-                Frame::Sections {
-                    level,
-                    chain,
-                    index,
-                    stage,
-                },
-            ) => {
-                let more = write_sections(
-                    outbox,
-                    sink,
-                    &self.table,
-                    &mut self.frames,
-                    level,
-                    chain,
-                    index,
-                    stage,
-                )?;
+            Some(Frame::Sections(at)) => {
+                let more = write_sections(outbox, sink, &self.table, &mut self.frames, at)?;
                 Ok(if more { Some(Phase::Frames) } else { None })
             }
             Some(Frame::External { level, chain }) => {
@@ -155,8 +131,8 @@ impl<'a> Standing<'a> {
                 self.frames.pop();
                 Ok(Some(Phase::Frames))
             }
-            Some(Frame::Elements { left, .. }) => {
-                if left > 0 {
+            Some(Frame::Elements(at)) => {
+                if at.left > 0 {
                     return Ok(None);
                 }
                 self.frames.pop();
@@ -181,8 +157,8 @@ impl<'a> Standing<'a> {
                 Ok(Some(Phase::Frames))
             }
             Some(Frame::Notes { .. }) => Ok(None),
-            Some(Frame::Super { .. }) => Ok(None),
-            Some(Frame::SuperHandle { .. }) => Ok(None),
+            Some(Frame::Super(_)) => Ok(None),
+            Some(Frame::SuperHandle(_)) => Ok(None),
             None => Ok(None),
         }
     }

@@ -11,7 +11,7 @@ use crate::phase::Phase;
 use crate::seen::Seen;
 use crate::standing::Standing;
 use crate::words::number::write_mark_line;
-use crate::words::tag::Place;
+use crate::words::tag::Marks;
 use crate::words::tagged::write_worded_tag;
 use jser_prim::{Outbox, Sink};
 use std::alloc::AllocError;
@@ -40,16 +40,16 @@ impl<'a> Standing<'a> {
         &mut self,
         outbox: &mut Outbox,
         sink: &mut W,
-        place: Place,
+        marks: Marks,
         level: u64,
         seen: Seen<'_>,
     ) -> Result<Phase, AllocError>
-        ensures said { SaysTo W.gone_out W.has_failed outbox.old outbox.new sink.old sink.new (λ k. worded_says place.epoch place.next (view_node place.owner) level (codes "name ") (view_seen seen.entry) k) }
+        ensures said { SaysTo W.gone_out W.has_failed outbox.old outbox.new sink.old sink.new (λ k. worded_says marks.epoch marks.next (view_node marks.owner) level (codes "name ") (view_seen seen.entry) k) }
         ensures goes { IfOk result (λ phase. StandsIn phase self.new (name_goes self.old.epoch self.old.known self.old.owners self.old.cues level (view_seen seen.entry))) }
     {
         match seen {
             Seen::Tag(tag) => {
-                write_worded_tag(outbox, sink, place, level, b"name ", tag);
+                write_worded_tag(outbox, sink, marks, level, b"name ", tag);
                 self.begin(level, tag)
             }
             _ => Ok(Phase::EnumName { level }),
@@ -63,17 +63,17 @@ impl<'a> Standing<'a> {
         &mut self,
         outbox: &mut Outbox,
         sink: &mut W,
-        place: Place,
+        marks: Marks,
         owner: Owner,
         level: u64,
         seen: Seen<'_>,
     ) -> Result<Phase, AllocError>
-        ensures said { SaysTo W.gone_out W.has_failed outbox.old outbox.new sink.old sink.new (λ k. worded_says place.epoch place.next (view_node place.owner) level (codes "class ") (view_seen seen.entry) k) }
+        ensures said { SaysTo W.gone_out W.has_failed outbox.old outbox.new sink.old sink.new (λ k. worded_says marks.epoch marks.next (view_node marks.owner) level (codes "class ") (view_seen seen.entry) k) }
         ensures goes { IfOk result (λ phase. StandsIn phase self.new (class_goes self.old.epoch self.old.known self.old.owners self.old.cues (view_owner owner) level (view_seen seen.entry))) }
     {
         match seen {
             Seen::Tag(tag) => {
-                write_worded_tag(outbox, sink, place, level, b"class ", tag);
+                write_worded_tag(outbox, sink, marks, level, b"class ", tag);
                 self.begin_class(owner, level, tag)
             }
             _ => Ok(Phase::Class { owner, level }),

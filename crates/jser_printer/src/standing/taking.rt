@@ -10,16 +10,16 @@ ghost use Rattle.jser_printer.specs.Says.{SaysTo};
 ghost use Rattle.jser_printer.specs.Seen.{view_seen, view_tag};
 ghost use Rattle.jser_printer.specs.Phases.{StandsIn};
 
-use crate::frame::{Frame, Stage};
+use crate::frame::{Elements, Frame, Sections, SuperPlace};
 use crate::part::{Part, next_part};
 use crate::phase::{Head, Phase};
 use crate::seen::{Seen, Tag};
 use crate::stack::Stack;
 use crate::standing::{Standing, deeper};
-use crate::table::Table;
+use crate::table::NameTable;
 use crate::words::line::write;
 use crate::words::number::write_mark_line;
-use crate::words::tag::{Place, write_block_word, write_value_tag};
+use crate::words::tag::{Marks, write_block_word, write_value_tag};
 use crate::words::tagged::{
     write_element_tag, write_field_tag, write_note_block, write_worded_tag,
 };
@@ -34,33 +34,25 @@ use std::alloc::AllocError;
 fn write_part<W: Sink>(
     outbox: &mut Outbox,
     sink: &mut W,
-    place: Place,
-    table: &Table,
+    marks: Marks,
+    table: &NameTable,
     frames: &mut Stack,
-    level: u64,
-    chain: u32,
-    index: usize,
-    stage: Stage,
+    at: Sections,
     seen: Seen<'_>,
 ) -> Option<Tag>
-    requires chain_in { chain < length table.now.chains }
+    requires chain_in { at.chain < length table.now.chains }
     requires fit { FramesFit (length table.now.layers) (length table.now.chains) frames.old }
-    requires top { frames.old ≡ Frame.Sections level chain index stage ∷ tail_of frames.old }
+    requires top { frames.old ≡ Frame.Sections at ∷ tail_of frames.old }
     ensures fit { FramesFit (length table.now.layers) (length table.now.chains) frames.new }
-    ensures said { SaysTo W.gone_out W.has_failed outbox.old outbox.new sink.old sink.new (λ k. field_words place (cues_of table.now.layers table.now.chains frames.old) (view_seen seen.entry) k) }
-    ensures takes { TakesPart table.now.layers table.now.chains level frames.old frames.new (view_seen seen.entry) (option_map view_tag result) }
+    ensures said { SaysTo W.gone_out W.has_failed outbox.old outbox.new sink.old sink.new (λ k. field_words marks (cues_of table.now.layers table.now.chains frames.old) (view_seen seen.entry) k) }
+    ensures takes { TakesPart table.now.layers table.now.chains at.level frames.old frames.new (view_seen seen.entry) (option_map view_tag result) }
 {
-    let next = next_part(table, chain, index, stage);
-    let others = Frame::Sections {
-        level,
-        chain,
-        index: next.index,
-        stage: next.stage,
-    };
+    let next = next_part(table, at.chain, at.index, at.stage);
+    let others = Frame::Sections(at.go_on(next.index, next.stage));
     match next.part {
         Part::Raw(name) => {
             if let Seen::Bytes(bytes) = seen {
-                write_raw_field(outbox, sink, level, name, bytes);
+                write_raw_field(outbox, sink, at.level, name, bytes);
                 frames.set_top(others);
             }
             None
@@ -69,7 +61,7 @@ fn write_part<W: Sink>(
             let Seen::Tag(tag) = seen else {
                 return None;
             };
-            write_field_tag(outbox, sink, place, level, name, tag);
+            write_field_tag(outbox, sink, marks, at.level, name, tag);
             frames.set_top(others);
             Some(tag)
         }
@@ -79,54 +71,44 @@ fn write_part<W: Sink>(
     }
 }
 
-/// The tag in the superclass place of the class with this number and this layer, which is on top.
+/// The tag in a superclass place, which is on top.
 #[tactic(auto, using(crate::proofs::SaysLemmas::says_nothing, crate::proofs::TakeLemmas::goes_first, crate::proofs::PassLemmas::close_fits, crate::proofs::FrameLemmas::tail_fits))]
 #[inline(always)]
 fn write_superclass<W: Sink>(
     outbox: &mut Outbox,
     sink: &mut W,
-    place: Place,
-    table: &mut Table,
+    marks: Marks,
+    table: &mut NameTable,
     frames: &mut Stack,
-    level: u64,
-    number: usize,
-    layer: u32,
+    at: SuperPlace,
     seen: Seen<'_>,
 ) -> Result<Phase, AllocError>
-    requires layer_in { layer < length table.old.layers }
+    requires layer_in { at.layer < length table.old.layers }
     requires fit { FramesFit (length table.old.layers) (length table.old.chains) frames.old }
-    requires top { frames.old ≡ Frame.Super level number layer ∷ tail_of frames.old }
+    requires top { frames.old ≡ Frame.Super at ∷ tail_of frames.old }
     ensures fit { FramesFit (length table.new.layers) (length table.new.chains) frames.new }
-    ensures said { SaysTo W.gone_out W.has_failed outbox.old outbox.new sink.old sink.new (λ k. worded_says place.epoch place.next (view_node place.owner) level (codes "super ") (view_seen seen.entry) k) }
+    ensures said { SaysTo W.gone_out W.has_failed outbox.old outbox.new sink.old sink.new (λ k. worded_says marks.epoch marks.next (view_node marks.owner) at.level (codes "super ") (view_seen seen.entry) k) }
     ensures takes { IfOk result (λ phase. (e : ℕ) (os : List ToldNode) → StandsIn phase (teller e table.new.known os (cues_of table.new.layers table.new.chains frames.new)) (goes_in e table.old.known os (cues_of table.old.layers table.old.chains frames.old) (view_seen seen.entry))) }
 {
     let Seen::Tag(tag) = seen else {
         return Ok(Phase::Frames);
     };
-    write_worded_tag(outbox, sink, place, level, b"super ", tag);
+    write_worded_tag(outbox, sink, marks, at.level, b"super ", tag);
     match tag {
         Tag::Null => {
-            table.close(number, None, layer)?;
+            table.close(at.number, None, at.layer)?;
             frames.pop();
             Ok(Phase::Frames)
         }
         Tag::ClassDesc => {
-            let inner = deeper(level)?;
-            frames.set_top(Frame::Close {
-                number,
-                parent: table.count(),
-                layer,
-            });
+            let inner = deeper(at.level)?;
+            frames.set_top(at.close(table.count()));
             Ok(Phase::ClassName { level: inner })
         }
         Tag::ProxyDesc => {
-            let inner = deeper(level)?;
+            let inner = deeper(at.level)?;
             let parent = table.count();
-            frames.set_top(Frame::Close {
-                number,
-                parent,
-                layer,
-            });
+            frames.set_top(at.close(parent));
             table.add_pending()?;
             Ok(Phase::InterfaceCount {
                 head: Head {
@@ -136,44 +118,34 @@ fn write_superclass<W: Sink>(
             })
         }
         _ => {
-            frames.set_top(Frame::SuperHandle {
-                level,
-                number,
-                layer,
-            });
+            frames.set_top(Frame::SuperHandle(at));
             Ok(Phase::Frames)
         }
     }
 }
 
-/// The handle of a reference in the superclass place of the class with this number and this layer. That is on top.
+/// The handle of a reference in a superclass place, which is on top.
 #[tactic(auto, using(crate::proofs::SaysLemmas::says_nothing, crate::proofs::TakeLemmas::goes_first, crate::proofs::FrameLemmas::tail_fits))]
 #[inline(always)]
 fn write_superclass_handle<W: Sink>(
     outbox: &mut Outbox,
     sink: &mut W,
     epoch: u64,
-    table: &Table,
+    table: &NameTable,
     frames: &mut Stack,
-    level: u64,
-    number: usize,
-    layer: u32,
+    at: SuperPlace,
     seen: Seen<'_>,
 )
-    requires layer_in { layer < length table.now.layers }
+    requires layer_in { at.layer < length table.now.layers }
     requires fit { FramesFit (length table.now.layers) (length table.now.chains) frames.old }
-    requires top { frames.old ≡ Frame.SuperHandle level number layer ∷ tail_of frames.old }
+    requires top { frames.old ≡ Frame.SuperHandle at ∷ tail_of frames.old }
     ensures fit { FramesFit (length table.now.layers) (length table.now.chains) frames.new }
     ensures said { SaysTo W.gone_out W.has_failed outbox.old outbox.new sink.old sink.new (λ k. handle_says epoch (view_seen seen.entry) k) }
-    ensures takes { TakesPart table.now.layers table.now.chains level frames.old frames.new (view_seen seen.entry) None }
+    ensures takes { TakesPart table.now.layers table.now.chains at.level frames.old frames.new (view_seen seen.entry) None }
 {
     if let Seen::Handle(parent) = seen {
         write_mark_line(outbox, sink, epoch, parent as u64);
-        frames.set_top(Frame::Close {
-            number,
-            parent,
-            layer,
-        });
+        frames.set_top(at.close(parent));
     }
 }
 
@@ -189,76 +161,48 @@ impl<'a> Standing<'a> {
         &mut self,
         outbox: &mut Outbox,
         sink: &mut W,
-        place: Place,
+        marks: Marks,
         seen: Seen<'_>,
     ) -> Result<Phase, AllocError>
-        ensures said { SaysTo W.gone_out W.has_failed outbox.old outbox.new sink.old sink.new (λ k. field_words place self.old.cues (view_seen seen.entry) k) }
+        ensures said { SaysTo W.gone_out W.has_failed outbox.old outbox.new sink.old sink.new (λ k. field_words marks self.old.cues (view_seen seen.entry) k) }
         ensures goes { IfOk result (λ phase. StandsIn phase self.new (goes_in self.old.epoch self.old.known self.old.owners self.old.cues (view_seen seen.entry))) }
     {
         match self.frames.top() {
-            None => self.write_top(outbox, sink, place, seen),
-            Some(Frame::Notes { level }) => self.write_note(outbox, sink, place, level, seen),
-            Some(Frame::Elements { level, index, left }) => {
-                self.write_element(outbox, sink, place, level, index, left, seen)
-            }
-            Some(
-                Frame::Sections {
-                    level,
-                    chain,
-                    index,
-                    stage,
-                },
-            ) => {
+            None => self.write_top(outbox, sink, marks, seen),
+            Some(Frame::Notes { level }) => self.write_note(outbox, sink, marks, level, seen),
+            Some(Frame::Elements(at)) => self.write_element(outbox, sink, marks, at, seen),
+            Some(Frame::Sections(at)) => {
                 let begun = write_part(
                     outbox,
                     sink,
-                    place,
+                    marks,
                     &self.table,
                     &mut self.frames,
-                    level,
-                    chain,
-                    index,
-                    stage,
+                    at,
                     seen,
                 );
                 match begun {
-                    Some(tag) => self.begin(deeper(level)?, tag),
+                    Some(tag) => self.begin(deeper(at.level)?, tag),
                     None => Ok(Phase::Frames),
                 }
             }
-            Some(
-                Frame::Super {
-                    level,
-                    number,
-                    layer,
-                },
-            ) => write_superclass(
+            Some(Frame::Super(at)) => write_superclass(
                 outbox,
                 sink,
-                place,
+                marks,
                 &mut self.table,
                 &mut self.frames,
-                level,
-                number,
-                layer,
+                at,
                 seen,
             ),
-            Some(
-                Frame::SuperHandle {
-                    level,
-                    number,
-                    layer,
-                },
-            ) => {
+            Some(Frame::SuperHandle(at)) => {
                 write_superclass_handle(
                     outbox,
                     sink,
-                    place.epoch,
+                    marks.epoch,
                     &self.table,
                     &mut self.frames,
-                    level,
-                    number,
-                    layer,
+                    at,
                     seen,
                 );
                 Ok(Phase::Frames)
@@ -279,16 +223,16 @@ impl<'a> Standing<'a> {
         &mut self,
         outbox: &mut Outbox,
         sink: &mut W,
-        place: Place,
+        marks: Marks,
         seen: Seen<'_>,
     ) -> Result<Phase, AllocError>
         requires { self.old.cues ≡ top_cue ∷ [] }
-        ensures said { SaysTo W.gone_out W.has_failed outbox.old outbox.new sink.old sink.new (λ k. top_says place.epoch place.next (view_node place.owner) (view_seen seen.entry) k) }
+        ensures said { SaysTo W.gone_out W.has_failed outbox.old outbox.new sink.old sink.new (λ k. top_says marks.epoch marks.next (view_node marks.owner) (view_seen seen.entry) k) }
         ensures goes { IfOk result (λ phase. StandsIn phase self.new (goes_in self.old.epoch self.old.known self.old.owners self.old.cues (view_seen seen.entry))) }
     {
         match seen {
             Seen::Tag(tag) => {
-                write_value_tag(outbox, sink, place, tag);
+                write_value_tag(outbox, sink, marks, tag);
                 self.begin(0, tag)
             }
             Seen::BlockTag(long) => {
@@ -322,17 +266,17 @@ impl<'a> Standing<'a> {
         &mut self,
         outbox: &mut Outbox,
         sink: &mut W,
-        place: Place,
+        marks: Marks,
         level: u64,
         seen: Seen<'_>,
     ) -> Result<Phase, AllocError>
         requires { FirstIs (note_cue level) self.old }
-        ensures said { SaysTo W.gone_out W.has_failed outbox.old outbox.new sink.old sink.new (λ k. note_says place.epoch place.next (view_node place.owner) level (view_seen seen.entry) k) }
+        ensures said { SaysTo W.gone_out W.has_failed outbox.old outbox.new sink.old sink.new (λ k. note_says marks.epoch marks.next (view_node marks.owner) level (view_seen seen.entry) k) }
         ensures goes { IfOk result (λ phase. StandsIn phase self.new (goes_in self.old.epoch self.old.known self.old.owners self.old.cues (view_seen seen.entry))) }
     {
         match seen {
             Seen::Tag(tag) => {
-                write_worded_tag(outbox, sink, place, level, b"note ", tag);
+                write_worded_tag(outbox, sink, marks, level, b"note ", tag);
                 self.begin(level, tag)
             }
             Seen::BlockTag(long) => {
@@ -354,34 +298,32 @@ impl<'a> Standing<'a> {
         &mut self,
         outbox: &mut Outbox,
         sink: &mut W,
-        place: Place,
-        level: u64,
-        index: u32,
-        left: u32,
+        marks: Marks,
+        at: Elements,
         seen: Seen<'_>,
     ) -> Result<Phase, AllocError>
-        requires { FirstIs (elements_cue level index left) self.old }
-        ensures said { SaysTo W.gone_out W.has_failed outbox.old outbox.new sink.old sink.new (λ k. elements_says place.epoch place.next (view_node place.owner) level index left (view_seen seen.entry) k) }
+        requires { FirstIs (elements_cue at.level at.index at.left) self.old }
+        ensures said { SaysTo W.gone_out W.has_failed outbox.old outbox.new sink.old sink.new (λ k. elements_says marks.epoch marks.next (view_node marks.owner) at.level at.index at.left (view_seen seen.entry) k) }
         ensures goes { IfOk result (λ phase. StandsIn phase self.new (goes_in self.old.epoch self.old.known self.old.owners self.old.cues (view_seen seen.entry))) }
     {
         match seen {
             Seen::Bytes(bytes) => {
-                write_raw_elements(outbox, sink, level, index, left, bytes);
+                write_raw_elements(outbox, sink, at.level, at.index, at.left, bytes);
                 self.frames.pop();
                 Ok(Phase::Frames)
             }
             Seen::Tag(tag) => {
-                write_element_tag(outbox, sink, place, level, index, tag);
-                if left == 0 {
+                write_element_tag(outbox, sink, marks, at.level, at.index, tag);
+                if at.left == 0 {
                     return Ok(Phase::Frames);
                 }
-                let next = index.checked_add(1).ok_or(AllocError)?;
-                self.frames.set_top(Frame::Elements {
-                    level,
-                    index: next,
-                    left: left - 1,
-                });
-                self.begin(level, tag)
+                let index = at.index.checked_add(1).ok_or(AllocError)?;
+                self.frames.set_top(Frame::Elements(Elements {
+                    level: at.level,
+                    index,
+                    left: at.left - 1,
+                }));
+                self.begin(at.level, tag)
             }
             _ => Ok(Phase::Frames),
         }

@@ -11,9 +11,9 @@ use crate::words::line::write;
 use crate::words::number::{write_decimal, write_mark};
 use jser_prim::{Outbox, Sink};
 
-/// What the words of a tag need besides it.
+/// What the words of a tag are marked with.
 #[derive(Clone, Copy)]
-pub(crate) struct Place {
+pub(crate) struct Marks {
     /// Which epoch it is, from 0.
     pub epoch: u64,
     /// The number of the handle that is assigned next.
@@ -24,49 +24,49 @@ pub(crate) struct Place {
 
 /// Writes what a tag begins: the whole line of a null, else the words before what comes next.
 #[inline(never)]
-pub(crate) fn write_value_tag<W: Sink>(outbox: &mut Outbox, sink: &mut W, place: Place, tag: Tag)
-    ensures { SaysTo W.gone_out W.has_failed outbox.old outbox.new sink.old sink.new (λ k. tag_words place (view_tag tag) k) }
+pub(crate) fn write_value_tag<W: Sink>(outbox: &mut Outbox, sink: &mut W, marks: Marks, tag: Tag)
+    ensures { SaysTo W.gone_out W.has_failed outbox.old outbox.new sink.old sink.new (λ k. tag_words marks (view_tag tag) k) }
 {
     match tag {
         Tag::Null => write(outbox, sink, b"null\n"),
         Tag::Reference => write(outbox, sink, b"ref "),
-        Tag::ClassDesc => write_next(outbox, sink, place, b"desc ", b" "),
-        Tag::ProxyDesc => write_next(outbox, sink, place, b"proxy ", b"\n"),
-        Tag::Object => write_owner(outbox, sink, place, b"object ", b"\n"),
-        Tag::String => write_next(outbox, sink, place, b"text ", b" "),
-        Tag::LongString => write_next(outbox, sink, place, b"longtext ", b" "),
-        Tag::Array => write_array(outbox, sink, place),
-        Tag::Class => write_owner(outbox, sink, place, b"classobject ", b"\n"),
-        Tag::Enum => write_owner(outbox, sink, place, b"enum ", b"\n"),
+        Tag::ClassDesc => write_next(outbox, sink, marks, b"desc ", b" "),
+        Tag::ProxyDesc => write_next(outbox, sink, marks, b"proxy ", b"\n"),
+        Tag::Object => write_owner(outbox, sink, marks, b"object ", b"\n"),
+        Tag::String => write_next(outbox, sink, marks, b"text ", b" "),
+        Tag::LongString => write_next(outbox, sink, marks, b"longtext ", b" "),
+        Tag::Array => write_array(outbox, sink, marks),
+        Tag::Class => write_owner(outbox, sink, marks, b"classobject ", b"\n"),
+        Tag::Enum => write_owner(outbox, sink, marks, b"enum ", b"\n"),
     }
 }
 
 /// Writes a word, the mark of the next handle, and what is behind it.
 #[inline(always)]
-fn write_next<W: Sink>(outbox: &mut Outbox, sink: &mut W, place: Place, word: &[u8], behind: &[u8])
-    ensures { SaysTo W.gone_out W.has_failed outbox.old outbox.new sink.old sink.new (λ k. marked_text word.now place.epoch place.next behind.now k) }
+fn write_next<W: Sink>(outbox: &mut Outbox, sink: &mut W, marks: Marks, word: &[u8], behind: &[u8])
+    ensures { SaysTo W.gone_out W.has_failed outbox.old outbox.new sink.old sink.new (λ k. marked_text word.now marks.epoch marks.next behind.now k) }
 {
     write(outbox, sink, word);
-    write_mark(outbox, sink, place.epoch, place.next);
+    write_mark(outbox, sink, marks.epoch, marks.next);
     write(outbox, sink, behind);
 }
 
 /// Writes a word, the mark of the owner, and what is behind it.
 #[inline(always)]
-fn write_owner<W: Sink>(outbox: &mut Outbox, sink: &mut W, place: Place, word: &[u8], behind: &[u8])
-    ensures { SaysTo W.gone_out W.has_failed outbox.old outbox.new sink.old sink.new (λ k. marked_text word.now place.epoch place.owner.number behind.now k) }
+fn write_owner<W: Sink>(outbox: &mut Outbox, sink: &mut W, marks: Marks, word: &[u8], behind: &[u8])
+    ensures { SaysTo W.gone_out W.has_failed outbox.old outbox.new sink.old sink.new (λ k. marked_text word.now marks.epoch marks.owner.number behind.now k) }
 {
     write(outbox, sink, word);
-    write_mark(outbox, sink, place.epoch, place.owner.number as u64);
+    write_mark(outbox, sink, marks.epoch, marks.owner.number as u64);
     write(outbox, sink, behind);
 }
 
 /// Writes the line of an array.
-fn write_array<W: Sink>(outbox: &mut Outbox, sink: &mut W, place: Place)
-    ensures { SaysTo W.gone_out W.has_failed outbox.old outbox.new sink.old sink.new (λ k. tag_words place array_tag k) }
+fn write_array<W: Sink>(outbox: &mut Outbox, sink: &mut W, marks: Marks)
+    ensures { SaysTo W.gone_out W.has_failed outbox.old outbox.new sink.old sink.new (λ k. tag_words marks array_tag k) }
 {
-    write_owner(outbox, sink, place, b"array ", b" length ");
-    write_decimal(outbox, sink, place.owner.elements as u64);
+    write_owner(outbox, sink, marks, b"array ", b" length ");
+    write_decimal(outbox, sink, marks.owner.elements as u64);
     write(outbox, sink, b"\n");
 }
 

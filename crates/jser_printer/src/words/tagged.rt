@@ -9,7 +9,7 @@ ghost use Rattle.jser_printer.specs.TagWords.{tag_words};
 use crate::name::Name;
 use crate::seen::Tag;
 use crate::words::line::{write, write_line_start};
-use crate::words::tag::{Place, write_block_word, write_value_tag};
+use crate::words::tag::{Marks, write_block_word, write_value_tag};
 use crate::words::value::{write_element_index, write_field_start};
 use jser_prim::{Outbox, Sink};
 
@@ -18,16 +18,16 @@ use jser_prim::{Outbox, Sink};
 pub(crate) fn write_worded_tag<W: Sink>(
     outbox: &mut Outbox,
     sink: &mut W,
-    place: Place,
+    marks: Marks,
     level: u64,
     word: &[u8],
     tag: Tag,
 )
-    ensures { SaysTo W.gone_out W.has_failed outbox.old outbox.new sink.old sink.new (λ k. begin_line level (word.now ++ tag_words place (view_tag tag) k)) }
+    ensures { SaysTo W.gone_out W.has_failed outbox.old outbox.new sink.old sink.new (λ k. begin_line level (word.now ++ tag_words marks (view_tag tag) k)) }
 {
     write_line_start(outbox, sink, level);
     write(outbox, sink, word);
-    write_value_tag(outbox, sink, place, tag);
+    write_value_tag(outbox, sink, marks, tag);
 }
 
 /// Writes the tag of an element.
@@ -35,16 +35,16 @@ pub(crate) fn write_worded_tag<W: Sink>(
 pub(crate) fn write_element_tag<W: Sink>(
     outbox: &mut Outbox,
     sink: &mut W,
-    place: Place,
+    marks: Marks,
     level: u64,
     index: u32,
     tag: Tag,
 )
-    ensures { SaysTo W.gone_out W.has_failed outbox.old outbox.new sink.old sink.new (λ k. begin_line level (name_text (element_at index) (tag_words place (view_tag tag) k))) }
+    ensures { SaysTo W.gone_out W.has_failed outbox.old outbox.new sink.old sink.new (λ k. begin_line level (name_text (element_at index) (tag_words marks (view_tag tag) k))) }
 {
     write_line_start(outbox, sink, level);
     write_element_index(outbox, sink, index as u64);
-    write_value_tag(outbox, sink, place, tag);
+    write_value_tag(outbox, sink, marks, tag);
 }
 
 /// Writes the tag of a field's value, in a section of this level.
@@ -52,15 +52,15 @@ pub(crate) fn write_element_tag<W: Sink>(
 pub(crate) fn write_field_tag<W: Sink>(
     outbox: &mut Outbox,
     sink: &mut W,
-    place: Place,
+    marks: Marks,
     level: u64,
     name: &Name,
     tag: Tag,
 )
-    ensures { SaysTo W.gone_out W.has_failed outbox.old outbox.new sink.old sink.new (λ k. begin_line (suc level) (name_text (field_named name.now) (tag_words place (view_tag tag) k))) }
+    ensures { SaysTo W.gone_out W.has_failed outbox.old outbox.new sink.old sink.new (λ k. begin_line (suc level) (name_text (field_named name.now) (tag_words marks (view_tag tag) k))) }
 {
     write_field_start(outbox, sink, level, name);
-    write_value_tag(outbox, sink, place, tag);
+    write_value_tag(outbox, sink, marks, tag);
 }
 
 /// Writes the tag of a block in an annotation.

@@ -9,11 +9,11 @@ use Rattle.jser_printer.proofs.printer.taking.write_in_phase.Goals as goal
 pub returns-in_err-phase-in-Fields-clause-said : goal.returns-in_err-phase-in-Fields-clause-said
 returns-in_err-phase-in-Fields-clause-said g c =
     subst (λ p. Says c.args.outbox.now c.write_class_field.new.outbox (sink_state (g.W.Sink.gone_out c.args.sink.now) (g.W.Sink.has_failed c.args.sink.now)) (sink_state (g.W.Sink.gone_out c.write_class_field.new.sink) (g.W.Sink.has_failed c.write_class_field.new.sink))
-    (λ k. field_words c.args.place (phase_cues p c.args.draft.now.name c.args.draft.now.done c.args.standing.now.cues) (view_seen c.args.seen) k)) (sym c.in-Fields.is)
+    (λ k. field_words c.args.marks (phase_cues p c.args.draft.now.name c.args.draft.now.done c.args.standing.now.cues) (view_seen c.args.seen) k)) (sym c.in-Fields.is)
     (c.write_class_field.ensures.said c.args.draft.now.name c.args.draft.now.done)
 
 pub returns-in_ok-phase-in-Fields-clause-said : goal.returns-in_ok-phase-in-Fields-clause-said
 returns-in_ok-phase-in-Fields-clause-said g c =
     subst (λ p. Says c.args.outbox.now c.write_class_field.new.outbox (sink_state (g.W.Sink.gone_out c.args.sink.now) (g.W.Sink.has_failed c.args.sink.now)) (sink_state (g.W.Sink.gone_out c.write_class_field.new.sink) (g.W.Sink.has_failed c.write_class_field.new.sink))
-    (λ k. field_words c.args.place (phase_cues p c.args.draft.now.name c.args.draft.now.done c.args.standing.now.cues) (view_seen c.args.seen) k)) (sym c.in-Fields.is)
+    (λ k. field_words c.args.marks (phase_cues p c.args.draft.now.name c.args.draft.now.done c.args.standing.now.cues) (view_seen c.args.seen) k)) (sym c.in-Fields.is)
     (c.write_class_field.ensures.said c.args.draft.now.name c.args.draft.now.done)

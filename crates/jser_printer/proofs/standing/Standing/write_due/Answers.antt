@@ -1,4 +1,4 @@
-use Rattle.std.proofs.Common.{ap, sym, refl, ◌∙◌, ◌∷◌, Some}
+use Rattle.std.proofs.Common.{ap, sym, refl, ◌∙◌, ◌∷◌}
 use Rattle.jser_shown.specs.Cues.{teller}
 use Rattle.jser_printer.specs.Given.{view_nodes, view_owner}
 use Rattle.jser_printer.specs.Steps.{due, due_in, pass, made_due, quiet_due}
@@ -16,11 +16,11 @@ returns-in_err-push-in-Some-ExternalNotes-clause-said g c = quiet_frame _ _ _ _ 
 pub returns-in_ok-push-in-Some-ExternalNotes-clause-said : goal.returns-in_ok-push-in-Some-ExternalNotes-clause-said
 returns-in_ok-push-in-Some-ExternalNotes-clause-said g c = quiet_frame _ _ _ _ _ _ _ _ _ _ _ c.self.view_is c.in-Some-ExternalNotes.ensures c.in-Some-ExternalNotes.field-0-is (λ k. refl)
 
-pub returns-then-left-gt0-clause-said : goal.returns-then-left-gt0-clause-said
-returns-then-left-gt0-clause-said g c = quiet_frame _ _ _ _ _ _ _ _ _ _ _ c.self.view_is c.in-Some-Elements.ensures c.in-Some-Elements.field-0-is (λ k. end_quiet c.in-Some-Elements.left k)
+pub returns-then-at-gt0-clause-said : goal.returns-then-at-gt0-clause-said
+returns-then-at-gt0-clause-said g c = quiet_frame _ _ _ _ _ _ _ _ _ _ _ c.self.view_is c.in-Some-Elements.ensures c.in-Some-Elements.field-0-is (λ k. end_quiet c.in-Some-Elements.at.left k)
 
-pub returns-else-left-gt0-clause-said : goal.returns-else-left-gt0-clause-said
-returns-else-left-gt0-clause-said g c = quiet_frame _ _ _ _ _ _ _ _ _ _ _ c.self.view_is c.in-Some-Elements.ensures c.in-Some-Elements.field-0-is (λ k. end_quiet c.in-Some-Elements.left k)
+pub returns-else-at-gt0-clause-said : goal.returns-else-at-gt0-clause-said
+returns-else-at-gt0-clause-said g c = quiet_frame _ _ _ _ _ _ _ _ _ _ _ c.self.view_is c.in-Some-Elements.ensures c.in-Some-Elements.field-0-is (λ k. end_quiet c.in-Some-Elements.at.left k)
 
 pub returns-in_err-make-in-Some-Made-clause-said : goal.returns-in_err-make-in-Some-Made-clause-said
 returns-in_err-make-in-Some-Made-clause-said g c = quiet_frame _ _ _ _ _ _ _ _ _ _ _ c.self.view_is c.in-Some-Made.ensures c.in-Some-Made.field-0-is (λ k. refl)

@@ -1,5 +1,5 @@
 use Rattle.jser_printer.proofs.TableLemmas.{known_more}
-use Rattle.jser_printer.proofs.table.Table.add.Goals as goal
+use Rattle.jser_printer.proofs.table.NameTable.add.Goals as goal
 
 pub returns-clause-known : goal.returns-clause-known
 returns-clause-known c =

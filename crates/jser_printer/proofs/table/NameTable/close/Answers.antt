@@ -2,7 +2,7 @@ use Rattle.std.proofs.Common.{◌≡◌, List, [], ◌∷◌, ◌++◌, ap, ◌�
 use Rattle.jser_printer.specs.Tables.{layers_under, IsStraight, Closes}
 use Rattle.jser_printer.specs.declared.class.KeptClass.{KeptClass}
 use Rattle.jser_printer.proofs.CloseLemmas.{known_closed, chains_closed, sound_closed}
-use Rattle.jser_printer.proofs.table.Table.close.Goals as goal
+use Rattle.jser_printer.proofs.table.NameTable.close.Goals as goal
 
 added : (old kept new : List KeptClass) (c : KeptClass) → new ≡ kept ++ c ∷ [] → kept ≡ old → new ≡ old ++ c ∷ []
 added old kept new c is same = is ∙ ap (λ cs. cs ++ c ∷ []) same

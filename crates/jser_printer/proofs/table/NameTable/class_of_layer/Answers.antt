@@ -2,7 +2,7 @@ use Rattle.std.proofs.Common.{◌∙◌, refl, ap, sym, Some, arith}
 use Rattle.jser_shown.specs.Known.{own_class_of}
 use Rattle.jser_printer.specs.Tables.{layers_in}
 use Rattle.jser_printer.proofs.TableLemmas.{length_view, length_chains, straight_inside, layer_straight, layer_at_number, chain_inside, index_inside, number_kept}
-use Rattle.jser_printer.proofs.table.Table.class_of_layer.Goals as goal
+use Rattle.jser_printer.proofs.table.NameTable.class_of_layer.Goals as goal
 
 pub overflow_sub-result : goal.overflow_sub-result
 overflow_sub-result c =
