@@ -45,28 +45,28 @@ pub fn faulty_byte(scan: &mut TextScan, bytes: &[u8]) -> Option<u8>
     }
 }
 
-/// The last letter of the field between these places of a record, if the field is plain ASCII. It may miss one near the
-/// end of the record.
-pub fn last_letter(record: &[u8], from: usize, to: usize) -> Option<u8>
+/// The last letter of the field between these places of a row, if the field is plain ASCII. It may miss one near the
+/// end of the row.
+pub fn last_letter(row: &[u8], from: usize, to: usize) -> Option<u8>
     requires some { from < to }
-    requires within { from ≤ length record.now }
+    requires within { from ≤ length row.now }
     ensures { IfSome result (λ letter. (1 ≤ letter) × (letter < 0x80)) }
 {
-    if is_plain_between(record, from, to) {
-        Some(record[to - 1])
+    if is_plain_between(row, from, to) {
+        Some(row[to - 1])
     } else {
         None
     }
 }
 
-/// What comes behind the field between these places of a record, if the field is plain ASCII.
-pub fn behind_field(record: &[u8], from: usize, to: usize) -> Option<&[u8]>
+/// What comes behind the field between these places of a row, if the field is plain ASCII.
+pub fn behind_field(row: &[u8], from: usize, to: usize) -> Option<&[u8]>
     requires order { from ≤ to }
-    requires within { from ≤ length record.now }
-    ensures { IfSome result (λ rest. to + length rest.now ≡ length record.now) }
+    requires within { from ≤ length row.now }
+    ensures { IfSome result (λ rest. to + length rest.now ≡ length row.now) }
 {
-    if is_plain_between(record, from, to) {
-        let (_, rest) = record.split_at(to);
+    if is_plain_between(row, from, to) {
+        let (_, rest) = row.split_at(to);
         Some(rest)
     } else {
         None
