@@ -6,7 +6,7 @@ ghost use Rattle.jser_prim.specs.Bytes.{big_bytes};
 ghost use Rattle.jser_shown.specs.Words.{quoted_unit};
 ghost use Rattle.jser_printer.specs.Names.{view_text};
 
-use crate::text::Text;
+use crate::text::{Text, is_plain};
 use arrayvec::ArrayVec;
 use byteorder::{BigEndian, ByteOrder};
 use std::alloc::{AllocError, Global};
@@ -96,14 +96,15 @@ fn quoted_units(alloc: Global, units: &[u16]) -> Result<Vec<u8>, AllocError>
     Ok(quoted)
 }
 
-/// What a unit is in a quoted text: units from 0020 to 007E stand for themselves, but for `\"` and `\\`, and any other
-/// unit is `\u` and four digits.
+/// What a unit is in a quoted text: itself, or `\"` or `\\`, and any other unit is `\u` and four digits.
 pub(crate) fn quoted_unit(unit: u16) -> ArrayVec<u8, LONGEST>
     ensures { result.items ≡ quoted_unit unit }
 {
+    if is_plain(unit) {
+        return text_of(&[unit as u8]);
+    }
     match unit {
         0x22 | 0x5C => text_of(&[b'\\', unit as u8]),
-        0x20..=0x7E => text_of(&[unit as u8]),
         _ => numbered(unit),
     }
 }

@@ -1,6 +1,8 @@
 //! Texts: by their units, or by bytes that stand for themselves.
-ghost use Rattle.std.specs.Prelude.{◌≡◌, ◌<◌, ◌∷◌, [], true, IfSome};
+ghost use Rattle.std.specs.Prelude.{◌≡◌, ◌<◌, ◌∷◌, ◌⊎◌, [], true, false, IfSome};
 ghost use Rattle.std.specs.List.{flat_map};
+ghost use Rattle.hex.specs.Hex.{encode_lower};
+ghost use Rattle.jser_prim.specs.Bytes.{big_bytes};
 ghost use Rattle.jser_shown.specs.Words.{quoted_unit};
 ghost use Rattle.jser_printer.specs.Plain.{ArePlain, IsAscii};
 
@@ -56,10 +58,11 @@ fn are_plain(bytes: &[u8]) -> bool
     plain
 }
 
-/// Whether a unit stands for itself.
+/// Whether a unit stands for itself in a quoted text: those from 20 to 7E in hexadecimal do, but for `"` and `\`.
 #[inline(always)]
 pub(crate) fn is_plain(unit: u16) -> bool
-    ensures { result ≡ true → (quoted_unit unit ≡ unit ∷ []) × (unit < 0x80) }
+    ensures plain { result ≡ true → (quoted_unit unit ≡ unit ∷ []) × (unit < 0x80) }
+    ensures other { result ≡ false → (unit ≡ 0x22) ⊎ ((unit ≡ 0x5C) ⊎ (quoted_unit unit ≡ 0x5C ∷ 0x75 ∷ encode_lower (big_bytes 2 unit))) }
 {
     unit != 0x22 && unit != 0x5C && 0x20 <= unit && unit <= 0x7E
 }
