@@ -10,6 +10,7 @@ import java.nio.CharBuffer;
 import java.nio.charset.CharacterCodingException;
 import java.nio.charset.StandardCharsets;
 import java.util.Arrays;
+import java.util.Locale;
 
 /**
  * The proved check in front of an {@link ObjectInputStream}: no byte of a refused stream reaches it, and no class is loaded.
@@ -123,7 +124,7 @@ public final class SerialCheck implements AutoCloseable {
         held.handle = open(spelled(filter, "filter is not text"), spelled(modules, "modules are not text"), flags, answer);
         cleanable = CLEANER.register(this, held);
         if (answer[0] == MISUSE) {
-            throw new IllegalArgumentException(String.format(CAUSES[(int) answer[1]], answer[2]));
+            throw new IllegalArgumentException(String.format(Locale.ROOT, CAUSES[(int) answer[1]], answer[2]));
         }
         settled(answer);
     }
