@@ -85,11 +85,16 @@ fn print_names(
     Ok(())
 }
 
-/// Prints a name, or its bytes where they are no UTF-8.
+/// Prints a name, or its bytes where they are not printable ASCII: whoever wrote the stream has chosen them.
 fn print_name(rt: &HostRuntime, name: &[u8]) -> Result<()> {
     match str::from_utf8(name) {
-        Ok(text) => println!(rt; "{text}")?,
-        Err(_) => println!(rt; "{name:?}")?,
+        Ok(text) if is_plain(name) => println!(rt; "{text}")?,
+        _ => println!(rt; "{name:?}")?,
     }
     Ok(())
+}
+
+/// Whether a name is printable ASCII, so that nothing in it can do anything to a terminal.
+fn is_plain(name: &[u8]) -> bool {
+    name.iter().all(|byte| (0x20..=0x7E).contains(byte))
 }

@@ -48,15 +48,23 @@ fn measure(reader: &mut Reader<OpenGate>, sizes: &mut Sizes, piece: &[u8]) -> Re
     Ok(())
 }
 
-/// Prints a class of which there are objects; its name as bytes where it is no UTF-8.
+/// Prints a class of which there are objects; its name as bytes where they are not printable ASCII: whoever wrote the stream
+/// has chosen them.
 fn print_class(rt: &HostRuntime, class: &Class) -> Result<()> {
     let (objects, bytes) = (class.objects, class.bytes);
     if objects == 0 {
         return Ok(());
     }
     match str::from_utf8(&class.name) {
-        Ok(name) => println!(rt; "{objects} objects, {bytes} bytes: {name}")?,
-        Err(_) => println!(rt; "{objects} objects, {bytes} bytes: {:?}", class.name)?,
+        Ok(name) if is_plain(&class.name) => {
+            println!(rt; "{objects} objects, {bytes} bytes: {name}")?
+        }
+        _ => println!(rt; "{objects} objects, {bytes} bytes: {:?}", class.name)?,
     }
     Ok(())
+}
+
+/// Whether a name is printable ASCII, so that nothing in it can do anything to a terminal.
+fn is_plain(name: &[u8]) -> bool {
+    name.iter().all(|byte| (0x20..=0x7E).contains(byte))
 }
