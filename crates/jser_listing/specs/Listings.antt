@@ -1,5 +1,5 @@
 -- The text of list in a room: all of it, or its first bytes.
-use Rattle.std.specs.Prelude.{ℕ, ◌≡◌, Bool, List, length}
+use Rattle.std.specs.Prelude.{ℕ, ◌≡◌, List, length}
 use Rattle.jser_grammar.specs.Trees.{ContentTrees}
 use Rattle.jser_verdict.specs.Passing.{Passes}
 use Rattle.jser_reader.specs.Gates.{open_gate}
@@ -8,11 +8,6 @@ use Rattle.jser_shown.specs.Listed.{listed}
 use Rattle.jser_room.specs.declared.show.Shown.{Shown}
 use Rattle.jser_room.specs.Rooms.{Holds}
 use Rattle.jser_commands.specs.Lines.{words_on}
-
--- as contracts see a sink that keeps what goes out
-pub record Kept : Type 0 where
-  pub bytes : List ℕ
-  pub has_failed : Bool
 
 -- the room holds a text or its first bytes, with the length of the whole
 pub record HoldsText (text old new : List ℕ) (what : Shown) : Type 0 where

@@ -3,7 +3,5 @@
 
 mod bytes;
 mod list;
-mod nowhere;
-mod text;
 
 pub use list::list_into;

@@ -5,13 +5,12 @@ ghost use Rattle.jser_index.specs.Reading.{IsRefused};
 ghost use Rattle.jser_listing.specs.Listings.{HoldsText, ListsInto, SaysList};
 
 use crate::bytes::Bytes;
-use crate::nowhere::Nowhere;
-use crate::text::Text;
 use jser_commands::{Job, run};
 use jser_filter::Filter;
+use jser_front::Front;
 use jser_index::Index;
 use jser_reader::Stop;
-use jser_room::Shown;
+use jser_room::{Nowhere, Shown};
 use jser_settings::{ACCEPTED, REFUSED};
 use std::alloc::Global;
 
@@ -34,7 +33,7 @@ pub fn list_into(
     ensures refused { IfErr result (IfRefused (IsRefused bytes.now)) }
     ensures kept { IfErr result (λ _. room.new ≡ room.old) }
 {
-    let mut text = Text::new(alloc);
+    let mut text = Front::new(alloc, usize::MAX);
     match list(alloc, bytes, filter, &mut text) {
         Ok(()) => Ok(put(room, text.bytes())),
         Err(stop) => Err(stop),
@@ -42,7 +41,7 @@ pub fn list_into(
 }
 
 /// Lists the names of a stream.
-fn list(alloc: Global, bytes: &[u8], filter: Filter, text: &mut Text) -> Result<(), Stop>
+fn list(alloc: Global, bytes: &[u8], filter: Filter, text: &mut Front) -> Result<(), Stop>
     requires { text.old.bytes ≡ [] }
     ensures listed { IfOk result (λ _. SaysList filter bytes.now text.new.bytes) }
     ensures refused { IfErr result (IfRefused (IsRefused bytes.now)) }

@@ -4,4 +4,5 @@
 mod nowhere;
 mod show;
 
+pub use nowhere::Nowhere;
 pub use show::{Shown, show_into};

@@ -1,11 +1,11 @@
-//! A sink that keeps nothing, for a text whose length alone is wanted.
+//! A sink that keeps nothing: for a text whose length alone is wanted, and for faults that nobody reads.
 ghost use Rattle.std.specs.Prelude.{false};
 
 use jser_prim::{Failed, Sink};
 
 /// Takes all bytes, and keeps none.
 #[derive(Drop)]
-pub(crate) struct Nowhere;
+pub struct Nowhere;
 
 impl Sink for Nowhere {
     ghost has_failed = { λ _. false };
