@@ -4,7 +4,9 @@ ghost use Rattle.jser_ffi.specs.Compiling.{IsCompiled, IsFilterOf, IsTableOf, Te
 ghost use Rattle.jser_ffi.specs.Told.{HasFault, Says, SaysAnywhere, SaysPlain};
 
 use crate::answer::{Answer, NO_MEMORY, SPENT, accepted, bare, hidden, misuse, refused};
-use crate::misuse::{filter_answer, modules_answer};
+use crate::misuse::{
+    FILTER_IS_NO_TEXT, MODULES_ARE_NO_TEXT, UNKNOWN_FLAG, filter_answer, modules_answer,
+};
 use crate::way::way_of;
 use jser_check::{Options, Stop, check_bytes};
 use jser_check_anywhere::{AnywhereChecker, AnywhereFault};
@@ -38,7 +40,7 @@ pub(crate) fn compile(
     ensures known { IfErr result (λ answer. (answer.status ≡ 2) ⊎ (answer.status ≡ 3)) }
 {
     let Some(way) = way_of(flags) else {
-        return Err(misuse(10, 0));
+        return Err(misuse(UNKNOWN_FLAG, 0));
     };
     let filter = match filter_with(alloc, text, modules) {
         Ok(filter) => filter,
@@ -81,7 +83,7 @@ fn filter_of(alloc: Global, text: &[u8]) -> Result<Filter, Answer>
     ensures known { IfErr result (λ answer. (answer.status ≡ 2) ⊎ (answer.status ≡ 3)) }
 {
     let Ok(text) = str::from_utf8(text) else {
-        return Err(misuse(6, 0));
+        return Err(misuse(FILTER_IS_NO_TEXT, 0));
     };
     match Filter::parse(alloc, text) {
         Ok(filter) => Ok(filter),
@@ -96,7 +98,7 @@ fn table_of(alloc: Global, text: &[u8]) -> Result<Modules, Answer>
     ensures known { IfErr result (λ answer. (answer.status ≡ 2) ⊎ (answer.status ≡ 3)) }
 {
     let Ok(text) = str::from_utf8(text) else {
-        return Err(misuse(9, 0));
+        return Err(misuse(MODULES_ARE_NO_TEXT, 0));
     };
     match Modules::parse(alloc, text) {
         Ok(table) => Ok(table),

@@ -7,6 +7,13 @@ ghost use Rattle.jser_ffi.specs.Compiling.{filter_cause_number, modules_cause_nu
 use crate::answer::{Answer, NO_MEMORY, bare, misuse};
 use jser_filter::{FilterCause, FilterFault, ModulesCause, ModulesFault};
 
+/// The cause that the bytes of a filter are no text, by its number in `include/serialcheck.h`.
+pub(crate) const FILTER_IS_NO_TEXT: u32 = 6;
+/// The cause that the bytes of a table of modules are no text.
+pub(crate) const MODULES_ARE_NO_TEXT: u32 = 9;
+/// The cause that a flag is set that there is not.
+pub(crate) const UNKNOWN_FLAG: u32 = 10;
+
 /// The answer of a faulty piece of a filter.
 pub(crate) fn filter_answer(fault: FilterFault) -> Answer
     ensures told { result.status ≡ 2 → (fault.cause ≢ cause.OutOfMemory) × (result.reason ≡ filter_cause_number fault.cause) × (result.from_byte ≡ fault.pattern) }
