@@ -1,8 +1,8 @@
 //! The check of many files: what it found of each, as a line or as JSON, and what it found of all; and what is printed of
 //! good files, for which a filter is suggested.
 //!
-//! The program goes through the folders and opens the files. `check_file` checks one, and `Scan` prints what was found, one
-//! file after another, and counts.
+//! The program goes through the folders and opens the files. `check_file` checks one, `print_found` prints what was found of
+//! it, and a `Tally` counts.
 #![tactic(auto)]
 
 mod answer;

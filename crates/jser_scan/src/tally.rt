@@ -3,6 +3,7 @@ ghost use Rattle.std.specs.Prelude.{◌≡◌};
 ghost use Rattle.jser_scan.specs.Tallies.{no_files, noted, status_of};
 
 use crate::found::Found;
+use jser_settings::{ACCEPTED, FAILED, REFUSED};
 
 /// How many files were checked, and with what result.
 #[derive(Clone, Copy, PartialEq, Eq, Debug)]
@@ -51,11 +52,11 @@ impl Tally {
         ensures { result ≡ status_of self }
     {
         if self.unread > 0 {
-            3
+            FAILED
         } else if self.refused > 0 {
-            1
+            REFUSED
         } else {
-            0
+            ACCEPTED
         }
     }
 }
