@@ -3,15 +3,13 @@ ghost use Rattle.std.specs.Prelude.{◌≡◌, ◌⊎◌, ◌≤◌, IfErr};
 
 use crate::scan::unopened;
 use jser_inputs::{Decoded, Form, Input};
+use jser_names::{NamesFault, bytes_of};
 use jser_prim::{FromRead, Sink};
 use jser_reader::Stop;
 use jser_scan::{FilePath, Found, print_suggested, tell_found, tell_no_sample};
-use jser_settings::{FAILED, WholeFault, read_front, tell_failure};
+use jser_settings::{FAILED, tell_failure};
 use jser_suggest::{SampleFault, Samples};
 use std::fs::File;
-
-/// The most bytes of a stream, 2^40.
-use jser_grammar::caps::MOST_BYTES;
 
 /// Why a file is no sample.
 #[derive(Drop)]
@@ -76,19 +74,22 @@ fn learn(rt: &HostRuntime, form: Form, file: &str, samples: &mut Samples) -> Res
     }
 }
 
-/// Takes an opened input.
+/// Takes an opened input. Of one that is no stream nothing is kept.
 fn learn_input<R: Input>(
     rt: &HostRuntime,
     input: &mut R,
     samples: &mut Samples,
 ) -> Result<(), NoSample> {
-    match read_front(rt.alloc(), input, MOST_BYTES as usize) {
+    match bytes_of(rt.alloc(), input) {
         Ok(bytes) => match samples.add(rt.alloc(), &bytes) {
             Ok(()) => Ok(()),
             Err(fault) => Err(NoSample::Read(fault)),
         },
-        Err(WholeFault::OutOfMemory) => Err(NoSample::Read(SampleFault::Stop(Stop::OutOfMemory))),
-        Err(_) => Err(NoSample::Unread(Found::NotRead(input.fault()))),
+        Err(NamesFault::Refused(refusal)) => {
+            Err(NoSample::Read(SampleFault::Stop(Stop::Refused(refusal))))
+        }
+        Err(NamesFault::OutOfMemory) => Err(NoSample::Read(SampleFault::Stop(Stop::OutOfMemory))),
+        Err(NamesFault::ReadFault) => Err(NoSample::Unread(Found::NotRead(input.fault()))),
     }
 }
 
