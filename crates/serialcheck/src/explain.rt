@@ -11,7 +11,7 @@ use std::fs::File;
 
 /// What is asked beside the filter.
 #[derive(Clone, Copy)]
-pub(crate) struct Doubt {
+pub(crate) struct ExplainOptions {
     /// Whether a name that no pattern matches is refused.
     pub(crate) strict: bool,
     /// Whether the filter is asked about each class name that can be read at any place.
@@ -24,7 +24,7 @@ pub(crate) struct Doubt {
 pub(crate) fn explain_file<W: Sink, E: Sink>(
     rt: &HostRuntime,
     filters: &Filters,
-    doubt: Doubt,
+    options: ExplainOptions,
     file: &str,
     output: &mut W,
     faults: &mut E,
@@ -41,10 +41,10 @@ pub(crate) fn explain_file<W: Sink, E: Sink>(
     };
     let rules = Rules {
         filter,
-        strict: doubt.strict,
-        anywhere: doubt.anywhere,
+        strict: options.strict,
+        anywhere: options.anywhere,
     };
-    explain_under(rt, rules, text.as_str(), doubt.form, file, output, faults)
+    explain_under(rt, rules, text.as_str(), options.form, file, output, faults)
 }
 
 /// The same under these rules, whose filter has this text.

@@ -11,7 +11,7 @@ mod explain;
 mod scan;
 mod suggest;
 
-use crate::explain::{Doubt, explain_file};
+use crate::explain::{ExplainOptions, explain_file};
 use crate::scan::{Task, scan_paths};
 use crate::suggest::suggest_from;
 use jser_commands::{Job, run};
@@ -133,12 +133,12 @@ fn on_line<W: Sink, E: Sink>(rt: &HostRuntime, line: &Line, output: &mut W, faul
             anywhere,
             file,
         } => {
-            let doubt = Doubt {
+            let options = ExplainOptions {
                 strict: *strict,
                 anywhere: *anywhere,
                 form: forms.form(),
             };
-            explain_file(rt, filters, doubt, file.as_str(), output, faults)
+            explain_file(rt, filters, options, file.as_str(), output, faults)
         }
         Line::Scan {
             filters,
