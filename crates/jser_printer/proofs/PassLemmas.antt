@@ -15,7 +15,6 @@ use Rattle.jser_prim.specs.Outgoing.{Outgoing, SinkState}
 use Rattle.std.specs.Prelude.{codes}
 use Rattle.jser_printer.proofs.SaysLemmas.{says_nothing}
 use Rattle.jser_printer.specs.Phases.{in_phase}
-use Rattle.jser_printer.specs.declared.phase.FieldsLeft.{FieldsLeft}
 use Rattle.jser_printer.specs.declared.phase.Head.{Head}
 use Rattle.jser_printer.specs.declared.phase.Over.{Over}
 use Rattle.jser_printer.specs.declared.phase.Phase.{Phase}
@@ -128,10 +127,10 @@ quiet_phase a d s p p' name done standing here is quiet =
     (λ k. ap (λ t. due_says (due t) k) (sym here) ∙ ap (λ x. due_says (due (in_phase x name done standing)) k) is ∙ quiet k)
 
 pub none_in_phase : (p : Phase) (name : List ℕ) (done : List NamedField) (standing : Teller) → (p ≡ phase.Frames → ⊥)
-    → ((fields : FieldsLeft) (over : Over) → p ≡ phase.Fields fields over → ⊥)
+    → ((head : Head) (flags left : ℕ) (over : Over) → p ≡ phase.Fields head flags left over → ⊥)
     → ((head : Head) (left : ℕ) → p ≡ phase.Interfaces head left → ⊥) → due (in_phase p name done standing) ≡ None
 none_in_phase phase.Frames name done standing a b c = absurd (a refl)
-none_in_phase (phase.Fields fields over) name done standing a b c = absurd (b fields over refl)
+none_in_phase (phase.Fields head flags left over) name done standing a b c = absurd (b head flags left over refl)
 none_in_phase (phase.Interfaces head left) name done standing a b c = absurd (c head left refl)
 none_in_phase p name done standing a b c = refl
 

@@ -37,10 +37,10 @@ phase_cues (phase.ClassName level) name done cues = class_name_cue level ∷ cue
 phase_cues (phase.Suid level) name done cues = suid_cue level name ∷ cues
 phase_cues (phase.Flags head) name done cues = flags_cue head.level head.number name ∷ cues
 phase_cues (phase.FieldCount head flags) name done cues = field_count_cue head.level head.number name flags ∷ cues
-phase_cues (phase.Fields f over) name done cues =
-    over_fields over (fields_cue f.head.level f.head.number name f.flags done f.left ∷ cues)
-phase_cues (phase.FieldName code f) name done cues =
-    field_name_cue f.head.level f.head.number name f.flags done code f.left ∷ cues
+phase_cues (phase.Fields head flags left over) name done cues =
+    over_fields over (fields_cue head.level head.number name flags done left ∷ cues)
+phase_cues (phase.FieldName head flags code left) name done cues =
+    field_name_cue head.level head.number name flags done code left ∷ cues
 phase_cues (phase.InterfaceCount head) name done cues = interface_count_cue head.level head.number ∷ cues
 phase_cues (phase.Interfaces head left) name done cues = interfaces_cue head.level head.number left ∷ cues
 

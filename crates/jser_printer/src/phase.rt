@@ -11,16 +11,6 @@ pub(crate) struct Head {
     pub(crate) number: usize,
 }
 
-/// The fields of a class that are still to come.
-#[derive(Clone, Copy)]
-pub(crate) struct FieldsLeft {
-    pub(crate) head: Head,
-    /// The flags of the class.
-    pub(crate) flags: u8,
-    /// How many they are.
-    pub(crate) left: u16,
-}
-
 /// What comes before the next field of a descriptor.
 #[derive(Clone, Copy)]
 pub(crate) enum Over {
@@ -50,17 +40,50 @@ pub(crate) enum Phase {
     Text,
     BlockLength,
     Block,
-    ArrayLength { level: u64 },
-    EnumName { level: u64 },
-    Class { owner: Owner, level: u64 },
-    ClassHandle { owner: Owner, level: u64 },
-    ClassName { level: u64 },
-    Suid { level: u64 },
-    Flags { head: Head },
-    FieldCount { head: Head, flags: u8 },
-    Fields { fields: FieldsLeft, over: Over },
-    /// The name of a field with this type code, behind which the others come.
-    FieldName { code: u8, fields: FieldsLeft },
-    InterfaceCount { head: Head },
-    Interfaces { head: Head, left: u32 },
+    ArrayLength {
+        level: u64,
+    },
+    EnumName {
+        level: u64,
+    },
+    Class {
+        owner: Owner,
+        level: u64,
+    },
+    ClassHandle {
+        owner: Owner,
+        level: u64,
+    },
+    ClassName {
+        level: u64,
+    },
+    Suid {
+        level: u64,
+    },
+    Flags {
+        head: Head,
+    },
+    FieldCount {
+        head: Head,
+        flags: u8,
+    },
+    Fields {
+        head: Head,
+        flags: u8,
+        left: u16,
+        over: Over,
+    },
+    FieldName {
+        head: Head,
+        flags: u8,
+        code: u8,
+        left: u16,
+    },
+    InterfaceCount {
+        head: Head,
+    },
+    Interfaces {
+        head: Head,
+        left: u32,
+    },
 }

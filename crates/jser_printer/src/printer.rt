@@ -18,6 +18,7 @@ use crate::phase::Phase;
 use crate::seen::{Seen, see};
 use crate::standing::Standing;
 use crate::text::{Plain, Text};
+use crate::words::number::write_mark_line;
 use crate::words::quote::write_plain_line;
 use crate::words::tag::Marks;
 use jser_prim::{Outbox, Sink};
@@ -78,8 +79,41 @@ impl<'a> Printer<'a> {
             → BeginsTo W.gone_out W.has_failed outbox.old outbox.new sink.old sink.new (λ k. says_next self.old told k)) }
     {
         match see(field) {
+            Some(Seen::Handle(number)) => self.write_handle(outbox, sink, number),
             Some(seen) => self.write_seen(outbox, sink, seen),
             None => Ok(()),
+        }
+    }
+
+    /// Writes the handle of a reference, with all that is due before it.
+    #[tactic(auto, using(crate::proofs::WalkLemmas::says_handle, crate::proofs::WalkLemmas::goes_handle, crate::proofs::WalkLemmas::says_class_handle, crate::proofs::WalkLemmas::goes_class_handle, crate::proofs::StepLemmas::begins_all))]
+    #[inline(always)]
+    fn write_handle<W: Sink>(
+        &mut self,
+        outbox: &mut Outbox,
+        sink: &mut W,
+        number: usize,
+    ) -> Result<(), AllocError>
+        ensures said { OnOk result ((told : StreamField) → Sees (Some (Seen.Handle number)) told
+            → SaysTo W.gone_out W.has_failed outbox.old outbox.new sink.old sink.new (λ k. says_next self.old told k)) }
+        ensures goes { OnOk result ((told : StreamField) → Sees (Some (Seen.Handle number)) told → self.new ≡ goes (settled self.old) told) }
+        ensures front { OnErr result ((told : StreamField) → Sees (Some (Seen.Handle number)) told
+            → BeginsTo W.gone_out W.has_failed outbox.old outbox.new sink.old sink.new (λ k. says_next self.old told k)) }
+    {
+        // Nothing is due before the handle of a value or of a class.
+        match self.phase {
+            Phase::Handle => {
+                write_mark_line(outbox, sink, self.standing.epoch(), number as u64);
+                self.phase = Phase::Frames;
+                Ok(())
+            }
+            Phase::ClassHandle { owner, level } => {
+                write_mark_line(outbox, sink, self.standing.epoch(), number as u64);
+                self.standing.end_class(owner, level, number)?;
+                self.phase = Phase::Frames;
+                Ok(())
+            }
+            _ => self.write_seen(outbox, sink, Seen::Handle(number)),
         }
     }
 

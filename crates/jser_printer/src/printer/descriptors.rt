@@ -11,7 +11,7 @@ ghost use Rattle.jser_printer.specs.Phases.{Leads, in_phase, over_fields, phase_
 
 use crate::draft::Draft;
 use crate::layer::has_type_text;
-use crate::phase::{FieldsLeft, Head, Over, Phase};
+use crate::phase::{Head, Over, Phase};
 use crate::seen::{Seen, Tag};
 use crate::standing::Standing;
 use crate::words::descriptor::{
@@ -98,7 +98,9 @@ pub(crate) fn take_field_count(draft: &mut Draft, head: Head, flags: u8, seen: S
     };
     draft.begin_fields();
     Phase::Fields {
-        fields: FieldsLeft { head, flags, left },
+        head,
+        flags,
+        left,
         over: Over::Nothing,
     }
 }
@@ -108,27 +110,29 @@ pub(crate) fn take_field_count(draft: &mut Draft, head: Head, flags: u8, seen: S
 fn write_code<W: Sink>(
     outbox: &mut Outbox,
     sink: &mut W,
-    fields: FieldsLeft,
+    head: Head,
+    flags: u8,
+    left: u16,
     seen: Seen<'_>,
 ) -> Phase
-    ensures said { SaysTo W.gone_out W.has_failed outbox.old outbox.new sink.old sink.new (λ k. code_says fields.head.level (view_seen seen.entry) k) }
-    ensures leads { (e : ℕ) (known : Known) (os : List ToldNode) (cues : List Cue) (name : List ℕ) (done : List NamedField) → teller e known os (phase_cues result name done cues) ≡ code_goes e known os cues fields.head.level fields.head.number name fields.flags done fields.left (view_seen seen.entry) }
+    ensures said { SaysTo W.gone_out W.has_failed outbox.old outbox.new sink.old sink.new (λ k. code_says head.level (view_seen seen.entry) k) }
+    ensures leads { (e : ℕ) (known : Known) (os : List ToldNode) (cues : List Cue) (name : List ℕ) (done : List NamedField) → teller e known os (phase_cues result name done cues) ≡ code_goes e known os cues head.level head.number name flags done left (view_seen seen.entry) }
 {
     if let Seen::TypeCode(code) = seen {
-        write_field_word(outbox, sink, fields.head.level, code);
-        if fields.left > 0 {
+        write_field_word(outbox, sink, head.level, code);
+        if left > 0 {
             return Phase::FieldName {
+                head,
+                flags,
                 code,
-                fields: FieldsLeft {
-                    head: fields.head,
-                    flags: fields.flags,
-                    left: fields.left - 1,
-                },
+                left: left - 1,
             };
         }
     }
     Phase::Fields {
-        fields,
+        head,
+        flags,
+        left,
         over: Over::Nothing,
     }
 }
@@ -190,18 +194,25 @@ pub(crate) fn write_class_field<W: Sink>(
     sink: &mut W,
     marks: Marks,
     standing: &mut Standing<'_>,
-    fields: FieldsLeft,
+    head: Head,
+    flags: u8,
+    left: u16,
     over: Over,
     seen: Seen<'_>,
 ) -> Result<Phase, AllocError>
-    ensures said { (name : List ℕ) (done : List NamedField) → SaysTo W.gone_out W.has_failed outbox.old outbox.new sink.old sink.new (λ k. field_words marks (phase_cues (Phase.Fields fields over) name done standing.old.cues) (view_seen seen.entry) k) }
-    ensures leads { IfOk result (λ phase. (name : List ℕ) (done : List NamedField) → in_phase phase name done standing.new ≡ goes_in standing.old.epoch standing.old.known standing.old.owners (phase_cues (Phase.Fields fields over) name done standing.old.cues) (view_seen seen.entry)) }
+    ensures said { (name : List ℕ) (done : List NamedField) → SaysTo W.gone_out W.has_failed outbox.old outbox.new sink.old sink.new (λ k. field_words marks (phase_cues (Phase.Fields head flags left over) name done standing.old.cues) (view_seen seen.entry) k) }
+    ensures leads { IfOk result (λ phase. (name : List ℕ) (done : List NamedField) → in_phase phase name done standing.new ≡ goes_in standing.old.epoch standing.old.known standing.old.owners (phase_cues (Phase.Fields head flags left over) name done standing.old.cues) (view_seen seen.entry)) }
 {
     match over {
-        Over::Nothing => Ok(write_code(outbox, sink, fields, seen)),
+        Over::Nothing => Ok(write_code(outbox, sink, head, flags, left, seen)),
         _ => {
             let over = write_type(outbox, sink, marks, standing, over, seen)?;
-            Ok(Phase::Fields { fields, over })
+            Ok(Phase::Fields {
+                head,
+                flags,
+                left,
+                over,
+            })
         }
     }
 }
@@ -213,20 +224,29 @@ pub(crate) fn write_field_name<W: Sink>(
     outbox: &mut Outbox,
     sink: &mut W,
     draft: &mut Draft,
+    head: Head,
+    flags: u8,
     code: u8,
-    fields: FieldsLeft,
+    left: u16,
     seen: Seen<'_>,
 ) -> Result<Phase, AllocError>
     ensures said { SaysTo W.gone_out W.has_failed outbox.old outbox.new sink.old sink.new (λ k. name_says (view_seen seen.entry) k) }
-    ensures leads { IfOk result (λ phase. (e : ℕ) (known : Known) (os : List ToldNode) (cues : List Cue) → teller e known os (phase_cues phase draft.new.name draft.new.done cues) ≡ field_name_goes e known os cues fields.head.level fields.head.number draft.old.name fields.flags draft.old.done code fields.left (view_seen seen.entry)) }
+    ensures leads { IfOk result (λ phase. (e : ℕ) (known : Known) (os : List ToldNode) (cues : List Cue) → teller e known os (phase_cues phase draft.new.name draft.new.done cues) ≡ field_name_goes e known os cues head.level head.number draft.old.name flags draft.old.done code left (view_seen seen.entry)) }
 {
     let Seen::Text(name) = seen else {
-        return Ok(Phase::FieldName { code, fields });
+        return Ok(Phase::FieldName {
+            head,
+            flags,
+            code,
+            left,
+        });
     };
     write_text(outbox, sink, name);
     draft.add_field(code, name)?;
     Ok(Phase::Fields {
-        fields,
+        head,
+        flags,
+        left,
         over: if has_type_text(code) {
             Over::TypeWord
         } else {

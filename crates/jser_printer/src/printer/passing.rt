@@ -59,11 +59,18 @@ impl<'a> Printer<'a> {
                 }
                 None => Ok(false),
             },
-            Phase::Fields { fields, over } => match over {
+            Phase::Fields {
+                head,
+                flags,
+                left,
+                over,
+            } => match over {
                 Over::LineEnd => {
                     write(outbox, sink, b"\n");
                     self.phase = Phase::Fields {
-                        fields,
+                        head,
+                        flags,
+                        left,
                         over: Over::Nothing,
                     };
                     Ok(true)
@@ -71,21 +78,18 @@ impl<'a> Printer<'a> {
                 Over::TypeWord => {
                     write(outbox, sink, b" type ");
                     self.phase = Phase::Fields {
-                        fields,
+                        head,
+                        flags,
+                        left,
                         over: Over::Place,
                     };
                     Ok(true)
                 }
                 Over::Nothing => {
-                    if fields.left > 0 {
+                    if left > 0 {
                         return Ok(false);
                     }
-                    end_class(
-                        &mut self.draft,
-                        &mut self.standing,
-                        fields.head,
-                        fields.flags,
-                    )?;
+                    end_class(&mut self.draft, &mut self.standing, head, flags)?;
                     self.phase = Phase::Frames;
                     Ok(true)
                 }

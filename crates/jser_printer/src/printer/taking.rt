@@ -143,12 +143,20 @@ fn write_in_phase<W: Sink>(
         Phase::Suid { level } => *phase = write_suid(outbox, sink, standing, level, seen)?,
         Phase::Flags { head } => *phase = write_flags(outbox, sink, head, seen),
         Phase::FieldCount { head, flags } => *phase = take_field_count(draft, head, flags, seen),
-        Phase::Fields { fields, over } => {
-            *phase = write_class_field(outbox, sink, marks, standing, fields, over, seen)?;
-        }
-        Phase::FieldName { code, fields } => {
-            *phase = write_field_name(outbox, sink, draft, code, fields, seen)?;
-        }
+        Phase::Fields {
+            head,
+            flags,
+            left,
+            over,
+        } => *phase = write_class_field(
+            outbox, sink, marks, standing, head, flags, left, over, seen,
+        )?,
+        Phase::FieldName {
+            head,
+            flags,
+            code,
+            left,
+        } => *phase = write_field_name(outbox, sink, draft, head, flags, code, left, seen)?,
         Phase::InterfaceCount { head } => *phase = take_interface_count(head, seen),
         Phase::Interfaces { head, left } => *phase = write_interface(
             outbox, sink, head, left, seen,

@@ -5,20 +5,20 @@ use Rattle.jser_printer.specs.declared.phase.Phase.TheVariants as phase
 use Rattle.jser_printer.proofs.PassLemmas.{end_quiet, none_in_phase, none_said, quiet_phase}
 use Rattle.jser_printer.proofs.printer.Printer.write_one_due.Goals as goal
 
-pub returns-then-fields-gt0-clause-said : goal.returns-then-fields-gt0-clause-said
-returns-then-fields-gt0-clause-said g c = quiet_phase _ _ _ _ (phase.Fields c.in-Fields.fields over.Nothing) _ _ _ c.self.view_is (c.in-Fields.is ∙ ap (λ o. phase.Fields c.in-Fields.fields o) c.in-Nothing.is) (λ k. end_quiet c.in-Fields.fields.left k)
+pub returns-then-left-gt0-clause-said : goal.returns-then-left-gt0-clause-said
+returns-then-left-gt0-clause-said g c = quiet_phase _ _ _ _ (phase.Fields c.in-Fields.head c.in-Fields.flags c.in-Fields.left over.Nothing) _ _ _ c.self.view_is (c.in-Fields.is ∙ ap (λ o. phase.Fields c.in-Fields.head c.in-Fields.flags c.in-Fields.left o) c.in-Nothing.is) (λ k. end_quiet c.in-Fields.left k)
 
 pub returns-in-Place-clause-said : goal.returns-in-Place-clause-said
-returns-in-Place-clause-said g c = quiet_phase _ _ _ _ (phase.Fields c.in-Fields.fields over.Place) _ _ _ c.self.view_is (c.in-Fields.is ∙ ap (λ o. phase.Fields c.in-Fields.fields o) c.in-Place.is) (λ k. refl)
+returns-in-Place-clause-said g c = quiet_phase _ _ _ _ (phase.Fields c.in-Fields.head c.in-Fields.flags c.in-Fields.left over.Place) _ _ _ c.self.view_is (c.in-Fields.is ∙ ap (λ o. phase.Fields c.in-Fields.head c.in-Fields.flags c.in-Fields.left o) c.in-Place.is) (λ k. refl)
 
 pub returns-in-Text-clause-said : goal.returns-in-Text-clause-said
-returns-in-Text-clause-said g c = quiet_phase _ _ _ _ (phase.Fields c.in-Fields.fields over.Text) _ _ _ c.self.view_is (c.in-Fields.is ∙ ap (λ o. phase.Fields c.in-Fields.fields o) c.in-Text.is) (λ k. refl)
+returns-in-Text-clause-said g c = quiet_phase _ _ _ _ (phase.Fields c.in-Fields.head c.in-Fields.flags c.in-Fields.left over.Text) _ _ _ c.self.view_is (c.in-Fields.is ∙ ap (λ o. phase.Fields c.in-Fields.head c.in-Fields.flags c.in-Fields.left o) c.in-Text.is) (λ k. refl)
 
 pub returns-in-Handle-clause-said : goal.returns-in-Handle-clause-said
-returns-in-Handle-clause-said g c = quiet_phase _ _ _ _ (phase.Fields c.in-Fields.fields over.Handle) _ _ _ c.self.view_is (c.in-Fields.is ∙ ap (λ o. phase.Fields c.in-Fields.fields o) c.in-Handle.is) (λ k. refl)
+returns-in-Handle-clause-said g c = quiet_phase _ _ _ _ (phase.Fields c.in-Fields.head c.in-Fields.flags c.in-Fields.left over.Handle) _ _ _ c.self.view_is (c.in-Fields.is ∙ ap (λ o. phase.Fields c.in-Fields.head c.in-Fields.flags c.in-Fields.left o) c.in-Handle.is) (λ k. refl)
 
-pub returns-then-left-gt0-clause-said : goal.returns-then-left-gt0-clause-said
-returns-then-left-gt0-clause-said g c = quiet_phase _ _ _ _ (phase.Interfaces c.in-Interfaces.head c.in-Interfaces.left) _ _ _ c.self.view_is c.in-Interfaces.is (λ k. end_quiet c.in-Interfaces.left k)
+pub returns-then-left-gt0-2-clause-said : goal.returns-then-left-gt0-2-clause-said
+returns-then-left-gt0-2-clause-said g c = quiet_phase _ _ _ _ (phase.Interfaces c.in-Interfaces.head c.in-Interfaces.left) _ _ _ c.self.view_is c.in-Interfaces.is (λ k. end_quiet c.in-Interfaces.left k)
 
 pub returns-in_err-end_proxy-in-Interfaces-clause-said : goal.returns-in_err-end_proxy-in-Interfaces-clause-said
 returns-in_err-end_proxy-in-Interfaces-clause-said g c = quiet_phase _ _ _ _ (phase.Interfaces c.in-Interfaces.head c.in-Interfaces.left) _ _ _ c.self.view_is c.in-Interfaces.is (λ k. end_quiet c.in-Interfaces.left k)
@@ -32,7 +32,7 @@ returns-in_default g c =
     record { said = none_said _ _ _ none; passed = (none, refl) }
 
 pub returns-in_err-end_class-in-Nothing-clause-said : goal.returns-in_err-end_class-in-Nothing-clause-said
-returns-in_err-end_class-in-Nothing-clause-said g c = quiet_phase _ _ _ _ (phase.Fields c.in-Fields.fields over.Nothing) _ _ _ c.self.view_is (c.in-Fields.is ∙ ap (λ o. phase.Fields c.in-Fields.fields o) c.in-Nothing.is) (λ k. end_quiet c.in-Fields.fields.left k)
+returns-in_err-end_class-in-Nothing-clause-said g c = quiet_phase _ _ _ _ (phase.Fields c.in-Fields.head c.in-Fields.flags c.in-Fields.left over.Nothing) _ _ _ c.self.view_is (c.in-Fields.is ∙ ap (λ o. phase.Fields c.in-Fields.head c.in-Fields.flags c.in-Fields.left o) c.in-Nothing.is) (λ k. end_quiet c.in-Fields.left k)
 
 pub returns-in_ok-end_class-in-Nothing-clause-said : goal.returns-in_ok-end_class-in-Nothing-clause-said
-returns-in_ok-end_class-in-Nothing-clause-said g c = quiet_phase _ _ _ _ (phase.Fields c.in-Fields.fields over.Nothing) _ _ _ c.self.view_is (c.in-Fields.is ∙ ap (λ o. phase.Fields c.in-Fields.fields o) c.in-Nothing.is) (λ k. end_quiet c.in-Fields.fields.left k)
+returns-in_ok-end_class-in-Nothing-clause-said g c = quiet_phase _ _ _ _ (phase.Fields c.in-Fields.head c.in-Fields.flags c.in-Fields.left over.Nothing) _ _ _ c.self.view_is (c.in-Fields.is ∙ ap (λ o. phase.Fields c.in-Fields.head c.in-Fields.flags c.in-Fields.left o) c.in-Nothing.is) (λ k. end_quiet c.in-Fields.left k)
