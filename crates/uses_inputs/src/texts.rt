@@ -1,0 +1,38 @@
+//! Inputs over texts, for a program that reads what they spell and tells why it cannot.
+ghost use Rattle.std.specs.Prelude.{◌≡◌, IfOk, IfSome, Ok, false, true, option_map};
+ghost use Rattle.std.specs.Io.KnownBytes.{ReadConsumes};
+ghost use Rattle.jser_inputs.specs.Decoding.{bytes_to_come};
+ghost use Rattle.jser_inputs.specs.Spelled.{spelling_of};
+
+use jser_inputs::{Decoded, Form, Input, InputFault};
+use jser_prim::{Failed, Source};
+
+/// An input of the bytes that a text spells, of which the first were read into `buf`, and how many these are.
+///
+/// # Errors
+///
+/// `Failed` where the text is not of its form, or its source failed.
+pub fn opened<R: Source + Drop>(
+    text: R,
+    form: Form,
+    buf: &mut [u8],
+) -> Result<(Decoded<R>, usize), Failed>
+    ensures bytes { IfOk result (λ both. ReadConsumes {E = Failed} (option_map (spelling_of form) (R.to_come «text»)) (bytes_to_come both.0) (Ok both.1) buf.new) }
+    ensures failed { IfOk result (λ both. both.0.has_failed ≡ false) }
+{
+    let mut input = Decoded::new(text, form);
+    match input.take(buf) {
+        Ok(count) => Ok((input, count)),
+        Err(failed) => Err(failed),
+    }
+}
+
+/// Why the next read of an input fails, if it does.
+pub fn fault_of_read<I: Input>(input: &mut I, buf: &mut [u8]) -> Option<InputFault>
+    ensures { IfSome result (λ fault. (fault ≡ I.why_failed input.new) × (I.has_failed input.new ≡ true)) }
+{
+    match input.take(buf) {
+        Ok(_) => None,
+        Err(_) => Some(input.fault()),
+    }
+}
