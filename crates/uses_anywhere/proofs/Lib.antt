@@ -1,2 +1,3 @@
 pub mod ExactLemmas
 pub mod PlaceLemmas
+pub mod SpelledLemmas

@@ -5,5 +5,6 @@
 pub mod exact;
 pub mod messages;
 pub mod places;
+pub mod spelled;
 #[cfg(test)]
 mod tests;
