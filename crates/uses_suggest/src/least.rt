@@ -78,7 +78,7 @@ fn add_both(
 }
 
 /// The filter of the text that is suggested.
-fn parsed(alloc: Global, samples: &Samples) -> Result<Filter, Unsuggested>
+pub(crate) fn parsed(alloc: Global, samples: &Samples) -> Result<Filter, Unsuggested>
     ensures { (streams : List (List ℕ)) → AreKnown streams samples.now → IfOk result (λ filter. Has filter samples.now) }
 {
     let Ok(text) = samples.text(alloc) else {

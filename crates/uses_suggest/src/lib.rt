@@ -1,6 +1,7 @@
-//! A caller of `jser_suggest`: what the promises of the filter that it suggests are worth to one who parses it.
+//! Callers of `jser_suggest`: what the promises of the filter that it suggests are worth to one who parses it.
 #![tactic(auto)]
 
 pub mod least;
+pub mod limits;
 #[cfg(test)]
 mod tests;
