@@ -2,8 +2,8 @@
 ghost use Rattle.std.specs.Prelude.{◌≡◌, ◌≤◌, ◌<◌, IfOk, IfSome, OnOk, OnErr, Ok, None, length, take, true, false, option_map};
 ghost use Rattle.std.specs.Io.KnownBytes.{Consumes, IsAtEnd, Keeps, ReadConsumes};
 ghost use Rattle.jser_inputs.specs.Decoding.{bytes_to_come, right_in, fault_in, misspelled, KeepsNumber};
-ghost use Rattle.jser_inputs.specs.Places.{is_whole, is_wrong};
-ghost use Rattle.jser_inputs.specs.Spelled.{spelling_of};
+ghost use Rattle.jser_inputs.specs.Places.{first_place, is_whole, is_wrong};
+ghost use Rattle.jser_inputs.specs.Spelled.{right_until, spelling_of};
 
 use crate::decode::decode;
 use crate::fault::{Input, InputFault};
@@ -42,6 +42,7 @@ impl<R: Source> Decoded<R> {
         ensures bytes { bytes_to_come result ≡ option_map (spelling_of form) (R.to_come «text») }
         ensures failed { result.has_failed ≡ false }
         ensures begins { (result.form ≡ form) × (result.at ≡ 0) }
+        ensures right { right_in result ≡ option_map (right_until (first_place form)) (R.to_come «text») }
     {
         Decoded {
             text,
@@ -72,6 +73,7 @@ impl<R: Source> Decoded<R> {
         ensures ok { OnOk result (self.new.has_failed ≡ self.old.has_failed) }
         ensures err { OnErr result (self.new.has_failed ≡ true) }
         ensures place { KeepsNumber (right_in self.old) (right_in self.new) }
+        ensures form { self.new.form ≡ self.old.form }
         ensures size { length buf.new ≡ length buf.old }
     {
         if is_wrong(self.place) || self.at > u64::MAX - buf.len() as u64 {
@@ -122,6 +124,7 @@ impl<R: Source> Source for Decoded<R> {
         ensures ok { OnOk result (self.new.has_failed ≡ self.old.has_failed) }
         ensures err { OnErr result (self.new.has_failed ≡ true) }
         ensures place { KeepsNumber (right_in self.old) (right_in self.new) }
+        ensures form { self.new.form ≡ self.old.form }
     {
         if buf.is_empty() {
             return Ok(0);

@@ -1,11 +1,10 @@
 -- Digits of base64 in groups of four.
-use Rattle.std.proofs.Common.{◌≡◌, ℕ, suc, ◌+◌, ◌*◌, ◌/◌, ◌%◌, ◌<◌, ◌==◌, ◌&&◌, not, Bool, true, false, if◌then◌else◌, List, [], ◌∷◌, ◌++◌, length, replicate, Option, Some, None, slice_index, refl, sym, ap, subst, ◌∙◌, arith, inl, inr}
+use Rattle.std.proofs.Common.{◌≡◌, ℕ, suc, ◌+◌, ◌*◌, ◌/◌, ◌%◌, ◌<◌, ◌==◌, ◌&&◌, not, Bool, true, false, if◌then◌else◌, List, [], ◌∷◌, ◌++◌, length, replicate, Option, Some, None, slice_index, refl, ap, subst, ◌∙◌, arith, inl, inr}
 use Rattle.std.specs.Prelude.{◌⊎◌}
 use Rattle.std.proofs.lemmas.Bool.{eqb-true}
-use Rattle.base64.specs.GeneralPurpose.{IsBytes, encode_of, engine_symbols}
-use Rattle.base64.specs.Engines.{standard, standard_no_pad, url_safe, url_safe_no_pad}
+use Rattle.base64.specs.GeneralPurpose.{IsBytes, engine_symbols}
+use Rattle.base64.specs.Engines.{standard, url_safe}
 use Rattle.base64.specs.Rfc4648.{encode_symbols, padding_len}
-use Rattle.base64.specs.Tables.{all_below}
 use Rattle.base64.proofs.Tables.{all_below_at}
 use Rattle.jser_inputs.specs.declared.digit.Alphabet.{Alphabet}
 use Rattle.jser_inputs.specs.declared.digit.Alphabet.TheVariants as alphabet

@@ -1,2 +1,3 @@
 pub mod Base64Texts
 pub mod HexTexts
+pub mod WrongLemmas

@@ -2,7 +2,8 @@
 ghost use Rattle.std.specs.Prelude.{◌≡◌, IfOk, IfSome, Ok, false, true, option_map};
 ghost use Rattle.std.specs.Io.KnownBytes.{ReadConsumes};
 ghost use Rattle.jser_inputs.specs.Decoding.{bytes_to_come};
-ghost use Rattle.jser_inputs.specs.Spelled.{spelling_of};
+ghost use Rattle.jser_inputs.specs.Places.{first_place};
+ghost use Rattle.jser_inputs.specs.Spelled.{right_until, spelling_of};
 
 use jser_inputs::{Decoded, Form, Input, InputFault};
 use jser_prim::{Failed, Source};
@@ -34,5 +35,20 @@ pub fn fault_of_read<I: Input>(input: &mut I, buf: &mut [u8]) -> Option<InputFau
     match input.take(buf) {
         Ok(_) => None,
         Err(_) => Some(input.fault()),
+    }
+}
+
+/// Where a text is no longer hexadecimal, if that is why its first read fails: how many of its characters are right.
+#[tactic(auto, using(crate::proofs::WrongLemmas::told_place))]
+pub fn wrong_at<R: Source + Drop>(text: R, buf: &mut [u8]) -> Option<u64>
+    ensures { IfSome result (λ at. IfSome (R.to_come «text») (λ text. at ≡ right_until (first_place Form.Hex) text)) }
+{
+    let mut input = Decoded::new(text, Form::Hex);
+    match input.take(buf) {
+        Ok(_) => None,
+        Err(_) => match input.fault() {
+            InputFault::NotHexadecimal { at } => Some(at),
+            _ => None,
+        },
     }
 }

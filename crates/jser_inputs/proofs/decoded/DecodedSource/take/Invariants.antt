@@ -8,6 +8,7 @@ abbrev pub invariant-turns : goal.invariant-turns
 invariant-turns g l = record {
   bytes : Keeps (bytes_to_come l.fn.self) (bytes_to_come l.self);
   number : KeepsNumber (right_in l.fn.self) (right_in l.self);
+  form : l.self.form ≡ l.fn.self.form;
   failed : l.self.has_failed ≡ l.fn.self.has_failed;
   size : length l.buf ≡ length l.fn.buf;
 }
