@@ -1,5 +1,5 @@
 -- A check says yes exactly where the bytes are admitted anywhere.
-use Rattle.std.proofs.Common.{◌≡◌, ◌↔◌, ℕ, true, false, List, take, drop, Option, Some, None, Result, Ok, Err, IfOk, IfSome, refl, sym, subst}
+use Rattle.std.proofs.Common.{◌≡◌, ◌↔◌, ℕ, true, false, List, drop, Option, Some, None, Result, Ok, Err, IfOk, IfSome, refl, sym, subst}
 use Rattle.std.proofs.lemmas.List.{take-append-drop}
 use Rattle.jser_filter.specs.Filters.{FilterView}
 use Rattle.jser_reader.specs.declared.Refusal.{Refusal}

@@ -5,6 +5,7 @@ ghost use Rattle.uses_anywhere.specs.Spelled.{CanBeAskedFor, HoldsName};
 use crate::places::place_of;
 use jser_anywhere::laws::{reads_loadable, reads_loose, worked_rows};
 use jser_anywhere::{Judge, Names, first_hidden};
+use jser_grammar::wire::TC_PROXYCLASSDESC;
 
 /// Whether the judge lets each name pass that can be read. Then it lets each loadable name pass that stands behind 72 and its
 /// length, wherever that is and however the name is spelled.
@@ -40,7 +41,22 @@ pub fn refuses_third<J: Judge>(judge: &J) -> bool
 {
     worked_rows();
     match first_hidden(
-        &[0x7D, 0, 0, 0, 3, 0, 1, b'a', 0, 1, b'b', 0, 1, b'c'],
+        &[
+            TC_PROXYCLASSDESC,
+            0,
+            0,
+            0,
+            3,
+            0,
+            1,
+            b'a',
+            0,
+            1,
+            b'b',
+            0,
+            1,
+            b'c',
+        ],
         judge,
     ) {
         Some(_) => true,
