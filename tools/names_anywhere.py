@@ -1,17 +1,24 @@
 """A search for class names at any place of a file that shares no code with serialcheck.
 
-`python3 tools/names_anywhere.py FILE..` prints a line `FILE PLACE END NAME` for each class name that can be read at some
-place: behind 72 and a length of two bytes, or in a row behind 7D and a count of four bytes.
+`python3 tools/names_anywhere.py FILE..` prints a line `FILE PLACE END CLASS` for each name of a class that can be read at some
+place: behind 72 and a length of two bytes, or in a row of texts behind 7D and a count of four bytes. CLASS is the class itself,
+of an array too.
 """
+import re
 import sys
 from pathlib import Path
 
-MOST = 1279
+MOST = 9215
+# A plain name, and what can be taken off one: brackets at the end, or the `[`, the `L` and the `;` of an array.
+PART = r"[A-Za-z0-9_$\-\u0080-\uffff]"
+PLAIN = re.compile(rf"{PART}+(\.{PART}+)*", re.DOTALL)
+BEHIND = re.compile(r"(.+)\[\]", re.DOTALL)
+ARRAY = re.compile(r"\[+L(.*);", re.DOTALL)
 
 
 def units_of(data):
-    """The 16-bit units of a text with any spelling of one to three bytes, or None."""
-    units, at = [], 0
+    """The text of 16-bit units with any spelling of one to three bytes, a character for each, or None."""
+    text, at = [], 0
     while at < len(data):
         first = data[at]
         if first < 0x80:
@@ -27,57 +34,30 @@ def units_of(data):
             return None
         for byte in more:
             unit = unit * 64 + byte - 0x80
-        units.append(unit)
+        text.append(chr(unit))
         at += 1 + count
-    return units
+    return "".join(text)
 
 
-def is_segment(units):
-    """Whether these units can stand between the dots of a name."""
-
-    def letter(unit):
-        return unit >= 0x80 or chr(unit).isalpha() or chr(unit) in "_$"
-
-    return bool(units) and letter(units[0]) and all(letter(unit) or chr(unit) in "0123456789-" for unit in units)
+def class_of(text):
+    """The class that a text names, or None."""
+    while inner := BEHIND.fullmatch(text) or ARRAY.fullmatch(text):
+        text = inner[1]
+    return text if PLAIN.fullmatch(text) else None
 
 
-def is_dotted(units):
-    """Whether they are one segment or more, with dots between."""
-    segment = []
-    for unit in units + [0x2E]:
-        if unit != 0x2E:
-            segment.append(unit)
-        elif not is_segment(segment):
-            return False
-        else:
-            segment = []
-    return True
-
-
-def is_loadable(units):
-    """Whether they are a name that a class loader can be asked for, or that of an array of primitives."""
-    if not units:
-        return False
-    if units[0] != 0x5B:
-        return is_dotted(units)
-    rest = units[next((at for at, unit in enumerate(units) if unit != 0x5B), len(units)) :]
-    if len(rest) == 1:
-        return chr(rest[0]) in "BCDFIJSZ"
-    return len(rest) > 2 and rest[0] == 0x4C and rest[-1] == 0x3B and is_dotted(rest[1:-1])
-
-
-def name_at(data, at):
-    """The end and the units of the length and the name there, or None."""
+def text_at(data, at):
+    """The end and the text of a length and a text there behind which a row goes on, or None."""
     length = int.from_bytes(data[at : at + 2], "big")
     text = data[at + 2 : at + 2 + length]
-    if at + 2 > len(data) or not 1 <= length <= MOST or len(text) < length:
+    if at + 2 > len(data) or not 1 <= length <= MOST or len(text) < length or min(text) < 0x20:
         return None
     units = units_of(text)
-    return (at + 2 + length, units) if units is not None and is_loadable(units) else None
+    return None if units is None else (at + 2 + length, units)
 
 
 def names(data):
-    """Each name, by its place, its end and its units."""
+    """Each name, by its place, its end, its text and its class."""
     for place, mark in enumerate(data):
         if mark == 0x72:
             at, left = place + 1, 1
@@ -85,12 +65,13 @@ def names(data):
             at, left = place + 5, int.from_bytes(data[place + 3 : place + 5], "big")
         else:
             continue
-        while left > 0 and (found := name_at(data, at)):
+        while left > 0 and (found := text_at(data, at)):
             at, left = found[0], left - 1
-            yield place, *found
+            if (named := class_of(found[1])) is not None:
+                yield place, at, found[1], named
 
 
 if __name__ == "__main__":
     for file in sys.argv[1:]:
-        for place, end, units in names(Path(file).read_bytes()):
-            print(file, place, end, "".join(chr(unit) for unit in units))
+        for place, end, _, named in names(Path(file).read_bytes()):
+            print(file, place, end, named)

@@ -1,186 +1,141 @@
 -- What is known of the last bytes, by what the slots have, is kept with each byte.
-use Rattle.std.proofs.Common.{◌≡◌, ℕ, zero, suc, ◌+◌, ◌-◌, ◌*◌, ◌≤◌, ◌∙◌, ap, sym, subst, Bool, true, false, ◌⊎◌, inl, inr, if◌then◌else◌, Option, Some, None, List, [], ◌∷◌, ◌++◌, length, reverse, refl, arith, length-append}
+use Rattle.std.proofs.Common.{◌≡◌, ℕ, zero, suc, ◌+◌, ◌-◌, ◌*◌, ◌≤◌, ◌∙◌, ap, sym, subst, Bool, true, false, inl, inr, if◌then◌else◌, Option, Some, None, List, [], ◌∷◌, ◌++◌, length, refl, arith}
 use Rattle.std.proofs.lemmas.Bool.Decides.{nat_tests}
-use Rattle.jser_anywhere.specs.Names.{name_units}
-use Rattle.jser_anywhere.specs.Stages.{descriptor, row, Stage, nothing, head, text, between, halfway, is_length, in_text, after_name, next}
-use Rattle.jser_anywhere.specs.Slots.{Slot, Slots, new_name, new_row, moved, filled, row_filled, slots_of}
-use Rattle.jser_anywhere.specs.Scans.{AreBytes}
-use Rattle.jser_anywhere.proofs.StageLemmas.{AllIn, all_in, reversed, is_length_of, high_out}
-use Rattle.jser_anywhere.proofs.SlotLemmas.{FitsName, Counted, Fourth, NameEnds, FitsText, FitsHalfway, FitsRow, FitsDescriptor, NewName, NewRow, new_name_cases, new_row_cases, old_row, name_moved, name_filled, row_moved, row_new, row_shared}
+use Rattle.jser_anywhere.specs.Texts.{in_row}
+use Rattle.jser_anywhere.specs.Stages.{descriptor, row, Reading, Stage, nothing, head, text, between, halfway, no_units, is_length, in_name, read, text_read, is_whole, onward, next}
+use Rattle.jser_anywhere.specs.Slots.{Slot, Slots, ago, new_name, is_even, is_odd, moved, filled, slots_of}
+use Rattle.jser_anywhere.proofs.StageLemmas.{is_length_of, high_out}
+use Rattle.jser_anywhere.proofs.SlotLemmas.{NameLast, FitsDescriptor, NoPair, RowShape, FitsRow, NewName, WantedRow, new_name_cases, wanted_cases, name_moved, name_filled, row_filled, row_moved, row_new}
 
-all_in_last : (bytes : List ℕ) (byte : ℕ) → AllIn (bytes ++ byte ∷ []) → in_text byte ≡ true
-all_in_last [] byte all = all.0
-all_in_last (first ∷ bytes) byte all = all_in_last bytes byte all.1
+-- ---- a descriptor's name
 
-last_in : (byte : ℕ) (seen units : List ℕ) → name_units (reverse (byte ∷ seen)) ≡ Some units → in_text byte ≡ true
-last_in byte seen units e = all_in_last (reverse seen) byte (subst (λ (xs : List ℕ). AllIn xs) (reversed byte seen) (all_in (reverse (byte ∷ seen)) units e))
+name_later : (left : ℕ) (later : Reading) (byte : ℕ) (back : List ℕ) → in_name byte ≡ true → FitsDescriptor (onward (text descriptor left later) byte) (byte ∷ back)
+name_later zero later byte back i = tt
+name_later (suc left) later byte back i = inl i
 
-in_some : (byte : ℕ) → in_text byte ≡ true → 1 ≤ byte
-in_some byte e = grind (arith, nat_tests)
-
--- ---- a name of a row ends
-
-behind_long : (more place : ℕ) (before : List ℕ) → Counted more place before ⊎ NameEnds more place before → place + 5 ≤ length before
-behind_long more place before (inl c) = omega (arith, c.at, ap length c.split)
-behind_long more place [] (inr n) = absurd n
-behind_long more place (a ∷ []) (inr n) = absurd n
-behind_long more place (a ∷ b ∷ before) (inr n) = omega (arith, n.3)
-
-counted_fourth : (more low high second : ℕ) (rest : List ℕ) → second ≡ 1 → high * 256 + low ≡ suc (suc more) → Fourth more second (low ∷ high ∷ rest)
-counted_fourth more zero high second rest one e = inr (one, omega (arith, e))
-counted_fourth more (suc low) high second rest one e = inl (omega arith)
-
-fourth : (more place second : ℕ) (before : List ℕ) → second ≡ 1 → Counted (suc more) place before ⊎ NameEnds (suc more) place before → Fourth more second before
-fourth more place second before one (inl c) =
-    subst (λ (bs : List ℕ). Fourth more second bs) (sym c.split) (counted_fourth more c.low c.high second (0 ∷ 0 ∷ 0x7D ∷ c.rest) one c.counted)
-fourth more place second [] one (inr n) = absurd n
-fourth more place second (a ∷ []) one (inr n) = absurd n
-fourth more place second (a ∷ b ∷ before) one (inr n) = inl (in_some a n.0)
-
-ends_by : (more place byte : ℕ) (seen : List ℕ) (low high : ℕ) (before : List ℕ) → in_text byte ≡ true → AllIn seen → high * 256 + low ≡ length seen + 1
-    → Counted (suc more) place before ⊎ NameEnds (suc more) place before → NameEnds more place (byte ∷ (seen ++ (low ∷ high ∷ before)))
-ends_by more place byte [] low high before is all counted behind =
-    let one : low ≡ 1 = omega (arith, counted) in
-    (is, omega (arith, one), inr (fourth more place low before one behind), omega (arith, behind_long (suc more) place before behind))
-ends_by more place byte (x ∷ []) low high before is all counted behind =
-    (is, in_some x all.0, inl (omega (arith, counted)), omega (arith, behind_long (suc more) place before behind))
-ends_by more place byte (x ∷ y ∷ seen) low high before is all counted behind =
-    (is, in_some x all.0, inl (in_some y all.1.0), omega (arith, behind_long (suc more) place before behind, length-append seen (low ∷ high ∷ before)))
-
-name_fits : (more place : ℕ) (seen back : List ℕ) (byte : ℕ) (name : Option (List ℕ)) → name_units (reverse (byte ∷ seen)) ≡ name → FitsText more place 0 seen back
-    → FitsRow place (after_name (row more) name) (byte ∷ back)
-name_fits zero place seen back byte name e f = tt
-name_fits (suc more) place seen back byte None e f = tt
-name_fits (suc more) place seen back byte (Some units) e f =
-    subst (λ (bs : List ℕ). NameEnds more place (byte ∷ bs)) (sym f.split)
-    (ends_by more place byte seen f.low f.high f.before (last_in byte seen units e) f.all f.counted f.behind)
-
--- ---- a byte more
-
-text_fits : (more place left : ℕ) (seen back : List ℕ) (byte : ℕ) (is : Bool) → in_text byte ≡ is → FitsText more place (suc left) seen back
-    → FitsRow place (if is then text (row more) left (byte ∷ seen) else nothing) (byte ∷ back)
-text_fits more place left seen back byte false i f = tt
-text_fits more place left seen back byte true i f = record {
-  low = f.low;
-  high = f.high;
-  before = f.before;
-  split = ap (λ (bs : List ℕ). byte ∷ bs) f.split;
-  small = f.small;
-  all = (i, f.all);
-  counted = omega (arith, f.counted);
-  sized = f.sized;
-  behind = f.behind;
-}
-
-between_fits : (more place : ℕ) (back : List ℕ) (byte : ℕ) (is : Bool) → in_text byte ≡ is → NameEnds more place back
-    → FitsRow place (if is then nothing else halfway more byte) (byte ∷ back)
-between_fits more place back byte true i n = tt
-between_fits more place back byte false i n = record { before = back; split = refl; small = i; behind = n }
-
-halfway_fits : (more place high : ℕ) (back : List ℕ) (byte : ℕ) (is : Bool) → is_length high byte ≡ is → FitsHalfway more place high back
-    → FitsRow place (if is then text (row more) (high * 256 + byte - 1) [] else nothing) (byte ∷ back)
-halfway_fits more place high back byte false i f = tt
-halfway_fits more place high back byte true i f =
-    let is = is_length_of high byte i in
-    record {
-      low = byte;
-      high = high;
-      before = f.before;
-      split = ap (λ (bs : List ℕ). byte ∷ bs) f.split;
-      small = f.small;
-      all = tt;
-      counted = omega (arith, is.some);
-      sized = is.most;
-      behind = inr f.behind;
-    }
-
-row_fits : (place : ℕ) (stage : Stage) (back : List ℕ) (byte : ℕ) → FitsRow place stage back → FitsRow place (next stage byte) (byte ∷ back)
-row_fits place nothing back byte f = tt
-row_fits place (head bytes) back byte f = absurd f
-row_fits place (text descriptor left seen) back byte f = absurd f
-row_fits place (text (row more) zero seen) back byte f = name_fits more place seen back byte (name_units (reverse (byte ∷ seen))) refl f
-row_fits place (text (row more) (suc left) seen) back byte f = text_fits more place left seen back byte (in_text byte) refl f
-row_fits place (between more) back byte f = between_fits more place back byte (in_text byte) refl f
-row_fits place (halfway more high) back byte f = halfway_fits more place high back byte (is_length high byte) refl f
-
-new_row_fits : (back : List ℕ) (byte : ℕ) → (new : NewRow back byte)
-    → FitsRow (length new.rest) (text (row (new.count_high * 256 + new.count_low - 1)) (new.high * 256 + byte - 1) []) (byte ∷ back)
-new_row_fits back byte new = record {
-  low = byte;
-  high = new.high;
-  before = new.count_low ∷ new.count_high ∷ 0 ∷ 0 ∷ 0x7D ∷ new.rest;
-  split = ap (λ (bs : List ℕ). byte ∷ bs) new.split;
-  small = high_out new.high byte new.is;
-  all = tt;
-  counted = omega (arith, new.is.some);
-  sized = new.is.most;
-  behind = inl (record { low = new.count_low; high = new.count_high; rest = new.rest; split = refl; counted = omega (arith, new.some); at = refl });
-}
-
-pub row_slot_fits : (back : List ℕ) (byte : ℕ) (slot : Slot) → AreBytes back → FitsRow slot.place slot.stage back
-    → (after : Slot) → row_filled (length back - 6) (new_row back byte) (moved slot byte) ≡ after → FitsRow after.place after.stage (byte ∷ back)
-row_slot_fits back byte slot are f after same = elim (new_row_cases back byte) [
-  | inl none ↦ subst (λ (s : Slot). FitsRow s.place s.stage (byte ∷ back)) (sym (row_moved back byte slot none) ∙ same) (row_fits slot.place slot.stage back byte f)
-  | inr new ↦ elim (old_row back byte slot.place slot.stage are new f) [
-    | inl gone ↦ subst (λ (s : Slot). FitsRow s.place s.stage (byte ∷ back)) (sym (row_new back byte slot new gone) ∙ same) (new_row_fits back byte new)
-    | inr old ↦ subst (λ (s : Slot). FitsRow s.place s.stage (byte ∷ back))
-        (sym (row_shared back byte old.more_here new.high slot (new_row back byte) (length back - 6) old.is new.is) ∙ same) (row_fits slot.place slot.stage back byte f)
-  ]
-]
-
--- a descriptor's name
-
-descriptor_text_fits : (left : ℕ) (seen back : List ℕ) (byte : ℕ) (is : Bool) → in_text byte ≡ is → FitsName (suc left) seen back
-    → FitsDescriptor (if is then text descriptor left (byte ∷ seen) else nothing) (byte ∷ back)
-descriptor_text_fits left seen back byte false i f = tt
-descriptor_text_fits left seen back byte true i f = record {
-  low = f.low;
-  high = f.high;
-  rest = f.rest;
-  split = ap (λ (bs : List ℕ). byte ∷ bs) f.split;
-  small = f.small;
-  all = (i, f.all);
-  sized = omega (arith, f.sized);
-}
+name_by : (left : ℕ) (reading : Reading) (byte : ℕ) (back : List ℕ) (is : Bool) (o : Option Reading) → in_name byte ≡ is
+    → FitsDescriptor (onward (if is then text_read descriptor left o else nothing) byte) (byte ∷ back)
+name_by left reading byte back false o i = tt
+name_by left reading byte back true None i = tt
+name_by left reading byte back true (Some later) i = name_later left later byte back i
 
 descriptor_fits : (stage : Stage) (back : List ℕ) (byte : ℕ) → FitsDescriptor stage back → FitsDescriptor (next stage byte) (byte ∷ back)
 descriptor_fits nothing back byte f = tt
 descriptor_fits (head bytes) back byte f = absurd f
-descriptor_fits (text descriptor zero seen) back byte f = tt
-descriptor_fits (text descriptor (suc left) seen) back byte f = descriptor_text_fits left seen back byte (in_text byte) refl f
-descriptor_fits (text (row more) left seen) back byte f = absurd f
+descriptor_fits (text descriptor left reading) back byte f = name_by left reading byte back (in_name byte) (read reading byte) refl
+descriptor_fits (text (row more) left reading) back byte f = absurd f
 descriptor_fits (between more) back byte f = absurd f
 descriptor_fits (halfway more high) back byte f = absurd f
 
-new_name_fits : (back : List ℕ) (byte : ℕ) → (new : NewName back byte) → FitsDescriptor (text descriptor (new.high * 256 + byte - 1) []) (byte ∷ back)
-new_name_fits back byte new = record {
-  low = byte;
-  high = new.high;
-  rest = new.rest;
-  split = ap (λ (bs : List ℕ). byte ∷ bs) new.split;
-  small = high_out new.high byte new.is;
-  all = tt;
-  sized = omega (arith, new.is.some, new.is.most);
+-- ---- a row
+
+pair_more : (byte : ℕ) (behind front back : List ℕ) → back ≡ behind ++ front → 2 ≤ length behind → 1 ≤ byte + ago back 0 → NoPair behind → NoPair (byte ∷ behind)
+pair_more byte [] front back e long some pairs = absurd (omega (arith, long))
+pair_more byte (a ∷ behind) front back e long some pairs =
+    let last : ago back 0 ≡ a = ap (λ (xs : List ℕ). ago xs 0) e in
+    (omega (arith, some, last), pairs)
+
+shape_more : (wanted : ℕ → Bool) (place byte : ℕ) (back : List ℕ) → RowShape wanted place back → 1 ≤ byte + ago back 0 → RowShape wanted place (byte ∷ back)
+shape_more wanted place byte back s some = record {
+  behind = byte ∷ s.behind;
+  low = s.low;
+  high = s.high;
+  rest = s.rest;
+  split = ap (λ (bs : List ℕ). byte ∷ bs) s.split;
+  at = s.at;
+  kind = s.kind;
+  some = s.some;
+  pairs = pair_more byte s.behind (s.low ∷ s.high ∷ 0 ∷ 0 ∷ 0x7D ∷ s.rest) back s.split s.long some s.pairs;
+  long = omega (arith, s.long);
 }
 
-pub name_slot_fits : (back : List ℕ) (byte : ℕ) (slot : Slot) → FitsDescriptor slot.stage back
-    → (after : Slot) → filled (length back - 2) (new_name back byte) (moved slot byte) ≡ after → FitsDescriptor after.stage (byte ∷ back)
-name_slot_fits back byte slot f after same = elim (new_name_cases back byte) [
-  | inl none ↦ subst (λ (s : Slot). FitsDescriptor s.stage (byte ∷ back)) (sym (name_moved back byte slot none) ∙ same) (descriptor_fits slot.stage back byte f)
-  | inr new ↦ subst (λ (s : Slot). FitsDescriptor s.stage (byte ∷ back)) (sym (name_filled back byte slot new) ∙ same) (new_name_fits back byte new)
-]
+in_row_some : (byte : ℕ) → in_row byte ≡ true → 1 ≤ byte
+in_row_some byte i = grind (arith, nat_tests, i)
 
--- ---- after all bytes
+over_by : (wanted : ℕ → Bool) (place more byte : ℕ) (back : List ℕ) (whole : Bool) → 1 ≤ byte → RowShape wanted place (byte ∷ back)
+    → FitsRow wanted place (if whole then between more else nothing) (byte ∷ back)
+over_by wanted place more byte back true some s = (s, some)
+over_by wanted place more byte back false some s = tt
+
+text_later : (wanted : ℕ → Bool) (place more left : ℕ) (later : Reading) (byte : ℕ) (back : List ℕ) → 1 ≤ byte → RowShape wanted place (byte ∷ back)
+    → FitsRow wanted place (onward (text (row more) left later) byte) (byte ∷ back)
+text_later wanted place zero zero later byte back some s = tt
+text_later wanted place (suc more) zero later byte back some s = over_by wanted place more byte back (is_whole later) some s
+text_later wanted place more (suc left) later byte back some s = s
+
+text_by : (wanted : ℕ → Bool) (place more left : ℕ) (byte : ℕ) (back : List ℕ) (is : Bool) (o : Option Reading) → in_row byte ≡ is → RowShape wanted place back
+    → FitsRow wanted place (onward (if is then text_read (row more) left o else nothing) byte) (byte ∷ back)
+text_by wanted place more left byte back false o i s = tt
+text_by wanted place more left byte back true None i s = tt
+text_by wanted place more left byte back true (Some later) i s =
+    let some = in_row_some byte i in
+    text_later wanted place more left later byte back some (shape_more wanted place byte back s (omega (arith, some)))
+
+between_by : (wanted : ℕ → Bool) (place more byte : ℕ) (back : List ℕ) (is : Bool) → RowShape wanted place back → 1 ≤ ago back 0
+    → FitsRow wanted place (if is then nothing else halfway more byte) (byte ∷ back)
+between_by wanted place more byte back true s some = tt
+between_by wanted place more byte back false s some = (shape_more wanted place byte back s (omega (arith, some)), refl)
+
+halfway_by : (wanted : ℕ → Bool) (place more high byte : ℕ) (back : List ℕ) (is : Bool) → is_length high byte ≡ is → RowShape wanted place back → ago back 0 ≡ high
+    → FitsRow wanted place (if is then text (row more) (high * 256 + byte - 1) no_units else nothing) (byte ∷ back)
+halfway_by wanted place more high byte back false i s last = tt
+halfway_by wanted place more high byte back true i s last =
+    let is = is_length_of high byte i in
+    shape_more wanted place byte back s (omega (arith, is.some, last))
+
+row_fits : (wanted : ℕ → Bool) (place : ℕ) (stage : Stage) (back : List ℕ) (byte : ℕ) → FitsRow wanted place stage back → FitsRow wanted place (next stage byte) (byte ∷ back)
+row_fits wanted place nothing back byte f = tt
+row_fits wanted place (head bytes) back byte f = absurd f
+row_fits wanted place (text descriptor left reading) back byte f = absurd f
+row_fits wanted place (text (row more) left reading) back byte f = text_by wanted place more left byte back (in_row byte) (read reading byte) refl f
+row_fits wanted place (between more) back byte f = between_by wanted place more byte back (in_name byte) f.0 f.1
+row_fits wanted place (halfway more high) back byte f = halfway_by wanted place more high byte back (is_length high byte) refl f.0 f.1
+
+new_row_fits : (wanted : ℕ → Bool) (back : List ℕ) (byte : ℕ) → (w : WantedRow wanted back byte) → RowShape wanted (length w.new.rest) (byte ∷ back)
+new_row_fits wanted back byte w =
+    let new = w.new in
+    record {
+      behind = byte ∷ new.high ∷ [];
+      low = new.count_low;
+      high = new.count_high;
+      rest = new.rest;
+      split = ap (λ (bs : List ℕ). byte ∷ bs) new.split;
+      at = refl;
+      kind = w.kind;
+      some = new.some;
+      pairs = (omega (arith, new.is.some), tt);
+      long = omega arith;
+    }
+
+-- ---- all slots
 
 pub record FitsSlots (back : List ℕ) (slots : Slots) : Type 0 where
   pub name : FitsDescriptor slots.name.stage back
-  pub row : FitsRow slots.row.place slots.row.stage back
+  pub even : FitsRow is_even slots.even.place slots.even.stage back
+  pub odd : FitsRow is_odd slots.odd.place slots.odd.stage back
 
-pub slots_fit : (back : List ℕ) → AreBytes back → FitsSlots back (slots_of back)
-slots_fit [] are = record { name = tt; row = tt }
-slots_fit (byte ∷ back) are =
-    let f = slots_fit back are.1 in
+new_name_fits : (back : List ℕ) (byte : ℕ) → (new : NewName back byte) → NameLast (byte ∷ back)
+new_name_fits back byte new = inr (ap (λ (bs : List ℕ). in_name (ago bs 0)) new.split ∙ high_out new.high byte new.is)
+
+name_slot_fits : (back : List ℕ) (byte : ℕ) (slot : Slot) → FitsDescriptor slot.stage back → FitsDescriptor (filled (length back - 2) (new_name back byte) (moved slot byte)).stage (byte ∷ back)
+name_slot_fits back byte slot f = elim (new_name_cases back byte) [
+  | inl none ↦ subst (λ (s : Slot). FitsDescriptor s.stage (byte ∷ back)) (sym (name_moved back byte slot none)) (descriptor_fits slot.stage back byte f)
+  | inr new ↦ subst (λ (s : Slot). FitsDescriptor s.stage (byte ∷ back)) (sym (name_filled back byte slot new)) (new_name_fits back byte new)
+]
+
+row_slot_fits : (wanted : ℕ → Bool) (back : List ℕ) (byte : ℕ) (slot : Slot) → FitsRow wanted slot.place slot.stage back
+    → FitsRow wanted (row_filled wanted back byte slot).place (row_filled wanted back byte slot).stage (byte ∷ back)
+row_slot_fits wanted back byte slot f = elim (wanted_cases wanted back byte) [
+  | inl none ↦ subst (λ (s : Slot). FitsRow wanted s.place s.stage (byte ∷ back)) (sym (row_moved wanted back byte slot none)) (row_fits wanted slot.place slot.stage back byte f)
+  | inr w ↦ subst (λ (s : Slot). FitsRow wanted s.place s.stage (byte ∷ back)) (sym (row_new wanted back byte slot w)) (new_row_fits wanted back byte w)
+]
+
+pub slots_fit : (back : List ℕ) → FitsSlots back (slots_of back)
+slots_fit [] = record { name = tt; even = tt; odd = tt }
+slots_fit (byte ∷ back) =
+    let f = slots_fit back in
     record {
-      name = name_slot_fits back byte (slots_of back).name f.name (slots_of (byte ∷ back)).name refl;
-      row = row_slot_fits back byte (slots_of back).row are.1 f.row (slots_of (byte ∷ back)).row refl;
+      name = name_slot_fits back byte (slots_of back).name f.name;
+      even = row_slot_fits is_even back byte (slots_of back).even f.even;
+      odd = row_slot_fits is_odd back byte (slots_of back).odd f.odd;
     }

@@ -1,182 +1,643 @@
 -- What the scan has follows the slots.
-use Rattle.std.proofs.Common.{◌≡◌, ℕ, zero, suc, ◌+◌, ◌-◌, ◌*◌, ◌<◌, ◌≤◌, ◌∙◌, ap, sym, subst, Bool, true, false, ◌&&◌, ◌||◌, ◌==◌, ◌⊎◌, inl, inr, if◌then◌else◌, Option, Some, None, List, [], ◌∷◌, ◌++◌, length, drop, reverse, refl, arith, length-append, length-drop}
-use Rattle.std.specs.Prelude.{nat_le, min, IfSome}
-use Rattle.std.specs.Option.{is_some}
+use Rattle.std.proofs.Common.{◌≡◌, ℕ, zero, suc, ◌+◌, ◌-◌, ◌*◌, ◌<◌, ◌≤◌, ◌∙◌, ap, sym, subst, Bool, true, false, ◌&&◌, ◌==◌, ◌⊎◌, inl, inr, if◌then◌else◌, Option, Some, None, List, [], ◌∷◌, ◌++◌, length, drop, refl, arith, length-append}
+use Rattle.std.specs.Prelude.{nat_le, IfSome}
+use Rattle.std.specs.Option.{is_some, option_map}
 use Rattle.std.proofs.lemmas.Bool.Decides.{nat_tests}
-use Rattle.std.proofs.lemmas.List.{length-reverse, reverse-reverse, reverse-append, drop-append-le, drop_all}
-use Rattle.jser_anywhere.specs.Names.{name_units}
-use Rattle.jser_anywhere.specs.Standing.{most_bytes}
-use Rattle.jser_anywhere.specs.Stages.{Whose, descriptor, row, Stage, nothing, text, between, halfway, is_length, in_text, text_of, row_of, after_name, next, ended}
-use Rattle.jser_anywhere.specs.Slots.{Slot, slots_of, ago, new_name, new_row, moved, filled, row_filled, has_begun, is_hidden, lower_of, hidden_place}
+use Rattle.std.proofs.lemmas.List.{drop-append-le, drop_all}
+use Rattle.jser_anywhere.specs.Texts.{Fits, is_first, take_byte}
+use Rattle.jser_anywhere.specs.Stages.{Whose, descriptor, row, naming, passing, Stage, nothing, text, between, halfway, no_units, is_length, in_name, in_text, text_of, row_of, read, name_taken, other_taken, text_read, with_byte, class_of, is_whole, ended_with, after_text, onward, next}
+use Rattle.jser_anywhere.specs.Slots.{Slot, slots_of, ago, new_name, new_row, is_even, is_odd, if_wanted, moved, filled, hidden_of, lower, slot_hidden, hidden_place}
+use Rattle.jser_anywhere.specs.declared.text.Place.{Place}
+use Rattle.jser_anywhere.specs.declared.text.Place.TheVariants as place
+use Rattle.jser_anywhere.specs.declared.text.Taken.{Taken}
+use Rattle.jser_anywhere.specs.declared.text.Taken.TheVariants as taken
 use Rattle.jser_anywhere.specs.declared.recent.Begun.{Begun}
+use Rattle.jser_anywhere.specs.declared.open.Text.{Text}
 use Rattle.jser_anywhere.specs.declared.open.Name.{Name}
 use Rattle.jser_anywhere.specs.declared.open.Row.{Row}
-use Rattle.jser_anywhere.specs.declared.open.RowText.{RowText}
 use Rattle.jser_anywhere.specs.declared.open.RowAt.{RowAt}
 use Rattle.jser_anywhere.specs.declared.open.RowAt.TheVariants as at
-use Rattle.jser_anywhere.specs.declared.scan.Ended.{Ended}
-use Rattle.jser_anywhere.specs.declared.scan.Ended.TheVariants as end
-use Rattle.jser_anywhere.specs.Steps.{Scanning, HasRoom, at_text, in_row_text, is_reading, noted, short_units, ended_as, name_ended, row_at_ended, row_ended, is_passed, lower, scan_hidden, with_byte, recent_of, left_of, name_left, begun, row_left, name_moved, row_with, text_begins, row_text_moved, row_at_moved, name_onward, name_after, row_onward, row_begins, row_or, row_after, scan_after}
-use Rattle.jser_anywhere.specs.Scans.{AreBytes, Follows, name_stage, row_at_stage, row_stage, SkipFits}
-use Rattle.jser_anywhere.proofs.StageLemmas.{reversed, high_out}
-use Rattle.jser_anywhere.proofs.SlotLemmas.{FitsName, NameEnds, FitsText, FitsHalfway, FitsRow, FitsDescriptor, NewName, NewRow, new_name_cases, new_row_cases, no_old_name, old_row, name_seen, true_false, Split, split_cons}
+use Rattle.jser_anywhere.specs.Steps.{Scanning, HasRoom, NameFits, AtFits, RowFits, with_byte as recent_with, recent_of, left_of, name_left, begun, row_left, skip_on, text_with, with_text, as_name, new_text, one_less, class_behind, name_with, name_taken as name_took, name_hidden, name_onward, name_after, row_at, at_with, row_with, at_taken, row_taken, at_hidden, row_hidden, text_begins, text_onward, at_onward, row_onward, row_after, or_taken, taken_by, kept_with, scan_hidden, scan_after}
+use Rattle.jser_anywhere.specs.Scans.{Has, Follows, reading_of, text_stage, name_stage, row_at_stage, row_stage, name_group, at_group, row_group, SkipFits, SameGroup, Agree, name_place, row_place}
+use Rattle.jser_anywhere.proofs.NameLemmas.{part_fits}
+use Rattle.jser_anywhere.proofs.StageLemmas.{is_length_of, high_out}
+use Rattle.jser_anywhere.proofs.SlotLemmas.{FitsRow, NewName, NewRow, WantedRow, new_name_cases, new_row_cases, wanted_cases, row_filled, row_new}
 use Rattle.jser_anywhere.proofs.SlotLemmas as slot
 use Rattle.jser_anywhere.proofs.FitsLemmas.{slots_fit}
 
--- ---- there is room
+pub has_room : (back : List ℕ) (scan : Scanning) → Follows back scan → HasRoom scan
+has_room back scan f = record { room = f.few; name = f.name_fits; even = f.even_fits; odd = f.odd_fits }
 
-name_room : (left : ℕ) (kept back : List ℕ) → FitsName left (reverse kept) back → length kept + left < most_bytes
-name_room left kept back f = omega (arith, f.sized, length-reverse kept)
+-- ---- what a byte leads to is the same in all texts that may be names
 
-text_room : (more place left skip : ℕ) (kept back : List ℕ) → FitsText more place left (reverse (drop skip kept)) back → skip ≤ length kept → skip ≤ 1 → length kept + left < 1280
-text_room more place left skip kept back f within one =
-    omega (arith, f.counted, f.sized, length-reverse (drop skip kept), length-drop skip kept, within, one)
+abbrev pub IsJoined : Taken → Taken → Type 0
+IsJoined one joined = (one ≡ taken.Refused) ⊎ (one ≡ joined)
 
-room_row : (back : List ℕ) (more : ℕ) (here : RowAt) (kept : List ℕ) (place : ℕ) → FitsRow place (row_at_stage more here kept) back → SkipFits here kept → at_text here ≡ true → length kept < 1280
-room_row back more at.Between kept place t s e = absurd cc
-room_row back more (at.Halfway high) kept place t s e = absurd cc
-room_row back more (at.Text here) kept place t s e = omega (arith, text_room more place here.left here.skip kept back t s.0 s.1)
+-- of two: one is refused, or they are the same
+abbrev Joint : Taken → Taken → Type 0
+Joint a b = (a ≡ taken.Refused) ⊎ ((b ≡ taken.Refused) ⊎ (a ≡ b))
 
-room_by : (back : List ℕ) (name : Option Name) (r : Option Row) (kept : List ℕ) (place : ℕ) → FitsDescriptor (name_stage name kept) back → FitsRow place (row_stage r kept) back
-    → IfSome r (λ r. SkipFits r.at kept) → (is_some name || in_row_text r) ≡ true → length kept < 1280
-room_by back (Some name) r kept place n t s e = omega (arith, name_room name.left kept back n)
-room_by back None None kept place n t s e = absurd cc
-room_by back None (Some r) kept place n t s e = room_row back r.more r.at kept place t s e
+first_joined : (a b : Taken) → IsJoined a (or_taken a b)
+first_joined (taken.Unit unit) b = inr refl
+first_joined (taken.Part here) b = inr refl
+first_joined taken.Refused b = inl refl
 
-pub has_room : (back : List ℕ) (scan : Scanning) → AreBytes back → Follows back scan → HasRoom scan
-has_room back scan are f = λ e.
-    let fits = slots_fit back are in
-    room_by back scan.name scan.row scan.kept (slots_of back).row.place (subst (λ s. FitsDescriptor s back) f.name fits.name)
-    (subst (λ s. FitsRow (slots_of back).row.place s back) f.row fits.row) f.skips e
+unit_refused : (unit : ℕ) → taken.Unit unit ≡ taken.Refused → ⊥
+unit_refused unit e = absurd cc
+
+part_refused : (here : Place) → taken.Part here ≡ taken.Refused → ⊥
+part_refused here e = absurd cc
+
+later_joined : (a b rest : Taken) → Joint a b → IsJoined b rest → IsJoined b (or_taken a rest)
+later_joined taken.Refused b rest j i = i
+later_joined (taken.Unit unit) b rest (inl e) i = absurd (unit_refused unit e)
+later_joined (taken.Unit unit) b rest (inr (inl e)) i = inl e
+later_joined (taken.Unit unit) b rest (inr (inr e)) i = inr (sym e)
+later_joined (taken.Part here) b rest (inl e) i = absurd (part_refused here e)
+later_joined (taken.Part here) b rest (inr (inl e)) i = inl e
+later_joined (taken.Part here) b rest (inr (inr e)) i = inr (sym e)
+
+last_joined : (a b : Taken) → Joint a b → IsJoined b (or_taken a b)
+last_joined a b j = later_joined a b b j (inr refl)
+
+-- groups that are one, or of which one has not begun
+first_or_middle : (high byte : ℕ) → (take_byte place.First byte ≡ taken.Refused) ⊎ (take_byte (place.Middle high) byte ≡ taken.Refused)
+first_or_middle high byte = by_start (nat_le 0x80 byte) (nat_le 0xC0 byte) refl refl
+  where
+    by_start : (low high_byte : Bool) → nat_le 0x80 byte ≡ low → nat_le 0xC0 byte ≡ high_byte → (take_byte place.First byte ≡ taken.Refused) ⊎ (take_byte (place.Middle high) byte ≡ taken.Refused)
+    by_start false h e f = inr (grind (arith, nat_tests, e))
+    by_start true true e f = inr (grind (arith, nat_tests, e, f))
+    by_start true false e f = inl (grind (arith, nat_tests, e, f))
+
+first_or_last : (high byte : ℕ) → (take_byte place.First byte ≡ taken.Refused) ⊎ (take_byte (place.Last high) byte ≡ taken.Refused)
+first_or_last high byte = by_start (nat_le 0x80 byte) (nat_le 0xC0 byte) refl refl
+  where
+    by_start : (low high_byte : Bool) → nat_le 0x80 byte ≡ low → nat_le 0xC0 byte ≡ high_byte → (take_byte place.First byte ≡ taken.Refused) ⊎ (take_byte (place.Last high) byte ≡ taken.Refused)
+    by_start false h e f = inr (grind (arith, nat_tests, e))
+    by_start true true e f = inr (grind (arith, nat_tests, e, f))
+    by_start true false e f = inl (grind (arith, nat_tests, e, f))
+
+first_joint : (b : Place) (byte : ℕ) → Joint (take_byte place.First byte) (take_byte b byte)
+first_joint place.First byte = inr (inr refl)
+first_joint (place.Middle high) byte = elim (first_or_middle high byte) [ inl e ↦ inl e | inr e ↦ inr (inl e) ]
+first_joint (place.Last high) byte = elim (first_or_last high byte) [ inl e ↦ inl e | inr e ↦ inr (inl e) ]
+
+flip : (a b : Taken) → Joint a b → Joint b a
+flip a b (inl e) = inr (inl e)
+flip a b (inr (inl e)) = inl e
+flip a b (inr (inr e)) = inr (inr (sym e))
+
+groups_joint : (a b : Place) (byte : ℕ) → SameGroup a b → Joint (take_byte a byte) (take_byte b byte)
+groups_joint a b byte (inl e) = inr (inr (ap (λ g. take_byte g byte) e))
+groups_joint a b byte (inr (inl e)) = subst (λ g. Joint (take_byte g byte) (take_byte b byte)) (sym e) (first_joint b byte)
+groups_joint a b byte (inr (inr e)) =
+    subst (λ g. Joint (take_byte a byte) (take_byte g byte)) (sym e) (flip (take_byte place.First byte) (take_byte a byte) (first_joint a byte))
+
+texts_joint_by : (p q : Option ℕ) (a b : Place) (byte : ℕ) (n : Bool) → IfSome p (λ _. IfSome q (λ _. SameGroup a b))
+    → Joint (if is_some p && n then take_byte a byte else taken.Refused) (if is_some q && n then take_byte b byte else taken.Refused)
+texts_joint_by None q a b byte n g = inl refl
+texts_joint_by (Some p) None a b byte n g = inr (inl refl)
+texts_joint_by (Some p) (Some q) a b byte false g = inl refl
+texts_joint_by (Some p) (Some q) a b byte true g = groups_joint a b byte g
+
+-- of optional texts
+abbrev took : Option Text → ℕ → Taken
+took None byte = taken.Refused
+took (Some t) byte = as_name t byte
+
+texts_joint : (a b : Option Text) (byte : ℕ) → Agree a b → Joint (took a byte) (took b byte)
+texts_joint None b byte g = inl refl
+texts_joint (Some a) None byte g = inr (inl refl)
+texts_joint (Some a) (Some b) byte g = texts_joint_by a.skip b.skip a.group b.group byte (in_name byte) g
+
+name_took_is : (n : Option Name) (byte : ℕ) → name_took n byte ≡ took (name_group n) byte
+name_took_is None byte = refl
+name_took_is (Some n) byte = refl
+
+at_took_is : (here : RowAt) (byte : ℕ) → at_taken here byte ≡ took (at_group here) byte
+at_took_is at.Between byte = refl
+at_took_is (at.Halfway high) byte = refl
+at_took_is (at.Text t) byte = refl
+
+row_took_is : (r : Option Row) (byte : ℕ) → row_taken r byte ≡ took (row_group r) byte
+row_took_is None byte = refl
+row_took_is (Some r) byte = at_took_is r.at byte
+
+record AllJoined (scan : Scanning) (byte : ℕ) : Type 0 where
+  pub name : IsJoined (took (name_group scan.name) byte) (taken_by scan byte)
+  pub even : IsJoined (took (row_group scan.even) byte) (taken_by scan byte)
+  pub odd : IsJoined (took (row_group scan.odd) byte) (taken_by scan byte)
+
+joined_of : (a b c : Taken) → Joint a b → Joint a c → Joint b c → (IsJoined a (or_taken a (or_taken b c))) × (IsJoined b (or_taken a (or_taken b c)) × IsJoined c (or_taken a (or_taken b c)))
+joined_of a b c ab ac bc = (
+  first_joined a (or_taken b c),
+  (later_joined a b (or_taken b c) ab (first_joined b c), later_joined a c (or_taken b c) ac (last_joined b c bc)),
+)
+
+all_joined : (back : List ℕ) (scan : Scanning) (byte : ℕ) → Follows back scan → AllJoined scan byte
+all_joined back scan byte f =
+    let n = took (name_group scan.name) byte in
+    let e = took (row_group scan.even) byte in
+    let o = took (row_group scan.odd) byte in
+    let same : or_taken n (or_taken e o) ≡ taken_by scan byte =
+    ap (λ x. or_taken x (or_taken e o)) (sym (name_took_is scan.name byte)) ∙ ap (λ x. or_taken (name_took scan.name byte) (or_taken x o)) (sym (row_took_is scan.even byte))
+    ∙ ap (λ x. or_taken (name_took scan.name byte) (or_taken (row_taken scan.even byte) x)) (sym (row_took_is scan.odd byte)) in
+    let j = joined_of n e o (texts_joint (name_group scan.name) (row_group scan.even) byte f.name_even)
+    (texts_joint (name_group scan.name) (row_group scan.odd) byte f.name_odd) (texts_joint (row_group scan.even) (row_group scan.odd) byte f.even_odd) in
+    record {
+      name = subst (λ x. IsJoined n x) same j.0;
+      even = subst (λ x. IsJoined e x) same j.1.0;
+      odd = subst (λ x. IsJoined o x) same j.1.1;
+    }
+
+-- ---- a text takes a byte
+
+abbrev pub group_after : Taken → Place
+group_after (taken.Unit unit) = place.First
+group_after (taken.Part here) = here
+group_after taken.Refused = place.First
+
+record ReadText (kept : List ℕ) (joined : Taken) (t : Text) : Type 0 where
+  pub skip : IfSome t.skip (λ k. (k ≤ length kept) × (length kept + t.left < 9217))
+  pub fits : Fits t.group
+  pub aligned : IfSome t.skip (λ _. t.group ≡ group_after joined)
+
+record Stays (kept : List ℕ) (joined : Taken) (left k : ℕ) (group : Place) : Type 0 where
+  pub within : k ≤ length kept
+  pub room : length kept + left < 9217
+  pub aligned : group ≡ group_after joined
+
+abbrev the_text : (left : ℕ) → Place → Option ℕ → Text
+the_text left group skip = record { left = left; group = group; skip = skip }
+
+read_some : (kept : List ℕ) (joined : Taken) (left : ℕ) (group : Place) (skip : Option ℕ) → Fits group → ((k : ℕ) → skip ≡ Some k → Stays kept joined left k group) → ReadText kept joined (the_text left group skip)
+read_some kept joined left group None fits stays = record { skip = tt; fits = fits; aligned = tt }
+read_some kept joined left group (Some k) fits stays = let s = stays k refl in record { skip = (s.within, s.room); fits = fits; aligned = s.aligned }
+
+read_as : (kept : List ℕ) (joined : Taken) (left : ℕ) (group : Place) (skip : Option ℕ) (byte : ℕ) (n : Bool) → in_name byte ≡ n → Fits group
+    → ((k : ℕ) → n ≡ true → skip ≡ Some k → Stays kept joined left k group) → ReadText kept joined (the_text left group (skip_on skip byte))
+read_as kept joined left group skip byte true i fits stays =
+    subst (λ s. ReadText kept joined (the_text left group s)) (sym (ap (λ b. if b then skip else None) i)) (read_some kept joined left group skip fits (λ k e. stays k refl e))
+read_as kept joined left group skip byte false i fits stays =
+    subst (λ s. ReadText kept joined (the_text left group s)) (sym (ap (λ b. if b then skip else None) i)) (record { skip = tt; fits = fits; aligned = tt })
+
+-- where the text may be a name, what it leads to is what all lead to
+really_joined : (skip : Option ℕ) (k : ℕ) (n : Bool) (x joined : Taken) → skip ≡ Some k → n ≡ true → IsJoined (if is_some skip && n then x else taken.Refused) joined → IsJoined x joined
+really_joined skip k n x joined e i j =
+    let is : (if is_some skip && n then x else taken.Refused) ≡ x = ap (λ s. if is_some s && n then x else taken.Refused) e ∙ ap (λ b. if b then x else taken.Refused) i in
+    subst (λ y. IsJoined y joined) is j
+
+unit_joined : (unit : ℕ) (joined : Taken) → IsJoined (taken.Unit unit) joined → taken.Unit unit ≡ joined
+unit_joined unit joined (inl e) = absurd (unit_refused unit e)
+unit_joined unit joined (inr e) = e
+
+part_joined : (here : Place) (joined : Taken) → IsJoined (taken.Part here) joined → taken.Part here ≡ joined
+part_joined here joined (inl e) = absurd (part_refused here e)
+part_joined here joined (inr e) = e
+
+unit_stays : (kept : List ℕ) (joined : Taken) (left k unit : ℕ) → taken.Unit unit ≡ joined → k ≤ length kept → length kept + left < 9216 → Stays (kept_with kept joined) joined left k place.First
+unit_stays kept joined left k unit e within room = subst (λ j. Stays (kept_with kept j) j left k place.First) e (record {
+  within = omega (arith, within, length-append kept (unit ∷ []));
+  room = omega (arith, room, length-append kept (unit ∷ []));
+  aligned = refl;
+})
+
+part_stays : (kept : List ℕ) (joined : Taken) (left k : ℕ) (here : Place) → taken.Part here ≡ joined → k ≤ length kept → length kept + left < 9216 → Stays (kept_with kept joined) joined left k here
+part_stays kept joined left k here e within room = subst (λ j. Stays (kept_with kept j) j left k here) e (record { within = within; room = omega (arith, room); aligned = refl })
+
+abbrev Roomy : (skip : Option ℕ) → (left : ℕ) → (kept : List ℕ) → Type 0
+Roomy skip left kept = IfSome skip (λ k. (k ≤ length kept) × (length kept + left < 9216))
+
+roomy_at : (skip : Option ℕ) (left k : ℕ) (kept : List ℕ) → skip ≡ Some k → Roomy skip left kept → (k ≤ length kept) × (length kept + left < 9216)
+roomy_at skip left k kept e r = subst (λ s. Roomy s left kept) e r
+
+read_by : (left : ℕ) (group : Place) (skip : Option ℕ) (byte : ℕ) (kept : List ℕ) (joined : Taken) (n : Bool) (x : Taken) → in_name byte ≡ n → take_byte group byte ≡ x
+    → IsJoined (if is_some skip && n then x else taken.Refused) joined → Roomy skip left kept → Fits group → byte < 256
+    → IfSome (text_with (the_text left group skip) byte x) (λ t. ReadText (kept_with kept joined) joined t)
+read_by left group skip byte kept joined n (taken.Unit unit) i e j r fits small =
+    read_as (kept_with kept joined) joined left place.First skip byte n i tt (λ k t s.
+    let room = roomy_at skip left k kept s r in
+    unit_stays kept joined left k unit (unit_joined unit joined (really_joined skip k n (taken.Unit unit) joined s t j)) room.0 room.1)
+read_by left group skip byte kept joined n (taken.Part here) i e j r fits small =
+    read_as (kept_with kept joined) joined left here skip byte n i (part_fits group here byte fits small e) (λ k t s.
+    let room = roomy_at skip left k kept s r in
+    part_stays kept joined left k here (part_joined here joined (really_joined skip k n (taken.Part here) joined s t j)) room.0 room.1)
+read_by left group skip byte kept joined n taken.Refused i e j r fits small = tt
+
+with_by : (is : Bool) (o : Option Text) (P : Text → Type 0) → IfSome o P → IfSome (if is then o else None) P
+with_by true o P p = p
+with_by false o P p = tt
+
+text_reads : (whose : Whose) (t : Text) (byte : ℕ) (kept : List ℕ) (joined : Taken) → IsJoined (as_name t byte) joined → SkipFits (Some t) kept → Fits t.group → byte < 256
+    → IfSome (with_text whose t byte) (λ x. ReadText (kept_with kept joined) joined x)
+text_reads whose t byte kept joined j s fits small =
+    with_by (in_text whose byte) (text_with t byte (take_byte t.group byte)) (λ x. ReadText (kept_with kept joined) joined x)
+    (read_by t.left t.group t.skip byte kept joined (in_name byte) (take_byte t.group byte) refl refl
+    j s fits small)
+
+-- ---- its stage
+
+abbrev opt_stage : Whose → Option Text → (kept : List ℕ) → Stage
+opt_stage whose None kept = nothing
+opt_stage whose (Some t) kept = text_stage whose t kept
+
+stage_other : (whose : Whose) (left : ℕ) (group : Place) (skip : Option ℕ) (byte : ℕ) (kept : List ℕ) (n : Bool) → in_name byte ≡ n → (n ≡ false) ⊎ (skip ≡ None)
+    → text whose left (passing group) ≡ text_stage whose (the_text left group (skip_on skip byte)) kept
+stage_other whose left group skip byte kept false i o = sym (ap (λ b. text whose left (reading_of (if b then skip else None) group kept)) i)
+stage_other whose left group skip byte kept true i (inl e) = absurd cc
+stage_other whose left group skip byte kept true i (inr e) =
+    sym (ap (λ b. text whose left (reading_of (if b then skip else None) group kept)) i ∙ ap (λ s. text whose left (reading_of s group kept)) e)
+
+stage_name : (whose : Whose) (left k : ℕ) (group : Place) (byte : ℕ) (kept units : List ℕ) → in_name byte ≡ true → units ≡ drop k kept
+    → text whose left (naming units group) ≡ text_stage whose (the_text left group (skip_on (Some k) byte)) kept
+stage_name whose left k group byte kept units i e =
+    ap (λ us. text whose left (naming us group)) e ∙ sym (ap (λ b. text whose left (reading_of (if b then Some k else None) group kept)) i)
+
+units_on : (kept : List ℕ) (joined : Taken) (k unit : ℕ) → taken.Unit unit ≡ joined → k ≤ length kept → drop k kept ++ unit ∷ [] ≡ drop k (kept_with kept joined)
+units_on kept joined k unit e within = sym (drop-append-le k kept (unit ∷ []) within) ∙ ap (λ j. drop k (kept_with kept j)) e
+
+stage_by : (whose : Whose) (left : ℕ) (group : Place) (skip : Option ℕ) (byte : ℕ) (kept : List ℕ) (joined : Taken) (n : Bool) (x : Taken) → in_name byte ≡ n → take_byte group byte ≡ x
+    → IsJoined (if is_some skip && n then x else taken.Refused) joined → Roomy skip left kept
+    → text_read whose left (read (reading_of skip group kept) byte) ≡ opt_stage whose (text_with (the_text left group skip) byte x) (kept_with kept joined)
+stage_by whose left group None byte kept joined n (taken.Unit unit) i e j r =
+    ap (λ y. text_read whose left (other_taken y)) e ∙ stage_other whose left place.First None byte (kept_with kept joined) n i (inr refl)
+stage_by whose left group None byte kept joined n (taken.Part here) i e j r =
+    ap (λ y. text_read whose left (other_taken y)) e ∙ stage_other whose left here None byte (kept_with kept joined) n i (inr refl)
+stage_by whose left group None byte kept joined n taken.Refused i e j r = ap (λ y. text_read whose left (other_taken y)) e
+stage_by whose left group (Some k) byte kept joined false (taken.Unit unit) i e j r =
+    ap (λ b. text_read whose left (if b then name_taken (drop k kept) (take_byte group byte) else other_taken (take_byte group byte))) i
+    ∙ ap (λ y. text_read whose left (other_taken y)) e ∙ stage_other whose left place.First (Some k) byte (kept_with kept joined) false i (inl refl)
+stage_by whose left group (Some k) byte kept joined false (taken.Part here) i e j r =
+    ap (λ b. text_read whose left (if b then name_taken (drop k kept) (take_byte group byte) else other_taken (take_byte group byte))) i
+    ∙ ap (λ y. text_read whose left (other_taken y)) e ∙ stage_other whose left here (Some k) byte (kept_with kept joined) false i (inl refl)
+stage_by whose left group (Some k) byte kept joined false taken.Refused i e j r =
+    ap (λ b. text_read whose left (if b then name_taken (drop k kept) (take_byte group byte) else other_taken (take_byte group byte))) i ∙ ap (λ y. text_read whose left (other_taken y)) e
+stage_by whose left group (Some k) byte kept joined true (taken.Unit unit) i e j r =
+    ap (λ b. text_read whose left (if b then name_taken (drop k kept) (take_byte group byte) else other_taken (take_byte group byte))) i
+    ∙ ap (λ y. text_read whose left (name_taken (drop k kept) y)) e
+    ∙ stage_name whose left k place.First byte (kept_with kept joined) (drop k kept ++ unit ∷ []) i (units_on kept joined k unit (unit_joined unit joined j) r.0)
+stage_by whose left group (Some k) byte kept joined true (taken.Part here) i e j r =
+    ap (λ b. text_read whose left (if b then name_taken (drop k kept) (take_byte group byte) else other_taken (take_byte group byte))) i
+    ∙ ap (λ y. text_read whose left (name_taken (drop k kept) y)) e
+    ∙ stage_name whose left k here byte (kept_with kept joined) (drop k kept) i (ap (λ y. drop k (kept_with kept y)) (part_joined here joined j))
+stage_by whose left group (Some k) byte kept joined true taken.Refused i e j r =
+    ap (λ b. text_read whose left (if b then name_taken (drop k kept) (take_byte group byte) else other_taken (take_byte group byte))) i
+    ∙ ap (λ y. text_read whose left (name_taken (drop k kept) y)) e
+
+if_stage : (whose : Whose) (is : Bool) (s : Stage) (o : Option Text) (kept : List ℕ) → s ≡ opt_stage whose o kept → (if is then s else nothing) ≡ opt_stage whose (if is then o else None) kept
+if_stage whose true s o kept e = e
+if_stage whose false s o kept e = refl
+
+text_noted : (whose : Whose) (t : Text) (byte : ℕ) (kept : List ℕ) (joined : Taken) → IsJoined (as_name t byte) joined → SkipFits (Some t) kept
+    → with_byte (text_stage whose t kept) byte ≡ opt_stage whose (with_text whose t byte) (kept_with kept joined)
+text_noted whose t byte kept joined j s =
+    if_stage whose (in_text whose byte) (text_read whose t.left (read (reading_of t.skip t.group kept) byte)) (text_with t byte (take_byte t.group byte)) (kept_with kept joined)
+    (stage_by whose t.left t.group t.skip byte kept joined (in_name byte) (take_byte t.group byte) refl refl j s)
+
+-- of a descriptor
+name_opt : (place : ℕ) (o : Option Text) (kept : List ℕ) → opt_stage descriptor o kept ≡ name_stage (option_map (λ t. record { place = place; text = t }) o) kept
+name_opt place None kept = refl
+name_opt place (Some t) kept = refl
+
+abbrev ReadName : (kept : List ℕ) → Taken → Option Name → Type 0
+ReadName kept joined n = IfSome n (λ n. ReadText kept joined n.text)
+
+name_read_opt : (place : ℕ) (o : Option Text) (kept : List ℕ) (joined : Taken) → IfSome o (λ t. ReadText kept joined t) → ReadName kept joined (option_map (λ t. record { place = place; text = t }) o)
+name_read_opt place None kept joined r = tt
+name_read_opt place (Some t) kept joined r = r
+
+name_noted : (n : Option Name) (byte : ℕ) (kept : List ℕ) (joined : Taken) → IsJoined (took (name_group n) byte) joined → SkipFits (name_group n) kept
+    → with_byte (name_stage n kept) byte ≡ name_stage (name_with n byte) (kept_with kept joined)
+name_noted None byte kept joined j s = refl
+name_noted (Some n) byte kept joined j s = text_noted descriptor n.text byte kept joined j s ∙ name_opt n.place (with_text descriptor n.text byte) (kept_with kept joined)
+
+name_reads : (n : Option Name) (byte : ℕ) (kept : List ℕ) (joined : Taken) → IsJoined (took (name_group n) byte) joined → SkipFits (name_group n) kept → NameFits n → byte < 256
+    → ReadName (kept_with kept joined) joined (name_with n byte)
+name_reads None byte kept joined j s fits small = tt
+name_reads (Some n) byte kept joined j s fits small =
+    name_read_opt n.place (with_text descriptor n.text byte) (kept_with kept joined) joined (text_reads descriptor n.text byte kept joined j s fits small)
+
+-- of a row
+abbrev ReadAt : (kept : List ℕ) → Taken → RowAt → Type 0
+ReadAt kept joined at.Between = Unit {0}
+ReadAt kept joined (at.Halfway high) = Unit {0}
+ReadAt kept joined (at.Text t) = ReadText kept joined t
+
+abbrev ReadRow : (kept : List ℕ) → Taken → Option Row → Type 0
+ReadRow kept joined r = IfSome r (λ r. ReadAt kept joined r.at)
+
+row_opt : (r : Row) (o : Option Text) (kept : List ℕ) → opt_stage (row r.more) o kept ≡ row_stage (option_map (λ t. row_at r r.more (at.Text t)) o) kept
+row_opt r None kept = refl
+row_opt r (Some t) kept = refl
+
+row_read_opt : (r : Row) (o : Option Text) (kept : List ℕ) (joined : Taken) → IfSome o (λ t. ReadText kept joined t) → ReadRow kept joined (option_map (λ t. row_at r r.more (at.Text t)) o)
+row_read_opt r None kept joined x = tt
+row_read_opt r (Some t) kept joined x = x
+
+at_noted : (r : Row) (here : RowAt) (byte : ℕ) (kept : List ℕ) (joined : Taken) → IsJoined (took (at_group here) byte) joined → SkipFits (at_group here) kept
+    → with_byte (row_at_stage r.more here kept) byte ≡ row_stage (at_with r here byte) (kept_with kept joined)
+at_noted r at.Between byte kept joined j s = refl
+at_noted r (at.Halfway high) byte kept joined j s = refl
+at_noted r (at.Text t) byte kept joined j s = text_noted (row r.more) t byte kept joined j s ∙ row_opt r (with_text (row r.more) t byte) (kept_with kept joined)
+
+row_noted : (r : Option Row) (byte : ℕ) (kept : List ℕ) (joined : Taken) → IsJoined (took (row_group r) byte) joined → SkipFits (row_group r) kept
+    → with_byte (row_stage r kept) byte ≡ row_stage (row_with r byte) (kept_with kept joined)
+row_noted None byte kept joined j s = refl
+row_noted (Some r) byte kept joined j s = at_noted r r.at byte kept joined j s
+
+at_reads : (r : Row) (here : RowAt) (byte : ℕ) (kept : List ℕ) (joined : Taken) → IsJoined (took (at_group here) byte) joined → SkipFits (at_group here) kept → AtFits here → byte < 256
+    → ReadRow (kept_with kept joined) joined (at_with r here byte)
+at_reads r at.Between byte kept joined j s fits small = tt
+at_reads r (at.Halfway high) byte kept joined j s fits small = tt
+at_reads r (at.Text t) byte kept joined j s fits small =
+    row_read_opt r (with_text (row r.more) t byte) (kept_with kept joined) joined (text_reads (row r.more) t byte kept joined j s fits small)
+
+row_reads : (r : Option Row) (byte : ℕ) (kept : List ℕ) (joined : Taken) → IsJoined (took (row_group r) byte) joined → SkipFits (row_group r) kept → RowFits r → byte < 256
+    → ReadRow (kept_with kept joined) joined (row_with r byte)
+row_reads None byte kept joined j s fits small = tt
+row_reads (Some r) byte kept joined j s fits small = at_reads r r.at byte kept joined j s fits small
+
+-- ---- places stay
+
+name_place_with : (slot_place : ℕ) (n : Option Name) (byte : ℕ) → IfSome (name_place n) (λ p. slot_place ≡ p) → IfSome (name_place (name_with n byte)) (λ p. slot_place ≡ p)
+name_place_with slot_place None byte e = tt
+name_place_with slot_place (Some n) byte e = by_opt (with_text descriptor n.text byte)
+  where
+    by_opt : (o : Option Text) → IfSome (name_place (option_map (λ t. record { place = n.place; text = t }) o)) (λ p. slot_place ≡ p)
+    by_opt None = tt
+    by_opt (Some t) = e
+
+row_place_opt : (slot_place : ℕ) (r : Row) (o : Option Text) → slot_place ≡ r.place → IfSome (row_place (option_map (λ t. row_at r r.more (at.Text t)) o)) (λ p. slot_place ≡ p)
+row_place_opt slot_place r None e = tt
+row_place_opt slot_place r (Some t) e = e
+
+at_place_with : (slot_place : ℕ) (r : Row) (here : RowAt) (byte : ℕ) → slot_place ≡ r.place → IfSome (row_place (at_with r here byte)) (λ p. slot_place ≡ p)
+at_place_with slot_place r at.Between byte e = e
+at_place_with slot_place r (at.Halfway high) byte e = e
+at_place_with slot_place r (at.Text t) byte e = row_place_opt slot_place r (with_text (row r.more) t byte) e
+
+row_place_with : (slot_place : ℕ) (r : Option Row) (byte : ℕ) → IfSome (row_place r) (λ p. slot_place ≡ p) → IfSome (row_place (row_with r byte)) (λ p. slot_place ≡ p)
+row_place_with slot_place None byte e = tt
+row_place_with slot_place (Some r) byte e = at_place_with slot_place r r.at byte e
 
 -- ---- the names that end
-
--- what was judged, against the name that ended
-abbrev EndIs : Ended → Bool → (place : ℕ) → Type 0
-EndIs end.No is place = is ≡ false
-EndIs end.Passes is place = is ≡ false
-EndIs (end.Hidden at) is place = (is ≡ true) × (at ≡ place)
-
-last_none : (x y : Bool) (p q : ℕ) → x ≡ false → y ≡ false → None ≡ lower_of x y p q
-last_none x y p q i j = cc
-
-second_only : (x y : Bool) (b p q : ℕ) → x ≡ false → y ≡ true → b ≡ q → Some b ≡ lower_of x y p q
-second_only x y b p q i j e = cc
-
-first_only : (x y : Bool) (a p q : ℕ) → x ≡ true → a ≡ p → y ≡ false → Some a ≡ lower_of x y p q
-first_only x y a p q i e j = cc
-
-both : (x y : Bool) (a b p q : ℕ) → x ≡ true → a ≡ p → y ≡ true → b ≡ q → Some (min a b) ≡ lower_of x y p q
-both x y a b p q i e j d = cc
-
-lower_is : (a b : Ended) (x y : Bool) (p q : ℕ) → EndIs a x p → EndIs b y q → lower a b ≡ lower_of x y p q
-lower_is end.No end.No x y p q i j = last_none x y p q i j
-lower_is end.No end.Passes x y p q i j = last_none x y p q i j
-lower_is end.Passes end.No x y p q i j = last_none x y p q i j
-lower_is end.Passes end.Passes x y p q i j = last_none x y p q i j
-lower_is end.No (end.Hidden b) x y p q i j = second_only x y b p q i j.0 j.1
-lower_is end.Passes (end.Hidden b) x y p q i j = second_only x y b p q i j.0 j.1
-lower_is (end.Hidden a) end.No x y p q i j = first_only x y a p q i.0 i.1 j
-lower_is (end.Hidden a) end.Passes x y p q i j = first_only x y a p q i.0 i.1 j
-lower_is (end.Hidden a) (end.Hidden b) x y p q i j = both x y a b p q i.0 i.1 j.0 j.1
-
-judged_by : (passes : List ℕ → Bool) (place : ℕ) (units : List ℕ) (is : Bool) → EndIs (if is then end.Passes else end.Hidden place) (if is then false else true) place
-judged_by passes place units true = refl
-judged_by passes place units false = (refl, refl)
-
-judged_as : (passes : List ℕ → Bool) (place : ℕ) (name : Option (List ℕ)) → EndIs (ended_as passes place name) (is_hidden passes name) place
-judged_as passes place None = refl
-judged_as passes place (Some units) = judged_by passes place units (passes units)
-
--- a text that was kept
-kept_units : (kept : List ℕ) (byte : ℕ) → length kept < most_bytes → short_units (kept ++ byte ∷ []) ≡ name_units (reverse (byte ∷ reverse kept))
-kept_units kept byte room =
-    let short : nat_le (length (kept ++ byte ∷ [])) most_bytes ≡ true = grind (arith, nat_tests, room, length-append kept (byte ∷ [])) in
-    ap (λ b. if b then name_units (kept ++ byte ∷ []) else None) short
-    ∙ ap (λ (xs : List ℕ). name_units (xs ++ byte ∷ [])) (sym (reverse-reverse kept)) ∙ ap name_units (sym (reversed byte (reverse kept)))
 
 not_zero : (n : ℕ) → (suc n == 0) ≡ false
 not_zero n = grind (arith, nat_tests)
 
-text_end : (passes : List ℕ → Bool) (place left : ℕ) (whose : Whose) (kept : List ℕ) (byte : ℕ) → length kept + left < most_bytes
-    → (if left == 0 then ended_as passes place (short_units (kept ++ byte ∷ [])) else end.No) ≡ ended_as passes place (ended (text whose left (reverse kept)) byte)
-text_end passes place zero whose kept byte room = ap (λ o. ended_as passes place o) (kept_units kept byte (omega (arith, room)))
-text_end passes place (suc left) whose kept byte room = ap (λ b. if b then ended_as passes place (short_units (kept ++ byte ∷ [])) else end.No) (not_zero left)
+class_same : (skip : Option ℕ) (group : Place) (kept : List ℕ) → class_of (reading_of skip group kept) ≡ class_behind skip group kept
+class_same None group kept = refl
+class_same (Some k) group kept = refl
 
-name_end_same : (passes : List ℕ → Bool) (name : Option Name) (kept back : List ℕ) (byte place : ℕ) (is : Bool) → (is_some name ≡ true → is ≡ true) → FitsDescriptor (name_stage name kept) back
-    → IfSome name (λ n. place ≡ n.place)
-    → name_ended passes name (if is then kept ++ byte ∷ [] else []) ≡ ended_as passes place (ended (name_stage name kept) byte)
-name_end_same passes None kept back byte place is reading f at = refl
-name_end_same passes (Some name) kept back byte place is reading f at =
-    ap (λ b. if name.left == 0 then ended_as passes name.place (short_units (if b then kept ++ byte ∷ [] else [])) else end.No) (reading refl)
-    ∙ text_end passes name.place name.left descriptor kept byte (name_room name.left kept back f)
-    ∙ ap (λ (n : ℕ). ended_as passes n (ended (text descriptor name.left (reverse kept)) byte)) (sym at)
+text_hidden_by : (passes : List ℕ → Bool) (place : ℕ) (whose : Whose) (left : ℕ) (group : Place) (skip : Option ℕ) (kept : List ℕ)
+    → hidden_of passes place (ended_with (text whose left (reading_of skip group kept))) ≡ (if left == 0 then hidden_of passes place (class_behind skip group kept) else None)
+text_hidden_by passes place whose zero group skip kept = ap (λ o. hidden_of passes place o) (class_same skip group kept)
+text_hidden_by passes place whose (suc left) group skip kept = sym (ap (λ b. if b then hidden_of passes place (class_behind skip group kept) else None) (not_zero left))
 
-drop_kept : (skip : ℕ) (kept : List ℕ) (byte : ℕ) → skip ≤ length kept → drop skip (kept ++ byte ∷ []) ≡ drop skip kept ++ byte ∷ []
-drop_kept skip kept byte within = drop-append-le skip kept (byte ∷ []) within
+name_hidden_is : (passes : List ℕ → Bool) (slot_place : ℕ) (n : Option Name) (kept : List ℕ) → IfSome (name_place n) (λ p. slot_place ≡ p)
+    → hidden_of passes slot_place (ended_with (name_stage n kept)) ≡ name_hidden passes n kept
+name_hidden_is passes slot_place None kept e = refl
+name_hidden_is passes slot_place (Some n) kept e =
+    ap (λ (p : ℕ). hidden_of passes p (ended_with (text_stage descriptor n.text kept))) e ∙ text_hidden_by passes n.place descriptor n.text.left n.text.group n.text.skip kept
 
-row_at_end_same : (passes : List ℕ → Bool) (row_place more : ℕ) (here : RowAt) (kept back : List ℕ) (byte place : ℕ) (is : Bool) → (at_text here ≡ true → is ≡ true)
-    → FitsRow place (row_at_stage more here kept) back → SkipFits here kept → place ≡ row_place
-    → row_at_ended passes row_place here (if is then kept ++ byte ∷ [] else []) ≡ ended_as passes place (ended (row_at_stage more here kept) byte)
-row_at_end_same passes row_place more at.Between kept back byte place is reading f s at = refl
-row_at_end_same passes row_place more (at.Halfway high) kept back byte place is reading f s at = refl
-row_at_end_same passes row_place more (at.Text here) kept back byte place is reading f s at =
-    let room : length (drop here.skip kept) + here.left < most_bytes = omega (arith, f.counted, f.sized, length-reverse (drop here.skip kept)) in
-    ap (λ b. if here.left == 0 then ended_as passes row_place (short_units (drop here.skip (if b then kept ++ byte ∷ [] else []))) else end.No) (reading refl)
-    ∙ ap (λ (xs : List ℕ). if here.left == 0 then ended_as passes row_place (short_units xs) else end.No) (drop_kept here.skip kept byte s.0)
-    ∙ text_end passes row_place here.left (row more) (drop here.skip kept) byte room
-    ∙ ap (λ (n : ℕ). ended_as passes n (ended (text (row more) here.left (reverse (drop here.skip kept))) byte)) (sym at)
+at_hidden_is : (passes : List ℕ → Bool) (place more : ℕ) (here : RowAt) (kept : List ℕ) → hidden_of passes place (ended_with (row_at_stage more here kept)) ≡ at_hidden passes place here kept
+at_hidden_is passes place more at.Between kept = refl
+at_hidden_is passes place more (at.Halfway high) kept = refl
+at_hidden_is passes place more (at.Text t) kept = text_hidden_by passes place (row more) t.left t.group t.skip kept
 
-row_end_same : (passes : List ℕ → Bool) (r : Option Row) (kept back : List ℕ) (byte place : ℕ) (is : Bool) → (in_row_text r ≡ true → is ≡ true)
-    → FitsRow place (row_stage r kept) back → IfSome r (λ r. SkipFits r.at kept) → IfSome r (λ r. place ≡ r.place)
-    → row_ended passes r (if is then kept ++ byte ∷ [] else []) ≡ ended_as passes place (ended (row_stage r kept) byte)
-row_end_same passes None kept back byte place is reading f s at = refl
-row_end_same passes (Some r) kept back byte place is reading f s at = row_at_end_same passes r.place r.more r.at kept back byte place is reading f s at
+row_hidden_is : (passes : List ℕ → Bool) (slot_place : ℕ) (r : Option Row) (kept : List ℕ) → IfSome (row_place r) (λ p. slot_place ≡ p)
+    → hidden_of passes slot_place (ended_with (row_stage r kept)) ≡ row_hidden passes r kept
+row_hidden_is passes slot_place None kept e = refl
+row_hidden_is passes slot_place (Some r) kept e =
+    ap (λ (p : ℕ). hidden_of passes p (ended_with (row_at_stage r.more r.at kept))) e ∙ at_hidden_is passes r.place r.more r.at kept
 
-as_ended : (passes : List ℕ → Bool) (place : ℕ) (name : Option (List ℕ)) (e : Ended) → e ≡ ended_as passes place name → EndIs e (is_hidden passes name) place
-as_ended passes place name e same = subst (λ x. EndIs x (is_hidden passes name) place) (sym same) (judged_as passes place name)
+name_slot_hidden : (passes : List ℕ → Bool) (s : Slot) (n : Option Name) (byte : ℕ) (kept : List ℕ) (joined : Taken) → Has s (name_place n) (name_stage n kept)
+    → IsJoined (took (name_group n) byte) joined → SkipFits (name_group n) kept → slot_hidden passes s byte ≡ name_hidden passes (name_with n byte) (kept_with kept joined)
+name_slot_hidden passes s n byte kept joined h j f =
+    ap (λ x. hidden_of passes s.place (ended_with (with_byte x byte))) h.stage_is ∙ ap (λ x. hidden_of passes s.place (ended_with x)) (name_noted n byte kept joined j f)
+    ∙ name_hidden_is passes s.place (name_with n byte) (kept_with kept joined) (name_place_with s.place n byte h.place_is)
 
-or_first : (a b : Bool) → a ≡ true → (a || b) ≡ true
-or_first a b e = cc
+row_slot_hidden : (passes : List ℕ → Bool) (s : Slot) (r : Option Row) (byte : ℕ) (kept : List ℕ) (joined : Taken) → Has s (row_place r) (row_stage r kept)
+    → IsJoined (took (row_group r) byte) joined → SkipFits (row_group r) kept → slot_hidden passes s byte ≡ row_hidden passes (row_with r byte) (kept_with kept joined)
+row_slot_hidden passes s r byte kept joined h j f =
+    ap (λ x. hidden_of passes s.place (ended_with (with_byte x byte))) h.stage_is ∙ ap (λ x. hidden_of passes s.place (ended_with x)) (row_noted r byte kept joined j f)
+    ∙ row_hidden_is passes s.place (row_with r byte) (kept_with kept joined) (row_place_with s.place r byte h.place_is)
 
-or_second : (a b : Bool) → b ≡ true → (a || b) ≡ true
-or_second true b e = refl
-or_second false b e = e
-
-row_ended_same : (passes : List ℕ → Bool) (back : List ℕ) (scan : Scanning) (byte : ℕ) → AreBytes back → Follows back scan
-    → row_ended passes scan.row (noted scan byte) ≡ ended_as passes (slots_of back).row.place (ended (row_stage scan.row scan.kept) byte)
-row_ended_same passes back scan byte are f =
-    row_end_same passes scan.row scan.kept back byte (slots_of back).row.place (is_reading scan) (or_second (is_some scan.name) (in_row_text scan.row))
-    (subst (λ s. FitsRow (slots_of back).row.place s back) f.row (slots_fit back are).row) f.skips f.row_place
-
-pub hidden_follows : (passes : List ℕ → Bool) (back : List ℕ) (scan : Scanning) (byte : ℕ) → AreBytes back → Follows back scan → scan_hidden passes scan byte ≡ hidden_place passes (slots_of back) byte
-hidden_follows passes back scan byte are f =
-    let fits = slots_fit back are in
-    let name_fits = subst (λ s. FitsDescriptor s back) f.name fits.name in
-    let row_fits = subst (λ s. FitsRow (slots_of back).row.place s back) f.row fits.row in
-    lower_is (name_ended passes scan.name (noted scan byte)) (row_ended passes scan.row (noted scan byte))
-    (is_hidden passes (ended (name_stage scan.name scan.kept) byte)) (is_hidden passes (ended (row_stage scan.row scan.kept) byte)) (slots_of back).name.place (slots_of back).row.place
-    (as_ended passes (slots_of back).name.place (ended (name_stage scan.name scan.kept) byte) (name_ended passes scan.name (noted scan byte))
-    (name_end_same passes scan.name scan.kept back byte (slots_of back).name.place (is_reading scan) (or_first (is_some scan.name) (in_row_text scan.row)) name_fits f.name_place))
-    (as_ended passes (slots_of back).row.place (ended (row_stage scan.row scan.kept) byte) (row_ended passes scan.row (noted scan byte)) (row_ended_same passes back scan byte are f))
-    ∙ ap (λ s. lower_of (is_hidden passes (ended s byte)) (is_hidden passes (ended (row_stage scan.row scan.kept) byte)) (slots_of back).name.place (slots_of back).row.place) (sym f.name)
-    ∙ ap (λ s. lower_of (is_hidden passes (ended (slots_of back).name.stage byte)) (is_hidden passes (ended s byte)) (slots_of back).name.place (slots_of back).row.place) (sym f.row)
+pub hidden_follows : (passes : List ℕ → Bool) (back : List ℕ) (scan : Scanning) (byte : ℕ) → Follows back scan → scan_hidden passes scan byte ≡ hidden_place passes (slots_of back) byte
+hidden_follows passes back scan byte f =
+    let slots = slots_of back in
+    let all = all_joined back scan byte f in
+    let joined = taken_by scan byte in
+    let name_is = name_slot_hidden passes slots.name scan.name byte scan.kept joined f.name all.name f.name_skip in
+    let even_is = row_slot_hidden passes slots.even scan.even byte scan.kept joined f.even all.even f.even_skip in
+    let odd_is = row_slot_hidden passes slots.odd scan.odd byte scan.kept joined f.odd all.odd f.odd_skip in
+    ap (λ x. lower x (lower (row_hidden passes (row_with scan.even byte) (kept_with scan.kept joined)) (row_hidden passes (row_with scan.odd byte) (kept_with scan.kept joined)))) (sym name_is)
+    ∙ ap (λ x. lower (slot_hidden passes slots.name byte) (lower x (row_hidden passes (row_with scan.odd byte) (kept_with scan.kept joined)))) (sym even_is)
+    ∙ ap (λ x. lower (slot_hidden passes slots.name byte) (lower (slot_hidden passes slots.even byte) x)) (sym odd_is)
 
 -- ---- what is read after a byte
 
+one_more : (left : ℕ) → left ≡ suc left - 1
+one_more left = omega arith
+
+whole_same : (skip : Option ℕ) (group : Place) (kept : List ℕ) → is_whole (reading_of skip group kept) ≡ is_first group
+whole_same None group kept = refl
+whole_same (Some k) group kept = refl
+
+-- a descriptor's name goes on
+name_gone_by : (place left : ℕ) (group : Place) (skip : Option ℕ) (byte : ℕ) (kept : List ℕ)
+    → onward (text descriptor left (reading_of skip group kept)) byte ≡ name_stage (if left == 0 then None else Some (record { place = place; text = one_less (the_text left group skip) })) kept
+name_gone_by place zero group skip byte kept = refl
+name_gone_by place (suc left) group skip byte kept =
+    ap (λ (n : ℕ). text descriptor n (reading_of skip group kept)) (one_more left)
+    ∙ sym (ap (λ b. name_stage (if b then None else Some (record { place = place; text = one_less (the_text (suc left) group skip) })) kept) (not_zero left))
+
+name_gone : (n : Option Name) (byte : ℕ) (kept : List ℕ) → onward (name_stage n kept) byte ≡ name_stage (name_onward n) kept
+name_gone None byte kept = refl
+name_gone (Some n) byte kept = name_gone_by n.place n.text.left n.text.group n.text.skip byte kept
+
+if_place : (place : ℕ) (n : Name) (is : Bool) (t : Text) → place ≡ n.place → IfSome (name_place (if is then None else Some (record { place = n.place; text = t }))) (λ p. place ≡ p)
+if_place place n true t e = tt
+if_place place n false t e = e
+
+name_place_on : (place : ℕ) (n : Option Name) → IfSome (name_place n) (λ p. place ≡ p) → IfSome (name_place (name_onward n)) (λ p. place ≡ p)
+name_place_on place None e = tt
+name_place_on place (Some n) e = if_place place n (n.text.left == 0) (one_less n.text) e
+
+-- a row goes on
+left_stage : (whose : Whose) (r : Row) (high low : ℕ) (kept : List ℕ) (is : Bool) → is_length high low ≡ is → whose ≡ row r.more
+    → text_of whose high low ≡ row_stage (text_begins r (length kept) (if is then Some (high * 256 + low - 1) else None)) kept
+left_stage whose r high low kept false e w = ap (λ b. if b then text whose (high * 256 + low - 1) no_units else nothing) e
+left_stage whose r high low kept true e w =
+    ap (λ b. if b then text whose (high * 256 + low - 1) no_units else nothing) e ∙ ap (λ x. text x (high * 256 + low - 1) no_units) w
+    ∙ ap (λ us. text (row r.more) (high * 256 + low - 1) (naming us place.First)) (sym (drop_all (length kept) kept (omega arith)))
+
+between_gone : (r : Row) (byte : ℕ) (kept : List ℕ) (is : Bool)
+    → (if is then nothing else halfway r.more byte) ≡ row_stage (if is then None else Some (row_at r r.more (at.Halfway byte))) kept
+between_gone r byte kept true = refl
+between_gone r byte kept false = refl
+
+some_more : (more : ℕ) → nat_le 1 (suc more) ≡ true
+some_more more = grind (arith, nat_tests)
+
+over_gone : (r : Row) (more : ℕ) (kept : List ℕ) (whole : Bool) → after_text (row more) whole ≡ row_stage (if whole && nat_le 1 more then Some (row_at r (more - 1) at.Between) else None) kept
+over_gone r zero kept true = refl
+over_gone r zero kept false = refl
+over_gone r (suc more) kept false = refl
+over_gone r (suc more) kept true =
+    ap (λ (n : ℕ). between n) (one_more more) ∙ ap (λ b. row_stage (if b then Some (row_at r (suc more - 1) at.Between) else None) kept) (sym (some_more more))
+
+text_gone_by : (r : Row) (left : ℕ) (group : Place) (skip : Option ℕ) (byte : ℕ) (kept : List ℕ)
+    → onward (text (row r.more) left (reading_of skip group kept)) byte ≡ row_stage (text_onward r (the_text left group skip)) kept
+text_gone_by r zero group skip byte kept = ap (after_text (row r.more)) (whole_same skip group kept) ∙ over_gone r r.more kept (is_first group)
+text_gone_by r (suc left) group skip byte kept =
+    ap (λ (n : ℕ). text (row r.more) n (reading_of skip group kept)) (one_more left)
+    ∙ sym (ap (λ b. row_stage (if b then (if is_first group && nat_le 1 r.more then Some (row_at r (r.more - 1) at.Between) else None)
+    else Some (row_at r r.more (at.Text (one_less (the_text (suc left) group skip))))) kept) (not_zero left))
+
+at_gone : (r : Row) (here : RowAt) (byte : ℕ) (kept : List ℕ) → onward (row_at_stage r.more here kept) byte ≡ row_stage (at_onward r here byte (length kept)) kept
+at_gone r at.Between byte kept = between_gone r byte kept (in_name byte)
+at_gone r (at.Halfway high) byte kept = left_stage (row r.more) r high byte kept (is_length high byte) refl refl
+at_gone r (at.Text t) byte kept = text_gone_by r t.left t.group t.skip byte kept
+
+row_gone : (r : Option Row) (byte : ℕ) (kept : List ℕ) → onward (row_stage r kept) byte ≡ row_stage (row_onward r byte (length kept)) kept
+row_gone None byte kept = refl
+row_gone (Some r) byte kept = at_gone r r.at byte kept
+
+-- what holds of all rows made of one
+either : (P : Option Row → Type 0) (is : Bool) (a b : Option Row) → P a → P b → P (if is then a else b)
+either P true a b x y = x
+either P false a b x y = y
+
+begins_any : (P : Option Row → Type 0) (r : Row) (kept : ℕ) (left : Option ℕ) → P None → ((n : ℕ) → left ≡ Some n → P (Some (row_at r r.more (at.Text (new_text kept n))))) → P (text_begins r kept left)
+begins_any P r kept None none some = none
+begins_any P r kept (Some n) none some = some n refl
+
+abbrev AtPlace : ℕ → Option Row → Type 0
+AtPlace place r = IfSome (row_place r) (λ p. place ≡ p)
+
+at_place_on : (place : ℕ) (r : Row) (here : RowAt) (byte kept : ℕ) → place ≡ r.place → AtPlace place (at_onward r here byte kept)
+at_place_on place r at.Between byte kept e = either (AtPlace place) (in_name byte) None (Some (row_at r r.more (at.Halfway byte))) tt e
+at_place_on place r (at.Halfway high) byte kept e = begins_any (AtPlace place) r kept (left_of high byte) tt (λ n is. e)
+at_place_on place r (at.Text t) byte kept e =
+    either (AtPlace place) (t.left == 0) (if is_first t.group && nat_le 1 r.more then Some (row_at r (r.more - 1) at.Between) else None) (Some (row_at r r.more (at.Text (one_less t))))
+    (either (AtPlace place) (is_first t.group && nat_le 1 r.more) (Some (row_at r (r.more - 1) at.Between)) None e tt) e
+
+row_place_on : (place : ℕ) (r : Option Row) (byte kept : ℕ) → AtPlace place r → AtPlace place (row_onward r byte kept)
+row_place_on place None byte kept e = tt
+row_place_on place (Some r) byte kept e = at_place_on place r r.at byte kept e
+
+-- ---- what holds of the texts
+
+pub record GoodText (kept : List ℕ) (joined : Taken) (t : Text) : Type 0 where
+  pub skip : IfSome t.skip (λ k. (k ≤ length kept) × (length kept + t.left < 9216))
+  pub fits : Fits t.group
+  pub aligned : IfSome t.skip (λ _. (t.group ≡ group_after joined) ⊎ (t.group ≡ place.First))
+
+abbrev Good : (kept : List ℕ) → Taken → Option Text → Type 0
+Good kept joined o = IfSome o (λ t. GoodText kept joined t)
+
+less_skip : (kept : List ℕ) (left : ℕ) (skip : Option ℕ) → (left == 0) ≡ false → IfSome skip (λ k. (k ≤ length kept) × (length kept + left < 9217)) → IfSome skip (λ k. (k ≤ length kept) × (length kept + (left - 1) < 9216))
+less_skip kept left None some s = tt
+less_skip kept zero (Some k) some s = absurd cc
+less_skip kept (suc left) (Some k) some s = (s.0, omega (arith, s.1))
+
+or_first : (group : Place) (joined : Taken) (skip : Option ℕ) → IfSome skip (λ _. group ≡ group_after joined) → IfSome skip (λ _. (group ≡ group_after joined) ⊎ (group ≡ place.First))
+or_first group joined None a = tt
+or_first group joined (Some k) a = inl a
+
+good_less : (kept : List ℕ) (joined : Taken) (t : Text) → (t.left == 0) ≡ false → ReadText kept joined t → GoodText kept joined (one_less t)
+good_less kept joined t some r = record { skip = less_skip kept t.left t.skip some r.skip; fits = r.fits; aligned = or_first t.group joined t.skip r.aligned }
+
+good_new : (kept : List ℕ) (joined : Taken) (left : ℕ) → length kept + left < 9216 → GoodText kept joined (new_text (length kept) left)
+good_new kept joined left room = record { skip = (omega arith, room); fits = tt; aligned = inr refl }
+
+name_good_by : (kept : List ℕ) (joined : Taken) (n : Name) (is : Bool) → (n.text.left == 0) ≡ is → ReadText kept joined n.text
+    → Good kept joined (name_group (if is then None else Some (record { place = n.place; text = one_less n.text })))
+name_good_by kept joined n true e r = tt
+name_good_by kept joined n false e r = good_less kept joined n.text e r
+
+name_good : (kept : List ℕ) (joined : Taken) (n : Option Name) → ReadName kept joined n → Good kept joined (name_group (name_onward n))
+name_good kept joined None r = tt
+name_good kept joined (Some n) r = name_good_by kept joined n (n.text.left == 0) refl r
+
+-- there is room where a text begins
+abbrev HalfAt : RowAt → (byte : ℕ) → (kept : List ℕ) → Type 0
+HalfAt at.Between byte kept = Unit {0}
+HalfAt (at.Halfway high) byte kept = (n : ℕ) → left_of high byte ≡ Some n → length kept + n < 9216
+HalfAt (at.Text t) byte kept = Unit {0}
+
+abbrev HalfRow : Option Row → (byte : ℕ) → (kept : List ℕ) → Type 0
+HalfRow r byte kept = IfSome r (λ r. HalfAt r.at byte kept)
+
+abbrev GoodRow : (kept : List ℕ) → Taken → Option Row → Type 0
+GoodRow kept joined r = Good kept joined (row_group r)
+
+text_good_by : (kept : List ℕ) (joined : Taken) (r : Row) (t : Text) (is : Bool) → (t.left == 0) ≡ is → ReadText kept joined t
+    → GoodRow kept joined (if is then (if is_first t.group && nat_le 1 r.more then Some (row_at r (r.more - 1) at.Between) else None) else Some (row_at r r.more (at.Text (one_less t))))
+text_good_by kept joined r t true e x = either (GoodRow kept joined) (is_first t.group && nat_le 1 r.more) (Some (row_at r (r.more - 1) at.Between)) None tt tt
+text_good_by kept joined r t false e x = good_less kept joined t e x
+
+at_good : (kept : List ℕ) (joined : Taken) (r : Row) (here : RowAt) (byte : ℕ) → ReadAt kept joined here → HalfAt here byte kept → GoodRow kept joined (at_onward r here byte (length kept))
+at_good kept joined r at.Between byte x h = either (GoodRow kept joined) (in_name byte) None (Some (row_at r r.more (at.Halfway byte))) tt tt
+at_good kept joined r (at.Halfway high) byte x h = begins_any (GoodRow kept joined) r (length kept) (left_of high byte) tt (λ n is. good_new kept joined n (h n is))
+at_good kept joined r (at.Text t) byte x h = text_good_by kept joined r t (t.left == 0) refl x
+
+row_good : (kept : List ℕ) (joined : Taken) (r : Option Row) (byte : ℕ) → ReadRow kept joined r → HalfRow r byte kept → GoodRow kept joined (row_onward r byte (length kept))
+row_good kept joined None byte x h = tt
+row_good kept joined (Some r) byte x h = at_good kept joined r r.at byte x h
+
+-- at most one unit is kept where a length was just read: its first byte is in no name
+few_kept : (kept : List ℕ) (t : Taken) → kept ≡ [] → length (kept_with kept t) ≤ 1
+few_kept kept (taken.Unit unit) e = omega (arith, length-append kept (unit ∷ []), ap length e)
+few_kept kept (taken.Part here) e = omega (arith, ap length e)
+few_kept kept taken.Refused e = omega arith
+
+left_few_by : (high low n : ℕ) (is : Bool) → is_length high low ≡ is → (if is then Some (high * 256 + low - 1) else None) ≡ Some n → (in_name high ≡ false) × (n ≤ 9214)
+left_few_by high low n false i e = absurd cc
+left_few_by high low n true i e =
+    let is = is_length_of high low i in
+    let same : high * 256 + low - 1 ≡ n = cc in
+    (high_out high low is, omega (arith, same, is.most))
+
+left_few : (high low n : ℕ) → left_of high low ≡ Some n → (in_name high ≡ false) × (n ≤ 9214)
+left_few high low n e = left_few_by high low n (is_length high low) refl e
+
+room_for : (back : List ℕ) (kept : List ℕ) (joined : Taken) (byte n : ℕ) → (in_name (ago back 0) ≡ false → kept ≡ []) → left_of (ago back 0) byte ≡ Some n → length (kept_with kept joined) + n < 9216
+room_for back kept joined byte n last e =
+    let few = left_few (ago back 0) byte n e in
+    omega (arith, few.1, few_kept kept joined (last few.0))
+
+half_opt : (r : Row) (o : Option Text) (byte : ℕ) (kept : List ℕ) → HalfRow (option_map (λ t. row_at r r.more (at.Text t)) o) byte kept
+half_opt r None byte kept = tt
+half_opt r (Some t) byte kept = tt
+
+half_at : (back : List ℕ) (wanted : ℕ → Bool) (place : ℕ) (r : Row) (here : RowAt) (byte : ℕ) (kept : List ℕ) (joined : Taken) → FitsRow wanted place (row_at_stage r.more here kept) back
+    → (in_name (ago back 0) ≡ false → kept ≡ []) → HalfRow (at_with r here byte) byte (kept_with kept joined)
+half_at back wanted place r at.Between byte kept joined f last = tt
+half_at back wanted place r (at.Halfway high) byte kept joined f last = λ n e. room_for back kept joined byte n last (ap (λ (h : ℕ). left_of h byte) f.1 ∙ e)
+half_at back wanted place r (at.Text t) byte kept joined f last = half_opt r (with_text (row r.more) t byte) byte (kept_with kept joined)
+
+half_row : (back : List ℕ) (wanted : ℕ → Bool) (place : ℕ) (r : Option Row) (byte : ℕ) (kept : List ℕ) (joined : Taken) → FitsRow wanted place (row_stage r kept) back
+    → (in_name (ago back 0) ≡ false → kept ≡ []) → HalfRow (row_with r byte) byte (kept_with kept joined)
+half_row back wanted place None byte kept joined f last = tt
+half_row back wanted place (Some r) byte kept joined f last = half_at back wanted place r r.at byte kept joined f last
+
+-- ---- what begins
+
 abbrev stage_left : Whose → Option ℕ → Stage
 stage_left whose None = nothing
-stage_left whose (Some left) = text whose left []
+stage_left whose (Some left) = text whose left no_units
 
-left_stage : (whose : Whose) (high low : ℕ) (is : Bool) → is_length high low ≡ is → text_of whose high low ≡ stage_left whose (left_of high low)
-left_stage whose high low true e =
-    ap (λ b. if b then text whose (high * 256 + low - 1) [] else nothing) e ∙ ap (λ b. stage_left whose (if b then Some (high * 256 + low - 1) else None)) (sym e)
-left_stage whose high low false e =
-    ap (λ b. if b then text whose (high * 256 + low - 1) [] else nothing) e ∙ ap (λ b. stage_left whose (if b then Some (high * 256 + low - 1) else None)) (sym e)
+begin_stage : (whose : Whose) (high low : ℕ) (is : Bool) → is_length high low ≡ is → text_of whose high low ≡ stage_left whose (left_of high low)
+begin_stage whose high low true e =
+    ap (λ b. if b then text whose (high * 256 + low - 1) no_units else nothing) e ∙ ap (λ b. stage_left whose (if b then Some (high * 256 + low - 1) else None)) (sym e)
+begin_stage whose high low false e =
+    ap (λ b. if b then text whose (high * 256 + low - 1) no_units else nothing) e ∙ ap (λ b. stage_left whose (if b then Some (high * 256 + low - 1) else None)) (sym e)
 
 name_left_by : (a b byte : ℕ) (is : Bool) → (b == 0x72) ≡ is → (if b == 0x72 then text_of descriptor a byte else nothing) ≡ stage_left descriptor (if b == 0x72 then left_of a byte else None)
 name_left_by a b byte true e =
-    ap (λ t. if t then text_of descriptor a byte else nothing) e ∙ left_stage descriptor a byte (is_length a byte) refl
+    ap (λ t. if t then text_of descriptor a byte else nothing) e ∙ begin_stage descriptor a byte (is_length a byte) refl
     ∙ ap (λ t. stage_left descriptor (if t then left_of a byte else None)) (sym e)
 name_left_by a b byte false e =
     ap (λ t. if t then text_of descriptor a byte else nothing) e ∙ ap (λ t. stage_left descriptor (if t then left_of a byte else None)) (sym e)
@@ -184,10 +645,14 @@ name_left_by a b byte false e =
 name_left_stage : (back : List ℕ) (byte : ℕ) → new_name back byte ≡ stage_left descriptor (name_left (recent_of back) byte)
 name_left_stage back byte = name_left_by (ago back 0) (ago back 1) byte (ago back 1 == 0x72) refl
 
--- the first name of a row
+name_left_of : (a b byte n : ℕ) (is : Bool) → (if is then left_of a byte else None) ≡ Some n → left_of a byte ≡ Some n
+name_left_of a b byte n true e = e
+name_left_of a b byte n false e = absurd cc
+
+-- the first text of a row
 abbrev stage_begun : Option Begun → Stage
 stage_begun None = nothing
-stage_begun (Some b) = text (row b.more) b.left []
+stage_begun (Some b) = text (row b.more) b.left no_units
 
 begun_left : (more : ℕ) (left : Option ℕ) → stage_left (row more) left ≡ stage_begun (begun more left)
 begun_left more None = refl
@@ -196,7 +661,7 @@ begun_left more (Some left) = refl
 row_some_by : (count a byte : ℕ) (is : Bool) → nat_le 1 count ≡ is
     → (if nat_le 1 count then text_of (row (count - 1)) a byte else nothing) ≡ stage_begun (if nat_le 1 count then begun (count - 1) (left_of a byte) else None)
 row_some_by count a byte true e =
-    ap (λ t. if t then text_of (row (count - 1)) a byte else nothing) e ∙ left_stage (row (count - 1)) a byte (is_length a byte) refl ∙ begun_left (count - 1) (left_of a byte)
+    ap (λ t. if t then text_of (row (count - 1)) a byte else nothing) e ∙ begin_stage (row (count - 1)) a byte (is_length a byte) refl ∙ begun_left (count - 1) (left_of a byte)
     ∙ ap (λ t. stage_begun (if t then begun (count - 1) (left_of a byte) else None)) (sym e)
 row_some_by count a byte false e =
     ap (λ t. if t then text_of (row (count - 1)) a byte else nothing) e ∙ ap (λ t. stage_begun (if t then begun (count - 1) (left_of a byte) else None)) (sym e)
@@ -211,393 +676,199 @@ row_left_stage back byte =
     (if nat_le 1 (ago back 2 * 256 + ago back 1) then begun (ago back 2 * 256 + ago back 1 - 1) (left_of (ago back 0) byte) else None)
     (row_some_by (ago back 2 * 256 + ago back 1) (ago back 0) byte (nat_le 1 (ago back 2 * 256 + ago back 1)) refl)
 
--- a descriptor's name goes on
+begun_of : (more : ℕ) (left : Option ℕ) (b : Begun) → begun more left ≡ Some b → left ≡ Some b.left
+begun_of more None b e = absurd cc
+begun_of more (Some left) b e = let h : record { more = more; left = left } ≡ b = cc in ap (λ (x : Begun). Some x.left) h
 
-kept_on : (kept : List ℕ) (byte : ℕ) → byte ∷ reverse kept ≡ reverse (kept ++ byte ∷ [])
-kept_on kept byte = sym (reverse-append kept (byte ∷ []))
-
-one_less : (left : ℕ) → left ≡ suc left - 1
-one_less left = omega arith
-
-stops : (left byte : ℕ) → in_text byte ≡ false → (suc left == 0 || nat_le byte 4) ≡ true
-stops left byte e = grind (arith, nat_tests, e)
-
-goes : (left byte : ℕ) → in_text byte ≡ true → (suc left == 0 || nat_le byte 4) ≡ false
-goes left byte e = grind (arith, nat_tests, e)
-
-name_moved_by : (place left : ℕ) (kept : List ℕ) (byte : ℕ) (is : Bool) → in_text byte ≡ is
-    → next (text descriptor left (reverse kept)) byte ≡ name_stage (if left == 0 || nat_le byte 4 then None else Some (record { place = place; left = left - 1 })) (kept ++ byte ∷ [])
-name_moved_by place zero kept byte is e = refl
-name_moved_by place (suc left) kept byte false e =
-    ap (λ b. if b then text descriptor left (byte ∷ reverse kept) else nothing) e
-    ∙ ap (λ b. name_stage (if b then None else Some (record { place = place; left = suc left - 1 })) (kept ++ byte ∷ [])) (sym (stops left byte e))
-name_moved_by place (suc left) kept byte true e =
-    ap (λ b. if b then text descriptor left (byte ∷ reverse kept) else nothing) e
-    ∙ ap (λ (xs : List ℕ). text descriptor left xs) (kept_on kept byte) ∙ ap (λ (n : ℕ). text descriptor n (reverse (kept ++ byte ∷ []))) (one_less left)
-    ∙ ap (λ b. name_stage (if b then None else Some (record { place = place; left = suc left - 1 })) (kept ++ byte ∷ [])) (sym (goes left byte e))
-
-name_goes_on : (name : Option Name) (kept : List ℕ) (byte : ℕ) (is : Bool) → (is_some name ≡ true → is ≡ true)
-    → next (name_stage name kept) byte ≡ name_stage (name_onward name byte) (if is then kept ++ byte ∷ [] else [])
-name_goes_on None kept byte is reading = refl
-name_goes_on (Some name) kept byte is reading =
-    name_moved_by name.place name.left kept byte (in_text byte) refl
-    ∙ ap (λ b. name_stage (name_moved name byte) (if b then kept ++ byte ∷ [] else [])) (sym (reading refl))
-
-moved_place_by : (place : ℕ) (name : Name) (is : Bool) (left : ℕ) → place ≡ name.place → IfSome {T = Name} (if is then None else Some (record { place = name.place; left = left })) (λ n. place ≡ n.place)
-moved_place_by place name true left e = tt
-moved_place_by place name false left e = e
-
-name_place_on : (place : ℕ) (name : Option Name) (byte : ℕ) → IfSome name (λ n. place ≡ n.place) → IfSome (name_onward name byte) (λ n. place ≡ n.place)
-name_place_on place None byte e = tt
-name_place_on place (Some name) byte e = moved_place_by place name (name.left == 0 || nat_le byte 4) (name.left - 1) e
-
--- a row goes on
-
--- whether a name of the row ended
-abbrev IsName : Bool → Option (List ℕ) → Type 0
-IsName is None = is ≡ false
-IsName is (Some units) = is ≡ true
-
-the_test : (byte : ℕ) (is : Bool) → in_text byte ≡ is → nat_le byte 4 ≡ (if is then false else true)
-the_test byte true e = grind (arith, nat_tests, e)
-the_test byte false e = grind (arith, nat_tests, e)
-
-some_more : (more : ℕ) → nat_le 1 (suc more) ≡ true
-some_more more = grind (arith, nat_tests)
-
-between_moved : (r : Row) (more : ℕ) (kept : List ℕ) (byte : ℕ) (is : Bool) → in_text byte ≡ is → r.more ≡ more
-    → next (between more) byte ≡ row_stage (if nat_le byte 4 then Some (row_with r r.more (at.Halfway byte)) else None) kept
-between_moved r more kept byte true e m =
-    ap (λ b. if b then nothing else halfway more byte) e
-    ∙ ap (λ b. row_stage (if b then Some (row_with r r.more (at.Halfway byte)) else None) kept) (sym (the_test byte true e))
-between_moved r more kept byte false e m =
-    ap (λ b. if b then nothing else halfway more byte) e ∙ ap (λ (n : ℕ). halfway n byte) (sym m)
-    ∙ ap (λ b. row_stage (if b then Some (row_with r r.more (at.Halfway byte)) else None) kept) (sym (the_test byte false e))
-
-text_begun : (r : Row) (kept : List ℕ) (left : Option ℕ) → stage_left (row r.more) left ≡ row_stage (text_begins r (length kept) left) kept
-text_begun r kept None = refl
-text_begun r kept (Some left) = ap (λ (xs : List ℕ). text (row r.more) left (reverse xs)) (sym (drop_all (length kept) kept (omega arith)))
-
-text_over : (r : Row) (more : ℕ) (kept : List ℕ) (name : Option (List ℕ)) (is : Bool) → IsName is name
-    → after_name (row more) name ≡ row_stage (if is && nat_le 1 more then Some (row_with r (more - 1) at.Between) else None) kept
-text_over r zero kept None is i = ap (λ b. row_stage (if b && nat_le 1 0 then Some (row_with r (0 - 1) at.Between) else None) kept) (sym i)
-text_over r zero kept (Some units) is i = ap (λ b. row_stage (if b && nat_le 1 0 then Some (row_with r (0 - 1) at.Between) else None) kept) (sym i)
-text_over r (suc more) kept None is i = ap (λ b. row_stage (if b && nat_le 1 (suc more) then Some (row_with r (suc more - 1) at.Between) else None) kept) (sym i)
-text_over r (suc more) kept (Some units) is i =
-    ap (λ (n : ℕ). between n) (one_less more)
-    ∙ ap (λ b. row_stage (if b then Some (row_with r (suc more - 1) at.Between) else None) kept) (sym (some_more more))
-    ∙ ap (λ b. row_stage (if b && nat_le 1 (suc more) then Some (row_with r (suc more - 1) at.Between) else None) kept) (sym i)
-
-text_moved_by : (r : Row) (more skip left : ℕ) (kept : List ℕ) (byte : ℕ) (is_name is : Bool) → in_text byte ≡ is → r.more ≡ more → skip ≤ length kept
-    → IsName is_name (ended (text (row more) left (reverse (drop skip kept))) byte) ⊎ (1 ≤ left)
-    → next (text (row more) left (reverse (drop skip kept))) byte
-    ≡ row_stage (if left == 0 then (if is_name && nat_le 1 r.more then Some (row_with r (r.more - 1) at.Between) else None)
-    else (if nat_le byte 4 then None else Some (row_with r r.more (at.Text (record { skip = skip; left = left - 1 }))))) (kept ++ byte ∷ [])
-text_moved_by r more skip zero kept byte is_name is e m within (inl i) =
-    text_over r more (kept ++ byte ∷ []) (name_units (reverse (byte ∷ reverse (drop skip kept)))) is_name i
-    ∙ ap (λ (n : ℕ). row_stage (if is_name && nat_le 1 n then Some (row_with r (n - 1) at.Between) else None) (kept ++ byte ∷ [])) (sym m)
-text_moved_by r more skip zero kept byte is_name is e m within (inr some) = absurd (omega (arith, some))
-text_moved_by r more skip (suc left) kept byte is_name false e m within i =
-    ap (λ b. if b then text (row more) left (byte ∷ reverse (drop skip kept)) else nothing) e
-    ∙ ap (λ b. row_stage (if b then None else Some (row_with r r.more (at.Text (record { skip = skip; left = suc left - 1 })))) (kept ++ byte ∷ [])) (sym (the_test byte false e))
-    ∙ ap (λ b. row_stage (if b then (if is_name && nat_le 1 r.more then Some (row_with r (r.more - 1) at.Between) else None)
-    else (if nat_le byte 4 then None else Some (row_with r r.more (at.Text (record { skip = skip; left = suc left - 1 }))))) (kept ++ byte ∷ [])) (sym (not_zero left))
-text_moved_by r more skip (suc left) kept byte is_name true e m within i =
-    ap (λ b. if b then text (row more) left (byte ∷ reverse (drop skip kept)) else nothing) e
-    ∙ ap (λ (xs : List ℕ). text (row more) left xs) (kept_on (drop skip kept) byte ∙ ap reverse (sym (drop_kept skip kept byte within)))
-    ∙ ap (λ (n : ℕ). text (row n) left (reverse (drop skip (kept ++ byte ∷ [])))) (sym m)
-    ∙ ap (λ (n : ℕ). text (row r.more) n (reverse (drop skip (kept ++ byte ∷ [])))) (one_less left)
-    ∙ ap (λ b. row_stage (if b then None else Some (row_with r r.more (at.Text (record { skip = skip; left = suc left - 1 })))) (kept ++ byte ∷ [])) (sym (the_test byte true e))
-    ∙ ap (λ b. row_stage (if b then (if is_name && nat_le 1 r.more then Some (row_with r (r.more - 1) at.Between) else None)
-    else (if nat_le byte 4 then None else Some (row_with r r.more (at.Text (record { skip = skip; left = suc left - 1 }))))) (kept ++ byte ∷ [])) (sym (not_zero left))
-
-row_at_goes_on : (r : Row) (here : RowAt) (kept : List ℕ) (byte : ℕ) (is is_name : Bool) → (at_text here ≡ true → is ≡ true) → SkipFits here kept
-    → IsName is_name (ended (row_at_stage r.more here kept) byte)
-    → next (row_at_stage r.more here kept) byte ≡ row_stage (row_at_moved r here byte is_name (length (if is then kept ++ byte ∷ [] else []))) (if is then kept ++ byte ∷ [] else [])
-row_at_goes_on r at.Between kept byte is is_name reading s i = between_moved r r.more (if is then kept ++ byte ∷ [] else []) byte (in_text byte) refl refl
-row_at_goes_on r (at.Halfway high) kept byte is is_name reading s i =
-    left_stage (row r.more) high byte (is_length high byte) refl ∙ text_begun r (if is then kept ++ byte ∷ [] else []) (left_of high byte)
-row_at_goes_on r (at.Text here) kept byte is is_name reading s i =
-    text_moved_by r r.more here.skip here.left kept byte is_name (in_text byte) refl refl s.0 (inl i)
-    ∙ ap (λ b. row_stage (row_text_moved r here byte is_name) (if b then kept ++ byte ∷ [] else [])) (sym (reading refl))
-
-row_goes_on : (r : Option Row) (kept : List ℕ) (byte : ℕ) (is is_name : Bool) → (in_row_text r ≡ true → is ≡ true) → IfSome r (λ r. SkipFits r.at kept)
-    → IsName is_name (ended (row_stage r kept) byte)
-    → next (row_stage r kept) byte ≡ row_stage (row_onward r byte is_name (length (if is then kept ++ byte ∷ [] else []))) (if is then kept ++ byte ∷ [] else [])
-row_goes_on None kept byte is is_name reading s i = refl
-row_goes_on (Some r) kept byte is is_name reading s i = row_at_goes_on r r.at kept byte is is_name reading s i
-
--- ---- places, and where names of a row begin
-
-either : (P : Row → Type 0) (is : Bool) (a b : Option Row) → IfSome a P → IfSome b P → IfSome (if is then a else b) P
-either P true a b x y = x
-either P false a b x y = y
-
-begins_place : (P : Row → Type 0) (r : Row) (kept : ℕ) (left : Option ℕ) → ((n : ℕ) → P (row_with r r.more (at.Text (record { skip = kept; left = n })))) → IfSome (text_begins r kept left) P
-begins_place P r kept None p = tt
-begins_place P r kept (Some left) p = p left
-
-text_keeps : (P : Row → Type 0) (r : Row) (here : RowText) (byte : ℕ) (is_name : Bool) → P (row_with r (r.more - 1) at.Between) → P (row_with r r.more (at.Text (record { skip = here.skip; left = here.left - 1 })))
-    → IfSome (row_text_moved r here byte is_name) P
-text_keeps P r here byte is_name p q =
-    either P (here.left == 0) (if is_name && nat_le 1 r.more then Some (row_with r (r.more - 1) at.Between) else None)
-    (if nat_le byte 4 then None else Some (row_with r r.more (at.Text (record { skip = here.skip; left = here.left - 1 }))))
-    (either P (is_name && nat_le 1 r.more) (Some (row_with r (r.more - 1) at.Between)) None p tt)
-    (either P (nat_le byte 4) None (Some (row_with r r.more (at.Text (record { skip = here.skip; left = here.left - 1 })))) tt q)
-
-row_at_place : (place : ℕ) (r : Row) (here : RowAt) (byte : ℕ) (is_name : Bool) (kept : ℕ) → place ≡ r.place → IfSome (row_at_moved r here byte is_name kept) (λ x. place ≡ x.place)
-row_at_place place r at.Between byte is_name kept e = either (λ x. place ≡ x.place) (nat_le byte 4) (Some (row_with r r.more (at.Halfway byte))) None e tt
-row_at_place place r (at.Halfway high) byte is_name kept e = begins_place (λ x. place ≡ x.place) r kept (left_of high byte) (λ n. e)
-row_at_place place r (at.Text here) byte is_name kept e = text_keeps (λ x. place ≡ x.place) r here byte is_name e e
-
-row_place_on : (place : ℕ) (r : Option Row) (byte : ℕ) (is_name : Bool) (kept : ℕ) → IfSome r (λ x. place ≡ x.place) → IfSome (row_onward r byte is_name kept) (λ x. place ≡ x.place)
-row_place_on place None byte is_name kept e = tt
-row_place_on place (Some r) byte is_name kept e = row_at_place place r r.at byte is_name kept e
-
--- where a name is about to begin, at most one byte is kept
-abbrev HalfwayRoom : RowAt → ℕ → Type 0
-HalfwayRoom at.Between kept = Unit {0}
-HalfwayRoom (at.Halfway high) kept = kept ≤ 1
-HalfwayRoom (at.Text here) kept = Unit {0}
-
-noted_text : (kept : List ℕ) (byte skip : ℕ) (is : Bool) → is ≡ true → skip ≤ length kept → skip ≤ length (if is then kept ++ byte ∷ [] else [])
-noted_text kept byte skip true e within = omega (arith, within, length-append kept (byte ∷ []))
-noted_text kept byte skip false e within = absurd cc
-
-row_at_skips : (r : Row) (here : RowAt) (kept : List ℕ) (byte : ℕ) (is is_name : Bool) → (at_text here ≡ true → is ≡ true) → SkipFits here kept
-    → HalfwayRoom here (length (if is then kept ++ byte ∷ [] else []))
-    → IfSome (row_at_moved r here byte is_name (length (if is then kept ++ byte ∷ [] else []))) (λ x. SkipFits x.at (if is then kept ++ byte ∷ [] else []))
-row_at_skips r at.Between kept byte is is_name reading s room =
-    either (λ x. SkipFits x.at (if is then kept ++ byte ∷ [] else [])) (nat_le byte 4) (Some (row_with r r.more (at.Halfway byte))) None tt tt
-row_at_skips r (at.Halfway high) kept byte is is_name reading s room =
-    begins_place (λ x. SkipFits x.at (if is then kept ++ byte ∷ [] else [])) r (length (if is then kept ++ byte ∷ [] else [])) (left_of high byte) (λ n. (omega arith, room))
-row_at_skips r (at.Text here) kept byte is is_name reading s room =
-    text_keeps (λ x. SkipFits x.at (if is then kept ++ byte ∷ [] else [])) r here byte is_name tt (noted_text kept byte here.skip is (reading refl) s.0, s.1)
-
-row_skips_on : (r : Option Row) (kept : List ℕ) (byte : ℕ) (is is_name : Bool) → (in_row_text r ≡ true → is ≡ true) → IfSome r (λ x. SkipFits x.at kept)
-    → IfSome r (λ x. HalfwayRoom x.at (length (if is then kept ++ byte ∷ [] else [])))
-    → IfSome (row_onward r byte is_name (length (if is then kept ++ byte ∷ [] else []))) (λ x. SkipFits x.at (if is then kept ++ byte ∷ [] else []))
-row_skips_on None kept byte is is_name reading s room = tt
-row_skips_on (Some r) kept byte is is_name reading s room = row_at_skips r r.at kept byte is is_name reading s room
-
--- a row that is halfway leaves no room for a descriptor's name
-halfway_alone : (more place high left : ℕ) (seen back : List ℕ) → FitsHalfway more place high back → FitsName left seen back → ⊥
-halfway_alone more place high left [] back f n =
-    let one = split_cons high f.before n.low (n.high ∷ 0x72 ∷ n.rest) (sym f.split ∙ n.split) in
-    let ends = subst (λ (bs : List ℕ). NameEnds more place bs) one.rest f.behind in
-    true_false (in_text n.high) ends.0 n.small
-halfway_alone more place high left (byte ∷ seen) back f n =
-    let one = split_cons high f.before byte (seen ++ (n.low ∷ n.high ∷ 0x72 ∷ n.rest)) (sym f.split ∙ n.split) in
-    true_false (in_text high) (ap in_text one.same ∙ n.all.0) f.small
-
-halfway_room_by : (back : List ℕ) (name : Option Name) (more place : ℕ) (here : RowAt) (kept : List ℕ) (byte : ℕ) → FitsDescriptor (name_stage name kept) back → FitsRow place (row_at_stage more here kept) back
-    → HalfwayRoom here (length (if is_some name || at_text here then kept ++ byte ∷ [] else []))
-halfway_room_by back name more place at.Between kept byte n f = tt
-halfway_room_by back None more place (at.Halfway high) kept byte n f = omega arith
-halfway_room_by back (Some name) more place (at.Halfway high) kept byte n f = absurd (halfway_alone more place high name.left (reverse kept) back f n)
-halfway_room_by back name more place (at.Text here) kept byte n f = tt
-
-halfway_room : (back : List ℕ) (name : Option Name) (r : Option Row) (place : ℕ) (kept : List ℕ) (byte : ℕ) → FitsDescriptor (name_stage name kept) back → FitsRow place (row_stage r kept) back
-    → IfSome r (λ x. HalfwayRoom x.at (length (if is_some name || in_row_text r then kept ++ byte ∷ [] else [])))
-halfway_room back name None place kept byte n f = tt
-halfway_room back name (Some r) place kept byte n f = halfway_room_by back name r.more place r.at kept byte n f
-
--- ---- what begins
-
-none_reads : (name : Option Name) (kept : List ℕ) → name_stage name kept ≡ nothing → is_some name ≡ false
-none_reads None kept e = refl
-none_reads (Some name) kept e = absurd cc
-
-row_at_lives : (more : ℕ) (here : RowAt) (kept : List ℕ) → row_at_stage more here kept ≡ nothing → ⊥
-row_at_lives more at.Between kept e = absurd cc
-row_at_lives more (at.Halfway high) kept e = absurd cc
-row_at_lives more (at.Text here) kept e = absurd cc
-
-text_lives : (whose : Whose) (left : ℕ) → text whose left [] ≡ nothing → ⊥
-text_lives whose left e = absurd cc
-
-none_row : (r : Option Row) (kept : List ℕ) → row_stage r kept ≡ nothing → r ≡ None
-none_row None kept e = refl
-none_row (Some r) kept e = absurd (row_at_lives r.more r.at kept e)
-
--- the name of a row is not being read where a descriptor's name begins
-text_not_here : (high : ℕ) (rest : List ℕ) (more place left : ℕ) (seen : List ℕ) → in_text high ≡ false → FitsText more place left seen (high ∷ 0x72 ∷ rest) → ⊥
-text_not_here high rest more place left [] small f =
-    let one = split_cons high (0x72 ∷ rest) f.low (f.high ∷ f.before) f.split in
-    let two = split_cons 0x72 rest f.high f.before one.rest in
-    true_false (in_text 0x72) refl (ap in_text two.same ∙ f.small)
-text_not_here high rest more place left (byte ∷ seen) small f =
-    let one = split_cons high (0x72 ∷ rest) byte (seen ++ (f.low ∷ f.high ∷ f.before)) f.split in
-    true_false (in_text high) (ap in_text one.same ∙ f.all.0) small
-
-row_not_text : (back : List ℕ) (byte more place : ℕ) (here : RowAt) (kept : List ℕ) → NewName back byte → FitsRow place (row_at_stage more here kept) back → at_text here ≡ false
-row_not_text back byte more place at.Between kept new f = refl
-row_not_text back byte more place (at.Halfway high) kept new f = refl
-row_not_text back byte more place (at.Text here) kept new f =
-    absurd (text_not_here new.high new.rest more place here.left (reverse (drop here.skip kept)) (high_out new.high byte new.is)
-    (subst (λ (bs : List ℕ). FitsText more place here.left (reverse (drop here.skip kept)) bs) new.split f))
-
-no_row_text : (back : List ℕ) (byte place : ℕ) (r : Option Row) (kept : List ℕ) → NewName back byte → FitsRow place (row_stage r kept) back → in_row_text r ≡ false
-no_row_text back byte place None kept new f = refl
-no_row_text back byte place (Some r) kept new f = row_not_text back byte r.more place r.at kept new f
-
-noted_none : (kept : List ℕ) (byte : ℕ) (a b : Bool) → a ≡ false → b ≡ false → (if a || b then kept ++ byte ∷ [] else []) ≡ []
-noted_none kept byte a b e f = ap (λ c. if c || b then kept ++ byte ∷ [] else []) e ∙ ap (λ c. if c then kept ++ byte ∷ [] else []) f
-
--- where a row begins, at most the first byte of a descriptor's name was read
-name_not_here : (back : List ℕ) (byte left : ℕ) (seen : List ℕ) → NewRow back byte → FitsName left seen back → length seen ≡ 0
-name_not_here back byte left [] new f = omega arith
-name_not_here back byte left (first ∷ seen) new f =
-    let one = split_cons new.high (new.count_low ∷ new.count_high ∷ 0 ∷ 0 ∷ 0x7D ∷ new.rest) first (seen ++ (f.low ∷ f.high ∷ 0x72 ∷ f.rest)) (sym new.split ∙ f.split) in
-    absurd (true_false (in_text new.high) (ap in_text one.same ∙ f.all.0) (high_out new.high byte new.is))
-
-few_kept : (back : List ℕ) (byte : ℕ) (name : Option Name) (kept : List ℕ) → NewRow back byte → FitsDescriptor (name_stage name kept) back
-    → length (if is_some name || false then kept ++ byte ∷ [] else []) ≤ 1
-few_kept back byte None kept new f = omega arith
-few_kept back byte (Some name) kept new f =
-    omega (arith, name_not_here back byte name.left (reverse kept) new f, length-reverse kept, length-append kept (byte ∷ []))
+row_left_of : (a byte count : ℕ) (b : Begun) (is some : Bool) → (if is then (if some then begun (count - 1) (left_of a byte) else None) else None) ≡ Some b → left_of a byte ≡ Some b.left
+row_left_of a byte count b true true e = begun_of (count - 1) (left_of a byte) b e
+row_left_of a byte count b true false e = absurd cc
+row_left_of a byte count b false some e = absurd cc
 
 -- ---- all of it after a byte
 
-abbrev NameFollows : Slot → Option Name → (kept : List ℕ) → Type 0
-NameFollows s name kept = (s.stage ≡ name_stage name kept) × IfSome name (λ n. s.place ≡ n.place)
+name_follows : (back : List ℕ) (s : Slot) (n : Option Name) (byte count : ℕ) (kept : List ℕ) (joined : Taken) (left : Option ℕ) → count ≡ length back → name_left (recent_of back) byte ≡ left
+    → Has s (name_place n) (name_stage n kept) → IsJoined (took (name_group n) byte) joined → SkipFits (name_group n) kept
+    → (let new = name_after count (length (kept_with kept joined)) left (name_with n byte) in
+    Has (filled (length back - 2) (new_name back byte) (moved s byte)) (name_place new) (name_stage new (kept_with kept joined)))
+name_follows back s n byte count kept joined None c e h j f =
+    let none : new_name back byte ≡ nothing = name_left_stage back byte ∙ ap (stage_left descriptor) e in
+    let same : filled (length back - 2) (new_name back byte) (moved s byte) ≡ moved s byte = ap (λ x. filled (length back - 2) x (moved s byte)) none in
+    subst (λ (x : Slot). Has x (name_place (name_onward (name_with n byte))) (name_stage (name_onward (name_with n byte)) (kept_with kept joined))) (sym same) (record {
+      stage_is = ap (λ x. next x byte) h.stage_is ∙ ap (λ x. onward x byte) (name_noted n byte kept joined j f) ∙ name_gone (name_with n byte) byte (kept_with kept joined);
+      place_is = name_place_on s.place (name_with n byte) (name_place_with s.place n byte h.place_is);
+    })
+name_follows back s n byte count kept joined (Some left) c e h j f =
+    let is : new_name back byte ≡ text descriptor left no_units = name_left_stage back byte ∙ ap (stage_left descriptor) e in
+    let same : filled (length back - 2) (new_name back byte) (moved s byte) ≡ record { place = length back - 2; stage = text descriptor left no_units } =
+    ap (λ x. filled (length back - 2) x (moved s byte)) is in
+    let new = kept_with kept joined in
+    subst (λ (x : Slot). Has x (Some (count - 2)) (text_stage descriptor (new_text (length new) left) new)) (sym same) (record {
+      stage_is = ap (λ us. text descriptor left (naming us place.First)) (sym (drop_all (length new) new (omega arith)));
+      place_is = ap (λ (k : ℕ). k - 2) (sym c);
+    })
 
-name_follows_by : (back : List ℕ) (scan : Scanning) (byte : ℕ) (left : Option ℕ) → AreBytes back → Follows back scan → name_left (recent_of back) byte ≡ left
-    → NameFollows (filled (length back - 2) (new_name back byte) (moved (slots_of back).name byte)) (name_after scan.count left scan.name byte) (noted scan byte)
-name_follows_by back scan byte None are f e =
-    let none : new_name back byte ≡ nothing = name_left_stage back byte ∙ ap (λ o. stage_left descriptor o) e in
-    subst (λ (s : Slot). NameFollows s (name_onward scan.name byte) (noted scan byte)) (sym (slot.name_moved back byte (slots_of back).name none)) (
-      ap (λ s. next s byte) f.name ∙ name_goes_on scan.name scan.kept byte (is_reading scan) (or_first (is_some scan.name) (in_row_text scan.row)),
-      name_place_on (slots_of back).name.place scan.name byte f.name_place,
-    )
-name_follows_by back scan byte (Some left) are f e = elim (new_name_cases back byte) [
-  | inl none ↦
-      let new : text descriptor left [] ≡ nothing = sym (name_left_stage back byte ∙ ap (λ o. stage_left descriptor o) e) ∙ none in
-      absurd cc
-  | inr new ↦
-      let is : new_name back byte ≡ text descriptor left [] = name_left_stage back byte ∙ ap (λ o. stage_left descriptor o) e in
-      let fits = slots_fit back are in
-      let no_name : is_some scan.name ≡ false = none_reads scan.name scan.kept (sym f.name ∙ no_old_name back byte (slots_of back).name.stage new fits.name) in
-      let no_text : in_row_text scan.row ≡ false =
-      no_row_text back byte (slots_of back).row.place scan.row scan.kept new (subst (λ s. FitsRow (slots_of back).row.place s back) f.row fits.row) in
-      subst (λ (s : Slot). NameFollows s (Some (record { place = scan.count - 2; left = left })) (noted scan byte))
-      (sym (ap (λ s. filled (length back - 2) s (moved (slots_of back).name byte)) is)) (
-        ap (λ (xs : List ℕ). text descriptor left (reverse xs)) (sym (noted_none scan.kept byte (is_some scan.name) (in_row_text scan.row) no_name no_text)),
-        ap (λ (n : ℕ). n - 2) (sym f.count),
-      )
-]
+row_follows : (wanted : ℕ → Bool) (back : List ℕ) (s : Slot) (r : Option Row) (byte count : ℕ) (kept : List ℕ) (joined : Taken) (b : Option Begun) (is : Bool) → count ≡ length back
+    → wanted (length back - 6) ≡ is → row_left (recent_of back) byte ≡ b → Has s (row_place r) (row_stage r kept) → IsJoined (took (row_group r) byte) joined → SkipFits (row_group r) kept
+    → (let new = row_after is (count - 6) (length (kept_with kept joined)) b (row_with r byte) byte in
+    Has (row_filled wanted back byte s) (row_place new) (row_stage new (kept_with kept joined)))
+row_follows wanted back s r byte count kept joined (Some b) true c w e h j f =
+    let begins : new_row back byte ≡ text (row b.more) b.left no_units = row_left_stage back byte ∙ ap stage_begun e in
+    let same : row_filled wanted back byte s ≡ record { place = length back - 6; stage = text (row b.more) b.left no_units } =
+    ap (λ x. filled (length back - 6) (if_wanted x (new_row back byte)) (moved s byte)) w ∙ ap (λ x. filled (length back - 6) x (moved s byte)) begins in
+    let new = kept_with kept joined in
+    subst (λ (x : Slot). Has x (Some (count - 6)) (text_stage (row b.more) (new_text (length new) b.left) new)) (sym same) (record {
+      stage_is = ap (λ us. text (row b.more) b.left (naming us place.First)) (sym (drop_all (length new) new (omega arith)));
+      place_is = ap (λ (k : ℕ). k - 6) (sym c);
+    })
+row_follows wanted back s r byte count kept joined (Some b) false c w e h j f =
+    let same : row_filled wanted back byte s ≡ moved s byte = ap (λ x. filled (length back - 6) (if_wanted x (new_row back byte)) (moved s byte)) w in
+    subst (λ (x : Slot). Has x (row_place (row_onward (row_with r byte) byte (length (kept_with kept joined)))) (row_stage (row_onward (row_with r byte) byte (length (kept_with kept joined))) (kept_with kept joined))) (sym same) (record {
+      stage_is = ap (λ x. next x byte) h.stage_is ∙ ap (λ x. onward x byte) (row_noted r byte kept joined j f) ∙ row_gone (row_with r byte) byte (kept_with kept joined);
+      place_is = row_place_on s.place (row_with r byte) byte (length (kept_with kept joined)) (row_place_with s.place r byte h.place_is);
+    })
+row_follows wanted back s r byte count kept joined None is c w e h j f =
+    let none : new_row back byte ≡ nothing = row_left_stage back byte ∙ ap stage_begun e in
+    let same : row_filled wanted back byte s ≡ moved s byte =
+    ap (λ x. filled (length back - 6) (if_wanted (wanted (length back - 6)) x) (moved s byte)) none ∙ ap (λ x. filled (length back - 6) x (moved s byte)) (slot.unwanted (wanted (length back - 6))) in
+    subst (λ (x : Slot). Has x (row_place (row_onward (row_with r byte) byte (length (kept_with kept joined)))) (row_stage (row_onward (row_with r byte) byte (length (kept_with kept joined))) (kept_with kept joined))) (sym same) (record {
+      stage_is = ap (λ x. next x byte) h.stage_is ∙ ap (λ x. onward x byte) (row_noted r byte kept joined j f) ∙ row_gone (row_with r byte) byte (kept_with kept joined);
+      place_is = row_place_on s.place (row_with r byte) byte (length (kept_with kept joined)) (row_place_with s.place r byte h.place_is);
+    })
 
-abbrev RowFollows : Slot → Option Row → (kept : List ℕ) → Type 0
-RowFollows s r kept = (s.stage ≡ row_stage r kept) × IfSome r (λ x. s.place ≡ x.place) × IfSome r (λ x. SkipFits x.at kept)
+name_after_good : (back : List ℕ) (n : Option Name) (byte count : ℕ) (kept : List ℕ) (joined : Taken) (left : Option ℕ) → name_left (recent_of back) byte ≡ left
+    → (in_name (ago back 0) ≡ false → kept ≡ []) → ReadName (kept_with kept joined) joined (name_with n byte)
+    → Good (kept_with kept joined) joined (name_group (name_after count (length (kept_with kept joined)) left (name_with n byte)))
+name_after_good back n byte count kept joined None e last r = name_good (kept_with kept joined) joined (name_with n byte) r
+name_after_good back n byte count kept joined (Some left) e last r =
+    good_new (kept_with kept joined) joined left (room_for back kept joined byte left last (name_left_of (ago back 0) (ago back 1) byte left (ago back 1 == 0x72) e))
 
--- the row that was there goes on
-row_follows_moved : (back : List ℕ) (scan : Scanning) (byte : ℕ) (is_name : Bool) → AreBytes back → Follows back scan
-    → IsName is_name (ended (row_stage scan.row scan.kept) byte)
-    → RowFollows (moved (slots_of back).row byte) (row_onward scan.row byte is_name (length (noted scan byte))) (noted scan byte)
-row_follows_moved back scan byte is_name are f i =
-    let fits = slots_fit back are in
-    let reading = or_second (is_some scan.name) (in_row_text scan.row) in (
-      ap (λ s. next s byte) f.row ∙ row_goes_on scan.row scan.kept byte (is_reading scan) is_name reading f.skips i,
-      row_place_on (slots_of back).row.place scan.row byte is_name (length (noted scan byte)) f.row_place,
-      row_skips_on scan.row scan.kept byte (is_reading scan) is_name reading f.skips
-          (halfway_room back scan.name scan.row (slots_of back).row.place scan.kept byte (subst (λ s. FitsDescriptor s back) f.name fits.name)
-          (subst (λ s. FitsRow (slots_of back).row.place s back) f.row fits.row)),
-    )
+row_after_good : (back : List ℕ) (r : Option Row) (byte at_place : ℕ) (kept : List ℕ) (joined : Taken) (b : Option Begun) (is : Bool) → row_left (recent_of back) byte ≡ b
+    → (in_name (ago back 0) ≡ false → kept ≡ []) → ReadRow (kept_with kept joined) joined (row_with r byte) → HalfRow (row_with r byte) byte (kept_with kept joined)
+    → GoodRow (kept_with kept joined) joined (row_after is at_place (length (kept_with kept joined)) b (row_with r byte) byte)
+row_after_good back r byte at_place kept joined None is e last x h = row_good (kept_with kept joined) joined (row_with r byte) byte x h
+row_after_good back r byte at_place kept joined (Some b) false e last x h = row_good (kept_with kept joined) joined (row_with r byte) byte x h
+row_after_good back r byte at_place kept joined (Some b) true e last x h =
+    good_new (kept_with kept joined) joined b.left (room_for back kept joined byte b.left last
+    (row_left_of (ago back 0) byte (ago back 2 * 256 + ago back 1) b (ago back 5 == 0x7D && (ago back 4 == 0 && ago back 3 == 0)) (nat_le 1 (ago back 2 * 256 + ago back 1)) e))
 
-or_none : (r : Option Row) → row_or r None ≡ r
-or_none None = refl
-or_none (Some r) = refl
+-- what follows of that
+good_skip : (kept : List ℕ) (joined : Taken) (o : Option Text) → Good kept joined o → SkipFits o kept
+good_skip kept joined None g = tt
+good_skip kept joined (Some t) g = g.skip
 
-or_some : (r : Option Row) (new : Option Row) (kept : List ℕ) → (row_stage r kept ≡ nothing → ⊥) → row_or r new ≡ r
-or_some None new kept live = absurd (live refl)
-or_some (Some r) new kept live = refl
+same_group : (joined : Taken) (a b : Place) → (a ≡ group_after joined) ⊎ (a ≡ place.First) → (b ≡ group_after joined) ⊎ (b ≡ place.First) → SameGroup a b
+same_group joined a b (inl e) (inl d) = inl (e ∙ sym d)
+same_group joined a b (inl e) (inr d) = inr (inr d)
+same_group joined a b (inr e) x = inr (inl e)
 
-row_begins_here : (back : List ℕ) (scan : Scanning) (byte : ℕ) (b : Begun) → AreBytes back → Follows back scan → NewRow back byte → scan.row ≡ None
-    → new_row back byte ≡ text (row b.more) b.left [] → (is_name : Bool)
-    → RowFollows (filled (length back - 6) (new_row back byte) (moved (slots_of back).row byte))
-    (row_or (row_onward scan.row byte is_name (length (noted scan byte))) (row_begins scan.count (length (noted scan byte)) (Some b))) (noted scan byte)
-row_begins_here back scan byte b are f new none is is_name =
-    let fits = slots_fit back are in
-    let few : length (noted scan byte) ≤ 1 =
-    subst (λ r. length (if is_some scan.name || in_row_text r then scan.kept ++ byte ∷ [] else []) ≤ 1) (sym none)
-    (few_kept back byte scan.name scan.kept new (subst (λ s. FitsDescriptor s back) f.name fits.name)) in
-    let here = row_begins scan.count (length (noted scan byte)) (Some b) in
-    let same : row_or (row_onward scan.row byte is_name (length (noted scan byte))) here ≡ here =
-    ap (λ r. row_or (row_onward r byte is_name (length (noted scan byte))) here) none in
-    subst (λ r. RowFollows (filled (length back - 6) (new_row back byte) (moved (slots_of back).row byte)) r (noted scan byte)) (sym same)
-    (subst (λ (s : Slot). RowFollows s here (noted scan byte)) (sym (ap (λ s. filled (length back - 6) s (moved (slots_of back).row byte)) is)) (
-      ap (λ (xs : List ℕ). text (row b.more) b.left (reverse xs)) (sym (drop_all (length (noted scan byte)) (noted scan byte) (omega arith))),
-      ap (λ (n : ℕ). n - 6) (sym f.count),
-      (omega arith, few),
-    ))
+agree_by : (joined : Taken) (p q : Option ℕ) (a b : Place) → IfSome p (λ _. (a ≡ group_after joined) ⊎ (a ≡ place.First)) → IfSome q (λ _. (b ≡ group_after joined) ⊎ (b ≡ place.First))
+    → IfSome p (λ _. IfSome q (λ _. SameGroup a b))
+agree_by joined None q a b x y = tt
+agree_by joined (Some p) None a b x y = tt
+agree_by joined (Some p) (Some q) a b x y = same_group joined a b x y
 
-row_filled_new : (back : List ℕ) (byte : ℕ) (s : Slot) → s.stage ≡ nothing
-    → row_filled (length back - 6) (new_row back byte) (moved s byte) ≡ filled (length back - 6) (new_row back byte) (moved s byte)
-row_filled_new back byte s e = ap (λ t. if has_begun (next t byte) then moved s byte else filled (length back - 6) (new_row back byte) (moved s byte)) e
+good_agree : (kept : List ℕ) (joined : Taken) (a b : Option Text) → Good kept joined a → Good kept joined b → Agree a b
+good_agree kept joined None b x y = tt
+good_agree kept joined (Some a) None x y = tt
+good_agree kept joined (Some a) (Some b) x y = agree_by joined a.skip b.skip a.group b.group x.aligned y.aligned
 
-row_follows_by : (back : List ℕ) (scan : Scanning) (byte : ℕ) (b : Option Begun) (is_name : Bool) → AreBytes back → Follows back scan → row_left (recent_of back) byte ≡ b
-    → IsName is_name (ended (row_stage scan.row scan.kept) byte)
-    → RowFollows (row_filled (length back - 6) (new_row back byte) (moved (slots_of back).row byte)) (row_after scan.count (length (noted scan byte)) b scan.row byte is_name) (noted scan byte)
-row_follows_by back scan byte None is_name are f e i =
-    let none : new_row back byte ≡ nothing = row_left_stage back byte ∙ ap (λ o. stage_begun o) e in
-    subst (λ r. RowFollows (row_filled (length back - 6) (new_row back byte) (moved (slots_of back).row byte)) r (noted scan byte))
-    (sym (or_none (row_onward scan.row byte is_name (length (noted scan byte)))))
-    (subst (λ (s : Slot). RowFollows s (row_onward scan.row byte is_name (length (noted scan byte))) (noted scan byte)) (sym (slot.row_moved back byte (slots_of back).row none))
-    (row_follows_moved back scan byte is_name are f i))
-row_follows_by back scan byte (Some b) is_name are f e i = elim (new_row_cases back byte) [
-  | inl none ↦
-      let new : text (row b.more) b.left [] ≡ nothing = sym (row_left_stage back byte ∙ ap (λ o. stage_begun o) e) ∙ none in
-      absurd cc
-  | inr new ↦ elim (old_row back byte (slots_of back).row.place (slots_of back).row.stage are new (slots_fit back are).row) [
-    | inl gone ↦
-        subst (λ (s : Slot). RowFollows s (row_after scan.count (length (noted scan byte)) (Some b) scan.row byte is_name) (noted scan byte))
-        (sym (row_filled_new back byte (slots_of back).row gone))
-        (row_begins_here back scan byte b are f new (none_row scan.row scan.kept (sym f.row ∙ gone)) (row_left_stage back byte ∙ ap (λ o. stage_begun o) e) is_name)
-    | inr old ↦
-        let on = row_follows_moved back scan byte is_name are f i in
-        let stage : row_stage (row_onward scan.row byte is_name (length (noted scan byte))) (noted scan byte) ≡ text (row old.more_here) (new.high * 256 + byte - 1) [] =
-        sym on.0 ∙ ap (λ s. next s byte) old.is ∙ slot.halfway_next old.more_here new.high byte new.is in
-        subst (λ (s : Slot). RowFollows s (row_after scan.count (length (noted scan byte)) (Some b) scan.row byte is_name) (noted scan byte))
-        (sym (slot.row_shared back byte old.more_here new.high (slots_of back).row (new_row back byte) (length back - 6) old.is new.is))
-        (subst (λ r. RowFollows (moved (slots_of back).row byte) r (noted scan byte))
-        (sym (or_some (row_onward scan.row byte is_name (length (noted scan byte))) (row_begins scan.count (length (noted scan byte)) (Some b)) (noted scan byte)
-        (λ none. text_lives (row old.more_here) (new.high * 256 + byte - 1) (sym stage ∙ none)))) on)
-  ]
-]
+name_fits : (kept : List ℕ) (joined : Taken) (n : Option Name) → Good kept joined (name_group n) → NameFits n
+name_fits kept joined None g = tt
+name_fits kept joined (Some n) g = g.fits
 
--- no hidden name ended, so one that ended passes
-not_hidden : (a : Ended) (place : ℕ) → lower a (end.Hidden place) ≡ None → ⊥
-not_hidden end.No place e = absurd cc
-not_hidden end.Passes place e = absurd cc
-not_hidden (end.Hidden at) place e = absurd cc
+at_fits : (kept : List ℕ) (joined : Taken) (here : RowAt) → Good kept joined (at_group here) → AtFits here
+at_fits kept joined at.Between g = tt
+at_fits kept joined (at.Halfway high) g = tt
+at_fits kept joined (at.Text t) g = g.fits
 
-passed_by : (passes : List ℕ → Bool) (a : Ended) (place : ℕ) (is : Bool) → lower a (if is then end.Passes else end.Hidden place) ≡ None → is_passed (if is then end.Passes else end.Hidden place) ≡ true
-passed_by passes a place true e = refl
-passed_by passes a place false e = absurd (not_hidden a place e)
+row_fits : (kept : List ℕ) (joined : Taken) (r : Option Row) → GoodRow kept joined r → RowFits r
+row_fits kept joined None g = tt
+row_fits kept joined (Some r) g = at_fits kept joined r.at g
 
-passed_as : (passes : List ℕ → Bool) (a : Ended) (place : ℕ) (name : Option (List ℕ)) → lower a (ended_as passes place name) ≡ None → IsName (is_passed (ended_as passes place name)) name
-passed_as passes a place None e = refl
-passed_as passes a place (Some units) e = passed_by passes a place (passes units) e
+-- a byte that is in no name leaves nothing
+low_taken : (skip : Option ℕ) (n : Bool) (x : Taken) → n ≡ false → (if is_some skip && n then x else taken.Refused) ≡ taken.Refused
+low_taken None n x e = refl
+low_taken (Some k) n x e = ap (λ b. if b then x else taken.Refused) e
 
-pub follows_byte : (passes : List ℕ → Bool) (back : List ℕ) (scan : Scanning) (byte : ℕ) → AreBytes back → Follows back scan → length back < 0xFFFFFFFFFFFFFFFF
-    → scan_hidden passes scan byte ≡ None → Follows (byte ∷ back) (scan_after passes scan byte)
-follows_byte passes back scan byte are f fits none =
-    let e = row_ended passes scan.row (noted scan byte) in
-    let same = row_ended_same passes back scan byte are f in
-    let is_name : IsName (is_passed e) (ended (row_stage scan.row scan.kept) byte) =
-    subst (λ x. IsName (is_passed x) (ended (row_stage scan.row scan.kept) byte)) (sym same)
-    (passed_as passes (name_ended passes scan.name (noted scan byte)) (slots_of back).row.place (ended (row_stage scan.row scan.kept) byte)
-    (ap (λ x. lower (name_ended passes scan.name (noted scan byte)) x) (sym same) ∙ none)) in
-    let n = subst (λ o. NameFollows (filled (length back - 2) (new_name back byte) (moved (slots_of back).name byte)) (name_after scan.count o scan.name byte) (noted scan byte))
-    (ap (λ r. name_left r byte) (sym f.recent)) (name_follows_by back scan byte (name_left (recent_of back) byte) are f refl) in
-    let r = subst (λ o. RowFollows (row_filled (length back - 6) (new_row back byte) (moved (slots_of back).row byte)) (row_after scan.count (length (noted scan byte)) o scan.row byte (is_passed e)) (noted scan byte))
-    (ap (λ r. row_left r byte) (sym f.recent)) (row_follows_by back scan byte (row_left (recent_of back) byte) (is_passed e) are f refl is_name) in
+low_took : (o : Option Text) (byte : ℕ) → in_name byte ≡ false → took o byte ≡ taken.Refused
+low_took None byte e = refl
+low_took (Some t) byte e = low_taken t.skip (in_name byte) (take_byte t.group byte) e
+
+low_kept : (scan : Scanning) (byte : ℕ) → in_name byte ≡ false → kept_with scan.kept (taken_by scan byte) ≡ []
+low_kept scan byte e =
+    let n : name_took scan.name byte ≡ taken.Refused = name_took_is scan.name byte ∙ low_took (name_group scan.name) byte e in
+    let v : row_taken scan.even byte ≡ taken.Refused = row_took_is scan.even byte ∙ low_took (row_group scan.even) byte e in
+    let o : row_taken scan.odd byte ≡ taken.Refused = row_took_is scan.odd byte ∙ low_took (row_group scan.odd) byte e in
+    ap (λ x. kept_with scan.kept (or_taken x (or_taken (row_taken scan.even byte) (row_taken scan.odd byte)))) n
+    ∙ ap (λ x. kept_with scan.kept (or_taken x (row_taken scan.odd byte))) v ∙ ap (kept_with scan.kept) o
+
+-- and there is room
+abbrev Fewer : List ℕ → Taken → Type 0
+Fewer kept t = (t ≡ taken.Refused) ⊎ (length kept < 9216)
+
+fewer_by : (kept : List ℕ) (skip : Option ℕ) (left : ℕ) (n : Bool) (x : Taken) → Roomy skip left kept → Fewer kept (if is_some skip && n then x else taken.Refused)
+fewer_by kept None left n x r = inl refl
+fewer_by kept (Some k) left false x r = inl refl
+fewer_by kept (Some k) left true x r = inr (omega (arith, r.1))
+
+fewer : (kept : List ℕ) (o : Option Text) (byte : ℕ) → SkipFits o kept → Fewer kept (took o byte)
+fewer kept None byte s = inl refl
+fewer kept (Some t) byte s = fewer_by kept t.skip t.left (in_name byte) (take_byte t.group byte) s
+
+fewer_or : (kept : List ℕ) (a b : Taken) → Fewer kept a → Fewer kept b → Fewer kept (or_taken a b)
+fewer_or kept (taken.Unit unit) b x y = x
+fewer_or kept (taken.Part here) b x y = x
+fewer_or kept taken.Refused b x y = y
+
+fewer_kept : (kept : List ℕ) (t : Taken) → Fewer kept t → length kept ≤ 9216 → length (kept_with kept t) ≤ 9216
+fewer_kept kept (taken.Unit unit) (inl e) most = absurd (unit_refused unit e)
+fewer_kept kept (taken.Unit unit) (inr less) most = omega (arith, less, length-append kept (unit ∷ []))
+fewer_kept kept (taken.Part here) f most = most
+fewer_kept kept taken.Refused f most = omega arith
+
+pub few_after : (back : List ℕ) (scan : Scanning) (byte : ℕ) → Follows back scan → length (kept_with scan.kept (taken_by scan byte)) ≤ 9216
+few_after back scan byte f =
+    let n = subst (λ x. Fewer scan.kept x) (sym (name_took_is scan.name byte)) (fewer scan.kept (name_group scan.name) byte f.name_skip) in
+    let v = subst (λ x. Fewer scan.kept x) (sym (row_took_is scan.even byte)) (fewer scan.kept (row_group scan.even) byte f.even_skip) in
+    let o = subst (λ x. Fewer scan.kept x) (sym (row_took_is scan.odd byte)) (fewer scan.kept (row_group scan.odd) byte f.odd_skip) in
+    fewer_kept scan.kept (taken_by scan byte)
+    (fewer_or scan.kept (name_took scan.name byte) (or_taken (row_taken scan.even byte) (row_taken scan.odd byte)) n (fewer_or scan.kept (row_taken scan.even byte) (row_taken scan.odd byte) v o)) f.few
+
+pub follows_byte : (back : List ℕ) (scan : Scanning) (byte : ℕ) → Follows back scan → byte < 256 → length back < 0xFFFFFFFFFFFFFFFF → Follows (byte ∷ back) (scan_after scan byte)
+follows_byte back scan byte f small fits =
+    let all = all_joined back scan byte f in
+    let joined = taken_by scan byte in
+    let kept = kept_with scan.kept joined in
+    let slots = slots_fit back in
+    let left_same : name_left scan.recent byte ≡ name_left (recent_of back) byte = ap (λ r. name_left r byte) f.recent in
+    let row_same : row_left scan.recent byte ≡ row_left (recent_of back) byte = ap (λ r. row_left r byte) f.recent in
+    let even_kind : is_even (length back - 6) ≡ is_even (scan.count - 6) = ap (λ (n : ℕ). is_even (n - 6)) (sym f.count) in
+    let odd_kind : is_odd (length back - 6) ≡ is_odd (scan.count - 6) = ap (λ (n : ℕ). is_odd (n - 6)) (sym f.count) in
+    let even_half = half_row back is_even (slots_of back).even.place scan.even byte scan.kept joined (subst (λ s. FitsRow is_even (slots_of back).even.place s back) f.even.stage_is slots.even) f.last in
+    let odd_half = half_row back is_odd (slots_of back).odd.place scan.odd byte scan.kept joined (subst (λ s. FitsRow is_odd (slots_of back).odd.place s back) f.odd.stage_is slots.odd) f.last in
+    let name_reading = name_reads scan.name byte scan.kept joined all.name f.name_skip f.name_fits small in
+    let even_reading = row_reads scan.even byte scan.kept joined all.even f.even_skip f.even_fits small in
+    let odd_reading = row_reads scan.odd byte scan.kept joined all.odd f.odd_skip f.odd_fits small in
+    let n_good = name_after_good back scan.name byte scan.count scan.kept joined (name_left scan.recent byte) (sym left_same) f.last name_reading in
+    let e_good = row_after_good back scan.even byte (scan.count - 6) scan.kept joined (row_left scan.recent byte) (is_even (scan.count - 6)) (sym row_same) f.last even_reading even_half in
+    let o_good = row_after_good back scan.odd byte (scan.count - 6) scan.kept joined (row_left scan.recent byte) (is_odd (scan.count - 6)) (sym row_same) f.last odd_reading odd_half in
+    let new = scan_after scan byte in
     record {
       count = omega (arith, f.count, fits);
-      recent = ap (λ x. with_byte x byte) f.recent;
-      name = n.0;
-      name_place = n.1;
-      row = r.0;
-      row_place = r.1;
-      skips = r.2;
+      recent = ap (λ x. recent_with x byte) f.recent;
+      name = name_follows back (slots_of back).name scan.name byte scan.count scan.kept joined (name_left scan.recent byte) f.count (sym left_same) f.name all.name f.name_skip;
+      even = row_follows is_even back (slots_of back).even scan.even byte scan.count scan.kept joined (row_left scan.recent byte) (is_even (scan.count - 6)) f.count even_kind (sym row_same) f.even all.even f.even_skip;
+      odd = row_follows is_odd back (slots_of back).odd scan.odd byte scan.count scan.kept joined (row_left scan.recent byte) (is_odd (scan.count - 6)) f.count odd_kind (sym row_same) f.odd all.odd f.odd_skip;
+      name_skip = good_skip kept joined (name_group new.name) n_good;
+      even_skip = good_skip kept joined (row_group new.even) e_good;
+      odd_skip = good_skip kept joined (row_group new.odd) o_good;
+      name_even = good_agree kept joined (name_group new.name) (row_group new.even) n_good e_good;
+      name_odd = good_agree kept joined (name_group new.name) (row_group new.odd) n_good o_good;
+      even_odd = good_agree kept joined (row_group new.even) (row_group new.odd) e_good o_good;
+      last = λ e. low_kept scan byte e;
+      few = few_after back scan byte f;
+      name_fits = name_fits kept joined new.name n_good;
+      even_fits = row_fits kept joined new.even e_good;
+      odd_fits = row_fits kept joined new.odd o_good;
     }

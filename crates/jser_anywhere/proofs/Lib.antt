@@ -1,3 +1,4 @@
+mod CoreLemmas
 pub mod NameLemmas
 pub mod RowLemmas
 pub mod PlaceLemmas

@@ -3,8 +3,8 @@ use Rattle.std.proofs.Common.{◌≡◌, ◌<◌, ◌≤◌, ℕ, ◌+◌, ◌-�
 use Rattle.std.specs.Prelude.{nat_lt, nat_le}
 use Rattle.std.specs.Option.{option_map}
 use Rattle.std.proofs.lemmas.Bool.Decides.{nat_tests}
-use Rattle.jser_anywhere.specs.Texts.{take_byte, loose_from, loose_step, goes_on}
-use Rattle.jser_anywhere.specs.LooseText.{Group, one, two, three, IsGroup, group_bytes, group_unit, AreGroups, IsLooseText, ReadsLoose}
+use Rattle.jser_anywhere.specs.Texts.{take_byte, loose_from, loose_step, goes_on, in_row, row_from, row_units}
+use Rattle.jser_anywhere.specs.LooseText.{Group, one, two, three, IsGroup, group_bytes, group_unit, AreGroups, IsLooseText, ReadsLoose, AreInRow, ReadsRows}
 use Rattle.jser_anywhere.specs.declared.text.Place.{Place}
 use Rattle.jser_anywhere.specs.declared.text.Place.TheVariants as place
 use Rattle.jser_anywhere.specs.declared.text.Taken.{Taken}
@@ -138,3 +138,50 @@ rest_read (byte ∷ bytes) (place.Last high) units e = last_byte high byte bytes
 
 pub reads_loose : ReadsLoose
 reads_loose = record { all = λ bytes units text. groups_read text.groups bytes units text.are; only = λ bytes units e. rest_read bytes place.First units e }
+
+-- ---- texts with no byte below 20
+
+in_row_is : (byte : ℕ) → 0x20 ≤ byte → in_row byte ≡ true
+in_row_is byte high = grind (arith, nat_tests, high)
+
+same_step : (f g : Place → Option (List ℕ)) (t : Taken) → ((at : Place) → f at ≡ g at) → loose_step f t ≡ loose_step g t
+same_step f g (taken.Unit unit) same = ap (λ o. option_map (λ us. unit ∷ us) o) (same place.First)
+same_step f g (taken.Part next) same = same next
+same_step f g taken.Refused same = refl
+
+row_is_loose : (bytes : List ℕ) (at : Place) → AreInRow bytes → row_from bytes at ≡ loose_from bytes at
+row_is_loose [] at are = refl
+row_is_loose (byte ∷ bytes) at are =
+    ap (λ b. if b then loose_step (row_from bytes) (take_byte at byte) else None) (in_row_is byte are.0)
+    ∙ same_step (row_from bytes) (loose_from bytes) (take_byte at byte) (λ here. row_is_loose bytes here are.1)
+
+record RowRest (bytes : List ℕ) : Type 0 where
+  pub at : Place
+  pub units : List ℕ
+  pub is : row_from bytes at ≡ Some units
+
+rest_of : (bytes units : List ℕ) (t : Taken) → loose_step (row_from bytes) t ≡ Some units → RowRest bytes
+rest_of bytes units (taken.Unit unit) e = let s = split_unit unit (row_from bytes place.First) units e in record { at = place.First; units = s.later; is = s.is }
+rest_of bytes units (taken.Part next) e = record { at = next; units = units; is = e }
+rest_of bytes units taken.Refused e = absurd cc
+
+first_in_row : (at : Place) (byte : ℕ) (bytes units : List ℕ) (is : Bool) → in_row byte ≡ is → (if is then loose_step (row_from bytes) (take_byte at byte) else None) ≡ Some units → (0x20 ≤ byte) × RowRest bytes
+first_in_row at byte bytes units false i e = absurd cc
+first_in_row at byte bytes units true i e = (grind (arith, nat_tests, i), rest_of bytes units (take_byte at byte) e)
+
+are_in_row : (bytes : List ℕ) → RowRest bytes → AreInRow bytes
+are_in_row [] r = tt
+are_in_row (byte ∷ bytes) r = let f = first_in_row r.at byte bytes r.units (in_row byte) refl r.is in (f.0, are_in_row bytes f.1)
+
+row_all : (bytes units : List ℕ) → IsLooseText bytes units → AreInRow bytes → row_units bytes ≡ Some units
+unfolding row_units
+row_all bytes units text are = row_is_loose bytes place.First are ∙ groups_read text.groups bytes units text.are
+
+row_only : (bytes units : List ℕ) → row_units bytes ≡ Some units → IsLooseText bytes units × AreInRow bytes
+unfolding row_units
+row_only bytes units e =
+    let are = are_in_row bytes (record { at = place.First; units = units; is = e }) in
+    (rest_read bytes place.First units (sym (row_is_loose bytes place.First are) ∙ e), are)
+
+pub reads_rows : ReadsRows
+reads_rows = record { all = row_all; only = row_only }

@@ -2,9 +2,11 @@
 use Rattle.std.proofs.Common.{◌≡◌, ℕ, zero, suc, ◌+◌, ◌*◌, ap, sym, subst, refl, Bool, true, false, ◌&&◌, ◌==◌, inl, inr, if◌then◌else◌, Option, Some, None, List, [], ◌∷◌, ◌++◌, drop, arith, eqb-true}
 use Rattle.std.specs.Prelude.{◌⊎◌}
 use Rattle.jser_anywhere.specs.Search.{text_of, text_end}
-use Rattle.jser_anywhere.specs.Standing.{BeginsName, BeginsRow, Begins}
-use Rattle.jser_anywhere.specs.NamesIn.{Named, IsNamed, NamesStand, AllAreNamed, named_then, row_names, no_row, interface_row, row_of, names_at, names_in}
-use Rattle.jser_anywhere.proofs.PlaceLemmas.{text_stands, text_tells}
+use Rattle.jser_anywhere.specs.Texts.{row_units}
+use Rattle.jser_anywhere.specs.Names.{core}
+use Rattle.jser_anywhere.specs.Standing.{BeginsText, BeginsName, BeginsRow, Begins}
+use Rattle.jser_anywhere.specs.NamesIn.{Named, IsNamed, NamesStand, AllAreNamed, named_or, named_then, row_names, no_row, interface_row, row_of, names_at, names_in}
+use Rattle.jser_anywhere.proofs.PlaceLemmas.{text_stands, text_tells, as_text, as_name}
 use Rattle.jser_anywhere.proofs.FirstLemmas.{begins_none}
 
 -- ---- a row
@@ -15,37 +17,53 @@ record RowNamed (from most at : ℕ) (bytes : List ℕ) (f to : ℕ) (units : Li
   pub row : BeginsRow most bytes end units
   pub ends : to ≡ at + end
 
+row_later : (from most at f to : ℕ) (bytes units text : List ℕ) → BeginsText row_units bytes (text_end bytes) text
+    → RowNamed from most (at + text_end bytes) (drop (text_end bytes) bytes) f to units → RowNamed from (suc most) at bytes f to units
+row_later from most at f to bytes units text t r = record {
+  place = r.place;
+  end = text_end bytes + r.end;
+  row = inr (record { first = text_end bytes; others = text; name = t; more = r.end; later = r.row; ends = refl });
+  ends = omega (arith, r.ends);
+}
+
+row_or : (from most at f to : ℕ) (bytes units text : List ℕ) (name : Option (List ℕ)) → BeginsText row_units bytes (text_end bytes) text → core text ≡ name
+    → (IsNamed f to units (row_names from most (at + text_end bytes) (drop (text_end bytes) bytes)) → RowNamed from most (at + text_end bytes) (drop (text_end bytes) bytes) f to units)
+    → IsNamed f to units (named_or from at (at + text_end bytes) (row_names from most (at + text_end bytes) (drop (text_end bytes) bytes)) text name)
+    → RowNamed from (suc most) at bytes f to units
+row_or from most at f to bytes units text None t c later is = row_later from most at f to bytes units text t (later is)
+row_or from most at f to bytes units text (Some others) t c later (inl here) = record {
+  place = sym here.0;
+  end = text_end bytes;
+  row = inl (subst (λ (u : List ℕ). BeginsName bytes (text_end bytes) u) here.2 (as_name bytes (text_end bytes) text others t c));
+  ends = sym here.1;
+}
+row_or from most at f to bytes units text (Some others) t c later (inr more) = row_later from most at f to bytes units text t (later more)
+
 row_then : (from most at f to : ℕ) (bytes units : List ℕ) (text : Option (List ℕ)) → text_of bytes ≡ text
     → (IsNamed f to units (row_names from most (at + text_end bytes) (drop (text_end bytes) bytes)) → RowNamed from most (at + text_end bytes) (drop (text_end bytes) bytes) f to units)
     → IsNamed f to units (named_then from at (at + text_end bytes) (row_names from most (at + text_end bytes) (drop (text_end bytes) bytes)) text)
     → RowNamed from (suc most) at bytes f to units
 row_then from most at f to bytes units None t later is = absurd is
-row_then from most at f to bytes units (Some others) t later (inl here) = record {
-  place = sym here.0;
-  end = text_end bytes;
-  row = inl (subst (λ (u : List ℕ). BeginsName bytes (text_end bytes) u) here.2 (text_stands bytes others t));
-  ends = sym here.1;
-}
-row_then from most at f to bytes units (Some others) t later (inr more) =
-    let r = later more in
-    record {
-      place = r.place;
-      end = text_end bytes + r.end;
-      row = inr (record { first = text_end bytes; others = others; name = text_stands bytes others t; more = r.end; later = r.row; ends = refl });
-      ends = omega (arith, r.ends);
-    }
+row_then from most at f to bytes units (Some text) t later is = row_or from most at f to bytes units text (core text) (text_stands bytes text t) refl later is
 
 row_stands : (from most at f to : ℕ) (bytes units : List ℕ) → IsNamed f to units (row_names from most at bytes) → RowNamed from most at bytes f to units
 row_stands from zero at f to bytes units is = absurd is
 row_stands from (suc most) at f to bytes units is =
     row_then from most at f to bytes units (text_of bytes) refl (row_stands from most (at + text_end bytes) f to (drop (text_end bytes) bytes) units) is
 
+named_behind : (from at end f to : ℕ) (units text : List ℕ) (later : List Named) (name : Option (List ℕ)) → IsNamed f to units later → IsNamed f to units (named_or from at end later text name)
+named_behind from at end f to units text later None is = is
+named_behind from at end f to units text later (Some others) is = inr is
+
 row_tells : (from most at : ℕ) (bytes units : List ℕ) (end : ℕ) → BeginsRow most bytes end units → IsNamed from (at + end) units (row_names from most at bytes)
 row_tells from zero at bytes units end row = row
 row_tells from (suc most) at bytes units end (inl name) =
-    let is = text_tells bytes end units name in
-    subst (λ o. IsNamed from (at + end) units (named_then from at (at + text_end bytes) (row_names from most (at + text_end bytes) (drop (text_end bytes) bytes)) o)) (sym is.tells)
-    (inl (refl, ap (λ (n : ℕ). at + n) is.ends, refl))
+    let t = as_text bytes end units name in
+    let is = text_tells bytes end t.text_units t.text in
+    let later = row_names from most (at + text_end bytes) (drop (text_end bytes) bytes) in
+    subst (λ o. IsNamed from (at + end) units (named_then from at (at + text_end bytes) later o)) (sym is.tells)
+    (subst (λ o. IsNamed from (at + end) units (named_or from at (at + text_end bytes) later t.text_units o)) (sym t.named)
+    (inl (refl, ap (λ (n : ℕ). at + n) is.ends, refl)))
 row_tells from (suc most) at bytes units end (inr later) =
     let is = text_tells bytes later.first later.others later.name in
     let rest = row_tells from most (at + later.first) (drop later.first bytes) units later.more later.later in
@@ -53,7 +71,7 @@ row_tells from (suc most) at bytes units end (inr later) =
     let there = subst (λ (n : ℕ). IsNamed from n units (row_names from most (at + later.first) (drop later.first bytes))) e rest in
     let here = subst (λ (n : ℕ). IsNamed from (at + end) units (row_names from most (at + n) (drop n bytes))) (sym is.ends) there in
     subst (λ o. IsNamed from (at + end) units (named_then from at (at + text_end bytes) (row_names from most (at + text_end bytes) (drop (text_end bytes) bytes)) o)) (sym is.tells)
-    (inr here)
+    (named_behind from at (at + text_end bytes) from (at + end) units later.others (row_names from most (at + text_end bytes) (drop (text_end bytes) bytes)) (core later.others) here)
 
 -- ---- a place
 

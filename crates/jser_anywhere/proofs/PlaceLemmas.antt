@@ -6,9 +6,10 @@ use Rattle.std.proofs.lemmas.Bool.Decides.{nat_tests}
 use Rattle.std.proofs.lemmas.List.{take-append-drop, length-take-le}
 use Rattle.std.proofs.Math.Seq.{take-append_seam}
 use Rattle.std.proofs.Common.{length-append, eqb-true}
-use Rattle.jser_anywhere.specs.Names.{name_units}
-use Rattle.jser_anywhere.specs.Search.{text_of, text_end, row_hidden, row_next, interfaces_hidden, hidden_here}
-use Rattle.jser_anywhere.specs.Standing.{most_bytes, BeginsName, BeginsRow, Begins}
+use Rattle.jser_anywhere.specs.Texts.{row_units}
+use Rattle.jser_anywhere.specs.Names.{core, core_in, name_units}
+use Rattle.jser_anywhere.specs.Search.{text_of, text_end, names_hidden, row_hidden, row_next, interfaces_hidden, hidden_here}
+use Rattle.jser_anywhere.specs.Standing.{most_bytes, BeginsText, BeginsName, BeginsRow, Begins}
 
 -- a test that answered something
 if_some : {A : Type 0} → (b : Bool) (o : Option A) (a : A) → (if b then o else None) ≡ Some a → (b ≡ true) × (o ≡ Some a)
@@ -29,7 +30,7 @@ is_length len room e = record { some = grind (arith, nat_tests); capped = grind 
 length_is : (len room : ℕ) → IsLength len most_bytes room → (nat_le 1 len && nat_le len most_bytes && nat_le len room) ≡ true
 length_is len room is = grind (arith, nat_tests, is.some, is.capped, is.inside)
 
-pub text_stands : (bytes units : List ℕ) → text_of bytes ≡ Some units → BeginsName bytes (text_end bytes) units
+pub text_stands : (bytes units : List ℕ) → text_of bytes ≡ Some units → BeginsText row_units bytes (text_end bytes) units
 unfolding text_of
 text_stands [] units e = absurd cc
 text_stands (high ∷ []) units e = absurd cc
@@ -54,19 +55,65 @@ pub record IsText (bytes : List ℕ) (end : ℕ) (units : List ℕ) : Type 0 whe
   pub tells : text_of bytes ≡ Some units
   pub ends : text_end bytes ≡ end
 
-text_whole : (high low : ℕ) (text after units : List ℕ) → length text ≡ high * 256 + low → 1 ≤ length text → length text ≤ most_bytes → name_units text ≡ Some units
+text_whole : (high low : ℕ) (text after units : List ℕ) → length text ≡ high * 256 + low → 1 ≤ length text → length text ≤ most_bytes → row_units text ≡ Some units
     → text_of (high ∷ low ∷ (text ++ after)) ≡ Some units
 unfolding text_of
 text_whole high low text after units counted least most named =
     if_true _ _ (length_is (high * 256 + low) (length (text ++ after)) (record { some = omega arith; capped = omega arith; inside = omega (arith, length-append text after) }))
-    ∙ ap (λ (n : ℕ). name_units (take n (text ++ after))) (sym counted) ∙ ap name_units (take-append_seam text after) ∙ named
+    ∙ ap (λ (n : ℕ). row_units (take n (text ++ after))) (sym counted) ∙ ap row_units (take-append_seam text after) ∙ named
 
 -- and all that does
-pub text_tells : (bytes : List ℕ) (end : ℕ) (units : List ℕ) → BeginsName bytes end units → IsText bytes end units
+pub text_tells : (bytes : List ℕ) (end : ℕ) (units : List ℕ) → BeginsText row_units bytes end units → IsText bytes end units
 text_tells bytes end units name = record {
   tells = ap text_of name.split ∙ text_whole name.high name.low name.text name.after units name.counted name.least name.most name.named;
   ends = ap text_end name.split ∙ ap (λ (n : ℕ). 2 + n) (sym name.counted) ∙ sym name.ends;
 }
+
+-- ---- a name is such a text, and its units have a core
+
+pub record AsText (bytes : List ℕ) (end : ℕ) (units : List ℕ) : Type 0 where
+  pub text_units : List ℕ
+  pub text : BeginsText row_units bytes end text_units
+  pub named : core text_units ≡ Some units
+
+pub record HasUnits (o : Option (List ℕ)) (units : List ℕ) : Type 0 where
+  pub text_units : List ℕ
+  pub is : o ≡ Some text_units
+  pub named : core text_units ≡ Some units
+
+has_units : (o : Option (List ℕ)) (units : List ℕ) → core_in o ≡ Some units → HasUnits o units
+has_units None units e = absurd cc
+has_units (Some text_units) units e = record { text_units = text_units; is = refl; named = e }
+
+pub units_of_name : (text units : List ℕ) → name_units text ≡ Some units → HasUnits (row_units text) units
+unfolding name_units
+units_of_name text units e = has_units (row_units text) units e
+
+pub name_of_units : (text text_units units : List ℕ) → row_units text ≡ Some text_units → core text_units ≡ Some units → name_units text ≡ Some units
+unfolding name_units
+name_of_units text text_units units e named = ap core_in e ∙ named
+
+with_reader : (one two : List ℕ → Option (List ℕ)) (bytes : List ℕ) (end : ℕ) (units others : List ℕ) → (t : BeginsText one bytes end units) → two t.text ≡ Some others → BeginsText two bytes end others
+with_reader one two bytes end units others t named = record {
+  high = t.high;
+  low = t.low;
+  text = t.text;
+  after = t.after;
+  split = t.split;
+  counted = t.counted;
+  least = t.least;
+  most = t.most;
+  named = named;
+  ends = t.ends;
+}
+
+pub as_text : (bytes : List ℕ) (end : ℕ) (units : List ℕ) → BeginsName bytes end units → AsText bytes end units
+as_text bytes end units name =
+    let h = units_of_name name.text units name.named in
+    record { text_units = h.text_units; text = with_reader name_units row_units bytes end units h.text_units name h.is; named = h.named }
+
+pub as_name : (bytes : List ℕ) (end : ℕ) (text_units units : List ℕ) → BeginsText row_units bytes end text_units → core text_units ≡ Some units → BeginsName bytes end units
+as_name bytes end text_units units t named = with_reader row_units name_units bytes end text_units units t (name_of_units t.text text_units units t.named named)
 
 -- ---- rows
 
@@ -84,24 +131,38 @@ mapped : (by end : ℕ) (o : Option ℕ) → option_map (λ more. by + more) o �
 mapped by end None e = absurd cc
 mapped by end (Some more) e = let h : by + more ≡ end = cc in record { more = more; is = refl; ends = sym h }
 
-found_by : (passes : List ℕ → Bool) (most : ℕ) (bytes units : List ℕ) (end : ℕ) (good : Bool) → passes units ≡ good → BeginsName bytes (text_end bytes) units
+record Fails (passes : List ℕ → Bool) (o : Option (List ℕ)) : Type 0 where
+  pub units : List ℕ
+  pub named : o ≡ Some units
+  pub fails : passes units ≡ false
+
+fails_by : (passes : List ℕ → Bool) (units : List ℕ) (good : Bool) → passes units ≡ good → (if good then false else true) ≡ true → Fails passes (Some units)
+fails_by passes units true p e = absurd cc
+fails_by passes units false p e = record { units = units; named = refl; fails = p }
+
+fails_of : (passes : List ℕ → Bool) (o : Option (List ℕ)) → names_hidden passes o ≡ true → Fails passes o
+fails_of passes None e = absurd cc
+fails_of passes (Some units) e = fails_by passes units (passes units) refl e
+
+found_by : (passes : List ℕ → Bool) (most : ℕ) (bytes units : List ℕ) (end : ℕ) (hidden : Bool) → names_hidden passes (core units) ≡ hidden → BeginsText row_units bytes (text_end bytes) units
     → ((more : ℕ) → row_hidden passes most (drop (text_end bytes) bytes) ≡ Some more → RowFinds passes most (drop (text_end bytes) bytes) more)
-    → (if good then option_map (λ more. text_end bytes + more) (row_hidden passes most (drop (text_end bytes) bytes)) else Some (text_end bytes)) ≡ Some end
+    → (if hidden then Some (text_end bytes) else option_map (λ more. text_end bytes + more) (row_hidden passes most (drop (text_end bytes) bytes))) ≡ Some end
     → RowFinds passes (suc most) bytes end
-found_by passes most bytes units end true p name later e =
+found_by passes most bytes units end false p text later e =
     let m = mapped (text_end bytes) end (row_hidden passes most (drop (text_end bytes) bytes)) e in
     let r = later m.more m.is in
-    record { units = r.units; row = inr (record { first = text_end bytes; others = units; name = name; more = m.more; later = r.row; ends = m.ends }); fails = r.fails }
-found_by passes most bytes units end false p name later e =
+    record { units = r.units; row = inr (record { first = text_end bytes; others = units; name = text; more = m.more; later = r.row; ends = m.ends }); fails = r.fails }
+found_by passes most bytes units end true p text later e =
     let h : text_end bytes ≡ end = cc in
-    record { units = units; row = inl (subst (λ (n : ℕ). BeginsName bytes n units) h name); fails = p }
+    let f = fails_of passes (core units) p in
+    record { units = f.units; row = inl (subst (λ (n : ℕ). BeginsName bytes n f.units) h (as_name bytes (text_end bytes) units f.units text f.named)); fails = f.fails }
 
 found_of : (passes : List ℕ → Bool) (most : ℕ) (bytes : List ℕ) (end : ℕ) (text : Option (List ℕ)) → text_of bytes ≡ text
     → ((more : ℕ) → row_hidden passes most (drop (text_end bytes) bytes) ≡ Some more → RowFinds passes most (drop (text_end bytes) bytes) more)
     → row_next passes (text_end bytes) (row_hidden passes most (drop (text_end bytes) bytes)) text ≡ Some end
     → RowFinds passes (suc most) bytes end
 found_of passes most bytes end None t later e = absurd cc
-found_of passes most bytes end (Some units) t later e = found_by passes most bytes units end (passes units) refl (text_stands bytes units t) later e
+found_of passes most bytes end (Some units) t later e = found_by passes most bytes units end (names_hidden passes (core units)) refl (text_stands bytes units t) later e
 
 pub row_finds : (passes : List ℕ → Bool) (most : ℕ) (bytes : List ℕ) (end : ℕ) → row_hidden passes most bytes ≡ Some end → RowFinds passes most bytes end
 row_finds passes zero bytes end e = absurd cc
@@ -117,27 +178,31 @@ not_before_more : (by other more : ℕ) (o : Option ℕ) → NotBefore o more �
 not_before_more by other more None n e = n
 not_before_more by other more (Some end) n e = omega arith
 
-not_before_or : (by other more : ℕ) (o : Option ℕ) (good : Bool) → NotBefore o more → other ≡ by + more → NotBefore (if good then option_map (λ m. by + m) o else Some by) other
-not_before_or by other more o true n e = not_before_more by other more o n e
-not_before_or by other more o false n e = omega arith
+not_before_or : (by other more : ℕ) (o : Option ℕ) (hidden : Bool) → NotBefore o more → other ≡ by + more → NotBefore (if hidden then Some by else option_map (λ m. by + m) o) other
+not_before_or by other more o false n e = not_before_more by other more o n e
+not_before_or by other more o true n e = omega arith
+
+is_hidden : (passes : List ℕ → Bool) (o : Option (List ℕ)) (units : List ℕ) → o ≡ Some units → passes units ≡ false → names_hidden passes o ≡ true
+is_hidden passes o units e fails = ap (names_hidden passes) e ∙ ap (λ b. if b then false else true) fails
 
 pub row_least : (passes : List ℕ → Bool) (most : ℕ) (bytes : List ℕ) (end : ℕ) (units : List ℕ) → BeginsRow most bytes end units → passes units ≡ false
     → NotBefore (row_hidden passes most bytes) end
 row_least passes zero bytes end units row fails = row
 row_least passes (suc most) bytes end units (inl name) fails =
-    let is = text_tells bytes end units name in
+    let t = as_text bytes end units name in
+    let is = text_tells bytes end t.text_units t.text in
     let e : row_hidden passes (suc most) bytes ≡ Some end =
     ap (λ o. row_next passes (text_end bytes) (row_hidden passes most (drop (text_end bytes) bytes)) o) is.tells
-    ∙ ap (λ b. if b then option_map (λ m. text_end bytes + m) (row_hidden passes most (drop (text_end bytes) bytes)) else Some (text_end bytes)) fails
+    ∙ ap (λ b. if b then Some (text_end bytes) else option_map (λ m. text_end bytes + m) (row_hidden passes most (drop (text_end bytes) bytes))) (is_hidden passes (core t.text_units) units t.named fails)
     ∙ ap (λ (n : ℕ). Some n) is.ends in
     subst (λ o. NotBefore o end) (sym e) (omega arith)
 row_least passes (suc most) bytes end units (inr later) fails =
     let is = text_tells bytes later.first later.others later.name in
     let rest = row_least passes most (drop later.first bytes) later.more units later.later fails in
     let here : NotBefore (row_hidden passes most (drop (text_end bytes) bytes)) later.more = subst (λ (n : ℕ). NotBefore (row_hidden passes most (drop n bytes)) later.more) (sym is.ends) rest in
-    let e : row_hidden passes (suc most) bytes ≡ (if passes later.others then option_map (λ m. text_end bytes + m) (row_hidden passes most (drop (text_end bytes) bytes)) else Some (text_end bytes)) =
+    let e : row_hidden passes (suc most) bytes ≡ (if names_hidden passes (core later.others) then Some (text_end bytes) else option_map (λ m. text_end bytes + m) (row_hidden passes most (drop (text_end bytes) bytes))) =
     ap (λ o. row_next passes (text_end bytes) (row_hidden passes most (drop (text_end bytes) bytes)) o) is.tells in
-    subst (λ o. NotBefore o end) (sym e) (not_before_or (text_end bytes) end later.more _ (passes later.others) here (omega (arith, later.ends, is.ends)))
+    subst (λ o. NotBefore o end) (sym e) (not_before_or (text_end bytes) end later.more (row_hidden passes most (drop (text_end bytes) bytes)) (names_hidden passes (core later.others)) here (omega (arith, later.ends, is.ends)))
 
 -- ---- one place
 

@@ -1,6 +1,6 @@
 -- Past bytes that begin no name, where none is being read.
-use Rattle.std.proofs.Common.{◌≡◌, ℕ, zero, suc, ◌+◌, ◌-◌, ◌<◌, ◌≤◌, ◌∙◌, ap, sym, subst, Bool, true, false, ◌&&◌, ◌||◌, ◌==◌, ◌⊎◌, inl, inr, None, List, [], ◌∷◌, ◌++◌, length, take, reverse, refl, arith, length-append, append_assoc, get_or}
-use Rattle.std.specs.Prelude.{nat_le, IfSome}
+use Rattle.std.proofs.Common.{Option, ◌≡◌, ℕ, zero, suc, ◌+◌, ◌-◌, ◌<◌, ◌≤◌, ◌∙◌, ap, sym, subst, Bool, true, false, ◌&&◌, ◌||◌, ◌==◌, ◌⊎◌, inl, inr, None, List, [], ◌∷◌, ◌++◌, length, take, reverse, refl, arith, length-append, append_assoc, get_or}
+use Rattle.std.specs.Prelude.{nat_le}
 use Rattle.std.proofs.Math.Dec.{eqb}
 use Rattle.std.proofs.Common.{map, cond, not, ◌%◌, ◌^◌}
 use Rattle.std.proofs.lemmas.Simd.{length-chunk, bitmask_splat, first_set_mask_l, run_in_chunk_le, run_in_chunk_fails}
@@ -12,11 +12,13 @@ use Rattle.std.proofs.lemmas.Bool.{cases_lt}
 use Rattle.std.proofs.lemmas.Bool.Decides.{nat_tests}
 use Rattle.std.proofs.lemmas.List.{length-reverse, reverse-append, take_more, length-take-le, get_or-take, get_or-reverse, get_or_append_left, get_or_default}
 use Rattle.jser_anywhere.specs.Standing.{AllPass}
-use Rattle.jser_anywhere.specs.Stages.{Stage, nothing, in_text, next, ended}
-use Rattle.jser_anywhere.specs.Slots.{Slot, slots_of, ago, new_name, new_row, is_hidden, lower_of, hidden_place}
+use Rattle.jser_anywhere.specs.Stages.{nothing, in_name, next, ended}
+use Rattle.jser_anywhere.specs.Slots.{Slot, slots_of, ago, new_name, new_row, is_even, is_odd, if_wanted, hidden_of, lower, slot_hidden, hidden_place}
 use Rattle.jser_anywhere.specs.declared.recent.Recent.{Recent}
-use Rattle.jser_anywhere.specs.Steps.{Scanning, recent_of, may_begin, IsQuiet, AreNone, first_set, recent_in, past}
-use Rattle.jser_anywhere.specs.Scans.{AreBytes, Fed, name_stage, row_stage, SkipFits, HasScanned, TakesBytes, Hurries, most_taken}
+use Rattle.jser_anywhere.specs.declared.open.Name.{Name}
+use Rattle.jser_anywhere.specs.declared.open.Row.{Row}
+use Rattle.jser_anywhere.specs.Steps.{Scanning, NameFits, RowFits, recent_of, may_begin, IsQuiet, AreNone, first_set, recent_in, past}
+use Rattle.jser_anywhere.specs.Scans.{AreBytes, Has, Fed, name_place, row_place, name_stage, row_stage, name_group, row_group, SkipFits, Agree, HasScanned, TakesBytes, Hurries, most_taken}
 use Rattle.jser_anywhere.proofs.StageLemmas.{high_out}
 use Rattle.jser_anywhere.proofs.SlotLemmas.{NewName, NewRow, new_name_cases, new_row_cases}
 use Rattle.jser_anywhere.proofs.SlotLemmas as slot
@@ -26,15 +28,15 @@ use Rattle.jser_anywhere.proofs.TakeLemmas.{back_more, fed_more}
 -- ---- no name begins
 
 abbrev Begins : List ℕ → Bool
-Begins back = nat_le (ago back 0) 4 && (ago back 1 == 0x72 || ago back 5 == 0x7D)
+Begins back = nat_le (ago back 0) 0x23 && (ago back 1 == 0x72 || ago back 5 == 0x7D)
 
-small_is : (high : ℕ) → in_text high ≡ false → nat_le high 4 ≡ true
+small_is : (high : ℕ) → in_name high ≡ false → nat_le high 0x23 ≡ true
 small_is high e = grind (arith, nat_tests, e)
 
-with_mark : (high : ℕ) (b : Bool) → nat_le high 4 ≡ true → (nat_le high 4 && (true || b)) ≡ true
+with_mark : (high : ℕ) (b : Bool) → nat_le high 0x23 ≡ true → (nat_le high 0x23 && (true || b)) ≡ true
 with_mark high b e = cc
 
-with_row : (high : ℕ) (b : Bool) → nat_le high 4 ≡ true → (nat_le high 4 && (b || true)) ≡ true
+with_row : (high : ℕ) (b : Bool) → nat_le high 0x23 ≡ true → (nat_le high 0x23 && (b || true)) ≡ true
 with_row high true e = cc
 with_row high false e = cc
 
@@ -59,25 +61,33 @@ record Quiet (passes : List ℕ → Bool) (taken : List ℕ) : Type 0 where
   pub are : AreBytes (reverse taken)
   pub pass : AllPass passes taken
   pub name : (slots_of (reverse taken)).name.stage ≡ nothing
-  pub row : (slots_of (reverse taken)).row.stage ≡ nothing
+  pub even : (slots_of (reverse taken)).even.stage ≡ nothing
+  pub odd : (slots_of (reverse taken)).odd.stage ≡ nothing
 
-none_ends : (passes : List ℕ → Bool) (byte : ℕ) (stage : Stage) → stage ≡ nothing → is_hidden passes (ended stage byte) ≡ false
-none_ends passes byte stage e = ap (λ s. is_hidden passes (ended s byte)) e
+none_ends : (passes : List ℕ → Bool) (byte : ℕ) (s : Slot) → s.stage ≡ nothing → slot_hidden passes s byte ≡ None
+none_ends passes byte s e = ap (λ x. hidden_of passes s.place (ended x byte)) e
+
+none_begins : (wanted : ℕ → Bool) (back : List ℕ) (byte : ℕ) → new_row back byte ≡ nothing → if_wanted (wanted (length back - 6)) (new_row back byte) ≡ nothing
+none_begins wanted back byte e = ap (if_wanted (wanted (length back - 6))) e ∙ slot.unwanted (wanted (length back - 6))
+
+row_stays : (wanted : ℕ → Bool) (back : List ℕ) (byte : ℕ) (s : Slot) → Begins back ≡ false → s.stage ≡ nothing → (slot.row_filled wanted back byte s).stage ≡ nothing
+row_stays wanted back byte s begins e =
+    ap (λ (x : Slot). x.stage) (slot.row_moved wanted back byte s (none_begins wanted back byte (no_row back byte begins))) ∙ ap (λ x. next x byte) e
 
 quiet_byte : (passes : List ℕ → Bool) (taken : List ℕ) (byte : ℕ) → Quiet passes taken → byte < 256 → Begins (reverse taken) ≡ false → Quiet passes (taken ++ byte ∷ [])
 quiet_byte passes taken byte q small begins =
     let back = reverse taken in
     let slots = slots_of back in
     let none : hidden_place passes slots byte ≡ None =
-    ap (λ b. lower_of b (is_hidden passes (ended slots.row.stage byte)) slots.name.place slots.row.place) (none_ends passes byte slots.name.stage q.name)
-    ∙ ap (λ b. lower_of false b slots.name.place slots.row.place) (none_ends passes byte slots.row.stage q.row) in
+    ap (λ x. lower x (lower (slot_hidden passes slots.even byte) (slot_hidden passes slots.odd byte))) (none_ends passes byte slots.name q.name)
+    ∙ ap (λ x. lower x (slot_hidden passes slots.odd byte)) (none_ends passes byte slots.even q.even) ∙ none_ends passes byte slots.odd q.odd in
     record {
       are = subst (λ (bs : List ℕ). AreBytes bs) (back_more taken byte) (small, q.are);
-      pass = all_pass_more passes taken byte q.pass (subst (λ o. TellsByte passes taken byte o) none (tells_byte passes taken byte q.are));
+      pass = all_pass_more passes taken byte q.pass (subst (λ o. TellsByte passes taken byte o) none (tells_byte passes taken byte));
       name = subst (λ (bs : List ℕ). (slots_of bs).name.stage ≡ nothing) (back_more taken byte)
           (ap (λ (s : Slot). s.stage) (slot.name_moved back byte slots.name (no_name back byte begins)) ∙ ap (λ s. next s byte) q.name);
-      row = subst (λ (bs : List ℕ). (slots_of bs).row.stage ≡ nothing) (back_more taken byte)
-          (ap (λ (s : Slot). s.stage) (slot.row_moved back byte slots.row (no_row back byte begins)) ∙ ap (λ s. next s byte) q.row);
+      even = subst (λ (bs : List ℕ). (slots_of bs).even.stage ≡ nothing) (back_more taken byte) (row_stays is_even back byte slots.even begins q.even);
+      odd = subst (λ (bs : List ℕ). (slots_of bs).odd.stage ≡ nothing) (back_more taken byte) (row_stays is_odd back byte slots.odd begins q.odd);
     }
 
 -- ---- the last bytes are those of the piece
@@ -98,9 +108,9 @@ less_less at k m e = omega arith
 begins_in : (taken piece : List ℕ) (at : ℕ) → at ≤ length piece → 6 ≤ at → Begins (reverse (taken ++ take at piece)) ≡ may_begin piece at
 begins_in taken piece at within six =
     let back = reverse (taken ++ take at piece) in
-    ap (λ (n : ℕ). nat_le n 4 && (ago back 1 == 0x72 || ago back 5 == 0x7D)) (ago_in taken piece at 0 0xFF within (omega arith) ∙ ap (λ (n : ℕ). get_or piece n 0) (less_less at 0 1 (omega arith)))
-    ∙ ap (λ (n : ℕ). nat_le (get_or piece (at - 1) 0) 4 && (n == 0x72 || ago back 5 == 0x7D)) (ago_in taken piece at 1 0xFF within (omega arith) ∙ ap (λ (n : ℕ). get_or piece n 0) (less_less at 1 2 (omega arith)))
-    ∙ ap (λ (n : ℕ). nat_le (get_or piece (at - 1) 0) 4 && (get_or piece (at - 2) 0 == 0x72 || n == 0x7D)) (ago_in taken piece at 5 0xFF within (omega arith) ∙ ap (λ (n : ℕ). get_or piece n 0) (less_less at 5 6 (omega arith)))
+    ap (λ (n : ℕ). nat_le n 0x23 && (ago back 1 == 0x72 || ago back 5 == 0x7D)) (ago_in taken piece at 0 0xFF within (omega arith) ∙ ap (λ (n : ℕ). get_or piece n 0) (less_less at 0 1 (omega arith)))
+    ∙ ap (λ (n : ℕ). nat_le (get_or piece (at - 1) 0) 0x23 && (n == 0x72 || ago back 5 == 0x7D)) (ago_in taken piece at 1 0xFF within (omega arith) ∙ ap (λ (n : ℕ). get_or piece n 0) (less_less at 1 2 (omega arith)))
+    ∙ ap (λ (n : ℕ). nat_le (get_or piece (at - 1) 0) 0x23 && (get_or piece (at - 2) 0 == 0x72 || n == 0x7D)) (ago_in taken piece at 5 0xFF within (omega arith) ∙ ap (λ (n : ℕ). get_or piece n 0) (less_less at 5 6 (omega arith)))
 
 quiet_run : (passes : List ℕ → Bool) (taken piece : List ℕ) (from k : ℕ) → Quiet passes (taken ++ take from piece) → 6 ≤ from → from + k ≤ length piece
     → ((at : ℕ) → from ≤ at → at < from + k → may_begin piece at ≡ false) → ((at : ℕ) → from ≤ at → at < from + k → get_or piece at 0 < 256)
@@ -186,16 +196,22 @@ quiet_without_tags piece at second sixth plain proxy run enough within small es 
   ordered = omega arith;
   within = omega arith;
   none = λ k lower upper.
-      no_tag (nat_le (get_or piece (k - 1) 0) 4) _ _ (no_plain (k - 2) (omega arith) (omega arith)) (no_proxy (k - 6) (omega arith) (omega arith));
+      no_tag (nat_le (get_or piece (k - 1) 0) 0x23) _ _ (no_plain (k - 2) (omega arith) (omega arith)) (no_proxy (k - 6) (omega arith) (omega arith));
   bytes = λ k lower upper. small k;
 }
 
-quiet_of : (passes : List ℕ → Bool) (taken : List ℕ) (scan : Scanning) → HasScanned passes taken scan → scan.name ≡ None → scan.row ≡ None → Quiet passes taken
-quiet_of passes taken scan s no_name no_row = record {
+record NoneRead (scan : Scanning) : Type 0 where
+  pub name : scan.name ≡ None
+  pub even : scan.even ≡ None
+  pub odd : scan.odd ≡ None
+
+quiet_of : (passes : List ℕ → Bool) (taken : List ℕ) (scan : Scanning) → HasScanned passes taken scan → NoneRead scan → Quiet passes taken
+quiet_of passes taken scan s n = record {
   are = s.bytes;
   pass = s.pass;
-  name = s.follows.name ∙ ap (λ n. name_stage n scan.kept) no_name;
-  row = s.follows.row ∙ ap (λ r. row_stage r scan.kept) no_row;
+  name = s.follows.name.stage_is ∙ ap (λ x. name_stage x scan.kept) n.name;
+  even = s.follows.even.stage_is ∙ ap (λ x. row_stage x scan.kept) n.even;
+  odd = s.follows.odd.stage_is ∙ ap (λ x. row_stage x scan.kept) n.odd;
 }
 
 abbrev the_recent : (a b c d e f : ℕ) → Recent
@@ -217,46 +233,62 @@ recent_same taken piece to within six =
     same_recent (get_or piece (to - 1) 0) (get_or piece (to - 2) 0) (get_or piece (to - 3) 0) (get_or piece (to - 4) 0) (get_or piece (to - 5) 0) (get_or piece (to - 6) 0)
     (ago back 0) (ago back 1) (ago back 2) (ago back 3) (ago back 4) (ago back 5) a b c d e f
 
-past_scanned : (passes : List ℕ → Bool) (taken piece : List ℕ) (old : Scanning) (at to : ℕ) → 6 ≤ at → old.name ≡ None → old.row ≡ None → IsQuiet piece at to
+name_has_none : (s : Slot) (n : Option Name) → n ≡ None → s.stage ≡ nothing → Has s (name_place n) (name_stage n [])
+name_has_none s n none e = subst (λ x. Has s (name_place x) (name_stage x [])) (sym none) (record { stage_is = e; place_is = tt })
+
+row_has_none : (s : Slot) (r : Option Row) → r ≡ None → s.stage ≡ nothing → Has s (row_place r) (row_stage r [])
+row_has_none s r none e = subst (λ x. Has s (row_place x) (row_stage x [])) (sym none) (record { stage_is = e; place_is = tt })
+
+past_scanned : (passes : List ℕ → Bool) (taken piece : List ℕ) (old : Scanning) (at to : ℕ) → 6 ≤ at → NoneRead old → IsQuiet piece at to
     → length taken + length (take to piece) ≤ most_taken → HasScanned passes (taken ++ take at piece) old → HasScanned passes (taken ++ take to piece) (past old piece at to)
-past_scanned passes taken piece old at to six no_name no_row q fits s =
+past_scanned passes taken piece old at to six n q fits s =
     let long_at = length-take-le at piece (omega (arith, q.ordered, q.within)) in
     let long_to = length-take-le to piece q.within in
-    let run = quiet_run passes taken piece at (to - at) (quiet_of passes (taken ++ take at piece) old s no_name no_row) six (omega (arith, q.ordered, q.within))
+    let run = quiet_run passes taken piece at (to - at) (quiet_of passes (taken ++ take at piece) old s n) six (omega (arith, q.ordered, q.within))
     (λ n lower upper. q.none n lower (omega (arith, upper, q.ordered))) (λ n lower upper. q.bytes n lower (omega (arith, upper, q.ordered))) in
     let there = subst (λ (n : ℕ). Quiet passes (taken ++ take n piece)) (omega (arith, q.ordered)) run in
+    let slots = slots_of (reverse (taken ++ take to piece)) in
     record {
       bytes = there.are;
       pass = there.pass;
       follows = record {
         count = omega (arith, s.follows.count, fits, q.ordered, long_at, long_to, length-reverse (taken ++ take at piece), length-reverse (taken ++ take to piece), length-append taken (take at piece), length-append taken (take to piece));
         recent = recent_same taken piece to q.within (omega (arith, q.ordered, six));
-        name = there.name ∙ sym (ap (λ n. name_stage n []) no_name);
-        name_place = subst (λ n. IfSome n (λ x. (slots_of (reverse (taken ++ take to piece))).name.place ≡ x.place)) (sym no_name) tt;
-        row = there.row ∙ sym (ap (λ r. row_stage r []) no_row);
-        row_place = subst (λ r. IfSome r (λ x. (slots_of (reverse (taken ++ take to piece))).row.place ≡ x.place)) (sym no_row) tt;
-        skips = subst (λ r. IfSome r (λ x. SkipFits x.at [])) (sym no_row) tt;
+        name = name_has_none slots.name old.name n.name there.name;
+        even = row_has_none slots.even old.even n.even there.even;
+        odd = row_has_none slots.odd old.odd n.odd there.odd;
+        name_skip = subst (λ x. SkipFits (name_group x) []) (sym n.name) tt;
+        even_skip = subst (λ x. SkipFits (row_group x) []) (sym n.even) tt;
+        odd_skip = subst (λ x. SkipFits (row_group x) []) (sym n.odd) tt;
+        name_even = subst (λ x. Agree (name_group x) (row_group old.even)) (sym n.name) tt;
+        name_odd = subst (λ x. Agree (name_group x) (row_group old.odd)) (sym n.name) tt;
+        even_odd = subst (λ x. Agree (row_group x) (row_group old.odd)) (sym n.even) tt;
+        last = λ e. refl;
+        few = omega arith;
+        name_fits = subst (λ x. NameFits x) (sym n.name) tt;
+        even_fits = subst (λ x. RowFits x) (sym n.even) tt;
+        odd_fits = subst (λ x. RowFits x) (sym n.odd) tt;
       };
     }
 
 pub hurries_none : (scan : Scanning) (piece : List ℕ) (at : ℕ) → at ≤ length piece → Hurries scan scan piece at at
 hurries_none scan piece at within = record { ordered = omega arith; within = within; takes = λ passes start t. t }
 
-takes_past : (old : Scanning) (piece : List ℕ) (at to : ℕ) → 6 ≤ at → old.name ≡ None → old.row ≡ None → IsQuiet piece at to
+takes_past : (old : Scanning) (piece : List ℕ) (at to : ℕ) → 6 ≤ at → NoneRead old → IsQuiet piece at to
     → (passes : List ℕ → Bool) (start : Scanning) → TakesBytes passes start old (take at piece) None → TakesBytes passes start (past old piece at to) (take to piece) None
 unfolding TakesBytes
-takes_past old piece at to six no_name no_row q passes start t = λ taken fits s.
+takes_past old piece at to six n q passes start t = λ taken fits s.
     let long_at = length-take-le at piece (omega (arith, q.ordered, q.within)) in
     let long_to = length-take-le to piece q.within in
-    past_scanned passes taken piece old at to six no_name no_row q fits (t taken (omega (arith, fits, q.ordered, long_at, long_to)) s)
+    past_scanned passes taken piece old at to six n q fits (t taken (omega (arith, fits, q.ordered, long_at, long_to)) s)
 
-pub hurried : (old new : Scanning) (piece : List ℕ) (at to : ℕ) → 6 ≤ at → old.name ≡ None → old.row ≡ None → IsQuiet piece at to
+pub hurried : (old new : Scanning) (piece : List ℕ) (at to : ℕ) → 6 ≤ at → old.name ≡ None → old.even ≡ None → old.odd ≡ None → IsQuiet piece at to
     → new ≡ past old piece at to → Hurries old new piece at to
-hurried old new piece at to six no_name no_row q e = record {
+hurried old new piece at to six no_name no_even no_odd q e = record {
   ordered = q.ordered;
   within = q.within;
   takes = λ passes start t. subst (λ (x : Scanning). TakesBytes passes start x (take to piece) None) (sym e)
-      (takes_past old piece at to six no_name no_row q passes start t);
+      (takes_past old piece at to six (record { name = no_name; even = no_even; odd = no_odd }) q passes start t);
 }
 
 -- one byte, and then those that begin no name

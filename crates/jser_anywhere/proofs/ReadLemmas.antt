@@ -1,15 +1,22 @@
--- Past bytes of the descriptor's name that is being read: byte by byte they lead there.
-use Rattle.std.proofs.Common.{◌≡◌, ℕ, zero, suc, ◌+◌, ◌*◌, ◌-◌, ◌<◌, ◌≤◌, ◌∙◌, ap, sym, subst, Bool, true, false, ◌&&◌, ◌||◌, ◌==◌, ◌⊎◌, inl, inr, if◌then◌else◌, Option, Some, None, List, [], ◌∷◌, ◌++◌, length, take, drop, refl, arith, length-append, append_assoc, get_or, get_or-drop}
-use Rattle.std.specs.Prelude.{nat_le, min}
+-- Past letters of the descriptor's name that is being read.
+use Rattle.std.proofs.Common.{◌≡◌, ℕ, zero, suc, ◌+◌, ◌-◌, ◌*◌, ◌<◌, ◌≤◌, ◌∙◌, ap, sym, subst, Bool, true, false, ◌&&◌, ◌||◌, ◌==◌, ◌⊎◌, inl, inr, if◌then◌else◌, Option, Some, None, List, [], ◌∷◌, ◌++◌, length, take, drop, refl, arith, length-append, append_assoc, get_or}
+use Rattle.std.specs.Prelude.{nat_le, min, IfSome}
+use Rattle.std.specs.Option.{is_some, option_map}
 use Rattle.std.proofs.lemmas.Bool.{cases_lt}
 use Rattle.std.proofs.lemmas.Bool.Decides.{nat_tests}
-use Rattle.std.proofs.lemmas.List.{append-nil, length-drop, length-reverse, length-take-le, take_more}
+use Rattle.std.proofs.lemmas.List.{append-nil, get_or-drop, length-drop, length-reverse, length-take-le, take_all, take_more}
+use Rattle.jser_anywhere.specs.declared.text.Place.{Place}
+use Rattle.jser_anywhere.specs.declared.text.Place.TheVariants as place
+use Rattle.jser_anywhere.specs.declared.text.Taken.TheVariants as taken
 use Rattle.jser_anywhere.specs.declared.open.Name.{Name}
 use Rattle.jser_anywhere.specs.declared.open.Row.{Row}
 use Rattle.jser_anywhere.specs.declared.recent.Recent.{Recent}
-use Rattle.jser_anywhere.specs.declared.scan.Ended.TheVariants as end
-use Rattle.jser_anywhere.specs.Steps.{Scanning, may_begin, IsText, recent_in, with_byte, left_of, begun, name_left, row_left, name_after, row_or, row_begins, ended_as, short_units, lower, scan_hidden, scan_after, read_past}
-use Rattle.jser_anywhere.specs.Scans.{HasScanned, TakesBytes, Hurries, most_taken}
+use Rattle.jser_anywhere.specs.Texts.{is_first, take_byte}
+use Rattle.jser_anywhere.specs.Names.{core}
+use Rattle.jser_anywhere.specs.Stages.{in_name}
+use Rattle.jser_anywhere.specs.Slots.{hidden_of, is_even, is_odd, lower}
+use Rattle.jser_anywhere.specs.Steps.{Scanning, may_begin, is_letter, IsText, recent_in, with_byte, left_of, begun, name_left, row_left, as_name, text_with, name_with, name_after, name_past, or_taken, kept_with, noted, noted_hidden, gone_on, row_or, row_begins, scan_hidden, scan_after, read_past}
+use Rattle.jser_anywhere.specs.Scans.{HasScanned, TakesBytes, Hurries, SkipFits, name_group, most_taken}
 use Rattle.jser_anywhere.proofs.QuietLemmas.{recent_same, same_recent}
 use Rattle.jser_anywhere.proofs.TakeLemmas.{byte_by}
 
@@ -19,21 +26,24 @@ pub text_none : (piece : List ℕ) (from : ℕ) → from ≤ length piece → Is
 text_none piece from within = record {
   ordered = omega arith;
   within = within;
-  high = λ at lower upper. absurd (omega (arith, lower, upper));
+  letters = λ at lower upper. absurd (omega (arith, lower, upper));
   bytes = λ at lower upper. absurd (omega (arith, lower, upper));
 }
 
 before_or_at : (at to : ℕ) → at < to + 1 → (at < to) ⊎ (at ≡ to)
 before_or_at at to less = elim (cases_lt at to) [ inl l ↦ inl l | inr not ↦ inr (omega arith) ]
 
-pub text_more : (piece : List ℕ) (from to byte : ℕ) → IsText piece from to → to < length piece → byte ≡ get_or piece to 0 → (byte ≤ 4 → ⊥) → get_or piece to 0 < 256
+letter_is : (byte : ℕ) → (byte < 0x24 → ⊥) → (0x7F < byte → ⊥) → is_letter byte ≡ true
+letter_is byte low high = grind (arith, nat_tests, low, high)
+
+pub text_more : (piece : List ℕ) (from to byte : ℕ) → IsText piece from to → to < length piece → byte ≡ get_or piece to 0 → (byte < 0x24 → ⊥) → (0x7F < byte → ⊥) → get_or piece to 0 < 256
     → IsText piece from (to + 1)
-text_more piece from to byte t less is high small = record {
+text_more piece from to byte t less is low high small = record {
   ordered = omega (arith, t.ordered);
   within = omega arith;
-  high = λ at lower upper. elim (before_or_at at to upper) [
-    | inl l ↦ t.high at lower l
-    | inr e ↦ subst (λ (n : ℕ). nat_le (get_or piece n 0) 4 ≡ false) (sym e) (subst (λ (n : ℕ). nat_le n 4 ≡ false) is (grind (arith, nat_tests, high)))
+  letters = λ at lower upper. elim (before_or_at at to upper) [
+    | inl l ↦ t.letters at lower l
+    | inr e ↦ subst (λ (n : ℕ). is_letter (get_or piece n 0) ≡ true) (sym e) (subst (λ (n : ℕ). is_letter n ≡ true) is (letter_is byte low high))
   ];
   bytes = λ at lower upper. elim (before_or_at at to upper) [
     | inl l ↦ t.bytes at lower l
@@ -41,16 +51,27 @@ text_more piece from to byte t less is high small = record {
   ];
 }
 
+-- letters that were kept
+pub pushed_none : (kept bytes : List ℕ) → length kept + length bytes ≤ 9217 → kept ≡ kept ++ take 0 bytes
+pushed_none kept bytes room = sym (append-nil kept)
+
+pub pushed_more : (kept now new bytes : List ℕ) (i : ℕ) → now ≡ kept ++ take i bytes → i < length bytes → new ≡ now ++ get_or bytes i 0 ∷ [] → new ≡ kept ++ take (i + 1) bytes
+pushed_more kept now new bytes i is less e =
+    e ∙ ap (λ (xs : List ℕ). xs ++ get_or bytes i 0 ∷ []) is ∙ append_assoc kept (take i bytes) (get_or bytes i 0 ∷ []) ∙ ap (λ (xs : List ℕ). kept ++ xs) (sym (take_more bytes i 0 less))
+
+pub pushed_all : (kept now bytes : List ℕ) (i : ℕ) → now ≡ kept ++ take i bytes → length bytes ≤ i → now ≡ kept ++ bytes
+pushed_all kept now bytes i is all = is ∙ ap (λ (xs : List ℕ). kept ++ xs) (take_all i bytes all)
+
 -- ---- no name begins
 
 none_if : (a b : Bool) (x : ℕ) → b ≡ false → (if a && b then Some x else None) ≡ None
 none_if true b x e = ap (λ c. if c then Some x else None) e
 none_if false b x e = refl
 
-left_out : (high low : ℕ) → nat_le high 4 ≡ false → left_of high low ≡ None
+left_out : (high low : ℕ) → nat_le high 0x23 ≡ false → left_of high low ≡ None
 left_out high low e =
-    let far : nat_le (high * 256 + low) 1279 ≡ false = grind (arith, nat_tests, e) in
-    none_if (nat_le 1 (high * 256 + low)) (nat_le (high * 256 + low) 1279) (high * 256 + low - 1) far
+    let far : nat_le (high * 256 + low) 9215 ≡ false = grind (arith, nat_tests, e) in
+    none_if (nat_le 1 (high * 256 + low)) (nat_le (high * 256 + low) 9215) (high * 256 + low - 1) far
 
 name_none : (low tag other : Bool) (o : Option ℕ) → (low ≡ false → o ≡ None) → (low && (tag || other)) ≡ false → (if tag then o else None) ≡ None
 name_none false true other o f e = f refl
@@ -70,47 +91,79 @@ row_none true false other rest some more o f e = refl
 row_none true true true rest some more o f e = absurd cc
 row_none true true false rest some more o f e = absurd cc
 
-no_name_left : (r : Recent) (byte : ℕ) → (nat_le r.last 4 && (r.second == 0x72 || r.sixth == 0x7D)) ≡ false → name_left r byte ≡ None
-no_name_left r byte e = name_none (nat_le r.last 4) (r.second == 0x72) (r.sixth == 0x7D) (left_of r.last byte) (left_out r.last byte) e
+no_name_left : (r : Recent) (byte : ℕ) → (nat_le r.last 0x23 && (r.second == 0x72 || r.sixth == 0x7D)) ≡ false → name_left r byte ≡ None
+no_name_left r byte e = name_none (nat_le r.last 0x23) (r.second == 0x72) (r.sixth == 0x7D) (left_of r.last byte) (left_out r.last byte) e
 
-no_row_left : (r : Recent) (byte : ℕ) → (nat_le r.last 4 && (r.second == 0x72 || r.sixth == 0x7D)) ≡ false → row_left r byte ≡ None
+no_row_left : (r : Recent) (byte : ℕ) → (nat_le r.last 0x23 && (r.second == 0x72 || r.sixth == 0x7D)) ≡ false → row_left r byte ≡ None
 no_row_left r byte e =
-    row_none (nat_le r.last 4) (r.sixth == 0x7D) (r.second == 0x72) (r.fifth == 0 && r.fourth == 0) (nat_le 1 (r.third * 256 + r.second)) (r.third * 256 + r.second - 1) (left_of r.last byte)
+    row_none (nat_le r.last 0x23) (r.sixth == 0x7D) (r.second == 0x72) (r.fifth == 0 && r.fourth == 0) (nat_le 1 (r.third * 256 + r.second)) (r.third * 256 + r.second - 1) (left_of r.last byte)
     (left_out r.last byte) e
 
 -- ---- one byte
 
+-- a name whose next group has not begun, and which may be one
+abbrev the_name : (at left skip : ℕ) → Name
+the_name at left skip = record { place = at; text = record { left = left; group = place.First; skip = Some skip } }
+
 abbrev the_scan : ℕ → Recent → List ℕ → Name → Scanning
-the_scan count recent kept name = record { count = count; recent = recent; kept = kept; name = Some name; row = None }
+the_scan count recent kept n = record { count = count; recent = recent; kept = kept; name = Some n; even = None; odd = None }
 
-same_scan : (c d : ℕ) (r s : Recent) (k l : List ℕ) (n m : Option Name) (v w : Option Row) → c ≡ d → r ≡ s → k ≡ l → n ≡ m → v ≡ w
-    → (let x : Scanning = record { count = c; recent = r; kept = k; name = n; row = v } in let y : Scanning = record { count = d; recent = s; kept = l; name = m; row = w } in x ≡ y)
-same_scan c d r s k l n m v w p q t u o = cc
+same_scan : (c d : ℕ) (r s : Recent) (k l : List ℕ) (n m : Option Name) (v w x y : Option Row) → c ≡ d → r ≡ s → k ≡ l → n ≡ m → v ≡ w → x ≡ y
+    → (let a : Scanning = record { count = c; recent = r; kept = k; name = n; even = v; odd = x } in let b : Scanning = record { count = d; recent = s; kept = l; name = m; even = w; odd = y } in a ≡ b)
+same_scan c d r s k l n m v w x y p q t u o z = cc
 
-neither : (a b : Bool) → a ≡ false → b ≡ false → (a || b) ≡ false
-neither true b e f = absurd cc
-neither false b e f = f
+letter_in : (byte : ℕ) → is_letter byte ≡ true → in_name byte ≡ true
+letter_in byte e = grind (arith, nat_tests, e)
 
-none_hidden : (passes : List ℕ → Bool) (count : ℕ) (recent : Recent) (kept : List ℕ) (name : Name) (byte : ℕ) → (name.left == 0) ≡ false
-    → scan_hidden passes (the_scan count recent kept name) byte ≡ None
-none_hidden passes count recent kept name byte e =
-    ap (λ b. lower (if b then ended_as passes name.place (short_units (kept ++ byte ∷ [])) else end.No) end.No) e
+letter_taken : (byte : ℕ) → is_letter byte ≡ true → take_byte place.First byte ≡ taken.Unit byte
+letter_taken byte e = grind (arith, nat_tests, e)
 
-after_is : (passes : List ℕ → Bool) (count : ℕ) (recent : Recent) (kept : List ℕ) (name : Name) (byte : ℕ) → (name.left == 0) ≡ false → nat_le byte 4 ≡ false
-    → (nat_le recent.last 4 && (recent.second == 0x72 || recent.sixth == 0x7D)) ≡ false
-    → scan_after passes (the_scan count recent kept name) byte ≡ the_scan (min (count + 1) most_taken) (with_byte recent byte) (kept ++ byte ∷ []) (record { place = name.place; left = name.left - 1 })
-after_is passes count recent kept name byte some high quiet =
-    let more = ap (λ o. name_after count o (Some name) byte) (no_name_left recent byte quiet)
-    ∙ ap (λ b. if b then None else Some (record { place = name.place; left = name.left - 1 })) (neither (name.left == 0) (nat_le byte 4) some high) in
-    let none = ap (λ o. row_or None (row_begins count (length (kept ++ byte ∷ [])) o)) (no_row_left recent byte quiet) in
-    same_scan _ _ _ _ _ _ _ _ _ _ refl refl refl more none
+letter_low : (byte : ℕ) → is_letter byte ≡ true → nat_le byte 0x23 ≡ false
+letter_low byte e = grind (arith, nat_tests, e)
+
+-- what it leads to, and the name with it
+took_letter : (byte left skip : ℕ) → is_letter byte ≡ true → as_name (record { left = left; group = place.First; skip = Some skip }) byte ≡ taken.Unit byte
+took_letter byte left skip e = ap (λ b. if b then take_byte place.First byte else taken.Refused) (letter_in byte e) ∙ letter_taken byte e
+
+name_letter : (at left skip byte : ℕ) → is_letter byte ≡ true → name_with (Some (the_name at left skip)) byte ≡ Some (the_name at left skip)
+name_letter at left skip byte e =
+    let i = letter_in byte e in
+    ap (λ b. option_map (λ t. record { place = at; text = t }) (if b then text_with (record { left = left; group = place.First; skip = Some skip }) byte (take_byte place.First byte) else None)) i
+    ∙ ap (λ x. option_map (λ t. record { place = at; text = t }) (text_with (record { left = left; group = place.First; skip = Some skip }) byte x)) (letter_taken byte e)
+    ∙ ap (λ b. Some (record { place = at; text = record { left = left; group = place.First; skip = if b then Some skip else None } })) i
+
+noted_letter : (count : ℕ) (recent : Recent) (kept : List ℕ) (at left skip byte : ℕ) → is_letter byte ≡ true
+    → noted (the_scan count recent kept (the_name at left skip)) byte ≡ the_scan count recent (kept ++ byte ∷ []) (the_name at left skip)
+noted_letter count recent kept at left skip byte e =
+    same_scan _ _ _ _ _ _ _ _ _ _ _ _ refl refl (ap (λ x. kept_with kept (or_taken x taken.Refused)) (took_letter byte left skip e)) (name_letter at left skip byte e) refl refl
+
+hidden_none : (passes : List ℕ → Bool) (count : ℕ) (recent : Recent) (kept : List ℕ) (at left skip : ℕ) → (left == 0) ≡ false
+    → noted_hidden passes (the_scan count recent kept (the_name at left skip)) ≡ None
+hidden_none passes count recent kept at left skip e = ap (λ b. lower (if b then hidden_of passes at (core (drop skip kept)) else None) None) e
+
+none_hidden : (passes : List ℕ → Bool) (count : ℕ) (recent : Recent) (kept : List ℕ) (at left skip byte : ℕ) → (left == 0) ≡ false → is_letter byte ≡ true
+    → scan_hidden passes (the_scan count recent kept (the_name at left skip)) byte ≡ None
+none_hidden passes count recent kept at left skip byte some e =
+    ap (λ (s : Scanning). noted_hidden passes s) (noted_letter count recent kept at left skip byte e) ∙ hidden_none passes count recent (kept ++ byte ∷ []) at left skip some
+
+after_is : (count : ℕ) (recent : Recent) (kept : List ℕ) (at left skip byte : ℕ) → (left == 0) ≡ false → is_letter byte ≡ true
+    → (nat_le recent.last 0x23 && (recent.second == 0x72 || recent.sixth == 0x7D)) ≡ false
+    → scan_after (the_scan count recent kept (the_name at left skip)) byte ≡ the_scan (min (count + 1) most_taken) (with_byte recent byte) (kept ++ byte ∷ []) (the_name at (left - 1) skip)
+after_is count recent kept at left skip byte some e quiet =
+    let here = the_name at left skip in
+    let long = length (kept ++ byte ∷ []) in
+    let more = ap (λ o. name_after count long o (Some here)) (no_name_left recent byte quiet) ∙ ap (λ b. if b then None else Some (the_name at (left - 1) skip)) some in
+    let none_even = ap (λ o. row_or (row_begins (is_even (count - 6)) (count - 6) long o) None) (no_row_left recent byte quiet) in
+    let none_odd = ap (λ o. row_or (row_begins (is_odd (count - 6)) (count - 6) long o) None) (no_row_left recent byte quiet) in
+    ap (λ (s : Scanning). gone_on s byte) (noted_letter count recent kept at left skip byte e)
+    ∙ same_scan _ _ _ _ _ _ _ _ _ _ _ _ refl refl refl more none_even none_odd
 
 -- ---- some bytes
 
-no_begin : (piece : List ℕ) (at k : ℕ) → may_begin piece at ≡ false → ((n : ℕ) → at ≤ n → n < at + k → nat_le (get_or piece n 0) 4 ≡ false) → may_begin piece (at + k) ≡ false
-no_begin piece at zero here high = subst (λ (n : ℕ). may_begin piece n ≡ false) (omega arith) here
-no_begin piece at (suc k) here high =
-    let before : nat_le (get_or piece (at + suc k - 1) 0) 4 ≡ false = high (at + suc k - 1) (omega arith) (omega arith) in
+no_begin : (piece : List ℕ) (at k : ℕ) → may_begin piece at ≡ false → ((n : ℕ) → at ≤ n → n < at + k → is_letter (get_or piece n 0) ≡ true) → may_begin piece (at + k) ≡ false
+no_begin piece at zero here letters = subst (λ (n : ℕ). may_begin piece n ≡ false) (omega arith) here
+no_begin piece at (suc k) here letters =
+    let before : nat_le (get_or piece (at + suc k - 1) 0) 0x23 ≡ false = letter_low (get_or piece (at + suc k - 1) 0) (letters (at + suc k - 1) (omega arith) (omega arith)) in
     ap (λ b. b && (get_or piece (at + suc k - 2) 0 == 0x72 || get_or piece (at + suc k - 6) 0 == 0x7D)) before
 
 some_left : (left k : ℕ) → suc k ≤ left → (left - k == 0) ≡ false
@@ -136,75 +189,119 @@ kept_more kept piece from to more e ordered less =
 no_some : (from : ℕ) → None ≡ Some from → ⊥
 no_some from e = absurd cc
 
-read_run : (passes : List ℕ → Bool) (taken piece : List ℕ) (old : Scanning) (name : Name) (at k : ℕ) → 6 ≤ at → at + k ≤ length piece → k ≤ name.left → may_begin piece at ≡ false
-    → ((n : ℕ) → at ≤ n → n < at + k → nat_le (get_or piece n 0) 4 ≡ false) → ((n : ℕ) → at ≤ n → n < at + k → get_or piece n 0 < 256) → old.name ≡ Some name → old.row ≡ None
+-- where the scan has a name of this form, and no row
+record Reads (old : Scanning) (n : Name) (skip : ℕ) : Type 0 where
+  pub name : old.name ≡ Some n
+  pub even : old.even ≡ None
+  pub odd : old.odd ≡ None
+  pub group : n.text.group ≡ place.First
+  pub skip_is : n.text.skip ≡ Some skip
+
+same_name : (n : Name) (count skip : ℕ) → n.text.skip ≡ Some skip → name_past n count ≡ the_name n.place (n.text.left - count) skip
+same_name n count skip e = ap (λ s. record { place = n.place; text = record { left = n.text.left - count; group = place.First; skip = s } }) e
+
+whole_name : (n : Name) (skip : ℕ) → n.text.group ≡ place.First → n.text.skip ≡ Some skip → n ≡ the_name n.place n.text.left skip
+whole_name n skip g e =
+    ap (λ x. record { place = n.place; text = record { left = n.text.left; group = x; skip = n.text.skip } }) g
+    ∙ ap (λ s. record { place = n.place; text = record { left = n.text.left; group = place.First; skip = s } }) e
+
+read_run : (passes : List ℕ → Bool) (taken piece : List ℕ) (old : Scanning) (n : Name) (skip at k : ℕ) → 6 ≤ at → at + k ≤ length piece → k ≤ n.text.left → may_begin piece at ≡ false
+    → ((m : ℕ) → at ≤ m → m < at + k → is_letter (get_or piece m 0) ≡ true) → ((m : ℕ) → at ≤ m → m < at + k → get_or piece m 0 < 256) → Reads old n skip
     → length taken + (at + k) ≤ most_taken → HasScanned passes (taken ++ take at piece) old
-    → HasScanned passes (taken ++ take (at + k) piece) (read_past old name piece at (at + k))
-read_run passes taken piece old name at zero six within few quiet high small en er fits s =
+    → HasScanned passes (taken ++ take (at + k) piece) (read_past old n piece at (at + k))
+read_run passes taken piece old n skip at zero six within few quiet letters small r fits s =
     let none : at + 0 ≡ at = omega arith in
     let long = length-take-le at piece (omega arith) in
     let count : old.count ≡ min (old.count + (at - at)) most_taken =
     omega (arith, s.follows.count, fits, long, length-reverse (taken ++ take at piece), length-append taken (take at piece)) in
-    let left : name.left ≡ name.left - (at - at) = omega arith in
+    let left : n.text.left ≡ n.text.left - (at - at) = omega arith in
     let size : at - at ≡ 0 = omega arith in
-    let kept : old.kept ≡ old.kept ++ take (at - at) (drop at piece) = sym (ap (λ (n : ℕ). old.kept ++ take n (drop at piece)) size ∙ append-nil old.kept) in
-    let same : old ≡ read_past old name piece at at =
-    same_scan old.count _ old.recent _ old.kept _ old.name _ old.row _ count
-    (s.follows.recent ∙ sym (recent_same taken piece at (omega arith) six)) kept
-    (en ∙ ap (λ (l : ℕ). Some (record { place = name.place; left = l })) left) er in
-    subst (λ (n : ℕ). HasScanned passes (taken ++ take n piece) (read_past old name piece at n)) (sym none)
+    let kept : old.kept ≡ old.kept ++ take (at - at) (drop at piece) = sym (ap (λ (m : ℕ). old.kept ++ take m (drop at piece)) size ∙ append-nil old.kept) in
+    let named : old.name ≡ Some (name_past n (at - at)) =
+    r.name ∙ ap (λ x. Some x) (whole_name n skip r.group r.skip_is ∙ ap (λ (l : ℕ). the_name n.place l skip) left ∙ sym (same_name n (at - at) skip r.skip_is)) in
+    let same : old ≡ read_past old n piece at at =
+    same_scan old.count _ old.recent _ old.kept _ old.name _ old.even _ old.odd _ count (s.follows.recent ∙ sym (recent_same taken piece at (omega arith) six)) kept named r.even r.odd in
+    subst (λ (m : ℕ). HasScanned passes (taken ++ take m piece) (read_past old n piece at m)) (sym none)
     (subst (λ (x : Scanning). HasScanned passes (taken ++ take at piece) x) same s)
-read_run passes taken piece old name at (suc k) six within few quiet high small en er fits s =
+read_run passes taken piece old n skip at (suc k) six within few quiet letters small r fits s =
     let to : ℕ = at + k in
     let byte : ℕ = get_or piece to 0 in
-    let now : Scanning = read_past old name piece at to in
+    let now : Scanning = read_past old n piece at to in
     let before : List ℕ = taken ++ take to piece in
     let long = length-take-le to piece (omega arith) in
-    let past = read_run passes taken piece old name at k six (omega arith) (omega arith) quiet (λ n lower upper. high n lower (omega arith)) (λ n lower upper. small n lower (omega arith)) en er (omega arith) s in
-    let left : (name.left - (to - at) == 0) ≡ false = some_left name.left (to - at) (omega arith) in
-    let begins : may_begin piece to ≡ false = no_begin piece at k quiet (λ n lower upper. high n lower (omega arith)) in
-    let dark : nat_le byte 4 ≡ false = high to (omega arith) (omega arith) in
-    let name_now : Name = record { place = name.place; left = name.left - (to - at) } in
-    let made = byte_by passes now (scan_after passes now byte) byte None before (small to (omega arith) (omega arith)) (omega (arith, fits, long, length-append taken (take to piece))) past
-    (sym (none_hidden passes now.count now.recent now.kept name_now byte left)) (λ e. refl) None (λ e. refl) (λ from e. absurd (no_some from e)) in
+    let past = read_run passes taken piece old n skip at k six (omega arith) (omega arith) quiet (λ m lower upper. letters m lower (omega arith)) (λ m lower upper. small m lower (omega arith)) r (omega arith) s in
+    let rest_left : ℕ = n.text.left - (to - at) in
+    let left : (rest_left == 0) ≡ false = some_left n.text.left (to - at) (omega arith) in
+    let begins : may_begin piece to ≡ false = no_begin piece at k quiet (λ m lower upper. letters m lower (omega arith)) in
+    let letter : is_letter byte ≡ true = letters to (omega arith) (omega arith) in
+    let form : now ≡ the_scan now.count now.recent now.kept (the_name n.place rest_left skip) =
+    ap (λ (x : Name). the_scan now.count now.recent now.kept x) (same_name n (to - at) skip r.skip_is) in
+    let hidden : scan_hidden passes now byte ≡ None = ap (λ (x : Scanning). scan_hidden passes x byte) form ∙ none_hidden passes now.count now.recent now.kept n.place rest_left skip byte left letter in
+    let made = byte_by passes now (scan_after now byte) byte None before (small to (omega arith) (omega arith)) (omega (arith, fits, long, length-append taken (take to piece))) past
+    (sym hidden) (λ e. refl) None (λ e. refl) (λ from e. absurd (no_some from e)) in
     let more : at + suc k ≡ to + 1 = omega arith in
-    let after = after_is passes now.count now.recent now.kept name_now byte left dark begins in
+    let after = ap (λ (x : Scanning). scan_after x byte) form ∙ after_is now.count now.recent now.kept n.place rest_left skip byte left letter begins in
     let count : min (min (old.count + (to - at)) most_taken + 1) most_taken ≡ min (old.count + (at + suc k - at)) most_taken = omega arith in
-    let rest : name.left - (to - at) - 1 ≡ name.left - (at + suc k - at) = omega arith in
-    let same = after ∙ same_scan _ _ _ _ _ _ _ _ _ _ count (recent_more piece to (at + suc k) more (omega arith)) (kept_more old.kept piece at to (at + suc k) more (omega arith) (omega arith))
-    (ap (λ (l : ℕ). Some (record { place = name.place; left = l })) rest) refl in
+    let rest : rest_left - 1 ≡ n.text.left - (at + suc k - at) = omega arith in
+    let same = after ∙ same_scan _ _ _ _ _ _ _ _ _ _ _ _ count (recent_more piece to (at + suc k) more (omega arith)) (kept_more old.kept piece at to (at + suc k) more (omega arith) (omega arith))
+    (ap (λ (l : ℕ). Some (the_name n.place l skip)) rest ∙ ap (λ x. Some x) (sym (same_name n (at + suc k - at) skip r.skip_is))) refl refl in
     let list : before ++ byte ∷ [] ≡ taken ++ take (at + suc k) piece =
-    append_assoc taken (take to piece) (byte ∷ []) ∙ ap (λ (xs : List ℕ). taken ++ xs) (sym (take_more piece to 0 (omega arith))) ∙ ap (λ (n : ℕ). taken ++ take n piece) (sym more) in
-    subst (λ (xs : List ℕ). HasScanned passes xs (read_past old name piece at (at + suc k))) list
+    append_assoc taken (take to piece) (byte ∷ []) ∙ ap (λ (xs : List ℕ). taken ++ xs) (sym (take_more piece to 0 (omega arith))) ∙ ap (λ (m : ℕ). taken ++ take m piece) (sym more) in
+    subst (λ (xs : List ℕ). HasScanned passes xs (read_past old n piece at (at + suc k))) list
     (subst (λ (x : Scanning). HasScanned passes (before ++ byte ∷ []) x) same made)
 
 -- ---- what a call tells
 
-read_scanned : (passes : List ℕ → Bool) (taken piece : List ℕ) (old : Scanning) (name : Name) (at to : ℕ) → 6 ≤ at → to - at ≤ name.left → may_begin piece at ≡ false → IsText piece at to
-    → old.name ≡ Some name → old.row ≡ None → length taken + to ≤ most_taken → HasScanned passes (taken ++ take at piece) old
-    → HasScanned passes (taken ++ take to piece) (read_past old name piece at to)
-read_scanned passes taken piece old name at to six few quiet t en er fits s =
+read_scanned : (passes : List ℕ → Bool) (taken piece : List ℕ) (old : Scanning) (n : Name) (skip at to : ℕ) → 6 ≤ at → to - at ≤ n.text.left → may_begin piece at ≡ false → IsText piece at to
+    → Reads old n skip → length taken + to ≤ most_taken → HasScanned passes (taken ++ take at piece) old
+    → HasScanned passes (taken ++ take to piece) (read_past old n piece at to)
+read_scanned passes taken piece old n skip at to six few quiet t r fits s =
     let ordered = t.ordered in
     let within = t.within in
     let e : at + (to - at) ≡ to = omega arith in
-    subst (λ (n : ℕ). HasScanned passes (taken ++ take n piece) (read_past old name piece at n)) e
-    (read_run passes taken piece old name at (to - at) six (omega arith) few quiet (λ n lower upper. t.high n lower (omega arith)) (λ n lower upper. t.bytes n lower (omega arith)) en er (omega arith) s)
+    subst (λ (m : ℕ). HasScanned passes (taken ++ take m piece) (read_past old n piece at m)) e
+    (read_run passes taken piece old n skip at (to - at) six (omega arith) few quiet (λ m lower upper. t.letters m lower (omega arith)) (λ m lower upper. t.bytes m lower (omega arith)) r (omega arith) s)
 
-takes_read : (old : Scanning) (name : Name) (piece : List ℕ) (at to : ℕ) → 6 ≤ at → to - at ≤ name.left → may_begin piece at ≡ false → IsText piece at to → old.name ≡ Some name → old.row ≡ None
-    → (passes : List ℕ → Bool) (start : Scanning) → TakesBytes passes start old (take at piece) None → TakesBytes passes start (read_past old name piece at to) (take to piece) None
+-- there is room for what was kept
+roomy_by : (o : Option Name) (n : Name) (skip : ℕ) (kept : List ℕ) → o ≡ Some n → n.text.skip ≡ Some skip → SkipFits (name_group o) kept → length kept + n.text.left < 9216
+roomy_by o n skip kept e f s =
+    let here = subst (λ x. SkipFits (name_group x) kept) e s in
+    (subst (λ x. IfSome x (λ k. (k ≤ length kept) × (length kept + n.text.left < 9216))) f here).1
+
+takes_read : (old new : Scanning) (n : Name) (skip : ℕ) (piece : List ℕ) (at to : ℕ) → 6 ≤ at → to - at ≤ n.text.left → may_begin piece at ≡ false → IsText piece at to → Reads old n skip
+    → (length old.kept + (to - at) ≤ 9217 → new ≡ read_past old n piece at to)
+    → (passes : List ℕ → Bool) (start : Scanning) → TakesBytes passes start old (take at piece) None → TakesBytes passes start new (take to piece) None
 unfolding TakesBytes
-takes_read old name piece at to six few quiet t en er passes start took = λ taken fits s.
+takes_read old new n skip piece at to six few quiet t r is passes start took = λ taken fits s.
     let ordered = t.ordered in
     let within = t.within in
     let long_at = length-take-le at piece (omega arith) in
     let long_to = length-take-le to piece within in
-    read_scanned passes taken piece old name at to six few quiet t en er (omega arith) (took taken (omega arith) s)
+    let before = took taken (omega arith) s in
+    let room = roomy_by old.name n skip old.kept r.name r.skip_is before.follows.name_skip in
+    subst (λ (x : Scanning). HasScanned passes (taken ++ take to piece) x) (sym (is (omega arith)))
+    (read_scanned passes taken piece old n skip at to six few quiet t r (omega arith) before)
 
-pub hurried_inside : (old new : Scanning) (name : Name) (piece : List ℕ) (at to : ℕ) (begins : Bool) → 6 ≤ at → to - at ≤ name.left → begins ≡ may_begin piece at → begins ≡ false → IsText piece at to
-    → old.name ≡ Some name → old.row ≡ None → new ≡ read_past old name piece at to → Hurries old new piece at to
-hurried_inside old new name piece at to begins six few is none t en er e = record {
-  ordered = t.ordered;
-  within = t.within;
-  takes = λ passes start took. subst (λ (x : Scanning). TakesBytes passes start x (take to piece) None) (sym e)
-      (takes_read old name piece at to six few (sym is ∙ none) t en er passes start took);
-}
+record HasSkip (skip : Option ℕ) : Type 0 where
+  pub at : ℕ
+  pub is : skip ≡ Some at
+
+has_skip : (skip : Option ℕ) → is_some skip ≡ true → HasSkip skip
+has_skip None e = absurd cc
+has_skip (Some k) e = record { at = k; is = refl }
+
+is_first_group : (g : Place) → is_first g ≡ true → g ≡ place.First
+is_first_group place.First e = refl
+is_first_group (place.Middle high) e = absurd cc
+is_first_group (place.Last high) e = absurd cc
+
+pub hurried_inside : (old new : Scanning) (n : Name) (piece : List ℕ) (at to : ℕ) → 6 ≤ at → to - at ≤ n.text.left → may_begin piece at ≡ false → is_first n.text.group ≡ true → is_some n.text.skip ≡ true
+    → IsText piece at to → old.name ≡ Some n → old.even ≡ None → old.odd ≡ None → (length old.kept + (to - at) ≤ 9217 → new ≡ read_past old n piece at to) → Hurries old new piece at to
+hurried_inside old new n piece at to six few quiet first some t en ee eo is =
+    let h = has_skip n.text.skip some in
+    record {
+      ordered = t.ordered;
+      within = t.within;
+      takes = λ passes start took. takes_read old new n h.at piece at to six few quiet t
+          (record { name = en; even = ee; odd = eo; group = is_first_group n.text.group first; skip_is = h.is }) is passes start took;
+    }

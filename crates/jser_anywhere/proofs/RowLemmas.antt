@@ -2,7 +2,8 @@
 use Rattle.std.proofs.Common.{◌≡◌, ℕ, suc, ◌+◌, ◌-◌, ◌<◌, ◌≤◌, ◌∙◌, ap, sym, subst, Bool, true, false, if◌then◌else◌, Option, Some, None, List, length, drop, refl, arith}
 use Rattle.std.specs.Option.{option_map}
 use Rattle.std.proofs.Common.{length-drop}
-use Rattle.jser_anywhere.specs.Search.{text_of, text_end, row_hidden, row_next, TellsText}
+use Rattle.jser_anywhere.specs.Search.{text_of, text_end, names_hidden, row_hidden, row_next, TellsText}
+use Rattle.jser_anywhere.specs.Names.{core}
 
 -- so many names of a row were read, which all pass, and the rest stands after so many bytes
 pub record Ahead (passes : List ℕ → Bool) (most : ℕ) (bytes : List ℕ) (turn gone : ℕ) (rest : List ℕ) : Type 0 where
@@ -43,21 +44,21 @@ ahead_none passes most bytes turn gone rest a less e =
     ∙ ap (λ o. option_map (λ more. gone + more) (row_next passes (text_end rest) (row_hidden passes (a.left - 1) (drop (text_end rest) rest)) o)) e)
 
 pub ahead_found : (passes : List ℕ → Bool) (most : ℕ) (bytes : List ℕ) (turn gone : ℕ) (rest units : List ℕ) (end : ℕ) → Ahead passes most bytes turn gone rest
-    → turn < most → TellsText rest (Some end) units → passes units ≡ false → Some (gone + end) ≡ row_hidden passes most bytes
+    → turn < most → TellsText rest (Some end) units → names_hidden passes (core units) ≡ true → Some (gone + end) ≡ row_hidden passes most bytes
 ahead_found passes most bytes turn gone rest units end a less told fails =
     sym (turned passes most bytes turn gone rest a less
     ∙ ap (λ o. option_map (λ more. gone + more) (row_next passes (text_end rest) (row_hidden passes (a.left - 1) (drop (text_end rest) rest)) o)) (told.0)
-    ∙ ap (λ b. option_map (λ more. gone + more) (if b then option_map (λ more. text_end rest + more) (row_hidden passes (a.left - 1) (drop (text_end rest) rest)) else Some (text_end rest))) fails
+    ∙ ap (λ b. option_map (λ more. gone + more) (if b then Some (text_end rest) else option_map (λ more. text_end rest + more) (row_hidden passes (a.left - 1) (drop (text_end rest) rest)))) fails
     ∙ ap (λ (n : ℕ). Some (gone + n)) (sym (told.1)))
 
 pub ahead_more : (passes : List ℕ → Bool) (most : ℕ) (bytes : List ℕ) (turn gone : ℕ) (rest units after : List ℕ) (end : ℕ) → Ahead passes most bytes turn gone rest
-    → turn < most → TellsText rest (Some end) units → passes units ≡ true → after ≡ drop end rest → Ahead passes most bytes (turn + 1) (gone + end) after
+    → turn < most → TellsText rest (Some end) units → names_hidden passes (core units) ≡ false → after ≡ drop end rest → Ahead passes most bytes (turn + 1) (gone + end) after
 ahead_more passes most bytes turn gone rest units after end a less told good e = record {
   left = a.left - 1;
   counted = omega (arith, a.counted);
   tells = turned passes most bytes turn gone rest a less
       ∙ ap (λ o. option_map (λ more. gone + more) (row_next passes (text_end rest) (row_hidden passes (a.left - 1) (drop (text_end rest) rest)) o)) (told.0)
-      ∙ ap (λ b. option_map (λ more. gone + more) (if b then option_map (λ more. text_end rest + more) (row_hidden passes (a.left - 1) (drop (text_end rest) rest)) else Some (text_end rest))) good
+      ∙ ap (λ b. option_map (λ more. gone + more) (if b then Some (text_end rest) else option_map (λ more. text_end rest + more) (row_hidden passes (a.left - 1) (drop (text_end rest) rest)))) good
       ∙ map_twice gone (text_end rest) (row_hidden passes (a.left - 1) (drop (text_end rest) rest))
       ∙ ap (λ (n : ℕ). option_map (λ more. gone + n + more) (row_hidden passes (a.left - 1) (drop n rest))) (sym (told.1))
       ∙ ap (λ (xs : List ℕ). option_map (λ more. gone + end + more) (row_hidden passes (a.left - 1) xs)) (sym e);

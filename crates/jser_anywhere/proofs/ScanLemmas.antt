@@ -1,16 +1,17 @@
 -- A byte more: the first hidden name, or none.
 use Rattle.std.proofs.Common.{◌≡◌, ℕ, zero, suc, ◌+◌, ◌*◌, ◌≤◌, ◌∙◌, ap, sym, subst, Bool, true, false, ◌⊎◌, inl, inr, if◌then◌else◌, Option, Some, None, List, [], ◌∷◌, ◌++◌, length, drop, reverse, refl, arith, length-append, length-drop}
-use Rattle.std.specs.Prelude.{min}
+use Rattle.std.specs.Prelude.{min, IfSome}
 use Rattle.std.proofs.lemmas.Bool.{cases_lt}
 use Rattle.std.proofs.lemmas.List.{length-reverse, drop-append-le}
-use Rattle.jser_anywhere.specs.Standing.{BeginsName, BeginsRow, Begins, HiddenAt, AllPass, IsFirstHidden}
+use Rattle.jser_anywhere.specs.Standing.{BeginsText, BeginsName, BeginsRow, Begins, HiddenAt, AllPass, IsFirstHidden}
+use Rattle.jser_anywhere.specs.Texts.{row_units}
+use Rattle.jser_anywhere.specs.Names.{name_units}
 use Rattle.jser_anywhere.specs.Stages.{Stage, nothing, ended, stage_of}
-use Rattle.jser_anywhere.specs.Slots.{Slot, Slots, slots_of, is_hidden, lower_of, hidden_place}
-use Rattle.jser_anywhere.specs.Scans.{AreBytes}
+use Rattle.jser_anywhere.specs.Slots.{Slot, Slots, slots_of, hidden_of, lower, slot_hidden, hidden_place}
 use Rattle.jser_anywhere.proofs.PrefixLemmas.{name_within, stands_for_good}
 use Rattle.jser_anywhere.proofs.FirstLemmas.{begins_long}
 use Rattle.jser_anywhere.proofs.PlaceStages.{stands_ended, ended_stands}
-use Rattle.jser_anywhere.proofs.TrackLemmas.{Sound, slots_sound, tracks, Met, ended_met}
+use Rattle.jser_anywhere.proofs.TrackLemmas.{Sound, slots_sound, tracks, MetBy, Met, ended_met}
 
 -- ---- a name that ends within the first bytes stands in these
 
@@ -24,8 +25,8 @@ front_of (x ∷ front) after (y ∷ bytes) more e long =
     let f = front_of front after bytes more others (omega (arith, long)) in
     (f.0, ap (λ (n : ℕ). n ∷ bytes) same ∙ ap (λ (xs : List ℕ). x ∷ xs) f.1, f.2)
 
-name_shorter : (bytes more : List ℕ) (end : ℕ) (units : List ℕ) → BeginsName (bytes ++ more) end units → end ≤ length bytes → BeginsName bytes end units
-name_shorter bytes more end units name within =
+name_shorter : (reader : List ℕ → Option (List ℕ)) (bytes more : List ℕ) (end : ℕ) (units : List ℕ) → BeginsText reader (bytes ++ more) end units → end ≤ length bytes → BeginsText reader bytes end units
+name_shorter reader bytes more end units name within =
     let f = front_of (name.high ∷ name.low ∷ name.text) name.after bytes more name.split (omega (arith, within, name.ends)) in
     record {
       high = name.high;
@@ -42,13 +43,13 @@ name_shorter bytes more end units name within =
 
 row_shorter : (most : ℕ) (bytes more : List ℕ) (end : ℕ) (units : List ℕ) → BeginsRow most (bytes ++ more) end units → end ≤ length bytes → BeginsRow most bytes end units
 row_shorter zero bytes more end units r within = r
-row_shorter (suc most) bytes more end units (inl name) within = inl (name_shorter bytes more end units name within)
+row_shorter (suc most) bytes more end units (inl name) within = inl (name_shorter name_units bytes more end units name within)
 row_shorter (suc most) bytes more end units (inr later) within =
     let long : later.first ≤ length bytes = omega (arith, later.ends, within) in
     inr (record {
       first = later.first;
       others = later.others;
-      name = name_shorter bytes more later.first later.others later.name long;
+      name = name_shorter row_units bytes more later.first later.others later.name long;
       more = later.more;
       later = row_shorter most (drop later.first bytes) more later.more units
           (subst (λ (xs : List ℕ). BeginsRow most xs later.more units) (drop-append-le later.first bytes more long) later.later)
@@ -63,7 +64,7 @@ begins_shorter bytes more end units (inl d) within =
       rest = f.0;
       split = f.1;
       name_end = d.name_end;
-      name = name_shorter f.0 more d.name_end units (subst (λ (xs : List ℕ). BeginsName xs d.name_end units) f.2 d.name) (omega (arith, within, d.ends, ap length f.1));
+      name = name_shorter name_units f.0 more d.name_end units (subst (λ (xs : List ℕ). BeginsName xs d.name_end units) f.2 d.name) (omega (arith, within, d.ends, ap length f.1));
       ends = d.ends;
     })
 begins_shorter bytes more end units (inr i) within =
@@ -98,12 +99,12 @@ hidden_shorter passes bytes more from to hidden within =
 -- and no name ends beyond the bytes
 row_within : (most : ℕ) (bytes : List ℕ) (end : ℕ) (units : List ℕ) → BeginsRow most bytes end units → end ≤ length bytes
 row_within zero bytes end units r = absurd r
-row_within (suc most) bytes end units (inl name) = name_within bytes end units name
+row_within (suc most) bytes end units (inl name) = name_within name_units bytes end units name
 row_within (suc most) bytes end units (inr later) =
-    omega (arith, later.ends, name_within bytes later.first later.others later.name, row_within most (drop later.first bytes) later.more units later.later, length-drop later.first bytes)
+    omega (arith, later.ends, name_within row_units bytes later.first later.others later.name, row_within most (drop later.first bytes) later.more units later.later, length-drop later.first bytes)
 
 begins_within : (bytes : List ℕ) (end : ℕ) (units : List ℕ) → Begins bytes end units → end ≤ length bytes
-begins_within bytes end units (inl d) = omega (arith, d.ends, name_within d.rest d.name_end units d.name, ap length d.split)
+begins_within bytes end units (inl d) = omega (arith, d.ends, name_within name_units d.rest d.name_end units d.name, ap length d.split)
 begins_within bytes end units (inr i) = omega (arith, i.ends, row_within (i.high * 256 + i.low) i.rest i.row_end units i.row, ap length i.split)
 
 pub hidden_within : (passes : List ℕ → Bool) (bytes : List ℕ) (from to : ℕ) → HiddenAt passes bytes from to → to ≤ length bytes
@@ -130,59 +131,19 @@ slot_hidden_by passes taken byte slot units (inr placed) e fails = record {
   fails = fails;
 }
 
-fails_of : (passes : List ℕ → Bool) (units : List ℕ) (is : Bool) → passes units ≡ is → (if is then false else true) ≡ true → passes units ≡ false
-fails_of passes units true p e = absurd cc
-fails_of passes units false p e = p
+-- of the hidden names that end with the byte, those that some slots meet: where it is told, one is hidden there
+abbrev HiddenWhere : (List ℕ → Bool) → (taken : List ℕ) → (byte : ℕ) → Option ℕ → Type 0
+HiddenWhere passes taken byte told = IfSome told (λ place. HiddenAt passes (taken ++ byte ∷ []) place (length taken + 1))
 
-slot_hidden_of : (passes : List ℕ → Bool) (taken : List ℕ) (byte : ℕ) (slot : Slot) (name : Option (List ℕ)) → Sound (reverse taken) slot → ended slot.stage byte ≡ name → is_hidden passes name ≡ true
-    → HiddenAt passes (taken ++ byte ∷ []) slot.place (length taken + 1)
-slot_hidden_of passes taken byte slot None s e h = absurd cc
-slot_hidden_of passes taken byte slot (Some units) s e h = slot_hidden_by passes taken byte slot units s e (fails_of passes units (passes units) refl h)
+slot_where_by : (passes : List ℕ → Bool) (taken : List ℕ) (byte : ℕ) (slot : Slot) (units : List ℕ) (good : Bool) → Sound (reverse taken) slot → ended slot.stage byte ≡ Some units → passes units ≡ good
+    → HiddenWhere passes taken byte (if good then None else Some slot.place)
+slot_where_by passes taken byte slot units true s e p = tt
+slot_where_by passes taken byte slot units false s e p = slot_hidden_by passes taken byte slot units s e p
 
-is_hidden_of : (passes : List ℕ → Bool) (name : Option (List ℕ)) (units : List ℕ) → name ≡ Some units → passes units ≡ false → is_hidden passes name ≡ true
-is_hidden_of passes name units e fails = ap (λ o. is_hidden passes o) e ∙ ap (λ b. if b then false else true) fails
-
--- each hidden name that ends with the byte is met by a slot that has a hidden one, at its place or before
-abbrev pub HiddenMet : (name row : Bool) → (name_place row_place place : ℕ) → Type 0
-HiddenMet name row name_place row_place place = ((name ≡ true) × (name_place ≤ place)) ⊎ ((row ≡ true) × (row_place ≤ place))
-
-met_hidden : (passes : List ℕ → Bool) (slots : Slots) (place byte : ℕ) (units : List ℕ) → passes units ≡ false → Met slots place byte units
-    → HiddenMet (is_hidden passes (ended slots.name.stage byte)) (is_hidden passes (ended slots.row.stage byte)) slots.name.place slots.row.place place
-met_hidden passes slots place byte units fails (inl m) = inl (is_hidden_of passes (ended slots.name.stage byte) units m.0 fails, m.1)
-met_hidden passes slots place byte units fails (inr m) = inr (is_hidden_of passes (ended slots.row.stage byte) units m.0 fails, m.1)
-
-hidden_met : (passes : List ℕ → Bool) (taken : List ℕ) (byte place : ℕ) → AreBytes (reverse taken) → HiddenAt passes (taken ++ byte ∷ []) place (length taken + 1)
-    → HiddenMet (is_hidden passes (ended (slots_of (reverse taken)).name.stage byte)) (is_hidden passes (ended (slots_of (reverse taken)).row.stage byte))
-    (slots_of (reverse taken)).name.place (slots_of (reverse taken)).row.place place
-hidden_met passes taken byte place are hidden =
-    met_hidden passes (slots_of (reverse taken)) place byte hidden.units hidden.fails
-    (ended_met (reverse taken) (slots_of (reverse taken)) place (stage_of place (reverse taken)) byte hidden.units (tracks (reverse taken) are place)
-    (stands_ended place byte taken hidden.units hidden.stands))
-
--- the answer of a byte: none, or the least place
-pub record IsLeastHidden (passes : List ℕ → Bool) (taken : List ℕ) (byte place : ℕ) : Type 0 where
-  pub hidden : HiddenAt passes (taken ++ byte ∷ []) place (length taken + 1)
-  pub least : (other : ℕ) → HiddenAt passes (taken ++ byte ∷ []) other (length taken + 1) → place ≤ other
-
-abbrev pub TellsByte : (List ℕ → Bool) → (taken : List ℕ) → (byte : ℕ) → Option ℕ → Type 0
-TellsByte passes taken byte None = (other : ℕ) → HiddenAt passes (taken ++ byte ∷ []) other (length taken + 1) → ⊥
-TellsByte passes taken byte (Some place) = IsLeastHidden passes taken byte place
-
-no_met : (a b p : ℕ) → HiddenMet false false a b p → ⊥
-no_met a b p (inl m) = let e = m.0 in absurd cc
-no_met a b p (inr m) = let e = m.0 in absurd cc
-
-name_met : (a b p : ℕ) → HiddenMet true false a b p → a ≤ p
-name_met a b p (inl m) = m.1
-name_met a b p (inr m) = let e = m.0 in absurd cc
-
-row_met : (a b p : ℕ) → HiddenMet false true a b p → b ≤ p
-row_met a b p (inl m) = let e = m.0 in absurd cc
-row_met a b p (inr m) = m.1
-
-both_met : (a b p : ℕ) → HiddenMet true true a b p → min a b ≤ p
-both_met a b p (inl m) = omega (arith, m.1)
-both_met a b p (inr m) = omega (arith, m.1)
+slot_where : (passes : List ℕ → Bool) (taken : List ℕ) (byte : ℕ) (slot : Slot) (name : Option (List ℕ)) → Sound (reverse taken) slot → ended slot.stage byte ≡ name
+    → HiddenWhere passes taken byte (hidden_of passes slot.place name)
+slot_where passes taken byte slot None s e = tt
+slot_where passes taken byte slot (Some units) s e = slot_where_by passes taken byte slot units (passes units) s e refl
 
 min_is : (a b : ℕ) → (min a b ≡ a) ⊎ (min a b ≡ b)
 min_is a b = elim (cases_lt a b) [ inl less ↦ inl (omega arith) | inr not ↦ inr (omega arith) ]
@@ -193,26 +154,67 @@ min_hidden passes bytes a b to x y = elim (min_is a b) [
   | inr e ↦ subst (λ (n : ℕ). HiddenAt passes bytes n to) (sym e) y
 ]
 
-tells_by : (passes : List ℕ → Bool) (taken : List ℕ) (byte : ℕ) (name row : Bool) (a b : ℕ)
-    → (name ≡ true → HiddenAt passes (taken ++ byte ∷ []) a (length taken + 1)) → (row ≡ true → HiddenAt passes (taken ++ byte ∷ []) b (length taken + 1))
-    → ((place : ℕ) → HiddenAt passes (taken ++ byte ∷ []) place (length taken + 1) → HiddenMet name row a b place)
-    → TellsByte passes taken byte (lower_of name row a b)
-tells_by passes taken byte true true a b n r m = record {
-  hidden = min_hidden passes (taken ++ byte ∷ []) a b (length taken + 1) (n refl) (r refl);
-  least = λ other h. both_met a b other (m other h);
-}
-tells_by passes taken byte true false a b n r m = record { hidden = n refl; least = λ other h. name_met a b other (m other h) }
-tells_by passes taken byte false true a b n r m = record { hidden = r refl; least = λ other h. row_met a b other (m other h) }
-tells_by passes taken byte false false a b n r m = λ other h. no_met a b other (m other h)
+lower_where : (passes : List ℕ → Bool) (taken : List ℕ) (byte : ℕ) (a b : Option ℕ) → HiddenWhere passes taken byte a → HiddenWhere passes taken byte b → HiddenWhere passes taken byte (lower a b)
+lower_where passes taken byte None b x y = y
+lower_where passes taken byte (Some a) None x y = x
+lower_where passes taken byte (Some a) (Some b) x y = min_hidden passes (taken ++ byte ∷ []) a b (length taken + 1) x y
 
-pub tells_byte : (passes : List ℕ → Bool) (taken : List ℕ) (byte : ℕ) → AreBytes (reverse taken) → TellsByte passes taken byte (hidden_place passes (slots_of (reverse taken)) byte)
-tells_byte passes taken byte are =
+-- a place is told, or one before it
+abbrev ToldBy : Option ℕ → ℕ → Type 0
+ToldBy None place = ⊥
+ToldBy (Some told) place = told ≤ place
+
+left_told : (a b : Option ℕ) (place : ℕ) → ToldBy a place → ToldBy (lower a b) place
+left_told None b place t = absurd t
+left_told (Some a) None place t = t
+left_told (Some a) (Some b) place t = omega (arith, t)
+
+right_told : (a b : Option ℕ) (place : ℕ) → ToldBy b place → ToldBy (lower a b) place
+right_told None b place t = t
+right_told (Some a) None place t = absurd t
+right_told (Some a) (Some b) place t = omega (arith, t)
+
+met_told : (passes : List ℕ → Bool) (slot : Slot) (place byte : ℕ) (units : List ℕ) → passes units ≡ false → MetBy slot place byte units → ToldBy (slot_hidden passes slot byte) place
+met_told passes slot place byte units fails m =
+    let told : slot_hidden passes slot byte ≡ Some slot.place = ap (λ o. hidden_of passes slot.place o) m.0 ∙ ap (λ b. if b then None else Some slot.place) fails in
+    subst (λ o. ToldBy o place) (sym told) (omega (arith, m.1))
+
+slots_told : (passes : List ℕ → Bool) (slots : Slots) (place byte : ℕ) (units : List ℕ) → passes units ≡ false → Met slots place byte units → ToldBy (hidden_place passes slots byte) place
+slots_told passes slots place byte units fails (inl m) =
+    left_told (slot_hidden passes slots.name byte) (lower (slot_hidden passes slots.even byte) (slot_hidden passes slots.odd byte)) place (met_told passes slots.name place byte units fails m)
+slots_told passes slots place byte units fails (inr (inl m)) =
+    right_told (slot_hidden passes slots.name byte) (lower (slot_hidden passes slots.even byte) (slot_hidden passes slots.odd byte)) place
+    (left_told (slot_hidden passes slots.even byte) (slot_hidden passes slots.odd byte) place (met_told passes slots.even place byte units fails m))
+slots_told passes slots place byte units fails (inr (inr m)) =
+    right_told (slot_hidden passes slots.name byte) (lower (slot_hidden passes slots.even byte) (slot_hidden passes slots.odd byte)) place
+    (right_told (slot_hidden passes slots.even byte) (slot_hidden passes slots.odd byte) place (met_told passes slots.odd place byte units fails m))
+
+-- the answer of a byte: none, or the least place
+pub record IsLeastHidden (passes : List ℕ → Bool) (taken : List ℕ) (byte place : ℕ) : Type 0 where
+  pub hidden : HiddenAt passes (taken ++ byte ∷ []) place (length taken + 1)
+  pub least : (other : ℕ) → HiddenAt passes (taken ++ byte ∷ []) other (length taken + 1) → place ≤ other
+
+abbrev pub TellsByte : (List ℕ → Bool) → (taken : List ℕ) → (byte : ℕ) → Option ℕ → Type 0
+TellsByte passes taken byte None = (other : ℕ) → HiddenAt passes (taken ++ byte ∷ []) other (length taken + 1) → ⊥
+TellsByte passes taken byte (Some place) = IsLeastHidden passes taken byte place
+
+tells_by : (passes : List ℕ → Bool) (taken : List ℕ) (byte : ℕ) (told : Option ℕ) → HiddenWhere passes taken byte told
+    → ((place : ℕ) → HiddenAt passes (taken ++ byte ∷ []) place (length taken + 1) → ToldBy told place) → TellsByte passes taken byte told
+tells_by passes taken byte None w t = t
+tells_by passes taken byte (Some place) w t = record { hidden = w; least = t }
+
+pub tells_byte : (passes : List ℕ → Bool) (taken : List ℕ) (byte : ℕ) → TellsByte passes taken byte (hidden_place passes (slots_of (reverse taken)) byte)
+tells_byte passes taken byte =
     let slots = slots_of (reverse taken) in
-    let sound = slots_sound (reverse taken) are in
-    tells_by passes taken byte (is_hidden passes (ended slots.name.stage byte)) (is_hidden passes (ended slots.row.stage byte)) slots.name.place slots.row.place
-    (slot_hidden_of passes taken byte slots.name (ended slots.name.stage byte) sound.name refl)
-    (slot_hidden_of passes taken byte slots.row (ended slots.row.stage byte) sound.row refl)
-    (λ place h. hidden_met passes taken byte place are h)
+    let sound = slots_sound (reverse taken) in
+    tells_by passes taken byte (hidden_place passes slots byte)
+    (lower_where passes taken byte (slot_hidden passes slots.name byte) (lower (slot_hidden passes slots.even byte) (slot_hidden passes slots.odd byte))
+    (slot_where passes taken byte slots.name (ended slots.name.stage byte) sound.name refl)
+    (lower_where passes taken byte (slot_hidden passes slots.even byte) (slot_hidden passes slots.odd byte)
+    (slot_where passes taken byte slots.even (ended slots.even.stage byte) sound.even refl)
+    (slot_where passes taken byte slots.odd (ended slots.odd.stage byte) sound.odd refl)))
+    (λ place h. slots_told passes slots place byte h.units h.fails
+    (ended_met (reverse taken) slots place (stage_of place (reverse taken)) byte h.units (tracks (reverse taken) place) (stands_ended place byte taken h.units h.stands)))
 
 -- ---- of all bytes, after those before passed
 

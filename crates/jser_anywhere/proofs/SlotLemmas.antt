@@ -1,84 +1,11 @@
--- Two slots are enough: each stage that is to end a name is in them, or a row that stands before has its names.
-use Rattle.std.proofs.Common.{◌≡◌, ℕ, suc, ◌+◌, ◌-◌, ◌*◌, ◌<◌, ◌≤◌, ◌∙◌, ap, sym, subst, Bool, true, false, ◌&&◌, ◌==◌, ◌⊎◌, inl, inr, if◌then◌else◌, List, [], ◌∷◌, ◌++◌, length, refl, arith, eqb-true}
+-- Three slots are enough: no other descriptor's name is being read where one begins, and no other row at an even place, or at an
+-- odd one, where one begins there.
+use Rattle.std.proofs.Common.{◌≡◌, ℕ, ◌+◌, ◌-◌, ◌*◌, ◌%◌, ◌≤◌, ◌∙◌, ap, sym, subst, Bool, true, false, not, ◌&&◌, ◌==◌, ◌⊎◌, inl, inr, if◌then◌else◌, List, [], ◌∷◌, ◌++◌, length, get_or, refl, arith, eqb-true}
 use Rattle.std.specs.Prelude.{nat_le}
 use Rattle.std.proofs.lemmas.Bool.Decides.{nat_tests}
-use Rattle.jser_anywhere.specs.Standing.{most_bytes}
-use Rattle.jser_anywhere.specs.Stages.{descriptor, row, Stage, nothing, head, text, between, halfway, is_length, in_text, text_of, row_of, next}
-use Rattle.jser_anywhere.specs.Slots.{Slot, new_name, new_row, moved, filled, has_begun, row_filled}
-use Rattle.jser_anywhere.specs.Scans.{AreBytes}
-use Rattle.jser_anywhere.proofs.StageLemmas.{AllIn, IsLength, length_is, is_length_of, high_out}
-
--- ---- what is known of the last bytes, by what a slot has
-
-pub record FitsName (left : ℕ) (seen back : List ℕ) : Type 0 where
-  pub low : ℕ
-  pub high : ℕ
-  pub rest : List ℕ
-  pub split : back ≡ seen ++ (low ∷ high ∷ 0x72 ∷ rest)
-  pub small : in_text high ≡ false
-  pub all : AllIn seen
-  pub sized : length seen + left < most_bytes
-
--- the count of a row was just read
-pub record Counted (more place : ℕ) (back : List ℕ) : Type 0 where
-  pub low : ℕ
-  pub high : ℕ
-  pub rest : List ℕ
-  pub split : back ≡ low ∷ high ∷ 0 ∷ 0 ∷ 0x7D ∷ rest
-  pub counted : high * 256 + low ≡ suc more
-  pub at : place ≡ length rest
-
--- A name of a row just ended. Its last byte can occur in a name, and the one before is not 0. Where the next two are
--- 0, the name has one byte, it is the first of its row, and the next byte is the high one of the count.
-abbrev pub Fifth : (more second : ℕ) → List ℕ → Type 0
-Fifth more second [] = ⊥
-Fifth more second (byte ∷ back) = (second ≡ 1) × (byte * 256 ≤ more + 2)
-
-abbrev pub Fourth : (more second : ℕ) → List ℕ → Type 0
-Fourth more second [] = ⊥
-Fourth more second (byte ∷ back) = (1 ≤ byte) ⊎ Fifth more second back
-
-abbrev pub Third : (more second : ℕ) → List ℕ → Type 0
-Third more second [] = ⊥
-Third more second (byte ∷ back) = (1 ≤ byte) ⊎ Fourth more second back
-
-abbrev pub NameEnds : (more place : ℕ) → List ℕ → Type 0
-NameEnds more place [] = ⊥
-NameEnds more place (last ∷ []) = ⊥
-NameEnds more place (last ∷ second ∷ back) = (in_text last ≡ true) × (1 ≤ second) × Third more second back × (place + 6 ≤ length back)
-
-pub record FitsText (more place left : ℕ) (seen back : List ℕ) : Type 0 where
-  pub low : ℕ
-  pub high : ℕ
-  pub before : List ℕ
-  pub split : back ≡ seen ++ (low ∷ high ∷ before)
-  pub small : in_text high ≡ false
-  pub all : AllIn seen
-  pub counted : high * 256 + low ≡ length seen + suc left
-  pub sized : high * 256 + low ≤ most_bytes
-  pub behind : Counted more place before ⊎ NameEnds more place before
-
-pub record FitsHalfway (more place high : ℕ) (back : List ℕ) : Type 0 where
-  pub before : List ℕ
-  pub split : back ≡ high ∷ before
-  pub small : in_text high ≡ false
-  pub behind : NameEnds more place before
-
-abbrev pub FitsRow : (place : ℕ) → Stage → List ℕ → Type 0
-FitsRow place nothing back = Unit {0}
-FitsRow place (head bytes) back = ⊥
-FitsRow place (text descriptor left seen) back = ⊥
-FitsRow place (text (row more) left seen) back = FitsText more place left seen back
-FitsRow place (between more) back = NameEnds more place back
-FitsRow place (halfway more high) back = FitsHalfway more place high back
-
-abbrev pub FitsDescriptor : Stage → List ℕ → Type 0
-FitsDescriptor nothing back = Unit {0}
-FitsDescriptor (head bytes) back = ⊥
-FitsDescriptor (text descriptor left seen) back = FitsName left seen back
-FitsDescriptor (text (row more) left seen) back = ⊥
-FitsDescriptor (between more) back = ⊥
-FitsDescriptor (halfway more high) back = ⊥
+use Rattle.jser_anywhere.specs.Stages.{descriptor, row, Stage, nothing, head, text, between, halfway, no_units, is_length, in_name, text_of, row_of}
+use Rattle.jser_anywhere.specs.Slots.{Slot, ago, new_name, new_row, is_even, is_odd, if_wanted, moved, filled}
+use Rattle.jser_anywhere.proofs.StageLemmas.{IsLength, is_length_of, high_out}
 
 -- ---- new stages
 
@@ -87,7 +14,7 @@ pub record NewName (back : List ℕ) (byte : ℕ) : Type 0 where
   pub rest : List ℕ
   pub split : back ≡ high ∷ 0x72 ∷ rest
   pub is : IsLength high byte
-  pub stage : new_name back byte ≡ text descriptor (high * 256 + byte - 1) []
+  pub stage : new_name back byte ≡ text descriptor (high * 256 + byte - 1) no_units
 
 pub record NewRow (back : List ℕ) (byte : ℕ) : Type 0 where
   pub high : ℕ
@@ -97,19 +24,19 @@ pub record NewRow (back : List ℕ) (byte : ℕ) : Type 0 where
   pub split : back ≡ high ∷ count_low ∷ count_high ∷ 0 ∷ 0 ∷ 0x7D ∷ rest
   pub some : 1 ≤ count_high * 256 + count_low
   pub is : IsLength high byte
-  pub stage : new_row back byte ≡ text (row (count_high * 256 + count_low - 1)) (high * 256 + byte - 1) []
+  pub stage : new_row back byte ≡ text (row (count_high * 256 + count_low - 1)) (high * 256 + byte - 1) no_units
 
 new_name_by : (high mark byte : ℕ) (rest : List ℕ) (is_mark is : Bool) → (mark == 0x72) ≡ is_mark → is_length high byte ≡ is
     → (new_name (high ∷ mark ∷ rest) byte ≡ nothing) ⊎ NewName (high ∷ mark ∷ rest) byte
 new_name_by high mark byte rest false is m l = inl (ap (λ b. if b then text_of descriptor high byte else nothing) m)
 new_name_by high mark byte rest true false m l =
-    inl (ap (λ b. if b then text_of descriptor high byte else nothing) m ∙ ap (λ b. if b then text descriptor (high * 256 + byte - 1) [] else nothing) l)
+    inl (ap (λ b. if b then text_of descriptor high byte else nothing) m ∙ ap (λ b. if b then text descriptor (high * 256 + byte - 1) no_units else nothing) l)
 new_name_by high mark byte rest true true m l = inr (record {
   high = high;
   rest = rest;
   split = ap (λ (n : ℕ). high ∷ n ∷ rest) (eqb-true mark 0x72 m);
   is = is_length_of high byte l;
-  stage = ap (λ b. if b then text_of descriptor high byte else nothing) m ∙ ap (λ b. if b then text descriptor (high * 256 + byte - 1) [] else nothing) l;
+  stage = ap (λ b. if b then text_of descriptor high byte else nothing) m ∙ ap (λ b. if b then text descriptor (high * 256 + byte - 1) no_units else nothing) l;
 })
 
 pub new_name_cases : (back : List ℕ) (byte : ℕ) → (new_name back byte ≡ nothing) ⊎ NewName back byte
@@ -123,7 +50,7 @@ new_row_length high count_low count_high byte rest false is s l =
     inl (ap (λ b. if b then text_of (row (count_high * 256 + count_low - 1)) high byte else nothing) s)
 new_row_length high count_low count_high byte rest true false s l =
     inl (ap (λ b. if b then text_of (row (count_high * 256 + count_low - 1)) high byte else nothing) s
-    ∙ ap (λ b. if b then text (row (count_high * 256 + count_low - 1)) (high * 256 + byte - 1) [] else nothing) l)
+    ∙ ap (λ b. if b then text (row (count_high * 256 + count_low - 1)) (high * 256 + byte - 1) no_units else nothing) l)
 new_row_length high count_low count_high byte rest true true s l = inr (record {
   high = high;
   count_low = count_low;
@@ -133,7 +60,7 @@ new_row_length high count_low count_high byte rest true true s l = inr (record {
   some = grind (arith, nat_tests, s);
   is = is_length_of high byte l;
   stage = ap (λ b. if b then text_of (row (count_high * 256 + count_low - 1)) high byte else nothing) s
-      ∙ ap (λ b. if b then text (row (count_high * 256 + count_low - 1)) (high * 256 + byte - 1) [] else nothing) l;
+      ∙ ap (λ b. if b then text (row (count_high * 256 + count_low - 1)) (high * 256 + byte - 1) no_units else nothing) l;
 })
 
 new_row_by : (high count_low count_high second first mark byte : ℕ) (rest : List ℕ) (is_mark is_first is_second : Bool) → (mark == 0x7D) ≡ is_mark → (first == 0) ≡ is_first → (second == 0) ≡ is_second
@@ -176,92 +103,116 @@ pub record Split (x : ℕ) (xs : List ℕ) (y : ℕ) (ys : List ℕ) : Type 0 wh
 pub split_cons : (x : ℕ) (xs : List ℕ) (y : ℕ) (ys : List ℕ) → x ∷ xs ≡ y ∷ ys → Split x xs y ys
 split_cons x xs y ys e = record { same = cc; rest = cc }
 
--- a byte that cannot occur in a name ends a descriptor's
-pub name_seen : (high : ℕ) (rest : List ℕ) (left : ℕ) (seen : List ℕ) → in_text high ≡ false → FitsName left seen (high ∷ 0x72 ∷ rest) → ⊥
-name_seen high rest left [] small f =
-    let one = split_cons high (0x72 ∷ rest) f.low (f.high ∷ 0x72 ∷ f.rest) f.split in
-    let two = split_cons 0x72 rest f.high (0x72 ∷ f.rest) one.rest in
-    true_false (in_text 0x72) refl (ap in_text two.same ∙ f.small)
-name_seen high rest left (byte ∷ seen) small f =
-    let one = split_cons high (0x72 ∷ rest) byte (seen ++ (f.low ∷ f.high ∷ 0x72 ∷ f.rest)) f.split in
-    true_false (in_text high) (ap in_text one.same ∙ f.all.0) small
+-- ---- what is known of the last bytes, by what a slot has
 
--- the name of a descriptor is not being read where another begins
+-- the last byte is one of the name, or it is the second of its length
+abbrev pub NameLast : List ℕ → Type 0
+NameLast back = (in_name (ago back 0) ≡ true) ⊎ (in_name (ago back 1) ≡ false)
+
+abbrev pub FitsDescriptor : Stage → List ℕ → Type 0
+FitsDescriptor nothing back = Unit {0}
+FitsDescriptor (head bytes) back = ⊥
+FitsDescriptor (text descriptor left reading) back = NameLast back
+FitsDescriptor (text (row more) left reading) back = ⊥
+FitsDescriptor (between more) back = ⊥
+FitsDescriptor (halfway more high) back = ⊥
+
+-- behind the count of a row no two bytes 0 stand together
+abbrev pub NoPair : List ℕ → Type 0
+NoPair [] = Unit {0}
+NoPair (a ∷ []) = Unit {0}
+NoPair (a ∷ b ∷ bytes) = (1 ≤ a + b) × NoPair (b ∷ bytes)
+
+pub record RowShape (wanted : ℕ → Bool) (place : ℕ) (back : List ℕ) : Type 0 where
+  pub behind : List ℕ
+  pub low : ℕ
+  pub high : ℕ
+  pub rest : List ℕ
+  pub split : back ≡ behind ++ (low ∷ high ∷ 0 ∷ 0 ∷ 0x7D ∷ rest)
+  pub at : place ≡ length rest
+  pub kind : wanted place ≡ true
+  pub some : 1 ≤ high * 256 + low
+  pub pairs : NoPair behind
+  pub long : 2 ≤ length behind
+
+abbrev pub FitsRow : (wanted : ℕ → Bool) → (place : ℕ) → Stage → List ℕ → Type 0
+FitsRow wanted place nothing back = Unit {0}
+FitsRow wanted place (head bytes) back = ⊥
+FitsRow wanted place (text descriptor left reading) back = ⊥
+FitsRow wanted place (text (row more) left reading) back = RowShape wanted place back
+FitsRow wanted place (between more) back = RowShape wanted place back × (1 ≤ ago back 0)
+FitsRow wanted place (halfway more high) back = RowShape wanted place back × (ago back 0 ≡ high)
+
+-- ---- the name of a descriptor is not being read where another begins
+
+no_name_last : (high byte : ℕ) (rest : List ℕ) → IsLength high byte → NameLast (high ∷ 0x72 ∷ rest) → ⊥
+no_name_last high byte rest is (inl e) = true_false (in_name high) e (high_out high byte is)
+no_name_last high byte rest is (inr e) = true_false (in_name 0x72) refl e
+
 pub no_old_name : (back : List ℕ) (byte : ℕ) (stage : Stage) → NewName back byte → FitsDescriptor stage back → stage ≡ nothing
 no_old_name back byte nothing new f = refl
 no_old_name back byte (head bytes) new f = absurd f
-no_old_name back byte (text descriptor left seen) new f =
-    absurd (name_seen new.high new.rest left seen (high_out new.high byte new.is) (subst (λ (bs : List ℕ). FitsName left seen bs) new.split f))
-no_old_name back byte (text (row more) left seen) new f = absurd f
+no_old_name back byte (text descriptor left reading) new f =
+    absurd (no_name_last new.high byte new.rest new.is (subst (λ (bs : List ℕ). NameLast bs) new.split f))
+no_old_name back byte (text (row more) left reading) new f = absurd f
 no_old_name back byte (between more) new f = absurd f
 no_old_name back byte (halfway more high) new f = absurd f
 
--- what a row may have where the first name of another begins: it is at the same length, and has the names of the other
-pub record OldHalfway (place : ℕ) (stage : Stage) (high more at : ℕ) : Type 0 where
-  pub more_here : ℕ
-  pub is : stage ≡ halfway more_here high
-  pub enough : more ≤ more_here
-  pub before : place ≤ at
+-- ---- where a row begins while another goes on, it begins three places behind that
 
-no_counted : (more place a : ℕ) (rest : List ℕ) → Counted more place (a ∷ 0 ∷ 0 ∷ 0x7D ∷ rest) → ⊥
-no_counted more place a rest c =
-    let one = split_cons a (0 ∷ 0 ∷ 0x7D ∷ rest) c.low (c.high ∷ 0 ∷ 0 ∷ 0x7D ∷ c.rest) c.split in
-    let two = split_cons 0 (0 ∷ 0x7D ∷ rest) c.high (0 ∷ 0 ∷ 0x7D ∷ c.rest) one.rest in
-    let three = split_cons 0 (0x7D ∷ rest) 0 (0 ∷ 0x7D ∷ c.rest) two.rest in
-    let four = split_cons 0x7D rest 0 (0x7D ∷ c.rest) three.rest in
-    absurd (omega (arith, four.same))
+at_fifth : (xs ys : List ℕ) → xs ≡ ys → get_or xs 5 0 ≡ get_or ys 5 0
+at_fifth xs ys e = ap (λ (zs : List ℕ). get_or zs 5 0) e
 
-no_behind : (more place a : ℕ) (rest : List ℕ) → Counted more place (a ∷ 0 ∷ 0 ∷ 0x7D ∷ rest) ⊎ NameEnds more place (a ∷ 0 ∷ 0 ∷ 0x7D ∷ rest) → ⊥
-no_behind more place a rest (inl c) = no_counted more place a rest c
-no_behind more place a rest (inr n) = absurd (omega (arith, n.1))
+distance_by : (high count_low count_high : ℕ) (rest behind : List ℕ) (low2 high2 : ℕ) (rest2 : List ℕ) → NoPair behind → 2 ≤ length behind
+    → high ∷ count_low ∷ count_high ∷ 0 ∷ 0 ∷ 0x7D ∷ rest ≡ behind ++ (low2 ∷ high2 ∷ 0 ∷ 0 ∷ 0x7D ∷ rest2) → length rest ≡ length rest2 + 3
+distance_by high count_low count_high rest [] low2 high2 rest2 pairs long e = absurd (omega (arith, long))
+distance_by high count_low count_high rest (a ∷ []) low2 high2 rest2 pairs long e = absurd (omega (arith, long))
+distance_by high count_low count_high rest (a ∷ b ∷ []) low2 high2 rest2 pairs long e =
+    let no : 0x7D ≡ 0 = at_fifth (high ∷ count_low ∷ count_high ∷ 0 ∷ 0 ∷ 0x7D ∷ rest) (a ∷ b ∷ low2 ∷ high2 ∷ 0 ∷ 0 ∷ 0x7D ∷ rest2) e in
+    absurd (omega (arith, no))
+distance_by high count_low count_high rest (a ∷ b ∷ c ∷ []) low2 high2 rest2 pairs long e =
+    let no : 0x7D ≡ 0 = at_fifth (high ∷ count_low ∷ count_high ∷ 0 ∷ 0 ∷ 0x7D ∷ rest) (a ∷ b ∷ c ∷ low2 ∷ high2 ∷ 0 ∷ 0 ∷ 0x7D ∷ rest2) e in
+    absurd (omega (arith, no))
+distance_by high count_low count_high rest (a ∷ b ∷ c ∷ d ∷ []) low2 high2 rest2 pairs long e = omega (arith, ap length e)
+distance_by high count_low count_high rest (a ∷ b ∷ c ∷ d ∷ x ∷ behind) low2 high2 rest2 pairs long e =
+    let fourth : 0 ≡ d = ap (λ (zs : List ℕ). get_or zs 3 0) e in
+    let fifth : 0 ≡ x = ap (λ (zs : List ℕ). get_or zs 4 0) e in
+    absurd (omega (arith, pairs.1.1.1.0, fourth, fifth))
 
-text_seen : (high count_low count_high : ℕ) (rest : List ℕ) (more place left : ℕ) (seen : List ℕ) → in_text high ≡ false
-    → FitsText more place left seen (high ∷ count_low ∷ count_high ∷ 0 ∷ 0 ∷ 0x7D ∷ rest) → ⊥
-text_seen high count_low count_high rest more place left [] small f =
-    let one = split_cons high (count_low ∷ count_high ∷ 0 ∷ 0 ∷ 0x7D ∷ rest) f.low (f.high ∷ f.before) f.split in
-    let two = split_cons count_low (count_high ∷ 0 ∷ 0 ∷ 0x7D ∷ rest) f.high f.before one.rest in
-    no_behind more place count_high rest (subst (λ (bs : List ℕ). Counted more place bs ⊎ NameEnds more place bs) (sym two.rest) f.behind)
-text_seen high count_low count_high rest more place left (byte ∷ seen) small f =
-    let one = split_cons high (count_low ∷ count_high ∷ 0 ∷ 0 ∷ 0x7D ∷ rest) byte (seen ++ (f.low ∷ f.high ∷ f.before)) f.split in
-    true_false (in_text high) (ap in_text one.same ∙ f.all.0) small
+pub row_distance : (wanted : ℕ → Bool) (back : List ℕ) (byte place : ℕ) → (new : NewRow back byte) → RowShape wanted place back → length new.rest ≡ place + 3
+row_distance wanted back byte place new s =
+    omega (arith, s.at, distance_by new.high new.count_low new.count_high new.rest s.behind s.low s.high s.rest s.pairs s.long (sym new.split ∙ s.split))
 
-trail : (more second : ℕ) (rest : List ℕ) → Third more second (0 ∷ 0 ∷ 0x7D ∷ rest) → (second ≡ 1) × (0x7D * 256 ≤ more + 2)
-trail more second rest (inl some) = absurd (omega (arith, some))
-trail more second rest (inr (inl some)) = absurd (omega (arith, some))
-trail more second rest (inr (inr t)) = t
+-- the two kinds of places
+abbrev pub Flips : (ℕ → Bool) → Type 0
+Flips wanted = (place : ℕ) → wanted (place + 3) ≡ not (wanted place)
 
-shared_enough : (count_high count_low more : ℕ) → count_low < 256 → count_high ≡ 1 → 0x7D * 256 ≤ more + 2 → count_high * 256 + count_low - 1 ≤ more
-shared_enough count_high count_low more small one t = omega arith
+even_by : (place : ℕ) (is : Bool) → (place % 2 == 0) ≡ is → ((place + 3) % 2 == 0) ≡ not is
+even_by place true e = grind (arith, nat_tests, e)
+even_by place false e = grind (arith, nat_tests, e)
 
-shared : (more place high count_low count_high : ℕ) (rest : List ℕ) → count_low < 256 → NameEnds more place (count_low ∷ count_high ∷ 0 ∷ 0 ∷ 0x7D ∷ rest)
-    → OldHalfway place (halfway more high) high (count_high * 256 + count_low - 1) (length rest)
-shared more place high count_low count_high rest small n =
-    let t = trail more count_high rest n.2 in
-    record { more_here = more; is = refl; enough = shared_enough count_high count_low more small t.0 t.1; before = omega (arith, n.3) }
+pub even_flips : Flips is_even
+even_flips place = even_by place (place % 2 == 0) refl
 
-old_row_by : (high count_low count_high : ℕ) (rest : List ℕ) (place : ℕ) (stage : Stage) → in_text high ≡ false → count_low < 256
-    → FitsRow place stage (high ∷ count_low ∷ count_high ∷ 0 ∷ 0 ∷ 0x7D ∷ rest)
-    → (stage ≡ nothing) ⊎ OldHalfway place stage high (count_high * 256 + count_low - 1) (length rest)
-old_row_by high count_low count_high rest place nothing small low f = inl refl
-old_row_by high count_low count_high rest place (head bytes) small low f = absurd f
-old_row_by high count_low count_high rest place (text descriptor left seen) small low f = absurd f
-old_row_by high count_low count_high rest place (text (row more) left seen) small low f = absurd (text_seen high count_low count_high rest more place left seen small f)
-old_row_by high count_low count_high rest place (between more) small low f = absurd (true_false (in_text high) f.0 small)
-old_row_by high count_low count_high rest place (halfway more first) small low f =
-    let one = split_cons high (count_low ∷ count_high ∷ 0 ∷ 0 ∷ 0x7D ∷ rest) first f.before f.split in
-    let n = subst (λ (bs : List ℕ). NameEnds more place bs) (sym one.rest) f.behind in
-    inr (subst (λ (h : ℕ). OldHalfway place (halfway more h) high (count_high * 256 + count_low - 1) (length rest)) one.same
-    (shared more place high count_low count_high rest low n))
+pub odd_flips : Flips is_odd
+odd_flips place = ap not (even_flips place)
 
-second_byte : (a b : ℕ) (back rest : List ℕ) → back ≡ a ∷ b ∷ rest → AreBytes back → b < 256
-second_byte a b back rest e are = (subst (λ (bs : List ℕ). AreBytes bs) e are).1.0
+pub record WantedRow (wanted : ℕ → Bool) (back : List ℕ) (byte : ℕ) : Type 0 where
+  pub new : NewRow back byte
+  pub kind : wanted (length new.rest) ≡ true
 
-pub old_row : (back : List ℕ) (byte place : ℕ) (stage : Stage) → AreBytes back → (new : NewRow back byte) → FitsRow place stage back
-    → (stage ≡ nothing) ⊎ OldHalfway place stage new.high (new.count_high * 256 + new.count_low - 1) (length new.rest)
-old_row back byte place stage are new f =
-    old_row_by new.high new.count_low new.count_high new.rest place stage (high_out new.high byte new.is)
-    (second_byte new.high new.count_low back (new.count_high ∷ 0 ∷ 0 ∷ 0x7D ∷ new.rest) new.split are)
-    (subst (λ (bs : List ℕ). FitsRow place stage bs) new.split f)
+no_old_shape : (wanted : ℕ → Bool) (back : List ℕ) (byte place : ℕ) → Flips wanted → WantedRow wanted back byte → RowShape wanted place back → ⊥
+no_old_shape wanted back byte place flips w s =
+    let other : wanted (place + 3) ≡ true = ap wanted (sym (row_distance wanted back byte place w.new s)) ∙ w.kind in
+    true_false (wanted (place + 3)) other (flips place ∙ ap not s.kind)
+
+pub no_old_row : (wanted : ℕ → Bool) (back : List ℕ) (byte place : ℕ) (stage : Stage) → Flips wanted → WantedRow wanted back byte → FitsRow wanted place stage back → stage ≡ nothing
+no_old_row wanted back byte place nothing flips w f = refl
+no_old_row wanted back byte place (head bytes) flips w f = absurd f
+no_old_row wanted back byte place (text descriptor left reading) flips w f = absurd f
+no_old_row wanted back byte place (text (row more) left reading) flips w f = absurd (no_old_shape wanted back byte place flips w f)
+no_old_row wanted back byte place (between more) flips w f = absurd (no_old_shape wanted back byte place flips w f.0)
+no_old_row wanted back byte place (halfway more high) flips w f = absurd (no_old_shape wanted back byte place flips w f.0)
 
 -- ---- what the slots have after a byte
 
@@ -270,44 +221,50 @@ pub name_moved : (back : List ℕ) (byte : ℕ) (slot : Slot) → new_name back 
 name_moved back byte slot e = ap (λ s. filled (length back - 2) s (moved slot byte)) e
 
 pub name_filled : (back : List ℕ) (byte : ℕ) (slot : Slot) → (new : NewName back byte)
-    → filled (length back - 2) (new_name back byte) (moved slot byte) ≡ record { place = length new.rest; stage = text descriptor (new.high * 256 + byte - 1) [] }
+    → filled (length back - 2) (new_name back byte) (moved slot byte) ≡ record { place = length new.rest; stage = text descriptor (new.high * 256 + byte - 1) no_units }
 name_filled back byte slot new =
     let at : length back - 2 ≡ length new.rest = omega (arith, ap length new.split) in
-    ap (λ s. filled (length back - 2) s (moved slot byte)) new.stage ∙ ap (λ (n : ℕ). record { place = n; stage = text descriptor (new.high * 256 + byte - 1) [] }) at
+    ap (λ s. filled (length back - 2) s (moved slot byte)) new.stage ∙ ap (λ (n : ℕ). record { place = n; stage = text descriptor (new.high * 256 + byte - 1) no_units }) at
 
 -- the slot of a row
-keep_same : (is : Bool) (slot : Slot) → (if is then slot else slot) ≡ slot
-keep_same true slot = refl
-keep_same false slot = refl
+abbrev pub row_filled : (wanted : ℕ → Bool) → (back : List ℕ) → (byte : ℕ) → Slot → Slot
+row_filled wanted back byte slot = filled (length back - 6) (if_wanted (wanted (length back - 6)) (new_row back byte)) (moved slot byte)
 
-pub row_moved : (back : List ℕ) (byte : ℕ) (slot : Slot) → new_row back byte ≡ nothing → row_filled (length back - 6) (new_row back byte) (moved slot byte) ≡ moved slot byte
-row_moved back byte slot e = ap (λ s. row_filled (length back - 6) s (moved slot byte)) e ∙ keep_same (has_begun (next slot.stage byte)) (moved slot byte)
+pub unwanted : (is : Bool) → if_wanted is nothing ≡ nothing
+unwanted true = refl
+unwanted false = refl
 
-pub row_new : (back : List ℕ) (byte : ℕ) (slot : Slot) → (new : NewRow back byte) → slot.stage ≡ nothing
-    → row_filled (length back - 6) (new_row back byte) (moved slot byte)
-    ≡ record { place = length new.rest; stage = text (row (new.count_high * 256 + new.count_low - 1)) (new.high * 256 + byte - 1) [] }
-row_new back byte slot new e =
+wanted_by : (wanted : ℕ → Bool) (back : List ℕ) (byte : ℕ) (is : Bool) → (new : NewRow back byte) → wanted (length back - 6) ≡ is
+    → (if_wanted (wanted (length back - 6)) (new_row back byte) ≡ nothing) ⊎ WantedRow wanted back byte
+wanted_by wanted back byte false new e = inl (ap (λ b. if b then new_row back byte else nothing) e)
+wanted_by wanted back byte true new e =
     let at : length back - 6 ≡ length new.rest = omega (arith, ap length new.split) in
-    ap (λ s. if has_begun (next s byte) then moved slot byte else filled (length back - 6) (new_row back byte) (moved slot byte)) e
+    inr (record { new = new; kind = ap wanted (sym at) ∙ e })
+
+pub wanted_cases : (wanted : ℕ → Bool) (back : List ℕ) (byte : ℕ) → (if_wanted (wanted (length back - 6)) (new_row back byte) ≡ nothing) ⊎ WantedRow wanted back byte
+wanted_cases wanted back byte = elim (new_row_cases back byte) [
+  | inl none ↦ inl (ap (if_wanted (wanted (length back - 6))) none ∙ unwanted (wanted (length back - 6)))
+  | inr new ↦ wanted_by wanted back byte (wanted (length back - 6)) new refl
+]
+
+pub row_moved : (wanted : ℕ → Bool) (back : List ℕ) (byte : ℕ) (slot : Slot) → if_wanted (wanted (length back - 6)) (new_row back byte) ≡ nothing → row_filled wanted back byte slot ≡ moved slot byte
+row_moved wanted back byte slot e = ap (λ s. filled (length back - 6) s (moved slot byte)) e
+
+abbrev pub row_slot_of : (back : List ℕ) → (byte : ℕ) → NewRow back byte → Slot
+row_slot_of back byte new = record { place = length new.rest; stage = text (row (new.count_high * 256 + new.count_low - 1)) (new.high * 256 + byte - 1) no_units }
+
+pub row_new : (wanted : ℕ → Bool) (back : List ℕ) (byte : ℕ) (slot : Slot) → (w : WantedRow wanted back byte) → row_filled wanted back byte slot ≡ row_slot_of back byte w.new
+row_new wanted back byte slot w =
+    let new = w.new in
+    let at : length back - 6 ≡ length new.rest = omega (arith, ap length new.split) in
+    ap (λ b. filled (length back - 6) (if_wanted b (new_row back byte)) (moved slot byte)) (ap wanted at ∙ w.kind)
     ∙ ap (λ s. filled (length back - 6) s (moved slot byte)) new.stage
-    ∙ ap (λ (n : ℕ). record { place = n; stage = text (row (new.count_high * 256 + new.count_low - 1)) (new.high * 256 + byte - 1) [] }) at
-
--- a length that was read whole
-pub halfway_next : (more high byte : ℕ) → IsLength high byte → next (halfway more high) byte ≡ text (row more) (high * 256 + byte - 1) []
-halfway_next more high byte is = ap (λ b. if b then text (row more) (high * 256 + byte - 1) [] else nothing) (length_is high byte is)
-
-pub row_shared : (back : List ℕ) (byte more high : ℕ) (slot : Slot) (stage : Stage) (place : ℕ) → slot.stage ≡ halfway more high → IsLength high byte
-    → row_filled place stage (moved slot byte) ≡ moved slot byte
-row_shared back byte more high slot stage place e is =
-    ap (λ s. if has_begun s then moved slot byte else filled place stage (moved slot byte)) (ap (λ s. next s byte) e ∙ halfway_next more high byte is)
+    ∙ ap (λ (n : ℕ). record { place = n; stage = text (row (new.count_high * 256 + new.count_low - 1)) (new.high * 256 + byte - 1) no_units }) at
 
 -- a row that is not over is kept
-pub row_kept : (back : List ℕ) (byte : ℕ) (slot : Slot) → AreBytes back → FitsRow slot.place slot.stage back → (slot.stage ≡ nothing → ⊥)
-    → row_filled (length back - 6) (new_row back byte) (moved slot byte) ≡ moved slot byte
-row_kept back byte slot are f live = elim (new_row_cases back byte) [
-  | inl none ↦ row_moved back byte slot none
-  | inr new ↦ elim (old_row back byte slot.place slot.stage are new f) [
-    | inl gone ↦ absurd (live gone)
-    | inr old ↦ row_shared back byte old.more_here new.high slot (new_row back byte) (length back - 6) old.is new.is
-  ]
+pub row_kept : (wanted : ℕ → Bool) (back : List ℕ) (byte : ℕ) (slot : Slot) → Flips wanted → FitsRow wanted slot.place slot.stage back → (slot.stage ≡ nothing → ⊥)
+    → row_filled wanted back byte slot ≡ moved slot byte
+row_kept wanted back byte slot flips f live = elim (wanted_cases wanted back byte) [
+  | inl none ↦ row_moved wanted back byte slot none
+  | inr w ↦ absurd (live (no_old_row wanted back byte slot.place slot.stage flips w f))
 ]

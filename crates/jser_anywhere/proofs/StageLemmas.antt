@@ -1,107 +1,235 @@
 -- The names that a place meets are those that stand there.
-use Rattle.std.proofs.Common.{◌≡◌, ℕ, zero, suc, ◌+◌, ◌-◌, ◌*◌, ◌≤◌, ◌∙◌, ap, sym, subst, Bool, true, false, ◌&&◌, ◌||◌, ◌==◌, inl, inr, if◌then◌else◌, Option, Some, None, List, [], ◌∷◌, ◌++◌, length, drop, reverse, refl, arith, append_assoc, length-append}
+use Rattle.std.proofs.Common.{◌≡◌, ℕ, zero, suc, ◌+◌, ◌-◌, ◌*◌, ◌≤◌, ◌∙◌, ap, sym, subst, Bool, true, false, ◌&&◌, ◌||◌, ◌==◌, ◌⊎◌, inl, inr, if◌then◌else◌, Option, Some, None, List, [], ◌∷◌, ◌++◌, length, drop, take, reverse, refl, arith, append_assoc, length-append}
 use Rattle.std.specs.Prelude.{nat_le}
+use Rattle.std.specs.Option.{is_some}
 use Rattle.std.proofs.lemmas.Bool.Decides.{nat_tests}
-use Rattle.std.proofs.lemmas.List.{append-nil, length-reverse}
+use Rattle.std.proofs.lemmas.List.{append-nil, length-take-le, take-append-drop}
 use Rattle.std.proofs.Math.Seq.{drop-append_seam}
 use Rattle.std.proofs.lemmas.Grind.{reverse_onto}
 use Rattle.std.proofs.Common.{eqb-true}
-use Rattle.jser_anywhere.specs.Names.{name_units, name_from, after_unit}
-use Rattle.jser_anywhere.specs.Texts.{take_byte}
+use Rattle.jser_anywhere.specs.Names.{core, core_in, is_part, name_units}
+use Rattle.jser_anywhere.specs.Texts.{take_byte, is_first, in_row, loose_step, row_from, row_units}
 use Rattle.jser_anywhere.specs.Search.{behind}
-use Rattle.jser_anywhere.specs.Standing.{most_bytes, BeginsName, BeginsRow, Begins}
-use Rattle.jser_anywhere.specs.Stages.{Whose, descriptor, row, Stage, nothing, head, text, between, halfway, is_length, in_text, begin, text_of, row_of, after_name, next, ended}
+use Rattle.jser_anywhere.specs.LoadableNames.{AreParts, IsSegment, AreSegments, dotted, Wrap, brackets, class, bracket, IsWrapped, NamesAreInRows}
+use Rattle.jser_anywhere.specs.LooseText.{Group, one, two, three, IsGroup, group_bytes, group_unit, AreGroups, AreInRow}
+use Rattle.jser_anywhere.specs.Standing.{most_bytes, BeginsText, BeginsName, BeginsRow, Begins}
+use Rattle.jser_anywhere.specs.Stages.{Whose, descriptor, row, Reading, naming, passing, Stage, nothing, head, text, between, halfway, no_units, is_length, in_name, in_text, begin, text_of, row_of, read, name_taken, other_taken, text_read, with_byte, class_of, is_whole, ended_with, after_text, onward, next, ended}
 use Rattle.jser_anywhere.specs.declared.text.Place.{Place}
 use Rattle.jser_anywhere.specs.declared.text.Place.TheVariants as place
 use Rattle.jser_anywhere.specs.declared.text.Taken.{Taken}
 use Rattle.jser_anywhere.specs.declared.text.Taken.TheVariants as taken
-use Rattle.jser_anywhere.specs.declared.part.Part.{Part}
-use Rattle.jser_anywhere.specs.declared.part.Part.TheVariants as part
-use Rattle.jser_anywhere.proofs.NameLemmas.{cons_refused, cons_part, cons_unit, cons_no_unit}
+use Rattle.jser_anywhere.proofs.LoadableLemmas.{core_only}
 
--- ---- no byte of a name is at most 4
+-- ---- no unit of a loadable name is below 24
 
--- each byte can occur in a name
-abbrev pub AllIn : List ℕ → Type 0
-AllIn [] = Unit {0}
-AllIn (byte ∷ bytes) = (in_text byte ≡ true) × AllIn bytes
+abbrev pub UnitsIn : List ℕ → Type 0
+UnitsIn [] = Unit {0}
+UnitsIn (unit ∷ units) = (in_name unit ≡ true) × UnitsIn units
 
-small_unit : (at : Part) (unit : ℕ) → in_text unit ≡ false → after_unit at unit ≡ None
-small_unit part.Begin unit e = grind (arith, nat_tests)
-small_unit part.Brackets unit e = grind (arith, nat_tests)
-small_unit (part.Dot is_array) unit e = grind (arith, nat_tests)
-small_unit (part.Segment is_array) unit e = grind (arith, nat_tests)
-small_unit part.Closed unit e = refl
+part_in : (unit : ℕ) → is_part unit ≡ true → in_name unit ≡ true
+part_in unit e = grind (arith, nat_tests, e)
 
-small_first : (byte : ℕ) → in_text byte ≡ false → take_byte place.First byte ≡ taken.Unit byte
+parts_in : (units : List ℕ) → AreParts units → UnitsIn units
+parts_in [] h = tt
+parts_in (unit ∷ units) h = (part_in unit h.0, parts_in units h.1)
+
+segment_in : (units : List ℕ) → IsSegment units → UnitsIn units
+segment_in [] h = absurd h
+segment_in (unit ∷ units) h = (part_in unit h.0, parts_in units h.1)
+
+append_in : (xs ys : List ℕ) → UnitsIn xs → UnitsIn ys → UnitsIn (xs ++ ys)
+append_in [] ys a b = b
+append_in (x ∷ xs) ys a b = (a.0, append_in xs ys a.1 b)
+
+dotted_in : (first : List ℕ) (others : List (List ℕ)) → IsSegment first → AreSegments others → UnitsIn (dotted first others)
+dotted_in first [] h k = segment_in first h
+dotted_in first (next ∷ others) h k = append_in first (0x2E ∷ dotted next others) (segment_in first h) (refl, dotted_in next others k.0 k.1)
+
+wrapped_in : (wraps : List Wrap) (plain units : List ℕ) → UnitsIn plain → IsWrapped wraps plain units → UnitsIn units
+wrapped_in [] plain units p w = subst (λ (xs : List ℕ). UnitsIn xs) (sym w) p
+wrapped_in (brackets ∷ wraps) plain units p w =
+    subst (λ (xs : List ℕ). UnitsIn xs) (sym w.units_are) (append_in w.inner (0x5B ∷ 0x5D ∷ []) (wrapped_in wraps plain w.inner p w.inner_is) (refl, (refl, tt)))
+wrapped_in (class ∷ wraps) plain units p w =
+    subst (λ (xs : List ℕ). UnitsIn xs) (sym w.units_are) (refl, (refl, append_in w.inner (0x3B ∷ []) (wrapped_in wraps plain w.inner p w.inner_is) (refl, tt)))
+wrapped_in (bracket ∷ wraps) plain units p w =
+    subst (λ (xs : List ℕ). UnitsIn xs) (sym w.units_are) (refl, wrapped_in wraps plain (0x5B ∷ w.inner) p w.inner_is)
+
+core_in_name : (units plain : List ℕ) → core units ≡ Some plain → UnitsIn units
+core_in_name units plain e =
+    let h = core_only units plain e in
+    wrapped_in h.wraps plain units (subst (λ (xs : List ℕ). UnitsIn xs) (sym h.plain.units_are) (dotted_in h.plain.first h.plain.others h.plain.segment h.plain.segments)) h.wrapped
+
+-- so a row goes on behind its text
+group_in : (g : Group) (rest : List ℕ) → IsGroup g → in_name (group_unit g) ≡ true → AreInRow rest → AreInRow (group_bytes g ++ rest)
+group_in (one a) rest is i r = (grind (arith, nat_tests, i), r)
+group_in (two a b) rest is i r = (omega arith, (omega arith, r))
+group_in (three a b c) rest is i r = (omega arith, (omega arith, (omega arith, r)))
+
+groups_in : (gs : List Group) (bytes units : List ℕ) → AreGroups gs bytes units → UnitsIn units → AreInRow bytes
+groups_in [] bytes units are u = subst (λ (xs : List ℕ). AreInRow xs) (sym are.0) tt
+groups_in (g ∷ gs) bytes units are u =
+    let here = subst (λ (xs : List ℕ). UnitsIn xs) are.units_are u in
+    subst (λ (xs : List ℕ). AreInRow xs) (sym are.bytes_are) (group_in g are.rest are.is_group here.0 (groups_in gs are.rest are.later are.goes_on here.1))
+
+pub names_are_in_rows : NamesAreInRows
+names_are_in_rows bytes units plain loose h =
+    groups_in loose.groups bytes units loose.are
+    (wrapped_in h.wraps plain units (subst (λ (xs : List ℕ). UnitsIn xs) (sym h.plain.units_are) (dotted_in h.plain.first h.plain.others h.plain.segment h.plain.segments)) h.wrapped)
+
+behind_in : (xs ys : List ℕ) → UnitsIn (xs ++ ys) → UnitsIn ys
+behind_in [] ys u = u
+behind_in (x ∷ xs) ys u = behind_in xs ys u.1
+
+-- ---- what the rest of a text makes of what was read
+
+abbrev pub place_of : Reading → Place
+place_of (naming units here) = here
+place_of (passing here) = here
+
+-- the class that is named, and whether the text is loose
+abbrev pub named : Reading → List ℕ → Option (List ℕ)
+named (naming units here) bytes = core_in (behind units (row_from bytes here))
+named (passing here) bytes = None
+
+abbrev pub whole : Reading → List ℕ → Bool
+whole (naming units here) bytes = is_some (row_from bytes here)
+whole (passing here) bytes = is_some (row_from bytes here)
+
+abbrev named_read : Option Reading → List ℕ → Option (List ℕ)
+named_read None bytes = None
+named_read (Some reading) bytes = named reading bytes
+
+abbrev whole_read : Option Reading → List ℕ → Bool
+whole_read None bytes = false
+whole_read (Some reading) bytes = whole reading bytes
+
+-- at the end
+named_end : (reading : Reading) → named reading [] ≡ class_of reading
+named_end (naming units place.First) = ap core (append-nil units)
+named_end (naming units (place.Middle high)) = refl
+named_end (naming units (place.Last high)) = refl
+named_end (passing here) = refl
+
+whole_end : (reading : Reading) → whole reading [] ≡ is_whole reading
+whole_end (naming units place.First) = refl
+whole_end (naming units (place.Middle high)) = refl
+whole_end (naming units (place.Last high)) = refl
+whole_end (passing place.First) = refl
+whole_end (passing (place.Middle high)) = refl
+whole_end (passing (place.Last high)) = refl
+
+-- with a byte more
+none_behind : (units : List ℕ) → core_in (behind units None) ≡ None
+none_behind units = refl
+
+step_named : (units : List ℕ) (bytes : List ℕ) (t : Taken) → core_in (behind units (loose_step (row_from bytes) t)) ≡ named_read (name_taken units t) bytes
+step_named units bytes (taken.Unit unit) = step_unit units unit (row_from bytes place.First)
+  where
+    step_unit : (units : List ℕ) (unit : ℕ) (o : Option (List ℕ)) → core_in (behind units (loose_step (λ _. o) (taken.Unit unit))) ≡ core_in (behind (units ++ unit ∷ []) o)
+    step_unit units unit None = refl
+    step_unit units unit (Some later) = ap core (sym (append_assoc units (unit ∷ []) later))
+step_named units bytes (taken.Part here) = refl
+step_named units bytes taken.Refused = refl
+
+step_whole : (bytes : List ℕ) (t : Taken) → is_some (loose_step (row_from bytes) t) ≡ whole_read (other_taken t) bytes
+step_whole bytes (taken.Unit unit) = step_unit (row_from bytes place.First)
+  where
+    step_unit : (o : Option (List ℕ)) → is_some (loose_step (λ _. o) (taken.Unit unit)) ≡ is_some o
+    step_unit None = refl
+    step_unit (Some later) = refl
+step_whole bytes (taken.Part here) = refl
+step_whole bytes taken.Refused = refl
+
+step_name_whole : (units bytes : List ℕ) (t : Taken) → is_some (loose_step (row_from bytes) t) ≡ whole_read (name_taken units t) bytes
+step_name_whole units bytes (taken.Unit unit) = step_unit (row_from bytes place.First)
+  where
+    step_unit : (o : Option (List ℕ)) → is_some (loose_step (λ _. o) (taken.Unit unit)) ≡ is_some o
+    step_unit None = refl
+    step_unit (Some later) = refl
+step_name_whole units bytes (taken.Part here) = refl
+step_name_whole units bytes taken.Refused = refl
+
+none_other : (bytes : List ℕ) (t : Taken) → None ≡ named_read (other_taken t) bytes
+none_other bytes (taken.Unit unit) = refl
+none_other bytes (taken.Part here) = refl
+none_other bytes taken.Refused = refl
+
+-- a byte below 24 is in no name
+true_false : (b : Bool) → b ≡ true → b ≡ false → ⊥
+true_false b t f = let e : true ≡ false = sym t ∙ f in absurd cc
+
+small_first : (byte : ℕ) → in_name byte ≡ false → take_byte place.First byte ≡ taken.Unit byte
 small_first byte e = grind (arith, nat_tests)
 
-small_middle : (high byte : ℕ) → in_text byte ≡ false → take_byte (place.Middle high) byte ≡ taken.Refused
+small_middle : (high byte : ℕ) → in_name byte ≡ false → take_byte (place.Middle high) byte ≡ taken.Refused
 small_middle high byte e = grind (arith, nat_tests)
 
-small_last : (high byte : ℕ) → in_text byte ≡ false → take_byte (place.Last high) byte ≡ taken.Refused
+small_last : (high byte : ℕ) → in_name byte ≡ false → take_byte (place.Last high) byte ≡ taken.Refused
 small_last high byte e = grind (arith, nat_tests)
 
-small_byte : (here : Place) (at : Part) (byte : ℕ) (bytes : List ℕ) → in_text byte ≡ false → name_from here at (byte ∷ bytes) ≡ None
-small_byte place.First at byte bytes e = cons_no_unit place.First at byte byte bytes (small_first byte e) (small_unit at byte e)
-small_byte (place.Middle high) at byte bytes e = cons_refused (place.Middle high) at byte bytes (small_middle high byte e)
-small_byte (place.Last high) at byte bytes e = cons_refused (place.Last high) at byte bytes (small_last high byte e)
+no_core_by : (units : List ℕ) (byte : ℕ) (later : List ℕ) (o : Option (List ℕ)) → in_name byte ≡ false → core (units ++ byte ∷ later) ≡ o → o ≡ None
+no_core_by units byte later None e c = refl
+no_core_by units byte later (Some plain) e c = absurd (true_false (in_name byte) (behind_in units (byte ∷ later) (core_in_name (units ++ byte ∷ later) plain c)).0 e)
 
--- some bytes are the rest of a name, at some place of it
-record IsRest (bytes : List ℕ) : Type 0 where
-  pub here : Place
-  pub at : Part
-  pub units : List ℕ
-  pub is : name_from here at bytes ≡ Some units
+no_core : (units : List ℕ) (byte : ℕ) (o : Option (List ℕ)) → in_name byte ≡ false → core_in (behind units (loose_step (λ _. o) (taken.Unit byte))) ≡ None
+no_core units byte None e = refl
+no_core units byte (Some later) e = no_core_by units byte later (core (units ++ byte ∷ later)) e refl
 
-record Behind (front : List ℕ) (o : Option (List ℕ)) : Type 0 where
-  pub units : List ℕ
-  pub is : o ≡ Some units
+small_taken : (units : List ℕ) (here : Place) (byte : ℕ) (bytes : List ℕ) → in_name byte ≡ false → core_in (behind units (loose_step (row_from bytes) (take_byte here byte))) ≡ None
+small_taken units place.First byte bytes e =
+    ap (λ t. core_in (behind units (loose_step (row_from bytes) t))) (small_first byte e) ∙ no_core units byte (row_from bytes place.First) e
+small_taken units (place.Middle high) byte bytes e = ap (λ t. core_in (behind units (loose_step (row_from bytes) t))) (small_middle high byte e)
+small_taken units (place.Last high) byte bytes e = ap (λ t. core_in (behind units (loose_step (row_from bytes) t))) (small_last high byte e)
 
-behind_some : (front units : List ℕ) (o : Option (List ℕ)) → behind front o ≡ Some units → Behind front o
-behind_some front units None e = absurd cc
-behind_some front units (Some others) e = record { units = others; is = refl }
+small_name : (units : List ℕ) (here : Place) (byte : ℕ) (bytes : List ℕ) (is : Bool) → in_row byte ≡ is → in_name byte ≡ false → named (naming units here) (byte ∷ bytes) ≡ None
+small_name units here byte bytes true i e =
+    ap (λ b. core_in (behind units (if b then loose_step (row_from bytes) (take_byte here byte) else None))) i ∙ small_taken units here byte bytes e
+small_name units here byte bytes false i e = ap (λ b. core_in (behind units (if b then loose_step (row_from bytes) (take_byte here byte) else None))) i
 
-none_some : {A : Type 0} → (o : Option A) (x : A) → o ≡ None → o ≡ Some x → ⊥
-none_some o x e f = let g : None ≡ Some x = sym e ∙ f in absurd cc
+in_both : (byte : ℕ) → in_name byte ≡ true → in_row byte ≡ true
+in_both byte e = grind (arith, nat_tests, e)
 
-rest_by_unit : (here : Place) (at : Part) (byte unit : ℕ) (bytes units : List ℕ) (o : Option Part) → take_byte here byte ≡ taken.Unit unit → after_unit at unit ≡ o
-    → name_from here at (byte ∷ bytes) ≡ Some units → IsRest bytes
-rest_by_unit here at byte unit bytes units None t a e = absurd (none_some _ units (cons_no_unit here at byte unit bytes t a) e)
-rest_by_unit here at byte unit bytes units (Some onward) t a e =
-    let b = behind_some (unit ∷ []) units (name_from place.First onward bytes) (sym (cons_unit here at onward byte unit bytes t a) ∙ e) in
-    record { here = place.First; at = onward; units = b.units; is = b.is }
+name_more : (units : List ℕ) (here : Place) (byte : ℕ) (bytes : List ℕ) (is : Bool) → in_name byte ≡ is
+    → named (naming units here) (byte ∷ bytes) ≡ named_read (if is then name_taken units (take_byte here byte) else other_taken (take_byte here byte)) bytes
+name_more units here byte bytes true i =
+    ap (λ b. core_in (behind units (if b then loose_step (row_from bytes) (take_byte here byte) else None))) (in_both byte i) ∙ step_named units bytes (take_byte here byte)
+name_more units here byte bytes false i = small_name units here byte bytes (in_row byte) refl i ∙ none_other bytes (take_byte here byte)
 
-rest_by : (here : Place) (at : Part) (byte : ℕ) (bytes units : List ℕ) (t : Taken) → take_byte here byte ≡ t → name_from here at (byte ∷ bytes) ≡ Some units → IsRest bytes
-rest_by here at byte bytes units taken.Refused t e = absurd (none_some _ units (cons_refused here at byte bytes t) e)
-rest_by here at byte bytes units (taken.Part onward) t e = record { here = onward; at = at; units = units; is = sym (cons_part here onward at byte bytes t) ∙ e }
-rest_by here at byte bytes units (taken.Unit unit) t e = rest_by_unit here at byte unit bytes units (after_unit at unit) t refl e
+named_more : (reading : Reading) (byte : ℕ) (bytes : List ℕ) → named reading (byte ∷ bytes) ≡ named_read (read reading byte) bytes
+named_more (naming units here) byte bytes = name_more units here byte bytes (in_name byte) refl
+named_more (passing here) byte bytes = none_other bytes (take_byte here byte)
 
-first_in : (here : Place) (at : Part) (byte : ℕ) (bytes units : List ℕ) (is : Bool) → in_text byte ≡ is → name_from here at (byte ∷ bytes) ≡ Some units → is ≡ true
-first_in here at byte bytes units true i e = refl
-first_in here at byte bytes units false i e = absurd (none_some _ units (small_byte here at byte bytes i) e)
+whole_name_by : (units : List ℕ) (here : Place) (byte : ℕ) (bytes : List ℕ) (is : Bool) → in_row byte ≡ true → in_name byte ≡ is
+    → whole (naming units here) (byte ∷ bytes) ≡ whole_read (if is then name_taken units (take_byte here byte) else other_taken (take_byte here byte)) bytes
+whole_name_by units here byte bytes true r i =
+    ap (λ b. is_some (if b then loose_step (row_from bytes) (take_byte here byte) else None)) r ∙ step_name_whole units bytes (take_byte here byte)
+whole_name_by units here byte bytes false r i =
+    ap (λ b. is_some (if b then loose_step (row_from bytes) (take_byte here byte) else None)) r ∙ step_whole bytes (take_byte here byte)
 
-all_in_rest : (bytes : List ℕ) → IsRest bytes → AllIn bytes
-all_in_rest [] r = tt
-all_in_rest (byte ∷ bytes) r =
-    (first_in r.here r.at byte bytes r.units (in_text byte) refl r.is, all_in_rest bytes (rest_by r.here r.at byte bytes r.units (take_byte r.here byte) refl r.is))
+whole_more : (reading : Reading) (byte : ℕ) (bytes : List ℕ) → in_row byte ≡ true → whole reading (byte ∷ bytes) ≡ whole_read (read reading byte) bytes
+whole_more (naming units here) byte bytes r = whole_name_by units here byte bytes (in_name byte) r refl
+whole_more (passing here) byte bytes r =
+    ap (λ b. is_some (if b then loose_step (row_from bytes) (take_byte here byte) else None)) r ∙ step_whole bytes (take_byte here byte)
 
-as_rest : (bytes units : List ℕ) → name_units bytes ≡ Some units → name_from place.First part.Begin bytes ≡ Some units
-unfolding name_units name_from
-as_rest bytes units e = e
+not_whole : (reading : Reading) (byte : ℕ) (bytes : List ℕ) → in_row byte ≡ false → whole reading (byte ∷ bytes) ≡ false
+not_whole (naming units here) byte bytes r = ap (λ b. is_some (if b then loose_step (row_from bytes) (take_byte here byte) else None)) r
+not_whole (passing here) byte bytes r = ap (λ b. is_some (if b then loose_step (row_from bytes) (take_byte here byte) else None)) r
 
-pub all_in : (bytes units : List ℕ) → name_units bytes ≡ Some units → AllIn bytes
-all_in bytes units e = all_in_rest bytes (record { here = place.First; at = part.Begin; units = units; is = as_rest bytes units e })
+-- where a byte is none of a text of this kind, no name goes on
+not_named_name : (units : List ℕ) (here : Place) (byte : ℕ) (bytes : List ℕ) (whose : Whose) → in_text whose byte ≡ false → named (naming units here) (byte ∷ bytes) ≡ None
+not_named_name units here byte bytes descriptor e = small_name units here byte bytes (in_row byte) refl e
+not_named_name units here byte bytes (row more) e = ap (λ b. core_in (behind units (if b then loose_step (row_from bytes) (take_byte here byte) else None))) e
+
+not_named : (whose : Whose) (reading : Reading) (byte : ℕ) (bytes : List ℕ) → in_text whose byte ≡ false → named reading (byte ∷ bytes) ≡ None
+not_named whose (naming units here) byte bytes e = not_named_name units here byte bytes whose e
+not_named whose (passing here) byte bytes e = refl
 
 -- ---- what a stage leads to
 
 pub reversed : (byte : ℕ) (seen : List ℕ) → reverse (byte ∷ seen) ≡ reverse seen ++ (byte ∷ [])
 reversed byte seen = reverse_onto seen byte []
 
-pub read_on : (byte : ℕ) (seen bytes : List ℕ) → reverse (byte ∷ seen) ++ bytes ≡ reverse seen ++ (byte ∷ bytes)
-read_on byte seen bytes = ap (λ (xs : List ℕ). xs ++ bytes) (reversed byte seen) ∙ append_assoc (reverse seen) (byte ∷ []) bytes
-
--- the units of the name that ends with the last of these bytes
+-- the class of the name that ends with the last of these bytes
 abbrev pub ended_by : Stage → List ℕ → Option (List ℕ)
 ended_by stage [] = None
 ended_by stage (byte ∷ []) = ended stage byte
@@ -116,31 +244,94 @@ ended_append stage [] y ys = refl
 ended_append stage (x ∷ []) y ys = refl
 ended_append stage (x ∷ z ∷ zs) y ys = ended_append (next stage x) (z ∷ zs) y ys
 
-step_in : (whose : Whose) (left : ℕ) (seen : List ℕ) (byte : ℕ) → in_text byte ≡ true → next (text whose (suc left) seen) byte ≡ text whose left (byte ∷ seen)
-step_in whose left seen byte e = ap (λ b. if b then text whose left (byte ∷ seen) else nothing) e
+pub never_ends : (bytes : List ℕ) → ended_by nothing bytes ≡ None
+never_ends [] = refl
+never_ends (byte ∷ []) = refl
+never_ends (byte ∷ more ∷ bytes) = never_ends (more ∷ bytes)
 
--- a text that is read whole
+run_nothing : (bytes : List ℕ) → run nothing bytes ≡ nothing
+run_nothing [] = refl
+run_nothing (byte ∷ bytes) = run_nothing bytes
 
-text_ends : (whose : Whose) (left : ℕ) (seen bytes units : List ℕ) → length bytes ≡ suc left → AllIn bytes → name_units (reverse seen ++ bytes) ≡ Some units
-    → ended_by (text whose left seen) bytes ≡ Some units
-text_ends whose left seen [] units counted all e = absurd (omega (arith, counted))
-text_ends whose zero seen (byte ∷ []) units counted all e = ap name_units (reversed byte seen) ∙ e
-text_ends whose (suc left) seen (byte ∷ []) units counted all e = absurd (omega (arith, counted))
-text_ends whose zero seen (byte ∷ more ∷ bytes) units counted all e = absurd (omega (arith, counted))
-text_ends whose (suc left) seen (byte ∷ more ∷ bytes) units counted all e =
-    ap (λ s. ended_by s (more ∷ bytes)) (step_in whose left seen byte all.0)
-    ∙ text_ends whose left (byte ∷ seen) (more ∷ bytes) units (omega (arith, counted)) all.1 (ap name_units (read_on byte seen (more ∷ bytes)) ∙ e)
+-- ---- a text that is read whole
 
-text_runs : (whose : Whose) (left : ℕ) (seen bytes : List ℕ) → length bytes ≡ suc left → AllIn bytes
-    → run (text whose left seen) bytes ≡ after_name whose (name_units (reverse seen ++ bytes))
-text_runs whose left seen [] counted all = absurd (omega (arith, counted))
-text_runs whose zero seen (byte ∷ []) counted all = ap (λ (xs : List ℕ). after_name whose (name_units xs)) (reversed byte seen)
-text_runs whose (suc left) seen (byte ∷ []) counted all = absurd (omega (arith, counted))
-text_runs whose zero seen (byte ∷ more ∷ bytes) counted all = absurd (omega (arith, counted))
-text_runs whose (suc left) seen (byte ∷ more ∷ bytes) counted all =
-    ap (λ s. run s (more ∷ bytes)) (step_in whose left seen byte all.0)
-    ∙ text_runs whose left (byte ∷ seen) (more ∷ bytes) (omega (arith, counted)) all.1
-    ∙ ap (λ (xs : List ℕ). after_name whose (name_units xs)) (read_on byte seen (more ∷ bytes))
+-- its last byte
+last_by : (whose : Whose) (reading : Reading) (byte : ℕ) (is : Bool) (o : Option Reading) → in_text whose byte ≡ is → read reading byte ≡ o
+    → ended_with (if is then text_read whose zero o else nothing) ≡ named reading (byte ∷ [])
+last_by whose reading byte false o i r = sym (not_named whose reading byte [] i)
+last_by whose reading byte true None i r = sym (named_more reading byte [] ∙ ap (λ x. named_read x []) r)
+last_by whose reading byte true (Some later) i r = sym (named_more reading byte [] ∙ ap (λ x. named_read x []) r ∙ named_end later)
+
+-- a byte before it
+step_by : (whose : Whose) (left : ℕ) (reading : Reading) (byte more : ℕ) (bytes : List ℕ) (is : Bool) (o : Option Reading) → in_text whose byte ≡ is → read reading byte ≡ o
+    → ((later : Reading) → ended_by (text whose left later) (more ∷ bytes) ≡ named later (more ∷ bytes))
+    → ended_by (onward (if is then text_read whose (suc left) o else nothing) byte) (more ∷ bytes) ≡ named reading (byte ∷ more ∷ bytes)
+step_by whose left reading byte more bytes false o i r later = never_ends (more ∷ bytes) ∙ sym (not_named whose reading byte (more ∷ bytes) i)
+step_by whose left reading byte more bytes true None i r later =
+    never_ends (more ∷ bytes) ∙ sym (named_more reading byte (more ∷ bytes) ∙ ap (λ x. named_read x (more ∷ bytes)) r)
+step_by whose left reading byte more bytes true (Some onward) i r later =
+    later onward ∙ sym (named_more reading byte (more ∷ bytes) ∙ ap (λ x. named_read x (more ∷ bytes)) r)
+
+text_ends : (whose : Whose) (left : ℕ) (reading : Reading) (bytes : List ℕ) → length bytes ≡ suc left → ended_by (text whose left reading) bytes ≡ named reading bytes
+text_ends whose left reading [] counted = absurd (omega (arith, counted))
+text_ends whose zero reading (byte ∷ []) counted = last_by whose reading byte (in_text whose byte) (read reading byte) refl refl
+text_ends whose (suc left) reading (byte ∷ []) counted = absurd (omega (arith, counted))
+text_ends whose zero reading (byte ∷ more ∷ bytes) counted = absurd (omega (arith, counted))
+text_ends whose (suc left) reading (byte ∷ more ∷ bytes) counted =
+    step_by whose left reading byte more bytes (in_text whose byte) (read reading byte) refl refl (λ later. text_ends whose left later (more ∷ bytes) (omega (arith, counted)))
+
+-- what follows a text of a row
+over_by : (more : ℕ) (reading : Reading) (byte : ℕ) (is : Bool) (o : Option Reading) → in_row byte ≡ is → read reading byte ≡ o
+    → onward (if is then text_read (row more) zero o else nothing) byte ≡ after_text (row more) (whole reading (byte ∷ []))
+over_by more reading byte false o i r = not_over more ∙ ap (after_text (row more)) (sym (not_whole reading byte [] i))
+  where
+    not_over : (more : ℕ) → nothing ≡ after_text (row more) false
+    not_over zero = refl
+    not_over (suc more) = refl
+over_by more reading byte true None i r = not_over more ∙ ap (after_text (row more)) (sym (whole_more reading byte [] i ∙ ap (λ x. whole_read x []) r))
+  where
+    not_over : (more : ℕ) → nothing ≡ after_text (row more) false
+    not_over zero = refl
+    not_over (suc more) = refl
+over_by more reading byte true (Some later) i r = ap (after_text (row more)) (sym (whole_more reading byte [] i ∙ ap (λ x. whole_read x []) r ∙ whole_end later))
+
+goes_by : (more left : ℕ) (reading : Reading) (byte next_byte : ℕ) (bytes : List ℕ) (is : Bool) (o : Option Reading) → in_row byte ≡ is → read reading byte ≡ o
+    → ((later : Reading) → run (text (row more) left later) (next_byte ∷ bytes) ≡ after_text (row more) (whole later (next_byte ∷ bytes)))
+    → run (onward (if is then text_read (row more) (suc left) o else nothing) byte) (next_byte ∷ bytes) ≡ after_text (row more) (whole reading (byte ∷ next_byte ∷ bytes))
+goes_by more left reading byte next_byte bytes false o i r later = run_nothing (next_byte ∷ bytes) ∙ not_over more ∙ ap (after_text (row more)) (sym (not_whole reading byte (next_byte ∷ bytes) i))
+  where
+    not_over : (more : ℕ) → nothing ≡ after_text (row more) false
+    not_over zero = refl
+    not_over (suc more) = refl
+goes_by more left reading byte next_byte bytes true None i r later =
+    run_nothing (next_byte ∷ bytes) ∙ not_over more ∙ ap (after_text (row more)) (sym (whole_more reading byte (next_byte ∷ bytes) i ∙ ap (λ x. whole_read x (next_byte ∷ bytes)) r))
+  where
+    not_over : (more : ℕ) → nothing ≡ after_text (row more) false
+    not_over zero = refl
+    not_over (suc more) = refl
+goes_by more left reading byte next_byte bytes true (Some onward) i r later =
+    later onward ∙ ap (after_text (row more)) (sym (whole_more reading byte (next_byte ∷ bytes) i ∙ ap (λ x. whole_read x (next_byte ∷ bytes)) r))
+
+text_runs : (more left : ℕ) (reading : Reading) (bytes : List ℕ) → length bytes ≡ suc left → run (text (row more) left reading) bytes ≡ after_text (row more) (whole reading bytes)
+text_runs more left reading [] counted = absurd (omega (arith, counted))
+text_runs more zero reading (byte ∷ []) counted = over_by more reading byte (in_row byte) (read reading byte) refl refl
+text_runs more (suc left) reading (byte ∷ []) counted = absurd (omega (arith, counted))
+text_runs more zero reading (byte ∷ next_byte ∷ bytes) counted = absurd (omega (arith, counted))
+text_runs more (suc left) reading (byte ∷ next_byte ∷ bytes) counted =
+    goes_by more left reading byte next_byte bytes (in_row byte) (read reading byte) refl refl (λ later. text_runs more left later (next_byte ∷ bytes) (omega (arith, counted)))
+
+-- from its first byte on
+named_behind : (o : Option (List ℕ)) → core_in (behind [] o) ≡ core_in o
+named_behind None = refl
+named_behind (Some units) = refl
+
+pub named_first : (bytes : List ℕ) → named no_units bytes ≡ name_units bytes
+unfolding name_units row_units
+named_first bytes = named_behind (row_from bytes place.First)
+
+pub whole_first : (bytes : List ℕ) → whole no_units bytes ≡ is_some (row_units bytes)
+unfolding row_units
+whole_first bytes = refl
 
 -- the bytes of a length, and the text that follows
 
@@ -154,32 +345,31 @@ length_is high low is = grind (arith, nat_tests, is.some, is.most)
 pub is_length_of : (high low : ℕ) → is_length high low ≡ true → IsLength high low
 is_length_of high low e = record { some = grind (arith, nat_tests); most = grind (arith, nat_tests) }
 
-pub high_out : (high low : ℕ) → IsLength high low → in_text high ≡ false
+pub high_out : (high low : ℕ) → IsLength high low → in_name high ≡ false
 high_out high low is = grind (arith, nat_tests, is.most)
 
-text_of_length : (whose : Whose) (high low : ℕ) → IsLength high low → text_of whose high low ≡ text whose (high * 256 + low - 1) []
-text_of_length whose high low is = ap (λ b. if b then text whose (high * 256 + low - 1) [] else nothing) (length_is high low is)
+text_of_length : (whose : Whose) (high low : ℕ) → IsLength high low → text_of whose high low ≡ text whose (high * 256 + low - 1) no_units
+text_of_length whose high low is = ap (λ b. if b then text whose (high * 256 + low - 1) no_units else nothing) (length_is high low is)
 
-between_high : (more high : ℕ) → in_text high ≡ false → next (between more) high ≡ halfway more high
+between_high : (more high : ℕ) → in_name high ≡ false → next (between more) high ≡ halfway more high
 between_high more high e = ap (λ b. if b then nothing else halfway more high) e
 
--- the length of a further name of a row, and its text
-between_runs : (more high low : ℕ) → IsLength high low → run (between more) (high ∷ low ∷ []) ≡ text (row more) (high * 256 + low - 1) []
+-- the length of a further text of a row, and its text
+between_runs : (more high low : ℕ) → IsLength high low → run (between more) (high ∷ low ∷ []) ≡ text (row more) (high * 256 + low - 1) no_units
 between_runs more high low is = ap (λ s. next s low) (between_high more high (high_out high low is)) ∙ text_of_length (row more) high low is
 
--- what is known of a name at the head of some bytes
-name_length : (bytes : List ℕ) (end : ℕ) (units : List ℕ) → (name : BeginsName bytes end units) → IsLength name.high name.low
-name_length bytes end units name = record { some = omega (arith, name.counted, name.least); most = omega (arith, name.counted, name.most) }
+-- what is known of a text at the head of some bytes
+name_length : (reader : List ℕ → Option (List ℕ)) (bytes : List ℕ) (end : ℕ) (units : List ℕ) → (name : BeginsText reader bytes end units) → IsLength name.high name.low
+name_length reader bytes end units name = record { some = omega (arith, name.counted, name.least); most = omega (arith, name.counted, name.most) }
 
 -- after stages that read its length, the name ends with its text
-name_ends : (whose : Whose) (high low : ℕ) (bytes units : List ℕ) → IsLength high low → length bytes ≡ high * 256 + low → name_units bytes ≡ Some units
-    → ended_by (text whose (high * 256 + low - 1) []) bytes ≡ Some units
-name_ends whose high low bytes units is counted named = text_ends whose _ [] bytes units (omega (arith, counted, is.some)) (all_in bytes units named) named
+name_ends : (whose : Whose) (high low : ℕ) (bytes : List ℕ) → IsLength high low → length bytes ≡ high * 256 + low
+    → ended_by (text whose (high * 256 + low - 1) no_units) bytes ≡ name_units bytes
+name_ends whose high low bytes is counted = text_ends whose (high * 256 + low - 1) no_units bytes (omega (arith, counted, is.some)) ∙ named_first bytes
 
-name_runs : (whose : Whose) (high low : ℕ) (bytes units : List ℕ) → IsLength high low → length bytes ≡ high * 256 + low → name_units bytes ≡ Some units
-    → run (text whose (high * 256 + low - 1) []) bytes ≡ after_name whose (Some units)
-name_runs whose high low bytes units is counted named =
-    text_runs whose _ [] bytes (omega (arith, counted, is.some)) (all_in bytes units named) ∙ ap (λ o. after_name whose o) named
+text_over : (more high low : ℕ) (bytes : List ℕ) → IsLength high low → length bytes ≡ high * 256 + low
+    → run (text (row more) (high * 256 + low - 1) no_units) bytes ≡ after_text (row more) (is_some (row_units bytes))
+text_over more high low bytes is counted = text_runs more (high * 256 + low - 1) no_units bytes (omega (arith, counted, is.some)) ∙ ap (after_text (row more)) (whole_first bytes)
 
 pub run_append : (stage : Stage) (xs ys : List ℕ) → run stage (xs ++ ys) ≡ run (run stage xs) ys
 run_append stage [] ys = refl
@@ -195,7 +385,7 @@ ends_between : (more high low : ℕ) (bytes units : List ℕ) → IsLength high 
 ends_between more high low [] units is counted named = absurd (omega (arith, counted, is.some))
 ends_between more high low (byte ∷ bytes) units is counted named =
     ended_append (between more) (high ∷ low ∷ []) byte bytes ∙ ap (λ s. ended_by s (byte ∷ bytes)) (between_runs more high low is)
-    ∙ name_ends (row more) high low (byte ∷ bytes) units is counted named
+    ∙ name_ends (row more) high low (byte ∷ bytes) is counted ∙ named
 
 none_in_empty : (most end : ℕ) (units : List ℕ) → BeginsRow most [] end units → ⊥
 none_in_empty zero end units r = r
@@ -206,13 +396,14 @@ abbrev RowEnds : ℕ → Type 0
 RowEnds zero = Unit {0}
 RowEnds (suc more) = (bytes : List ℕ) (end : ℕ) (units : List ℕ) → BeginsRow (suc more) bytes end units → end ≡ length bytes → ended_by (between more) bytes ≡ Some units
 
-later_ends : (more : ℕ) → RowEnds more → (high low : ℕ) (bytes after others units : List ℕ) (end : ℕ) → IsLength high low → length bytes ≡ high * 256 + low → name_units bytes ≡ Some others
+later_ends : (more : ℕ) → RowEnds more → (high low : ℕ) (bytes after others units : List ℕ) (end : ℕ) → IsLength high low → length bytes ≡ high * 256 + low → row_units bytes ≡ Some others
     → BeginsRow more after end units → end ≡ length after → ended_by (between more) (high ∷ low ∷ (bytes ++ after)) ≡ Some units
 later_ends zero ends high low bytes after others units end is counted named r e = absurd r
 later_ends (suc more) ends high low bytes [] others units end is counted named r e = absurd (none_in_empty (suc more) end units r)
 later_ends (suc more) ends high low bytes (byte ∷ after) others units end is counted named r e =
     ended_append (between (suc more)) (high ∷ low ∷ bytes) byte after
-    ∙ ap (λ s. ended_by s (byte ∷ after)) (run_append (between (suc more)) (high ∷ low ∷ []) bytes ∙ ap (λ s. run s bytes) (between_runs (suc more) high low is) ∙ name_runs (row (suc more)) high low bytes others is counted named)
+    ∙ ap (λ s. ended_by s (byte ∷ after)) (run_append (between (suc more)) (high ∷ low ∷ []) bytes ∙ ap (λ s. run s bytes) (between_runs (suc more) high low is)
+    ∙ text_over (suc more) high low bytes is counted ∙ ap (λ o. after_text (row (suc more)) (is_some o)) named)
     ∙ ends (byte ∷ after) end units r e
 
 pub row_ends : (more : ℕ) → RowEnds more
@@ -221,14 +412,14 @@ row_ends (suc more) = λ bytes end units r e. elim r [
   | inl name ↦
       let same : name.after ≡ [] = nothing_after name.text name.after (omega (arith, e, name.ends, ap length name.split)) in
       ap (λ (xs : List ℕ). ended_by (between more) xs) (name.split ∙ ap (λ (xs : List ℕ). name.high ∷ name.low ∷ (name.text ++ xs)) same ∙ ap (λ (xs : List ℕ). name.high ∷ name.low ∷ xs) (append-nil name.text))
-      ∙ ends_between more name.high name.low name.text units (name_length bytes end units name) name.counted name.named
+      ∙ ends_between more name.high name.low name.text units (name_length name_units bytes end units name) name.counted name.named
   | inr later ↦
       let name = later.name in
       let front = name.high ∷ name.low ∷ name.text in
       let long : later.first ≡ length front = omega (arith, name.ends) in
       let rest : drop later.first bytes ≡ name.after = ap (λ (n : ℕ). drop n bytes) long ∙ ap (λ (xs : List ℕ). drop (length front) xs) name.split ∙ drop-append_seam front name.after in
       ap (λ (xs : List ℕ). ended_by (between more) xs) name.split
-      ∙ later_ends more (row_ends more) name.high name.low name.text name.after later.others units later.more (name_length bytes later.first later.others name) name.counted name.named
+      ∙ later_ends more (row_ends more) name.high name.low name.text name.after later.others units later.more (name_length row_units bytes later.first later.others name) name.counted name.named
       (subst (λ (xs : List ℕ). BeginsRow more xs later.more units) rest later.later)
       (omega (arith, e, later.ends, name.ends, ap length name.split, length-append name.text name.after))
 ]
@@ -243,7 +434,7 @@ descriptor_met : (high low : ℕ) (bytes units : List ℕ) → IsLength high low
     → met (0x72 ∷ high ∷ low ∷ bytes) ≡ Some units
 descriptor_met high low [] units is counted named = absurd (omega (arith, counted, is.some))
 descriptor_met high low (byte ∷ bytes) units is counted named =
-    ap (λ s. ended_by s (byte ∷ bytes)) (text_of_length descriptor high low is) ∙ name_ends descriptor high low (byte ∷ bytes) units is counted named
+    ap (λ s. ended_by s (byte ∷ bytes)) (text_of_length descriptor high low is) ∙ name_ends descriptor high low (byte ∷ bytes) is counted ∙ named
 
 row_head : (count_high count_low more high low : ℕ) → count_high * 256 + count_low ≡ suc more → row_of count_high count_low high low ≡ text_of (row more) high low
 row_head count_high count_low more high low e =
@@ -268,20 +459,20 @@ record RowBegins (bytes : List ℕ) : Type 0 where
   pub is : IsLength high low
   pub some : 1 ≤ length rest
 
-name_begins : (bytes : List ℕ) (end : ℕ) (units : List ℕ) → BeginsName bytes end units → RowBegins bytes
-name_begins bytes end units name = record {
+name_begins : (reader : List ℕ → Option (List ℕ)) (bytes : List ℕ) (end : ℕ) (units : List ℕ) → BeginsText reader bytes end units → RowBegins bytes
+name_begins reader bytes end units name = record {
   high = name.high;
   low = name.low;
   rest = name.text ++ name.after;
   split = name.split;
-  is = name_length bytes end units name;
+  is = name_length reader bytes end units name;
   some = omega (arith, name.least, length-append name.text name.after);
 }
 
 row_begins : (most : ℕ) (bytes : List ℕ) (end : ℕ) (units : List ℕ) → BeginsRow most bytes end units → RowBegins bytes
 row_begins zero bytes end units r = absurd r
-row_begins (suc more) bytes end units (inl name) = name_begins bytes end units name
-row_begins (suc more) bytes end units (inr later) = name_begins bytes later.first later.others later.name
+row_begins (suc more) bytes end units (inl name) = name_begins name_units bytes end units name
+row_begins (suc more) bytes end units (inr later) = name_begins row_units bytes later.first later.others later.name
 
 interfaces_met : (most high low : ℕ) (rest : List ℕ) (end : ℕ) (units : List ℕ) → high * 256 + low ≡ most → BeginsRow most rest end units → end ≡ length rest
     → met (0x7D ∷ 0 ∷ 0 ∷ high ∷ low ∷ rest) ≡ Some units
@@ -296,7 +487,7 @@ standing_met bytes end units (inl d) e =
     let name = d.name in
     let same : name.after ≡ [] = nothing_after name.text name.after (omega (arith, e, d.ends, name.ends, ap length d.split, ap length name.split)) in
     ap met (d.split ∙ ap (λ (xs : List ℕ). 0x72 ∷ xs) name.split ∙ ap (λ (xs : List ℕ). 0x72 ∷ name.high ∷ name.low ∷ (name.text ++ xs)) same ∙ ap (λ (xs : List ℕ). 0x72 ∷ name.high ∷ name.low ∷ xs) (append-nil name.text))
-    ∙ descriptor_met name.high name.low name.text units (name_length d.rest d.name_end units name) name.counted name.named
+    ∙ descriptor_met name.high name.low name.text units (name_length name_units d.rest d.name_end units name) name.counted name.named
 standing_met bytes end units (inr i) e =
     ap met i.split ∙ interfaces_met (i.high * 256 + i.low) i.high i.low i.rest i.row_end units refl i.row (omega (arith, e, i.ends, ap length i.split))
 
@@ -319,132 +510,178 @@ not_in : (is : Bool) (stage : Stage) (bytes units : List ℕ) → ended_by (if i
 not_in true stage bytes units e = absurd (never bytes units e)
 not_in false stage bytes units e = e
 
--- a descriptor's name
-record WholeName (left : ℕ) (seen bytes units : List ℕ) : Type 0 where
-  pub counted : length bytes ≡ suc left
-  pub named : name_units (reverse seen ++ bytes) ≡ Some units
+-- a text has taken a byte, or it has none
+record TookByte (whose : Whose) (left : ℕ) (reading : Reading) (byte : ℕ) : Type 0 where
+  pub later : Reading
+  pub is : with_byte (text whose left reading) byte ≡ text whose left later
 
-descriptor_whole : (left : ℕ) (seen bytes units : List ℕ) → ended_by (text descriptor left seen) bytes ≡ Some units → WholeName left seen bytes units
-descriptor_whole left seen [] units e = absurd cc
-descriptor_whole zero seen (byte ∷ []) units e = record { counted = refl; named = ap name_units (sym (reversed byte seen)) ∙ e }
-descriptor_whole (suc left) seen (byte ∷ []) units e = absurd cc
-descriptor_whole zero seen (byte ∷ more ∷ bytes) units e = absurd (never (more ∷ bytes) units e)
-descriptor_whole (suc left) seen (byte ∷ more ∷ bytes) units e =
-    let w = descriptor_whole left (byte ∷ seen) (more ∷ bytes) units (alive (in_text byte) (text descriptor left (byte ∷ seen)) (more ∷ bytes) units e).ends in
-    record { counted = omega (arith, w.counted); named = ap name_units (sym (read_on byte seen (more ∷ bytes))) ∙ w.named }
+took_by : (whose : Whose) (left : ℕ) (reading : Reading) (byte : ℕ) (is : Bool) (o : Option Reading) → in_text whose byte ≡ is → read reading byte ≡ o
+    → (with_byte (text whose left reading) byte ≡ nothing) ⊎ TookByte whose left reading byte
+took_by whose left reading byte false o i r = inl (ap (λ b. if b then text_read whose left (read reading byte) else nothing) i)
+took_by whose left reading byte true None i r = inl (ap (λ b. if b then text_read whose left (read reading byte) else nothing) i ∙ ap (text_read whose left) r)
+took_by whose left reading byte true (Some later) i r =
+    inr (record { later = later; is = ap (λ b. if b then text_read whose left (read reading byte) else nothing) i ∙ ap (text_read whose left) r })
+
+took : (whose : Whose) (left : ℕ) (reading : Reading) (byte : ℕ) → (with_byte (text whose left reading) byte ≡ nothing) ⊎ TookByte whose left reading byte
+took whose left reading byte = took_by whose left reading byte (in_text whose byte) (read reading byte) refl refl
+
+none_some : {A : Type 0} → (o : Option A) (x : A) → o ≡ None → o ≡ Some x → ⊥
+none_some o x e f = let g : None ≡ Some x = sym e ∙ f in absurd cc
+
+-- before its last byte it ends no name
+not_yet : (whose : Whose) (left : ℕ) (reading : Reading) (byte : ℕ) → ended (text whose (suc left) reading) byte ≡ None
+not_yet whose left reading byte = elim (took whose (suc left) reading byte) [
+  | inl none ↦ ap ended_with none
+  | inr t ↦ ap ended_with t.is
+]
+
+goes_next : (whose : Whose) (left : ℕ) (reading : Reading) (byte more : ℕ) (bytes units : List ℕ) → ended_by (next (text whose (suc left) reading) byte) (more ∷ bytes) ≡ Some units
+    → (later : Reading) × (ended_by (text whose left later) (more ∷ bytes) ≡ Some units)
+goes_next whose left reading byte more bytes units e = elim (took whose (suc left) reading byte) [
+  | inl none ↦ absurd (never (more ∷ bytes) units (ap (λ s. ended_by (onward s byte) (more ∷ bytes)) (sym none) ∙ e))
+  | inr t ↦ (t.later, ap (λ s. ended_by (onward s byte) (more ∷ bytes)) (sym t.is) ∙ e)
+]
+
+-- a descriptor's name
+over_next : (reading : Reading) (byte : ℕ) → next (text descriptor zero reading) byte ≡ nothing
+over_next reading byte = elim (took descriptor zero reading byte) [
+  | inl none ↦ ap (λ s. onward s byte) none
+  | inr t ↦ ap (λ s. onward s byte) t.is
+]
+
+descriptor_counted : (left : ℕ) (reading : Reading) (bytes units : List ℕ) → ended_by (text descriptor left reading) bytes ≡ Some units → length bytes ≡ suc left
+descriptor_counted left reading [] units e = absurd cc
+descriptor_counted zero reading (byte ∷ []) units e = refl
+descriptor_counted (suc left) reading (byte ∷ []) units e = absurd (none_some (ended (text descriptor (suc left) reading) byte) units (not_yet descriptor left reading byte) e)
+descriptor_counted zero reading (byte ∷ more ∷ bytes) units e = absurd (never (more ∷ bytes) units (ap (λ s. ended_by s (more ∷ bytes)) (sym (over_next reading byte)) ∙ e))
+descriptor_counted (suc left) reading (byte ∷ more ∷ bytes) units e =
+    let g = goes_next descriptor left reading byte more bytes units e in
+    omega (arith, descriptor_counted left g.0 (more ∷ bytes) units g.1)
+
+one_text : (whose : Whose) (high low : ℕ) (bytes units : List ℕ) → IsLength high low → length bytes ≡ high * 256 + low
+    → ended_by (text whose (high * 256 + low - 1) no_units) bytes ≡ Some units → BeginsName (high ∷ low ∷ bytes) (2 + length bytes) units
+one_text whose high low bytes units is counted e = record {
+  high = high;
+  low = low;
+  text = bytes;
+  after = [];
+  split = ap (λ (xs : List ℕ). high ∷ low ∷ xs) (sym (append-nil bytes));
+  counted = counted;
+  least = omega (arith, counted, is.some);
+  most = omega (arith, counted, is.most);
+  named = sym (name_ends whose high low bytes is counted) ∙ e;
+  ends = refl;
+}
 
 descriptor_stands : (high low : ℕ) (bytes units : List ℕ) → ended_by (text_of descriptor high low) bytes ≡ Some units → BeginsName (high ∷ low ∷ bytes) (2 + length bytes) units
 descriptor_stands high low bytes units e =
-    let a = alive (is_length high low) (text descriptor (high * 256 + low - 1) []) bytes units e in
+    let a = alive (is_length high low) (text descriptor (high * 256 + low - 1) no_units) bytes units e in
     let is = is_length_of high low a.true_is in
-    let w = descriptor_whole (high * 256 + low - 1) [] bytes units a.ends in
-    record {
-      high = high;
-      low = low;
-      text = bytes;
-      after = [];
-      split = ap (λ (xs : List ℕ). high ∷ low ∷ xs) (sym (append-nil bytes));
-      counted = omega (arith, w.counted, is.some);
-      least = omega (arith, w.counted);
-      most = omega (arith, w.counted, is.some, is.most);
-      named = w.named;
-      ends = refl;
-    }
+    one_text descriptor high low bytes units is (omega (arith, is.some, descriptor_counted (high * 256 + low - 1) no_units bytes units a.ends)) a.ends
 
--- a row's names: first the one that ends with the last byte
-last_of_row : (more high low : ℕ) (seen : List ℕ) (byte : ℕ) (units : List ℕ) → IsLength high low → high * 256 + low ≡ length seen + 1 → name_units (reverse (byte ∷ seen)) ≡ Some units
-    → BeginsRow (suc more) (high ∷ low ∷ (reverse seen ++ (byte ∷ []))) (2 + (length seen + 1)) units
-last_of_row more high low seen byte units is counted e = inl (record {
-  high = high;
-  low = low;
-  text = reverse seen ++ (byte ∷ []);
-  after = [];
-  split = ap (λ (xs : List ℕ). high ∷ low ∷ xs) (sym (append-nil (reverse seen ++ (byte ∷ []))));
-  counted = omega (arith, counted, length-append (reverse seen) (byte ∷ []), length-reverse seen);
-  least = omega (arith, length-append (reverse seen) (byte ∷ []));
-  most = omega (arith, counted, is.most, length-append (reverse seen) (byte ∷ []), length-reverse seen);
-  named = ap name_units (sym (reversed byte seen)) ∙ e;
-  ends = omega (arith, length-append (reverse seen) (byte ∷ []), length-reverse seen);
-})
-
--- then one behind others
-behind_name : (more high low : ℕ) (seen : List ℕ) (byte : ℕ) (rest others units : List ℕ) (end : ℕ) → IsLength high low → high * 256 + low ≡ length seen + 1 → name_units (reverse (byte ∷ seen)) ≡ Some others
-    → BeginsRow (suc more) rest end units → end ≡ length rest
-    → BeginsRow (suc (suc more)) (high ∷ low ∷ (reverse seen ++ (byte ∷ rest))) (2 + (length seen + length (byte ∷ rest))) units
-behind_name more high low seen byte rest others units end is counted e r f =
-    let whole = reverse seen ++ (byte ∷ []) in
-    let long : length whole ≡ length seen + 1 = omega (arith, length-append (reverse seen) (byte ∷ []), length-reverse seen) in
-    let split : high ∷ low ∷ (reverse seen ++ (byte ∷ rest)) ≡ high ∷ low ∷ (whole ++ rest) = ap (λ (xs : List ℕ). high ∷ low ∷ xs) (sym (append_assoc (reverse seen) (byte ∷ []) rest)) in
-    inr (record {
-      first = length (high ∷ low ∷ whole);
-      others = others;
-      name = record {
-        high = high;
-        low = low;
-        text = whole;
-        after = rest;
-        split = split;
-        counted = omega (arith, counted, long);
-        least = omega (arith, long);
-        most = omega (arith, counted, is.most, long);
-        named = ap name_units (sym (reversed byte seen)) ∙ e;
-        ends = omega arith;
-      };
-      more = end;
-      later = subst (λ (xs : List ℕ). BeginsRow (suc more) xs end units)
-          (sym (ap (λ (xs : List ℕ). drop (length (high ∷ low ∷ whole)) xs) split ∙ drop-append_seam (high ∷ low ∷ whole) rest)) r;
-      ends = omega (arith, f, long);
-    })
-
--- a further name, whose length is read
-further : (more : ℕ) (high low : ℕ) (seen : List ℕ) (byte : ℕ) (rest units : List ℕ) (name : Option (List ℕ)) → IsLength high low → high * 256 + low ≡ length seen + 1 → name_units (reverse (byte ∷ seen)) ≡ name
-    → ((less : ℕ) → more ≡ suc less → ended_by (between less) rest ≡ Some units → BeginsRow (suc less) rest (length rest) units)
-    → ended_by (after_name (row more) name) rest ≡ Some units
-    → BeginsRow (suc more) (high ∷ low ∷ (reverse seen ++ (byte ∷ rest))) (2 + (length seen + length (byte ∷ rest))) units
-further zero high low seen byte rest units name is counted n later e = absurd (never rest units e)
-further (suc more) high low seen byte rest units None is counted n later e = absurd (never rest units e)
-further (suc more) high low seen byte rest units (Some others) is counted n later e =
-    behind_name more high low seen byte rest others units (length rest) is counted n (later more refl e) refl
-
-first_row : (more high low : ℕ) (bytes units : List ℕ) → BeginsRow (suc more) (high ∷ low ∷ bytes) (2 + (0 + length bytes)) units
-    → BeginsRow (suc more) (high ∷ low ∷ bytes) (length (high ∷ low ∷ bytes)) units
-first_row more high low bytes units r = subst (λ (n : ℕ). BeginsRow (suc more) (high ∷ low ∷ bytes) n units) (omega arith) r
+-- a row's names: it has at least the bytes of its first text
+row_counted : (more left : ℕ) (reading : Reading) (bytes units : List ℕ) → ended_by (text (row more) left reading) bytes ≡ Some units → suc left ≤ length bytes
+row_counted more left reading [] units e = absurd cc
+row_counted more zero reading (byte ∷ bytes) units e = omega arith
+row_counted more (suc left) reading (byte ∷ []) units e = absurd (none_some (ended (text (row more) (suc left) reading) byte) units (not_yet (row more) left reading byte) e)
+row_counted more (suc left) reading (byte ∷ next_byte ∷ bytes) units e =
+    let g = goes_next (row more) left reading byte next_byte bytes units e in
+    omega (arith, row_counted more left g.0 (next_byte ∷ bytes) units g.1)
 
 second_ends : (less high low : ℕ) (units : List ℕ) (is : Bool) → ended (if is then nothing else halfway less high) low ≡ Some units → ⊥
 second_ends less high low units true e = absurd cc
 second_ends less high low units false e = absurd cc
 
-row_stands : (more left : ℕ) (seen bytes units : List ℕ) (high low : ℕ) → IsLength high low → high * 256 + low ≡ length seen + suc left
-    → ended_by (text (row more) left seen) bytes ≡ Some units → BeginsRow (suc more) (high ∷ low ∷ (reverse seen ++ bytes)) (2 + (length seen + length bytes)) units
-row_stands more left seen [] units high low is counted e = absurd cc
-row_stands more zero seen (byte ∷ []) units high low is counted e = last_of_row more high low seen byte units is counted e
-row_stands more (suc left) seen (byte ∷ []) units high low is counted e = absurd cc
-row_stands more (suc left) seen (byte ∷ next_byte ∷ bytes) units high low is counted e =
-    let a = alive (in_text byte) (text (row more) left (byte ∷ seen)) (next_byte ∷ bytes) units e in
-    let r = row_stands more left (byte ∷ seen) (next_byte ∷ bytes) units high low is (omega (arith, counted)) a.ends in
-    subst (λ (xs : List ℕ). BeginsRow (suc more) (high ∷ low ∷ xs) (2 + (length seen + length (byte ∷ next_byte ∷ bytes))) units) (read_on byte seen (next_byte ∷ bytes))
-    (subst (λ (n : ℕ). BeginsRow (suc more) (high ∷ low ∷ (reverse (byte ∷ seen) ++ next_byte ∷ bytes)) n units) (omega arith) r)
-row_stands more zero seen (byte ∷ h ∷ []) units high low is counted e =
-    further more high low seen byte (h ∷ []) units (name_units (reverse (byte ∷ seen))) is counted refl (λ less same f. absurd cc) e
-row_stands more zero seen (byte ∷ h ∷ l ∷ []) units high low is counted e =
-    further more high low seen byte (h ∷ l ∷ []) units (name_units (reverse (byte ∷ seen))) is counted refl (λ less same f. absurd (second_ends less h l units (in_text h) f)) e
-row_stands more zero seen (byte ∷ h ∷ l ∷ b ∷ bytes) units high low is counted e =
-    further more high low seen byte (h ∷ l ∷ b ∷ bytes) units (name_units (reverse (byte ∷ seen))) is counted refl (λ less same f.
-    let g = not_in (in_text h) (halfway less h) (l ∷ b ∷ bytes) units f in
-    let a = alive (is_length h l) (text (row less) (h * 256 + l - 1) []) (b ∷ bytes) units g in
-    let also = is_length_of h l a.true_is in
-    first_row less h l (b ∷ bytes) units (row_stands less (h * 256 + l - 1) [] (b ∷ bytes) units h l also (omega (arith, also.some)) a.ends)) e
+abbrev RowStands : ℕ → Type 0
+RowStands more = (high low : ℕ) (bytes units : List ℕ) → IsLength high low → ended_by (text (row more) (high * 256 + low - 1) no_units) bytes ≡ Some units
+    → BeginsRow (suc more) (high ∷ low ∷ bytes) (2 + length bytes) units
+
+-- behind a text, the next one
+further : (less : ℕ) → RowStands less → (bytes units : List ℕ) → ended_by (between less) bytes ≡ Some units → BeginsRow (suc less) bytes (length bytes) units
+further less stands [] units e = absurd cc
+further less stands (h ∷ []) units e = absurd cc
+further less stands (h ∷ l ∷ []) units e = absurd (second_ends less h l units (in_name h) e)
+further less stands (h ∷ l ∷ b ∷ bytes) units e =
+    let g = not_in (in_name h) (halfway less h) (l ∷ b ∷ bytes) units e in
+    let a = alive (is_length h l) (text (row less) (h * 256 + l - 1) no_units) (b ∷ bytes) units g in
+    subst (λ (n : ℕ). BeginsRow (suc less) (h ∷ l ∷ b ∷ bytes) n units) (omega arith) (stands h l (b ∷ bytes) units (is_length_of h l a.true_is) a.ends)
+
+record HasText (o : Option (List ℕ)) : Type 0 where
+  pub units : List ℕ
+  pub is : o ≡ Some units
+
+has_text : (o : Option (List ℕ)) → is_some o ≡ true → HasText o
+has_text None e = absurd cc
+has_text (Some units) e = record { units = units; is = refl }
+
+-- of a text, and what stands behind it
+behind_text : (more high low : ℕ) (front after units : List ℕ) (loose : Bool) → IsLength high low → length front ≡ high * 256 + low → is_some (row_units front) ≡ loose
+    → ((less : ℕ) → more ≡ suc less → RowStands less) → ended_by (after_text (row more) loose) after ≡ Some units
+    → BeginsRow (suc more) (high ∷ low ∷ (front ++ after)) (2 + length (front ++ after)) units
+behind_text zero high low front after units loose is counted w stands e = absurd (never after units e)
+behind_text (suc less) high low front after units false is counted w stands e = absurd (never after units e)
+behind_text (suc less) high low front after units true is counted w stands e =
+    let h = has_text (row_units front) w in
+    let r = further less (stands less refl) after units e in
+    inr (record {
+      first = length (high ∷ low ∷ front);
+      others = h.units;
+      name = record {
+        high = high;
+        low = low;
+        text = front;
+        after = after;
+        split = refl;
+        counted = counted;
+        least = omega (arith, counted, is.some);
+        most = omega (arith, counted, is.most);
+        named = h.is;
+        ends = omega arith;
+      };
+      more = length after;
+      later = subst (λ (xs : List ℕ). BeginsRow (suc less) xs (length after) units) (sym (drop-append_seam (high ∷ low ∷ front) after)) r;
+      ends = omega (arith, length-append front after);
+    })
+
+abbrev text_stage : (more high low : ℕ) → Stage
+text_stage more high low = text (row more) (high * 256 + low - 1) no_units
+
+split_stands : (more high low : ℕ) (front after units : List ℕ) → IsLength high low → length front ≡ high * 256 + low
+    → ((less : ℕ) → more ≡ suc less → RowStands less) → ended_by (text_stage more high low) (front ++ after) ≡ Some units
+    → BeginsRow (suc more) (high ∷ low ∷ (front ++ after)) (2 + length (front ++ after)) units
+split_stands more high low front [] units is counted stands e =
+    let same : front ++ [] ≡ front = append-nil front in
+    inl (subst (λ (xs : List ℕ). BeginsName (high ∷ low ∷ xs) (2 + length xs) units) (sym same)
+    (one_text (row more) high low front units is counted (ap (λ (xs : List ℕ). ended_by (text_stage more high low) xs) (sym same) ∙ e)))
+split_stands more high low front (byte ∷ after) units is counted stands e =
+    behind_text more high low front (byte ∷ after) units (is_some (row_units front)) is counted refl stands
+    (ap (λ s. ended_by s (byte ∷ after)) (sym (text_over more high low front is counted)) ∙ sym (ended_append (text_stage more high low) front byte after) ∙ e)
+
+row_by : (more : ℕ) → ((less : ℕ) → more ≡ suc less → RowStands less) → RowStands more
+row_by more stands = λ high low bytes units is e.
+    let long = row_counted more (high * 256 + low - 1) no_units bytes units e in
+    let size : high * 256 + low ≤ length bytes = omega (arith, long) in
+    let same = take-append-drop (high * 256 + low) bytes in
+    subst (λ (xs : List ℕ). BeginsRow (suc more) (high ∷ low ∷ xs) (2 + length xs) units) same
+    (split_stands more high low (take (high * 256 + low) bytes) (drop (high * 256 + low) bytes) units is (length-take-le (high * 256 + low) bytes size) stands
+    (ap (λ (xs : List ℕ). ended_by (text_stage more high low) xs) same ∙ e))
+
+same_less : (more less : ℕ) → suc more ≡ suc less → more ≡ less
+same_less more less e = omega (arith, e)
+
+row_stands : (more : ℕ) → RowStands more
+row_stands zero = row_by zero (λ less e. absurd (omega (arith, e)))
+row_stands (suc more) = row_by (suc more) (λ less e. subst (λ (n : ℕ). RowStands n) (same_less more less e) (row_stands more))
 
 -- a row, after its count
 row_of_stands : (count_high count_low high low : ℕ) (bytes units : List ℕ) → ended_by (row_of count_high count_low high low) bytes ≡ Some units
     → BeginsRow (count_high * 256 + count_low) (high ∷ low ∷ bytes) (length (high ∷ low ∷ bytes)) units
 row_of_stands count_high count_low high low bytes units e =
     let a = alive (nat_le 1 (count_high * 256 + count_low)) (text_of (row (count_high * 256 + count_low - 1)) high low) bytes units e in
-    let b = alive (is_length high low) (text (row (count_high * 256 + count_low - 1)) (high * 256 + low - 1) []) bytes units a.ends in
-    let is = is_length_of high low b.true_is in
+    let b = alive (is_length high low) (text (row (count_high * 256 + count_low - 1)) (high * 256 + low - 1) no_units) bytes units a.ends in
     let counted : suc (count_high * 256 + count_low - 1) ≡ count_high * 256 + count_low = grind (arith, nat_tests, a.true_is) in
-    let r = first_row (count_high * 256 + count_low - 1) high low bytes units
-    (row_stands (count_high * 256 + count_low - 1) (high * 256 + low - 1) [] bytes units high low is (omega (arith, is.some)) b.ends) in
+    let r = subst (λ (n : ℕ). BeginsRow (suc (count_high * 256 + count_low - 1)) (high ∷ low ∷ bytes) n units) (omega arith)
+    (row_stands (count_high * 256 + count_low - 1) high low bytes units (is_length_of high low b.true_is) b.ends) in
     subst (λ (n : ℕ). BeginsRow n (high ∷ low ∷ bytes) (length (high ∷ low ∷ bytes)) units) counted r
 
 interfaces_stand : (mark first second count_high count_low high low byte : ℕ) (bytes units : List ℕ) → mark ≡ 0x7D

@@ -18,7 +18,24 @@ none_in_nothing passes = λ from to hidden.
 pub scanned_none : (passes : List ℕ → Bool) → HasScanned passes [] no_bytes
 scanned_none passes = record {
   bytes = tt;
-  follows = record { count = refl; recent = refl; name = refl; name_place = tt; row = refl; row_place = tt; skips = tt };
+  follows = record {
+    count = refl;
+    recent = refl;
+    name = record { stage_is = refl; place_is = tt };
+    even = record { stage_is = refl; place_is = tt };
+    odd = record { stage_is = refl; place_is = tt };
+    name_skip = tt;
+    even_skip = tt;
+    odd_skip = tt;
+    name_even = tt;
+    name_odd = tt;
+    even_odd = tt;
+    last = λ e. refl;
+    few = omega arith;
+    name_fits = tt;
+    even_fits = tt;
+    odd_fits = tt;
+  };
   pass = none_in_nothing passes;
 }
 
@@ -28,22 +45,22 @@ pub back_more : (taken : List ℕ) (byte : ℕ) → byte ∷ reverse taken ≡ r
 back_more taken byte = sym (reverse-append taken (byte ∷ []))
 
 pub byte_by : (passes : List ℕ → Bool) (old new : Scanning) (byte : ℕ) (place : Option ℕ) (taken : List ℕ) → byte < 256 → length taken + 1 ≤ most_taken → HasScanned passes taken old
-    → place ≡ scan_hidden passes old byte → (place ≡ None → new ≡ scan_after passes old byte)
+    → place ≡ scan_hidden passes old byte → (place ≡ None → new ≡ scan_after old byte)
     → (told : Option Hidden) → (place ≡ None → told ≡ None) → ((from : ℕ) → place ≡ Some from → told ≡ Some (record { from = from; to = min (old.count + 1) most_taken }))
     → Tells passes taken (byte ∷ []) told new
 byte_by passes old new byte None taken small fits s is onward told none some =
     let tells : TellsByte passes taken byte None =
-    subst (λ o. TellsByte passes taken byte o) (sym (is ∙ hidden_follows passes (reverse taken) old byte s.bytes s.follows)) (tells_byte passes taken byte s.bytes) in
+    subst (λ o. TellsByte passes taken byte o) (sym (is ∙ hidden_follows passes (reverse taken) old byte s.follows)) (tells_byte passes taken byte) in
     subst (λ o. Tells passes taken (byte ∷ []) o new) (sym (none refl)) (record {
       bytes = subst (λ (bs : List ℕ). AreBytes bs) (back_more taken byte) (small, s.bytes);
       follows = subst (λ (bs : List ℕ). Follows bs new) (back_more taken byte)
           (subst (λ (x : Scanning). Follows (byte ∷ reverse taken) x) (sym (onward refl))
-          (follows_byte passes (reverse taken) old byte s.bytes s.follows (omega (arith, fits, length-reverse taken)) (sym is)));
+          (follows_byte (reverse taken) old byte s.follows small (omega (arith, fits, length-reverse taken))));
       pass = all_pass_more passes taken byte s.pass tells;
     })
 byte_by passes old new byte (Some place) taken small fits s is onward told none some =
     let tells : TellsByte passes taken byte (Some place) =
-    subst (λ o. TellsByte passes taken byte o) (sym (is ∙ hidden_follows passes (reverse taken) old byte s.bytes s.follows)) (tells_byte passes taken byte s.bytes) in
+    subst (λ o. TellsByte passes taken byte o) (sym (is ∙ hidden_follows passes (reverse taken) old byte s.follows)) (tells_byte passes taken byte) in
     let at : min (old.count + 1) most_taken ≡ length taken + 1 = omega (arith, fits, s.follows.count, length-reverse taken) in
     subst (λ o. Tells passes taken (byte ∷ []) o new) (sym (some place refl)) (record {
       first = subst (λ (n : ℕ). IsFirstHidden passes (taken ++ byte ∷ []) place n) (sym at) (first_of_byte passes taken byte place s.pass tells);
@@ -57,10 +74,10 @@ same_place : (o : Option ℕ) (x y : ℕ) → o ≡ Some x → o ≡ Some y → 
 same_place o x y e f = let g : Some x ≡ Some y = sym e ∙ f in cc
 
 pub room_of : (passes : List ℕ → Bool) (taken : List ℕ) (old : Scanning) → HasScanned passes taken old → HasRoom old
-room_of passes taken old s = has_room (reverse taken) old s.bytes s.follows
+room_of passes taken old s = has_room (reverse taken) old s.follows
 
 pub byte_none : (passes : List ℕ → Bool) (old new : Scanning) (byte : ℕ) (place : Option ℕ) → byte < 256
-    → (HasRoom old → place ≡ scan_hidden passes old byte) → (HasRoom old → place ≡ None → new ≡ scan_after passes old byte) → place ≡ None
+    → (HasRoom old → place ≡ scan_hidden passes old byte) → (HasRoom old → place ≡ None → new ≡ scan_after old byte) → place ≡ None
     → TakesBytes passes old new (byte ∷ []) None
 unfolding TakesBytes
 byte_none passes old new byte place small is onward none = λ taken fits s.
@@ -68,7 +85,7 @@ byte_none passes old new byte place small is onward none = λ taken fits s.
     byte_by passes old new byte place taken small fits s (is room) (onward room) None (λ e. refl) (λ from e. absurd (different place from none e))
 
 pub byte_some : (passes : List ℕ → Bool) (old new : Scanning) (byte from : ℕ) (place : Option ℕ) → byte < 256
-    → (HasRoom old → place ≡ scan_hidden passes old byte) → (HasRoom old → place ≡ None → new ≡ scan_after passes old byte) → place ≡ Some from
+    → (HasRoom old → place ≡ scan_hidden passes old byte) → (HasRoom old → place ≡ None → new ≡ scan_after old byte) → place ≡ Some from
     → TakesBytes passes old new (byte ∷ []) (Some (record { from = from; to = min (old.count + 1) most_taken }))
 unfolding TakesBytes
 byte_some passes old new byte from place small is onward some = λ taken fits s.

@@ -1,13 +1,11 @@
--- What the slots have are stages of their places, and each stage that is to end a name is in them, or a row that
--- begins before has its names.
-use Rattle.std.proofs.Common.{◌≡◌, ℕ, zero, suc, ◌+◌, ◌-◌, ◌*◌, ◌<◌, ◌≤◌, ◌∙◌, ap, sym, subst, Bool, true, false, ◌||◌, ◌==◌, ◌⊎◌, inl, inr, if◌then◌else◌, Option, Some, None, List, [], ◌∷◌, ◌++◌, length, reverse, refl, arith, length-append, eqb-true}
+-- What the slots have are stages of their places, and each stage that is to end a name is in them.
+use Rattle.std.proofs.Common.{◌≡◌, ℕ, zero, suc, ◌+◌, ◌-◌, ◌*◌, ◌<◌, ◌∙◌, ap, sym, subst, Bool, true, false, not, ◌||◌, ◌==◌, ◌⊎◌, inl, inr, if◌then◌else◌, Option, Some, None, List, [], ◌∷◌, ◌++◌, length, refl, arith, length-append, eqb-true}
 use Rattle.std.proofs.lemmas.Bool.Decides.{nat_tests}
-use Rattle.jser_anywhere.specs.Names.{name_units}
-use Rattle.jser_anywhere.specs.Stages.{Whose, descriptor, row, Stage, nothing, head, text, between, halfway, is_length, in_text, begin, text_of, after_head, after_name, next, ended, stage_of}
-use Rattle.jser_anywhere.specs.Slots.{Slot, Slots, new_name, new_row, moved, filled, row_filled, step, slots_of}
-use Rattle.jser_anywhere.specs.Scans.{AreBytes}
+use Rattle.jser_anywhere.specs.Texts.{in_row}
+use Rattle.jser_anywhere.specs.Stages.{Whose, descriptor, row, Reading, Stage, nothing, head, text, between, halfway, no_units, is_length, in_name, begin, text_of, after_head, read, text_read, is_whole, after_text, onward, next, ended, stage_of}
+use Rattle.jser_anywhere.specs.Slots.{Slot, Slots, new_name, new_row, is_even, is_odd, moved, filled, step, slots_of}
 use Rattle.jser_anywhere.proofs.PlaceStages.{stage_here, stage_later}
-use Rattle.jser_anywhere.proofs.SlotLemmas.{FitsRow, FitsDescriptor, NewName, NewRow, new_name_cases, new_row_cases, no_old_name, old_row, name_moved, name_filled, row_moved, row_new, row_shared, row_kept, halfway_next}
+use Rattle.jser_anywhere.proofs.SlotLemmas.{FitsDescriptor, FitsRow, NewName, NewRow, Flips, even_flips, odd_flips, new_name_cases, new_row_cases, wanted_cases, no_old_name, name_moved, name_filled, row_filled, row_moved, row_new, row_kept, row_slot_of}
 use Rattle.jser_anywhere.proofs.FitsLemmas.{FitsSlots, slots_fit}
 
 -- ---- a slot has the stage of its place
@@ -41,15 +39,14 @@ advanced (byte ∷ newer) mark rest =
     ∙ ap (λ s. next s byte) (advanced newer mark rest)
 
 new_name_sound : (back : List ℕ) (byte : ℕ) → (new : NewName back byte)
-    → Placed (byte ∷ back) (record { place = length new.rest; stage = text descriptor (new.high * 256 + byte - 1) [] })
+    → Placed (byte ∷ back) (record { place = length new.rest; stage = text descriptor (new.high * 256 + byte - 1) no_units })
 new_name_sound back byte new = record {
   is = ap (λ (bs : List ℕ). stage_of (length new.rest) (byte ∷ bs)) new.split ∙ advanced (byte ∷ new.high ∷ []) 0x72 new.rest
       ∙ (ap (λ (bs : List ℕ). new_name bs byte) (sym new.split) ∙ new.stage);
   inside = omega (arith, ap length new.split);
 }
 
-new_row_sound : (back : List ℕ) (byte : ℕ) → (new : NewRow back byte)
-    → Placed (byte ∷ back) (record { place = length new.rest; stage = text (row (new.count_high * 256 + new.count_low - 1)) (new.high * 256 + byte - 1) [] })
+new_row_sound : (back : List ℕ) (byte : ℕ) → (new : NewRow back byte) → Placed (byte ∷ back) (row_slot_of back byte new)
 new_row_sound back byte new = record {
   is = ap (λ (bs : List ℕ). stage_of (length new.rest) (byte ∷ bs)) new.split ∙ advanced (byte ∷ new.high ∷ new.count_low ∷ new.count_high ∷ 0 ∷ 0 ∷ []) 0x7D new.rest
       ∙ (ap (λ (bs : List ℕ). new_row bs byte) (sym new.split) ∙ new.stage);
@@ -62,26 +59,26 @@ name_sound back byte slot s = elim (new_name_cases back byte) [
   | inr new ↦ subst (λ (t : Slot). Sound (byte ∷ back) t) (sym (name_filled back byte slot new)) (inr (new_name_sound back byte new))
 ]
 
-row_sound : (back : List ℕ) (byte : ℕ) (slot : Slot) → AreBytes back → FitsRow slot.place slot.stage back → Sound back slot
-    → Sound (byte ∷ back) (row_filled (length back - 6) (new_row back byte) (moved slot byte))
-row_sound back byte slot are f s = elim (new_row_cases back byte) [
-  | inl none ↦ subst (λ (t : Slot). Sound (byte ∷ back) t) (sym (row_moved back byte slot none)) (moved_sound back byte slot s)
-  | inr new ↦ elim (old_row back byte slot.place slot.stage are new f) [
-    | inl gone ↦ subst (λ (t : Slot). Sound (byte ∷ back) t) (sym (row_new back byte slot new gone)) (inr (new_row_sound back byte new))
-    | inr old ↦ subst (λ (t : Slot). Sound (byte ∷ back) t)
-        (sym (row_shared back byte old.more_here new.high slot (new_row back byte) (length back - 6) old.is new.is)) (moved_sound back byte slot s)
-  ]
+row_sound : (wanted : ℕ → Bool) (back : List ℕ) (byte : ℕ) (slot : Slot) → Sound back slot → Sound (byte ∷ back) (row_filled wanted back byte slot)
+row_sound wanted back byte slot s = elim (wanted_cases wanted back byte) [
+  | inl none ↦ subst (λ (t : Slot). Sound (byte ∷ back) t) (sym (row_moved wanted back byte slot none)) (moved_sound back byte slot s)
+  | inr w ↦ subst (λ (t : Slot). Sound (byte ∷ back) t) (sym (row_new wanted back byte slot w)) (inr (new_row_sound back byte w.new))
 ]
 
 pub record SoundSlots (back : List ℕ) (slots : Slots) : Type 0 where
   pub name : Sound back slots.name
-  pub row : Sound back slots.row
+  pub even : Sound back slots.even
+  pub odd : Sound back slots.odd
 
-pub slots_sound : (back : List ℕ) → AreBytes back → SoundSlots back (slots_of back)
-slots_sound [] are = record { name = inl refl; row = inl refl }
-slots_sound (byte ∷ back) are =
-    let s = slots_sound back are.1 in
-    record { name = name_sound back byte (slots_of back).name s.name; row = row_sound back byte (slots_of back).row are.1 (slots_fit back are.1).row s.row }
+pub slots_sound : (back : List ℕ) → SoundSlots back (slots_of back)
+slots_sound [] = record { name = inl refl; even = inl refl; odd = inl refl }
+slots_sound (byte ∷ back) =
+    let s = slots_sound back in
+    record {
+      name = name_sound back byte (slots_of back).name s.name;
+      even = row_sound is_even back byte (slots_of back).even s.even;
+      odd = row_sound is_odd back byte (slots_of back).odd s.odd;
+    }
 
 -- ---- the slots have each stage that is to end a name
 
@@ -90,176 +87,202 @@ pub record HeadAt (place : ℕ) (bytes back : List ℕ) : Type 0 where
   pub split : back ≡ bytes ++ rest
   pub at : place ≡ length rest
 
--- the slot of a row has a stage like this, of a row that does not begin later and may have as many names
-pub record Covers (place : ℕ) (stage : ℕ → Stage) (more : ℕ) (slot : Slot) : Type 0 where
-  pub more_here : ℕ
-  pub enough : more ≤ more_here
-  pub before : slot.place ≤ place
-  pub is : slot.stage ≡ stage more_here
+-- the slot of the rows at such a place
+abbrev pub row_slot : Slots → (place : ℕ) → Slot
+row_slot slots place = if is_even place then slots.even else slots.odd
+
+abbrev pub slot_at : (place : ℕ) → Stage → Slot
+slot_at place stage = record { place = place; stage = stage }
 
 abbrev pub Tracks : List ℕ → Slots → ℕ → Stage → Type 0
 Tracks back slots place nothing = Unit {0}
 Tracks back slots place (head bytes) = HeadAt place bytes back
-Tracks back slots place (text descriptor left seen) = slots.name ≡ record { place = place; stage = text descriptor left seen }
-Tracks back slots place (text (row more) left seen) = Covers place (λ m. text (row m) left seen) more slots.row
-Tracks back slots place (between more) = Covers place (λ m. between m) more slots.row
-Tracks back slots place (halfway more high) = Covers place (λ m. halfway m high) more slots.row
+Tracks back slots place (text descriptor left reading) = slots.name ≡ slot_at place (text descriptor left reading)
+Tracks back slots place (text (row more) left reading) = row_slot slots place ≡ slot_at place (text (row more) left reading)
+Tracks back slots place (between more) = row_slot slots place ≡ slot_at place (between more)
+Tracks back slots place (halfway more high) = row_slot slots place ≡ slot_at place (halfway more high)
 
 head_on : (place byte : ℕ) (bytes back : List ℕ) → HeadAt place bytes back → HeadAt place (byte ∷ bytes) (byte ∷ back)
 head_on place byte bytes back h = record { rest = h.rest; split = ap (λ (bs : List ℕ). byte ∷ bs) h.split; at = h.at }
 
--- the row's slot goes on
-covers_moved : (place byte : ℕ) (before after : ℕ → Stage) (more less : ℕ) (back : List ℕ) (slot : Slot) → AreBytes back → FitsRow slot.place slot.stage back
-    → (c : Covers place before more slot) → (before c.more_here ≡ nothing → ⊥)
-    → ((here : ℕ) → more ≤ here → (there : ℕ) × (less ≤ there) × (next (before here) byte ≡ after there))
-    → Covers place after less (row_filled (length back - 6) (new_row back byte) (moved slot byte))
-covers_moved place byte before after more less back slot are f c live onward =
-    let same = row_kept back byte slot are f (λ e. live (sym c.is ∙ e)) in
-    let there = onward c.more_here c.enough in
-    subst (λ (s : Slot). Covers place after less s) (sym same)
-    (record { more_here = there.0; enough = there.1; before = c.before; is = ap (λ s. next s byte) c.is ∙ there.2 })
+not_text : (whose : Whose) (left : ℕ) (reading : Reading) → text whose left reading ≡ nothing → ⊥
+not_text whose left reading e = absurd cc
 
-not_text : (whose : Whose) (left : ℕ) (seen : List ℕ) → text whose left seen ≡ nothing → ⊥
-not_text whose left seen e = absurd cc
+not_between : (more : ℕ) → between more ≡ nothing → ⊥
+not_between more e = absurd cc
+
+not_halfway : (more high : ℕ) → halfway more high ≡ nothing → ⊥
+not_halfway more high e = absurd cc
 
 -- a descriptor's name
-descriptor_on : (back : List ℕ) (byte : ℕ) (slots : Slots) (place left : ℕ) (seen : List ℕ) (is : Bool) → in_text byte ≡ is → FitsDescriptor slots.name.stage back
-    → slots.name ≡ record { place = place; stage = text descriptor (suc left) seen }
-    → Tracks (byte ∷ back) (step back slots byte) place (if is then text descriptor left (byte ∷ seen) else nothing)
-descriptor_on back byte slots place left seen false i f e = tt
-descriptor_on back byte slots place left seen true i f e = elim (new_name_cases back byte) [
-  | inl none ↦
-      name_moved back byte slots.name none ∙ ap (λ (s : Slot). moved s byte) e
-      ∙ ap (λ b. record { place = place; stage = if b then text descriptor left (byte ∷ seen) else nothing }) i
-  | inr new ↦
-      absurd (not_text descriptor (suc left) seen (sym (ap (λ (s : Slot). s.stage) e) ∙ no_old_name back byte slots.name.stage new f))
+abbrev OfName : Stage → Type 0
+OfName nothing = Unit {0}
+OfName (head bytes) = ⊥
+OfName (text descriptor left reading) = Unit {0}
+OfName (text (row more) left reading) = ⊥
+OfName (between more) = ⊥
+OfName (halfway more high) = ⊥
+
+name_tracks : (back : List ℕ) (slots : Slots) (place : ℕ) (stage : Stage) → OfName stage → slots.name ≡ slot_at place stage → Tracks back slots place stage
+name_tracks back slots place nothing o e = tt
+name_tracks back slots place (head bytes) o e = absurd o
+name_tracks back slots place (text descriptor left reading) o e = e
+name_tracks back slots place (text (row more) left reading) o e = absurd o
+name_tracks back slots place (between more) o e = absurd o
+name_tracks back slots place (halfway more high) o e = absurd o
+
+name_next_by : (left byte : ℕ) (is : Bool) (o : Option Reading) → OfName (onward (if is then text_read descriptor left o else nothing) byte)
+name_next_by left byte false o = tt
+name_next_by left byte true None = tt
+name_next_by zero byte true (Some later) = tt
+name_next_by (suc left) byte true (Some later) = tt
+
+descriptor_on : (back : List ℕ) (byte : ℕ) (slots : Slots) (place left : ℕ) (reading : Reading) → FitsDescriptor slots.name.stage back
+    → slots.name ≡ slot_at place (text descriptor left reading) → Tracks (byte ∷ back) (step back slots byte) place (next (text descriptor left reading) byte)
+descriptor_on back byte slots place left reading f e = elim (new_name_cases back byte) [
+  | inl none ↦ name_tracks (byte ∷ back) (step back slots byte) place (next (text descriptor left reading) byte) (name_next_by left byte (in_name byte) (read reading byte))
+      (name_moved back byte slots.name none ∙ ap (λ (s : Slot). moved s byte) e)
+  | inr new ↦ absurd (not_text descriptor left reading (sym (ap (λ (s : Slot). s.stage) e) ∙ no_old_name back byte slots.name.stage new f))
 ]
 
--- a row's
-fewer : (back : List ℕ) (byte : ℕ) (seen : List ℕ) (more here : ℕ) (units : List ℕ) → name_units (reverse (byte ∷ seen)) ≡ Some units → suc more ≤ here
-    → (there : ℕ) × (more ≤ there) × (next (text (row here) zero seen) byte ≡ between there)
-fewer back byte seen more zero units e less = absurd (omega (arith, less))
-fewer back byte seen more (suc here) units e less = (here, omega (arith, less), ap (λ o. after_name (row (suc here)) o) e)
+-- a row
+abbrev OfRow : Stage → Type 0
+OfRow nothing = Unit {0}
+OfRow (head bytes) = ⊥
+OfRow (text descriptor left reading) = ⊥
+OfRow (text (row more) left reading) = Unit {0}
+OfRow (between more) = Unit {0}
+OfRow (halfway more high) = Unit {0}
 
-name_on : (back : List ℕ) (byte : ℕ) (slots : Slots) (place more : ℕ) (seen : List ℕ) (name : Option (List ℕ)) → name_units (reverse (byte ∷ seen)) ≡ name
-    → AreBytes back → FitsRow slots.row.place slots.row.stage back → Covers place (λ m. text (row m) zero seen) more slots.row
-    → Tracks (byte ∷ back) (step back slots byte) place (after_name (row more) name)
-name_on back byte slots place zero seen name e are f c = tt
-name_on back byte slots place (suc more) seen None e are f c = tt
-name_on back byte slots place (suc more) seen (Some units) e are f c =
-    covers_moved place byte (λ m. text (row m) zero seen) (λ m. between m) (suc more) more back slots.row are f c
-    (λ n. not_text (row c.more_here) zero seen n) (λ here less. fewer back byte seen more here units e less)
+row_tracks : (back : List ℕ) (slots : Slots) (place : ℕ) (stage : Stage) → OfRow stage → row_slot slots place ≡ slot_at place stage → Tracks back slots place stage
+row_tracks back slots place nothing o e = tt
+row_tracks back slots place (head bytes) o e = absurd o
+row_tracks back slots place (text descriptor left reading) o e = absurd o
+row_tracks back slots place (text (row more) left reading) o e = e
+row_tracks back slots place (between more) o e = e
+row_tracks back slots place (halfway more high) o e = e
 
-text_on : (back : List ℕ) (byte : ℕ) (slots : Slots) (place more left : ℕ) (seen : List ℕ) (is : Bool) → in_text byte ≡ is
-    → AreBytes back → FitsRow slots.row.place slots.row.stage back → Covers place (λ m. text (row m) (suc left) seen) more slots.row
-    → Tracks (byte ∷ back) (step back slots byte) place (if is then text (row more) left (byte ∷ seen) else nothing)
-text_on back byte slots place more left seen false i are f c = tt
-text_on back byte slots place more left seen true i are f c =
-    covers_moved place byte (λ m. text (row m) (suc left) seen) (λ m. text (row m) left (byte ∷ seen)) more more back slots.row are f c
-    (λ n. not_text (row c.more_here) (suc left) seen n)
-    (λ here less. (here, less, ap (λ b. if b then text (row here) left (byte ∷ seen) else nothing) i))
+slot_on : (wanted : ℕ → Bool) (back : List ℕ) (byte : ℕ) (slot : Slot) (place : ℕ) (stage : Stage) → Flips wanted → FitsRow wanted slot.place slot.stage back → (stage ≡ nothing → ⊥)
+    → slot ≡ slot_at place stage → row_filled wanted back byte slot ≡ slot_at place (next stage byte)
+slot_on wanted back byte slot place stage flips f live e =
+    row_kept wanted back byte slot flips f (λ none. live (sym (ap (λ (s : Slot). s.stage) e) ∙ none)) ∙ ap (λ (s : Slot). moved s byte) e
 
-between_on : (back : List ℕ) (byte : ℕ) (slots : Slots) (place more : ℕ) (is : Bool) → in_text byte ≡ is
-    → AreBytes back → FitsRow slots.row.place slots.row.stage back → Covers place (λ m. between m) more slots.row
-    → Tracks (byte ∷ back) (step back slots byte) place (if is then nothing else halfway more byte)
-between_on back byte slots place more true i are f c = tt
-between_on back byte slots place more false i are f c =
-    covers_moved place byte (λ m. between m) (λ m. halfway m byte) more more back slots.row are f c (λ n. absurd cc)
-    (λ here less. (here, less, ap (λ b. if b then nothing else halfway here byte) i))
+row_slot_on : (back : List ℕ) (byte : ℕ) (slots : Slots) (place : ℕ) (stage : Stage) (is : Bool) → is_even place ≡ is → FitsSlots back slots → (stage ≡ nothing → ⊥)
+    → (if is then slots.even else slots.odd) ≡ slot_at place stage
+    → (if is then (step back slots byte).even else (step back slots byte).odd) ≡ slot_at place (next stage byte)
+row_slot_on back byte slots place stage true i f live e = slot_on is_even back byte slots.even place stage even_flips f.even live e
+row_slot_on back byte slots place stage false i f live e = slot_on is_odd back byte slots.odd place stage odd_flips f.odd live e
 
-halfway_on : (back : List ℕ) (byte : ℕ) (slots : Slots) (place more high : ℕ) (is : Bool) → is_length high byte ≡ is
-    → AreBytes back → FitsRow slots.row.place slots.row.stage back → Covers place (λ m. halfway m high) more slots.row
-    → Tracks (byte ∷ back) (step back slots byte) place (if is then text (row more) (high * 256 + byte - 1) [] else nothing)
-halfway_on back byte slots place more high false i are f c = tt
-halfway_on back byte slots place more high true i are f c =
-    covers_moved place byte (λ m. halfway m high) (λ m. text (row m) (high * 256 + byte - 1) []) more more back slots.row are f c (λ n. absurd cc)
-    (λ here less. (here, less, ap (λ b. if b then text (row here) (high * 256 + byte - 1) [] else nothing) i))
+row_on : (back : List ℕ) (byte : ℕ) (slots : Slots) (place : ℕ) (stage : Stage) → FitsSlots back slots → (stage ≡ nothing → ⊥) → OfRow (next stage byte)
+    → row_slot slots place ≡ slot_at place stage → Tracks (byte ∷ back) (step back slots byte) place (next stage byte)
+row_on back byte slots place stage f live o e =
+    row_tracks (byte ∷ back) (step back slots byte) place (next stage byte) o (row_slot_on back byte slots place stage (is_even place) refl f live e)
+
+over_of : (more : ℕ) (whole : Bool) → OfRow (after_text (row more) whole)
+over_of zero whole = tt
+over_of (suc more) true = tt
+over_of (suc more) false = tt
+
+text_of_row : (more left byte : ℕ) (is : Bool) (o : Option Reading) → OfRow (onward (if is then text_read (row more) left o else nothing) byte)
+text_of_row more left byte false o = tt
+text_of_row more left byte true None = tt
+text_of_row more zero byte true (Some later) = over_of more (is_whole later)
+text_of_row more (suc left) byte true (Some later) = tt
+
+between_of_row : (more byte : ℕ) (is : Bool) → OfRow (if is then nothing else halfway more byte)
+between_of_row more byte true = tt
+between_of_row more byte false = tt
+
+halfway_of_row : (more high byte : ℕ) (is : Bool) → OfRow (if is then text (row more) (high * 256 + byte - 1) no_units else nothing)
+halfway_of_row more high byte true = tt
+halfway_of_row more high byte false = tt
 
 -- a head that ends
 third_on : (back : List ℕ) (byte : ℕ) (slots : Slots) (place high mark : ℕ) (is_mark is : Bool) → (mark == 0x72) ≡ is_mark → is_length high byte ≡ is
     → HeadAt place (high ∷ mark ∷ []) back
-    → Tracks (byte ∷ back) (step back slots byte) place (if is_mark then (if is then text descriptor (high * 256 + byte - 1) [] else nothing) else head (byte ∷ high ∷ mark ∷ []))
+    → Tracks (byte ∷ back) (step back slots byte) place (if is_mark then (if is then text descriptor (high * 256 + byte - 1) no_units else nothing) else head (byte ∷ high ∷ mark ∷ []))
 third_on back byte slots place high mark false is m i h = head_on place byte (high ∷ mark ∷ []) back h
 third_on back byte slots place high mark true false m i h = tt
 third_on back byte slots place high mark true true m i h =
     let at : length back - 2 ≡ place = omega (arith, ap length h.split, h.at) in
-    let new : new_name back byte ≡ text descriptor (high * 256 + byte - 1) [] =
+    let new : new_name back byte ≡ text descriptor (high * 256 + byte - 1) no_units =
     ap (λ (bs : List ℕ). new_name bs byte) h.split ∙ ap (λ b. if b then text_of descriptor high byte else nothing) m
-    ∙ ap (λ b. if b then text descriptor (high * 256 + byte - 1) [] else nothing) i in
+    ∙ ap (λ b. if b then text descriptor (high * 256 + byte - 1) no_units else nothing) i in
     ap (λ s. filled (length back - 2) s (moved slots.name byte)) new
-    ∙ ap (λ (n : ℕ). record { place = n; stage = text descriptor (high * 256 + byte - 1) [] }) at
+    ∙ ap (λ (n : ℕ). slot_at n (text descriptor (high * 256 + byte - 1) no_units)) at
 
-seventh_by : (back : List ℕ) (byte : ℕ) (slots : Slots) (place : ℕ) → AreBytes back → FitsRow slots.row.place slots.row.stage back → (new : NewRow back byte) → length new.rest ≡ place
-    → Covers place (λ m. text (row m) (new.high * 256 + byte - 1) []) (new.count_high * 256 + new.count_low - 1) (step back slots byte).row
-seventh_by back byte slots place are f new at = elim (old_row back byte slots.row.place slots.row.stage are new f) [
-  | inl gone ↦
-      subst (λ (s : Slot). Covers place (λ m. text (row m) (new.high * 256 + byte - 1) []) (new.count_high * 256 + new.count_low - 1) s) (sym (row_new back byte slots.row new gone))
-      (record { more_here = new.count_high * 256 + new.count_low - 1; enough = omega arith; before = omega (arith, at); is = refl })
-  | inr old ↦
-      subst (λ (s : Slot). Covers place (λ m. text (row m) (new.high * 256 + byte - 1) []) (new.count_high * 256 + new.count_low - 1) s)
-      (sym (row_shared back byte old.more_here new.high slots.row (new_row back byte) (length back - 6) old.is new.is))
-      (record { more_here = old.more_here; enough = old.enough; before = omega (arith, at, old.before); is = ap (λ s. next s byte) old.is ∙ halfway_next old.more_here new.high byte new.is })
-]
+seventh_slot : (back : List ℕ) (byte : ℕ) (slots : Slots) (place : ℕ) (is : Bool) → is_even place ≡ is → (new : NewRow back byte) → length new.rest ≡ place
+    → (if is then (step back slots byte).even else (step back slots byte).odd) ≡ slot_at place (text (row (new.count_high * 256 + new.count_low - 1)) (new.high * 256 + byte - 1) no_units)
+seventh_slot back byte slots place true i new at =
+    row_new is_even back byte slots.even (record { new = new; kind = ap is_even at ∙ i })
+    ∙ ap (λ (n : ℕ). slot_at n (text (row (new.count_high * 256 + new.count_low - 1)) (new.high * 256 + byte - 1) no_units)) at
+seventh_slot back byte slots place false i new at =
+    row_new is_odd back byte slots.odd (record { new = new; kind = ap is_odd at ∙ ap not i })
+    ∙ ap (λ (n : ℕ). slot_at n (text (row (new.count_high * 256 + new.count_low - 1)) (new.high * 256 + byte - 1) no_units)) at
 
-seventh_on : (back : List ℕ) (byte : ℕ) (slots : Slots) (place : ℕ) → AreBytes back → FitsRow slots.row.place slots.row.stage back → place + 6 ≡ length back
-    → Tracks (byte ∷ back) (step back slots byte) place (new_row back byte)
-seventh_on back byte slots place are f at = elim (new_row_cases back byte) [
+seventh_on : (back : List ℕ) (byte : ℕ) (slots : Slots) (place : ℕ) → place + 6 ≡ length back → Tracks (byte ∷ back) (step back slots byte) place (new_row back byte)
+seventh_on back byte slots place at = elim (new_row_cases back byte) [
   | inl none ↦ subst (λ s. Tracks (byte ∷ back) (step back slots byte) place s) (sym none) tt
   | inr new ↦ subst (λ s. Tracks (byte ∷ back) (step back slots byte) place s) (sym new.stage)
-      (seventh_by back byte slots place are f new (omega (arith, at, ap length new.split)))
+      (seventh_slot back byte slots place (is_even place) refl new (omega (arith, at, ap length new.split)))
 ]
 
-head_next : (back : List ℕ) (byte : ℕ) (slots : Slots) (place : ℕ) (bytes : List ℕ) → AreBytes back → FitsRow slots.row.place slots.row.stage back → HeadAt place bytes back
+head_next : (back : List ℕ) (byte : ℕ) (slots : Slots) (place : ℕ) (bytes : List ℕ) → HeadAt place bytes back
     → Tracks (byte ∷ back) (step back slots byte) place (after_head (byte ∷ bytes))
-head_next back byte slots place [] are f h = head_on place byte [] back h
-head_next back byte slots place (a ∷ []) are f h = head_on place byte (a ∷ []) back h
-head_next back byte slots place (a ∷ b ∷ []) are f h = third_on back byte slots place a b (b == 0x72) (is_length a byte) refl refl h
-head_next back byte slots place (a ∷ b ∷ c ∷ []) are f h = head_on place byte (a ∷ b ∷ c ∷ []) back h
-head_next back byte slots place (a ∷ b ∷ c ∷ d ∷ []) are f h = head_on place byte (a ∷ b ∷ c ∷ d ∷ []) back h
-head_next back byte slots place (a ∷ b ∷ c ∷ d ∷ e ∷ []) are f h = head_on place byte (a ∷ b ∷ c ∷ d ∷ e ∷ []) back h
-head_next back byte slots place (a ∷ b ∷ c ∷ d ∷ e ∷ g ∷ []) are f h =
+head_next back byte slots place [] h = head_on place byte [] back h
+head_next back byte slots place (a ∷ []) h = head_on place byte (a ∷ []) back h
+head_next back byte slots place (a ∷ b ∷ []) h = third_on back byte slots place a b (b == 0x72) (is_length a byte) refl refl h
+head_next back byte slots place (a ∷ b ∷ c ∷ []) h = head_on place byte (a ∷ b ∷ c ∷ []) back h
+head_next back byte slots place (a ∷ b ∷ c ∷ d ∷ []) h = head_on place byte (a ∷ b ∷ c ∷ d ∷ []) back h
+head_next back byte slots place (a ∷ b ∷ c ∷ d ∷ e ∷ []) h = head_on place byte (a ∷ b ∷ c ∷ d ∷ e ∷ []) back h
+head_next back byte slots place (a ∷ b ∷ c ∷ d ∷ e ∷ g ∷ []) h =
     subst (λ s. Tracks (byte ∷ back) (step back slots byte) place s) (ap (λ (bs : List ℕ). new_row bs byte) h.split)
-    (seventh_on back byte slots place are f (omega (arith, ap length h.split, h.at)))
-head_next back byte slots place (a ∷ b ∷ c ∷ d ∷ e ∷ g ∷ i ∷ bytes) are f h = head_on place byte (a ∷ b ∷ c ∷ d ∷ e ∷ g ∷ i ∷ bytes) back h
+    (seventh_on back byte slots place (omega (arith, ap length h.split, h.at)))
+head_next back byte slots place (a ∷ b ∷ c ∷ d ∷ e ∷ g ∷ i ∷ bytes) h = head_on place byte (a ∷ b ∷ c ∷ d ∷ e ∷ g ∷ i ∷ bytes) back h
 
-tracks_next : (back : List ℕ) (byte : ℕ) (slots : Slots) (place : ℕ) (stage : Stage) → AreBytes back → FitsSlots back slots → Tracks back slots place stage
+tracks_next : (back : List ℕ) (byte : ℕ) (slots : Slots) (place : ℕ) (stage : Stage) → FitsSlots back slots → Tracks back slots place stage
     → Tracks (byte ∷ back) (step back slots byte) place (next stage byte)
-tracks_next back byte slots place nothing are f t = tt
-tracks_next back byte slots place (head bytes) are f t = head_next back byte slots place bytes are f.row t
-tracks_next back byte slots place (text descriptor zero seen) are f t = tt
-tracks_next back byte slots place (text descriptor (suc left) seen) are f t = descriptor_on back byte slots place left seen (in_text byte) refl f.name t
-tracks_next back byte slots place (text (row more) zero seen) are f t = name_on back byte slots place more seen (name_units (reverse (byte ∷ seen))) refl are f.row t
-tracks_next back byte slots place (text (row more) (suc left) seen) are f t = text_on back byte slots place more left seen (in_text byte) refl are f.row t
-tracks_next back byte slots place (between more) are f t = between_on back byte slots place more (in_text byte) refl are f.row t
-tracks_next back byte slots place (halfway more high) are f t = halfway_on back byte slots place more high (is_length high byte) refl are f.row t
+tracks_next back byte slots place nothing f t = tt
+tracks_next back byte slots place (head bytes) f t = head_next back byte slots place bytes t
+tracks_next back byte slots place (text descriptor left reading) f t = descriptor_on back byte slots place left reading f.name t
+tracks_next back byte slots place (text (row more) left reading) f t =
+    row_on back byte slots place (text (row more) left reading) f (not_text (row more) left reading) (text_of_row more left byte (in_row byte) (read reading byte)) t
+tracks_next back byte slots place (between more) f t = row_on back byte slots place (between more) f (not_between more) (between_of_row more byte (in_name byte)) t
+tracks_next back byte slots place (halfway more high) f t =
+    row_on back byte slots place (halfway more high) f (not_halfway more high) (halfway_of_row more high byte (is_length high byte)) t
 
 begin_tracks : (back : List ℕ) (byte : ℕ) (slots : Slots) (place : ℕ) (is : Bool) → place ≡ length back → Tracks (byte ∷ back) slots place (if is then head (byte ∷ []) else nothing)
 begin_tracks back byte slots place true e = record { rest = back; split = refl; at = e }
 begin_tracks back byte slots place false e = tt
 
-tracks_by : (back : List ℕ) (byte : ℕ) (slots : Slots) (place : ℕ) (is : Bool) → (place == length back) ≡ is → AreBytes back → FitsSlots back slots → Tracks back slots place (stage_of place back)
+tracks_by : (back : List ℕ) (byte : ℕ) (slots : Slots) (place : ℕ) (is : Bool) → (place == length back) ≡ is → FitsSlots back slots → Tracks back slots place (stage_of place back)
     → Tracks (byte ∷ back) (step back slots byte) place (if is then begin byte else next (stage_of place back) byte)
-tracks_by back byte slots place true e are f t = begin_tracks back byte (step back slots byte) place (byte == 0x72 || byte == 0x7D) (eqb-true place (length back) e)
-tracks_by back byte slots place false e are f t = tracks_next back byte slots place (stage_of place back) are f t
+tracks_by back byte slots place true e f t = begin_tracks back byte (step back slots byte) place (byte == 0x72 || byte == 0x7D) (eqb-true place (length back) e)
+tracks_by back byte slots place false e f t = tracks_next back byte slots place (stage_of place back) f t
 
-pub tracks : (back : List ℕ) → AreBytes back → (place : ℕ) → Tracks back (slots_of back) place (stage_of place back)
-tracks [] are place = tt
-tracks (byte ∷ back) are place =
-    tracks_by back byte (slots_of back) place (place == length back) refl are.1 (slots_fit back are.1) (tracks back are.1 place)
+pub tracks : (back : List ℕ) → (place : ℕ) → Tracks back (slots_of back) place (stage_of place back)
+tracks [] place = tt
+tracks (byte ∷ back) place = tracks_by back byte (slots_of back) place (place == length back) refl (slots_fit back) (tracks back place)
 
--- a name that ends is met by a slot, at that place or before
+-- a name that ends is met by the slot of its place
+abbrev pub MetBy : Slot → (place byte : ℕ) → (units : List ℕ) → Type 0
+MetBy slot place byte units = (ended slot.stage byte ≡ Some units) × (slot.place ≡ place)
+
 abbrev pub Met : Slots → (place byte : ℕ) → (units : List ℕ) → Type 0
-Met slots place byte units =
-    ((ended slots.name.stage byte ≡ Some units) × (slots.name.place ≤ place)) ⊎ ((ended slots.row.stage byte ≡ Some units) × (slots.row.place ≤ place))
+Met slots place byte units = MetBy slots.name place byte units ⊎ (MetBy slots.even place byte units ⊎ MetBy slots.odd place byte units)
+
+met_by : (slot : Slot) (place byte : ℕ) (stage : Stage) (units : List ℕ) → slot ≡ slot_at place stage → ended stage byte ≡ Some units → MetBy slot place byte units
+met_by slot place byte stage units t e = (ap (λ (s : Slot). ended s.stage byte) t ∙ e, ap (λ (s : Slot). s.place) t)
+
+met_row : (slots : Slots) (place byte : ℕ) (stage : Stage) (units : List ℕ) (is : Bool) → (if is then slots.even else slots.odd) ≡ slot_at place stage → ended stage byte ≡ Some units → Met slots place byte units
+met_row slots place byte stage units true t e = inr (inl (met_by slots.even place byte stage units t e))
+met_row slots place byte stage units false t e = inr (inr (met_by slots.odd place byte stage units t e))
 
 pub ended_met : (back : List ℕ) (slots : Slots) (place : ℕ) (stage : Stage) (byte : ℕ) (units : List ℕ) → Tracks back slots place stage → ended stage byte ≡ Some units
     → Met slots place byte units
 ended_met back slots place nothing byte units t e = absurd cc
 ended_met back slots place (head bytes) byte units t e = absurd cc
-ended_met back slots place (text descriptor zero seen) byte units t e =
-    inl (ap (λ (s : Slot). ended s.stage byte) t ∙ e, omega (arith, ap (λ (s : Slot). s.place) t))
-ended_met back slots place (text descriptor (suc left) seen) byte units t e = absurd cc
-ended_met back slots place (text (row more) zero seen) byte units t e = inr (ap (λ s. ended s byte) t.is ∙ e, t.before)
-ended_met back slots place (text (row more) (suc left) seen) byte units t e = absurd cc
+ended_met back slots place (text descriptor left reading) byte units t e = inl (met_by slots.name place byte (text descriptor left reading) units t e)
+ended_met back slots place (text (row more) left reading) byte units t e = met_row slots place byte (text (row more) left reading) units (is_even place) t e
 ended_met back slots place (between more) byte units t e = absurd cc
 ended_met back slots place (halfway more high) byte units t e = absurd cc

@@ -1,16 +1,17 @@
--- Loadable names, said without a reader: segments separated by `.`; or one or more `[`, and then `L`, such a name and `;`, or
--- the code of a primitive type.
-use Rattle.std.specs.Prelude.{◌≡◌, ◌⊎◌, ℕ, true, List, [], ◌∷◌, ◌++◌, replicate}
-use Rattle.jser_anywhere.specs.Names.{begins_segment, in_segment, is_primitive, is_loadable}
+-- Loadable names, said without a reader: a plain name is segments separated by `.`; a loadable name is a plain name, or what
+-- these make of one: `[]` behind it; `[L` before and `;` behind it; one more `[` before one that begins with `[`.
+use Rattle.std.specs.Prelude.{◌≡◌, ℕ, true, List, [], ◌∷◌, ◌++◌, Some}
+use Rattle.jser_anywhere.specs.Names.{is_part, core}
+use Rattle.jser_anywhere.specs.LooseText.{IsLooseText, AreInRow}
 
-abbrev pub AreInSegment : List ℕ → Type 0
-AreInSegment [] = Unit {0}
-AreInSegment (unit ∷ units) = (in_segment unit ≡ true) × AreInSegment units
+abbrev pub AreParts : List ℕ → Type 0
+AreParts [] = Unit {0}
+AreParts (unit ∷ units) = (is_part unit ≡ true) × AreParts units
 
--- it is not empty, and begins with no digit and no `-`
+-- it is not empty
 abbrev pub IsSegment : List ℕ → Type 0
 IsSegment [] = ⊥
-IsSegment (unit ∷ units) = (begins_segment unit ≡ true) × AreInSegment units
+IsSegment (unit ∷ units) = (is_part unit ≡ true) × AreParts units
 
 abbrev pub AreSegments : List (List ℕ) → Type 0
 AreSegments [] = Unit {0}
@@ -21,36 +22,51 @@ abbrev pub dotted : List ℕ → List (List ℕ) → List ℕ
 dotted first [] = first
 dotted first (next ∷ others) = first ++ 0x2E ∷ dotted next others
 
-pub record IsDotted (units : List ℕ) : Type 0 where
+pub record IsPlainName (units : List ℕ) : Type 0 where
   pub first : List ℕ
   pub others : List (List ℕ)
   pub segment : IsSegment first
   pub segments : AreSegments others
   pub units_are : units ≡ dotted first others
 
--- an `L`, such a name and a `;`
-pub record IsClass (units : List ℕ) : Type 0 where
-  pub name : List ℕ
-  pub is_dotted : IsDotted name
-  pub units_are : units ≡ 0x4C ∷ (name ++ 0x3B ∷ [])
+pub data Wrap : Type 0 where
+  brackets : Wrap
+  class : Wrap
+  bracket : Wrap
 
--- the code of a primitive type, and nothing more
-pub record IsCode (units : List ℕ) : Type 0 where
-  pub code : ℕ
-  pub primitive : is_primitive code ≡ true
-  pub units_are : units ≡ code ∷ []
+-- what stands inside, and what is made of it
+pub record Wraps (make : List ℕ → List ℕ) (is : List ℕ → Type 0) (units : List ℕ) : Type 0 where
+  pub inner : List ℕ
+  pub units_are : units ≡ make inner
+  pub inner_is : is inner
 
--- one `[`, and so many more
-pub record IsArrayName (units : List ℕ) : Type 0 where
-  pub more : ℕ
-  pub behind : List ℕ
-  pub element : IsClass behind ⊎ IsCode behind
-  pub units_are : units ≡ 0x5B ∷ (replicate more 0x5B ++ behind)
+abbrev pub with_brackets : List ℕ → List ℕ
+with_brackets inner = inner ++ 0x5B ∷ 0x5D ∷ []
 
-abbrev pub IsLoadableName : List ℕ → Type 0
-IsLoadableName units = IsDotted units ⊎ IsArrayName units
+abbrev pub with_class : List ℕ → List ℕ
+with_class inner = 0x5B ∷ 0x4C ∷ (inner ++ 0x3B ∷ [])
 
--- The reader of names takes each loadable name, and nothing else.
+-- units that begin with `[` and some more
+abbrev pub with_bracket : List ℕ → List ℕ
+with_bracket rest = 0x5B ∷ 0x5B ∷ rest
+
+abbrev pub IsWrapped : List Wrap → (name units : List ℕ) → Type 0
+IsWrapped [] name units = units ≡ name
+IsWrapped (brackets ∷ wraps) name units = Wraps with_brackets (IsWrapped wraps name) units
+IsWrapped (class ∷ wraps) name units = Wraps with_class (IsWrapped wraps name) units
+IsWrapped (bracket ∷ wraps) name units = Wraps with_bracket (λ rest. IsWrapped wraps name (0x5B ∷ rest)) units
+
+-- these units name a class: the plain name of it, its core, is inside
+pub record HasCore (units name : List ℕ) : Type 0 where
+  pub plain : IsPlainName name
+  pub wraps : List Wrap
+  pub wrapped : IsWrapped wraps name units
+
+-- The reader of names tells the core of each loadable name, and of nothing else.
 pub record ReadsLoadable : Type 0 where
-  pub all : (units : List ℕ) → IsLoadableName units → is_loadable units ≡ true
-  pub only : (units : List ℕ) → is_loadable units ≡ true → IsLoadableName units
+  pub all : (units name : List ℕ) → HasCore units name → core units ≡ Some name
+  pub only : (units name : List ℕ) → core units ≡ Some name → HasCore units name
+
+-- A row goes on behind each loadable name: its text has no byte below 20.
+abbrev pub NamesAreInRows : Type 0
+NamesAreInRows = (text units name : List ℕ) → IsLooseText text units → HasCore units name → AreInRow text

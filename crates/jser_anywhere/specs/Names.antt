@@ -1,65 +1,61 @@
--- Loadable names: segments separated by `.`, or one or more `[`, an `L`, such a name and a `;`.
-use Rattle.std.specs.Prelude.{ℕ, Bool, true, false, ◌==◌, ◌&&◌, ◌||◌, nat_le, if◌then◌else◌, List, [], ◌∷◌, Option, Some, None}
-use Rattle.jser_anywhere.specs.declared.part.Part.{Part}
-use Rattle.jser_anywhere.specs.declared.part.Part.TheVariants as part
-use Rattle.jser_anywhere.specs.Texts.{loose_units, loose_from}
-use Rattle.jser_anywhere.specs.declared.text.Place.{Place}
+-- Loadable names, and the class that one names: its core, which is the plain name that is left where brackets at its end, and
+-- the brackets, `L` and `;` of an array, are taken off as often as they are there.
+use Rattle.std.specs.Prelude.{ℕ, zero, suc, Bool, true, false, ◌==◌, ◌-◌, ◌&&◌, ◌||◌, nat_le, if◌then◌else◌, List, [], ◌∷◌, length, take, get_or, Option, Some, None}
+use Rattle.jser_anywhere.specs.Texts.{row_units}
 
--- a letter, `_`, `$`, or a unit from 0080 on
-abbrev pub begins_segment : ℕ → Bool
-begins_segment unit =
-    (nat_le 0x41 unit && nat_le unit 0x5A) || (nat_le 0x61 unit && nat_le unit 0x7A) || unit == 0x5F || unit == 0x24 || nat_le 0x80 unit
+-- a letter, a digit, `_`, `$`, `-`, or a unit from 0080 on
+abbrev pub is_part : ℕ → Bool
+is_part unit =
+    (nat_le 0x41 unit && nat_le unit 0x5A) || (nat_le 0x61 unit && nat_le unit 0x7A) || (nat_le 0x30 unit && nat_le unit 0x39) || unit == 0x5F
+    || unit == 0x24 || unit == 0x2D || nat_le 0x80 unit
 
--- such a unit, a digit or `-`
-abbrev pub in_segment : ℕ → Bool
-in_segment unit = begins_segment unit || (nat_le 0x30 unit && nat_le unit 0x39) || unit == 0x2D
+-- the rest of a plain name: parts, with a `.` between two of them; and whether a part has to come next
+abbrev pub plain_from : (wants : Bool) → List ℕ → Bool
+plain_from wants [] = if wants then false else true
+plain_from wants (unit ∷ units) =
+    if unit == 0x2E then (if wants then false else plain_from true units) else (if is_part unit then plain_from false units else false)
 
--- the type code of a primitive type: one of `B C D F I J S Z`
-abbrev pub is_primitive : ℕ → Bool
-is_primitive unit =
-    unit == 0x42 || unit == 0x43 || unit == 0x44 || unit == 0x46 || unit == 0x49 || unit == 0x4A || unit == 0x53 || unit == 0x5A
+abbrev pub is_plain : List ℕ → Bool
+is_plain units = plain_from true units
 
--- what a unit of a name leads to
-abbrev pub after_unit : Part → ℕ → Option Part
-after_unit part.Begin unit =
-    if unit == 0x5B then Some part.Brackets else (if begins_segment unit then Some (part.Segment false) else None)
-after_unit part.Brackets unit =
-    if unit == 0x5B then Some part.Brackets else (if unit == 0x4C then Some (part.Dot true)
-    else (if is_primitive unit then Some part.Closed else None))
-after_unit (part.Dot is_array) unit = if begins_segment unit then Some (part.Segment is_array) else None
-after_unit (part.Segment is_array) unit =
-    if unit == 0x2E then Some (part.Dot is_array)
-    else (if unit == 0x3B && is_array then Some part.Closed
-    else (if in_segment unit then Some (part.Segment is_array) else None))
-after_unit part.Closed unit = None
+-- these two are its last units, and others stand before them
+abbrev pub ends_in_brackets : List ℕ → Bool
+ends_in_brackets units = nat_le 3 (length units) && get_or units (length units - 2) 0 == 0x5B && get_or units (length units - 1) 0 == 0x5D
 
--- a name can end here
-abbrev pub is_end : Part → Bool
-is_end part.Begin = false
-is_end part.Brackets = false
-is_end (part.Dot is_array) = false
-is_end (part.Segment is_array) = if is_array then false else true
-is_end part.Closed = true
+abbrev pub ends_in_semicolon : List ℕ → Bool
+ends_in_semicolon units = nat_le 1 (length units) && get_or units (length units - 1) 0 == 0x3B
 
-abbrev pub loadable_step : (Part → Bool) → Option Part → Bool
-loadable_step rest None = false
-loadable_step rest (Some next) = rest next
+-- without the first of two or more `[`, or without `[L` and `;`
+abbrev pub inside : List ℕ → Option (List ℕ)
+inside [] = None
+inside (first ∷ []) = None
+inside (first ∷ second ∷ rest) =
+    if first == 0x5B then
+    (if second == 0x5B then Some (second ∷ rest)
+    else (if second == 0x4C && ends_in_semicolon rest then Some (take (length rest - 1) rest) else None))
+    else None
 
-abbrev pub loadable_from : List ℕ → Part → Bool
-loadable_from [] at = is_end at
-loadable_from (unit ∷ units) at = loadable_step (loadable_from units) (after_unit at unit)
+-- what is left of a name of which something can be taken off
+abbrev pub peeled : List ℕ → Option (List ℕ)
+peeled units = if ends_in_brackets units then Some (take (length units - 2) units) else inside units
 
-abbrev pub is_loadable : List ℕ → Bool
-is_loadable units = loadable_from units part.Begin
+abbrev pub core_next : (List ℕ → Option (List ℕ)) → List ℕ → Option (List ℕ) → Option (List ℕ)
+core_next rest units (Some inner) = rest inner
+core_next rest units None = if is_plain units then Some units else None
 
--- the units, if they are the rest of a name
-abbrev pub if_loadable : Part → Option (List ℕ) → Option (List ℕ)
-if_loadable at None = None
-if_loadable at (Some units) = if loadable_from units at then Some units else None
+-- so often at most is something taken off
+abbrev pub core_within : ℕ → List ℕ → Option (List ℕ)
+core_within zero units = None
+core_within (suc most) units = core_next (core_within most) units (peeled units)
 
--- the units of a loadable name, if the bytes are its loose text
+-- the class that these units name, if they do: the filter is asked about it
+unfoldable pub core : List ℕ → Option (List ℕ)
+core units = core_within (length units) units
+
+abbrev pub core_in : Option (List ℕ) → Option (List ℕ)
+core_in None = None
+core_in (Some units) = core units
+
+-- the class that a text names
 unfoldable pub name_units : List ℕ → Option (List ℕ)
-name_units bytes = if_loadable part.Begin (loose_units bytes)
-
-unfoldable pub name_from : Place → Part → List ℕ → Option (List ℕ)
-name_from place at bytes = if_loadable at (loose_from bytes place)
+name_units bytes = core_in (row_units bytes)

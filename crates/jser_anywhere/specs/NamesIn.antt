@@ -1,21 +1,27 @@
 -- All names that stand in some bytes, one after another: by their places, and at one place by their ends.
 use Rattle.std.specs.Prelude.{◌≡◌, ℕ, zero, suc, ◌+◌, ◌*◌, ◌==◌, ◌&&◌, ◌⊎◌, if◌then◌else◌, List, [], ◌∷◌, ◌++◌, drop, Option, Some, None}
+use Rattle.jser_anywhere.specs.Names.{core}
 use Rattle.jser_anywhere.specs.Search.{text_of, text_end}
 use Rattle.jser_anywhere.specs.Standing.{StandsAt}
 use Rattle.jser_anywhere.specs.declared.names.Stand.{Stand}
 use Rattle.jser_anywhere.specs.declared.names.RowHead.{RowHead}
 
--- a name: the place of its 72 or 7D, the place of its length, the end of its text, and its units
+-- a name: the place of its 72 or 7D, the place of its length, the end of its text, the units of that, and the class that it names
 pub record Named : Type 0 where
   pub from : ℕ
   pub at : ℕ
   pub to : ℕ
+  pub text : List ℕ
   pub units : List ℕ
 
--- a name, if one was read, and those behind it
+-- a name, if the text is one, and those behind it
+abbrev pub named_or : (from at to : ℕ) → (later : List Named) → (text : List ℕ) → Option (List ℕ) → List Named
+named_or from at to later text None = later
+named_or from at to later text (Some units) = record { from = from; at = at; to = to; text = text; units = units } ∷ later
+
 abbrev pub named_then : (from at to : ℕ) → (later : List Named) → Option (List ℕ) → List Named
 named_then from at to later None = []
-named_then from at to later (Some units) = record { from = from; at = at; to = to; units = units } ∷ later
+named_then from at to later (Some text) = named_or from at to later text (core text)
 
 -- of at most so many one after another, which begin at a place behind that of their mark
 abbrev pub row_names : (from : ℕ) → ℕ → (at : ℕ) → List ℕ → List Named
@@ -46,7 +52,7 @@ unfoldable pub names_in : (place : ℕ) → List ℕ → List Named
 names_in place [] = []
 names_in place (b ∷ bytes) = names_at place (row_of (b ∷ bytes)) (b ∷ bytes) ++ names_in (place + 1) bytes
 
--- how far the names were told: the place to look at next, the row that is being told, and the name that was told last
+-- how far the names were told: the place to look at next, the row that is being told, and the text that was read last
 pub record Telling : Type 0 where
   pub bytes : List ℕ
   pub next : ℕ
@@ -55,6 +61,14 @@ pub record Telling : Type 0 where
   pub at : ℕ
   pub last : List ℕ
 
+-- the class that a text names, or nothing
+abbrev pub class_or_none : Option (List ℕ) → List ℕ
+class_or_none None = []
+class_or_none (Some units) = units
+
+abbrev pub class_in : List ℕ → List ℕ
+class_in text = class_or_none (core text)
+
 -- the names that were not told yet
 abbrev pub untold : Telling → List Named
 untold t = row_names t.from t.left t.at (drop t.at t.bytes) ++ names_in t.next (drop t.next t.bytes)
@@ -62,7 +76,7 @@ untold t = row_names t.from t.left t.at (drop t.at t.bytes) ++ names_in t.next (
 -- the next name is told, if there is one
 abbrev pub TellsNext : Telling → Option Stand → Telling → Type 0
 TellsNext old None new = untold old ≡ []
-TellsNext old (Some found) new = untold old ≡ record { from = found.from; at = found.at; to = found.to; units = new.last } ∷ untold new
+TellsNext old (Some found) new = untold old ≡ record { from = found.from; at = found.at; to = found.to; text = new.last; units = class_in new.last } ∷ untold new
 
 -- a name with these units, at this place and with this end, is one of them
 abbrev pub IsNamed : (from to : ℕ) → (units : List ℕ) → List Named → Type 0

@@ -1,7 +1,8 @@
 -- How the first hidden name is looked for: the names at one place.
-use Rattle.std.specs.Prelude.{◌≡◌, ◌≤◌, ◌<◌, ℕ, zero, suc, Bool, false, ◌+◌, ◌*◌, ◌==◌, ◌&&◌, nat_le, if◌then◌else◌, List, [], ◌∷◌, ◌++◌, length, take, drop, Option, Some, None}
+use Rattle.std.specs.Prelude.{◌≡◌, ◌≤◌, ◌<◌, ℕ, zero, suc, Bool, true, false, ◌+◌, ◌*◌, ◌==◌, ◌&&◌, nat_le, if◌then◌else◌, List, [], ◌∷◌, ◌++◌, length, take, drop, Option, Some, None}
 use Rattle.std.specs.Option.{option_map}
-use Rattle.jser_anywhere.specs.Names.{name_units}
+use Rattle.jser_anywhere.specs.Texts.{row_units}
+use Rattle.jser_anywhere.specs.Names.{core}
 use Rattle.jser_anywhere.specs.Standing.{most_bytes, HiddenAt, NotAfter, AllPass, IsFirstHidden}
 use Rattle.jser_anywhere.specs.declared.hidden.Hidden.{Hidden}
 
@@ -10,24 +11,29 @@ abbrev pub behind : List ℕ → Option (List ℕ) → Option (List ℕ)
 behind front None = None
 behind front (Some units) = Some (front ++ units)
 
--- the units of the name at the head of the bytes, if one stands there
+-- the units of the text at the head of the bytes, if one stands there behind which a row goes on
 unfoldable pub text_of : List ℕ → Option (List ℕ)
 text_of [] = None
 text_of (high ∷ []) = None
 text_of (high ∷ low ∷ rest) =
     if nat_le 1 (high * 256 + low) && nat_le (high * 256 + low) most_bytes && nat_le (high * 256 + low) (length rest)
-    then name_units (take (high * 256 + low) rest) else None
+    then row_units (take (high * 256 + low) rest) else None
 
--- the bytes of that name, with its length
+-- the bytes of that text, with its length
 abbrev pub text_end : List ℕ → ℕ
 text_end [] = 0
 text_end (high ∷ []) = 0
 text_end (high ∷ low ∷ rest) = 2 + (high * 256 + low)
 
--- where the first name ends that does not pass, of at most so many one after another
+-- a class is named that does not pass
+abbrev pub names_hidden : (List ℕ → Bool) → Option (List ℕ) → Bool
+names_hidden passes None = false
+names_hidden passes (Some name) = if passes name then false else true
+
+-- where the first name ends that does not pass, of at most so many texts one after another
 abbrev pub row_next : (List ℕ → Bool) → ℕ → Option ℕ → Option (List ℕ) → Option ℕ
 row_next passes end later None = None
-row_next passes end later (Some units) = if passes units then option_map (λ more. end + more) later else Some end
+row_next passes end later (Some units) = if names_hidden passes (core units) then Some end else option_map (λ more. end + more) later
 
 abbrev pub row_hidden : (List ℕ → Bool) → ℕ → List ℕ → Option ℕ
 row_hidden passes zero bytes = None

@@ -1,14 +1,15 @@
 -- Where a class name stands.
-use Rattle.std.specs.Prelude.{◌≡◌, ℕ, zero, suc, Bool, false, ◌+◌, ◌*◌, ◌≤◌, ◌<◌, ◌⊎◌, List, ◌∷◌, ◌++◌, length, drop, Some}
+use Rattle.std.specs.Prelude.{◌≡◌, ℕ, zero, suc, Bool, false, ◌+◌, ◌*◌, ◌≤◌, ◌<◌, ◌⊎◌, List, ◌∷◌, ◌++◌, length, drop, Option, Some}
+use Rattle.jser_anywhere.specs.Texts.{row_units}
 use Rattle.jser_anywhere.specs.Names.{name_units}
 
--- the greatest length of a name in bytes
+-- the greatest length of a name in bytes: its first byte is at most 23, which no loadable name has
 abbrev pub most_bytes : ℕ
-most_bytes = 1279
+most_bytes = 9215
 
--- At the head of these bytes stands a length of two bytes and the loose text of a loadable name of that many
--- bytes, which has these units. Both together have so many bytes.
-pub record BeginsName (bytes : List ℕ) (end : ℕ) (units : List ℕ) : Type 0 where
+-- At the head of these bytes stands a length of two bytes and a text of that many bytes, which is read as these units. Both
+-- together have so many bytes.
+pub record BeginsText (reader : List ℕ → Option (List ℕ)) (bytes : List ℕ) (end : ℕ) (units : List ℕ) : Type 0 where
   pub high : ℕ
   pub low : ℕ
   pub text : List ℕ
@@ -17,15 +18,19 @@ pub record BeginsName (bytes : List ℕ) (end : ℕ) (units : List ℕ) : Type 0
   pub counted : length text ≡ high * 256 + low
   pub least : 1 ≤ length text
   pub most : length text ≤ most_bytes
-  pub named : name_units text ≡ Some units
+  pub named : reader text ≡ Some units
   pub ends : end ≡ 2 + length text
 
--- Of names one after another, of which the first stands at the head of these bytes, one of at most so many ends
--- after so many bytes.
+-- the loose text of a loadable name of this class
+abbrev pub BeginsName : (bytes : List ℕ) → (end : ℕ) → (units : List ℕ) → Type 0
+BeginsName bytes end units = BeginsText name_units bytes end units
+
+-- Of texts one after another, of which the first stands at the head of these bytes and is loose and has no byte below 20, a name
+-- among the next ones ends after so many bytes.
 pub record LaterName (row : List ℕ → ℕ → List ℕ → Type 0) (bytes : List ℕ) (end : ℕ) (units : List ℕ) : Type 0 where
   pub first : ℕ
   pub others : List ℕ
-  pub name : BeginsName bytes first others
+  pub name : BeginsText row_units bytes first others
   pub more : ℕ
   pub later : row (drop first bytes) more units
   pub ends : end ≡ first + more
@@ -42,7 +47,7 @@ pub record BeginsDescriptor (bytes : List ℕ) (end : ℕ) (units : List ℕ) : 
   pub name : BeginsName rest name_end units
   pub ends : end ≡ 1 + name_end
 
--- At the head of these bytes stands 7D, a count of four bytes and a row of at most so many names.
+-- At the head of these bytes stands 7D, a count of four bytes and a row of at most so many texts.
 pub record BeginsInterfaces (bytes : List ℕ) (end : ℕ) (units : List ℕ) : Type 0 where
   pub low : ℕ
   pub high : ℕ
@@ -52,12 +57,11 @@ pub record BeginsInterfaces (bytes : List ℕ) (end : ℕ) (units : List ℕ) : 
   pub row : BeginsRow (high * 256 + low) rest row_end units
   pub ends : end ≡ 5 + row_end
 
--- At the head of these bytes stands a name with these units, in one of the two ways, and it has so many bytes
--- from there on.
+-- At the head of these bytes stands a name of this class, in one of the two ways, and it has so many bytes from there on.
 abbrev pub Begins : List ℕ → ℕ → List ℕ → Type 0
 Begins bytes end units = BeginsDescriptor bytes end units ⊎ BeginsInterfaces bytes end units
 
--- A name with these units stands at a place of the bytes, and ends before another.
+-- A name of the class with these units stands at a place of the bytes, and ends before another.
 pub record StandsAt (bytes : List ℕ) (from to : ℕ) (units : List ℕ) : Type 0 where
   pub end : ℕ
   pub begins : Begins (drop from bytes) end units

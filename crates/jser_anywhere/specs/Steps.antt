@@ -1,20 +1,22 @@
 -- What a scan keeps, and what it does with a byte, as its functions do it.
 use Rattle.std.specs.Prelude.{get_or, ◌≡◌, ◌≤◌, ◌<◌, ◌≡◌, ◌<◌, ℕ, Bool, true, false, ◌+◌, ◌*◌, ◌-◌, ◌==◌, ◌&&◌, ◌||◌, nat_le, if◌then◌else◌, List, [], ◌∷◌, ◌++◌, length, take, drop, Option, Some, None, min}
-use Rattle.std.specs.Option.{is_some}
+use Rattle.std.specs.Option.{is_some, option_map}
 use Rattle.std.specs.Int.{trailing_zeros, w64}
 use Rattle.jser_anywhere.specs.declared.recent.Recent.{Recent}
 use Rattle.jser_anywhere.specs.declared.recent.Begun.{Begun}
 use Rattle.jser_anywhere.specs.declared.open.Name.{Name}
 use Rattle.jser_anywhere.specs.declared.open.Row.{Row}
-use Rattle.jser_anywhere.specs.declared.open.RowText.{RowText}
+use Rattle.jser_anywhere.specs.declared.open.Text.{Text}
 use Rattle.jser_anywhere.specs.declared.open.RowAt.{RowAt}
 use Rattle.jser_anywhere.specs.declared.open.RowAt.TheVariants as at
-use Rattle.jser_anywhere.specs.declared.scan.Ended.{Ended}
-use Rattle.jser_anywhere.specs.declared.scan.Ended.TheVariants as end
-use Rattle.jser_anywhere.specs.Names.{name_units}
-use Rattle.jser_anywhere.specs.Standing.{most_bytes}
-use Rattle.jser_anywhere.specs.Stages.{is_length}
-use Rattle.jser_anywhere.specs.Slots.{ago}
+use Rattle.jser_anywhere.specs.declared.text.Place.{Place}
+use Rattle.jser_anywhere.specs.declared.text.Place.TheVariants as place
+use Rattle.jser_anywhere.specs.declared.text.Taken.{Taken}
+use Rattle.jser_anywhere.specs.declared.text.Taken.TheVariants as taken
+use Rattle.jser_anywhere.specs.Texts.{Fits, is_first, take_byte}
+use Rattle.jser_anywhere.specs.Names.{core}
+use Rattle.jser_anywhere.specs.Stages.{Whose, descriptor, row, in_name, in_text, is_length}
+use Rattle.jser_anywhere.specs.Slots.{ago, hidden_of, is_even, is_odd, lower}
 
 -- ---- the last bytes
 
@@ -44,30 +46,122 @@ row_left recent byte =
     (if nat_le 1 (recent.third * 256 + recent.second) then begun (recent.third * 256 + recent.second - 1) (left_of recent.last byte) else None)
     else None
 
--- ---- what is being read
+-- ---- a text that is being read
 
-abbrev pub name_moved : Name → ℕ → Option Name
-name_moved name byte = if name.left == 0 || nat_le byte 4 then None else Some (record { place = name.place; left = name.left - 1 })
+abbrev pub skip_on : Option ℕ → ℕ → Option ℕ
+skip_on skip byte = if in_name byte then skip else None
 
-abbrev pub row_with : Row → ℕ → RowAt → Row
-row_with r more at = record { place = r.place; more = more; at = at }
+abbrev pub text_with : Text → (byte : ℕ) → Taken → Option Text
+text_with t byte (taken.Unit unit) = Some (record { left = t.left; group = place.First; skip = skip_on t.skip byte })
+text_with t byte (taken.Part here) = Some (record { left = t.left; group = here; skip = skip_on t.skip byte })
+text_with t byte taken.Refused = None
+
+-- the same with the byte, where it is one of a text
+abbrev pub with_text : Whose → Text → ℕ → Option Text
+with_text whose t byte = if in_text whose byte then text_with t byte (take_byte t.group byte) else None
+
+-- what the byte leads to, if it may be one of a name
+abbrev pub as_name : Text → ℕ → Taken
+as_name t byte = if is_some t.skip && in_name byte then take_byte t.group byte else taken.Refused
+
+-- where the next text begins, of a length that was just read
+abbrev pub new_text : (kept left : ℕ) → Text
+new_text kept left = record { left = left; group = place.First; skip = Some kept }
+
+abbrev pub one_less : Text → Text
+one_less t = record { left = t.left - 1; group = t.group; skip = t.skip }
+
+abbrev pub class_behind : (skip : Option ℕ) → Place → (kept : List ℕ) → Option (List ℕ)
+class_behind None group kept = None
+class_behind (Some skip) group kept = if is_first group then core (drop skip kept) else None
+
+-- the place of the name that ended with the last byte, if one did and it does not pass
+abbrev pub text_hidden : (List ℕ → Bool) → (place : ℕ) → Text → (kept : List ℕ) → Option ℕ
+text_hidden passes place t kept = if t.left == 0 then hidden_of passes place (class_behind t.skip t.group kept) else None
+
+-- ---- a descriptor's name
+
+abbrev pub name_with : Option Name → ℕ → Option Name
+name_with None byte = None
+name_with (Some n) byte = option_map (λ t. record { place = n.place; text = t }) (with_text descriptor n.text byte)
+
+abbrev pub name_taken : Option Name → ℕ → Taken
+name_taken None byte = taken.Refused
+name_taken (Some n) byte = as_name n.text byte
+
+abbrev pub name_hidden : (List ℕ → Bool) → Option Name → (kept : List ℕ) → Option ℕ
+name_hidden passes None kept = None
+name_hidden passes (Some n) kept = text_hidden passes n.place n.text kept
+
+abbrev pub name_onward : Option Name → Option Name
+name_onward None = None
+name_onward (Some n) = if n.text.left == 0 then None else Some (record { place = n.place; text = one_less n.text })
+
+abbrev pub name_after : (count kept : ℕ) → Option ℕ → Option Name → Option Name
+name_after count kept None n = name_onward n
+name_after count kept (Some left) n = Some (record { place = count - 2; text = new_text kept left })
+
+-- ---- a row
+
+abbrev pub row_at : Row → (more : ℕ) → RowAt → Row
+row_at r more here = record { place = r.place; more = more; at = here }
+
+abbrev pub at_with : Row → RowAt → ℕ → Option Row
+at_with r at.Between byte = Some (row_at r r.more at.Between)
+at_with r (at.Halfway high) byte = Some (row_at r r.more (at.Halfway high))
+at_with r (at.Text t) byte = option_map (λ t. row_at r r.more (at.Text t)) (with_text (row r.more) t byte)
+
+abbrev pub row_with : Option Row → ℕ → Option Row
+row_with None byte = None
+row_with (Some r) byte = at_with r r.at byte
+
+abbrev pub at_taken : RowAt → ℕ → Taken
+at_taken at.Between byte = taken.Refused
+at_taken (at.Halfway high) byte = taken.Refused
+at_taken (at.Text t) byte = as_name t byte
+
+abbrev pub row_taken : Option Row → ℕ → Taken
+row_taken None byte = taken.Refused
+row_taken (Some r) byte = at_taken r.at byte
+
+abbrev pub at_hidden : (List ℕ → Bool) → (place : ℕ) → RowAt → (kept : List ℕ) → Option ℕ
+at_hidden passes place at.Between kept = None
+at_hidden passes place (at.Halfway high) kept = None
+at_hidden passes place (at.Text t) kept = text_hidden passes place t kept
+
+abbrev pub row_hidden : (List ℕ → Bool) → Option Row → (kept : List ℕ) → Option ℕ
+row_hidden passes None kept = None
+row_hidden passes (Some r) kept = at_hidden passes r.place r.at kept
 
 abbrev pub text_begins : Row → (kept : ℕ) → Option ℕ → Option Row
 text_begins r kept None = None
-text_begins r kept (Some left) = Some (row_with r r.more (at.Text (record { skip = kept; left = left })))
+text_begins r kept (Some left) = Some (row_at r r.more (at.Text (new_text kept left)))
 
-abbrev pub row_text_moved : Row → RowText → ℕ → Bool → Option Row
-row_text_moved r here byte is_name =
-    if here.left == 0 then (if is_name && nat_le 1 r.more then Some (row_with r (r.more - 1) at.Between) else None)
-    else (if nat_le byte 4 then None else Some (row_with r r.more (at.Text (record { skip = here.skip; left = here.left - 1 }))))
+abbrev pub text_onward : Row → Text → Option Row
+text_onward r t =
+    if t.left == 0 then (if is_first t.group && nat_le 1 r.more then Some (row_at r (r.more - 1) at.Between) else None)
+    else Some (row_at r r.more (at.Text (one_less t)))
 
-abbrev pub row_at_moved : Row → RowAt → ℕ → Bool → (kept : ℕ) → Option Row
-row_at_moved r at.Between byte is_name kept = if nat_le byte 4 then Some (row_with r r.more (at.Halfway byte)) else None
-row_at_moved r (at.Halfway high) byte is_name kept = text_begins r kept (left_of high byte)
-row_at_moved r (at.Text here) byte is_name kept = row_text_moved r here byte is_name
+abbrev pub at_onward : Row → RowAt → ℕ → (kept : ℕ) → Option Row
+at_onward r at.Between byte kept = if in_name byte then None else Some (row_at r r.more (at.Halfway byte))
+at_onward r (at.Halfway high) byte kept = text_begins r kept (left_of high byte)
+at_onward r (at.Text t) byte kept = text_onward r t
 
-abbrev pub row_moved : Row → ℕ → Bool → (kept : ℕ) → Option Row
-row_moved r byte is_name kept = row_at_moved r r.at byte is_name kept
+abbrev pub row_onward : Option Row → ℕ → (kept : ℕ) → Option Row
+row_onward None byte kept = None
+row_onward (Some r) byte kept = at_onward r r.at byte kept
+
+abbrev pub row_begins : (wanted : Bool) → (place kept : ℕ) → Option Begun → Option Row
+row_begins wanted place kept None = None
+row_begins wanted place kept (Some b) =
+    if wanted then Some (record { place = place; more = b.more; at = at.Text (new_text kept b.left) }) else None
+
+abbrev pub row_or : Option Row → Option Row → Option Row
+row_or None old = old
+row_or (Some new) old = Some new
+
+abbrev pub row_after : (wanted : Bool) → (place kept : ℕ) → Option Begun → Option Row → ℕ → Option Row
+row_after wanted place kept new old byte = row_or (row_begins wanted place kept new) (row_onward old byte kept)
 
 -- ---- a scan, as contracts see it
 
@@ -75,122 +169,96 @@ pub record Scanning : Type 0 where
   -- how many bytes came
   pub count : ℕ
   pub recent : Recent
-  -- the bytes of the names that are being read
+  -- the units of the texts that are being read and may be names
   pub kept : List ℕ
   pub name : Option Name
-  pub row : Option Row
+  -- the row at an even place, and the one at an odd place
+  pub even : Option Row
+  pub odd : Option Row
 
 abbrev pub no_bytes : Scanning
-no_bytes = record { count = 0; recent = no_recent; kept = []; name = None; row = None }
+no_bytes = record { count = 0; recent = no_recent; kept = []; name = None; even = None; odd = None }
 
-abbrev pub at_text : RowAt → Bool
-at_text at.Between = false
-at_text (at.Halfway high) = false
-at_text (at.Text here) = true
+abbrev pub or_taken : Taken → Taken → Taken
+or_taken (taken.Unit unit) b = taken.Unit unit
+or_taken (taken.Part here) b = taken.Part here
+or_taken taken.Refused b = b
 
-abbrev pub in_row_text : Option Row → Bool
-in_row_text None = false
-in_row_text (Some r) = at_text r.at
+-- what the byte leads to in each text that still may be a name
+abbrev pub taken_by : Scanning → ℕ → Taken
+taken_by scan byte = or_taken (name_taken scan.name byte) (or_taken (row_taken scan.even byte) (row_taken scan.odd byte))
 
-abbrev pub is_reading : Scanning → Bool
-is_reading scan = is_some scan.name || in_row_text scan.row
-
--- the bytes that are kept with one more
-abbrev pub noted : Scanning → ℕ → List ℕ
-noted scan byte = if is_reading scan then scan.kept ++ byte ∷ [] else []
+abbrev pub kept_with : (kept : List ℕ) → Taken → List ℕ
+kept_with kept (taken.Unit unit) = kept ++ unit ∷ []
+kept_with kept (taken.Part here) = kept
+kept_with kept taken.Refused = []
 
 abbrev pub keeping : Scanning → List ℕ → Scanning
-keeping scan kept = record { count = scan.count; recent = scan.recent; kept = kept; name = scan.name; row = scan.row }
+keeping scan kept = record { count = scan.count; recent = scan.recent; kept = kept; name = scan.name; even = scan.even; odd = scan.odd }
 
--- the units of a name of so many bytes as a name may have
-abbrev pub short_units : List ℕ → Option (List ℕ)
-short_units bytes = if nat_le (length bytes) most_bytes then name_units bytes else None
+-- the texts have taken the byte, and their units are kept
+abbrev pub reading : Scanning → ℕ → Scanning
+reading scan byte = record {
+  count = scan.count;
+  recent = scan.recent;
+  kept = scan.kept;
+  name = name_with scan.name byte;
+  even = row_with scan.even byte;
+  odd = row_with scan.odd byte;
+}
 
-abbrev pub ended_as : (List ℕ → Bool) → (place : ℕ) → Option (List ℕ) → Ended
-ended_as passes place None = end.No
-ended_as passes place (Some units) = if passes units then end.Passes else end.Hidden place
+abbrev pub noted : Scanning → ℕ → Scanning
+noted scan byte = reading (keeping scan (kept_with scan.kept (taken_by scan byte))) byte
 
-abbrev pub name_ended : (List ℕ → Bool) → Option Name → (kept : List ℕ) → Ended
-name_ended passes None kept = end.No
-name_ended passes (Some name) kept = if name.left == 0 then ended_as passes name.place (short_units kept) else end.No
+-- the place of the hidden name that ends with the byte that they took
+abbrev pub noted_hidden : (List ℕ → Bool) → Scanning → Option ℕ
+noted_hidden passes scan =
+    lower (name_hidden passes scan.name scan.kept) (lower (row_hidden passes scan.even scan.kept) (row_hidden passes scan.odd scan.kept))
 
-abbrev pub row_at_ended : (List ℕ → Bool) → (place : ℕ) → RowAt → (kept : List ℕ) → Ended
-row_at_ended passes place at.Between kept = end.No
-row_at_ended passes place (at.Halfway high) kept = end.No
-row_at_ended passes place (at.Text here) kept = if here.left == 0 then ended_as passes place (short_units (drop here.skip kept)) else end.No
-
-abbrev pub row_ended : (List ℕ → Bool) → Option Row → (kept : List ℕ) → Ended
-row_ended passes None kept = end.No
-row_ended passes (Some r) kept = row_at_ended passes r.place r.at kept
-
-abbrev pub is_passed : Ended → Bool
-is_passed end.No = false
-is_passed end.Passes = true
-is_passed (end.Hidden place) = false
-
-abbrev pub lower : Ended → Ended → Option ℕ
-lower (end.Hidden a) (end.Hidden b) = Some (min a b)
-lower (end.Hidden a) end.No = Some a
-lower (end.Hidden a) end.Passes = Some a
-lower end.No (end.Hidden b) = Some b
-lower end.Passes (end.Hidden b) = Some b
-lower end.No end.No = None
-lower end.No end.Passes = None
-lower end.Passes end.No = None
-lower end.Passes end.Passes = None
-
--- the place of the hidden name that ends with a byte
 abbrev pub scan_hidden : (List ℕ → Bool) → Scanning → ℕ → Option ℕ
-scan_hidden passes scan byte = lower (name_ended passes scan.name (noted scan byte)) (row_ended passes scan.row (noted scan byte))
+scan_hidden passes scan byte = noted_hidden passes (noted scan byte)
 
--- what is read after the byte
-
-abbrev pub name_onward : Option Name → ℕ → Option Name
-name_onward None byte = None
-name_onward (Some name) byte = name_moved name byte
-
-abbrev pub name_after : (count : ℕ) → Option ℕ → Option Name → ℕ → Option Name
-name_after count None name byte = name_onward name byte
-name_after count (Some left) name byte = Some (record { place = count - 2; left = left })
-
-abbrev pub row_onward : Option Row → ℕ → Bool → (kept : ℕ) → Option Row
-row_onward None byte is_name kept = None
-row_onward (Some r) byte is_name kept = row_moved r byte is_name kept
-
-abbrev pub row_begins : (count kept : ℕ) → Option Begun → Option Row
-row_begins count kept None = None
-row_begins count kept (Some b) = Some (record { place = count - 6; more = b.more; at = at.Text (record { skip = kept; left = b.left }) })
-
-abbrev pub row_or : Option Row → Option Row → Option Row
-row_or None new = new
-row_or (Some r) new = Some r
-
-abbrev pub row_after : (count kept : ℕ) → Option Begun → Option Row → ℕ → Bool → Option Row
-row_after count kept new old byte is_name = row_or (row_onward old byte is_name kept) (row_begins count kept new)
-
--- after a byte that is kept where a name is being read, and what a name of the row ended as
-abbrev pub gone_on : Scanning → ℕ → Ended → Scanning
-gone_on scan byte ended = record {
+-- after a byte that they took
+abbrev pub gone_on : Scanning → ℕ → Scanning
+gone_on scan byte = record {
   count = min (scan.count + 1) 0xFFFFFFFFFFFFFFFF;
   recent = with_byte scan.recent byte;
   kept = scan.kept;
-  name = name_after scan.count (name_left scan.recent byte) scan.name byte;
-  row = row_after scan.count (length scan.kept) (row_left scan.recent byte) scan.row byte (is_passed ended);
+  name = name_after scan.count (length scan.kept) (name_left scan.recent byte) scan.name;
+  even = row_after (is_even (scan.count - 6)) (scan.count - 6) (length scan.kept) (row_left scan.recent byte) scan.even byte;
+  odd = row_after (is_odd (scan.count - 6)) (scan.count - 6) (length scan.kept) (row_left scan.recent byte) scan.odd byte;
 }
 
-abbrev pub scan_after : (List ℕ → Bool) → Scanning → ℕ → Scanning
-scan_after passes scan byte = gone_on (keeping scan (noted scan byte)) byte (row_ended passes scan.row (noted scan byte))
+abbrev pub scan_after : Scanning → ℕ → Scanning
+scan_after scan byte = gone_on (noted scan byte) byte
 
--- there is room for the next byte
-abbrev pub HasRoom : Scanning → Type 0
-HasRoom scan = is_reading scan ≡ true → length scan.kept < 1280
+-- ---- there is room for the next byte, and the groups that are being read are begun as groups can be
+
+abbrev pub NameFits : Option Name → Type 0
+NameFits None = Unit {0}
+NameFits (Some n) = Fits n.text.group
+
+abbrev pub AtFits : RowAt → Type 0
+AtFits at.Between = Unit {0}
+AtFits (at.Halfway high) = Unit {0}
+AtFits (at.Text t) = Fits t.group
+
+abbrev pub RowFits : Option Row → Type 0
+RowFits None = Unit {0}
+RowFits (Some r) = AtFits r.at
+
+pub record HasRoom (scan : Scanning) : Type 0 where
+  pub room : length scan.kept ≤ 9216
+  pub name : NameFits scan.name
+  pub even : RowFits scan.even
+  pub odd : RowFits scan.odd
 
 -- ---- bytes that begin no name, where none is being read
 
 -- A name may begin with the length that ends at this byte of a piece: the byte before it can be the first of a length,
 -- and a mark stands before that.
 abbrev pub may_begin : (piece : List ℕ) → (at : ℕ) → Bool
-may_begin piece at = nat_le (get_or piece (at - 1) 0) 4 && (get_or piece (at - 2) 0 == 0x72 || get_or piece (at - 6) 0 == 0x7D)
+may_begin piece at = nat_le (get_or piece (at - 1) 0) 0x23 && (get_or piece (at - 2) 0 == 0x72 || get_or piece (at - 6) 0 == 0x7D)
 
 -- the place of the lowest bit of a mask that is set, or the number of lanes
 abbrev pub first_set : ℕ → ℕ → ℕ
@@ -219,23 +287,31 @@ recent_in piece to = record {
 -- past them, where no name is being read
 abbrev pub past : Scanning → (piece : List ℕ) → (from to : ℕ) → Scanning
 past scan piece from to =
-    record { count = min (scan.count + (to - from)) 0xFFFFFFFFFFFFFFFF; recent = recent_in piece to; kept = []; name = scan.name; row = scan.row }
+    record { count = min (scan.count + (to - from)) 0xFFFFFFFFFFFFFFFF; recent = recent_in piece to; kept = []; name = scan.name; even = scan.even; odd = scan.odd }
 
 -- ---- bytes of the descriptor's name that is being read
 
--- they can be those of a name: none is the first of a length
+-- they can be those of a name, and each is a group: none is the first of a length
+abbrev pub is_letter : ℕ → Bool
+is_letter byte = nat_le 0x24 byte && nat_le byte 0x7F
+
 pub record IsText (piece : List ℕ) (from to : ℕ) : Type 0 where
   pub ordered : from ≤ to
   pub within : to ≤ length piece
-  pub high : (at : ℕ) → from ≤ at → at < to → nat_le (get_or piece at 0) 4 ≡ false
+  pub letters : (at : ℕ) → from ≤ at → at < to → is_letter (get_or piece at 0) ≡ true
   pub bytes : (at : ℕ) → from ≤ at → at < to → get_or piece at 0 < 256
+
+-- so many bytes of it were read
+abbrev pub name_past : Name → (count : ℕ) → Name
+name_past n count = record { place = n.place; text = record { left = n.text.left - count; group = place.First; skip = n.text.skip } }
 
 -- past them, where no row is being read
 abbrev pub read_past : Scanning → Name → (piece : List ℕ) → (from to : ℕ) → Scanning
-read_past scan name piece from to = record {
+read_past scan n piece from to = record {
   count = min (scan.count + (to - from)) 0xFFFFFFFFFFFFFFFF;
   recent = recent_in piece to;
   kept = scan.kept ++ take (to - from) (drop from piece);
-  name = Some (record { place = name.place; left = name.left - (to - from) });
-  row = None;
+  name = Some (name_past n (to - from));
+  even = None;
+  odd = None;
 }

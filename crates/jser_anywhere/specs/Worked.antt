@@ -1,6 +1,7 @@
 -- Worked rows: what stands in some short bytes.
 use Rattle.std.specs.Prelude.{◌≡◌, ◌==◌, ℕ, Bool, true, false, List, [], ◌∷◌, Some, None, replicate}
-use Rattle.jser_anywhere.specs.Names.{name_units}
+use Rattle.jser_anywhere.specs.Texts.{row_units}
+use Rattle.jser_anywhere.specs.Names.{core, name_units}
 use Rattle.jser_anywhere.specs.Standing.{StandsAt}
 
 -- a name of so many letters
@@ -11,9 +12,13 @@ letters n = replicate n 0x61
 abbrev pub three_names : List ℕ
 three_names = 0x7D ∷ 0 ∷ 0 ∷ 0 ∷ 3 ∷ 0 ∷ 1 ∷ 0x61 ∷ 0 ∷ 1 ∷ 0x62 ∷ 0 ∷ 1 ∷ 0x63 ∷ []
 
--- the same with 1 for b, which is no name
+-- the same with `;` for b, which is no name
+abbrev pub no_name_between : List ℕ
+no_name_between = 0x7D ∷ 0 ∷ 0 ∷ 0 ∷ 3 ∷ 0 ∷ 1 ∷ 0x61 ∷ 0 ∷ 1 ∷ 0x3B ∷ 0 ∷ 1 ∷ 0x63 ∷ []
+
+-- and with the byte 1F, behind which no row goes on
 abbrev pub cut_row : List ℕ
-cut_row = 0x7D ∷ 0 ∷ 0 ∷ 0 ∷ 3 ∷ 0 ∷ 1 ∷ 0x61 ∷ 0 ∷ 1 ∷ 0x31 ∷ 0 ∷ 1 ∷ 0x63 ∷ []
+cut_row = 0x7D ∷ 0 ∷ 0 ∷ 0 ∷ 3 ∷ 0 ∷ 1 ∷ 0x61 ∷ 0 ∷ 1 ∷ 0x1F ∷ 0 ∷ 1 ∷ 0x63 ∷ []
 
 -- an array of primitives in a row of two, and the name a
 abbrev pub behind_primitives : List ℕ
@@ -27,6 +32,11 @@ chained = 0x72 ∷ 0 ∷ 1 ∷ 0x72 ∷ 0 ∷ 1 ∷ 0x61 ∷ []
 abbrev pub overlapping : List ℕ
 overlapping = 0x7D ∷ 0 ∷ 0 ∷ 0x72 ∷ 1 ∷ 0 ∷ 0x41 ∷ letters 255
 
+-- Two rows, of which the second begins in the count of the first. Its first text begins in the middle of the other's, which has
+-- the length of it in the byte 20; behind the other, b is the second of the first row.
+abbrev pub two_rows : List ℕ
+two_rows = 0x7D ∷ 0 ∷ 0 ∷ 0x7D ∷ 0 ∷ 0 ∷ 3 ∷ 0x20 ∷ 0x20 ∷ 0x20 ∷ 0 ∷ 1 ∷ 0x62 ∷ []
+
 -- this is the name a
 abbrev pub is_a : List ℕ → Bool
 is_a [] = false
@@ -36,16 +46,25 @@ is_a (unit ∷ more ∷ units) = false
 pub record WorkedRows : Type 0 where
   pub overlong_of_two : name_units (0xC1 ∷ 0xA1 ∷ []) ≡ Some (0x61 ∷ [])
   pub overlong_of_three : name_units (0xE0 ∷ 0x81 ∷ 0xA1 ∷ []) ≡ Some (0x61 ∷ [])
-  pub array : name_units (0x5B ∷ 0x5B ∷ 0x4C ∷ 0x61 ∷ 0x3B ∷ []) ≡ Some (0x5B ∷ 0x5B ∷ 0x4C ∷ 0x61 ∷ 0x3B ∷ [])
-  pub primitive_array : name_units (0x5B ∷ 0x49 ∷ []) ≡ Some (0x5B ∷ 0x49 ∷ [])
+  pub array : name_units (0x5B ∷ 0x5B ∷ 0x4C ∷ 0x61 ∷ 0x3B ∷ []) ≡ Some (0x61 ∷ [])
+  pub brackets_behind : name_units (0x61 ∷ 0x5B ∷ 0x5D ∷ 0x5B ∷ 0x5D ∷ []) ≡ Some (0x61 ∷ [])
+  pub brackets_inside : name_units (0x5B ∷ 0x4C ∷ 0x61 ∷ 0x5B ∷ 0x5D ∷ 0x3B ∷ []) ≡ Some (0x61 ∷ [])
+  pub primitive_array : core (0x5B ∷ 0x49 ∷ []) ≡ None
+  pub only_brackets : core (0x5B ∷ 0x5D ∷ []) ≡ None
+  pub digit : name_units (0x31 ∷ 0x2E ∷ 0x2D ∷ []) ≡ Some (0x31 ∷ 0x2E ∷ 0x2D ∷ [])
+  pub two_dots : name_units (0x61 ∷ 0x2E ∷ 0x2E ∷ 0x61 ∷ []) ≡ None
   pub semicolon : name_units (0x61 ∷ 0x3B ∷ []) ≡ None
-  pub longest : StandsAt (0x72 ∷ 4 ∷ 0xFF ∷ letters 1279) 0 1282 (letters 1279)
-  pub too_long : (to : ℕ) (units : List ℕ) → StandsAt (0x72 ∷ 5 ∷ 0 ∷ letters 1280) 0 to units → ⊥
+  pub blank : row_units (0x61 ∷ 0x20 ∷ []) ≡ Some (0x61 ∷ 0x20 ∷ [])
+  pub control : row_units (0x61 ∷ 0x1F ∷ []) ≡ None
+  pub longest : StandsAt (0x72 ∷ 0x23 ∷ 0xFF ∷ letters 9215) 0 9218 (letters 9215)
+  pub too_long : (to : ℕ) (units : List ℕ) → StandsAt (0x72 ∷ 0x24 ∷ 0 ∷ letters 9216) 0 to units → ⊥
   pub third : StandsAt three_names 0 14 (0x63 ∷ [])
   pub before_cut : StandsAt cut_row 0 8 (0x61 ∷ [])
   pub after_cut : (to : ℕ) (units : List ℕ) → StandsAt cut_row 0 to units → is_a units ≡ true
+  pub behind_no_name : StandsAt no_name_between 0 14 (0x63 ∷ [])
   pub after_primitives : StandsAt behind_primitives 0 12 (0x61 ∷ [])
   pub chained_first : StandsAt chained 0 4 (0x72 ∷ [])
   pub chained_second : StandsAt chained 3 7 (0x61 ∷ [])
   pub overlapping_row : StandsAt overlapping 0 72 (letters 65)
   pub overlapping_descriptor : StandsAt overlapping 3 262 (0x41 ∷ letters 255)
+  pub behind_a_length : StandsAt two_rows 0 13 (0x62 ∷ [])

@@ -1,7 +1,8 @@
 //! All names that stand anywhere, one after another.
 ghost use Rattle.std.specs.Prelude.{◌≡◌, ◌≤◌, ◌<◌, ◌+◌, [], ◌∷◌, List, ℕ, Some, None, length, IfSome};
-ghost use Rattle.jser_anywhere.specs.NamesIn.{TellsNext, names_in, row_of, untold};
+ghost use Rattle.jser_anywhere.specs.NamesIn.{TellsNext, class_in, names_in, row_of, untold};
 
+use crate::class::named_class;
 use crate::name::Units;
 use crate::search::text_of;
 use arrayvec::ArrayVec;
@@ -78,24 +79,50 @@ impl<'b> Names<'b> {
         None
     }
 
-    /// The units of the name that was told last.
-    pub fn units(&self) -> &[u16]
+    /// The name that was told last, as it stands: of a class, or of an array of one.
+    pub fn text(&self) -> &[u16]
         ensures { result.now ≡ self.now.last }
     {
         self.units.as_slice()
     }
 
+    /// The class that it names.
+    #[tactic(auto, using(crate::proofs::NamesLemmas::class_some, crate::proofs::NamesLemmas::class_none))]
+    pub fn units(&self) -> &[u16]
+        ensures { result.now ≡ class_in self.now.last }
+    {
+        match named_class(self.units.as_slice()) {
+            Some(class) => class,
+            None => &[],
+        }
+    }
+
     /// The next name of the row that is being told.
-    #[tactic(auto, using(crate::proofs::NamesLemmas::row_told, crate::proofs::NamesLemmas::row_broken))]
     fn in_row(&mut self) -> Option<Stand>
         ensures told { IfSome result (λ found. TellsNext self.old (Some found) self.new) }
         ensures inside { IfSome result (λ found. (found.at < found.to) × (found.to ≤ length self.old.bytes)) }
         ensures same { self.new.bytes ≡ self.old.bytes }
         ensures none { result ≡ None → (untold self.new ≡ untold self.old) × (self.new.left ≡ 0) × (self.new.next ≡ self.old.next) }
     {
-        if self.left == 0 {
-            return None;
+        'texts: while self.left > 0 {
+            if let Some(found) = self.one_text() {
+                return Some(found);
+            }
         }
+        None
+    }
+
+    /// The next text of the row that is being told, if it is a name.
+    #[tactic(auto, using(crate::proofs::NamesLemmas::row_told, crate::proofs::NamesLemmas::row_passed, crate::proofs::NamesLemmas::row_broken))]
+    fn one_text(&mut self) -> Option<Stand>
+        requires some { 0 < self.old.left }
+        ensures told { IfSome result (λ found. TellsNext self.old (Some found) self.new) }
+        ensures inside { IfSome result (λ found. (found.at < found.to) × (found.to ≤ length self.old.bytes)) }
+        ensures same { self.new.bytes ≡ self.old.bytes }
+        ensures none { result ≡ None → untold self.new ≡ untold self.old }
+        ensures less { self.new.left < self.old.left }
+        ensures next { self.new.next ≡ self.old.next }
+    {
         let (_, rest) = self.bytes.split_at(self.at);
         match text_of(rest, &mut self.units) {
             None => {
@@ -106,6 +133,9 @@ impl<'b> Names<'b> {
                 let at = self.at;
                 self.left -= 1;
                 self.at += end;
+                if named_class(self.units.as_slice()).is_none() {
+                    return None;
+                }
                 Some(Stand {
                     from: self.from,
                     at,

@@ -48,7 +48,7 @@ pub(crate) fn may_begin(piece: &[u8], at: usize) -> bool
     requires { (6 ≤ at) × (at ≤ length piece.now) }
     ensures { result ≡ may_begin piece.now at }
 {
-    piece[at - 1] <= 4 && (piece[at - 2] == TC_CLASSDESC || piece[at - 6] == TC_PROXYCLASSDESC)
+    piece[at - 1] <= 0x23 && (piece[at - 2] == TC_CLASSDESC || piece[at - 6] == TC_PROXYCLASSDESC)
 }
 
 /// How many bytes of the load at this place stand at no place at which the tag of a descriptor would begin a name.
@@ -87,7 +87,7 @@ fn first_set(mask: u64) -> usize
     }
 }
 
-/// How far the bytes of a piece from `from` on can be those of a name, of so many at most.
+/// How far the bytes of a piece from `from` on are letters of a name that have one byte each, of so many at most.
 #[tactic(auto, using(crate::proofs::ReadLemmas::text_none, crate::proofs::ReadLemmas::text_more))]
 #[inline(always)]
 pub(crate) fn text_until(piece: &[u8], from: usize, most: usize) -> usize
@@ -97,7 +97,7 @@ pub(crate) fn text_until(piece: &[u8], from: usize, most: usize) -> usize
 {
     let end = from + most.min(piece.len() - from);
     'bytes: for at in from..end {
-        if piece[at] <= 4 {
+        if piece[at] < 0x24 || piece[at] > 0x7F {
             return at;
         }
     }

@@ -15,21 +15,21 @@ pub(crate) struct Recent {
     pub(crate) sixth: u8,
 }
 
-/// A name whose length was just read.
+/// A text whose length was just read.
 #[derive(Clone, Copy, Debug)]
 pub(crate) struct Begun {
-    /// How many names of its row may follow it.
+    /// How many texts of its row may follow it.
     pub(crate) more: u16,
     /// How many bytes follow the next one.
     pub(crate) left: u16,
 }
 
-/// How many bytes follow the next one of a name of this length, if it is the length of a name.
+/// How many bytes follow the next one of a text of this length, if it is the length of one.
 pub(crate) fn left_of(high: u8, low: u8) -> Option<u16>
     ensures { result ≡ left_of high low }
 {
     let len = u16::from(high) * 256 + u16::from(low);
-    if len >= 1 && len <= 1279 {
+    if len >= 1 && len <= 9215 {
         Some(len - 1)
     } else {
         None
@@ -92,7 +92,7 @@ impl Recent {
         }
     }
 
-    /// The first name of a row, whose length ends with the next byte.
+    /// The first text of a row, whose length ends with the next byte.
     pub(crate) fn row_left(self, byte: u8) -> Option<Begun>
         ensures { result ≡ row_left self byte }
     {

@@ -1,41 +1,31 @@
-//! The scan in pieces: it keeps the last six bytes, and the bytes of the names that are being read.
-ghost use Rattle.std.specs.Prelude.{◌≡◌, ◌≤◌, ◌-◌, true, false, [], ◌∷◌, Bool, List, ℕ, Some, None, length};
-ghost use Rattle.jser_anywhere.specs.Steps.{HasRoom, past, read_past, ended_as, gone_on, in_row_text, is_passed, is_reading, keeping, lower, name_after, name_ended, name_left, noted, row_after, row_ended, row_left, scan_after, scan_hidden, short_units};
+//! The scan in pieces: it keeps the last six bytes, and the units of the texts that may be names.
+ghost use Rattle.std.specs.Prelude.{◌≡◌, ◌≤◌, ◌-◌, ◌+◌, ◌++◌, true, false, [], ◌∷◌, Bool, List, ℕ, Some, None, length};
+ghost use Rattle.jser_anywhere.specs.Slots.{lower};
+ghost use Rattle.jser_anywhere.specs.Steps.{HasRoom, NameFits, RowFits, gone_on, keeping, kept_with, name_after, name_hidden, name_left, name_taken, name_with, noted, noted_hidden, or_taken, past, read_past, reading, row_after, row_hidden, row_taken, row_with, scan_after, scan_hidden, taken_by};
 ghost use Rattle.jser_anywhere.specs.Scans.{HasScanned, Hurries, TakesBytes};
 
 use crate::hidden::{Hidden, Judge};
-use crate::name::{MOST_BYTES, Units, read_name};
-use crate::open::{Name, Row, RowAt, RowText};
+use crate::open::{Name, Row, RowAt, Text};
 use crate::quiet::{may_begin, quiet_until, text_until};
-use crate::recent::Recent;
+use crate::recent::{Begun, Recent};
+use crate::text::{Place, Taken};
 use arrayvec::ArrayVec;
 use std::marker::Model;
 
-/// Room for the bytes of the names that are being read: of two that overlap, one begins a byte later.
-const ROOM: usize = 1280;
-
-/// Whether a name ended.
-#[derive(Clone, Copy, Debug)]
-pub(crate) enum Ended {
-    /// None did.
-    No,
-    /// One did, and it passes.
-    Passes,
-    /// One did that stands at this place, and it does not pass.
-    Hidden(u64),
-}
+/// Room for the units of the texts that may be names: of two that overlap, one begins a byte later.
+const ROOM: usize = 9217;
 
 /// A scan of bytes that come in pieces, for the first name that can be read at any place and does not pass.
 ///
-/// Takes no memory: it has room for the bytes of the names that are being read, and for the units of one.
+/// Takes no memory: it has room for the units of the names that are being read, some 18 kilobytes.
 #[derive(Drop)]
 pub struct Scan {
     count: u64,
     recent: Recent,
-    kept: ArrayVec<u8, ROOM>,
+    kept: ArrayVec<u16, ROOM>,
     name: Option<Name>,
-    row: Option<Row>,
-    units: Units,
+    even: Option<Row>,
+    odd: Option<Row>,
 }
 
 impl Model for Scan {
@@ -43,7 +33,7 @@ impl Model for Scan {
 
     ghost Value = { Scanning };
 
-    ghost view = { λ a. record { count = a.count; recent = a.recent; kept = a.kept.items; name = a.name; row = a.row } };
+    ghost view = { λ a. record { count = a.count; recent = a.recent; kept = a.kept.items; name = a.name; even = a.even; odd = a.odd } };
 }
 
 impl Scan {
@@ -57,8 +47,8 @@ impl Scan {
             recent: Recent::none(),
             kept: ArrayVec::new(),
             name: None,
-            row: None,
-            units: ArrayVec::new(),
+            even: None,
+            odd: None,
         }
     }
 
@@ -99,7 +89,7 @@ impl Scan {
         requires { at ≤ length piece.now }
         ensures { Hurries self.old self.new piece.now at result }
     {
-        if at < 6 || self.row.is_some() {
+        if at < 6 || self.even.is_some() || self.odd.is_some() {
             return at;
         }
         match self.name {
@@ -108,57 +98,57 @@ impl Scan {
         }
     }
 
-    /// Goes past the bytes from `at` on that begin no name, where none is being read.
-    #[inline(always)]
-    fn hurry_outside(&mut self, piece: &[u8], at: usize) -> usize
-        requires at { (6 ≤ at) × (at ≤ length piece.now) }
-        requires name { self.old.name ≡ None }
-        requires row { self.old.row ≡ None }
-        ensures { Hurries self.old self.new piece.now at result }
-    {
-        let to = quiet_until(piece, at);
-        self.go_past(piece, at, to);
-        to
-    }
-
-    /// Goes past more bytes of the descriptor's name that is being read, all but its last one, as long as they begin no other.
+    /// Goes past more letters of the descriptor's name that is being read, all but its last byte, as long as they begin no other.
     #[tactic(auto, using(crate::proofs::QuietLemmas::hurries_none))]
     #[inline(always)]
     fn hurry_inside(&mut self, piece: &[u8], at: usize, name: Name) -> usize
         requires at { (6 ≤ at) × (at ≤ length piece.now) }
         requires name { self.old.name ≡ Some name }
-        requires row { self.old.row ≡ None }
+        requires even { self.old.even ≡ None }
+        requires odd { self.old.odd ≡ None }
         ensures { Hurries self.old self.new piece.now at result }
     {
-        if may_begin(piece, at) {
+        if may_begin(piece, at) || !name.text.group.is_first() || name.text.skip.is_none() {
             return at;
         }
-        let to = text_until(piece, at, usize::from(name.left));
-        if self.read_past(piece, at, to, name) {
-            to
-        } else {
-            at
-        }
+        let to = text_until(piece, at, usize::from(name.text.left));
+        self.read_past(piece, at, to, name);
+        to
     }
 
-    /// Past some bytes of the descriptor's name that is being read; or nothing, where there is no room for them.
-    fn read_past(&mut self, piece: &[u8], from: usize, to: usize, name: Name) -> bool
+    /// Past some letters of the descriptor's name that is being read.
+    fn read_past(&mut self, piece: &[u8], from: usize, to: usize, name: Name)
         requires from { (6 ≤ from) × (from ≤ to) × (to ≤ length piece.now) }
-        requires few { to - from ≤ name.left }
-        requires row { self.old.row ≡ None }
-        ensures past { result ≡ true → self.new ≡ read_past self.old name piece.now from to }
-        ensures nothing { result ≡ false → self.new ≡ self.old }
+        requires few { to - from ≤ name.text.left }
+        requires even { self.old.even ≡ None }
+        requires odd { self.old.odd ≡ None }
+        ensures { length self.old.kept + (to - from) ≤ 9217 → self.new ≡ read_past self.old name piece.now from to }
     {
-        if self.kept.try_extend_from_slice(&piece[from..to]).is_err() {
-            return false;
-        }
+        push_letters(&mut self.kept, &piece[from..to]);
         self.count = self.count.saturating_add((to - from) as u64);
         self.recent = Recent::in_piece(piece, to);
         self.name = Some(Name {
             place: name.place,
-            left: name.left - (to - from) as u16,
+            text: Text {
+                left: name.text.left - (to - from) as u16,
+                group: Place::First,
+                skip: name.text.skip,
+            },
         });
-        true
+    }
+
+    /// The same, where none is being read.
+    #[inline(always)]
+    fn hurry_outside(&mut self, piece: &[u8], at: usize) -> usize
+        requires at { (6 ≤ at) × (at ≤ length piece.now) }
+        requires name { self.old.name ≡ None }
+        requires even { self.old.even ≡ None }
+        requires odd { self.old.odd ≡ None }
+        ensures { Hurries self.old self.new piece.now at result }
+    {
+        let to = quiet_until(piece, at);
+        self.go_past(piece, at, to);
+        to
     }
 
     /// Past some bytes that begin no name, where none is being read.
@@ -171,163 +161,214 @@ impl Scan {
         self.kept.clear();
     }
 
-    /// One byte more: the place of the hidden name that ends with it, the least one if two do.
-    #[tactic(auto, using(crate::proofs::StepLemmas::went_on))]
+    /// One byte more: the place of the hidden name that ends with it, the least one if more than one do.
+    #[tactic(auto, using(crate::proofs::StepLemmas::went_on, crate::proofs::StepLemmas::was_hidden))]
     fn byte<J: Judge>(&mut self, judge: &J, byte: u8) -> Option<u64>
         ensures hidden { HasRoom self.old → result ≡ scan_hidden (J.passes judge.now) self.old byte }
-        ensures goes_on { HasRoom self.old → result ≡ None → self.new ≡ scan_after (J.passes judge.now) self.old byte }
+        ensures goes_on { HasRoom self.old → result ≡ None → self.new ≡ scan_after self.old byte }
     {
         self.note(byte);
-        let name = self.name_ended(judge);
-        let row = self.row_ended(judge);
-        let place = lower(name, row);
+        let place = self.hidden(judge);
         if place.is_none() {
-            self.go_on(byte, row);
+            self.go_on(byte);
         }
         place
     }
 
-    /// Keeps the byte, if a name is being read.
+    /// The texts that are being read take the byte.
+    #[tactic(auto, using(crate::proofs::StepLemmas::noted_by))]
     fn note(&mut self, byte: u8)
-        ensures { HasRoom self.old → self.new ≡ keeping self.old (noted self.old byte) }
+        ensures { HasRoom self.old → self.new ≡ noted self.old byte }
     {
-        if self.is_reading() {
-            let _ = self.kept.try_push(byte);
-        } else {
-            self.kept.clear();
-        }
+        let taken = self.taken(byte);
+        self.keep(taken);
+        self.read(byte);
     }
 
-    /// Whether a name is being read.
-    fn is_reading(&self) -> bool
-        ensures { result ≡ is_reading self.now }
+    /// What the byte leads to in each text that may be a name.
+    fn taken(&self, byte: u8) -> Taken
+        ensures { HasRoom self.now → result ≡ taken_by self.now byte }
     {
-        self.name.is_some() || in_row_text(self.row)
+        or_taken(
+            name_taken(self.name, byte),
+            or_taken(row_taken(self.even, byte), row_taken(self.odd, byte)),
+        )
     }
 
-    /// Whether the descriptor's name ended with the last byte kept.
-    fn name_ended<J: Judge>(&mut self, judge: &J) -> Ended
-        ensures same { self.new ≡ self.old }
-        ensures is { result ≡ name_ended (J.passes judge.now) self.old.name self.old.kept }
+    /// Keeps the unit; lets go of all where no text may be a name.
+    fn keep(&mut self, taken: Taken)
+        ensures { length self.old.kept ≤ 9216 → self.new ≡ keeping self.old (kept_with self.old.kept taken) }
     {
-        match self.name {
-            Some(name) if name.left == 0 => {
-                judged(self.kept.as_slice(), &mut self.units, judge, name.place)
+        match taken {
+            Taken::Unit(unit) => {
+                let _ = self.kept.try_push(unit);
             }
-            _ => Ended::No,
-        }
-    }
-
-    /// Whether a name of the row did.
-    fn row_ended<J: Judge>(&mut self, judge: &J) -> Ended
-        ensures same { self.new ≡ self.old }
-        ensures is { result ≡ row_ended (J.passes judge.now) self.old.row self.old.kept }
-    {
-        match self.row {
-            Some(
-                Row {
-                    place,
-                    more: _,
-                    at: RowAt::Text(text),
-                },
-            ) if text.left == 0 => {
-                let skip = text.skip.min(self.kept.len());
-                let (_, bytes) = self.kept.as_slice().split_at(skip);
-                judged(bytes, &mut self.units, judge, place)
+            Taken::Part(_) => {}
+            Taken::Refused => {
+                self.kept.clear();
             }
-            _ => Ended::No,
         }
     }
 
-    /// After a byte that ended no hidden name.
-    fn go_on(&mut self, byte: u8, row: Ended)
-        ensures { self.new ≡ gone_on self.old byte row }
+    fn read(&mut self, byte: u8)
+        ensures { NameFits self.old.name → RowFits self.old.even → RowFits self.old.odd → self.new ≡ reading self.old byte }
     {
-        let row = self.row_after(byte, row.is_passed());
-        self.row = row;
-        let name = self.name_after(byte);
-        self.name = name;
+        self.name = name_with(self.name, byte);
+        self.even = row_with(self.even, byte);
+        self.odd = row_with(self.odd, byte);
+    }
+
+    /// The least place of a name that ended with the last byte and does not pass.
+    fn hidden<J: Judge>(&self, judge: &J) -> Option<u64>
+        ensures { result ≡ noted_hidden (J.passes judge.now) self.now }
+    {
+        let kept = self.kept.as_slice();
+        lower(
+            name_hidden(self.name, kept, judge),
+            lower(
+                row_hidden(self.even, kept, judge),
+                row_hidden(self.odd, kept, judge),
+            ),
+        )
+    }
+
+    /// After a byte that the texts have taken, and that ended no hidden name.
+    fn go_on(&mut self, byte: u8)
+        ensures { self.new ≡ gone_on self.old byte }
+    {
+        let kept = self.kept.len();
+        let place = self.count.saturating_sub(6);
+        let is_even = place % 2 == 0;
+        let begun = self.recent.row_left(byte);
+        self.name = self.name_after(byte);
+        self.even = row_after(is_even, place, kept, begun, self.even, byte);
+        self.odd = row_after(!is_even, place, kept, begun, self.odd, byte);
         self.recent = self.recent.with_byte(byte);
         self.count = self.count.saturating_add(1);
     }
 
     /// The descriptor's name that is read after a byte.
     fn name_after(&self, byte: u8) -> Option<Name>
-        ensures { result ≡ name_after self.now.count (name_left self.now.recent byte) self.now.name byte }
+        ensures { result ≡ name_after self.now.count (length self.now.kept) (name_left self.now.recent byte) self.now.name }
     {
         match (self.recent.name_left(byte), self.name) {
             (Some(left), _) => Some(Name {
                 place: self.count.saturating_sub(2),
-                left,
+                text: Text::new(self.kept.len(), left),
             }),
-            (None, Some(name)) => name.moved(byte),
-            (None, None) => None,
-        }
-    }
-
-    /// The row that is read after a byte.
-    fn row_after(&self, byte: u8, is_name: bool) -> Option<Row>
-        ensures { result ≡ row_after self.now.count (length self.now.kept) (row_left self.now.recent byte) self.now.row byte is_name }
-    {
-        let kept = self.kept.len();
-        let old = match self.row {
-            Some(row) => row.moved(byte, is_name, kept),
-            None => None,
-        };
-        match (old, self.recent.row_left(byte)) {
-            (Some(row), _) => Some(row),
-            (None, Some(begun)) => Some(Row {
-                place: self.count.saturating_sub(6),
-                more: begun.more,
-                at: RowAt::Text(RowText {
-                    skip: kept,
-                    left: begun.left,
-                }),
-            }),
+            (None, Some(name)) => name.onward(),
             (None, None) => None,
         }
     }
 }
 
-impl Ended {
-    fn is_passed(self) -> bool
-        ensures { result ≡ is_passed self }
-    {
-        matches!(self, Ended::Passes)
+/// Keeps these letters, a unit for each.
+#[tactic(auto, using(crate::proofs::ReadLemmas::pushed_none, crate::proofs::ReadLemmas::pushed_more, crate::proofs::ReadLemmas::pushed_all))]
+fn push_letters(kept: &mut ArrayVec<u16, ROOM>, bytes: &[u8])
+    ensures { length kept.old.items + length bytes.now ≤ 9217 → kept.new.items ≡ kept.old.items ++ bytes.now }
+{
+    'bytes: for byte in bytes {
+        let _ = kept.try_push(u16::from(*byte));
     }
 }
 
-/// Whether a name of the row is being read.
-fn in_row_text(row: Option<Row>) -> bool
-    ensures { result ≡ in_row_text row }
+fn name_with(name: Option<Name>, byte: u8) -> Option<Name>
+    ensures { NameFits name → result ≡ name_with name byte }
+{
+    match name {
+        Some(name) => name.with_byte(byte),
+        None => None,
+    }
+}
+
+fn name_taken(name: Option<Name>, byte: u8) -> Taken
+    ensures { NameFits name → result ≡ name_taken name byte }
+{
+    match name {
+        Some(name) => name.taken(byte),
+        None => Taken::Refused,
+    }
+}
+
+fn name_hidden<J: Judge>(name: Option<Name>, kept: &[u16], judge: &J) -> Option<u64>
+    ensures { result ≡ name_hidden (J.passes judge.now) name kept.now }
+{
+    match name {
+        Some(name) => name.hidden(kept, judge),
+        None => None,
+    }
+}
+
+fn row_with(row: Option<Row>, byte: u8) -> Option<Row>
+    ensures { RowFits row → result ≡ row_with row byte }
 {
     match row {
-        Some(row) => matches!(row.at, RowAt::Text(_)),
-        None => false,
+        Some(row) => row.with_byte(byte),
+        None => None,
     }
 }
 
-/// What these bytes ended, of a name that stands at this place.
-fn judged<J: Judge>(bytes: &[u8], units: &mut Units, judge: &J, place: u64) -> Ended
-    ensures { result ≡ ended_as (J.passes judge.now) place (short_units bytes.now) }
+fn row_taken(row: Option<Row>, byte: u8) -> Taken
+    ensures { RowFits row → result ≡ row_taken row byte }
 {
-    if bytes.len() > MOST_BYTES || !read_name(bytes, units) {
-        Ended::No
-    } else if judge.passes(units.as_slice()) {
-        Ended::Passes
-    } else {
-        Ended::Hidden(place)
+    match row {
+        Some(row) => row.taken(byte),
+        None => Taken::Refused,
+    }
+}
+
+fn row_hidden<J: Judge>(row: Option<Row>, kept: &[u16], judge: &J) -> Option<u64>
+    ensures { result ≡ row_hidden (J.passes judge.now) row kept.now }
+{
+    match row {
+        Some(row) => row.hidden(kept, judge),
+        None => None,
+    }
+}
+
+/// The row that is read after a byte: one that begins at a place of this kind, or the one that was there.
+fn row_after(
+    is_wanted: bool,
+    place: u64,
+    kept: usize,
+    begun: Option<Begun>,
+    old: Option<Row>,
+    byte: u8,
+) -> Option<Row>
+    ensures { result ≡ row_after is_wanted place kept begun old byte }
+{
+    if let Some(begun) = begun {
+        if is_wanted {
+            return Some(Row {
+                place,
+                more: begun.more,
+                at: RowAt::Text(Text::new(kept, begun.left)),
+            });
+        }
+    }
+    match old {
+        Some(row) => row.onward(byte, kept),
+        None => None,
+    }
+}
+
+/// The first of the two, if it is one.
+fn or_taken(first: Taken, second: Taken) -> Taken
+    ensures { result ≡ or_taken first second }
+{
+    match first {
+        Taken::Refused => second,
+        _ => first,
     }
 }
 
 /// The lower place of two.
-fn lower(name: Ended, row: Ended) -> Option<u64>
-    ensures { result ≡ lower name row }
+fn lower(a: Option<u64>, b: Option<u64>) -> Option<u64>
+    ensures { result ≡ lower a b }
 {
-    match (name, row) {
-        (Ended::Hidden(a), Ended::Hidden(b)) => Some(a.min(b)),
-        (Ended::Hidden(a), _) => Some(a),
-        (_, Ended::Hidden(b)) => Some(b),
-        _ => None,
+    match (a, b) {
+        (Some(a), Some(b)) => Some(a.min(b)),
+        (Some(a), None) => Some(a),
+        (None, b) => b,
     }
 }

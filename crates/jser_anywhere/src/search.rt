@@ -1,14 +1,16 @@
 //! The first name that does not pass.
 ghost use Rattle.std.specs.Prelude.{◌≡◌, ◌≤◌, ◌<◌, ◌^◌, IfSome, length};
-ghost use Rattle.jser_anywhere.specs.Search.{TellsFirst, TellsText, hidden_here, is_settled, row_hidden, sooner};
+ghost use Rattle.jser_anywhere.specs.Names.{core};
+ghost use Rattle.jser_anywhere.specs.Search.{TellsFirst, TellsText, hidden_here, is_settled, names_hidden, row_hidden, sooner};
 
+use crate::class::named_class;
 use crate::hidden::{Hidden, Judge};
-use crate::name::{MOST_BYTES, Units, read_name};
+use crate::name::{MOST_BYTES, Units, read_text};
 use arrayvec::ArrayVec;
 use jser_grammar::wire::{TC_CLASSDESC, TC_PROXYCLASSDESC};
 
-/// How many bytes the name at the head of these bytes has, with its length, if one stands there; `units` then has
-/// its units.
+/// How many bytes the text at the head of these bytes has, with its length, if one stands there that is loose and has no byte
+/// below 20; `units` then has its units.
 #[tactic(auto, unfolding(crate::specs::Search::text_of))]
 pub(crate) fn text_of(bytes: &[u8], units: &mut Units) -> Option<usize>
     ensures { TellsText bytes.now result units.new.items }
@@ -18,7 +20,7 @@ pub(crate) fn text_of(bytes: &[u8], units: &mut Units) -> Option<usize>
             let len = usize::from(*high) * 256 + usize::from(*low);
             if len >= 1 && len <= MOST_BYTES && len <= rest.len() {
                 let (text, _) = rest.split_at(len);
-                if read_name(text, units) {
+                if read_text(text, units) {
                     Some(2 + len)
                 } else {
                     None
@@ -31,7 +33,7 @@ pub(crate) fn text_of(bytes: &[u8], units: &mut Units) -> Option<usize>
     }
 }
 
-/// Where the first name ends that does not pass, of at most `most` that stand one after another at the head of
+/// Where the first name ends that does not pass, of at most `most` texts that stand one after another at the head of
 /// these bytes.
 #[tactic(auto, using(crate::proofs::RowLemmas::ahead_first, crate::proofs::RowLemmas::ahead_done, crate::proofs::RowLemmas::ahead_none, crate::proofs::RowLemmas::ahead_found, crate::proofs::RowLemmas::ahead_more))]
 fn row_hidden<J: Judge>(bytes: &[u8], most: u32, judge: &J, units: &mut Units) -> Option<usize>
@@ -44,7 +46,7 @@ fn row_hidden<J: Judge>(bytes: &[u8], most: u32, judge: &J, units: &mut Units) -
         match text_of(rest, units) {
             None => return None,
             Some(end) => {
-                if !judge.passes(units) {
+                if names_hidden(units.as_slice(), judge) {
                     return Some(gone + end);
                 }
                 let (_, after) = rest.split_at(end);
@@ -54,6 +56,16 @@ fn row_hidden<J: Judge>(bytes: &[u8], most: u32, judge: &J, units: &mut Units) -
         }
     }
     None
+}
+
+/// Whether these units name a class that does not pass.
+fn names_hidden<J: Judge>(units: &[u16], judge: &J) -> bool
+    ensures { result ≡ names_hidden (J.passes judge.now) (core units.now) }
+{
+    match named_class(units) {
+        Some(name) => !judge.passes(name),
+        None => false,
+    }
 }
 
 /// Where the first name at the head of these bytes ends that does not pass.

@@ -155,6 +155,7 @@ refused_more filter options front rest bytes before last refusal whole split d n
       right = right_refuses filter options bytes refusal is_right;
       first = λ b. right_first gate bytes refusal b is_right;
       names = none_more filter options here rest bytes refusal.to_byte (split ∙ ap (λ (xs : List ℕ). xs ++ rest) whole) right.within none;
+      cut = λ is. absurd (d.whole is);
     }
 
 later_in : (filter : FilterView) (options : Options) (front : List ℕ) (to at end : ℕ) (reason : ToldReason) → NoFaultBy filter options front to
@@ -212,7 +213,7 @@ ends_by filter options None bytes (Err why) e t = tt
 ends_by filter options (Some all) bytes (Ok totals) e t = subst (λ (xs : List ℕ). ReportsAnywhere filter options xs totals) e t
 ends_by filter options (Some all) bytes (Err (fault.Stop (stop.Refused refusal))) e t =
     subst (λ (xs : List ℕ). RefusedIn filter options xs refusal) e
-    (record { right = t.right; first = λ b. t.first; names = λ from to hidden. absurd (t.passes from to hidden) })
+    (record { right = t.right; first = λ b. t.first; names = λ from to hidden. absurd (t.passes from to hidden); cut = λ is. t.passes })
 ends_by filter options (Some all) bytes (Err (fault.Stop stop.OutOfMemory)) e t = tt
 ends_by filter options (Some all) bytes (Err (fault.Stop stop.Spent)) e t = t
 ends_by filter options (Some all) bytes (Err fault.ReadFault) e t = tt

@@ -5,7 +5,7 @@ use Rattle.jser_table.specs.Names.{name_kind, malformed_name, view_kind}
 use Rattle.jser_filter.specs.Filters.{FilterView}
 use Rattle.jser_grammar.specs.Trees.{ContentTrees}
 use Rattle.jser_verdict.specs.Gates.{Answer, is_pass}
-use Rattle.jser_anywhere.specs.LoadableNames.{IsLoadableName}
+use Rattle.jser_anywhere.specs.LoadableNames.{IsPlainName}
 use Rattle.jser_anywhere.specs.Standing.{StandsAt}
 use Rattle.jser_check.specs.declared.Options.{Options}
 use Rattle.jser_check.specs.Admitted.{IsAdmitted, gate_of_filter}
@@ -40,6 +40,6 @@ abbrev pub AnywhereIsStronger : Type 0
 AnywhereIsStronger = (filter : FilterView) (options : Options) (bytes : List ℕ) (list : ContentTrees) → IsAdmittedAnywhere filter options bytes list
     → IsAdmitted filter options bytes list
 
--- A loadable name is none that begins with `[` and is no array name: the gate judges each name that stands.
+-- The class of a loadable name begins with no `[`: the gate judges each name that stands, by the class that it names.
 abbrev pub NamesAreJudged : Type 0
-NamesAreJudged = (units : List ℕ) → IsLoadableName units → name_kind units ≢ malformed_name
+NamesAreJudged = (units : List ℕ) → IsPlainName units → name_kind units ≢ malformed_name

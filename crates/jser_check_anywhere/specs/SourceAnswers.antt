@@ -12,8 +12,9 @@ use Rattle.jser_filter.specs.Filters.{FilterView}
 use Rattle.jser_check.specs.declared.Options.{Options}
 use Rattle.jser_check.specs.Admitted.{gate_of_filter}
 use Rattle.jser_check.specs.Answers.{CarriesFirst, Refuses}
+use Rattle.jser_check.specs.Checks.{IsCut}
 use Rattle.jser_check.specs.Sources.{TakesAtMost, read_bytes}
-use Rattle.jser_anywhere.specs.Standing.{IsFirstHidden}
+use Rattle.jser_anywhere.specs.Standing.{AllPass, IsFirstHidden}
 use Rattle.jser_check_anywhere.specs.Passing.{passes_name, AreAdmittedAnywhere}
 use Rattle.jser_check_anywhere.specs.declared.fault.AnywhereFault.{AnywhereFault}
 use Rattle.jser_check_anywhere.specs.declared.fault.AnywhereFault.TheVariants as fault
@@ -26,11 +27,13 @@ pub record HiddenIn (filter : FilterView) (options : Options) (bytes : List ℕ)
   pub sooner : NoFaultBy filter options bytes to
   pub begins : (after : List ℕ) → AreAdmittedAnywhere filter options (take to bytes ++ after) → ⊥
 
--- The refusal is right of the bytes and names their first fault, and no hidden name ends before it.
+-- The refusal is right of the bytes and names their first fault, and no hidden name ends before it; that the bytes end too
+-- early is told where all names pass.
 pub record RefusedIn (filter : FilterView) (options : Options) (bytes : List ℕ) (refusal : Refusal) : Type 0 where
   pub right : Refuses filter options bytes refusal
   pub first : IsBytes bytes → CarriesFirst (gate_of_filter filter options) bytes refusal
   pub names : NoneSooner filter options bytes refusal.to_byte
+  pub cut : IsCut refusal → AllPass (passes_name filter options) bytes
 
 abbrev pub FaultOf : FilterView → Options → (bytes : List ℕ) → AnywhereFault → Type 0
 FaultOf filter options bytes (fault.Stop (stop.Refused refusal)) = RefusedIn filter options bytes refusal

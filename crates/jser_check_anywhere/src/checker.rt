@@ -17,7 +17,7 @@ use std::marker::Model;
 /// does not let pass: `feed` each piece, and then `finish`. It serves for one stream after another: `restart` begins the
 /// next one.
 ///
-/// What it allocates is what a reader does; the scan takes no memory besides, and is some four kilobytes itself.
+/// What it allocates is what a reader does; the scan takes no memory besides, and is some 18 kilobytes itself.
 ///
 /// ```text
 /// checker.restart();

@@ -7,7 +7,7 @@ pub fn anywhere_is_stronger()
     ensures { AnywhereIsStronger }
 {}
 
-/// Each name that stands anywhere is one that the gate judges, by its element where it is an array's.
+/// Each name that stands anywhere is one that the gate judges, by the class that it names.
 pub fn names_are_judged()
     ensures { NamesAreJudged }
 {}

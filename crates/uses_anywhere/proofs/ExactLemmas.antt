@@ -2,11 +2,13 @@
 use Rattle.std.proofs.Common.{◌≡◌, ◌↔◌, ℕ, true, false, List, drop, Option, Some, None, Result, Ok, Err, IfOk, IfSome, refl, sym, subst}
 use Rattle.std.proofs.lemmas.List.{take-append-drop}
 use Rattle.jser_filter.specs.Filters.{FilterView}
+use Rattle.jser_anywhere.specs.Standing.{AllPass}
+use Rattle.jser_reader.specs.declared.Reason.TheVariants as reason
 use Rattle.jser_reader.specs.declared.Refusal.{Refusal}
 use Rattle.jser_reader.specs.declared.Stop.TheVariants as stop
 use Rattle.jser_reader.specs.declared.Totals.{Totals}
 use Rattle.jser_check.specs.declared.Options.{Options}
-use Rattle.jser_check_anywhere.specs.Passing.{AreAdmittedAnywhere}
+use Rattle.jser_check_anywhere.specs.Passing.{AreAdmittedAnywhere, passes_name}
 use Rattle.jser_check_anywhere.specs.declared.AnywhereFault.{AnywhereFault}
 use Rattle.jser_check_anywhere.specs.declared.AnywhereFault.TheVariants as fault
 use Rattle.jser_check_anywhere.specs.Answers.{ReportsAnywhere, EndTells}
@@ -29,6 +31,11 @@ no_hidden filter options (Some bytes) from to s = (
   λ no. absurd (let e : false ≡ true = no in cc),
   λ are. absurd (s.begins (drop to bytes) (subst (λ xs. AreAdmittedAnywhere filter options xs) (sym (take-append-drop to bytes)) are)),
 )
+
+pub cut_passes : (filter : FilterView) (options : Options) (told : Option (List ℕ)) (refusal : Refusal) → SourceTells filter options told (Err (fault.Stop (stop.Refused refusal)))
+    → refusal.reason ≡ reason.Truncated → IfSome told (λ bytes. AllPass (passes_name filter options) bytes)
+cut_passes filter options None refusal s is = tt
+cut_passes filter options (Some bytes) refusal s is = s.cut is
 
 pub reports_end : (filter : FilterView) (options : Options) (taken : List ℕ) (result : Result Totals AnywhereFault) → EndTells filter options taken result
     → IfOk result (ReportsAnywhere filter options taken)

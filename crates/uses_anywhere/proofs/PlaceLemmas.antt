@@ -4,8 +4,8 @@ use Rattle.std.specs.Str.{bytes_eq}
 use Rattle.std.proofs.lemmas.Slice.Eq.{bytes_eq-Decides}
 use Rattle.jser_anywhere.specs.declared.names.Stand.{Stand}
 use Rattle.jser_anywhere.specs.Laws.{StandsForGood}
-use Rattle.jser_anywhere.specs.LoadableNames.{IsLoadableName}
-use Rattle.jser_anywhere.specs.NamesIn.{Named, Telling, untold, names_in, TellsNext, IsNamed, NamesStand, AllAreNamed}
+use Rattle.jser_anywhere.specs.LoadableNames.{IsPlainName}
+use Rattle.jser_anywhere.specs.NamesIn.{Named, Telling, class_in, untold, names_in, TellsNext, IsNamed, NamesStand, AllAreNamed}
 use Rattle.jser_anywhere.specs.Standing.{AllPass, IsFirstHidden, StandsAt}
 use Rattle.jser_filter.specs.Filters.{FilterView}
 use Rattle.jser_check.specs.declared.Options.{Options}
@@ -33,19 +33,19 @@ unequal : (last units : List ℕ) → bytes_eq last units ≡ false → last ≡
 unequal last units other is = absurd (let same = (bytes_eq-Decides last units).1 is in cc)
 
 -- the next name has other units
-pub passed : (all : List Named) (units : List ℕ) (old new : Telling) (found : Stand) → TellsNext old (Some found) new → bytes_eq new.last units ≡ false
+pub passed : (all : List Named) (units : List ℕ) (old new : Telling) (found : Stand) → TellsNext old (Some found) new → bytes_eq (class_in new.last) units ≡ false
     → IsOpen all (untold old) units → IsOpen all (untold new) units
 passed all units old new found tells other told = record {
   within = λ from to named. told.within from to (subst (IsNamed from to units) (sym tells) (inr named));
-  others = λ from to named. later units new.last (untold new) (record { from = found.from; at = found.at; to = found.to; units = new.last }) from to refl (unequal new.last units other)
+  others = λ from to named. later units (class_in new.last) (untold new) (record { from = found.from; at = found.at; to = found.to; text = new.last; units = class_in new.last }) from to refl (unequal (class_in new.last) units other)
       (subst (IsNamed from to units) tells (told.others from to named));
 }
 
 -- the next name has these units
-pub met : (bytes units : List ℕ) (old new : Telling) (found : Stand) → NamesStand → TellsNext old (Some found) new → bytes_eq new.last units ≡ true
+pub met : (bytes units : List ℕ) (old new : Telling) (found : Stand) → NamesStand → TellsNext old (Some found) new → bytes_eq (class_in new.last) units ≡ true
     → IsOpen (names_in 0 bytes) (untold old) units → StandsAt bytes found.from found.to units
 met bytes units old new found stand tells is told =
-    stand bytes found.from found.to units (told.within found.from found.to (subst (IsNamed found.from found.to units) (sym tells) (inl (refl, refl, (bytes_eq-Decides new.last units).0 is))))
+    stand bytes found.from found.to units (told.within found.from found.to (subst (IsNamed found.from found.to units) (sym tells) (inl (refl, refl, (bytes_eq-Decides (class_in new.last) units).0 is))))
 
 -- no name is left
 pub unmet : (bytes units : List ℕ) (old new : Telling) → AllAreNamed → TellsNext old None new → IsOpen (names_in 0 bytes) (untold old) units
@@ -65,6 +65,6 @@ answer_of answer plain_name other = refl
 answer_of answer (array_name body) other = refl
 answer_of answer malformed_name other = absurd (other refl)
 
-pub judged_as_checked : (filter : FilterView) (options : Options) (name : List ℕ) → NamesAreJudged → IsLoadableName name
+pub judged_as_checked : (filter : FilterView) (options : Options) (name : List ℕ) → NamesAreJudged → IsPlainName name
     → passes_name filter options name ≡ is_pass ((gate_of_filter filter options).answer name)
 judged_as_checked filter options name judged loadable = answer_of ((gate_of_filter filter options).answer name) (name_kind name) (judged name loadable)

@@ -1,22 +1,22 @@
 -- Names that are said without a reader, and those that stand.
 use Rattle.std.proofs.Common.{◌≡◌, inl, inr, ℕ, zero, suc, ◌+◌, ◌*◌, Bool, true, false, if◌then◌else◌, List, [], ◌∷◌, ◌++◌, length, drop, Option, Some, None, refl, sym, ap, ◌∙◌, subst}
 use Rattle.std.proofs.Math.Seq.{drop-append_seam}
-use Rattle.jser_anywhere.specs.LoadableNames.{ReadsLoadable}
-use Rattle.jser_anywhere.specs.LooseText.{ReadsLoose}
-use Rattle.jser_anywhere.specs.Names.{if_loadable, is_loadable, name_units}
+use Rattle.jser_anywhere.specs.LoadableNames.{NamesAreInRows, ReadsLoadable}
+use Rattle.jser_anywhere.specs.LooseText.{ReadsRows}
+use Rattle.jser_anywhere.specs.Names.{core, core_in, name_units}
 use Rattle.jser_anywhere.specs.Standing.{AllPass, Begins, BeginsRow, StandsAt}
-use Rattle.jser_anywhere.specs.Texts.{loose_units}
+use Rattle.jser_anywhere.specs.Texts.{row_units}
 use Rattle.jser_anywhere.specs.Worked.{WorkedRows, three_names}
 use Rattle.uses_anywhere.specs.Spelled.{HoldsName, CanBeAskedFor}
 
 -- ---- a name that is said so stands
 
-named : (text units : List ℕ) → loose_units text ≡ Some units → is_loadable units ≡ true → name_units text ≡ Some units
+named : (text units class : List ℕ) → row_units text ≡ Some units → core units ≡ Some class → name_units text ≡ Some class
 unfolding name_units
-named text units loose loadable = ap (if_loadable _) loose ∙ ap (λ b. if b then Some units else None) loadable
+named text units class read loadable = ap core_in read ∙ loadable
 
-stands : (bytes units : List ℕ) → ReadsLoose → ReadsLoadable → (h : HoldsName bytes units) → StandsAt bytes (length h.front) (length h.front + (1 + (2 + length h.text))) units
-stands bytes units loose loadable h = record {
+stands : (bytes units : List ℕ) → NamesAreInRows → ReadsRows → ReadsLoadable → (h : HoldsName bytes units) → StandsAt bytes (length h.front) (length h.front + (1 + (2 + length h.text))) units
+stands bytes units rows loose loadable h = record {
   end = 1 + (2 + length h.text);
   begins = inl (record {
     rest = h.high ∷ h.low ∷ (h.text ++ h.after);
@@ -31,7 +31,7 @@ stands bytes units loose loadable h = record {
       counted = h.counted;
       least = h.least;
       most = h.most;
-      named = named h.text units (loose.all h.text units h.loose) (loadable.all units h.loadable);
+      named = named h.text h.units units (loose.all h.text h.units h.loose (rows h.text h.units units h.loose h.loadable)) (loadable.all h.units units h.loadable);
       ends = refl;
     };
     ends = refl;
@@ -43,9 +43,9 @@ not_false : (b : Bool) → (b ≡ false → ⊥) → b ≡ true
 not_false true other = refl
 not_false false other = absurd (other refl)
 
-pub clear : (passes : List ℕ → Bool) (bytes : List ℕ) → ReadsLoose → ReadsLoadable → AllPass passes bytes → (units : List ℕ) → HoldsName bytes units → passes units ≡ true
-clear passes bytes loose loadable all units h =
-    not_false (passes units) (λ fails. all (length h.front) (length h.front + (1 + (2 + length h.text))) (record { units = units; stands = stands bytes units loose loadable h; fails = fails }))
+pub clear : (passes : List ℕ → Bool) (bytes : List ℕ) → NamesAreInRows → ReadsRows → ReadsLoadable → AllPass passes bytes → (units : List ℕ) → HoldsName bytes units → passes units ≡ true
+clear passes bytes rows loose loadable all units h =
+    not_false (passes units) (λ fails. all (length h.front) (length h.front + (1 + (2 + length h.text))) (record { units = units; stands = stands bytes units rows loose loadable h; fails = fails }))
 
 -- ---- and one that stands is said so
 
@@ -58,27 +58,26 @@ begun_text : (bytes : List ℕ) (end : ℕ) (units : List ℕ) → Begins bytes 
 begun_text bytes end units (inl descriptor) = (descriptor.name.text, descriptor.name.named)
 begun_text bytes end units (inr interfaces) = row_text (interfaces.high * 256 + interfaces.low) interfaces.rest interfaces.row_end units interfaces.row
 
-chosen : (b : Bool) (found units : List ℕ) → (if b then Some found else None) ≡ Some units → (b ≡ true) × (found ≡ units)
-chosen true found units e = (refl, cc e)
-chosen false found units e = cc e
+-- its units, and the class that they name
+record HasUnits (text class : List ℕ) : Type 0 where
+  pub units : List ℕ
+  pub read : row_units text ≡ Some units
+  pub named : core units ≡ Some class
 
--- a filter of what is found keeps what passes
-kept : (keep : Option (List ℕ) → Option (List ℕ)) (passes : List ℕ → Bool) → keep None ≡ None → ((xs : List ℕ) → keep (Some xs) ≡ (if passes xs then Some xs else None))
-    → (found : Option (List ℕ)) (units : List ℕ) → keep found ≡ Some units → (found ≡ Some units) × (passes units ≡ true)
-kept keep passes none some None units e = let no : None ≡ Some units = sym none ∙ e in cc no
-kept keep passes none some (Some found) units e =
-    let both = chosen (passes found) found units (sym (some found) ∙ e) in
-    (ap Some both.1, subst (λ xs. passes xs ≡ true) both.1 both.0)
+has_units : (text class : List ℕ) (o : Option (List ℕ)) → row_units text ≡ o → core_in o ≡ Some class → HasUnits text class
+has_units text class None r e = cc e
+has_units text class (Some units) r e = record { units = units; read = r; named = e }
 
-read_name : (text units : List ℕ) → name_units text ≡ Some units → (loose_units text ≡ Some units) × (is_loadable units ≡ true)
+units_of : (text class : List ℕ) → name_units text ≡ Some class → HasUnits text class
 unfolding name_units
-read_name text units e = kept (if_loadable _) is_loadable refl (λ xs. refl) (loose_units text) units e
+units_of text class e = has_units text class (row_units text) refl e
 
-pub asked_for : (bytes : List ℕ) (from to : ℕ) (units : List ℕ) → ReadsLoose → ReadsLoadable → StandsAt bytes from to units → CanBeAskedFor units
-asked_for bytes from to units loose loadable stands =
-    let found = begun_text (drop from bytes) stands.end units stands.begins in
-    let both = read_name found.0 units found.1 in
-    record { text = found.0; loose = loose.only found.0 units both.0; loadable = loadable.only units both.1 }
+pub asked_for : (bytes : List ℕ) (from to : ℕ) (class : List ℕ) → ReadsRows → ReadsLoadable → StandsAt bytes from to class → CanBeAskedFor class
+asked_for bytes from to class rows loadable stands =
+    let found = begun_text (drop from bytes) stands.end class stands.begins in
+    let h = units_of found.0 class found.1 in
+    let loose = rows.only found.0 h.units h.read in
+    record { text = found.0; units = h.units; loose = loose.0; loadable = loadable.only h.units class h.named }
 
 -- ---- a worked row
 

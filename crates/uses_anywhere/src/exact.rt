@@ -1,12 +1,13 @@
 //! Yes exactly where the filter admits the bytes with each name that stands anywhere.
 ghost use Rattle.std.specs.Prelude.{◌≡◌, ◌≢◌, ◌↔◌, IfOk, IfSome, true};
-ghost use Rattle.jser_check_anywhere.specs.Passing.{AreAdmittedAnywhere};
+ghost use Rattle.jser_anywhere.specs.Standing.{AllPass};
+ghost use Rattle.jser_check_anywhere.specs.Passing.{AreAdmittedAnywhere, passes_name};
 
 use jser_check::Options;
 use jser_check_anywhere::{AnywhereFault, check_anywhere};
 use jser_filter::Filter;
 use jser_prim::Source;
-use jser_reader::Stop;
+use jser_reader::{Reason, Stop};
 use std::alloc::Global;
 
 /// Why there is no answer.
@@ -41,5 +42,25 @@ pub fn admits_anywhere<R: Source>(
         Err(AnywhereFault::Stop(Stop::OutOfMemory)) => Err(Unanswered::NoMemory),
         Err(AnywhereFault::Stop(Stop::Spent)) => unreachable!(),
         Err(AnywhereFault::ReadFault) => Err(Unanswered::ReadFault),
+    }
+}
+
+/// Whether all that is wrong with the bytes of a source is that they end too early: more may come. Then each name in them
+/// passes.
+#[tactic(auto, using(crate::proofs::ExactLemmas::cut_passes))]
+pub fn only_ends<R: Source>(
+    alloc: Global,
+    source: &mut R,
+    filter: &Filter,
+    options: Options,
+) -> bool
+    ensures { result ≡ true → IfSome (R.to_come source.old) (λ bytes. AllPass (passes_name filter.now options) bytes) }
+{
+    match check_anywhere(alloc, source, filter, options) {
+        Err(AnywhereFault::Stop(Stop::Refused(refusal))) => match refusal.reason {
+            Reason::Truncated => true,
+            _ => false,
+        },
+        _ => false,
     }
 }

@@ -1,6 +1,6 @@
 //! Names that can be read at any place of some bytes, which need be no stream.
 ghost use Rattle.std.specs.Prelude.{◌≡◌, ◌++◌, ℕ, List, Ok, IfSome, IsTrue, None, true};
-ghost use Rattle.jser_anywhere.specs.LoadableNames.{IsLoadableName};
+ghost use Rattle.jser_anywhere.specs.LoadableNames.{IsPlainName};
 ghost use Rattle.jser_anywhere.specs.Standing.{AllPass, StandsAt};
 ghost use Rattle.jser_check.specs.Admitted.{IsAdmitted, gate_of_filter};
 ghost use Rattle.jser_grammar.specs.Trees.{ContentTrees};
@@ -16,7 +16,7 @@ use jser_filter::Filter;
 use jser_prim::Source;
 use std::alloc::Global;
 
-/// Where a class name with these units can be read, if it can be anywhere.
+/// Where a name of the class with these units can be read, if one can be anywhere.
 #[tactic(auto, using(crate::proofs::PlaceLemmas::opens))]
 pub fn place_of(bytes: &[u8], name: &[u16]) -> Option<Stand>
     ensures some { IfSome result (λ stand. StandsAt bytes.now stand.from stand.to name.now) }
@@ -67,7 +67,7 @@ pub fn admits_both_ways<R: Source>(
 /// Whether the filter lets the name of a class pass that a class loader can be asked for: it judges it as a checked name.
 #[tactic(auto, using(crate::proofs::PlaceLemmas::judged_as_checked))]
 pub fn lets_pass(filter: &Filter, options: Options, name: &[u16]) -> bool
-    requires { IsLoadableName name.now }
+    requires { IsPlainName name.now }
     ensures { result ≡ is_pass ((gate_of_filter filter.now options).answer name.now) }
 {
     names_are_judged();

@@ -3,16 +3,17 @@ ghost use Rattle.std.specs.Prelude.{◌≡◌, ◌≤◌, ◌∷◌, [], ℕ, Li
 ghost use Rattle.uses_anywhere.specs.Spelled.{CanBeAskedFor, HoldsName};
 
 use crate::places::place_of;
-use jser_anywhere::laws::{reads_loadable, reads_loose, worked_rows};
+use jser_anywhere::laws::{names_are_in_rows, reads_loadable, reads_rows, worked_rows};
 use jser_anywhere::{Judge, Names, first_hidden};
 use jser_grammar::wire::TC_PROXYCLASSDESC;
 
-/// Whether the judge lets each name pass that can be read. Then it lets each loadable name pass that stands behind 72 and its
-/// length, wherever that is and however the name is spelled.
+/// Whether the judge lets each name pass that can be read. Then it lets the class of each loadable name pass that stands behind 72
+/// and its length, wherever that is and however the name is spelled.
 pub fn is_clear<J: Judge>(bytes: &[u8], judge: &J) -> bool
-    ensures { IsTrue result → (units : List ℕ) → HoldsName bytes.now units → J.passes judge.now units ≡ true }
+    ensures { IsTrue result → (class : List ℕ) → HoldsName bytes.now class → J.passes judge.now class ≡ true }
 {
-    reads_loose();
+    names_are_in_rows();
+    reads_rows();
     reads_loadable();
     match first_hidden(bytes, judge) {
         Some(_) => false,
@@ -20,12 +21,12 @@ pub fn is_clear<J: Judge>(bytes: &[u8], judge: &J) -> bool
     }
 }
 
-/// Whether a name can be read at some place. Then it is one that a class loader can be asked for.
+/// Whether a name of this class can be read at some place. Then it is one that a class loader can be asked for.
 #[tactic(auto, using(crate::proofs::SpelledLemmas::asked_for))]
 pub fn can_be_asked_for(bytes: &[u8], name: &[u16]) -> bool
     ensures { IsTrue result → CanBeAskedFor name.now }
 {
-    reads_loose();
+    reads_rows();
     reads_loadable();
     match place_of(bytes, name) {
         Some(_) => true,

@@ -6,8 +6,8 @@ pub returns-in-None-clause-end : goal.returns-in-None-clause-end
 returns-in-None-clause-end g c =
     ahead_none _ _ _ _ _ _ c.names.invariant c.names-test.true (told_none _ _ _ c.text_of.ensures c.in-None.is)
 
-pub returns-then-not-passes-clause-end : goal.returns-then-not-passes-clause-end
-returns-then-not-passes-clause-end g c =
+pub returns-then-names_hidden-clause-end : goal.returns-then-names_hidden-clause-end
+returns-then-names_hidden-clause-end g c =
     let told = told_some _ _ _ _ c.text_of.ensures c.in-Some.is in
     ahead_found _ _ _ _ _ _ c.text_of.new.units.items _ c.names.invariant c.names-test.true told (search rules)
 
