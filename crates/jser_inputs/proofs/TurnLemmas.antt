@@ -1,19 +1,20 @@
 -- One read of a text: what comes of the source over it.
 use Rattle.std.proofs.Common.{◌≡◌, ℕ, ◌+◌, true, false, if◌then◌else◌, List, [], ◌∷◌, Option, Some, None, option_map, refl, sym, ap, ◌∙◌, arith}
 use Rattle.std.specs.Io.KnownBytes.{Consumes, IsAtEnd, Keeps}
-use Rattle.jser_inputs.specs.declared.place.Place.{Place}
 use Rattle.jser_inputs.specs.declared.place.Place.TheVariants as place
+use Rattle.jser_inputs.specs.declared.spot.Spot.{Spot}
 use Rattle.jser_inputs.specs.Places.{is_whole}
 use Rattle.jser_inputs.specs.Spelled.{Reads, spelled, right_until, no_byte}
 use Rattle.jser_inputs.specs.Decoding.{KeepsNumber}
+use Rattle.jser_inputs.proofs.ReadLemmas.{wrong}
 
 -- a source that gave nothing
-pub keeps_bytes : (at : Place) (old new : Option (List ℕ)) → Keeps old new → Keeps (option_map (spelled at) old) (option_map (spelled at) new)
+pub keeps_bytes : (at : Spot) (old new : Option (List ℕ)) → Keeps old new → Keeps (option_map (spelled at) old) (option_map (spelled at) new)
 keeps_bytes at None new kept = tt
 keeps_bytes at (Some a) None kept = absurd kept
 keeps_bytes at (Some a) (Some b) kept = ap (spelled at) kept
 
-pub keeps_number : (at : Place) (n : ℕ) (old new : Option (List ℕ)) → Keeps old new
+pub keeps_number : (at : Spot) (n : ℕ) (old new : Option (List ℕ)) → Keeps old new
     → KeepsNumber (option_map (λ text. n + right_until at text) old) (option_map (λ text. n + right_until at text) new)
 keeps_number at n None new kept = tt
 keeps_number at n (Some a) None kept = absurd kept
@@ -28,20 +29,20 @@ same_number None = tt
 same_number (Some n) = refl
 
 -- one whose characters spelled some bytes
-pub gives_bytes : (start now : Place) (text out : List ℕ) (n : ℕ) (old new : Option (List ℕ)) → Reads start now text [] out n → Consumes old new text
+pub gives_bytes : (start now : Spot) (text out : List ℕ) (n : ℕ) (old new : Option (List ℕ)) → Reads start now text [] out n → Consumes old new text
     → Consumes (option_map (spelled start) old) (option_map (spelled now) new) out
 gives_bytes start now text out n None new r took = tt
 gives_bytes start now text out n (Some a) None r took = absurd took
 gives_bytes start now text out n (Some a) (Some b) r took = ap (spelled start) took ∙ r.spells b
 
 -- none at all
-pub gives_none : (start now : Place) (text : List ℕ) (n : ℕ) (old new : Option (List ℕ)) → Reads start now text [] [] n → Consumes old new text
+pub gives_none : (start now : Spot) (text : List ℕ) (n : ℕ) (old new : Option (List ℕ)) → Reads start now text [] [] n → Consumes old new text
     → Keeps (option_map (spelled start) old) (option_map (spelled now) new)
 gives_none start now text n None new r took = tt
 gives_none start now text n (Some a) None r took = absurd took
 gives_none start now text n (Some a) (Some b) r took = sym (ap (spelled start) took ∙ r.spells b)
 
-pub counts_on : (start now : Place) (text out : List ℕ) (n at : ℕ) (old new : Option (List ℕ)) → Reads start now text [] out n → Consumes old new text
+pub counts_on : (start now : Spot) (text out : List ℕ) (n at : ℕ) (old new : Option (List ℕ)) → Reads start now text [] out n → Consumes old new text
     → KeepsNumber (option_map (λ text. at + right_until start text) old) (option_map (λ text. (at + n) + right_until now text) new)
 counts_on start now text out n at None new r took = tt
 counts_on start now text out n at (Some a) None r took = absurd took
@@ -51,30 +52,30 @@ counts_on start now text out n at (Some a) (Some b) r took =
 
 -- the text has ended
 
-nothing_more : (at : Place) → is_whole at ≡ true → spelled at [] ≡ []
+nothing_more : (at : Spot) → is_whole at.place ≡ true → spelled at [] ≡ []
 unfolding spelled
 nothing_more at whole = ap (λ b. if b then [] else no_byte ∷ []) whole
 
-no_more : (at : Place) → is_whole at ≡ false → spelled at [] ≡ spelled place.Wrong []
+no_more : (at : Spot) → is_whole at.place ≡ false → spelled at [] ≡ spelled (wrong at.spare) []
 unfolding spelled
 no_more at cut = ap (λ b. if b then [] else no_byte ∷ []) cut
 
-pub ends_whole : (at : Place) (told : Option (List ℕ)) → IsAtEnd told → is_whole at ≡ true → IsAtEnd (option_map (spelled at) told)
+pub ends_whole : (at : Spot) (told : Option (List ℕ)) → IsAtEnd told → is_whole at.place ≡ true → IsAtEnd (option_map (spelled at) told)
 ends_whole at None ended whole = tt
 ends_whole at (Some a) ended whole = ap (spelled at) ended ∙ nothing_more at whole
 
-pub ends_bytes : (at : Place) (old new : Option (List ℕ)) → Consumes old new [] → Consumes (option_map (spelled at) old) (option_map (spelled at) new) []
+pub ends_bytes : (at : Spot) (old new : Option (List ℕ)) → Consumes old new [] → Consumes (option_map (spelled at) old) (option_map (spelled at) new) []
 ends_bytes at None new took = tt
 ends_bytes at (Some a) None took = absurd took
 ends_bytes at (Some a) (Some b) took = ap (spelled at) took
 
-pub ends_wrong : (at : Place) (old new : Option (List ℕ)) → Consumes old new [] → IsAtEnd new → is_whole at ≡ false
-    → Keeps (option_map (spelled at) old) (option_map (spelled place.Wrong) new)
+pub ends_wrong : (at : Spot) (old new : Option (List ℕ)) → Consumes old new [] → IsAtEnd new → is_whole at.place ≡ false
+    → Keeps (option_map (spelled at) old) (option_map (spelled (wrong at.spare)) new)
 ends_wrong at None new took ended cut = tt
 ends_wrong at (Some a) None took ended cut = absurd took
-ends_wrong at (Some a) (Some b) took ended cut = ap (spelled place.Wrong) ended ∙ sym (ap (spelled at) (took ∙ ended) ∙ no_more at cut)
+ends_wrong at (Some a) (Some b) took ended cut = ap (spelled (wrong at.spare)) ended ∙ sym (ap (spelled at) (took ∙ ended) ∙ no_more at cut)
 
-pub ends_number : (at now : Place) (n : ℕ) (old new : Option (List ℕ)) → Consumes old new [] → IsAtEnd new
+pub ends_number : (at now : Spot) (n : ℕ) (old new : Option (List ℕ)) → Consumes old new [] → IsAtEnd new
     → KeepsNumber (option_map (λ text. n + right_until at text) old) (option_map (λ text. n + right_until now text) new)
 unfolding right_until
 ends_number at now n None new took ended = tt

@@ -1,29 +1,30 @@
 -- A source over the text of another one.
-use Rattle.std.specs.Prelude.{ℕ, ◌≡◌, ◌+◌, Bool, if◌then◌else◌, List, Option, Some, None, option_map}
+use Rattle.std.specs.Prelude.{ℕ, ◌≡◌, ◌+◌, Bool, if◌then◌else◌, List, Option, Some, None, option_map, ◌≤◌, ◌⊎◌, ◌^◌, true}
 use Rattle.jser_inputs.specs.declared.form.Form.{Form}
 use Rattle.jser_inputs.specs.declared.form.Form.TheVariants as form
-use Rattle.jser_inputs.specs.declared.place.Place.{Place}
+use Rattle.jser_inputs.specs.declared.spot.Spot.{Spot}
 use Rattle.jser_inputs.specs.declared.fault.InputFault.{InputFault}
 use Rattle.jser_inputs.specs.declared.fault.InputFault.TheVariants as fault
 use Rattle.jser_inputs.specs.Places.{is_wrong}
 use Rattle.jser_inputs.specs.Spelled.{spelled, right_until}
 
--- the form, the text that is still to come of the other source, where the text is, how many of its characters were right,
--- and whether a call has failed
+-- the form, the text that is still to come of the other source and whether that has failed, where the text is, how many of
+-- its characters were right, and whether a call has failed
 pub record Decoding : Type 0 where
   pub form : Form
   pub text : Option (List ℕ)
-  pub place : Place
+  pub text_failed : Bool
+  pub spot : Spot
   pub at : ℕ
   pub has_failed : Bool
 
 -- the bytes that are to come: those that the text spells
 abbrev pub bytes_to_come : Decoding → Option (List ℕ)
-bytes_to_come a = option_map (spelled a.place) a.text
+bytes_to_come a = option_map (spelled a.spot) a.text
 
 -- how many characters of the whole text are right
 abbrev pub right_in : Decoding → Option ℕ
-right_in a = option_map (λ text. a.at + right_until a.place text) a.text
+right_in a = option_map (λ text. a.at + right_until a.spot text) a.text
 
 -- known numbers stay as they were
 abbrev pub KeepsNumber : Option ℕ → Option ℕ → Type 0
@@ -36,6 +37,11 @@ abbrev pub misspelled : Form → ℕ → InputFault
 misspelled form.Binary at = fault.Failed
 misspelled form.Hex at = fault.NotHexadecimal at
 misspelled form.Base64 at = fault.NotBase64 at
+misspelled form.Base64Url at = fault.NotBase64 at
 
 abbrev pub fault_in : Decoding → InputFault
-fault_in a = if is_wrong a.place then misspelled a.form a.at else fault.Failed
+fault_in a = if is_wrong a.spot.place then misspelled a.form a.at else fault.Failed
+
+-- what a call fails for, and nothing else: its text goes wrong, the source of that failed, or it has some 2^64 characters
+abbrev pub HasCause : Decoding → (room : ℕ) → Type 0
+HasCause a room = (is_wrong a.spot.place ≡ true) ⊎ ((a.text_failed ≡ true) ⊎ ((2 ^ 64 ≤ a.at + room) ⊎ (2 ^ 64 ≤ a.spot.spare + room)))

@@ -1,8 +1,7 @@
 -- The characters of a text, by their codes in ASCII.
-use Rattle.std.specs.Prelude.{ℕ, ◌+◌, ◌-◌, ◌==◌, ◌&&◌, ◌||◌, nat_le, Bool, if◌then◌else◌, Option, Some, None, option_map}
+use Rattle.std.specs.Prelude.{ℕ, ◌+◌, ◌-◌, ◌==◌, ◌&&◌, ◌||◌, nat_le, Bool, if◌then◌else◌, Option, Some, None}
 use Rattle.jser_inputs.specs.declared.digit.Alphabet.{Alphabet}
 use Rattle.jser_inputs.specs.declared.digit.Alphabet.TheVariants as alphabet
-use Rattle.jser_inputs.specs.declared.digit.Digit.{Digit}
 
 -- white space is passed over
 abbrev pub is_space : ℕ → Bool
@@ -16,25 +15,15 @@ shared_value c =
     else if nat_le 48 c && nat_le c 57 then Some (c + 4)
     else None
 
-abbrev pub digit_of : Alphabet → ℕ → Digit
-digit_of alphabet value = record { value = value; alphabet = alphabet }
+-- the other two digits are `+` and `/` in the standard alphabet, `-` and `_` in the URL-safe one
 
--- a digit of one alphabet is none in a text of the other, and makes a text that one where it was in either
-abbrev pub standard_digit : Alphabet → ℕ → Option Digit
-standard_digit alphabet.Either value = Some (digit_of alphabet.Standard value)
-standard_digit alphabet.Standard value = Some (digit_of alphabet.Standard value)
-standard_digit alphabet.UrlSafe value = None
+abbrev pub standard_value : ℕ → Option ℕ
+standard_value c = if c == 0x2B then Some 62 else if c == 0x2F then Some 63 else shared_value c
 
-abbrev pub url_safe_digit : Alphabet → ℕ → Option Digit
-url_safe_digit alphabet.Either value = Some (digit_of alphabet.UrlSafe value)
-url_safe_digit alphabet.Standard value = None
-url_safe_digit alphabet.UrlSafe value = Some (digit_of alphabet.UrlSafe value)
+abbrev pub url_safe_value : ℕ → Option ℕ
+url_safe_value c = if c == 0x2D then Some 62 else if c == 0x5F then Some 63 else shared_value c
 
--- the digit: `+` and `/` are of the standard alphabet, `-` and `_` of the URL-safe one
-abbrev pub digit_in : Alphabet → ℕ → Option Digit
-digit_in alphabet c =
-    if c == 0x2B then standard_digit alphabet 62
-    else if c == 0x2F then standard_digit alphabet 63
-    else if c == 0x2D then url_safe_digit alphabet 62
-    else if c == 0x5F then url_safe_digit alphabet 63
-    else option_map (digit_of alphabet) (shared_value c)
+-- the value of a digit of this alphabet
+abbrev pub value_in : Alphabet → ℕ → Option ℕ
+value_in alphabet.Standard c = standard_value c
+value_in alphabet.UrlSafe c = url_safe_value c

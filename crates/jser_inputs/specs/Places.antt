@@ -1,16 +1,18 @@
 -- Where a text is, and what a character does there (RFC 4648, sections 3 to 5 and 8).
-use Rattle.std.specs.Prelude.{ℕ, ◌+◌, ◌*◌, ◌/◌, ◌%◌, ◌==◌, ◌<◌, Bool, true, false, if◌then◌else◌, Option, Some, None}
+use Rattle.std.specs.Prelude.{ℕ, ◌+◌, ◌-◌, ◌*◌, ◌/◌, ◌%◌, ◌^◌, ◌==◌, ◌<◌, ◌≤◌, Bool, true, false, if◌then◌else◌, Option, Some, None}
 use Rattle.hex.specs.Hex.{hex_digit_value}
 use Rattle.jser_inputs.specs.declared.form.Form.{Form}
 use Rattle.jser_inputs.specs.declared.form.Form.TheVariants as form
 use Rattle.jser_inputs.specs.declared.digit.Alphabet.{Alphabet}
 use Rattle.jser_inputs.specs.declared.digit.Alphabet.TheVariants as alphabet
-use Rattle.jser_inputs.specs.declared.digit.Digit.{Digit}
 use Rattle.jser_inputs.specs.declared.place.Place.{Place}
 use Rattle.jser_inputs.specs.declared.place.Place.TheVariants as place
 use Rattle.jser_inputs.specs.declared.place.Step.{Step}
 use Rattle.jser_inputs.specs.declared.place.Step.TheVariants as step
-use Rattle.jser_inputs.specs.Digits.{is_space, digit_in}
+use Rattle.jser_inputs.specs.declared.spot.Spot.{Spot}
+use Rattle.jser_inputs.specs.declared.spot.Move.{Move}
+use Rattle.jser_inputs.specs.declared.spot.Move.TheVariants as move
+use Rattle.jser_inputs.specs.Digits.{is_space, value_in}
 
 -- the bits that have not gone out are as many as the digits so far leave
 abbrev pub Fits : Place → Type 0
@@ -28,7 +30,8 @@ Fits place.Wrong = Unit {0}
 abbrev pub first_place : Form → Place
 first_place form.Binary = place.Bytes
 first_place form.Hex = place.High
-first_place form.Base64 = place.First alphabet.Either
+first_place form.Base64 = place.First alphabet.Standard
+first_place form.Base64Url = place.First alphabet.UrlSafe
 
 -- A text may end behind a pair or a group, or behind two or three digits of a group that leave no bits: with the
 -- padding or without it.
@@ -80,37 +83,37 @@ after_low high c = low_read high (hex_digit_value c)
 
 -- four digits have six bits each, and are three bytes
 
-abbrev pub first_read : Option Digit → Step
-first_read None = step.Wrong
-first_read (Some digit) = step.Goes (place.Second digit.alphabet digit.value)
+abbrev pub first_read : Alphabet → Option ℕ → Step
+first_read letters None = step.Wrong
+first_read letters (Some value) = step.Goes (place.Second letters value)
 
 abbrev pub after_first : Alphabet → ℕ → Step
-after_first letters c = first_read (digit_in letters c)
+after_first letters c = first_read letters (value_in letters c)
 
-abbrev pub second_read : ℕ → Option Digit → Step
-second_read bits None = step.Wrong
-second_read bits (Some digit) = step.Gives (bits * 4 + digit.value / 16) (place.Third digit.alphabet (digit.value % 16))
+abbrev pub second_read : Alphabet → ℕ → Option ℕ → Step
+second_read letters bits None = step.Wrong
+second_read letters bits (Some value) = step.Gives (bits * 4 + value / 16) (place.Third letters (value % 16))
 
 abbrev pub after_second : Alphabet → ℕ → ℕ → Step
-after_second letters bits c = second_read bits (digit_in letters c)
+after_second letters bits c = second_read letters bits (value_in letters c)
 
 -- padding, before which no bits are left
 abbrev pub pads : ℕ → Place → Step
 pads bits next = if bits == 0 then step.Goes next else step.Wrong
 
-abbrev pub third_read : ℕ → Option Digit → Step
-third_read bits None = step.Wrong
-third_read bits (Some digit) = step.Gives (bits * 16 + digit.value / 4) (place.Fourth digit.alphabet (digit.value % 4))
+abbrev pub third_read : Alphabet → ℕ → Option ℕ → Step
+third_read letters bits None = step.Wrong
+third_read letters bits (Some value) = step.Gives (bits * 16 + value / 4) (place.Fourth letters (value % 4))
 
 abbrev pub after_third : Alphabet → ℕ → ℕ → Step
-after_third letters bits c = if c == 0x3D then pads bits place.Padding else third_read bits (digit_in letters c)
+after_third letters bits c = if c == 0x3D then pads bits place.Padding else third_read letters bits (value_in letters c)
 
-abbrev pub fourth_read : ℕ → Option Digit → Step
-fourth_read bits None = step.Wrong
-fourth_read bits (Some digit) = step.Gives (bits * 64 + digit.value) (place.First digit.alphabet)
+abbrev pub fourth_read : Alphabet → ℕ → Option ℕ → Step
+fourth_read letters bits None = step.Wrong
+fourth_read letters bits (Some value) = step.Gives (bits * 64 + value) (place.First letters)
 
 abbrev pub after_fourth : Alphabet → ℕ → ℕ → Step
-after_fourth letters bits c = if c == 0x3D then pads bits place.Padded else fourth_read bits (digit_in letters c)
+after_fourth letters bits c = if c == 0x3D then pads bits place.Padded else fourth_read letters bits (value_in letters c)
 
 abbrev pub after_padding : ℕ → Step
 after_padding c = if c == 0x3D then step.Goes place.Padded else step.Wrong
@@ -128,17 +131,36 @@ step_by_place place.Padding c = after_padding c
 step_by_place place.Padded c = step.Wrong
 step_by_place place.Wrong c = step.Wrong
 
-abbrev pub step_over_space : Place → ℕ → Step
-step_over_space place.Bytes c = step.Gives c place.Bytes
-step_over_space place.High c = step.Goes place.High
-step_over_space (place.Low high) c = step.Goes (place.Low high)
-step_over_space (place.First letters) c = step.Goes (place.First letters)
-step_over_space (place.Second letters bits) c = step.Goes (place.Second letters bits)
-step_over_space (place.Third letters bits) c = step.Goes (place.Third letters bits)
-step_over_space (place.Fourth letters bits) c = step.Goes (place.Fourth letters bits)
-step_over_space place.Padding c = step.Goes place.Padding
-step_over_space place.Padded c = step.Goes place.Padded
-step_over_space place.Wrong c = step.Wrong
+-- ---- white space is passed over, as long as there is not too much of it
 
-abbrev pub step_of : Place → ℕ → Step
-step_of at c = if is_space c then step_over_space at c else step_by_place at c
+-- so many characters of white space may come before the first byte, and one more for each byte
+abbrev pub spare_space : ℕ
+spare_space = 2 ^ 20
+
+abbrev pub first_spot : Form → Spot
+first_spot form = record { place = first_place form; spare = spare_space }
+
+-- at the same place
+abbrev pub space_passed : Place → ℕ → Move
+space_passed at spare = if spare == 0 then move.Wrong else move.Goes (record { place = at; spare = spare - 1 })
+
+abbrev pub move_over_space : Place → ℕ → ℕ → Move
+move_over_space place.Bytes spare c = move.Gives c (record { place = place.Bytes; spare = spare })
+move_over_space place.Wrong spare c = move.Wrong
+move_over_space at spare c = space_passed at spare
+
+-- another character; a byte makes room for one more of white space, but where bytes come as they are
+abbrev pub moved : ℕ → Step → Move
+moved spare (step.Goes next) = move.Goes (record { place = next; spare = spare })
+moved spare (step.Gives byte place.Bytes) = move.Gives byte (record { place = place.Bytes; spare = spare })
+moved spare (step.Gives byte next) = move.Gives byte (record { place = next; spare = spare + 1 })
+moved spare step.Wrong = move.Wrong
+
+-- what holds of the spot behind a character
+abbrev pub FitsMove : ℕ → Move → Type 0
+FitsMove spare (move.Goes next) = Fits next.place × (next.spare ≤ spare)
+FitsMove spare (move.Gives byte next) = Fits next.place × (next.spare ≤ spare + 1)
+FitsMove spare move.Wrong = Unit {0}
+
+abbrev pub move_of : Spot → ℕ → Move
+move_of spot c = if is_space c then move_over_space spot.place spot.spare c else moved spot.spare (step_by_place spot.place c)

@@ -1,9 +1,10 @@
 //! The text of one read becomes bytes, in the place where it was read: no character completes more than one.
-ghost use Rattle.std.specs.Prelude.{◌≡◌, ◌≤◌, [], length, take};
-ghost use Rattle.jser_inputs.specs.Places.{Fits};
+ghost use Rattle.std.specs.Prelude.{◌≡◌, ◌≤◌, ◌<◌, ◌+◌, ◌^◌, ◌⊎◌, [], length, take, true};
+ghost use Rattle.jser_inputs.specs.Places.{Fits, is_wrong};
 ghost use Rattle.jser_inputs.specs.Spelled.{Reads};
 
-use crate::place::{Place, Step, step_of};
+use crate::place::Place;
+use crate::spot::{Move, Spot, move_of};
 
 /// How far the text of a read came.
 #[derive(Clone, Copy, Debug)]
@@ -13,25 +14,27 @@ pub(crate) struct Piece {
     /// How many of its characters are right.
     pub(crate) taken: usize,
     /// Where the text is behind them.
-    pub(crate) place: Place,
+    pub(crate) spot: Spot,
 }
 
 /// Puts the bytes that the first `count` characters of `buf` spell at the front of `buf`. Where the text goes wrong it stops.
 /// Bytes as they are stay where they are.
 #[tactic(auto, using(crate::proofs::ReadLemmas::as_they_are))]
-pub(crate) fn decode(start: Place, buf: &mut [u8], count: usize) -> Piece
-    requires fits { Fits start }
+pub(crate) fn decode(start: Spot, buf: &mut [u8], count: usize) -> Piece
+    requires fits { Fits start.place }
+    requires room { start.spare + count < 2 ^ 64 }
     requires inside { count ≤ length buf.old }
-    ensures reads { Reads start result.place (take count buf.old) [] (take result.given buf.new) result.taken }
-    ensures fits { Fits result.place }
+    ensures reads { Reads start result.spot (take count buf.old) [] (take result.given buf.new) result.taken }
+    ensures fits { Fits result.spot.place }
     ensures few { (result.given ≤ result.taken) × (result.taken ≤ count) }
+    ensures moves { (is_wrong result.spot.place ≡ true) ⊎ (result.taken ≡ count) }
     ensures size { length buf.new ≡ length buf.old }
 {
-    match start {
+    match start.place {
         Place::Bytes => Piece {
             given: count,
             taken: count,
-            place: Place::Bytes,
+            spot: start,
         },
         _ => decode_text(start, buf, count),
     }
@@ -39,29 +42,34 @@ pub(crate) fn decode(start: Place, buf: &mut [u8], count: usize) -> Piece
 
 /// The same, character by character.
 #[tactic(auto, using(crate::proofs::ReadLemmas::reads_none, crate::proofs::ReadLemmas::reads_goes, crate::proofs::ReadLemmas::reads_gives, crate::proofs::ReadLemmas::reads_wrong))]
-fn decode_text(start: Place, buf: &mut [u8], count: usize) -> Piece
-    requires fits { Fits start }
+fn decode_text(start: Spot, buf: &mut [u8], count: usize) -> Piece
+    requires fits { Fits start.place }
+    requires room { start.spare + count < 2 ^ 64 }
     requires inside { count ≤ length buf.old }
-    ensures reads { Reads start result.place (take count buf.old) [] (take result.given buf.new) result.taken }
-    ensures fits { Fits result.place }
+    ensures reads { Reads start result.spot (take count buf.old) [] (take result.given buf.new) result.taken }
+    ensures fits { Fits result.spot.place }
     ensures few { (result.given ≤ result.taken) × (result.taken ≤ count) }
+    ensures moves { (is_wrong result.spot.place ≡ true) ⊎ (result.taken ≡ count) }
     ensures size { length buf.new ≡ length buf.old }
 {
-    let mut place = start;
+    let mut spot = start;
     let mut given = 0;
     'characters: for taken in 0..count {
-        match step_of(place, buf[taken]) {
-            Step::Goes(next) => place = next,
-            Step::Gives(byte, next) => {
+        match move_of(spot, buf[taken]) {
+            Move::Goes(next) => spot = next,
+            Move::Gives(byte, next) => {
                 buf[given] = byte;
                 given += 1;
-                place = next;
+                spot = next;
             }
-            Step::Wrong => {
+            Move::Wrong => {
                 return Piece {
                     given,
                     taken,
-                    place: Place::Wrong,
+                    spot: Spot {
+                        place: Place::Wrong,
+                        spare: spot.spare,
+                    },
                 };
             }
         }
@@ -69,6 +77,6 @@ fn decode_text(start: Place, buf: &mut [u8], count: usize) -> Piece
     Piece {
         given,
         taken: count,
-        place,
+        spot,
     }
 }

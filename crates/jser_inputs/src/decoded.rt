@@ -1,14 +1,15 @@
 //! A source of the bytes that the text of another source spells.
-ghost use Rattle.std.specs.Prelude.{◌≡◌, ◌≤◌, ◌<◌, IfOk, IfSome, OnOk, OnErr, Ok, None, length, take, true, false, option_map};
+ghost use Rattle.std.specs.Prelude.{◌≡◌, ◌≢◌, ◌⊎◌, ◌≤◌, ◌<◌, IfOk, IfSome, OnOk, OnErr, Ok, None, length, take, true, false, option_map};
 ghost use Rattle.std.specs.Io.KnownBytes.{Consumes, IsAtEnd, Keeps, ReadConsumes};
-ghost use Rattle.jser_inputs.specs.Decoding.{bytes_to_come, right_in, fault_in, misspelled, KeepsNumber};
-ghost use Rattle.jser_inputs.specs.Places.{first_place, is_whole, is_wrong};
+ghost use Rattle.jser_inputs.specs.Decoding.{bytes_to_come, right_in, fault_in, misspelled, HasCause, KeepsNumber};
+ghost use Rattle.jser_inputs.specs.Places.{first_spot, is_whole, is_wrong};
 ghost use Rattle.jser_inputs.specs.Spelled.{right_until, spelling_of};
 
 use crate::decode::decode;
 use crate::fault::{Input, InputFault};
 use crate::form::Form;
-use crate::place::{Place, first_place, is_whole, is_wrong};
+use crate::place::{Place, is_whole, is_wrong};
+use crate::spot::{Spot, first_spot};
 use jser_prim::{Failed, Source};
 use std::marker::Model;
 
@@ -20,7 +21,7 @@ use std::marker::Model;
 pub struct Decoded<R: Source> {
     text: R,
     form: Form,
-    place: Place,
+    spot: Spot,
     at: u64,
     failed: bool,
 }
@@ -31,9 +32,9 @@ impl<R: Source> Model for Decoded<R> {
 
     ghost Value = { Decoding };
 
-    ghost view = { λ a. record { form = a.form; text = R.to_come a.text; place = a.place; at = a.at; has_failed = a.failed } };
+    ghost view = { λ a. record { form = a.form; text = R.to_come a.text; text_failed = R.has_failed a.text; spot = a.spot; at = a.at; has_failed = a.failed } };
 
-    ghost invariant = { λ a. Fits a.place };
+    ghost invariant = { λ a. Fits a.spot.place };
 }
 
 impl<R: Source> Decoded<R> {
@@ -42,12 +43,12 @@ impl<R: Source> Decoded<R> {
         ensures bytes { bytes_to_come result ≡ option_map (spelling_of form) (R.to_come «text») }
         ensures failed { result.has_failed ≡ false }
         ensures begins { (result.form ≡ form) × (result.at ≡ 0) }
-        ensures right { right_in result ≡ option_map (right_until (first_place form)) (R.to_come «text») }
+        ensures right { right_in result ≡ option_map (right_until (first_spot form)) (R.to_come «text») }
     {
         Decoded {
             text,
             form,
-            place: first_place(form),
+            spot: first_spot(form),
             at: 0,
             failed: false,
         }
@@ -72,11 +73,15 @@ impl<R: Source> Decoded<R> {
         ensures kept { OnErr result (Keeps (bytes_to_come self.old) (bytes_to_come self.new)) }
         ensures ok { OnOk result (self.new.has_failed ≡ self.old.has_failed) }
         ensures err { OnErr result (self.new.has_failed ≡ true) }
+        ensures cause { OnErr result (HasCause self.new (length buf.new)) }
+        ensures wrong { is_wrong self.old.spot.place ≡ true → result ≢ Ok None }
+        ensures moves { result ≡ Ok None → (is_wrong self.new.spot.place ≡ true) ⊎ (self.old.at < self.new.at) }
         ensures place { KeepsNumber (right_in self.old) (right_in self.new) }
         ensures form { self.new.form ≡ self.old.form }
         ensures size { length buf.new ≡ length buf.old }
     {
-        if is_wrong(self.place) || self.at > u64::MAX - buf.len() as u64 {
+        let most = u64::MAX - buf.len() as u64;
+        if is_wrong(self.spot.place) || self.at > most || self.spot.spare > most {
             return Err(self.fail());
         }
         let count = match self.text.take(buf) {
@@ -89,8 +94,8 @@ impl<R: Source> Decoded<R> {
                 Err(failed) => Err(failed),
             };
         }
-        let piece = decode(self.place, buf, count);
-        self.place = piece.place;
+        let piece = decode(self.spot, buf, count);
+        self.spot = piece.spot;
         self.at += piece.taken as u64;
         if piece.given == 0 {
             Ok(None)
@@ -101,13 +106,13 @@ impl<R: Source> Decoded<R> {
 
     /// The text has ended.
     fn end(&mut self) -> Result<(), Failed>
-        ensures whole { OnOk result ((self.new ≡ self.old) × (is_whole self.old.place ≡ true)) }
-        ensures cut { OnErr result ((self.new ≡ record self.old { place = Place.Wrong; has_failed = true }) × (is_whole self.old.place ≡ false)) }
+        ensures whole { OnOk result ((self.new ≡ self.old) × (is_whole self.old.spot.place ≡ true)) }
+        ensures cut { OnErr result ((self.new ≡ record self.old { spot = record self.old.spot { place = Place.Wrong }; has_failed = true }) × (is_whole self.old.spot.place ≡ false)) }
     {
-        if is_whole(self.place) {
+        if is_whole(self.spot.place) {
             return Ok(());
         }
-        self.place = Place::Wrong;
+        self.spot.place = Place::Wrong;
         Err(self.fail())
     }
 }
@@ -123,13 +128,15 @@ impl<R: Source> Source for Decoded<R> {
         ensures bytes { ReadConsumes (bytes_to_come self.old) (bytes_to_come self.new) result buf.new }
         ensures ok { OnOk result (self.new.has_failed ≡ self.old.has_failed) }
         ensures err { OnErr result (self.new.has_failed ≡ true) }
+        ensures cause { OnErr result (HasCause self.new (length buf.new)) }
         ensures place { KeepsNumber (right_in self.old) (right_in self.new) }
         ensures form { self.new.form ≡ self.old.form }
     {
         if buf.is_empty() {
             return Ok(0);
         }
-        'turns: for _ in 0..u64::MAX {
+        'turns: for turns in 0..u64::MAX {
+            let _ = turns;
             match self.turn(buf) {
                 Ok(Some(count)) => return Ok(count),
                 Ok(None) => {}
@@ -148,13 +155,13 @@ impl<R: Source> Input for Decoded<R> {
     ghost why_failed = { λ s. fault_in s };
 
     fn fault(&self) -> InputFault {
-        if !is_wrong(self.place) {
+        if !is_wrong(self.spot.place) {
             return InputFault::Failed;
         }
         match self.form {
             Form::Binary => InputFault::Failed,
             Form::Hex => InputFault::NotHexadecimal { at: self.at },
-            Form::Base64 => InputFault::NotBase64 { at: self.at },
+            Form::Base64 | Form::Base64Url => InputFault::NotBase64 { at: self.at },
         }
     }
 }

@@ -1,26 +1,15 @@
 //! The characters of a text: white space, and the digits with their values.
 ghost use Rattle.std.specs.Prelude.{◌≡◌, ◌<◌, IfSome};
 ghost use Rattle.hex.specs.Hex.{hex_digit_value};
-ghost use Rattle.jser_inputs.specs.Digits.{is_space, shared_value, standard_digit, url_safe_digit, digit_in};
+ghost use Rattle.jser_inputs.specs.Digits.{is_space, shared_value, standard_value, url_safe_value, value_in};
 
-/// Which of the two alphabets of base64 a text is in, as far as its digits tell.
+/// The two alphabets of base64. Each lacks the last two digits of the other.
 #[derive(Clone, Copy, PartialEq, Eq, Debug)]
 pub enum Alphabet {
-    /// Only digits so far that both have.
-    Either,
     /// That with `+` and `/`.
     Standard,
     /// That with `-` and `_`.
     UrlSafe,
-}
-
-/// A digit of base64.
-#[derive(Clone, Copy, PartialEq, Eq, Debug)]
-pub struct Digit {
-    /// Its value, below 64.
-    pub value: u8,
-    /// The alphabet of the text, with this digit.
-    pub alphabet: Alphabet,
 }
 
 /// Whether the character is passed over: a space, a tab, a line feed or a carriage return.
@@ -43,20 +32,38 @@ pub(crate) fn hex_digit(byte: u8) -> Option<u8>
     }
 }
 
-/// The value of a digit of base64, in a text of this alphabet so far. A digit that the alphabet lacks is none.
-pub(crate) fn base64_digit(alphabet: Alphabet, byte: u8) -> Option<Digit>
-    ensures digit { result ≡ digit_in alphabet byte }
-    ensures small { IfSome result (λ digit. digit.value < 64) }
+/// The value of a digit of this alphabet, below 64.
+pub(crate) fn base64_digit(alphabet: Alphabet, byte: u8) -> Option<u8>
+    ensures value { result ≡ value_in alphabet byte }
+    ensures small { IfSome result (λ value. value < 64) }
+{
+    match alphabet {
+        Alphabet::Standard => standard_value(byte),
+        Alphabet::UrlSafe => url_safe_value(byte),
+    }
+}
+
+/// The value of a digit of the standard alphabet.
+fn standard_value(byte: u8) -> Option<u8>
+    ensures value { result ≡ standard_value byte }
+    ensures small { IfSome result (λ value. value < 64) }
 {
     match byte {
-        b'+' => standard_digit(alphabet, 62),
-        b'/' => standard_digit(alphabet, 63),
-        b'-' => url_safe_digit(alphabet, 62),
-        b'_' => url_safe_digit(alphabet, 63),
-        _ => match shared_value(byte) {
-            Some(value) => Some(Digit { value, alphabet }),
-            None => None,
-        },
+        b'+' => Some(62),
+        b'/' => Some(63),
+        _ => shared_value(byte),
+    }
+}
+
+/// The value of a digit of the URL-safe alphabet.
+fn url_safe_value(byte: u8) -> Option<u8>
+    ensures value { result ≡ url_safe_value byte }
+    ensures small { IfSome result (λ value. value < 64) }
+{
+    match byte {
+        b'-' => Some(62),
+        b'_' => Some(63),
+        _ => shared_value(byte),
     }
 }
 
@@ -70,35 +77,5 @@ fn shared_value(byte: u8) -> Option<u8>
         b'a'..=b'z' => Some(byte - b'a' + 26),
         b'0'..=b'9' => Some(byte - b'0' + 52),
         _ => None,
-    }
-}
-
-/// A digit that only the standard alphabet has.
-fn standard_digit(alphabet: Alphabet, value: u8) -> Option<Digit>
-    requires { value < 64 }
-    ensures digit { result ≡ standard_digit alphabet value }
-    ensures small { IfSome result (λ digit. digit.value < 64) }
-{
-    match alphabet {
-        Alphabet::UrlSafe => None,
-        Alphabet::Either | Alphabet::Standard => Some(Digit {
-            value,
-            alphabet: Alphabet::Standard,
-        }),
-    }
-}
-
-/// A digit that only the URL-safe alphabet has.
-fn url_safe_digit(alphabet: Alphabet, value: u8) -> Option<Digit>
-    requires { value < 64 }
-    ensures digit { result ≡ url_safe_digit alphabet value }
-    ensures small { IfSome result (λ digit. digit.value < 64) }
-{
-    match alphabet {
-        Alphabet::Standard => None,
-        Alphabet::Either | Alphabet::UrlSafe => Some(Digit {
-            value,
-            alphabet: Alphabet::UrlSafe,
-        }),
     }
 }

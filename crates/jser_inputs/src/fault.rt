@@ -16,7 +16,7 @@ pub enum InputFault {
         /// ends too early.
         at: u64,
     },
-    /// The text is not base64.
+    /// The text is not base64 of its alphabet.
     NotBase64 {
         /// The same.
         at: u64,

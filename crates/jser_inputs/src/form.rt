@@ -7,6 +7,8 @@ pub enum Form {
     Binary,
     /// As hexadecimal digits in pairs, of either case (RFC 4648, section 8).
     Hex,
-    /// As base64 of the standard or the URL-safe alphabet, with or without padding (RFC 4648, sections 4 and 5).
+    /// As base64 of the standard alphabet, with padding at its end or none (RFC 4648, section 4).
     Base64,
+    /// As base64 of the URL-safe alphabet, with padding at its end or none (RFC 4648, section 5).
+    Base64Url,
 }

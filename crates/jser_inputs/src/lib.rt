@@ -10,6 +10,7 @@ mod digit;
 mod fault;
 mod form;
 mod place;
+mod spot;
 
 pub use decoded::Decoded;
 pub use fault::{Input, InputFault};

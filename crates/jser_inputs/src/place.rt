@@ -1,8 +1,8 @@
 //! Where a text is, character by character: in a pair of hexadecimal digits, or in a group of four of base64.
 ghost use Rattle.std.specs.Prelude.{◌≡◌, ◌<◌};
-ghost use Rattle.jser_inputs.specs.Places.{Fits, FitsStep, first_place, is_whole, is_wrong, step_of, step_over_space, step_by_place, after_high, after_low, after_first, after_second, after_third, after_fourth, after_padding, pads};
+ghost use Rattle.jser_inputs.specs.Places.{Fits, FitsStep, first_place, is_whole, is_wrong, step_by_place, after_high, after_low, after_first, after_second, after_third, after_fourth, after_padding, pads};
 
-use crate::digit::{Alphabet, base64_digit, hex_digit, is_space};
+use crate::digit::{Alphabet, base64_digit, hex_digit};
 use crate::form::Form;
 
 /// Where a text is.
@@ -71,7 +71,10 @@ pub(crate) fn first_place(form: Form) -> Place
         Form::Binary => Place::Bytes,
         Form::Hex => Place::High,
         Form::Base64 => Place::First {
-            alphabet: Alphabet::Either,
+            alphabet: Alphabet::Standard,
+        },
+        Form::Base64Url => Place::First {
+            alphabet: Alphabet::UrlSafe,
         },
     }
 }
@@ -97,34 +100,8 @@ pub(crate) fn is_wrong(place: Place) -> bool
     }
 }
 
-/// What a character does at a place.
-pub(crate) fn step_of(place: Place, byte: u8) -> Step
-    requires { Fits place }
-    ensures is { result ≡ step_of place byte }
-    ensures fits { FitsStep result }
-{
-    if is_space(byte) {
-        over_space(place, byte)
-    } else {
-        by_place(place, byte)
-    }
-}
-
-/// White space is passed over, but in bytes as they are.
-fn over_space(place: Place, byte: u8) -> Step
-    requires { Fits place }
-    ensures is { result ≡ step_over_space place byte }
-    ensures fits { FitsStep result }
-{
-    match place {
-        Place::Bytes => Step::Gives(byte, Place::Bytes),
-        Place::Wrong => Step::Wrong,
-        _ => Step::Goes(place),
-    }
-}
-
 /// What a character does that is no white space.
-fn by_place(place: Place, byte: u8) -> Step
+pub(crate) fn step_by_place(place: Place, byte: u8) -> Step
     requires { Fits place }
     ensures is { result ≡ step_by_place place byte }
     ensures fits { FitsStep result }
@@ -171,9 +148,9 @@ fn after_first(alphabet: Alphabet, byte: u8) -> Step
     ensures fits { FitsStep result }
 {
     match base64_digit(alphabet, byte) {
-        Some(digit) => Step::Goes(Place::Second {
-            alphabet: digit.alphabet,
-            bits: digit.value,
+        Some(value) => Step::Goes(Place::Second {
+            alphabet,
+            bits: value,
         }),
         None => Step::Wrong,
     }
@@ -186,11 +163,11 @@ fn after_second(alphabet: Alphabet, bits: u8, byte: u8) -> Step
     ensures fits { FitsStep result }
 {
     match base64_digit(alphabet, byte) {
-        Some(digit) => Step::Gives(
-            bits * 4 + digit.value / 16,
+        Some(value) => Step::Gives(
+            bits * 4 + value / 16,
             Place::Third {
-                alphabet: digit.alphabet,
-                bits: digit.value % 16,
+                alphabet,
+                bits: value % 16,
             },
         ),
         None => Step::Wrong,
@@ -207,11 +184,11 @@ fn after_third(alphabet: Alphabet, bits: u8, byte: u8) -> Step
         return pads(bits, Place::Padding);
     }
     match base64_digit(alphabet, byte) {
-        Some(digit) => Step::Gives(
-            bits * 16 + digit.value / 4,
+        Some(value) => Step::Gives(
+            bits * 16 + value / 4,
             Place::Fourth {
-                alphabet: digit.alphabet,
-                bits: digit.value % 4,
+                alphabet,
+                bits: value % 4,
             },
         ),
         None => Step::Wrong,
@@ -228,12 +205,7 @@ fn after_fourth(alphabet: Alphabet, bits: u8, byte: u8) -> Step
         return pads(bits, Place::Padded);
     }
     match base64_digit(alphabet, byte) {
-        Some(digit) => Step::Gives(
-            bits * 64 + digit.value,
-            Place::First {
-                alphabet: digit.alphabet,
-            },
-        ),
+        Some(value) => Step::Gives(bits * 64 + value, Place::First { alphabet }),
         None => Step::Wrong,
     }
 }

@@ -8,35 +8,26 @@ use Rattle.base64.specs.Rfc4648.{encode_symbols, padding_len}
 use Rattle.base64.proofs.Tables.{all_below_at}
 use Rattle.jser_inputs.specs.declared.digit.Alphabet.{Alphabet}
 use Rattle.jser_inputs.specs.declared.digit.Alphabet.TheVariants as alphabet
-use Rattle.jser_inputs.specs.declared.digit.Digit.{Digit}
 use Rattle.jser_inputs.specs.declared.place.Place.{Place}
 use Rattle.jser_inputs.specs.declared.place.Place.TheVariants as place
-use Rattle.jser_inputs.specs.declared.place.Step.TheVariants as step
-use Rattle.jser_inputs.specs.Digits.{digit_in, is_space}
-use Rattle.jser_inputs.specs.Places.{after_first, after_fourth, after_second, after_third, first_read, fourth_read, pads, second_read, step_of, third_read}
+use Rattle.jser_inputs.specs.declared.spot.Spot.{Spot}
+use Rattle.jser_inputs.specs.declared.spot.Move.TheVariants as move
+use Rattle.jser_inputs.specs.Digits.{value_in, is_space}
+use Rattle.jser_inputs.specs.Places.{first_read, fourth_read, move_of, move_over_space, moved, pads, second_read, spare_space, step_by_place, third_read}
 use Rattle.jser_inputs.specs.Spelled.{follows, spelled}
 use Rattle.uses_inputs.specs.Laws.{Base64IsSpelled}
 
 -- ---- the symbols of an alphabet are read as their places in it
 
--- a text of this alphabet, or of either so far
-abbrev is_of : Bool → Alphabet → Bool
-is_of plain alphabet.Either = true
-is_of plain alphabet.Standard = plain
-is_of plain alphabet.UrlSafe = not plain
+abbrev good : ℕ → Option ℕ → Bool
+good v None = false
+good v (Some value) = value == v
 
-abbrev good : Bool → ℕ → Option Digit → Bool
-good plain v None = false
-good plain v (Some digit) = (digit.value == v) && is_of plain digit.alphabet
+abbrev is_read : Alphabet → List ℕ → ℕ → Bool
+is_read a t v = not (is_space (slice_index t v)) && (not (slice_index t v == 0x3D) && good v (value_in a (slice_index t v)))
 
-abbrev is_read : Bool → List ℕ → Alphabet → ℕ → Bool
-is_read plain t a v = not (is_space (slice_index t v)) && (not (slice_index t v == 0x3D) && good plain v (digit_in a (slice_index t v)))
-
-record Read (plain : Bool) (a : Alphabet) (c v : ℕ) : Type 0 where
-  digit : Digit
-  is : digit_in a c ≡ Some digit
-  value : digit.value ≡ v
-  of : is_of plain digit.alphabet ≡ true
+record Read (a : Alphabet) (c v : ℕ) : Type 0 where
+  is : value_in a c ≡ Some v
   no_space : is_space c ≡ false
   no_pad : (c == 0x3D) ≡ false
 
@@ -48,165 +39,133 @@ is_not : (x : Bool) → not x ≡ true → x ≡ false
 is_not true e = cc e
 is_not false e = refl
 
-from_good : (plain : Bool) (v : ℕ) (found : Option Digit) → good plain v found ≡ true
-    → (digit : Digit) × ((found ≡ Some digit) × ((digit.value ≡ v) × (is_of plain digit.alphabet ≡ true)))
-from_good plain v None e = cc e
-from_good plain v (Some digit) e =
-    let two = both (digit.value == v) (is_of plain digit.alphabet) e in
-    (digit, (refl, (eqb-true digit.value v two.0, two.1)))
+from_good : (v : ℕ) (found : Option ℕ) → good v found ≡ true → found ≡ Some v
+from_good v None e = cc e
+from_good v (Some value) e = ap (λ n. Some n) (eqb-true value v e)
 
-from_test : (plain : Bool) (t : List ℕ) (a : Alphabet) (v : ℕ) → is_read plain t a v ≡ true → Read plain a (slice_index t v) v
-from_test plain t a v e =
+from_test : (a : Alphabet) (t : List ℕ) (v : ℕ) → is_read a t v ≡ true → Read a (slice_index t v) v
+from_test a t v e =
     let one = both (not (is_space (slice_index t v))) _ e in
     let two = both (not (slice_index t v == 0x3D)) _ one.1 in
-    let found = from_good plain v (digit_in a (slice_index t v)) two.1 in
     record {
-      digit = found.0;
-      is = found.1.0;
-      value = found.1.1.0;
-      of = found.1.1.1;
+      is = from_good v (value_in a (slice_index t v)) two.1;
       no_space = is_not (is_space (slice_index t v)) one.0;
       no_pad = is_not (slice_index t v == 0x3D) two.0;
     }
 
-abbrev AllRead : Bool → List ℕ → Type 0
-AllRead plain t = (a : Alphabet) → is_of plain a ≡ true → (v : ℕ) → v < 64 → Read plain a (slice_index t v) v
+abbrev AllRead : Alphabet → List ℕ → Type 0
+AllRead a t = (v : ℕ) → v < 64 → Read a (slice_index t v) v
 
-all_standard : AllRead true (engine_symbols standard)
-all_standard alphabet.Either e v small = from_test true (engine_symbols standard) alphabet.Either v (all_below_at (is_read true (engine_symbols standard) alphabet.Either) 64 v refl small)
-all_standard alphabet.Standard e v small = from_test true (engine_symbols standard) alphabet.Standard v (all_below_at (is_read true (engine_symbols standard) alphabet.Standard) 64 v refl small)
-all_standard alphabet.UrlSafe e v small = cc e
+all_standard : AllRead alphabet.Standard (engine_symbols standard)
+all_standard v small = from_test alphabet.Standard (engine_symbols standard) v (all_below_at (is_read alphabet.Standard (engine_symbols standard)) 64 v refl small)
 
-all_url_safe : AllRead false (engine_symbols url_safe)
-all_url_safe alphabet.Either e v small = from_test false (engine_symbols url_safe) alphabet.Either v (all_below_at (is_read false (engine_symbols url_safe) alphabet.Either) 64 v refl small)
-all_url_safe alphabet.Standard e v small = cc e
-all_url_safe alphabet.UrlSafe e v small = from_test false (engine_symbols url_safe) alphabet.UrlSafe v (all_below_at (is_read false (engine_symbols url_safe) alphabet.UrlSafe) 64 v refl small)
+all_url_safe : AllRead alphabet.UrlSafe (engine_symbols url_safe)
+all_url_safe v small = from_test alphabet.UrlSafe (engine_symbols url_safe) v (all_below_at (is_read alphabet.UrlSafe (engine_symbols url_safe)) 64 v refl small)
 
 -- ---- what they do at the places of a group
 
-step_first : (plain : Bool) (a : Alphabet) (c v : ℕ) (r : Read plain a c v) → step_of (place.First a) c ≡ step.Goes (place.Second r.digit.alphabet v)
-step_first plain a c v r =
-    ap (λ b. if b then step.Goes (place.First a) else after_first a c) r.no_space ∙ ap first_read r.is ∙ ap (λ x. step.Goes (place.Second r.digit.alphabet x)) r.value
+abbrev at : Place → ℕ → Spot
+at place spare = record { place = place; spare = spare }
 
-step_second : (plain : Bool) (a : Alphabet) (bits c v : ℕ) (r : Read plain a c v)
-    → step_of (place.Second a bits) c ≡ step.Gives (bits * 4 + v / 16) (place.Third r.digit.alphabet (v % 16))
-step_second plain a bits c v r =
-    ap (λ b. if b then step.Goes (place.Second a bits) else after_second a bits c) r.no_space ∙ ap (second_read bits) r.is
-    ∙ ap (λ x. step.Gives (bits * 4 + x / 16) (place.Third r.digit.alphabet (x % 16))) r.value
+-- a character that is no white space
+step_at : (place : Place) (s c : ℕ) → is_space c ≡ false → move_of (at place s) c ≡ moved s (step_by_place place c)
+step_at place s c none = ap (λ b. if b then move_over_space place s c else moved s (step_by_place place c)) none
 
-step_third : (plain : Bool) (a : Alphabet) (bits c v : ℕ) (r : Read plain a c v)
-    → step_of (place.Third a bits) c ≡ step.Gives (bits * 16 + v / 4) (place.Fourth r.digit.alphabet (v % 4))
-step_third plain a bits c v r =
-    ap (λ b. if b then step.Goes (place.Third a bits) else after_third a bits c) r.no_space
-    ∙ ap (λ b. if b then pads bits place.Padding else third_read bits (digit_in a c)) r.no_pad ∙ ap (third_read bits) r.is
-    ∙ ap (λ x. step.Gives (bits * 16 + x / 4) (place.Fourth r.digit.alphabet (x % 4))) r.value
+step_first : (a : Alphabet) (s c v : ℕ) → Read a c v → move_of (at (place.First a) s) c ≡ move.Goes (at (place.Second a v) s)
+step_first a s c v r = step_at (place.First a) s c r.no_space ∙ ap (λ o. moved s (first_read a o)) r.is
 
-step_fourth : (plain : Bool) (a : Alphabet) (bits c v : ℕ) (r : Read plain a c v)
-    → step_of (place.Fourth a bits) c ≡ step.Gives (bits * 64 + v) (place.First r.digit.alphabet)
-step_fourth plain a bits c v r =
-    ap (λ b. if b then step.Goes (place.Fourth a bits) else after_fourth a bits c) r.no_space
-    ∙ ap (λ b. if b then pads bits place.Padded else fourth_read bits (digit_in a c)) r.no_pad ∙ ap (fourth_read bits) r.is
-    ∙ ap (λ x. step.Gives (bits * 64 + x) (place.First r.digit.alphabet)) r.value
+step_second : (a : Alphabet) (bits s c v : ℕ) → Read a c v → move_of (at (place.Second a bits) s) c ≡ move.Gives (bits * 4 + v / 16) (at (place.Third a (v % 16)) (s + 1))
+step_second a bits s c v r = step_at (place.Second a bits) s c r.no_space ∙ ap (λ o. moved s (second_read a bits o)) r.is
+
+step_third : (a : Alphabet) (bits s c v : ℕ) → Read a c v → move_of (at (place.Third a bits) s) c ≡ move.Gives (bits * 16 + v / 4) (at (place.Fourth a (v % 4)) (s + 1))
+step_third a bits s c v r =
+    step_at (place.Third a bits) s c r.no_space
+    ∙ ap (λ b. moved s (if b then pads bits place.Padding else third_read a bits (value_in a c))) r.no_pad ∙ ap (λ o. moved s (third_read a bits o)) r.is
+
+step_fourth : (a : Alphabet) (bits s c v : ℕ) → Read a c v → move_of (at (place.Fourth a bits) s) c ≡ move.Gives (bits * 64 + v) (at (place.First a) (s + 1))
+step_fourth a bits s c v r =
+    step_at (place.Fourth a bits) s c r.no_space
+    ∙ ap (λ b. moved s (if b then pads bits place.Padded else fourth_read a bits (value_in a c))) r.no_pad ∙ ap (λ o. moved s (fourth_read a bits o)) r.is
 
 -- ---- a group, and its beginnings
 
--- where the text is behind two digits, three, and four
-record Behind (plain : Bool) (at : Alphabet → Place) (start : Place) (text out rest : List ℕ) : Type 0 where
-  a : Alphabet
-  of : is_of plain a ≡ true
-  is : spelled start (text ++ rest) ≡ out ++ spelled (at a) rest
-
-two_read : (plain : Bool) (t : List ℕ) → AllRead plain t → (a : Alphabet) → is_of plain a ≡ true → (v w : ℕ) (rest : List ℕ) → v < 64 → w < 64
-    → Behind plain (λ b. place.Third b (w % 16)) (place.First a) (slice_index t v ∷ slice_index t w ∷ []) ((v * 4 + w / 16) ∷ []) rest
+two_read : (a : Alphabet) (t : List ℕ) → AllRead a t → (s v w : ℕ) (rest : List ℕ) → v < 64 → w < 64
+    → spelled (at (place.First a) s) (slice_index t v ∷ slice_index t w ∷ rest) ≡ (v * 4 + w / 16) ∷ spelled (at (place.Third a (w % 16)) (s + 1)) rest
 unfolding spelled
-two_read plain t all a of v w rest sv sw =
-    let r = all a of v sv in
-    let q = all r.digit.alphabet r.of w sw in
-    record {
-      a = q.digit.alphabet;
-      of = q.of;
-      is = ap (λ s. follows s (λ next. spelled next (slice_index t w ∷ rest))) (step_first plain a (slice_index t v) v r)
-          ∙ ap (λ s. follows s (λ next. spelled next rest)) (step_second plain r.digit.alphabet v (slice_index t w) w q);
-    }
+two_read a t all s v w rest sv sw =
+    ap (λ m. follows m (λ next. spelled next (slice_index t w ∷ rest))) (step_first a s (slice_index t v) v (all v sv))
+    ∙ ap (λ m. follows m (λ next. spelled next rest)) (step_second a v s (slice_index t w) w (all w sw))
 
-three_read : (plain : Bool) (t : List ℕ) → AllRead plain t → (a : Alphabet) → is_of plain a ≡ true → (v w x : ℕ) (rest : List ℕ) → v < 64 → w < 64 → x < 64
-    → Behind plain (λ b. place.Fourth b (x % 4)) (place.First a) (slice_index t v ∷ slice_index t w ∷ slice_index t x ∷ []) ((v * 4 + w / 16) ∷ (w % 16 * 16 + x / 4) ∷ []) rest
+three_read : (a : Alphabet) (t : List ℕ) → AllRead a t → (s v w x : ℕ) (rest : List ℕ) → v < 64 → w < 64 → x < 64
+    → spelled (at (place.First a) s) (slice_index t v ∷ slice_index t w ∷ slice_index t x ∷ rest)
+    ≡ (v * 4 + w / 16) ∷ (w % 16 * 16 + x / 4) ∷ spelled (at (place.Fourth a (x % 4)) (s + 1 + 1)) rest
 unfolding spelled
-three_read plain t all a of v w x rest sv sw sx =
-    let two = two_read plain t all a of v w (slice_index t x ∷ rest) sv sw in
-    let r = all two.a two.of x sx in
-    record {
-      a = r.digit.alphabet;
-      of = r.of;
-      is = two.is ∙ ap (λ s. (v * 4 + w / 16) ∷ follows s (λ next. spelled next rest)) (step_third plain two.a (w % 16) (slice_index t x) x r);
-    }
+three_read a t all s v w x rest sv sw sx =
+    two_read a t all s v w (slice_index t x ∷ rest) sv sw
+    ∙ ap (λ m. (v * 4 + w / 16) ∷ follows m (λ next. spelled next rest)) (step_third a (w % 16) (s + 1) (slice_index t x) x (all x sx))
 
-four_read : (plain : Bool) (t : List ℕ) → AllRead plain t → (a : Alphabet) → is_of plain a ≡ true → (v w x y : ℕ) (rest : List ℕ) → v < 64 → w < 64 → x < 64 → y < 64
-    → Behind plain place.First (place.First a) (slice_index t v ∷ slice_index t w ∷ slice_index t x ∷ slice_index t y ∷ [])
-    ((v * 4 + w / 16) ∷ (w % 16 * 16 + x / 4) ∷ (x % 4 * 64 + y) ∷ []) rest
+four_read : (a : Alphabet) (t : List ℕ) → AllRead a t → (s v w x y : ℕ) (rest : List ℕ) → v < 64 → w < 64 → x < 64 → y < 64
+    → spelled (at (place.First a) s) (slice_index t v ∷ slice_index t w ∷ slice_index t x ∷ slice_index t y ∷ rest)
+    ≡ (v * 4 + w / 16) ∷ (w % 16 * 16 + x / 4) ∷ (x % 4 * 64 + y) ∷ spelled (at (place.First a) (s + 1 + 1 + 1)) rest
 unfolding spelled
-four_read plain t all a of v w x y rest sv sw sx sy =
-    let three = three_read plain t all a of v w x (slice_index t y ∷ rest) sv sw sx in
-    let r = all three.a three.of y sy in
-    record {
-      a = r.digit.alphabet;
-      of = r.of;
-      is = three.is ∙ ap (λ s. (v * 4 + w / 16) ∷ (w % 16 * 16 + x / 4) ∷ follows s (λ next. spelled next rest)) (step_fourth plain three.a (x % 4) (slice_index t y) y r);
-    }
+four_read a t all s v w x y rest sv sw sx sy =
+    three_read a t all s v w x (slice_index t y ∷ rest) sv sw sx
+    ∙ ap (λ m. (v * 4 + w / 16) ∷ (w % 16 * 16 + x / 4) ∷ follows m (λ next. spelled next rest)) (step_fourth a (x % 4) (s + 1 + 1) (slice_index t y) y (all y sy))
 
 -- ---- the end
 
 abbrev IsTail : (n : ℕ) → List ℕ → Type 0
 IsTail n tail = (tail ≡ []) ⊎ (tail ≡ replicate (padding_len n) 0x3D)
 
-ends_third : (a : Alphabet) (bits : ℕ) (tail : List ℕ) → bits ≡ 0 → (tail ≡ []) ⊎ (tail ≡ 0x3D ∷ 0x3D ∷ []) → spelled (place.Third a bits) tail ≡ []
+ends_third : (a : Alphabet) (bits s : ℕ) (tail : List ℕ) → bits ≡ 0 → (tail ≡ []) ⊎ (tail ≡ 0x3D ∷ 0x3D ∷ []) → spelled (at (place.Third a bits) s) tail ≡ []
 unfolding spelled
-ends_third a bits tail none (inl e) = ap (spelled (place.Third a bits)) e ∙ ap (λ n. spelled (place.Third a n) []) none
-ends_third a bits tail none (inr e) = ap (spelled (place.Third a bits)) e ∙ ap (λ n. spelled (place.Third a n) (0x3D ∷ 0x3D ∷ [])) none
+ends_third a bits s tail none (inl e) = ap (spelled (at (place.Third a bits) s)) e ∙ ap (λ n. spelled (at (place.Third a n) s) []) none
+ends_third a bits s tail none (inr e) = ap (spelled (at (place.Third a bits) s)) e ∙ ap (λ n. spelled (at (place.Third a n) s) (0x3D ∷ 0x3D ∷ [])) none
 
-ends_fourth : (a : Alphabet) (bits : ℕ) (tail : List ℕ) → bits ≡ 0 → (tail ≡ []) ⊎ (tail ≡ 0x3D ∷ []) → spelled (place.Fourth a bits) tail ≡ []
+ends_fourth : (a : Alphabet) (bits s : ℕ) (tail : List ℕ) → bits ≡ 0 → (tail ≡ []) ⊎ (tail ≡ 0x3D ∷ []) → spelled (at (place.Fourth a bits) s) tail ≡ []
 unfolding spelled
-ends_fourth a bits tail none (inl e) = ap (spelled (place.Fourth a bits)) e ∙ ap (λ n. spelled (place.Fourth a n) []) none
-ends_fourth a bits tail none (inr e) = ap (spelled (place.Fourth a bits)) e ∙ ap (λ n. spelled (place.Fourth a n) (0x3D ∷ [])) none
+ends_fourth a bits s tail none (inl e) = ap (spelled (at (place.Fourth a bits) s)) e ∙ ap (λ n. spelled (at (place.Fourth a n) s) []) none
+ends_fourth a bits s tail none (inr e) = ap (spelled (at (place.Fourth a bits) s)) e ∙ ap (λ n. spelled (at (place.Fourth a n) s) (0x3D ∷ [])) none
 
-ends_first : (a : Alphabet) (tail : List ℕ) → IsTail 0 tail → spelled (place.First a) tail ≡ []
+ends_first : (a : Alphabet) (s : ℕ) (tail : List ℕ) → IsTail 0 tail → spelled (at (place.First a) s) tail ≡ []
 unfolding spelled
-ends_first a tail (inl e) = ap (spelled (place.First a)) e
-ends_first a tail (inr e) = ap (spelled (place.First a)) e
+ends_first a s tail (inl e) = ap (spelled (at (place.First a) s)) e
+ends_first a s tail (inr e) = ap (spelled (at (place.First a) s)) e
 
-spelled_encoded : (plain : Bool) (t : List ℕ) → AllRead plain t → (a : Alphabet) → is_of plain a ≡ true → (bytes tail : List ℕ) → IsBytes bytes → IsTail (length bytes) tail
-    → spelled (place.First a) (encode_symbols t bytes ++ tail) ≡ bytes
+spelled_encoded : (a : Alphabet) (t : List ℕ) → AllRead a t → (s : ℕ) (bytes tail : List ℕ) → IsBytes bytes → IsTail (length bytes) tail
+    → spelled (at (place.First a) s) (encode_symbols t bytes ++ tail) ≡ bytes
 unfolding encode_symbols
-spelled_encoded plain t all a of [] tail fits ends = ends_first a tail ends
-spelled_encoded plain t all a of (x ∷ []) tail fits ends =
+spelled_encoded a t all s [] tail fits ends = ends_first a s tail ends
+spelled_encoded a t all s (x ∷ []) tail fits ends =
     let sx : x < 256 = fits 0 in
-    let two = two_read plain t all a of (x / 4) (x % 4 * 16) tail (omega arith) (omega arith) in
     let whole : x / 4 * 4 + x % 4 * 16 / 16 ≡ x = omega arith in
-    two.is ∙ ap (λ v. v ∷ spelled (place.Third two.a (x % 4 * 16 % 16)) tail) whole ∙ ap (λ xs. x ∷ xs) (ends_third two.a (x % 4 * 16 % 16) tail (omega arith) ends)
-spelled_encoded plain t all a of (x ∷ y ∷ []) tail fits ends =
+    two_read a t all s (x / 4) (x % 4 * 16) tail (omega arith) (omega arith)
+    ∙ ap (λ v. v ∷ spelled (at (place.Third a (x % 4 * 16 % 16)) (s + 1)) tail) whole ∙ ap (λ xs. x ∷ xs) (ends_third a (x % 4 * 16 % 16) (s + 1) tail (omega arith) ends)
+spelled_encoded a t all s (x ∷ y ∷ []) tail fits ends =
     let sx : x < 256 = fits 0 in
     let sy : y < 256 = fits 1 in
-    let three = three_read plain t all a of (x / 4) (x % 4 * 16 + y / 16) (y % 16 * 4) tail (omega arith) (omega arith) (omega arith) in
     let one : x / 4 * 4 + (x % 4 * 16 + y / 16) / 16 ≡ x = omega arith in
     let other : (x % 4 * 16 + y / 16) % 16 * 16 + y % 16 * 4 / 4 ≡ y = omega arith in
-    three.is ∙ ap (λ v. v ∷ ((x % 4 * 16 + y / 16) % 16 * 16 + y % 16 * 4 / 4) ∷ spelled (place.Fourth three.a (y % 16 * 4 % 4)) tail) one
-    ∙ ap (λ v. x ∷ v ∷ spelled (place.Fourth three.a (y % 16 * 4 % 4)) tail) other ∙ ap (λ xs. x ∷ y ∷ xs) (ends_fourth three.a (y % 16 * 4 % 4) tail (omega arith) ends)
-spelled_encoded plain t all a of (x ∷ y ∷ z ∷ rest) tail fits ends =
+    three_read a t all s (x / 4) (x % 4 * 16 + y / 16) (y % 16 * 4) tail (omega arith) (omega arith) (omega arith)
+    ∙ ap (λ v. v ∷ ((x % 4 * 16 + y / 16) % 16 * 16 + y % 16 * 4 / 4) ∷ spelled (at (place.Fourth a (y % 16 * 4 % 4)) (s + 1 + 1)) tail) one
+    ∙ ap (λ v. x ∷ v ∷ spelled (at (place.Fourth a (y % 16 * 4 % 4)) (s + 1 + 1)) tail) other
+    ∙ ap (λ xs. x ∷ y ∷ xs) (ends_fourth a (y % 16 * 4 % 4) (s + 1 + 1) tail (omega arith) ends)
+spelled_encoded a t all s (x ∷ y ∷ z ∷ rest) tail fits ends =
     let sx : x < 256 = fits 0 in
     let sy : y < 256 = fits 1 in
     let sz : z < 256 = fits 2 in
-    let four = four_read plain t all a of (x / 4) (x % 4 * 16 + y / 16) (y % 16 * 4 + z / 64) (z % 64) (encode_symbols t rest ++ tail) (omega arith) (omega arith) (omega arith) (omega arith) in
     let one : x / 4 * 4 + (x % 4 * 16 + y / 16) / 16 ≡ x = omega arith in
     let two : (x % 4 * 16 + y / 16) % 16 * 16 + (y % 16 * 4 + z / 64) / 4 ≡ y = omega arith in
     let three : (y % 16 * 4 + z / 64) % 4 * 64 + z % 64 ≡ z = omega arith in
     let same : padding_len (length (x ∷ y ∷ z ∷ rest)) ≡ padding_len (length rest) = omega arith in
-    four.is ∙ (λ k. one k ∷ two k ∷ three k ∷ spelled (place.First four.a) (encode_symbols t rest ++ tail))
-    ∙ ap (λ xs. x ∷ y ∷ z ∷ xs) (spelled_encoded plain t all four.a four.of rest tail (λ k. fits (suc (suc (suc k)))) (subst (λ n. (tail ≡ []) ⊎ (tail ≡ replicate n 0x3D)) same ends))
+    four_read a t all s (x / 4) (x % 4 * 16 + y / 16) (y % 16 * 4 + z / 64) (z % 64) (encode_symbols t rest ++ tail) (omega arith) (omega arith) (omega arith) (omega arith)
+    ∙ (λ k. one k ∷ two k ∷ three k ∷ spelled (at (place.First a) (s + 1 + 1 + 1)) (encode_symbols t rest ++ tail))
+    ∙ ap (λ xs. x ∷ y ∷ z ∷ xs) (spelled_encoded a t all (s + 1 + 1 + 1) rest tail (λ k. fits (suc (suc (suc k)))) (subst (λ n. (tail ≡ []) ⊎ (tail ≡ replicate n 0x3D)) same ends))
 
 pub base64_is_spelled : Base64IsSpelled
 base64_is_spelled bytes fits = (
-  spelled_encoded true (engine_symbols standard) all_standard alphabet.Either refl bytes _ fits (inr refl),
-  spelled_encoded true (engine_symbols standard) all_standard alphabet.Either refl bytes _ fits (inl refl),
-  spelled_encoded false (engine_symbols url_safe) all_url_safe alphabet.Either refl bytes _ fits (inr refl),
-  spelled_encoded false (engine_symbols url_safe) all_url_safe alphabet.Either refl bytes _ fits (inl refl),
+  spelled_encoded alphabet.Standard (engine_symbols standard) all_standard spare_space bytes _ fits (inr refl),
+  spelled_encoded alphabet.Standard (engine_symbols standard) all_standard spare_space bytes _ fits (inl refl),
+  spelled_encoded alphabet.UrlSafe (engine_symbols url_safe) all_url_safe spare_space bytes _ fits (inr refl),
+  spelled_encoded alphabet.UrlSafe (engine_symbols url_safe) all_url_safe spare_space bytes _ fits (inl refl),
 )

@@ -10,8 +10,8 @@ abbrev pub HexIsSpelled : Type 0
 HexIsSpelled =
     (bytes : List ℕ) → IsBytes bytes → (spelling_of form.Hex (encode_lower bytes) ≡ bytes) × (spelling_of form.Hex (encode_upper bytes) ≡ bytes)
 
--- the standard alphabet with padding and without it, and the URL-safe one
+-- each alphabet in its own form, with padding and without it
 abbrev pub Base64IsSpelled : Type 0
 Base64IsSpelled =
     (bytes : List ℕ) → IsBytes bytes → (spelling_of form.Base64 (encode_of standard bytes) ≡ bytes) × (spelling_of form.Base64 (encode_of standard_no_pad bytes) ≡ bytes)
-    × (spelling_of form.Base64 (encode_of url_safe bytes) ≡ bytes) × (spelling_of form.Base64 (encode_of url_safe_no_pad bytes) ≡ bytes)
+    × (spelling_of form.Base64Url (encode_of url_safe bytes) ≡ bytes) × (spelling_of form.Base64Url (encode_of url_safe_no_pad bytes) ≡ bytes)

@@ -6,7 +6,7 @@ pub fn hex_is_spelled()
     ensures { HexIsSpelled }
 {}
 
-/// Bytes that are written in base64, of either alphabet, with padding or without it, are spelled by that text.
+/// Bytes that are written in base64, of either alphabet, with padding or without it, are spelled by that text in its own form.
 pub fn base64_is_spelled()
     ensures { Base64IsSpelled }
 {}

@@ -1,5 +1,7 @@
-use Rattle.std.proofs.Common.{◌≡◌, length}
+use Rattle.std.proofs.Common.{◌≡◌, ◌≤◌, true, length}
+use Rattle.std.specs.Prelude.{◌⊎◌}
 use Rattle.std.specs.Io.KnownBytes.{Keeps}
+use Rattle.jser_inputs.specs.Places.{is_wrong}
 use Rattle.jser_inputs.specs.Decoding.{bytes_to_come, right_in, KeepsNumber}
 use Rattle.jser_inputs.proofs.decoded.DecodedSource.take.Given as goal
 
@@ -11,4 +13,5 @@ invariant-turns g l = record {
   form : l.self.form ≡ l.fn.self.form;
   failed : l.self.has_failed ≡ l.fn.self.has_failed;
   size : length l.buf ≡ length l.fn.buf;
+  counted : (is_wrong l.self.spot.place ≡ true) ⊎ (l.turns ≤ l.self.at);
 }
