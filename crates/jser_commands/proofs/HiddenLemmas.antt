@@ -23,7 +23,7 @@ use Rattle.jser_commands.specs.declared.list_anywhere.Whole.{Whole}
 use Rattle.jser_commands.specs.Lines.{AppendsSome, KeptOrCut, KeptOrSaidSome, SaysListedAnywhere, SaysRefusal, hidden_lines, words_on}
 use Rattle.jser_commands.proofs.Lines.{yes_cut}
 use Rattle.jser_commands.specs.Counts.{tallies_of}
-use Rattle.jser_commands.specs.Hidden.{has_place, hidden_in, hidden_of, is_class, is_hidden, once_each}
+use Rattle.jser_commands.specs.Hidden.{has_place, hidden_in, hidden_of, is_class, is_hidden, is_unchecked, once_each}
 use Rattle.jser_commands.specs.Places.{HasWhole, KeepsPlaces, NotesPlace, lines_of_both, names_in_tallies}
 
 -- whether a name was counted
@@ -41,14 +41,24 @@ found_is name (e ∷ es) = by (bytes_eq name e.0.now) (found_is name es)
     by false h = h
 
 pub counted_is : (name : List ℕ) (entries : List (Bor (List ℕ) × ℕ)) (times : ℕ) → lookup (λ key. bytes_eq name key.now) entries ≡ Some times
-    → false ≡ is_hidden (names_in_tallies (tallies_of entries)) name
+    → false ≡ is_unchecked (names_in_tallies (tallies_of entries)) name
 counted_is name entries times e =
     sym (ap (λ b. if b then false else is_class (element_of name)) (sym (found_is name entries) ∙ ap is_found e))
 
 pub uncounted_is : (name : List ℕ) (entries : List (Bor (List ℕ) × ℕ)) → lookup (λ key. bytes_eq name key.now) entries ≡ None
-    → is_class (element_of name) ≡ is_hidden (names_in_tallies (tallies_of entries)) name
+    → is_class (element_of name) ≡ is_unchecked (names_in_tallies (tallies_of entries)) name
 uncounted_is name entries e =
     sym (ap (λ b. if b then false else is_class (element_of name)) (sym (found_is name entries) ∙ ap is_found e))
+
+pub text_counted : (text class : List ℕ) (entries : List (Bor (List ℕ) × ℕ)) (times : ℕ) → lookup (λ key. bytes_eq text key.now) entries ≡ Some times
+    → false ≡ is_hidden (names_in_tallies (tallies_of entries)) text class
+text_counted text class entries times e =
+    sym (ap (λ b. if b then false else is_unchecked (names_in_tallies (tallies_of entries)) class) (sym (found_is text entries) ∙ ap is_found e))
+
+pub text_uncounted : (text class : List ℕ) (entries : List (Bor (List ℕ) × ℕ)) → lookup (λ key. bytes_eq text key.now) entries ≡ None
+    → is_unchecked (names_in_tallies (tallies_of entries)) class ≡ is_hidden (names_in_tallies (tallies_of entries)) text class
+text_uncounted text class entries e =
+    sym (ap (λ b. if b then false else is_unchecked (names_in_tallies (tallies_of entries)) class) (sym (found_is text entries) ∙ ap is_found e))
 
 -- ---- one name after another
 
@@ -107,7 +117,7 @@ gathers_same checked all left rest name noted new hidden is_new g next inside no
     record {
       seen = g.seen;
       keeps = subst (λ n. KeepsPlaces n g.seen) (sym notes.noted) (keeps_same noted g.seen name.at inside has g.keeps);
-      so = ap (λ b. hidden ++ hidden_of checked (if b then once_each g.seen rest else name.units ∷ once_each (name.at ∷ g.seen) rest)) (sym has)
+      so = ap (λ b. hidden ++ hidden_of checked (if b then once_each g.seen rest else name ∷ once_each (name.at ∷ g.seen) rest)) (sym has)
           ∙ sym (ap (λ names. hidden ++ hidden_of checked (once_each g.seen names)) next) ∙ g.so;
     }
   where
@@ -118,10 +128,10 @@ gathers_same checked all left rest name noted new hidden is_new g next inside no
 -- one whose place was not
 new_step : (checked : List (List ℕ)) (all left rest : List Named) (name : Named) (noted new : List Bool) (hidden : List (List ℕ)) (is_new : Bool)
     → (g : Gathers checked all left noted hidden) → left ≡ name ∷ rest → name.at < length noted → NotesPlace name.at noted new is_new → is_new ≡ true
-    → hidden ++ hidden_of checked (name.units ∷ once_each (name.at ∷ g.seen) rest) ≡ hidden_of checked (once_each [] all)
+    → hidden ++ hidden_of checked (name ∷ once_each (name.at ∷ g.seen) rest) ≡ hidden_of checked (once_each [] all)
 new_step checked all left rest name noted new hidden is_new g next inside notes is =
     let none : has_place name.at g.seen ≡ false = sym (g.keeps.keeps name.at inside) ∙ not_true (get_or noted name.at false) (sym notes.is ∙ is) in
-    ap (λ b. hidden ++ hidden_of checked (if b then once_each g.seen rest else name.units ∷ once_each (name.at ∷ g.seen) rest)) (sym none)
+    ap (λ b. hidden ++ hidden_of checked (if b then once_each g.seen rest else name ∷ once_each (name.at ∷ g.seen) rest)) (sym none)
     ∙ sym (ap (λ names. hidden ++ hidden_of checked (once_each g.seen names)) next) ∙ g.so
   where
     not_true : (b : Bool) → not b ≡ true → b ≡ false
@@ -130,7 +140,7 @@ new_step checked all left rest name noted new hidden is_new g next inside notes 
 
 pub gathers_over : (checked : List (List ℕ)) (all left rest : List Named) (name : Named) (noted new : List Bool) (hidden : List (List ℕ)) (is_new : Bool)
     → Gathers checked all left noted hidden → left ≡ name ∷ rest → name.at < length noted → NotesPlace name.at noted new is_new → is_new ≡ true
-    → is_hidden checked name.units ≡ false → Gathers checked all rest new hidden
+    → is_hidden checked name.text name.units ≡ false → Gathers checked all rest new hidden
 gathers_over checked all left rest name noted new hidden is_new g next inside notes is plain = record {
   seen = name.at ∷ g.seen;
   keeps = subst (λ n. KeepsPlaces n (name.at ∷ g.seen)) (sym notes.noted) (keeps_more noted g.seen name.at inside g.keeps);
@@ -140,13 +150,13 @@ gathers_over checked all left rest name noted new hidden is_new g next inside no
 
 pub gathers_more : (checked : List (List ℕ)) (all left rest : List Named) (name : Named) (noted new : List Bool) (hidden more : List (List ℕ)) (is_new : Bool)
     → Gathers checked all left noted hidden → left ≡ name ∷ rest → name.at < length noted → NotesPlace name.at noted new is_new → is_new ≡ true
-    → (asked put : List ℕ) → asked ≡ name.units → put ≡ name.units → is_hidden checked asked ≡ true → more ≡ hidden ++ put ∷ [] → Gathers checked all rest new more
-gathers_more checked all left rest name noted new hidden more is_new g next inside notes is asked put its_units its_copy hides pushed = record {
+    → (text asked put : List ℕ) → text ≡ name.text → asked ≡ name.units → put ≡ name.units → is_hidden checked text asked ≡ true → more ≡ hidden ++ put ∷ [] → Gathers checked all rest new more
+gathers_more checked all left rest name noted new hidden more is_new g next inside notes is text asked put its_text its_units its_copy hides pushed = record {
   seen = name.at ∷ g.seen;
   keeps = subst (λ n. KeepsPlaces n (name.at ∷ g.seen)) (sym notes.noted) (keeps_more noted g.seen name.at inside g.keeps);
   so = ap (λ names. names ++ hidden_of checked (once_each (name.at ∷ g.seen) rest)) (pushed ∙ ap (λ units. hidden ++ units ∷ []) its_copy)
       ∙ append_assoc hidden (name.units ∷ []) (hidden_of checked (once_each (name.at ∷ g.seen) rest))
-      ∙ ap (λ b. hidden ++ (if b then name.units ∷ hidden_of checked (once_each (name.at ∷ g.seen) rest) else hidden_of checked (once_each (name.at ∷ g.seen) rest))) (sym (sym (ap (is_hidden checked) its_units) ∙ hides))
+      ∙ ap (λ b. hidden ++ (if b then name.units ∷ hidden_of checked (once_each (name.at ∷ g.seen) rest) else hidden_of checked (once_each (name.at ∷ g.seen) rest))) (sym (sym (ap (λ (x : List ℕ). is_hidden checked x asked) its_text ∙ ap (λ (x : List ℕ). is_hidden checked name.text x) its_units) ∙ hides))
       ∙ new_step checked all left rest name noted new hidden is_new g next inside notes is;
 }
 
@@ -194,12 +204,13 @@ counted_all m tallies (n ∷ ns) =
     ∙ ap (λ b. if b then true else has_name m ns) (counted_one m n tallies)
     ∙ or_more (has_name m (names_in_tallies tallies)) (bytes_eq m n) (has_name m ns)
 
-same_hidden : (names hidden : List (List ℕ)) → hidden_of (names_in_tallies (tally_all [] names)) hidden ≡ hidden_of names hidden
+same_hidden : (names : List (List ℕ)) (hidden : List Named) → hidden_of (names_in_tallies (tally_all [] names)) hidden ≡ hidden_of names hidden
 same_hidden names [] = refl
 same_hidden names (n ∷ ns) =
-    ap (λ b. if (if b then false else is_class (element_of n)) then n ∷ hidden_of (names_in_tallies (tally_all [] names)) ns else hidden_of (names_in_tallies (tally_all [] names)) ns)
-    (counted_all n [] names)
-    ∙ ap (λ xs. if is_hidden names n then n ∷ xs else xs) (same_hidden names ns)
+    let tallied = names_in_tallies (tally_all [] names) in
+    ap (λ b. if (if b then false else is_unchecked tallied n.units) then n.units ∷ hidden_of tallied ns else hidden_of tallied ns) (counted_all n.text [] names)
+    ∙ ap (λ b. if (if has_name n.text names then false else (if b then false else is_class (element_of n.units))) then n.units ∷ hidden_of tallied ns else hidden_of tallied ns) (counted_all n.units [] names)
+    ∙ ap (λ xs. if is_hidden names n.text n.units then n.units ∷ xs else xs) (same_hidden names ns)
 
 -- the lines of both, by what was counted
 pub both_lines : (filter : FilterView) (tallies : List NameTally) (names : List (List ℕ)) (bytes lent : List ℕ) → lent ≡ bytes → tallies ≡ tally_all [] names

@@ -3,7 +3,7 @@ ghost use Rattle.std.specs.Prelude.{◌≡◌, ◌<◌, [], ◌∷◌, IfOk, len
 ghost use Rattle.jser_anywhere.specs.NamesIn.{names_in};
 ghost use Rattle.jser_table.specs.Names.{view_element};
 ghost use Rattle.jser_commands.specs.Counts.{tallies_of};
-ghost use Rattle.jser_commands.specs.Hidden.{hidden_of, is_class, is_hidden, once_each};
+ghost use Rattle.jser_commands.specs.Hidden.{hidden_of, is_class, is_hidden, is_unchecked, once_each};
 ghost use Rattle.jser_commands.specs.Places.{KeepsPlaces, NotesPlace, names_in_tallies};
 
 use crate::counting::NameCounts;
@@ -13,7 +13,8 @@ use jser_table::{Element, element_of};
 use std::alloc::{AllocError, Global};
 use std::marker::Model;
 
-/// Those names, in the order of the places where they can be read: each as often as there are places of its text.
+/// The classes that those names name, in the order of the places where they can be read: each as often as there are places of a
+/// text of it.
 pub(crate) fn hidden_names(
     alloc: Global,
     bytes: &[u8],
@@ -25,17 +26,28 @@ pub(crate) fn hidden_names(
     let mut hidden = NameList::new(alloc);
     let mut names = Names::new(bytes);
     'names: while let Some(stand) = names.next() {
-        if places.note(stand.at) && is_hidden(checked, names.units()) {
+        if places.note(stand.at) && is_hidden(checked, names.text(), names.units()) {
             hidden.push(alloc, names.units())?;
         }
     }
     Ok(hidden)
 }
 
+/// Whether neither this name, as it stands, nor that of its class is one of those counted.
+#[tactic(auto, using(crate::proofs::HiddenLemmas::text_counted, crate::proofs::HiddenLemmas::text_uncounted))]
+fn is_hidden(checked: &NameCounts<'_>, text: &[u16], class: &[u16]) -> bool
+    ensures { result ≡ is_hidden (names_in_tallies (tallies_of checked.now.entries)) text.now class.now }
+{
+    match checked.get(text) {
+        Some(_) => false,
+        None => is_unchecked(checked, class),
+    }
+}
+
 /// Whether this is the name of a class that is none of those counted.
 #[tactic(auto, using(crate::proofs::HiddenLemmas::counted_is, crate::proofs::HiddenLemmas::uncounted_is))]
-fn is_hidden(checked: &NameCounts<'_>, name: &[u16]) -> bool
-    ensures { result ≡ is_hidden (names_in_tallies (tallies_of checked.now.entries)) name.now }
+fn is_unchecked(checked: &NameCounts<'_>, name: &[u16]) -> bool
+    ensures { result ≡ is_unchecked (names_in_tallies (tallies_of checked.now.entries)) name.now }
 {
     match checked.get(name) {
         Some(_) => false,

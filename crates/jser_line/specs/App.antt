@@ -10,7 +10,7 @@ use Rattle.jser_line.specs.declared.line.LineFault.{LineFault}
 use Rattle.jser_line.specs.declared.line.LineFault.TheVariants as fault
 use Rattle.jser_line.specs.Args.{FilterWords, anywhere_rule, file_rule, files_rule, filters_asked, filters_in, forms_in, is_true, json_rule, limit_rule, paths_rule, refused_rule, text_in, texts_in, with_filter_rules, with_form_rules, with_strict_filter_rules}
 
--- [--filter T | --filter-file F] [--modules M] [--strict] [--hex | --base64] [--anywhere] FILE
+-- [--filter T | --filter-file F] [--modules M] [--strict] [--hex | --base64 | --base64url] [--anywhere] FILE
 abbrev pub with_check_rules : App → App
 with_check_rules app = with_rule (with_rule (with_form_rules (with_strict_filter_rules app)) anywhere_rule) file_rule
 
@@ -18,11 +18,11 @@ with_check_rules app = with_rule (with_rule (with_form_rules (with_strict_filter
 abbrev pub check_app : App
 check_app = with_check_rules (new_app (codes "check"))
 
--- serialcheck show [--hex | --base64] [--limit N] FILE
+-- serialcheck show [--hex | --base64 | --base64url] [--limit N] FILE
 abbrev pub show_app : App
 show_app = with_rule (with_rule (with_form_rules (new_app (codes "show"))) limit_rule) file_rule
 
--- serialcheck list [--filter T | --filter-file F] [--modules M] [--hex | --base64] [--anywhere] FILE
+-- serialcheck list [--filter T | --filter-file F] [--modules M] [--hex | --base64 | --base64url] [--anywhere] FILE
 abbrev pub list_app : App
 list_app = with_rule (with_rule (with_form_rules (with_filter_rules (new_app (codes "list")))) anywhere_rule) file_rule
 
@@ -30,11 +30,11 @@ list_app = with_rule (with_rule (with_form_rules (with_filter_rules (new_app (co
 abbrev pub with_answer_rules : App → App
 with_answer_rules app = with_rule (with_rule (with_rule app anywhere_rule) refused_rule) json_rule
 
--- serialcheck scan [--filter T | --filter-file F] [--modules M] [--strict] [--hex | --base64] [--anywhere] [--refused] [--json] PATH..
+-- serialcheck scan [--filter T | --filter-file F] [--modules M] [--strict] [--hex | --base64 | --base64url] [--anywhere] [--refused] [--json] PATH..
 abbrev pub scan_app : App
 scan_app = with_rule (with_answer_rules (with_form_rules (with_strict_filter_rules (new_app (codes "scan"))))) paths_rule
 
--- serialcheck suggest [--hex | --base64] FILE..
+-- serialcheck suggest [--hex | --base64 | --base64url] FILE..
 abbrev pub suggest_app : App
 suggest_app = with_rule (with_form_rules (new_app (codes "suggest"))) files_rule
 

@@ -38,6 +38,9 @@ hex_rule = flag_rule (codes "hex")
 abbrev pub base64_rule : Rule
 base64_rule = flag_rule (codes "base64")
 
+abbrev pub base64url_rule : Rule
+base64url_rule = flag_rule (codes "base64url")
+
 abbrev pub refused_rule : Rule
 refused_rule = flag_rule (codes "refused")
 
@@ -64,9 +67,9 @@ with_filter_rules app = with_rule (with_rule (with_rule app filter_rule) filter_
 abbrev pub with_strict_filter_rules : App → App
 with_strict_filter_rules app = with_rule (with_filter_rules app) strict_rule
 
--- [--hex | --base64]
+-- [--hex | --base64 | --base64url]
 abbrev pub with_form_rules : App → App
-with_form_rules app = with_rule (with_rule app hex_rule) base64_rule
+with_form_rules app = with_rule (with_rule (with_rule app hex_rule) base64_rule) base64url_rule
 
 -- the value of an argument, or the empty text
 abbrev pub text_in : List Row → (name : Text) → Text
@@ -104,4 +107,5 @@ abbrev pub forms_in : List Row → Forms
 forms_in rows = record {
   hex = is_true (first_of (codes "hex") rows);
   base64 = is_true (first_of (codes "base64") rows);
+  base64url = is_true (first_of (codes "base64url") rows);
 }

@@ -1,4 +1,4 @@
--- Options that exclude one another: a filter is a text or a file, and an input is hexadecimal or base64.
+-- Options that exclude one another: a filter is a text or a file, and an input has one form.
 use Rattle.std.specs.Prelude.{◌&&◌, if◌then◌else◌, Option, Some, None, is_some}
 use Rattle.jser_inputs.specs.declared.Form.{Form}
 use Rattle.jser_inputs.specs.declared.Form.TheVariants as form
@@ -9,10 +9,15 @@ use Rattle.jser_line.specs.Args.{FilterWords}
 use Rattle.jser_line.specs.App.{Asked, check, show, list, scan, suggest, explain}
 
 abbrev pub form_in : Forms → Form
-form_in forms = if forms.hex then form.Hex else if forms.base64 then form.Base64 else form.Binary
+form_in forms =
+    if forms.hex then form.Hex else if forms.base64 then form.Base64 else if forms.base64url then form.Base64Url else form.Binary
 
 abbrev pub clash_of_forms : Forms → Option Clash
-clash_of_forms forms = if forms.hex && forms.base64 then Some clash.Forms else None
+clash_of_forms forms =
+    if forms.hex && forms.base64 then Some clash.HexAndBase64
+    else if forms.hex && forms.base64url then Some clash.HexAndBase64Url
+    else if forms.base64 && forms.base64url then Some clash.BothBase64
+    else None
 
 abbrev pub clash_of : FilterWords → Forms → Option Clash
 clash_of filters forms = if is_some filters.text && is_some filters.file then Some clash.Filters else clash_of_forms forms

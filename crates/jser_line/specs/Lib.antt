@@ -1,3 +1,4 @@
 pub mod Args
 pub mod App
 pub mod Clashes
+pub mod Printable

@@ -2,7 +2,7 @@
 ghost use Rattle.std.specs.Prelude.{◌≡◌, IfOk, map, option_map, codes, string_bytes, false};
 ghost use Rattle.clap.specs.Words.{app_of, rule_of, with_rule, first_of, rows_of, found_of};
 ghost use Rattle.clap.specs.declared.Command.{out-Command};
-ghost use Rattle.jser_line.specs.Args.{filter_rule, filter_file_rule, modules_rule, strict_rule, anywhere_rule, limit_rule, hex_rule, base64_rule, file_rule, with_filter_rules, with_strict_filter_rules, with_form_rules, text_in, texts_in, is_true, filters_in, filters_asked, forms_in};
+ghost use Rattle.jser_line.specs.Args.{filter_rule, filter_file_rule, modules_rule, strict_rule, anywhere_rule, limit_rule, hex_rule, base64_rule, base64url_rule, file_rule, with_filter_rules, with_strict_filter_rules, with_form_rules, text_in, texts_in, is_true, filters_in, filters_asked, forms_in};
 
 use clap::{Arg, ArgAction, ArgMatches, Command};
 use std::alloc::{AllocError, Global};
@@ -23,8 +23,10 @@ pub struct Filters {
 pub struct Forms {
     /// Hexadecimal.
     pub hex: bool,
-    /// Base64.
+    /// Base64 of the standard alphabet.
     pub base64: bool,
+    /// Base64 of the URL-safe alphabet.
+    pub base64url: bool,
 }
 
 /// The command, with the arguments that say which class names are admitted.
@@ -61,7 +63,8 @@ pub(crate) fn with_forms<'a>(alloc: Global, command: Command<'a>) -> Result<Comm
     ensures local { IfOk result (λ formed. (out-Command formed).has_globals ≡ false) }
 {
     let with_hex = command.arg(hex_arg(alloc))?;
-    with_hex.arg(base64_arg(alloc))
+    let with_base64 = with_hex.arg(base64_arg(alloc))?;
+    with_base64.arg(base64url_arg(alloc))
 }
 
 /// The filter's text.
@@ -80,7 +83,7 @@ fn filter_file_arg<'a>(alloc: Global) -> Arg<'a>
     ensures local { result.global ≡ false }
 {
     Arg::new(alloc, "filter-file").long("filter-file").help(
-        "A file with a filter in place of --filter: its lines are joined by ';', and a line that begins with '#' is an empty piece",
+        "A file with a filter in place of --filter: its lines are joined by ';', and a line that begins with '#' is an empty piece. White space at an end of a piece and '#' in one are faults",
     )
 }
 
@@ -139,7 +142,7 @@ fn hex_arg<'a>(alloc: Global) -> Arg<'a>
         .help("The input is hexadecimal, with white space anywhere")
 }
 
-/// Whether the input is base64.
+/// Whether the input is base64 of the standard alphabet.
 fn base64_arg<'a>(alloc: Global) -> Arg<'a>
     ensures rule { rule_of result ≡ base64_rule }
     ensures local { result.global ≡ false }
@@ -148,8 +151,19 @@ fn base64_arg<'a>(alloc: Global) -> Arg<'a>
         .long("base64")
         .action(ArgAction::SetTrue)
         .help(
-            "The input is base64, of the standard or the URL-safe alphabet, with white space anywhere",
+            "The input is base64 of the standard alphabet, with + and /, padded at its end or not, with white space anywhere",
         )
+}
+
+/// Whether the input is base64 of the URL-safe alphabet.
+fn base64url_arg<'a>(alloc: Global) -> Arg<'a>
+    ensures rule { rule_of result ≡ base64url_rule }
+    ensures local { result.global ≡ false }
+{
+    Arg::new(alloc, "base64url")
+        .long("base64url")
+        .action(ArgAction::SetTrue)
+        .help("The same of the URL-safe alphabet, with - and _")
 }
 
 /// The file of the stream.
@@ -183,6 +197,7 @@ pub(crate) fn forms_of(matches: &ArgMatches<'_>) -> Forms
     Forms {
         hex: is_set(matches, "hex"),
         base64: is_set(matches, "base64"),
+        base64url: is_set(matches, "base64url"),
     }
 }
 

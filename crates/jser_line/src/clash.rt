@@ -15,11 +15,15 @@ pub enum Clash {
     /// `--filter` and `--filter-file`.
     Filters,
     /// `--hex` and `--base64`.
-    Forms,
+    HexAndBase64,
+    /// `--hex` and `--base64url`.
+    HexAndBase64Url,
+    /// `--base64` and `--base64url`.
+    BothBase64,
 }
 
 impl Forms {
-    /// The form. Where both are asked for, which is a clash, it is hexadecimal.
+    /// The form. Where several are asked for, which is a clash, it is the first of hexadecimal, base64 and base64url.
     pub fn form(self) -> Form
         ensures { result ≡ form_in self }
     {
@@ -27,6 +31,8 @@ impl Forms {
             Form::Hex
         } else if self.base64 {
             Form::Base64
+        } else if self.base64url {
+            Form::Base64Url
         } else {
             Form::Binary
         }
@@ -63,7 +69,11 @@ fn clash_of_forms(forms: Forms) -> Option<Clash>
     ensures { result ≡ clash_of_forms forms }
 {
     if forms.hex && forms.base64 {
-        Some(Clash::Forms)
+        Some(Clash::HexAndBase64)
+    } else if forms.hex && forms.base64url {
+        Some(Clash::HexAndBase64Url)
+    } else if forms.base64 && forms.base64url {
+        Some(Clash::BothBase64)
     } else {
         None
     }

@@ -1,4 +1,4 @@
-//! `serialcheck explain [--filter T | --filter-file F] [--modules M] [--strict] [--hex | --base64] [--anywhere] FILE`
+//! `serialcheck explain [--filter T | --filter-file F] [--modules M] [--strict] [--hex | --base64 | --base64url] [--anywhere] FILE`
 ghost use Rattle.std.specs.Prelude.{◌≡◌, IfOk, false};
 ghost use Rattle.clap.specs.Words.{app_of, rows_of, found_of};
 ghost use Rattle.clap.specs.declared.Command.{out-Command};

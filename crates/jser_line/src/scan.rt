@@ -1,4 +1,4 @@
-//! `serialcheck scan [--filter T | --filter-file F] [--modules M] [--strict] [--hex | --base64] [--anywhere] [--refused]
+//! `serialcheck scan [--filter T | --filter-file F] [--modules M] [--strict] [--hex | --base64 | --base64url] [--anywhere] [--refused]
 //! [--json] PATH..`
 ghost use Rattle.std.specs.Prelude.{◌≡◌, IfOk, false};
 ghost use Rattle.clap.specs.Words.{app_of, rule_of, rows_of, found_of};

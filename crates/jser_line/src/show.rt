@@ -1,4 +1,4 @@
-//! `serialcheck show [--hex | --base64] [--limit N] FILE`
+//! `serialcheck show [--hex | --base64 | --base64url] [--limit N] FILE`
 ghost use Rattle.std.specs.Prelude.{◌≡◌, IfOk, false};
 ghost use Rattle.clap.specs.Words.{app_of, rows_of, found_of};
 ghost use Rattle.clap.specs.declared.Command.{out-Command};

@@ -1,4 +1,4 @@
-//! `serialcheck suggest [--hex | --base64] FILE..`
+//! `serialcheck suggest [--hex | --base64 | --base64url] FILE..`
 ghost use Rattle.std.specs.Prelude.{◌≡◌, IfOk, false};
 ghost use Rattle.clap.specs.Words.{app_of, rule_of, rows_of, found_of};
 ghost use Rattle.clap.specs.declared.Command.{out-Command};

@@ -1,5 +1,5 @@
 -- What was found of a file.
-use Rattle.std.proofs.Common.{◌≡◌, ℕ, List, true, false, Option, Some, None, Ok, Err, sym, subst}
+use Rattle.std.proofs.Common.{◌≡◌, ℕ, List, Bool, true, false, Option, Some, None, Ok, Err, sym, subst}
 use Rattle.std.specs.declared.alloc.Global.{Global}
 use Rattle.std.specs.Prelude.{IfSome, Vec}
 use Rattle.jser_reader.specs.declared.Refusal.{Refusal}
@@ -12,7 +12,7 @@ use Rattle.jser_check_anywhere.specs.SourceAnswers.{SourceTells}
 use Rattle.jser_scan.specs.declared.check.Rules.{Rules}
 use Rattle.jser_scan.specs.declared.found.Found.{Found}
 use Rattle.jser_scan.specs.declared.found.Found.TheVariants as found
-use Rattle.jser_scan.specs.Founds.{IsFound, IsFoundAnywhere, IsFoundBy, IsFoundIf, IsRefusal, IsRefusedName, options_in}
+use Rattle.jser_scan.specs.Founds.{FailsAs, IsFound, IsFoundAnywhere, IsFoundBy, IsFoundIf, IsNameFor, IsRefusal, IsRefusedName, options_in}
 
 pub accepted : (rules : Rules) (told : Option (List ℕ)) (totals : Totals) → IfSome told (λ bytes. Reports rules.filter (options_in rules) bytes totals)
     → IfSome told (λ bytes. IsFoundBy rules bytes (found.Accepted totals))
@@ -22,7 +22,8 @@ pub refused : (rules : Rules) (told : Option (List ℕ)) (refusal : Refusal) (re
     → IsRefusal rules refusal result → IfSome told (λ bytes. IsFoundBy rules bytes result)
 refused rules None refusal result h is = tt
 refused rules (Some bytes) refusal (found.Accepted totals) h is = absurd is
-refused rules (Some bytes) refusal (found.Refused same class) h is = (subst (λ r. Refuses rules.filter (options_in rules) bytes r) (sym is.0) h, is.1)
+refused rules (Some bytes) refusal (found.Refused same class) h is =
+    (subst (λ r. Refuses rules.filter (options_in rules) bytes r) (sym is.0) h, subst (λ r. IsNameFor rules r.reason class) (sym is.0) is.1)
 refused rules (Some bytes) refusal (found.Hidden from to class) h is = absurd is
 refused rules (Some bytes) refusal found.NotOpened h is = absurd is
 refused rules (Some bytes) refusal (found.NotRead why) h is = absurd is
@@ -36,6 +37,16 @@ pub unread : (rules : Rules) (told : Option (List ℕ)) (why : InputFault) → I
 unread rules None why = tt
 unread rules (Some bytes) why = tt
 
+-- a refusal, or that memory ran out, is told where no read failed
+pub refusal_fails : (rules : Rules) (refusal : Refusal) (result : Found) (failed_before failed_after : Bool) (why : InputFault) → IsRefusal rules refusal result → failed_after ≡ failed_before
+    → FailsAs result failed_before failed_after why
+refusal_fails rules refusal (found.Accepted totals) failed_before failed_after why is same = absurd is
+refusal_fails rules refusal (found.Refused told class) failed_before failed_after why is same = same
+refusal_fails rules refusal (found.Hidden from to class) failed_before failed_after why is same = absurd is
+refusal_fails rules refusal found.NotOpened failed_before failed_after why is same = absurd is
+refusal_fails rules refusal (found.NotRead fault) failed_before failed_after why is same = absurd is
+refusal_fails rules refusal found.OutOfMemory failed_before failed_after why is same = same
+
 -- ---- with names at any place
 
 pub accepted_anywhere : (rules : Rules) (told : Option (List ℕ)) (totals : Totals) → SourceTells rules.filter (options_in rules) told (Ok totals)
@@ -48,7 +59,7 @@ pub refused_anywhere : (rules : Rules) (told : Option (List ℕ)) (refusal : Ref
 refused_anywhere rules None refusal result h is = tt
 refused_anywhere rules (Some bytes) refusal (found.Accepted totals) h is = absurd is
 refused_anywhere rules (Some bytes) refusal (found.Refused same class) h is =
-    (subst (λ r. SourceTells rules.filter (options_in rules) (Some bytes) (Err (fault.Stop (stop.Refused r)))) (sym is.0) h, is.1)
+    (subst (λ r. SourceTells rules.filter (options_in rules) (Some bytes) (Err (fault.Stop (stop.Refused r)))) (sym is.0) h, subst (λ r. IsNameFor rules r.reason class) (sym is.0) is.1)
 refused_anywhere rules (Some bytes) refusal (found.Hidden from to class) h is = absurd is
 refused_anywhere rules (Some bytes) refusal found.NotOpened h is = absurd is
 refused_anywhere rules (Some bytes) refusal (found.NotRead why) h is = absurd is

@@ -1,3 +1,4 @@
 pub mod FoundLemmas
 pub mod ScanLemmas
 pub mod SampleLemmas
+pub mod JsonLemmas

@@ -13,6 +13,7 @@ use Rattle.jser_printer.proofs.SaysLemmas.{says_both, says_three, says_four}
 use Rattle.jser_scan.specs.declared.found.Found.{Found}
 use Rattle.jser_scan.specs.declared.found.Found.TheVariants as found
 use Rattle.jser_scan.specs.Answers.{answer_words, class_words, count_words, place_words}
+use Rattle.jser_scan.specs.JsonTexts.{json_text}
 use Rattle.jser_scan.specs.Json.{class_member, found_members, refusal_words}
 
 -- ---- the words of one that is refused
@@ -53,10 +54,10 @@ members_hidden a b c g i d e f h j result from to class is w x y z =
     (λ k. codes ",\"reason\":\"HiddenName\"" ++ k) (λ k. class_member class k) w x y z)
 
 pub member_class : (a b c : Outgoing) (d e f : SinkState) (class : Option (Vec ℕ Global)) (units : Vec ℕ Global) (name : List ℕ) → class ≡ Some units → name ≡ units.items
-    → Says a b d e (λ k. codes ",\"class\":" ++ k) → Says b c e f (λ k. quoted name k) → Says a c d f (λ k. class_member class k)
+    → Says a b d e (λ k. codes ",\"class\":" ++ k) → Says b c e f (λ k. json_text name k) → Says a c d f (λ k. class_member class k)
 member_class a b c d e f class units name is same x y =
     subst (λ o. Says a c d f (λ k. class_member o k)) (sym is)
-    (subst (λ u. Says a c d f (λ k. codes ",\"class\":" ++ quoted u k)) same (says_both a b c d e f (λ k. codes ",\"class\":" ++ k) (λ k. quoted name k) x y))
+    (subst (λ u. Says a c d f (λ k. codes ",\"class\":" ++ json_text u k)) same (says_both a b c d e f (λ k. codes ",\"class\":" ++ k) (λ k. json_text name k) x y))
 
 -- ---- what was said went out
 

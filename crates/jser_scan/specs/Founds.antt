@@ -1,7 +1,10 @@
 -- What was found of a file is right of its bytes.
 use Rattle.std.specs.declared.alloc.Global.{Global}
 use Rattle.std.specs.Prelude.{◌≡◌, ℕ, Bool, true, false, List, Option, Some, None, Vec}
+use Rattle.jser_reader.specs.declared.Reason.{Reason}
+use Rattle.jser_reader.specs.declared.Reason.TheVariants as reason
 use Rattle.jser_reader.specs.declared.Refusal.{Refusal}
+use Rattle.jser_inputs.specs.declared.InputFault.{InputFault}
 use Rattle.jser_check.specs.declared.Options.{Options}
 use Rattle.jser_check.specs.Answers.{Reports, Refuses}
 use Rattle.jser_check_anywhere.specs.Answers.{ReportsAnywhere}
@@ -19,19 +22,34 @@ abbrev pub IsRefusedName : Rules → Option (Vec ℕ Global) → Type 0
 IsRefusedName rules None = Unit {0}
 IsRefusedName rules (Some units) = passes_name rules.filter (options_in rules) units.items ≡ false
 
+-- beside a refusal stands such a name where the filter refused it, and none where the reason is another
+abbrev pub IsNameFor : Rules → Reason → Option (Vec ℕ Global) → Type 0
+IsNameFor rules reason.ClassRejected class = IsRefusedName rules class
+IsNameFor rules reason.ClassUnmatched class = IsRefusedName rules class
+IsNameFor rules _ class = class ≡ None
+
 -- the refusal, with such a name, or that memory ran out
 abbrev pub IsRefusal : Rules → Refusal → Found → Type 0
 IsRefusal rules refusal (found.Accepted totals) = ⊥
-IsRefusal rules refusal (found.Refused same class) = (same ≡ refusal) × IsRefusedName rules class
+IsRefusal rules refusal (found.Refused same class) = (same ≡ refusal) × IsNameFor rules refusal.reason class
 IsRefusal rules refusal (found.Hidden from to class) = ⊥
 IsRefusal rules refusal found.NotOpened = ⊥
 IsRefusal rules refusal (found.NotRead fault) = ⊥
 IsRefusal rules refusal found.OutOfMemory = Unit {0}
 
+-- A file is told as not read where its input failed, by the fault that the input tells, and nowhere else.
+abbrev pub FailsAs : Found → (failed_before failed_after : Bool) → (why : InputFault) → Type 0
+FailsAs (found.Accepted totals) failed_before failed_after why = failed_after ≡ failed_before
+FailsAs (found.Refused refusal class) failed_before failed_after why = failed_after ≡ failed_before
+FailsAs (found.Hidden from to class) failed_before failed_after why = failed_after ≡ failed_before
+FailsAs found.NotOpened failed_before failed_after why = ⊥
+FailsAs (found.NotRead fault) failed_before failed_after why = (failed_after ≡ true) × (fault ≡ why)
+FailsAs found.OutOfMemory failed_before failed_after why = failed_after ≡ failed_before
+
 -- what the check says
 abbrev pub IsFoundBy : Rules → List ℕ → Found → Type 0
 IsFoundBy rules bytes (found.Accepted totals) = Reports rules.filter (options_in rules) bytes totals
-IsFoundBy rules bytes (found.Refused refusal class) = Refuses rules.filter (options_in rules) bytes refusal × IsRefusedName rules class
+IsFoundBy rules bytes (found.Refused refusal class) = Refuses rules.filter (options_in rules) bytes refusal × IsNameFor rules refusal.reason class
 IsFoundBy rules bytes (found.Hidden from to class) = ⊥
 IsFoundBy rules bytes found.NotOpened = ⊥
 IsFoundBy rules bytes (found.NotRead fault) = Unit {0}
@@ -40,7 +58,7 @@ IsFoundBy rules bytes found.OutOfMemory = Unit {0}
 -- what the check that asks about names at any place says
 abbrev pub IsFoundAnywhere : Rules → List ℕ → Found → Type 0
 IsFoundAnywhere rules bytes (found.Accepted totals) = ReportsAnywhere rules.filter (options_in rules) bytes totals
-IsFoundAnywhere rules bytes (found.Refused refusal class) = RefusedIn rules.filter (options_in rules) bytes refusal × IsRefusedName rules class
+IsFoundAnywhere rules bytes (found.Refused refusal class) = RefusedIn rules.filter (options_in rules) bytes refusal × IsNameFor rules refusal.reason class
 IsFoundAnywhere rules bytes (found.Hidden from to class) = HiddenIn rules.filter (options_in rules) bytes from to × IsRefusedName rules class
 IsFoundAnywhere rules bytes found.NotOpened = ⊥
 IsFoundAnywhere rules bytes (found.NotRead fault) = Unit {0}

@@ -9,6 +9,7 @@ use Rattle.jser_scan.specs.declared.found.Found.{Found}
 use Rattle.jser_scan.specs.declared.found.Found.TheVariants as found
 use Rattle.jser_scan.specs.declared.path.FilePath.{FilePath}
 use Rattle.jser_scan.specs.Answers.{answer_words, count_words}
+use Rattle.jser_scan.specs.JsonTexts.{json_text}
 
 -- the counts of a stream
 abbrev pub more_report_words : Totals → List ℕ → List ℕ
@@ -30,7 +31,7 @@ refusal_words refusal k =
 -- the class
 abbrev pub class_member : Option (Vec ℕ Global) → List ℕ → List ℕ
 class_member None k = k
-class_member (Some units) k = codes ",\"class\":" ++ quoted units.items k
+class_member (Some units) k = codes ",\"class\":" ++ json_text units.items k
 
 -- why a file was not read
 abbrev pub error_words : Found → List ℕ → List ℕ

@@ -1,5 +1,7 @@
 pub mod Answers
+pub mod Devices
 pub mod Founds
+pub mod JsonTexts
 pub mod Json
 pub mod Lines
 pub mod Paths

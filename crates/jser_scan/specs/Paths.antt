@@ -1,13 +1,26 @@
 -- How the path of a file is printed.
-use Rattle.std.specs.Prelude.{ℕ, ◌&&◌, nat_le, Bool, if◌then◌else◌, List, ◌++◌, string_bytes}
-use Rattle.std.specs.List.{list_all}
+use Rattle.std.specs.Prelude.{ℕ, ◌&&◌, ◌==◌, not, nat_le, Bool, if◌then◌else◌, List, [], ◌∷◌, ◌++◌, codes, string_bytes}
 use Rattle.jser_shown.specs.Words.{quoted}
 use Rattle.jser_scan.specs.declared.path.FilePath.{FilePath}
 
--- all characters are from 20 to 7E
+-- A path is printed as it is where nobody can take more or less for it: its characters are from 20 to 7E, none is `"` or `\`,
+-- and no space stands behind a `:`, or at an end.
+
+abbrev pub is_sign : ℕ → Bool
+is_sign b = nat_le 0x20 b && (nat_le b 0x7E && (not (b == 0x22) && not (b == 0x5C)))
+
+-- behind this character
+abbrev pub is_plain_behind : ℕ → List ℕ → Bool
+is_plain_behind before [] = not (before == 0x20)
+is_plain_behind before (b ∷ bytes) = (is_sign b && not (before == 0x3A && b == 0x20)) && is_plain_behind b bytes
+
 abbrev pub is_plain : List ℕ → Bool
-is_plain bytes = list_all (λ b. nat_le 0x20 b && nat_le b 0x7E) bytes
+is_plain bytes = is_plain_behind 0x3A bytes
 
 -- as it is, or quoted as a class name is
 abbrev pub path_words : FilePath → List ℕ → List ℕ
 path_words path k = if is_plain (string_bytes path.text) then string_bytes path.text ++ k else quoted path.units.items k
+
+-- cannot open PATH
+abbrev pub unopened_words : FilePath → List ℕ → List ℕ
+unopened_words path k = codes "cannot open " ++ path_words path (0x0A ∷ k)

@@ -1,10 +1,11 @@
 -- What is printed of good files, for which a filter is suggested.
-use Rattle.std.specs.Prelude.{◌≡◌, ℕ, List, ◌∷◌, ◌++◌, codes, None, Option}
-use Rattle.std.specs.Io.KnownBytes.{Appends}
+use Rattle.std.specs.Prelude.{◌≡◌, ◌≤◌, ◌⊎◌, ℕ, Bool, true, List, ◌∷◌, ◌++◌, codes, length, take, None, Option}
+use Rattle.std.specs.Io.KnownBytes.{Appends, Keeps}
 use Rattle.jser_prim.specs.ModifiedUtf8.{utf16_units}
 use Rattle.jser_filter.specs.Pieces.{pieces_of}
 use Rattle.jser_shown.specs.Words.{quoted}
 use Rattle.jser_reader.specs.declared.Stop.TheVariants as stop
+use Rattle.jser_settings.specs.Settings.{Tells, TellsNoMemory}
 use Rattle.jser_suggest.specs.Suggested.{Known, suggested}
 use Rattle.jser_suggest.specs.declared.SampleFault.{SampleFault}
 use Rattle.jser_suggest.specs.declared.SampleFault.TheVariants as fault
@@ -25,9 +26,26 @@ pub record SaysSuggested (known : Known) (old new : Option (List ℕ)) : Type 0 
   pub spells : SpellsSuggested known line
   pub printed : Appends old new line
 
--- PATH: no pattern means only NAME
+-- the first bytes of such a line went out, and no others
+pub record SaysSomeSuggested (known : Known) (old new : Option (List ℕ)) : Type 0 where
+  pub line : List ℕ
+  pub spells : SpellsSuggested known line
+  pub count : ℕ
+  pub within : count ≤ length line
+  pub printed : Appends old new (take count line)
+
+-- nothing went out; or the output failed, and the first bytes of the line went out
+abbrev pub LeavesSuggested : Known → (failed : Bool) → (old new : Option (List ℕ)) → Type 0
+LeavesSuggested known failed old new = Keeps old new ⊎ ((failed ≡ true) × SaysSomeSuggested known old new)
+
+-- why it did not go out, and the line that was told of it: the write failed, or memory ran out and it did not
+abbrev pub TellsUnprinted : (write_before write_after : Bool) → (failed : Bool) → (old new : Option (List ℕ)) → Type 0
+TellsUnprinted write_before write_after failed old new =
+    ((write_after ≡ true) × Tells failed old new (codes "write failed\n")) ⊎ ((write_after ≡ write_before) × TellsNoMemory failed old new)
+
+-- PATH: no pattern can safely name NAME
 abbrev pub unwritable_words : FilePath → List ℕ → List ℕ → List ℕ
-unwritable_words path name k = path_words path (codes ": no pattern means only " ++ quoted name (0x0A ∷ k))
+unwritable_words path name k = path_words path (codes ": no pattern can safely name " ++ quoted name (0x0A ∷ k))
 
 -- that, or the line of a refusal
 abbrev pub no_sample_words : FilePath → SampleFault → List ℕ → List ℕ

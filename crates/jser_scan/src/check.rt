@@ -1,6 +1,6 @@
 //! The check of one file.
 ghost use Rattle.std.specs.Prelude.{◌≡◌, IfSome};
-ghost use Rattle.jser_scan.specs.Founds.{IsFound, IsFoundAnywhere, IsFoundBy, IsRefusal};
+ghost use Rattle.jser_scan.specs.Founds.{FailsAs, IsFound, IsFoundAnywhere, IsFoundBy, IsRefusal};
 
 use crate::class::{hidden_name, refused_name};
 use crate::found::Found;
@@ -25,23 +25,26 @@ pub struct Rules {
 
 /// Checks the bytes of a file, as `check_reader` of `jser_check` does, or `check_anywhere` of `jser_check_anywhere`.
 ///
-/// It keeps the last bytes that it read, at most some 250,000, to name the class of a refusal.
+/// It keeps the last bytes that it read, at most some 250,000, to name the class of a refusal. It gives the input back.
 #[tactic(auto, using(crate::proofs::FoundLemmas::found_plainly, crate::proofs::FoundLemmas::found_anywhere))]
-pub fn check_file<R: Input + Drop>(alloc: Global, rules: &Rules, input: R) -> Found
-    ensures { IfSome (R.to_come input) (λ bytes. IsFound rules.now bytes result) }
+pub fn check_file<R: Input + Drop>(alloc: Global, rules: &Rules, input: R) -> (Found, R)
+    ensures found { IfSome (R.to_come input) (λ bytes. IsFound rules.now bytes result.0) }
+    ensures fails { FailsAs result.0 (R.has_failed input) (R.has_failed result.1) (R.why_failed result.1) }
 {
     let mut tail = Tail::new(alloc, input);
-    if rules.anywhere {
+    let found = if rules.anywhere {
         check_names(alloc, rules, &mut tail)
     } else {
         check(alloc, rules, &mut tail)
-    }
+    };
+    (found, tail.into_source())
 }
 
 /// The check without names at any place.
-#[tactic(auto, using(crate::proofs::FoundLemmas::accepted, crate::proofs::FoundLemmas::refused, crate::proofs::FoundLemmas::undecided, crate::proofs::FoundLemmas::unread))]
+#[tactic(auto, using(crate::proofs::FoundLemmas::accepted, crate::proofs::FoundLemmas::refused, crate::proofs::FoundLemmas::undecided, crate::proofs::FoundLemmas::unread, crate::proofs::FoundLemmas::refusal_fails))]
 fn check<R: Input>(alloc: Global, rules: &Rules, tail: &mut Tail<R>) -> Found
-    ensures { IfSome tail.old.bytes (λ bytes. IsFoundBy rules.now bytes result) }
+    ensures found { IfSome tail.old.bytes (λ bytes. IsFoundBy rules.now bytes result) }
+    ensures fails { FailsAs result tail.old.has_failed tail.new.has_failed tail.new.why }
 {
     let options = Options {
         strict: rules.strict,
@@ -50,14 +53,15 @@ fn check<R: Input>(alloc: Global, rules: &Rules, tail: &mut Tail<R>) -> Found
         Ok(totals) => Found::Accepted(totals),
         Err(CheckFault::Stop(Stop::Refused(refusal))) => refused(alloc, rules, tail, refusal),
         Err(CheckFault::Stop(_)) => Found::OutOfMemory,
-        Err(CheckFault::ReadFault) => Found::NotRead(tail.source().fault()),
+        Err(CheckFault::ReadFault) => Found::NotRead(tail.fault()),
     }
 }
 
 /// The check with them.
-#[tactic(auto, using(crate::proofs::FoundLemmas::accepted_anywhere, crate::proofs::FoundLemmas::refused_anywhere, crate::proofs::FoundLemmas::hidden_anywhere, crate::proofs::FoundLemmas::undecided_anywhere, crate::proofs::FoundLemmas::unread_anywhere))]
+#[tactic(auto, using(crate::proofs::FoundLemmas::accepted_anywhere, crate::proofs::FoundLemmas::refused_anywhere, crate::proofs::FoundLemmas::hidden_anywhere, crate::proofs::FoundLemmas::undecided_anywhere, crate::proofs::FoundLemmas::unread_anywhere, crate::proofs::FoundLemmas::refusal_fails))]
 fn check_names<R: Input>(alloc: Global, rules: &Rules, tail: &mut Tail<R>) -> Found
-    ensures { IfSome tail.old.bytes (λ bytes. IsFoundAnywhere rules.now bytes result) }
+    ensures found { IfSome tail.old.bytes (λ bytes. IsFoundAnywhere rules.now bytes result) }
+    ensures fails { FailsAs result tail.old.has_failed tail.new.has_failed tail.new.why }
 {
     let options = Options {
         strict: rules.strict,
@@ -76,7 +80,7 @@ fn check_names<R: Input>(alloc: Global, rules: &Rules, tail: &mut Tail<R>) -> Fo
             }
         }
         Err(AnywhereFault::Stop(_)) => Found::OutOfMemory,
-        Err(AnywhereFault::ReadFault) => Found::NotRead(tail.source().fault()),
+        Err(AnywhereFault::ReadFault) => Found::NotRead(tail.fault()),
     }
 }
 

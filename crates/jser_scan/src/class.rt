@@ -4,14 +4,15 @@ ghost use Rattle.jser_scan.specs.Founds.{IsRefusedName};
 
 use crate::check::Rules;
 use crate::tail::Tail;
+use jser_anywhere::named_class;
 use jser_check::Options;
 use jser_check_anywhere::passes;
 use jser_grammar::wire::TC_PROXYCLASSDESC;
-use jser_prim::Source;
+use jser_inputs::Input;
 use std::alloc::{AllocError, Global};
 
 /// The name that ends a field of a length and a text, if the bytes are still kept and the filter refuses it.
-pub(crate) fn refused_name<R: Source>(
+pub(crate) fn refused_name<R: Input>(
     alloc: Global,
     rules: &Rules,
     tail: &Tail<R>,
@@ -26,8 +27,8 @@ pub(crate) fn refused_name<R: Source>(
     }
 }
 
-/// The name that can be read at a place: behind `72`, or the last one of a row behind `7D`.
-pub(crate) fn hidden_name<R: Source>(
+/// The class of the name that can be read at a place: behind `72`, or the last one of a row behind `7D`.
+pub(crate) fn hidden_name<R: Input>(
     alloc: Global,
     rules: &Rules,
     tail: &Tail<R>,
@@ -37,14 +38,14 @@ pub(crate) fn hidden_name<R: Source>(
     ensures { IfOk result (IsRefusedName rules.now) }
 {
     match start_of_name(tail, from, to) {
-        Some(start) => name_between(alloc, rules, tail, start, to),
+        Some(start) => class_between(alloc, rules, tail, start, to),
         None if tail.ran_out() => Err(AllocError),
         None => Ok(None),
     }
 }
 
 /// Where the text begins that ends at `to`.
-fn start_of_name<R: Source>(tail: &Tail<R>, from: u64, to: u64) -> Option<u64> {
+fn start_of_name<R: Input>(tail: &Tail<R>, from: u64, to: u64) -> Option<u64> {
     let is_row = tail.byte_at(from)? == TC_PROXYCLASSDESC;
     let mut at = from.checked_add(if is_row { 5 } else { 1 })?;
     for _ in 0..0xFFFFu32 {
@@ -61,7 +62,7 @@ fn start_of_name<R: Source>(tail: &Tail<R>, from: u64, to: u64) -> Option<u64> {
 }
 
 /// The name whose text these bytes are, if they are still kept and the filter refuses it.
-fn name_between<R: Source>(
+fn name_between<R: Input>(
     alloc: Global,
     rules: &Rules,
     tail: &Tail<R>,
@@ -86,9 +87,39 @@ fn name_between<R: Source>(
     }
 }
 
+/// The class that these bytes name, if they are still kept and the filter refuses it.
+fn class_between<R: Input>(
+    alloc: Global,
+    rules: &Rules,
+    tail: &Tail<R>,
+    start: u64,
+    end: u64,
+) -> Result<Option<Vec<u16>>, AllocError>
+    ensures { IfOk result (IsRefusedName rules.now) }
+{
+    if tail.ran_out() {
+        return Err(AllocError);
+    }
+    let Some(units) = units_between(alloc, tail, start, end)? else {
+        return Ok(None);
+    };
+    let Some(class) = named_class(units.as_slice()) else {
+        return Ok(None);
+    };
+    let class = class.to_vec(alloc)?;
+    let options = Options {
+        strict: rules.strict,
+    };
+    if passes(&rules.filter, options, class.as_slice()) {
+        Ok(None)
+    } else {
+        Ok(Some(class))
+    }
+}
+
 /// The units of a text in modified UTF-8, if its bytes are still kept. Longer spellings are read too, as names that can be
 /// read at some place may have them.
-fn units_between<R: Source>(
+fn units_between<R: Input>(
     alloc: Global,
     tail: &Tail<R>,
     start: u64,

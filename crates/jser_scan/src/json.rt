@@ -1,11 +1,11 @@
-//! What was found of a file as a JSON object. A quoted text is a JSON string, also of a name with a unit that is no
-//! character of its own.
+//! What was found of a file as a JSON object.
 ghost use Rattle.std.specs.Prelude.{◌++◌};
 ghost use Rattle.jser_printer.specs.Says.{SaysTo};
 ghost use Rattle.jser_scan.specs.Json.{object_words, report_words, more_report_words, refusal_words, error_words, class_member, found_members};
 
 use crate::answer::{write_answer, write_count, write_reason};
 use crate::found::Found;
+use crate::json_text::write_json_text;
 use crate::path::FilePath;
 use jser_prim::{Outbox, Sink};
 use jser_printer::{write, write_quoted};
@@ -100,7 +100,7 @@ fn write_class<W: Sink>(outbox: &mut Outbox, sink: &mut W, class: &Option<Vec<u1
     match class {
         Some(units) => {
             write(outbox, sink, b",\"class\":");
-            write_quoted(outbox, sink, units.as_slice());
+            write_json_text(outbox, sink, units.as_slice());
         }
         None => write(outbox, sink, b""),
     }

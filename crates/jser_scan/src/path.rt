@@ -1,7 +1,7 @@
 //! The path of a file, as it is printed.
 ghost use Rattle.std.specs.Prelude.{◌≡◌, IfOk, string_bytes};
 ghost use Rattle.jser_prim.specs.ModifiedUtf8.{utf16_units};
-ghost use Rattle.jser_scan.specs.Paths.{is_plain};
+ghost use Rattle.jser_scan.specs.Paths.{is_plain, is_sign};
 
 use jser_prim::units_of;
 use std::alloc::{AllocError, Global};
@@ -26,10 +26,24 @@ impl FilePath {
     }
 }
 
-/// Whether a path is printed as it is: all its characters are from 20 to 7E, so that none of them can do anything to a
-/// terminal.
+/// Whether a path is printed as it is: none of its characters can do anything to a terminal, end the path, or make another of
+/// it.
 pub(crate) fn is_plain(bytes: &[u8]) -> bool
     ensures { result ≡ is_plain bytes.now }
 {
-    bytes.iter().all(|byte| (0x20..=0x7E).contains(byte))
+    let mut before = b':';
+    'bytes: for byte in bytes {
+        if !is_sign(*byte) || (before == b':' && *byte == b' ') {
+            return false;
+        }
+        before = *byte;
+    }
+    before != b' '
+}
+
+/// Whether a character may stand in a path that is printed as it is.
+fn is_sign(byte: u8) -> bool
+    ensures { result ≡ is_sign byte }
+{
+    (0x20..=0x7E).contains(&byte) && byte != b'"' && byte != b'\\'
 }

@@ -3,7 +3,7 @@ ghost use Rattle.std.specs.Prelude.{◌≡◌, ◌⊎◌, [], ℕ, List, IfOk, O
 ghost use Rattle.std.specs.Io.KnownBytes.{Appends};
 ghost use Rattle.jser_printer.specs.Says.{SaysTo};
 ghost use Rattle.jser_suggest.specs.Samples.{AreKnown};
-ghost use Rattle.jser_scan.specs.Samples.{SaysSuggested, SpellsSuggested, no_sample_status, no_sample_words, unwritable_words};
+ghost use Rattle.jser_scan.specs.Samples.{LeavesSuggested, SaysSuggested, SpellsSuggested, TellsUnprinted, no_sample_status, no_sample_words, unwritable_words};
 
 use crate::found::Found;
 use crate::line::{write_line, write_path};
@@ -17,6 +17,7 @@ use std::alloc::{AllocError, Global};
 
 /// Prints the filter that is suggested, in a line, and returns the status: 0, or 3 where the output failed or memory ran out,
 /// which is told.
+#[tactic(auto, using(crate::proofs::SampleLemmas::says_suggested, crate::proofs::SampleLemmas::leaves_some, crate::proofs::SampleLemmas::leaves_none))]
 pub fn print_suggested<W: Sink, E: Sink>(
     alloc: Global,
     samples: &Samples,
@@ -24,6 +25,8 @@ pub fn print_suggested<W: Sink, E: Sink>(
     faults: &mut E,
 ) -> u8
     ensures printed { (streams : List (List ℕ)) → AreKnown streams samples.now → result ≡ 0 → SaysSuggested samples.now (W.gone_out output.old) (W.gone_out output.new) }
+    ensures failed { (streams : List (List ℕ)) → AreKnown streams samples.now → result ≡ 3 → LeavesSuggested samples.now (W.has_failed output.new) (W.gone_out output.old) (W.gone_out output.new) }
+    ensures why { result ≡ 3 → TellsUnprinted (W.has_failed output.old) (W.has_failed output.new) (E.has_failed faults.new) (E.gone_out faults.old) (E.gone_out faults.new) }
     ensures unbroken { result ≡ 0 → W.has_failed output.new ≡ W.has_failed output.old }
     ensures quiet { result ≡ 0 → faults.new ≡ faults.old }
     ensures status { (result ≡ 0) ⊎ (result ≡ 3) }
@@ -96,12 +99,12 @@ fn write_no_sample<W: Sink>(outbox: &mut Outbox, sink: &mut W, path: &FilePath, 
     }
 }
 
-/// Writes that no pattern means a class alone.
+/// Writes that no pattern can safely name a class.
 fn write_unwritable<W: Sink>(outbox: &mut Outbox, sink: &mut W, path: &FilePath, name: &[u16])
     ensures { SaysTo W.gone_out W.has_failed outbox.old outbox.new sink.old sink.new (λ k. unwritable_words path.now name.now k) }
 {
     write_path(outbox, sink, path);
-    write(outbox, sink, b": no pattern means only ");
+    write(outbox, sink, b": no pattern can safely name ");
     write_quoted(outbox, sink, name);
     write(outbox, sink, b"\n");
 }

@@ -1,6 +1,7 @@
-//! A source that keeps the last bytes that it gave.
+//! An input that keeps the last bytes that it gave.
 ghost use Rattle.std.specs.Prelude.{◌≡◌};
 
+use jser_inputs::{Input, InputFault};
 use jser_prim::{Failed, Source};
 use std::alloc::Global;
 use std::marker::Model;
@@ -8,10 +9,10 @@ use std::marker::Model;
 /// How many of the last bytes are kept at least: a text with its length.
 const MOST: usize = 65_537;
 
-/// A source that keeps the last bytes that it gave, at least 65,537 of them. Where there is no memory for them it keeps
+/// An input that keeps the last bytes that it gave, at least 65,537 of them. Where there is no memory for them it keeps
 /// none, and remembers that.
 #[derive(Drop)]
-pub(crate) struct Tail<R: Source> {
+pub(crate) struct Tail<R: Input> {
     source: R,
     older: Vec<u8>,
     newer: Vec<u8>,
@@ -19,16 +20,16 @@ pub(crate) struct Tail<R: Source> {
     ran_out: bool,
 }
 
-impl<R: Source> Model for Tail<R> {
-    ghost use Rattle.jser_prim.specs.Devices.{Told};
+impl<R: Input> Model for Tail<R> {
+    ghost use Rattle.jser_scan.specs.Devices.{ToldInput};
 
-    ghost Value = { Told };
+    ghost Value = { ToldInput };
 
-    ghost view = { λ a. record { bytes = R.to_come a.source; has_failed = R.has_failed a.source } };
+    ghost view = { λ a. record { bytes = R.to_come a.source; has_failed = R.has_failed a.source; why = R.why_failed a.source } };
 }
 
-impl<R: Source> Tail<R> {
-    /// A source of the bytes of `source`.
+impl<R: Input> Tail<R> {
+    /// An input of the bytes of `source`.
     pub(crate) fn new(alloc: Global, source: R) -> Tail<R>
         ensures bytes { result.bytes ≡ R.to_come source }
         ensures failed { result.has_failed ≡ R.has_failed source }
@@ -42,9 +43,12 @@ impl<R: Source> Tail<R> {
         }
     }
 
-    /// The source.
-    pub(crate) fn source(&self) -> &R {
-        &self.source
+    /// The input whose bytes it gave.
+    pub(crate) fn into_source(self) -> R
+        ensures failed { R.has_failed result ≡ self.has_failed }
+        ensures why { R.why_failed result ≡ self.why }
+    {
+        self.source
     }
 
     /// Whether there was no memory for the bytes.
@@ -83,7 +87,7 @@ impl<R: Source> Tail<R> {
     }
 }
 
-impl<R: Source> Source for Tail<R> {
+impl<R: Input> Source for Tail<R> {
     ghost to_come = { λ s. s.bytes };
 
     ghost has_failed = { λ s. s.has_failed };
@@ -100,5 +104,13 @@ impl<R: Source> Source for Tail<R> {
 
     fn failed(&self) -> bool {
         self.source.failed()
+    }
+}
+
+impl<R: Input> Input for Tail<R> {
+    ghost why_failed = { λ s. s.why };
+
+    fn fault(&self) -> InputFault {
+        self.source.fault()
     }
 }

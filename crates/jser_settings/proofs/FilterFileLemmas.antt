@@ -66,7 +66,7 @@ none_step : (unit : ℕ) (units : List ℕ) (test : Bool) → (length units ≤ 
 none_step unit units true others none = absurd (omega arith)
 none_step unit units false others none = ap (onto_first unit) (others (omega arith))
 
-one_line : (units : List ℕ) → length units ≤ position_or_len (λ u. u == 0x0A) units → split_at_each 0x0A units ≡ units ∷ []
+pub one_line : (units : List ℕ) → length units ≤ position_or_len (λ u. u == 0x0A) units → split_at_each 0x0A units ≡ units ∷ []
 one_line [] none = refl
 one_line (unit ∷ units) none = none_step unit units (unit == 0x0A) (one_line units) none
 
@@ -103,6 +103,7 @@ filter_of_text None text filter is sound pieces modules = tt
 filter_of_text (Some bytes) text filter is sound pieces modules = record {
   size = is.size;
   text = is.utf8;
+  lines = is.lines;
   sound = subst (λ t. AreSound (pieces_of (utf16_units t))) is.is sound;
   pieces = pieces ∙ ap (λ t. pieces_of (utf16_units t)) is.is;
   modules = modules;

@@ -1,2 +1,3 @@
 pub mod FilterFileLemmas
 pub mod WholeLemmas
+pub mod FileFaultLemmas

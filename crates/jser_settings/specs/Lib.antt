@@ -1,3 +1,5 @@
 pub mod FilterFiles
+pub mod FileFaults
+pub mod NoPatterns
 pub mod Settings
 pub mod Whole

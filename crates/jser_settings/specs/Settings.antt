@@ -1,6 +1,6 @@
 -- What the filter's text and the file of modules of a command line say, and what is told where one is at fault.
 -- `failed` is whether the writer of faults has failed; `old` and `new` are what it had written before and after.
-use Rattle.std.specs.Prelude.{◌≡◌, ◌≢◌, ◌≤◌, ◌<◌, ◌^◌, ◌⊎◌, ℕ, Bool, true, List, [], ◌++◌, length, codes, Option, Result, IfSome}
+use Rattle.std.specs.Prelude.{◌≡◌, ◌≢◌, ◌≤◌, ◌<◌, ◌^◌, ◌⊎◌, ℕ, Bool, true, List, [], ◌++◌, length, codes, Option, Some, None, Result, IfSome, false}
 use Rattle.std.specs.Str.{IsUtf8}
 use Rattle.std.specs.Str.Parse.{ParsesUnsigned}
 use Rattle.std.specs.Io.KnownBytes.{Appends}
@@ -16,6 +16,9 @@ use Rattle.jser_inputs.specs.FaultTexts.{input_fault_text}
 use Rattle.jser_filter.specs.Filters.{FilterView, AreSound, IsFirstFault}
 use Rattle.jser_filter.specs.Pieces.{Piece, pieces_of}
 use Rattle.jser_settings.specs.FilterFiles.{filter_text}
+use Rattle.jser_settings.specs.FileFaults.{file_fault, file_fault_text}
+use Rattle.jser_settings.specs.NoPatterns.{has_pattern}
+use Rattle.jser_settings.specs.declared.file_fault.FileFault.{FileFault}
 use Rattle.jser_filter.specs.Tables.{ModuleTable, lines_of, table_of, AreSoundLines, IsFirstLineFault}
 
 -- the most bytes of a file of modules, and of a file of a filter
@@ -66,20 +69,30 @@ pub record FilterIsFaulty (pieces : List Piece) (failed : Bool) (old new : Optio
 pub record IsTextOf (bytes text : List ℕ) : Type 0 where
   pub size : length bytes ≤ most_modules_bytes
   pub utf8 : IsUtf8 bytes
+  pub lines : file_fault bytes ≡ None
   pub is : text ≡ filter_text bytes
 
 -- a file with these bytes has this filter, that of the text of its lines, with no table of modules
 pub record IsFilterOf (bytes : List ℕ) (filter : FilterView) : Type 0 where
   pub size : length bytes ≤ most_modules_bytes
   pub text : IsUtf8 bytes
+  pub lines : file_fault bytes ≡ None
   pub sound : AreSound (pieces_of (utf16_units (filter_text bytes)))
   pub pieces : filter.pieces ≡ pieces_of (utf16_units (filter_text bytes))
   pub modules : filter.modules ≡ []
 
--- it is no text
-pub record IsNoFilterText (bytes : List ℕ) (failed : Bool) (old new : Option (List ℕ)) : Type 0 where
+-- it is no text, or the text has a faulty line, the first of which is told
+pub record IsNoUtf8 (bytes : List ℕ) (failed : Bool) (old new : Option (List ℕ)) : Type 0 where
   pub none : IsUtf8 bytes → ⊥
   pub told : Tells failed old new (codes "filter file is not text\n")
+
+pub record HasFaultyLine (bytes : List ℕ) (failed : Bool) (old new : Option (List ℕ)) : Type 0 where
+  pub fault : FileFault
+  pub first : file_fault bytes ≡ Some fault
+  pub told : Tells failed old new (file_fault_text fault ++ codes "\n")
+
+abbrev pub IsNoFilterText : List ℕ → (failed : Bool) → (old new : Option (List ℕ)) → Type 0
+IsNoFilterText bytes failed old new = IsNoUtf8 bytes failed old new ⊎ HasFaultyLine bytes failed old new
 
 -- or the text of its lines has a fault
 abbrev pub FilterFileIsFaulty : List ℕ → (failed : Bool) → (old new : Option (List ℕ)) → Type 0
@@ -115,3 +128,8 @@ pub record IsNotRead (broken : Bool) (to_come : Option (List ℕ)) (failed : Boo
 -- memory ran out, no read failed, and that is told
 abbrev pub RanOut : (broken_before broken_after : Bool) → (failed : Bool) → (old new : Option (List ℕ)) → Type 0
 RanOut broken_before broken_after failed old new = (broken_after ≡ broken_before) × TellsNoMemory failed old new
+
+-- that the text of a filter's file has no pattern is told, and nothing of another
+pub record Notes {S : Type 0} (text : List ℕ) (failed : Bool) (old new : S) (gone_before gone_after : Option (List ℕ)) : Type 0 where
+  pub some : has_pattern text ≡ true → new ≡ old
+  pub none : has_pattern text ≡ false → Tells failed gone_before gone_after (codes "filter file has no pattern\n")

@@ -22,7 +22,7 @@ pub(crate) fn joined_lines(alloc: Global, text: &str) -> Result<String, AllocErr
 
 /// A line without the carriage return at its end.
 #[tactic(auto, using(crate::proofs::FilterFileLemmas::suffix_dropped, crate::proofs::FilterFileLemmas::suffix_kept))]
-fn without_return(line: &str) -> &str
+pub(crate) fn without_return(line: &str) -> &str
     ensures { result.now ≡ without_return line.now }
 {
     match line.strip_suffix('\r') {
@@ -33,7 +33,7 @@ fn without_return(line: &str) -> &str
 
 /// A line, or nothing where it is a comment.
 #[tactic(auto, using(crate::proofs::FilterFileLemmas::comment, crate::proofs::FilterFileLemmas::no_comment))]
-fn uncommented(line: &str) -> &str
+pub(crate) fn uncommented(line: &str) -> &str
     ensures { result.now ≡ uncommented line.now }
 {
     if line.starts_with('#') { "" } else { line }

@@ -5,13 +5,18 @@
 //! fault is told; so is the reading of a source whole, up to a limit.
 #![tactic(auto)]
 
+mod faulty_line;
+mod file_fault;
 mod filter_file;
 mod limit;
+mod no_pattern;
 mod settings;
 mod status;
 mod whole;
 
+pub use file_fault::{FileCause, FileFault};
 pub use limit::limit_of;
+pub use no_pattern::note_patterns;
 pub use settings::{filter_in, filter_of, filter_text_in, modules_of};
 pub use status::{
     ACCEPTED, CUT, FAILED, MISUSED, REFUSED, tell_failure, tell_input_fault, tell_misuse,

@@ -1,10 +1,13 @@
 //! What a command line sets beside its input: the filter of a text or a file, and the table of modules of a file.
-ghost use Rattle.std.specs.Prelude.{◌≡◌, ◌≢◌, ◌≤◌, ◌⊎◌, [], length, IfOk, IfErr, OnOk, IfSome, string_bytes};
+ghost use Rattle.std.specs.Prelude.{◌≡◌, ◌≢◌, ◌≤◌, ◌⊎◌, ◌++◌, [], codes, length, IfOk, IfErr, OnOk, IfSome, string_bytes};
 ghost use Rattle.jser_prim.specs.ModifiedUtf8.{utf16_units};
 ghost use Rattle.jser_filter.specs.Filters.{AreSound};
 ghost use Rattle.jser_filter.specs.Pieces.{pieces_of};
-ghost use Rattle.jser_settings.specs.Settings.{most_modules_bytes, TellsNoMemory, RanOut, TellsFilterFault, TellsModulesFault, FilterIsFaulty, IsFilterOf, IsTextOf, IsNoFilterText, FilterFileIsFaulty, IsTable, IsNotRead, ModulesAreFaulty};
+ghost use Rattle.jser_settings.specs.FileFaults.{file_fault_text};
+ghost use Rattle.jser_settings.specs.Settings.{most_modules_bytes, Tells, TellsNoMemory, RanOut, TellsFilterFault, TellsModulesFault, FilterIsFaulty, IsFilterOf, IsTextOf, IsNoFilterText, FilterFileIsFaulty, IsTable, IsNotRead, ModulesAreFaulty};
 
+use crate::faulty_line::first_fault;
+use crate::file_fault::FileFault;
 use crate::filter_file::joined_lines;
 use crate::status::{tell_failure, tell_misuse, tell_misuse_of};
 use crate::whole::{WholeFault, read_whole};
@@ -51,8 +54,8 @@ fn tell_filter_fault<E: Sink>(alloc: Global, fault: FilterFault, faults: &mut E)
 ///
 /// # Errors
 ///
-/// The status, after its line was written to `faults`: 2 for bytes that are no UTF-8; 3 where a read failed, there are more
-/// bytes, or memory ran out.
+/// The status, after its line was written to `faults`: 2 for bytes that are no UTF-8, and for a faulty line, with the first; 3
+/// where a read failed, there are more bytes, or memory ran out.
 pub fn filter_text_in<R: Source, E: Sink>(
     alloc: Global,
     input: &mut R,
@@ -86,18 +89,30 @@ fn text_of_bytes<E: Sink>(alloc: Global, bytes: &[u8], faults: &mut E) -> Result
     let Ok(text) = str::from_utf8(bytes) else {
         return Err(tell_misuse(faults, "filter file is not text\n"));
     };
+    if let Some(fault) = first_fault(text) {
+        return Err(tell_file_fault(alloc, fault, faults));
+    }
     match joined_lines(alloc, text) {
         Ok(joined) => Ok(joined),
         Err(_) => Err(tell_failure(faults, "out of memory\n")),
     }
 }
 
+/// Tells the faulty line of a filter's file, and returns its status.
+fn tell_file_fault<E: Sink>(alloc: Global, fault: FileFault, faults: &mut E) -> u8
+    ensures tells { result ≡ 2 → Tells (E.has_failed faults.new) (E.gone_out faults.old) (E.gone_out faults.new) (file_fault_text fault ++ codes "\n") }
+    ensures failed { result ≡ 3 → TellsNoMemory (E.has_failed faults.new) (E.gone_out faults.old) (E.gone_out faults.new) }
+    ensures status { (result ≡ 2) ⊎ (result ≡ 3) }
+{
+    tell_misuse_of(faults, format!(in alloc; "{fault}\n"))
+}
+
 /// The filter that a file holds, of the text that `filter_text_in` reads. Its table of modules is empty.
 ///
 /// # Errors
 ///
-/// The status, after its line was written to `faults`: 2 for bytes that are no UTF-8, and for a faulty text, with its first
-/// fault; 3 where a read failed, there are more bytes, or memory ran out.
+/// The status, after its line was written to `faults`: 2 for bytes that are no UTF-8, for a faulty line, and for a faulty text,
+/// with its first fault; 3 where a read failed, there are more bytes, or memory ran out.
 #[tactic(auto, using(crate::proofs::FilterFileLemmas::filter_of_text, crate::proofs::FilterFileLemmas::text_is_faulty))]
 pub fn filter_in<R: Source, E: Sink>(
     alloc: Global,

@@ -13,7 +13,7 @@ use Rattle.std.proofs.lemmas.Map.Text.{is_eq-slice_cmp}
 use Rattle.jser_prim.specs.ModifiedUtf8.{utf16_units}
 use Rattle.jser_table.specs.Names.{ElementOf, element, primitive_element, malformed_element, element_of, ends_in}
 use Rattle.jser_reading.specs.GateLimits.{Each}
-use Rattle.jser_suggest.specs.Suggested.{is_writable, is_one_line}
+use Rattle.jser_suggest.specs.Suggested.{is_plain, is_writable}
 use Rattle.jser_suggest.specs.Samples.{Some_of, Among, ElementAmong}
 use Rattle.jser_index.specs.Listed.{IsList}
 use Rattle.jser_reader.specs.declared.Stop.TheVariants as stop
@@ -87,7 +87,7 @@ units_of : {Y : Type 0} (name : List ℕ) (text : String Y) → IsUtf16Of name (
 units_of name text u =
     ap (λ cs. flat_map encode_utf16 cs) (sym (chars_from_encodes u.0 (string_bytes text) (IsUtf8-string_bytes text) (sym u.2))) ∙ sym u.1
 
-pub adds_name : {X Y : Type 0} (name : List ℕ) (text : String Y) (old new : List (List ℕ)) (result : Result (Unit {0}) X) → IsUtf16Of name (string_bytes text) → is_writable name ≡ true → is_one_line name ≡ true
+pub adds_name : {X Y : Type 0} (name : List ℕ) (text : String Y) (old new : List (List ℕ)) (result : Result (Unit {0}) X) → IsUtf16Of name (string_bytes text) → is_writable name ≡ true → is_plain name ≡ true
     → OnOk result (InsertsName (utf16_units (string_bytes text)) old new) → OnOk result (AddsName name old new)
 adds_name name text old new (Ok x) u w l i = ((w, l), subst (λ n. InsertsName n old new) (units_of name text u) i)
 adds_name name text old new (Err why) u w l i = tt
@@ -99,7 +99,7 @@ pub gains_one : {X : Type 0} (name class : List ℕ) (old new : List (List ℕ))
 gains_one name class old new (Ok x) e a = record {
   there = (subst (ElementAmong new) e a.1.there, tt);
   keeps = a.1.keeps;
-  gains = λ other among. elim (a.1.gains other among) [ inl was ↦ inl was | inr same ↦ inr (inl (sym e ∙ ap element (sym same)), (ap is_writable same ∙ a.0.0, ap is_one_line same ∙ a.0.1)) ];
+  gains = λ other among. elim (a.1.gains other among) [ inl was ↦ inl was | inr same ↦ inr (inl (sym e ∙ ap element (sym same)), (ap is_writable same ∙ a.0.0, ap is_plain same ∙ a.0.1)) ];
 }
 gains_one name class old new (Err why) e a = tt
 

@@ -16,6 +16,7 @@ use Rattle.jser_suggest.specs.Gathering.{GainsAll}
 use Rattle.jser_suggest.specs.Answers.{GainsNames, Learns}
 use Rattle.jser_suggest.proofs.LawLemmas.{each_of, some_of}
 use Rattle.jser_suggest.proofs.GatherLemmas.{element_kept}
+use Rattle.jser_suggest.proofs.PlainLemmas.{plain_line}
 use Rattle.jser_suggest.proofs.TextLemmas.{AreLimits, reads_suggested, suggested_line}
 use Rattle.jser_prim.specs.ModifiedUtf8.{utf16_units}
 use Rattle.jser_filter.specs.Pieces.{pieces_of}
@@ -91,7 +92,7 @@ learns bytes list measured old new names m g r = λ streams are.
             (λ b f. (f.0, fits_more old new b f.0 (omega (arith, r.bytes)) (omega (arith, r.refs)) (omega (arith, r.depth)) (omega (arith, r.array)) gained.keeps f.1)) are.fit,
       );
       writable = λ name among. elim (gained.gains name among) [ inl was ↦ are.writable name was | inr own ↦ own.1.0 ];
-      one_line = λ name among. elim (gained.gains name among) [ inl was ↦ are.one_line name was | inr own ↦ own.1.1 ];
+      plain = λ name among. elim (gained.gains name among) [ inl was ↦ are.plain name was | inr own ↦ own.1.1 ];
       bytes_from =
           raised_from (λ n. OfStream (λ b l. length b ≡ n)) bytes streams old.bytes measured.totals.bytes new.bytes r.bytes
           (inr (list, m.passes, sym m.totals.all_bytes)) are.bytes_from;
@@ -120,7 +121,7 @@ pub known_none : AreKnown [] (record { bytes = 0; refs = 0; depth = 0; array = 0
 known_none = record {
   fit = tt;
   writable = λ name among. absurd among;
-  one_line = λ name among. absurd among;
+  plain = λ name among. absurd among;
   bytes_from = inl refl;
   refs_from = inl refl;
   depth_from = inl refl;
@@ -164,5 +165,5 @@ text_pieces streams known (Err why) are e = tt
 
 pub text_line : {X Y : Type 0} (streams : List (List ℕ)) (known : Known) (result : Result (String Y) X) → AreKnown streams known
     → IfOk result (λ text. utf16_units (string_bytes text) ≡ suggested_text known) → IfOk result (λ text. is_one_line (utf16_units (string_bytes text)) ≡ true)
-text_line streams known (Ok text) are e = ap is_one_line e ∙ suggested_line known (are_limits streams known are) are.one_line
+text_line streams known (Ok text) are e = ap is_one_line e ∙ suggested_line known (are_limits streams known are) (λ name among. plain_line name (are.plain name among))
 text_line streams known (Err why) are e = tt

@@ -7,3 +7,4 @@ pub mod MeasureLemmas
 pub mod GatherLemmas
 pub mod UnitLemmas
 pub mod KnownLemmas
+pub mod PlainLemmas

@@ -2,14 +2,13 @@
 use Rattle.std.specs.Prelude.{◌≡◌, ◌⊎◌, ℕ, true, false, List, map}
 use Rattle.std.specs.BTreeSet.{BTreeSet, keys}
 use Rattle.std.specs.Prelude.{String, string_bytes}
-use Rattle.std.specs.Char.Utf16.{has_unpaired_surrogate}
 use Rattle.jser_prim.specs.ModifiedUtf8.{utf16_units}
 use Rattle.jser_table.specs.Names.{element, malformed_element, element_of}
 use Rattle.jser_reading.specs.GateLimits.{Each}
 use Rattle.jser_reader.specs.declared.Stop.TheVariants as stop
 use Rattle.jser_suggest.specs.declared.samples.SampleFault.{SampleFault}
 use Rattle.jser_suggest.specs.declared.samples.SampleFault.TheVariants as fault
-use Rattle.jser_suggest.specs.Suggested.{has, is_writable, is_one_line}
+use Rattle.jser_suggest.specs.Suggested.{is_plain, is_writable}
 use Rattle.jser_suggest.specs.Samples.{Some_of, Among, ElementAmong}
 
 -- the units of the texts that a set keeps
@@ -22,9 +21,9 @@ pub record InsertsName (name : List ℕ) (old new : List (List ℕ)) : Type 0 wh
   pub keeps : (other : List ℕ) → Among old other → Among new other
   pub gains : (other : List ℕ) → Among new other → Among old other ⊎ (other ≡ name)
 
--- a pattern means it alone, in a text of one line
+-- a pattern means it alone, and it has only plain signs
 abbrev pub CanBeWritten : List ℕ → Type 0
-CanBeWritten name = (is_writable name ≡ true) × (is_one_line name ≡ true)
+CanBeWritten name = (is_writable name ≡ true) × (is_plain name ≡ true)
 
 abbrev pub AddsName : (name : List ℕ) → (old new : List (List ℕ)) → Type 0
 AddsName name old new = CanBeWritten name × InsertsName name old new
@@ -39,10 +38,9 @@ pub record GainsAll (checked : List (List ℕ)) (old new : List (List ℕ)) : Ty
   pub keeps : (other : List ℕ) → Among old other → Among new other
   pub gains : (other : List ℕ) → Among new other → Among old other ⊎ (Some_of (IsElement other) checked × CanBeWritten other)
 
--- no piece of a filter's text allows the name alone; or it has a line feed; or it is no text that a command line can hold
+-- no piece of a filter's text allows the name alone; or it has a sign that is not plain
 abbrev pub CannotBeWritten : List ℕ → Type 0
-CannotBeWritten name =
-    (is_writable name ≡ false) ⊎ ((is_one_line name ≡ false) ⊎ ((has 0 name ≡ true) ⊎ (has_unpaired_surrogate name ≡ true)))
+CannotBeWritten name = (is_writable name ≡ false) ⊎ (is_plain name ≡ false)
 
 abbrev pub IsNoMemory : SampleFault → Type 0
 IsNoMemory why = why ≡ fault.Stop stop.OutOfMemory

@@ -7,7 +7,7 @@ use Rattle.jser_grammar.specs.Counts.{depth_of, refs_of, array_lengths}
 use Rattle.jser_reading.specs.GateLimits.{Each}
 use Rattle.jser_verdict.specs.Passing.{Passes}
 use Rattle.jser_reader.specs.Gates.{open_gate}
-use Rattle.jser_suggest.specs.Suggested.{Known, is_writable, is_one_line}
+use Rattle.jser_suggest.specs.Suggested.{Known, is_plain, is_writable}
 
 -- this holds of one of them
 abbrev pub Some_of : {A : Type 0} → (A → Type 0) → List A → Type 0
@@ -48,7 +48,7 @@ HasElement name list = Some_of (λ checked. element_of checked ≡ element name)
 pub record AreKnown (streams : List (List ℕ)) (known : Known) : Type 0 where
   pub fit : Each (λ bytes. (list : ContentTrees) × Fits known bytes list) streams
   pub writable : (name : List ℕ) → Among known.names name → is_writable name ≡ true
-  pub one_line : (name : List ℕ) → Among known.names name → is_one_line name ≡ true
+  pub plain : (name : List ℕ) → Among known.names name → is_plain name ≡ true
   pub bytes_from : (known.bytes ≡ 0) ⊎ Some_of (OfStream (λ bytes list. length bytes ≡ known.bytes)) streams
   pub refs_from : (known.refs ≡ 0) ⊎ Some_of (OfStream (λ bytes list. refs_of list ≡ known.refs)) streams
   pub depth_from : (known.depth ≡ 0) ⊎ Some_of (OfStream (λ bytes list. depth_of list ≡ known.depth)) streams

@@ -1,6 +1,9 @@
 -- The filter that is suggested for good streams: its pieces, its text, and which names can be written in it.
-use Rattle.std.specs.Prelude.{ℕ, Bool, true, false, not, ◌==◌, ◌||◌, List, [], ◌∷◌, ◌++◌, map, codes, None}
-use Rattle.std.specs.List.{list_any}
+use Rattle.std.specs.Prelude.{ℕ, Bool, true, false, not, ◌==◌, ◌||◌, List, [], ◌∷◌, ◌++◌, map, codes, Option, None, Some}
+use Rattle.std.specs.List.{list_all, list_any}
+use Rattle.std.specs.Char.Unicode.Alphabetic.{is_alphabetic}
+use Rattle.std.specs.Char.Unicode.Numeric.{is_numeric}
+use Rattle.std.specs.Char.Utf16.{lone_unit_char}
 use Rattle.std.specs.Fmt.{decimal}
 use Rattle.jser_table.specs.Names.{ends_in}
 use Rattle.jser_filter.specs.declared.limit.Limit.TheVariants as limit
@@ -57,3 +60,15 @@ is_writable name =
 -- Whether a text has one line: in a filter's file a line feed ends a piece.
 abbrev pub is_one_line : List ℕ → Bool
 is_one_line units = not (has 0x0A units)
+
+-- Whether a name is written in a filter as it is: it has only letters and digits, by Unicode, and `_`, `$`, `.` and `-`. None
+-- of these moves a terminal, or is read as another in a file of properties. The halves of a surrogate pair are no letters.
+abbrev pub is_plain_sign : Option ℕ → Bool
+is_plain_sign None = false
+is_plain_sign (Some c) = (is_alphabetic c || is_numeric c) || (c == 0x5F || (c == 0x24 || (c == 0x2E || c == 0x2D)))
+
+abbrev pub is_plain_unit : ℕ → Bool
+is_plain_unit unit = is_plain_sign (lone_unit_char unit)
+
+abbrev pub is_plain : List ℕ → Bool
+is_plain name = list_all is_plain_unit name

@@ -16,8 +16,8 @@ pub fn is_least()
     ensures { IsLeast }
 {}
 
-/// A name that `Samples::add` tells as one that cannot be written is allowed alone by no piece of any filter's text, unless a
-/// line or the command line cannot hold it.
+/// A name that `Samples::add` tells as one that cannot be written is allowed alone by no piece of any filter's text, unless it
+/// has a sign that is not plain.
 pub fn only_writable()
     ensures { OnlyWritable }
 {}

@@ -3,7 +3,7 @@ ghost use Rattle.std.specs.Prelude.{◌≡◌, [], ◌∷◌, IfErr, OnOk, strin
 ghost use Rattle.jser_prim.specs.ModifiedUtf8.{utf16_units};
 ghost use Rattle.jser_table.specs.Names.{ends_in};
 ghost use Rattle.jser_suggest.specs.Answers.{GainsNames, IsNoSample};
-ghost use Rattle.jser_suggest.specs.Suggested.{begins, has, is_writable};
+ghost use Rattle.jser_suggest.specs.Suggested.{begins, has, is_plain, is_plain_unit, is_writable};
 ghost use Rattle.jser_suggest.specs.Gathering.{AddsName, GainsAll, IfUnwritable, InsertsName, IsFaultOf, IsNoMemory, IsTold, name_list};
 
 use crate::samples::SampleFault;
@@ -62,12 +62,12 @@ fn gather_one(alloc: Global, name: &[u16], names: &mut BTreeSet<String>) -> Resu
 }
 
 /// Adds the name of a class.
-#[tactic(auto, using(crate::proofs::GatherLemmas::adds_name))]
+#[tactic(auto, using(crate::proofs::GatherLemmas::adds_name, crate::proofs::PlainLemmas::plain_paired))]
 fn add_name(alloc: Global, class: &[u16], names: &mut BTreeSet<String>) -> Result<(), SampleFault>
     ensures gains { OnOk result (AddsName class.now (name_list names.old) (name_list names.new)) }
     ensures fault { IfErr result (IsFaultOf class.now) }
 {
-    if !is_writable(class) || has(0x0A, class) || has(0, class) {
+    if !is_writable(class) || !is_plain(class) {
         return Err(unwritable(alloc, class));
     }
     let text: Result<Result<String, FromUtf16Error>, AllocError> = String::from_utf16(alloc, class);
@@ -110,6 +110,23 @@ fn is_writable(name: &[u16]) -> bool
         || has(0x3D, name)
         || has(0x2F, name)
         || ends_in(0x2A, name))
+}
+
+/// Whether a name has only plain signs.
+fn is_plain(name: &[u16]) -> bool
+    ensures { result ≡ is_plain name.now }
+{
+    name.iter().all(|unit| is_plain_unit(*unit))
+}
+
+/// Whether a unit is a letter or digit, or one of `_`, `$`, `.` and `-`.
+fn is_plain_unit(unit: u16) -> bool
+    ensures { result ≡ is_plain_unit unit }
+{
+    match char::from_u32(u32::from(unit)) {
+        Some(sign) => sign.is_alphanumeric() || matches!(sign, '_' | '$' | '.' | '-'),
+        None => false,
+    }
 }
 
 /// Whether a name begins with this unit.

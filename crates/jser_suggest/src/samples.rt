@@ -20,9 +20,8 @@ use std::marker::Model;
 pub enum SampleFault {
     /// The bytes are no stream within the greatest limits, with the first fault; or memory ran out. Never `Spent`.
     Stop(Stop),
-    /// No pattern of a filter means this class alone: its name is empty, has `;`, `=` or `/`, begins with `!` or ends with
-    /// `*`; or it has a line feed, which would end a line of a filter's file; or it is no text that a command line can hold.
-    /// These are its UTF-16 units.
+    /// No pattern of a filter can safely name this class: its name is empty, or has a unit that is no letter or digit and none
+    /// of `_`, `$`, `.` and `-`. Such a unit may be read as a part of the filter, or move a terminal. These are its UTF-16 units.
     Unwritable(Vec<u16>),
 }
 

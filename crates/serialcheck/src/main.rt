@@ -17,10 +17,13 @@ use crate::suggest::suggest_from;
 use jser_commands::{Job, run};
 use jser_filter::{Filter, Modules};
 use jser_inputs::{Decoded, Form, Input};
-use jser_line::{Clash, Filters, Line, LineFault, line_of};
+use jser_line::{Clash, Filters, Line, LineFault, line_of, printable};
 use jser_prim::{FromRead, Sink, ToWrite};
-use jser_scan::{How, Rules};
-use jser_settings::{filter_of, filter_text_in, limit_of, modules_of, tell_failure, tell_misuse};
+use jser_scan::{FilePath, How, Rules};
+use jser_settings::{
+    FAILED, filter_of, filter_text_in, limit_of, modules_of, note_patterns, tell_failure,
+    tell_misuse,
+};
 use std::alloc::{AllocError, Global};
 use std::env;
 use std::fs::File;
@@ -84,7 +87,15 @@ fn on_words<W: Sink, E: Sink>(
             Some(Clash::Filters) => {
                 tell_misuse(faults, "--filter and --filter-file are both given\n")
             }
-            Some(Clash::Forms) => tell_misuse(faults, "--hex and --base64 are both given\n"),
+            Some(Clash::HexAndBase64) => {
+                tell_misuse(faults, "--hex and --base64 are both given\n")
+            }
+            Some(Clash::HexAndBase64Url) => {
+                tell_misuse(faults, "--hex and --base64url are both given\n")
+            }
+            Some(Clash::BothBase64) => {
+                tell_misuse(faults, "--base64 and --base64url are both given\n")
+            }
         },
         Ok(None) => tell_misuse(faults, "no command\n"),
         Err(fault) => tell_line_fault(alloc, &fault, faults),
@@ -208,9 +219,19 @@ fn tell_line_fault<E: Sink>(alloc: Global, fault: &LineFault, faults: &mut E) ->
     match fault {
         LineFault::OutOfMemory => tell_failure(faults, "out of memory\n"),
         LineFault::Clap(error) => match error.to_string(alloc) {
-            Ok(text) => tell_misuse(faults, text.as_str()),
+            Ok(text) => tell_clap(alloc, text.as_str(), faults),
             Err(_) => tell_failure(faults, "out of memory\n"),
         },
+    }
+}
+
+/// Writes what clap tells, which repeats words of the line.
+fn tell_clap<E: Sink>(alloc: Global, text: &str, faults: &mut E) -> u8
+    ensures { (result ≡ 2) ⊎ (result ≡ 3) }
+{
+    match printable(alloc, text) {
+        Ok(text) => tell_misuse(faults, text.as_str()),
+        Err(_) => tell_failure(faults, "out of memory\n"),
     }
 }
 
@@ -254,8 +275,21 @@ pub(crate) fn filter_text<E: Sink>(
         return Ok(String::new(alloc));
     };
     match File::open(rt, file.as_str()) {
-        Ok(opened) => filter_text_in(alloc, &mut FromRead::new(opened), faults),
+        Ok(opened) => filter_text_of(alloc, opened, faults),
         Err(_) => Err(tell_unopened(alloc, file.as_str(), faults)),
+    }
+}
+
+/// The text of the filter that an opened file holds. That it has no pattern is told.
+fn filter_text_of<E: Sink>(alloc: Global, opened: File, faults: &mut E) -> Result<String, u8>
+    ensures { IfErr result (λ status. (status ≡ 2) ⊎ (status ≡ 3)) }
+{
+    match filter_text_in(alloc, &mut FromRead::new(opened), faults) {
+        Ok(text) => {
+            note_patterns(text.as_str(), faults);
+            Ok(text)
+        }
+        Err(status) => Err(status),
     }
 }
 
@@ -333,8 +367,12 @@ fn on_input<R: Input, W: Sink, E: Sink>(
 pub(crate) fn tell_unopened<E: Sink>(alloc: Global, file: &str, faults: &mut E) -> u8
     ensures { result ≡ 3 }
 {
-    match format!(in alloc; "cannot open {file}\n") {
-        Ok(text) => tell_failure(faults, text.as_str()),
-        Err(_) => tell_failure(faults, "out of memory\n"),
-    }
+    let Ok(text) = String::from_str(alloc, file) else {
+        return tell_failure(faults, "out of memory\n");
+    };
+    let Ok(path) = FilePath::new(alloc, text) else {
+        return tell_failure(faults, "out of memory\n");
+    };
+    jser_scan::tell_unopened(&path, faults);
+    FAILED
 }

@@ -199,12 +199,14 @@ fn found_in(rt: &HostRuntime, task: &Task<'_>, path: &str) -> Found {
     let alloc = rt.alloc();
     if path == "-" {
         let input = Decoded::new(FromRead::new(rt.stdin()), task.form);
-        return check_file(alloc, task.rules, input);
+        let (found, _input) = check_file(alloc, task.rules, input);
+        return found;
     }
     match File::open(rt, path) {
         Ok(opened) => {
             let input = Decoded::new(FromRead::new(opened), task.form);
-            check_file(alloc, task.rules, input)
+            let (found, _input) = check_file(alloc, task.rules, input);
+            found
         }
         Err(error) => unopened(&error),
     }

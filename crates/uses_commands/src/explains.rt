@@ -2,7 +2,7 @@
 ghost use Rattle.std.specs.Prelude.{◌≡◌, ◌≢◌, Some, None, IfSome, true, false};
 ghost use Rattle.std.specs.Io.KnownBytes.{Appends};
 ghost use Rattle.jser_commands.specs.Lines.{SaysRefused};
-ghost use Rattle.jser_explain.specs.Explains.{asked, Begins, TellsWhy};
+ghost use Rattle.jser_explain.specs.Explains.{asked, Explained, LeavesSome, TellsWhy};
 ghost use Rattle.uses_commands.specs.Answers.{EachListPrints, IsNo, IsYes};
 
 use jser_explain::explain;
@@ -13,7 +13,8 @@ use jser_scan::Rules;
 use std::alloc::Global;
 
 /// Whether the filter admits the stream of an input, under these rules. Where it does, the line of `check` went out, and nothing
-/// else; where it does not, that line went out first. `None` where a device failed or memory ran out, and then that was told.
+/// else; where it does not, that line went out, and then why. `None` where a device failed or memory ran out, and then that was told, and no other
+/// line went out, or some of these.
 pub fn explained<R: Input + Drop, W: Sink, E: Sink>(
     alloc: Global,
     rules: Rules,
@@ -25,7 +26,8 @@ pub fn explained<R: Input + Drop, W: Sink, E: Sink>(
     ensures yes { result ≡ Some true → IfSome (R.to_come input) (IsYes (asked «rules»)) }
     ensures no { result ≡ Some false → IfSome (R.to_come input) (IsNo (asked «rules»)) }
     ensures printed { result ≡ Some true → IfSome (R.to_come input) (λ bytes. EachListPrints (asked «rules») bytes (Appends (W.gone_out output.old) (W.gone_out output.new))) }
-    ensures said { result ≡ Some false → IfSome (R.to_come input) (λ bytes. SaysRefused (asked «rules») bytes (Begins (W.gone_out output.old) (W.gone_out output.new))) }
+    ensures said { result ≡ Some false → IfSome (R.to_come input) (λ bytes. SaysRefused (asked «rules») bytes (Explained «rules» (W.gone_out output.old) (W.gone_out output.new))) }
+    ensures failed { result ≡ None → LeavesSome «rules» (R.to_come input) (W.has_failed output.new) (W.gone_out output.old) (W.gone_out output.new) }
     ensures why { result ≡ None → TellsWhy (W.has_failed output.new) (E.has_failed faults.new) (E.gone_out faults.old) (E.gone_out faults.new) }
     ensures quiet { result ≢ None → faults.new ≡ faults.old }
     ensures unbroken { result ≢ None → W.has_failed output.new ≡ W.has_failed output.old }

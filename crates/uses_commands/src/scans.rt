@@ -28,7 +28,7 @@ pub fn scan_one<R: Input + Drop, W: Sink, E: Sink>(
     ensures kept { OnOk result (W.has_failed output.new ≡ W.has_failed output.old) }
     ensures failed { OnErr result (W.has_failed output.new ≡ true) }
 {
-    let found = check_file(alloc, rules, input);
+    let (found, _input) = check_file(alloc, rules, input);
     tally.note(&found);
     print_found(how, path, &found, output, faults)
 }

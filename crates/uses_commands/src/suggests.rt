@@ -1,5 +1,6 @@
 //! What a printed filter is worth.
-ghost use Rattle.std.specs.Prelude.{◌≡◌, ◌≤◌, IfOk, [], ◌∷◌};
+ghost use Rattle.std.specs.Prelude.{◌≡◌, ◌≢◌, ◌≤◌, IfOk, [], ◌∷◌, true};
+ghost use Rattle.std.specs.Io.KnownBytes.{Keeps};
 ghost use Rattle.jser_suggest.specs.Samples.{AreKnown};
 ghost use Rattle.uses_commands.specs.Suggests.{PrintsFilterOf};
 
@@ -9,7 +10,8 @@ use jser_suggest::laws::admits;
 use jser_suggest::{SampleFault, Samples};
 use std::alloc::Global;
 
-/// Prints the filter that is suggested for one stream, and at 0 did; or tells why there is none.
+/// Prints the filter that is suggested for one stream, and at 0 did; or tells why there is none. At 3 nothing was printed, where
+/// the output did not fail.
 pub fn suggest_one<W: Sink, E: Sink>(
     alloc: Global,
     path: &FilePath,
@@ -18,6 +20,7 @@ pub fn suggest_one<W: Sink, E: Sink>(
     faults: &mut E,
 ) -> u8
     ensures admits { result ≡ 0 → PrintsFilterOf bytes.now (W.gone_out output.old) (W.gone_out output.new) }
+    ensures nothing { result ≡ 3 → W.has_failed output.new ≢ true → Keeps (W.gone_out output.old) (W.gone_out output.new) }
     ensures quiet { result ≡ 0 → faults.new ≡ faults.old }
     ensures status { result ≤ 3 }
 {

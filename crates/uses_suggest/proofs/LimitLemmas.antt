@@ -23,7 +23,7 @@ refuses_one others few many (Err why) least are tighter has = tt
 
 never : (name : List ℕ) → OnlyWritable → CannotBeWritten name → IsNeverAlone name
 never name law (inl not_writable) = λ text alone. absurd (let no : true ≡ false = sym (law text name alone) ∙ not_writable in cc no)
-never name law (inr others) = λ text alone. others
+never name law (inr not_plain) = λ text alone. not_plain
 
 told : (name checked : List ℕ) → OnlyWritable → IsUnwritable name checked → (element_of name ≡ malformed_element) ⊎ IsNeverAlone name
 told name checked law (inl cannot) = inr (never name law cannot.1)

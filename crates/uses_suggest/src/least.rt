@@ -7,7 +7,7 @@ ghost use Rattle.jser_check.specs.declared.gate.Options.{Options};
 ghost use Rattle.jser_check.specs.Admitted.{AreAdmitted};
 ghost use Rattle.jser_suggest.specs.Laws.{Has, IsAllowed};
 ghost use Rattle.jser_suggest.specs.Samples.{AreKnown, HasElement, OfStream};
-ghost use Rattle.jser_suggest.specs.Suggested.{is_one_line};
+ghost use Rattle.jser_suggest.specs.Suggested.{is_one_line, is_plain};
 
 use jser_filter::Filter;
 use jser_suggest::laws::{admits, allows_only};
@@ -23,16 +23,18 @@ pub enum Unsuggested {
     NoMemory,
 }
 
-/// The filter that is suggested for two streams. It admits both, strict or not, and allows no class that neither has.
+/// The filter that is suggested for two streams. It admits both, strict or not, and allows no class that neither has, nor one
+/// whose name has a sign that is not plain.
 ///
 /// # Errors
 ///
 /// `NoSample`, where one of them is none; `NoMemory`.
-#[tactic(auto, using(crate::proofs::LeastLemmas::both_admitted, crate::proofs::LeastLemmas::one_has))]
+#[tactic(auto, using(crate::proofs::LeastLemmas::both_admitted, crate::proofs::LeastLemmas::one_has, crate::proofs::LeastLemmas::plain_alone))]
 pub fn filter_of_two(alloc: Global, first: &[u8], second: &[u8]) -> Result<Filter, Unsuggested>
     ensures admits { IfOk result (λ filter. (options : Options) → AreAdmitted filter options first.now × AreAdmitted filter options second.now) }
     ensures no_other { IfOk result (λ filter. (name : List ℕ) → IsAllowed (verdict_by filter (element name))
         → OfStream (λ bytes list. HasElement name list) first.now ⊎ OfStream (λ bytes list. HasElement name list) second.now) }
+    ensures plain { IfOk result (λ filter. (name : List ℕ) → IsAllowed (verdict_by filter (element name)) → is_plain name ≡ true) }
 {
     admits();
     allows_only();

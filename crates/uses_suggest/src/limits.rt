@@ -28,7 +28,7 @@ pub fn filter_of_few(alloc: Global, few: &Samples, many: &Samples) -> Result<Fil
 }
 
 /// The name of the stream's class for which no filter is suggested, if that is why. It is malformed, or no piece of any filter's
-/// text allows it alone, unless a line or the command line cannot hold it.
+/// text allows it alone, unless it has a sign that is not plain.
 pub fn unwritable_name(alloc: Global, bytes: &[u8]) -> Option<Vec<u16>>
     ensures { IfSome result (λ name. (element_of name.items ≡ malformed_element) ⊎ IsNeverAlone name.items) }
 {

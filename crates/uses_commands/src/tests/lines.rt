@@ -32,7 +32,7 @@ fn a_check_with_a_filter(rt: HostRuntime) {
             );
             holds(
                 &rt,
-                !strict && !anywhere && !forms.hex && !forms.base64,
+                !strict && !anywhere && !forms.hex && !forms.base64 && !forms.base64url,
                 "no options",
             );
             same(&rt, &file.as_str(), &"-", "the file");
@@ -58,7 +58,7 @@ fn a_show_with_a_limit(rt: HostRuntime) {
 
 #[test]
 fn clashes(rt: HostRuntime) {
-    let rows: [(&[&str], Option<Clash>); 3] = [
+    let rows: [(&[&str], Option<Clash>); 5] = [
         (
             &[
                 "serialcheck",
@@ -73,7 +73,15 @@ fn clashes(rt: HostRuntime) {
         ),
         (
             &["serialcheck", "list", "--hex", "--base64", "-"],
-            Some(Clash::Forms),
+            Some(Clash::HexAndBase64),
+        ),
+        (
+            &["serialcheck", "show", "--base64url", "--hex", "-"],
+            Some(Clash::HexAndBase64Url),
+        ),
+        (
+            &["serialcheck", "suggest", "--base64", "--base64url", "-"],
+            Some(Clash::BothBase64),
         ),
         (&["serialcheck", "list", "--hex", "-"], None),
     ];

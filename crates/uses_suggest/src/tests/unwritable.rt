@@ -1,4 +1,4 @@
-//! Class names that no pattern of a filter means alone, and bytes that are no stream.
+//! Class names that no pattern of a filter can safely name, and bytes that are no stream.
 
 use crate::tests::asserted::{holds, same};
 use jser_suggest::{SampleFault, Samples};
@@ -29,8 +29,8 @@ fn answer_to(rt: &(impl Abort + AllocGlobal), name: &[u8]) -> Option<Vec<u16>> {
 }
 
 #[test]
-fn names_that_no_pattern_means_alone(rt: HostRuntime) {
-    let names: [&[u8]; 10] = [
+fn names_that_no_pattern_can_safely_name(rt: HostRuntime) {
+    let names: [&[u8]; 19] = [
         b"",
         b"A;B",
         b"A=",
@@ -41,6 +41,15 @@ fn names_that_no_pattern_means_alone(rt: HostRuntime) {
         b"A\nB",
         b"A\xC0\x80B",
         b"A\xED\xA0\x80",
+        b"A!",
+        b"A*B",
+        b" A ",
+        b"\x1B[2J\x1B[31m",
+        b"a.\\u002a",
+        b"$(touch x)",
+        b"A\xE2\x80\xAE",
+        b"A\xC2\xA0",
+        b"A\xEE\x80\x80",
     ];
     for name in names {
         holds(&rt, answer_to(&rt, name).is_some(), "it is told");
@@ -62,7 +71,15 @@ fn the_name_is_told(rt: HostRuntime) {
 
 #[test]
 fn names_that_can_be_written(rt: HostRuntime) {
-    let names: [&[u8]; 6] = [b"A", b"a.B$C", b"A!", b"A*B", b" A ", b"\xC3\xA9"];
+    let names: [&[u8]; 7] = [
+        b"A",
+        b"a.B$C",
+        b"a-b.C_9",
+        b"9",
+        b"\xC3\xA9",
+        b"\xE4\xB8\x80",
+        b"\xD9\xA3",
+    ];
     for name in names {
         holds(&rt, answer_to(&rt, name).is_none(), "it is taken");
     }

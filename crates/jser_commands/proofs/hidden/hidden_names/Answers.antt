@@ -18,7 +18,7 @@ names-preserved-then-is_hidden c = record {
   gathers = gathers_more (names_in_tallies (tallies_of c.args.checked.now.entries)) (names_in 0 c.args.bytes.now) (untold c.names.names) (untold c.next.new.self)
       _ c.names.places c.note.new.self c.names.hidden c.push.new.self c.note.result
       c.names.invariant.gathers c.in-Some.ensures.tells (omega (arith, c.in-Some.ensures.inside, c.names.invariant.size, ap length c.names.invariant.same))
-      c.note.ensures c.if-note.true c.units.result.now c.units-then-is_hidden.result.now c.units.ensures c.units-then-is_hidden.ensures
+      c.note.ensures c.if-note.true c.text.result.now c.units.result.now c.units-then-is_hidden.result.now c.text.ensures c.units.ensures c.units-then-is_hidden.ensures
       (sym c.is_hidden.ensures ∙ c.if-is_hidden.true) c.in_ok-push.ensures.pushed;
   size = ap length c.note.ensures.noted ∙ search rules;
   same = c.in-Some.ensures.same ∙ c.names.invariant.same;

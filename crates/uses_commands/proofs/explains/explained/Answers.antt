@@ -24,3 +24,6 @@ returns-clause-quiet g c h = c.explain.ensures.quiet (c.said_of.ensures.some h)
 
 pub returns-clause-unbroken : goal.returns-clause-unbroken
 returns-clause-unbroken g c h = c.explain.ensures.unbroken (c.said_of.ensures.some h)
+
+pub returns-clause-failed : goal.returns-clause-failed
+returns-clause-failed g c h = c.explain.ensures.failed (not_told _ c.explain.ensures.status (c.said_of.ensures.none h))

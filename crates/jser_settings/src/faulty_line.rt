@@ -1,0 +1,90 @@
+//! The first faulty line of a filter's file.
+ghost use Rattle.std.specs.Prelude.{◌≡◌, ◌≤◌, length};
+ghost use Rattle.jser_settings.specs.FileFaults.{begins_with_mark, cause_of, file_fault, has_blank, has_sign, is_blank};
+ghost use Rattle.jser_settings.specs.Settings.{most_modules_bytes};
+
+use crate::file_fault::{FileCause, FileFault};
+use crate::filter_file::{uncommented, without_return};
+
+/// The first faulty line of a text, if one is faulty.
+pub(crate) fn first_fault(text: &str) -> Option<FileFault>
+    requires { length text.now ≤ most_modules_bytes }
+    ensures { result ≡ file_fault text.now }
+{
+    if begins_with_mark(text.as_bytes()) {
+        return Some(FileFault {
+            line: 0,
+            cause: FileCause::ByteOrderMark,
+        });
+    }
+    let mut number: usize = 0;
+    let mut rest = text;
+    'lines: while let Some((line, after)) = rest.split_once('\n') {
+        if let Some(cause) = cause_of(uncommented(without_return(line)).as_bytes()) {
+            return Some(FileFault {
+                line: number,
+                cause,
+            });
+        }
+        number += 1;
+        rest = after;
+    }
+    match cause_of(uncommented(rest).as_bytes()) {
+        Some(cause) => Some(FileFault {
+            line: number,
+            cause,
+        }),
+        None => None,
+    }
+}
+
+/// Whether a text begins with a byte order mark.
+fn begins_with_mark(bytes: &[u8]) -> bool
+    ensures { result ≡ begins_with_mark bytes.now }
+{
+    match bytes {
+        [a, b, c, ..] => *a == 0xEF && *b == 0xBB && *c == 0xBF,
+        _ => false,
+    }
+}
+
+/// What is wrong with a line, without its carriage return and its comment.
+fn cause_of(line: &[u8]) -> Option<FileCause>
+    ensures { result ≡ cause_of line.now }
+{
+    if has_sign(line) {
+        Some(FileCause::NumberSign)
+    } else if has_blank(line) {
+        Some(FileCause::WhiteSpace)
+    } else {
+        None
+    }
+}
+
+/// Whether a line has a `#`.
+fn has_sign(line: &[u8]) -> bool
+    ensures { result ≡ has_sign line.now }
+{
+    line.iter().any(|byte| *byte == b'#')
+}
+
+/// Whether some piece of a line begins or ends with white space.
+fn has_blank(line: &[u8]) -> bool
+    ensures { result ≡ has_blank line.now }
+{
+    let mut before = b';';
+    'bytes: for byte in line {
+        if (is_blank(*byte) && before == b';') || (is_blank(before) && *byte == b';') {
+            return true;
+        }
+        before = *byte;
+    }
+    is_blank(before)
+}
+
+/// Whether a byte is white space.
+fn is_blank(byte: u8) -> bool
+    ensures { result ≡ is_blank byte }
+{
+    byte == b' ' || (0x09..=0x0D).contains(&byte)
+}

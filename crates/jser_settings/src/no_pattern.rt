@@ -1,0 +1,66 @@
+//! A filter's file without a pattern refuses no class: it may be an empty file, in place of another.
+ghost use Rattle.std.specs.Prelude.{◌≡◌, true, false};
+ghost use Rattle.jser_settings.specs.NoPatterns.{has_pattern, is_pattern, with_byte};
+ghost use Rattle.jser_settings.specs.Settings.{Notes};
+
+use crate::status::tell_failure;
+use jser_prim::Sink;
+
+/// A piece of a filter's text, as far as it was read.
+#[derive(Clone, Copy, PartialEq, Eq, Debug)]
+pub(crate) enum PieceSoFar {
+    /// It has no character.
+    Empty,
+    /// It has characters, and no `=`.
+    Pattern,
+    /// It has a `=`.
+    Limit,
+}
+
+/// Tells that the text of a filter's file has no pattern, if it has none. This changes no answer.
+pub fn note_patterns<E: Sink>(text: &str, faults: &mut E)
+    ensures { Notes text.now (E.has_failed faults.new) faults.old faults.new (E.gone_out faults.old) (E.gone_out faults.new) }
+{
+    if !has_pattern(text.as_bytes()) {
+        let _ = tell_failure(faults, "filter file has no pattern\n");
+    }
+}
+
+/// Whether a text has a piece that is a pattern.
+fn has_pattern(text: &[u8]) -> bool
+    ensures { result ≡ has_pattern text.now }
+{
+    let mut before = PieceSoFar::Empty;
+    'bytes: for byte in text {
+        if *byte == b';' {
+            if is_pattern(before) {
+                return true;
+            }
+            before = PieceSoFar::Empty;
+        } else {
+            before = with_byte(before, *byte);
+        }
+    }
+    is_pattern(before)
+}
+
+/// A piece with one character more.
+fn with_byte(before: PieceSoFar, byte: u8) -> PieceSoFar
+    ensures { result ≡ with_byte before byte }
+{
+    match before {
+        PieceSoFar::Limit => PieceSoFar::Limit,
+        _ if byte == b'=' => PieceSoFar::Limit,
+        _ => PieceSoFar::Pattern,
+    }
+}
+
+/// Whether a piece is a pattern.
+fn is_pattern(piece: PieceSoFar) -> bool
+    ensures { result ≡ is_pattern piece }
+{
+    match piece {
+        PieceSoFar::Pattern => true,
+        _ => false,
+    }
+}
