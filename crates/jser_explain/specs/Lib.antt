@@ -1,5 +1,4 @@
-pub mod Devices
-pub mod Explains
 pub mod Opened
 pub mod Rest
 pub mod Whys
+pub mod Explains

@@ -1,6 +1,6 @@
 -- What is said of a refusal behind its line. Each function puts its words before what follows.
 use Rattle.std.specs.declared.alloc.Global.{Global}
-use Rattle.std.specs.Prelude.{ℕ, ◌-◌, min, Bool, List, [], ◌∷◌, ◌++◌, codes, take, drop, Option, Some, None, Vec}
+use Rattle.std.specs.Prelude.{ℕ, ◌≡◌, ◌-◌, min, Bool, List, [], ◌∷◌, ◌++◌, codes, take, drop, Option, Some, None, Vec}
 use Rattle.std.specs.Fmt.{decimal}
 use Rattle.std.specs.Io.KnownBytes.{Appends}
 use Rattle.hex.specs.Hex.{encode_lower}
@@ -64,22 +64,32 @@ abbrev pub head_words : (sentence bytes : List ℕ) → Spot → Option (List �
 head_words sentence bytes spot class k =
     sentence_line sentence (field_line spot (first_bytes bytes spot) (class_line class k))
 
--- that of what was found; nothing where it is no refusal
-abbrev pub head_at : Option Spot → (sentence bytes : List ℕ) → Option (List ℕ) → List ℕ → List ℕ
-head_at None sentence bytes class k = k
-head_at (Some spot) sentence bytes class k = head_words sentence bytes spot class k
+-- those of what was found, and then more; nothing where it is no refusal
+abbrev pub head_at : Option Spot → (sentence bytes : List ℕ) → Option (List ℕ) → (more : List ℕ → List ℕ) → List ℕ → List ℕ
+head_at None sentence bytes class more k = k
+head_at (Some spot) sentence bytes class more k = head_words sentence bytes spot class (more k)
 
-abbrev pub why_words : (sentence bytes : List ℕ) → Found → List ℕ → List ℕ
-why_words sentence bytes result k = head_at (field_of result) sentence bytes (class_in result) k
+abbrev pub why_words : (sentence bytes : List ℕ) → Found → (more : List ℕ → List ℕ) → List ℕ → List ℕ
+why_words sentence bytes result more k = head_at (field_of result) sentence bytes (class_in result) more k
 
--- Why the bytes are refused went out: a sentence, the bytes of the refusal, its class, and then more.
+-- Why the bytes are refused went out: a sentence, the bytes of the refusal, its class, and then more; nothing where they are
+-- not refused.
 pub record SaysWhy (bytes : List ℕ) (result : Found) (old new : Option (List ℕ)) : Type 0 where
   pub sentence : List ℕ
-  pub more : List ℕ
-  pub printed : Appends old new (why_words sentence bytes result more)
+  pub more : List ℕ → List ℕ
+  pub printed : Appends old new (why_words sentence bytes result more [])
+
+-- the first bytes of that went out
+pub record SaysSomeWhy (bytes : List ℕ) (result : Found) (old new : Option (List ℕ)) : Type 0 where
+  pub sentence : List ℕ
+  pub more : List ℕ → List ℕ
+  pub out : List ℕ
+  pub left : List ℕ
+  pub split : why_words sentence bytes result more [] ≡ out ++ left
+  pub printed : Appends old new out
 
 -- the same of what was said
 pub record SaysWhyTo {S : Type 0} (gone_out : S → Option (List ℕ)) (has_failed : S → Bool) (bytes : List ℕ) (result : Found) (old new : Outgoing) (before after : S) : Type 0 where
   pub sentence : List ℕ
   pub more : List ℕ → List ℕ
-  pub said : SaysTo gone_out has_failed old new before after (λ k. why_words sentence bytes result (more k))
+  pub said : SaysTo gone_out has_failed old new before after (λ k. why_words sentence bytes result more k)

@@ -1,8 +1,10 @@
 //! The answer of a check, and why.
 ghost use Rattle.std.specs.Prelude.{◌≡◌, ◌≢◌, ◌⊎◌, IfSome};
+ghost use Rattle.jser_scan.specs.Founds.{IsFound};
+ghost use Rattle.jser_scan.specs.declared.check.Rules.{Rules};
 ghost use Rattle.std.specs.Io.KnownBytes.{Appends};
 ghost use Rattle.jser_commands.specs.Lines.{SaysAccepted, SaysRefused};
-ghost use Rattle.jser_explain.specs.Explains.{asked, Begins, GoesOn, IsCheck, TellsWhy};
+ghost use Rattle.jser_explain.specs.Explains.{asked, Explained, ExplainsAll, ExplainsSome, IsCheck, LeavesSome, TellsWhy};
 
 use crate::kept::Kept;
 use crate::why::{WhyFault, print_why};
@@ -18,7 +20,7 @@ use std::alloc::Global;
 /// `faults`.
 ///
 /// The bytes that the check reads are kept, and those of a refused input are checked a second time.
-#[tactic(auto, using(crate::proofs::ExplainLemmas::says_more, crate::proofs::ExplainLemmas::says_no_more, crate::proofs::ExplainLemmas::status_of))]
+#[tactic(auto, using(crate::proofs::ExplainLemmas::says_no_more, crate::proofs::ExplainLemmas::status_of))]
 pub fn explain<R: Input + Drop, W: Sink, E: Sink>(
     alloc: Global,
     rules: Rules,
@@ -28,7 +30,8 @@ pub fn explain<R: Input + Drop, W: Sink, E: Sink>(
     faults: &mut E,
 ) -> u8
     ensures accepted { result ≡ 0 → IfSome (R.to_come input) (λ bytes. SaysAccepted (asked «rules») bytes (Appends (W.gone_out output.old) (W.gone_out output.new))) }
-    ensures refused { result ≡ 1 → IfSome (R.to_come input) (λ bytes. SaysRefused (asked «rules») bytes (Begins (W.gone_out output.old) (W.gone_out output.new))) }
+    ensures refused { result ≡ 1 → IfSome (R.to_come input) (λ bytes. SaysRefused (asked «rules») bytes (Explained «rules» (W.gone_out output.old) (W.gone_out output.new))) }
+    ensures failed { result ≡ 3 → LeavesSome «rules» (R.to_come input) (W.has_failed output.new) (W.gone_out output.old) (W.gone_out output.new) }
     ensures why { result ≡ 3 → TellsWhy (W.has_failed output.new) (E.has_failed faults.new) (E.gone_out faults.old) (E.gone_out faults.new) }
     ensures unbroken { result ≢ 3 → W.has_failed output.new ≡ W.has_failed output.old }
     ensures quiet { result ≢ 3 → faults.new ≡ faults.old }
@@ -61,8 +64,10 @@ fn job_of(rules: Rules) -> Job
 }
 
 /// The rules of a check.
+#[tactic(auto, using(crate::proofs::ExplainLemmas::rules_of_check, crate::proofs::ExplainLemmas::rules_of_anywhere))]
 fn rules_of(job: Job) -> Rules
     requires { IsCheck «job» }
+    ensures { (rules : Rules) → «job» ≡ asked rules → result ≡ rules }
 {
     let (filter, strict, anywhere) = match job {
         Job::Check { filter, strict } => (filter, strict, false),
@@ -77,7 +82,7 @@ fn rules_of(job: Job) -> Rules
 }
 
 /// Prints why these bytes are refused, which were just refused under these rules.
-#[tactic(auto, using(crate::proofs::ExplainLemmas::told_of_write, crate::proofs::ExplainLemmas::told_of_memory))]
+#[tactic(auto, using(crate::proofs::ExplainLemmas::explains_all, crate::proofs::ExplainLemmas::explains_front, crate::proofs::ExplainLemmas::explains_none, crate::proofs::ExplainLemmas::told_of_write, crate::proofs::ExplainLemmas::told_of_memory))]
 fn write_more<W: Sink, E: Sink>(
     alloc: Global,
     rules: &Rules,
@@ -86,7 +91,8 @@ fn write_more<W: Sink, E: Sink>(
     output: &mut W,
     faults: &mut E,
 ) -> u8
-    ensures more { result ≡ 1 → GoesOn (W.gone_out output.old) (W.gone_out output.new) }
+    ensures more { result ≡ 1 → ExplainsAll rules.now (W.gone_out output.old) (W.gone_out output.new) }
+    ensures failed { result ≡ 3 → ExplainsSome rules.now (W.has_failed output.new) (W.gone_out output.old) (W.gone_out output.new) }
     ensures why { result ≡ 3 → TellsWhy (W.has_failed output.new) (E.has_failed faults.new) (E.gone_out faults.old) (E.gone_out faults.new) }
     ensures unbroken { result ≡ 1 → W.has_failed output.new ≡ W.has_failed output.old }
     ensures quiet { result ≡ 1 → faults.new ≡ faults.old }
@@ -95,8 +101,7 @@ fn write_more<W: Sink, E: Sink>(
     let Some(bytes) = bytes else {
         return tell_failure(faults, "out of memory\n");
     };
-    let input = Decoded::new(FromRead::new(bytes), Form::Binary);
-    let found = check_file(alloc, rules, input);
+    let found = check_kept(alloc, rules, bytes);
     if let Found::OutOfMemory = found {
         return tell_failure(faults, "out of memory\n");
     }
@@ -105,4 +110,14 @@ fn write_more<W: Sink, E: Sink>(
         Err(WhyFault::Write) => tell_failure(faults, "write failed\n"),
         Err(WhyFault::OutOfMemory) => tell_failure(faults, "out of memory\n"),
     }
+}
+
+/// What the check finds of bytes.
+#[tactic(auto, using(crate::proofs::ExplainLemmas::found_of_kept))]
+fn check_kept(alloc: Global, rules: &Rules, bytes: &[u8]) -> Found
+    ensures { IsFound rules.now bytes.now result }
+{
+    let input = Decoded::new(FromRead::new(bytes), Form::Binary);
+    let (found, _input) = check_file(alloc, rules, input);
+    found
 }

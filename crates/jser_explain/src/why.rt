@@ -1,8 +1,8 @@
 //! The lines behind that of a refusal.
-ghost use Rattle.std.specs.Prelude.{◌≡◌, ◌++◌, OnOk, IfErr, Some, true};
+ghost use Rattle.std.specs.Prelude.{◌≡◌, ◌++◌, OnOk, OnErr, IfErr, Some, true};
 ghost use Rattle.jser_printer.specs.Says.{SaysTo};
 ghost use Rattle.jser_explain.specs.Rest.{rest_words};
-ghost use Rattle.jser_explain.specs.Whys.{field_of, head_words, sentence_line, SaysWhy, SaysWhyTo};
+ghost use Rattle.jser_explain.specs.Whys.{field_of, head_words, sentence_line, SaysSomeWhy, SaysWhy, SaysWhyTo};
 ghost use Rattle.jser_printer.specs.Names.{view_name};
 
 use crate::field::{Spot, bytes_at, class_in, spot_of, write_class, write_field};
@@ -14,7 +14,7 @@ use jser_grammar::wire::TC_CLASSDESC;
 use jser_index::{text_units, walk_along};
 use jser_prim::{Outbox, Sink};
 use jser_printer::{Name, Open, write};
-use jser_reader::Reason;
+use jser_reader::{OpenGate, Place, Reader, Reason, Stop};
 use jser_scan::{Found, Rules};
 use std::alloc::{AllocError, Global};
 
@@ -34,8 +34,9 @@ pub enum WhyFault {
 ///
 /// # Errors
 ///
-/// `Write` where the output failed, `OutOfMemory` where memory ran out. The first lines may have gone out.
-#[tactic(auto, using(crate::proofs::WhyLemmas::why_went, crate::proofs::WhyLemmas::why_broke, crate::proofs::WhyLemmas::why_kept))]
+/// `Write` where the output failed, and the first bytes of the lines may have gone out; `OutOfMemory` where memory ran out, and
+/// nothing went out.
+#[tactic(auto, using(crate::proofs::WhyLemmas::why_went, crate::proofs::WhyLemmas::why_broke, crate::proofs::WhyLemmas::why_some, crate::proofs::WhyLemmas::why_kept))]
 pub fn print_why<W: Sink>(
     alloc: Global,
     rules: &Rules,
@@ -47,6 +48,8 @@ pub fn print_why<W: Sink>(
     ensures printed { OnOk result (SaysWhy bytes.now found.now (W.gone_out output.old) (W.gone_out output.new)) }
     ensures kept { OnOk result (W.has_failed output.new ≡ W.has_failed output.old) }
     ensures failed { IfErr result (λ fault. fault ≡ WhyFault.Write → W.has_failed output.new ≡ true) }
+    ensures some { IfErr result (λ fault. fault ≡ WhyFault.Write → SaysSomeWhy bytes.now found.now (W.gone_out output.old) (W.gone_out output.new)) }
+    ensures nothing { IfErr result (λ fault. fault ≡ WhyFault.OutOfMemory → output.new ≡ output.old) }
 {
     let mut outbox = Outbox::new();
     if write_why(alloc, &mut outbox, output, rules, text, bytes, found).is_err() {
@@ -71,7 +74,8 @@ fn write_why<W: Sink>(
     bytes: &[u8],
     found: &Found,
 ) -> Result<(), AllocError>
-    ensures { OnOk result (SaysWhyTo W.gone_out W.has_failed bytes.now found.now outbox.old outbox.new sink.old sink.new) }
+    ensures says { OnOk result (SaysWhyTo W.gone_out W.has_failed bytes.now found.now outbox.old outbox.new sink.old sink.new) }
+    ensures nothing { OnErr result (sink.new ≡ sink.old) }
 {
     let Some(spot) = spot_of(found) else {
         return Ok(());
@@ -83,7 +87,7 @@ fn write_why<W: Sink>(
     let rest = Rest {
         class: class.as_ref().map(Vec::as_slice),
         piece,
-        opened: without_raw_element(&opened, bytes, spot, found),
+        opened: without_raw_element(&opened, place_at(alloc, bytes, spot.from)?),
         writer: writer_in(&opened),
         hint: hint_of(found, bytes),
     };
@@ -196,21 +200,20 @@ fn is_behind_tag(bytes: &[u8], spot: Spot) -> bool {
     }
 }
 
-/// What is open, but for the element of an array of primitives: all its elements are one field, of which some bytes are
-/// there. A name that can be read at some place lies in such a field too.
-fn without_raw_element<'o, 'w>(
-    opened: &'o [Open<'w>],
-    bytes: &[u8],
-    spot: Spot,
-    found: &Found,
-) -> &'o [Open<'w>] {
-    let is_inside = match reason_of(found) {
-        Some(reason) => reason == Reason::Truncated && !bytes_at(bytes, spot).is_empty(),
-        None => true,
-    };
+/// What is open, but for the element of an array of primitives: all its elements are one field.
+fn without_raw_element<'o, 'w>(opened: &'o [Open<'w>], place: Place) -> &'o [Open<'w>] {
     match opened {
-        [others @ .., Open::Element { .. }] if is_inside => others,
+        [others @ .., Open::Element { .. }] if place == Place::Raw => others,
         _ => opened,
+    }
+}
+
+/// What the field is for that begins at a place, or has it inside.
+fn place_at(alloc: Global, bytes: &[u8], at: u64) -> Result<Place, AllocError> {
+    let mut reader = Reader::new(alloc, OpenGate);
+    match reader.skip(bytes_at(bytes, Spot { from: 0, to: at })) {
+        Err(Stop::OutOfMemory) => Err(AllocError),
+        _ => Ok(reader.place()),
     }
 }
 

@@ -3,3 +3,4 @@ pub mod AsStreamBox
 pub mod ToldLemmas
 pub mod PiecesLemmas
 pub mod TextLemmas
+pub mod ZeroLemmas

@@ -49,7 +49,7 @@ says_none filter options bytes answer s = record {
 
 fault_by : (filter : FilterView) (options : Options) (taken piece : List ℕ) (why : AnywhereFault) (answer : Answer) → TellsFault filter options taken piece why
     → HasFault answer why → SaysAnywhere filter options (taken ++ piece) answer
-fault_by filter options taken piece (fault.Stop (stop.Refused refusal)) answer t h = says_no filter options (taken ++ piece) refusal answer h ((t.0.right, t.0.first), t.1)
+fault_by filter options taken piece (fault.Stop (stop.Refused refusal)) answer t h = says_no filter options (taken ++ piece) refusal answer h (((t.0.right, t.0.first), t.1), λ is. absurd (t.0.whole is))
 fault_by filter options taken piece (fault.Stop stop.OutOfMemory) answer t h = says_none filter options (taken ++ piece) answer h
 fault_by filter options taken piece (fault.Stop stop.Spent) answer t h = absurd t
 fault_by filter options taken piece fault.ReadFault answer t h = absurd t
@@ -57,7 +57,7 @@ fault_by filter options taken piece (fault.Hidden from to) answer t h = says_hid
 
 end_by : (filter : FilterView) (options : Options) (taken : List ℕ) (why : AnywhereFault) (answer : Answer) → EndTells filter options taken (Err why)
     → HasFault answer why → SaysAnywhere filter options taken answer
-end_by filter options taken (fault.Stop (stop.Refused refusal)) answer t h = says_no filter options taken refusal answer h ((t.right, t.first), λ from to hidden. absurd (t.passes from to hidden))
+end_by filter options taken (fault.Stop (stop.Refused refusal)) answer t h = says_no filter options taken refusal answer h (((t.right, t.first), λ from to hidden. absurd (t.passes from to hidden)), λ is. t.passes)
 end_by filter options taken (fault.Stop stop.OutOfMemory) answer t h = absurd t
 end_by filter options taken (fault.Stop stop.Spent) answer t h = absurd t
 end_by filter options taken fault.ReadFault answer t h = absurd t

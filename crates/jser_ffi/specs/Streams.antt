@@ -7,7 +7,7 @@ use Rattle.jser_ffi.specs.declared.compiled.Compiled.{Compiled}
 use Rattle.jser_ffi.specs.declared.stream.Stream.{Stream}
 use Rattle.jser_ffi.specs.declared.stream.Stream.TheVariants as stream
 use Rattle.jser_ffi.specs.Compiling.{IsCompiled}
-use Rattle.jser_ffi.specs.Told.{SaysAnywhere, SaysPlain}
+use Rattle.jser_ffi.specs.Told.{SaysAnywhere, SaysPlain, Zeros}
 use Rattle.jser_ffi.specs.Pieces.{TakenAnywhere, RefusesPlain, RefusesUnder}
 
 -- it took these bytes, which decide nothing
@@ -21,6 +21,17 @@ abbrev pub under : Stream → Option (FilterWith × Bool)
 under (stream.Plain reader) = Some (reader.gate, false)
 under (stream.Anywhere reader scan) = Some (reader.gate, true)
 under (stream.Over answer) = None
+
+-- the answer that it keeps has zeros where its status does not speak of a number
+abbrev pub KeepsZeros : Stream → Type 0
+KeepsZeros (stream.Plain reader) = Unit {0}
+KeepsZeros (stream.Anywhere reader scan) = Unit {0}
+KeepsZeros (stream.Over answer) = Zeros answer
+
+-- the same of the stream of a handle
+abbrev pub HoldsZeros : Option Stream → Type 0
+HoldsZeros None = Unit {0}
+HoldsZeros (Some now) = KeepsZeros now
 
 -- nothing has come yet
 pub record Begins (compiled : Compiled) (now : Stream) : Type 0 where

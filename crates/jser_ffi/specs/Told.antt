@@ -1,5 +1,5 @@
 -- What the numbers of an answer to a check mean.
-use Rattle.std.specs.Prelude.{ℕ, ◌≡◌, ◌⊎◌, Bool, true, false, List, Option, Some, None}
+use Rattle.std.specs.Prelude.{ℕ, ◌≡◌, ◌≢◌, ◌⊎◌, Bool, true, false, List, Option, Some, None}
 use Rattle.jser_reader.specs.declared.Reason.{Reason}
 use Rattle.jser_reader.specs.declared.Reason.TheVariants as reason
 use Rattle.jser_reader.specs.declared.Refusal.{Refusal}
@@ -10,7 +10,10 @@ use Rattle.jser_filter.specs.Filters.{FilterView}
 use Rattle.jser_check.specs.declared.Options.{Options}
 use Rattle.jser_check.specs.Admitted.{gate_of_filter}
 use Rattle.jser_check.specs.Answers.{Reports, Refuses, CarriesFirst}
+use Rattle.jser_check.specs.Checks.{IsCut}
 use Rattle.jser_anywhere.specs.declared.Hidden.{Hidden}
+use Rattle.jser_anywhere.specs.Standing.{AllPass}
+use Rattle.jser_check_anywhere.specs.Passing.{passes_name}
 use Rattle.jser_check_anywhere.specs.declared.AnywhereFault.{AnywhereFault}
 use Rattle.jser_check_anywhere.specs.declared.AnywhereFault.TheVariants as fault
 use Rattle.jser_check_anywhere.specs.Answers.{NoneSooner, ReportsAnywhere, TellsHidden}
@@ -97,6 +100,29 @@ HasFirst answer (Some why) = HasFault answer why
 abbrev pub HasSooner : Answer → Refusal → Option Hidden → Type 0
 HasSooner answer refusal name = HasFault answer (sooner_of refusal name)
 
+-- ---- what a status does not speak of is 0
+
+-- the answer of a status alone
+abbrev pub bare_answer : (status : ℕ) → Answer
+bare_answer status =
+    record { status = status; reason = 0; from_byte = 0; to_byte = 0; bytes = 0; contents = 0; refs = 0; depth = 0; handles = 0 }
+
+-- no counts behind that of the bytes
+abbrev pub NoCounts : Answer → Type 0
+NoCounts answer = (answer.contents ≡ 0) × (answer.refs ≡ 0) × (answer.depth ≡ 0) × (answer.handles ≡ 0)
+
+-- counts stand beside a yes alone, but that a room which is too small has a length; an end beside a no; a reason and a place
+-- beside a no or a misuse
+pub record Zeros (answer : Answer) : Type 0 where
+  pub counts : answer.status ≢ 0 → NoCounts answer
+  pub bytes : answer.status ≢ 0 → answer.status ≢ 6 → answer.bytes ≡ 0
+  pub end : answer.status ≢ 1 → answer.to_byte ≡ 0
+  pub place : answer.status ≢ 1 → answer.status ≢ 2 → (answer.reason ≡ 0) × (answer.from_byte ≡ 0)
+
+-- of a text there is no count but its length
+abbrev pub TextZeros : Answer → Type 0
+TextZeros answer = Zeros answer × NoCounts answer
+
 -- ---- what a check says
 
 -- a refusal of which this holds stands in the answer
@@ -115,10 +141,11 @@ pub record SaysPlain (filter : FilterView) (options : Options) (bytes : List ℕ
   pub known : (answer.status ≡ 0) ⊎ ((answer.status ≡ 1) ⊎ (answer.status ≡ 3))
 
 -- The same of a check that asks about every class name that can be read at any place: no hidden name ends before the
--- refusal; or there is one, and no fault ends before it.
+-- refusal, and that the bytes end too early is told where all names pass; or there is one, and no fault ends before it.
 
 abbrev pub IsRightAnywhere : FilterView → Options → List ℕ → Refusal → Type 0
-IsRightAnywhere filter options bytes refusal = IsRight filter options bytes refusal × NoneSooner filter options bytes refusal.to_byte
+IsRightAnywhere filter options bytes refusal =
+    (IsRight filter options bytes refusal × NoneSooner filter options bytes refusal.to_byte) × (IsCut refusal → AllPass (passes_name filter options) bytes)
 
 abbrev pub TellsName : FilterView → Options → List ℕ → Answer → Type 0
 TellsName filter options bytes answer = (answer.reason ≡ 26) × TellsHidden filter options bytes answer.from_byte answer.to_byte

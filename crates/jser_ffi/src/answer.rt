@@ -1,6 +1,6 @@
 //! What a call answers, as C reads it.
 ghost use Rattle.std.specs.Prelude.{◌≡◌};
-ghost use Rattle.jser_ffi.specs.Told.{HasHidden, HasRefusal, HasReport, reason_number};
+ghost use Rattle.jser_ffi.specs.Told.{HasHidden, HasRefusal, HasReport, Zeros, bare_answer, reason_number};
 
 use jser_check::{Reason, Refusal, Report};
 
@@ -49,8 +49,10 @@ pub struct Answer {
 }
 
 /// The answer of an accepted stream.
+#[tactic(auto, using(crate::proofs::ZeroLemmas::yes_zeros))]
 pub(crate) fn accepted(report: Report) -> Answer
-    ensures { HasReport result report }
+    ensures has { HasReport result report }
+    ensures zeros { Zeros result }
 {
     Answer {
         bytes: report.bytes,
@@ -63,8 +65,10 @@ pub(crate) fn accepted(report: Report) -> Answer
 }
 
 /// The answer of a refusal.
+#[tactic(auto, using(crate::proofs::ZeroLemmas::no_zeros))]
 pub(crate) fn refused(refusal: Refusal) -> Answer
-    ensures { HasRefusal result refusal }
+    ensures has { HasRefusal result refusal }
+    ensures zeros { Zeros result }
 {
     Answer {
         reason: number_of(refusal.reason),
@@ -75,8 +79,10 @@ pub(crate) fn refused(refusal: Refusal) -> Answer
 }
 
 /// The answer of a class name that can be read at some place and does not pass.
+#[tactic(auto, using(crate::proofs::ZeroLemmas::no_zeros))]
 pub(crate) fn hidden(from_byte: u64, to_byte: u64) -> Answer
-    ensures { HasHidden result from_byte to_byte }
+    ensures has { HasHidden result from_byte to_byte }
+    ensures zeros { Zeros result }
 {
     Answer {
         reason: HIDDEN_NAME,
@@ -87,10 +93,12 @@ pub(crate) fn hidden(from_byte: u64, to_byte: u64) -> Answer
 }
 
 /// The answer of a misuse, by the number of its cause and that of the faulty piece or line.
+#[tactic(auto, using(crate::proofs::ZeroLemmas::misuse_zeros))]
 pub(crate) fn misuse(cause: u32, place: u64) -> Answer
     ensures status { result.status ≡ 2 }
     ensures reason { result.reason ≡ cause }
     ensures place { result.from_byte ≡ place }
+    ensures zeros { Zeros result }
 {
     Answer {
         reason: cause,
@@ -100,8 +108,11 @@ pub(crate) fn misuse(cause: u32, place: u64) -> Answer
 }
 
 /// The answer of a status alone.
+#[tactic(auto, using(crate::proofs::ZeroLemmas::bare_zeros))]
 pub(crate) fn bare(status: u32) -> Answer
-    ensures { result.status ≡ status }
+    ensures status { result.status ≡ status }
+    ensures is { result ≡ bare_answer status }
+    ensures zeros { Zeros result }
 {
     Answer {
         status,

@@ -1,7 +1,7 @@
 //! A filter that was read once, and the check of bytes under it.
 ghost use Rattle.std.specs.Prelude.{◌≡◌, ◌⊎◌, IfOk, IfErr};
 ghost use Rattle.jser_ffi.specs.Compiling.{IsCompiled, IsFilterOf, IsTableOf, TextIsFaulty, TextsAreFaulty, ModulesAreFaulty, SaysMisuse};
-ghost use Rattle.jser_ffi.specs.Told.{HasFault, Says, SaysAnywhere, SaysPlain};
+ghost use Rattle.jser_ffi.specs.Told.{HasFault, Says, SaysAnywhere, SaysPlain, Zeros};
 
 use crate::answer::{Answer, NO_MEMORY, SPENT, accepted, bare, hidden, misuse, refused};
 use crate::misuse::{
@@ -38,6 +38,7 @@ pub(crate) fn compile(
     ensures compiled { IfOk result (IsCompiled flags text.now modules.now) }
     ensures misuse { IfErr result (λ answer. answer.status ≡ 2 → SaysMisuse flags text.now modules.now answer) }
     ensures known { IfErr result (λ answer. (answer.status ≡ 2) ⊎ (answer.status ≡ 3)) }
+    ensures zeros { IfErr result Zeros }
 {
     let Some(way) = way_of(flags) else {
         return Err(misuse(UNKNOWN_FLAG, 0));
@@ -65,6 +66,7 @@ pub(crate) fn filter_with(alloc: Global, text: &[u8], modules: &[u8]) -> Result<
     ensures table { IfOk result (λ filter. IsTableOf modules.now filter.modules) }
     ensures faulty { IfErr result (λ answer. answer.status ≡ 2 → TextsAreFaulty text.now modules.now answer) }
     ensures known { IfErr result (λ answer. (answer.status ≡ 2) ⊎ (answer.status ≡ 3)) }
+    ensures zeros { IfErr result Zeros }
 {
     let filter = match filter_of(alloc, text) {
         Ok(filter) => filter,
@@ -81,6 +83,7 @@ fn filter_of(alloc: Global, text: &[u8]) -> Result<Filter, Answer>
     ensures filter { IfOk result (λ filter. IsFilterOf text.now filter.pieces) }
     ensures faulty { IfErr result (λ answer. answer.status ≡ 2 → TextIsFaulty text.now answer) }
     ensures known { IfErr result (λ answer. (answer.status ≡ 2) ⊎ (answer.status ≡ 3)) }
+    ensures zeros { IfErr result Zeros }
 {
     let Ok(text) = str::from_utf8(text) else {
         return Err(misuse(FILTER_IS_NO_TEXT, 0));
@@ -96,6 +99,7 @@ fn table_of(alloc: Global, text: &[u8]) -> Result<Modules, Answer>
     ensures table { IfOk result (IsTableOf text.now) }
     ensures faulty { IfErr result (λ answer. answer.status ≡ 2 → ModulesAreFaulty text.now answer) }
     ensures known { IfErr result (λ answer. (answer.status ≡ 2) ⊎ (answer.status ≡ 3)) }
+    ensures zeros { IfErr result Zeros }
 {
     let Ok(text) = str::from_utf8(text) else {
         return Err(misuse(MODULES_ARE_NO_TEXT, 0));
@@ -109,7 +113,8 @@ fn table_of(alloc: Global, text: &[u8]) -> Result<Modules, Answer>
 impl Compiled {
     /// The answer to a check of bytes.
     pub(crate) fn check(&self, alloc: Global, bytes: &[u8]) -> Answer
-        ensures { Says self.now bytes.now result }
+        ensures says { Says self.now bytes.now result }
+        ensures zeros { Zeros result }
     {
         let (filter, options) = (self.applied.filter(), self.applied.options());
         if self.anywhere {
@@ -122,7 +127,8 @@ impl Compiled {
 
 /// The answer to a check of bytes.
 fn check_plain(alloc: Global, bytes: &[u8], filter: &Filter, options: Options) -> Answer
-    ensures { SaysPlain filter.now options bytes.now result }
+    ensures says { SaysPlain filter.now options bytes.now result }
+    ensures zeros { Zeros result }
 {
     match check_bytes(alloc, bytes, filter, options) {
         Ok(report) => accepted(report),
@@ -134,7 +140,8 @@ fn check_plain(alloc: Global, bytes: &[u8], filter: &Filter, options: Options) -
 /// The answer to a check of bytes that asks about every class name that can be read at any place.
 #[tactic(auto, using(crate::proofs::ToldLemmas::fault_says, crate::proofs::ToldLemmas::end_says, crate::proofs::ToldLemmas::report_says))]
 fn check_anywhere(alloc: Global, bytes: &[u8], filter: &Filter, options: Options) -> Answer
-    ensures { SaysAnywhere filter.now options bytes.now result }
+    ensures says { SaysAnywhere filter.now options bytes.now result }
+    ensures zeros { Zeros result }
 {
     let mut checker = AnywhereChecker::lent(alloc, filter, options);
     match checker.feed(bytes) {
@@ -148,7 +155,8 @@ fn check_anywhere(alloc: Global, bytes: &[u8], filter: &Filter, options: Options
 
 /// The answer to a fault.
 fn faulted(fault: AnywhereFault) -> Answer
-    ensures { HasFault result fault }
+    ensures has { HasFault result fault }
+    ensures zeros { Zeros result }
 {
     match fault {
         AnywhereFault::Stop(Stop::Refused(refusal)) => refused(refusal),

@@ -1,6 +1,7 @@
 //! The handle of a filter, as it lies in C's memory: it holds a filter, or nothing.
 ghost use Rattle.std.specs.Prelude.{◌≡◌, ◌≢◌, ◌⊎◌, Some, None, option_map};
 ghost use Rattle.jser_ffi.specs.Holding.{is_held};
+ghost use Rattle.jser_ffi.specs.Told.{Zeros, bare_answer};
 
 use crate::answer::{Answer, NO_MEMORY, YES, bare};
 use crate::compiled::Compiled;
@@ -71,6 +72,8 @@ impl FilterHandle {
         ensures filled { result.status ≡ 0 → self.new.owner.held ≡ Some compiled }
         ensures kept { result.status ≢ 0 → self.new ≡ self.old }
         ensures known { (result.status ≡ 0) ⊎ (result.status ≡ 3) }
+        ensures bare { result ≡ bare_answer result.status }
+        ensures zeros { Zeros result }
     {
         match Box::new(alloc, compiled) {
             Ok(home) => {

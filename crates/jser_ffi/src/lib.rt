@@ -10,8 +10,8 @@ ghost use Rattle.jser_ffi.specs.Compiling.{IsCompiled, SaysMisuse, TextsAreFault
 ghost use Rattle.jser_ffi.specs.Holding.{HoldsSuch};
 ghost use Rattle.jser_index.specs.Reading.{IsRefused};
 ghost use Rattle.jser_ffi.specs.Texts.{TellsList, TellsText};
-ghost use Rattle.jser_ffi.specs.Told.{Says, SaysUnder, TellsRefusal};
-ghost use Rattle.jser_ffi.specs.Streams.{Taken, Begins, BeginsUnder, FeedSays, EndSays};
+ghost use Rattle.jser_ffi.specs.Told.{Says, SaysUnder, TellsRefusal, TextZeros, Zeros, bare_answer};
+ghost use Rattle.jser_ffi.specs.Streams.{Taken, Begins, BeginsUnder, FeedSays, EndSays, HoldsZeros};
 ghost use Rattle.jser_ffi.specs.declared.answer.Answer.{Answer};
 ghost use Rattle.jser_ffi.specs.declared.stream.Stream.{Stream};
 ghost use Rattle.jser_ffi.specs.declared.stream.Stream.TheVariants as state;
@@ -50,6 +50,7 @@ pub extern "C" fn serialcheck_check(
     ensures says { (result ≡ 0) ⊎ (result ≡ 1) → SaysUnder flags filter.now [] bytes.now answer.new }
     ensures misuse { result ≡ 2 → SaysMisuse flags filter.now [] answer.new }
     ensures known { (result ≡ 0) ⊎ ((result ≡ 1) ⊎ ((result ≡ 2) ⊎ (result ≡ 3))) }
+    ensures zeros { Zeros answer.new }
 {
     *answer = answer_under(alloc, bytes, filter, flags);
     answer.status
@@ -60,6 +61,7 @@ fn answer_under(alloc: Global, bytes: &[u8], filter: &[u8], flags: u32) -> Answe
     ensures says { (result.status ≡ 0) ⊎ (result.status ≡ 1) → SaysUnder flags filter.now [] bytes.now result }
     ensures misuse { result.status ≡ 2 → SaysMisuse flags filter.now [] result }
     ensures known { (result.status ≡ 0) ⊎ ((result.status ≡ 1) ⊎ ((result.status ≡ 2) ⊎ (result.status ≡ 3))) }
+    ensures zeros { Zeros result }
 {
     match compile(alloc, filter, &[], flags) {
         Ok(compiled) => compiled.check(alloc, bytes),
@@ -83,6 +85,8 @@ pub extern "C" fn serialcheck_filter_new(
     ensures misuse { result ≡ 2 → SaysMisuse flags text.now modules.now answer.new }
     ensures kept { result ≢ 0 → filter.new ≡ filter.old }
     ensures known { (result ≡ 0) ⊎ ((result ≡ 2) ⊎ (result ≡ 3)) }
+    ensures zeros { Zeros answer.new }
+    ensures bare { result ≢ 2 → answer.new ≡ bare_answer result }
 {
     *answer = match compile(alloc, text, modules, flags) {
         Ok(compiled) => filter.fill(alloc, compiled),
@@ -103,6 +107,7 @@ pub extern "C" fn serialcheck_filter_check(
     ensures says { (compiled : Compiled) → filter.old.owner.held ≡ Some compiled → Says compiled bytes.now answer.new }
     ensures empty { filter.old.owner.held ≡ None → result ≡ 5 }
     ensures kept { filter.new.owner.held ≡ filter.old.owner.held }
+    ensures zeros { Zeros answer.new }
 {
     *answer = match filter.take(alloc) {
         Some(compiled) => {
@@ -138,6 +143,7 @@ pub extern "C" fn serialcheck_stream_new(
     ensures kept { result ≢ 4 → stream.new ≡ stream.old }
     ensures filter_kept { filter.new.owner.held ≡ filter.old.owner.held }
     ensures known { (result ≡ 4) ⊎ ((result ≡ 3) ⊎ (result ≡ 5)) }
+    ensures zeros { Zeros answer.new }
 {
     *answer = match filter.take(alloc) {
         Some(shared) => {
@@ -165,6 +171,7 @@ pub extern "C" fn serialcheck_stream_new_text(
     ensures misuse { result ≡ 2 → SaysMisuse flags text.now modules.now answer.new }
     ensures kept { result ≢ 4 → stream.new ≡ stream.old }
     ensures known { (result ≡ 4) ⊎ ((result ≡ 2) ⊎ (result ≡ 3)) }
+    ensures zeros { Zeros answer.new }
 {
     *answer = match compile(alloc, text, modules, flags) {
         Ok(compiled) => begun(alloc, &compiled, stream),
@@ -178,6 +185,7 @@ fn begun(alloc: Global, compiled: &Compiled, stream: &mut StreamHandle) -> Answe
     ensures begins { result.status ≡ 4 → HoldsSuch (Begins compiled.now) stream.new.owner.held }
     ensures kept { result.status ≢ 4 → stream.new ≡ stream.old }
     ensures known { (result.status ≡ 4) ⊎ (result.status ≡ 3) }
+    ensures zeros { Zeros result }
 {
     match Stream::new(alloc, compiled) {
         Ok(new) => stream.fill(alloc, new),
@@ -199,6 +207,7 @@ pub extern "C" fn serialcheck_stream_feed(
     ensures stops { stream.old.owner.held ≢ None → result ≢ 4 → stream.new.owner.held ≡ Some (state.Over answer.new) }
     ensures over { (before : Answer) → stream.old.owner.held ≡ Some (state.Over before) → (answer.new ≡ before) × (stream.new.owner.held ≡ Some (state.Over before)) }
     ensures empty { stream.old.owner.held ≡ None → (result ≡ 5) × (stream.new.owner.held ≡ None) }
+    ensures zeros { HoldsZeros stream.old.owner.held → Zeros answer.new × HoldsZeros stream.new.owner.held }
 {
     *answer = match stream.take(alloc) {
         Some(mut open) => {
@@ -222,6 +231,7 @@ pub extern "C" fn serialcheck_stream_end(
     ensures says { (old : Stream) → stream.old.owner.held ≡ Some old → (taken : List ℕ) → Taken old taken → EndSays old taken answer.new }
     ensures over { (before : Answer) → stream.old.owner.held ≡ Some (state.Over before) → answer.new ≡ before }
     ensures empty { stream.old.owner.held ≡ None → result ≡ 5 }
+    ensures zeros { HoldsZeros stream.old.owner.held → Zeros answer.new }
     ensures gone { stream.new.owner.held ≡ None }
 {
     *answer = match stream.take(alloc) {
@@ -245,6 +255,7 @@ pub extern "C" fn serialcheck_show(
     ensures refused { result ≡ 1 → TellsRefusal (IsRefused bytes.now) answer.new }
     ensures kept { (result ≡ 1) ⊎ (result ≡ 3) → room.new ≡ room.old }
     ensures known { (result ≡ 0) ⊎ ((result ≡ 1) ⊎ ((result ≡ 3) ⊎ (result ≡ 6))) }
+    ensures zeros { TextZeros answer.new }
 {
     *answer = text_into(alloc, bytes, room);
     answer.status
@@ -267,6 +278,7 @@ pub extern "C" fn serialcheck_list(
     ensures misuse { result ≡ 2 → TextsAreFaulty filter.now modules.now answer.new }
     ensures kept { (result ≡ 1) ⊎ ((result ≡ 2) ⊎ (result ≡ 3)) → room.new ≡ room.old }
     ensures known { (result ≡ 0) ⊎ ((result ≡ 1) ⊎ ((result ≡ 2) ⊎ ((result ≡ 3) ⊎ (result ≡ 6)))) }
+    ensures zeros { TextZeros answer.new }
 {
     *answer = list_text(alloc, bytes, filter, modules, room);
     answer.status

@@ -3,6 +3,7 @@ ghost use Rattle.std.specs.Prelude.{◌≡◌, ◌≢◌, ◌⊎◌};
 ghost use Rattle.jser_filter.specs.declared.FilterCause.TheVariants as cause;
 ghost use Rattle.jser_filter.specs.declared.ModulesCause.TheVariants as line;
 ghost use Rattle.jser_ffi.specs.Compiling.{filter_cause_number, modules_cause_number};
+ghost use Rattle.jser_ffi.specs.Told.{Zeros};
 
 use crate::answer::{Answer, NO_MEMORY, bare, misuse};
 use jser_filter::{FilterCause, FilterFault, ModulesCause, ModulesFault};
@@ -18,6 +19,7 @@ pub(crate) const UNKNOWN_FLAG: u32 = 10;
 pub(crate) fn filter_answer(fault: FilterFault) -> Answer
     ensures told { result.status ≡ 2 → (fault.cause ≢ cause.OutOfMemory) × (result.reason ≡ filter_cause_number fault.cause) × (result.from_byte ≡ fault.pattern) }
     ensures known { (result.status ≡ 2) ⊎ (result.status ≡ 3) }
+    ensures zeros { Zeros result }
 {
     let place = fault.pattern as u64;
     match fault.cause {
@@ -34,6 +36,7 @@ pub(crate) fn filter_answer(fault: FilterFault) -> Answer
 pub(crate) fn modules_answer(fault: ModulesFault) -> Answer
     ensures told { result.status ≡ 2 → (fault.cause ≢ line.OutOfMemory) × (result.reason ≡ modules_cause_number fault.cause) × (result.from_byte ≡ fault.line) }
     ensures known { (result.status ≡ 2) ⊎ (result.status ≡ 3) }
+    ensures zeros { Zeros result }
 {
     let place = fault.line as u64;
     match fault.cause {

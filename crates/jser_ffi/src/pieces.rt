@@ -2,7 +2,7 @@
 ghost use Rattle.std.specs.Prelude.{◌≡◌, ℕ, List};
 ghost use Rattle.jser_check.specs.Checks.{HasTaken};
 ghost use Rattle.jser_check_anywhere.specs.Joins.{first_of};
-ghost use Rattle.jser_ffi.specs.Told.{HasFirst, HasSooner, HasStop, SaysAnywhere, SaysPlain};
+ghost use Rattle.jser_ffi.specs.Told.{HasFirst, HasSooner, HasStop, SaysAnywhere, SaysPlain, Zeros};
 ghost use Rattle.jser_ffi.specs.Pieces.{TakenAnywhere, checking, FedPlain, FedAnywhere};
 
 use crate::answer::{Answer, MORE, NO_MEMORY, SPENT, accepted, bare, hidden, refused};
@@ -14,6 +14,7 @@ use jser_shared::SharedFilter;
 pub(crate) fn feed_plain(reader: &mut Reader<SharedFilter>, piece: &[u8]) -> Answer
     ensures says { (taken : List ℕ) → HasTaken reader.old taken → FedPlain reader.old reader.new taken piece.now result }
     ensures filter { reader.new.gate ≡ reader.old.gate }
+    ensures zeros { Zeros result }
 {
     match reader.skip(piece) {
         Ok(()) => bare(MORE),
@@ -23,7 +24,8 @@ pub(crate) fn feed_plain(reader: &mut Reader<SharedFilter>, piece: &[u8]) -> Ans
 
 /// The answer at the end.
 pub(crate) fn end_plain(reader: &mut Reader<SharedFilter>) -> Answer
-    ensures { (taken : List ℕ) → HasTaken reader.old taken → SaysPlain reader.old.gate.filter reader.old.gate.options taken result }
+    ensures says { (taken : List ℕ) → HasTaken reader.old taken → SaysPlain reader.old.gate.filter reader.old.gate.options taken result }
+    ensures zeros { Zeros result }
 {
     match reader.finish() {
         Ok(report) => accepted(report),
@@ -40,6 +42,7 @@ pub(crate) fn feed_anywhere(
     ensures says { (taken : List ℕ) → TakenAnywhere reader.old scan.old taken
         → FedAnywhere (checking reader.old scan.old) (checking reader.new scan.new) taken piece.now result }
     ensures filter { reader.new.gate ≡ reader.old.gate }
+    ensures zeros { Zeros result }
 {
     let checked = reader.skip(piece);
     let hidden = scan.feed(reader.gate(), piece);
@@ -48,7 +51,8 @@ pub(crate) fn feed_anywhere(
 
 /// The answer at the end, with every class name that can be read at any place.
 pub(crate) fn end_anywhere(reader: &mut Reader<SharedFilter>, scan: &Scan) -> Answer
-    ensures { (taken : List ℕ) → TakenAnywhere reader.old scan.now taken → SaysAnywhere reader.old.gate.filter reader.old.gate.options taken result }
+    ensures says { (taken : List ℕ) → TakenAnywhere reader.old scan.now taken → SaysAnywhere reader.old.gate.filter reader.old.gate.options taken result }
+    ensures zeros { Zeros result }
 {
     let _ = scan;
     match reader.finish() {
@@ -59,7 +63,8 @@ pub(crate) fn end_anywhere(reader: &mut Reader<SharedFilter>, scan: &Scan) -> An
 
 /// The answer to why a reader stopped.
 fn stopped(stop: Stop) -> Answer
-    ensures { HasStop result stop }
+    ensures has { HasStop result stop }
+    ensures zeros { Zeros result }
 {
     match stop {
         Stop::Refused(refusal) => refused(refusal),
@@ -70,7 +75,8 @@ fn stopped(stop: Stop) -> Answer
 
 /// The answer to the first fault of two: of the check of some bytes, and of the scan of the same bytes.
 fn first(checked: Result<(), Stop>, name: Option<Hidden>) -> Answer
-    ensures { HasFirst result (first_of checked name) }
+    ensures has { HasFirst result (first_of checked name) }
+    ensures zeros { Zeros result }
 {
     match (checked, name) {
         (Ok(()), None) => bare(MORE),
@@ -83,7 +89,8 @@ fn first(checked: Result<(), Stop>, name: Option<Hidden>) -> Answer
 
 /// The answer to a refusal and a hidden name: that with the lesser end, and of equal ends the refusal.
 fn sooner(refusal: Refusal, name: Option<Hidden>) -> Answer
-    ensures { HasSooner result refusal name }
+    ensures has { HasSooner result refusal name }
+    ensures zeros { Zeros result }
 {
     match name {
         Some(name) if name.to < refusal.to_byte => hidden(name.from, name.to),

@@ -1,8 +1,9 @@
 //! A stream that is checked in pieces.
 ghost use Rattle.std.specs.Prelude.{◌≡◌, ◌≢◌, ℕ, List, IfOk};
 ghost use Rattle.jser_ffi.specs.declared.answer.Answer.{Answer};
+ghost use Rattle.jser_ffi.specs.Told.{Zeros};
 ghost use Rattle.jser_ffi.specs.declared.stream.Stream.TheVariants as state;
-ghost use Rattle.jser_ffi.specs.Streams.{Taken, Begins, NextSays, FeedSays, EndSays};
+ghost use Rattle.jser_ffi.specs.Streams.{Taken, Begins, KeepsZeros, NextSays, FeedSays, EndSays};
 
 use crate::answer::{Answer, MORE};
 use crate::compiled::Compiled;
@@ -46,6 +47,7 @@ impl Stream {
     /// Takes the next bytes. Every answer but that more are wanted is its last.
     pub(crate) fn feed(&mut self, piece: &[u8]) -> Answer
         ensures says { (taken : List ℕ) → Taken self.old taken → FeedSays self.old self.new taken piece.now result }
+        ensures zeros { KeepsZeros self.old → Zeros result × KeepsZeros self.new }
         ensures stops { result.status ≢ 4 → self.new ≡ state.Over result }
         ensures over { (answer : Answer) → self.old ≡ state.Over answer → (result ≡ answer) × (self.new ≡ state.Over answer) }
     {
@@ -59,6 +61,7 @@ impl Stream {
     /// The same, and the stream goes on.
     fn next(&mut self, piece: &[u8]) -> Answer
         ensures says { (taken : List ℕ) → Taken self.old taken → NextSays self.old self.new taken piece.now result }
+        ensures zeros { KeepsZeros self.old → Zeros result × KeepsZeros self.new }
         ensures over { (answer : Answer) → self.old ≡ state.Over answer → (result ≡ answer) × (self.new ≡ state.Over answer) }
     {
         match self {
@@ -71,6 +74,7 @@ impl Stream {
     /// The answer at the end of the stream.
     pub(crate) fn finish(&mut self) -> Answer
         ensures says { (taken : List ℕ) → Taken self.old taken → EndSays self.old taken result }
+        ensures zeros { KeepsZeros self.old → Zeros result }
         ensures over { (answer : Answer) → self.old ≡ state.Over answer → result ≡ answer }
     {
         match self {

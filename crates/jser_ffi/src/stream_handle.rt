@@ -1,6 +1,7 @@
 //! The handle of a stream, as it lies in C's memory: it holds a stream, or nothing.
 ghost use Rattle.std.specs.Prelude.{◌≡◌, ◌≢◌, ◌⊎◌, Some, None, option_map};
 ghost use Rattle.jser_ffi.specs.Holding.{is_held};
+ghost use Rattle.jser_ffi.specs.Told.{Zeros};
 
 use crate::answer::{Answer, MORE, NO_MEMORY, bare};
 use crate::held_stream::HeldStream;
@@ -71,6 +72,7 @@ impl StreamHandle {
         ensures filled { result.status ≡ 4 → self.new.owner.held ≡ Some stream }
         ensures kept { result.status ≢ 4 → self.new ≡ self.old }
         ensures known { (result.status ≡ 4) ⊎ (result.status ≡ 3) }
+        ensures zeros { Zeros result }
     {
         match Box::new(alloc, stream) {
             Ok(home) => {

@@ -4,7 +4,7 @@ ghost use Rattle.jser_index.specs.Reading.{IsRefused};
 ghost use Rattle.jser_listing.specs.Listings.{ListsInto};
 ghost use Rattle.jser_ffi.specs.Compiling.{TextsAreFaulty};
 ghost use Rattle.jser_ffi.specs.Texts.{HasShown, TellsList, TellsRoom, TellsText};
-ghost use Rattle.jser_ffi.specs.Told.{TellsRefusal};
+ghost use Rattle.jser_ffi.specs.Told.{TellsRefusal, TextZeros};
 
 use crate::answer::{Answer, NO_MEMORY, SMALL, YES, bare, refused};
 use crate::compiled::filter_with;
@@ -15,12 +15,13 @@ use jser_room::{Shown, show_into};
 use std::alloc::Global;
 
 /// The answer to a text that is wanted in a room.
-#[tactic(auto, using(crate::proofs::TextLemmas::tells_room, crate::proofs::TextLemmas::tells_none))]
+#[tactic(auto, using(crate::proofs::TextLemmas::tells_room, crate::proofs::TextLemmas::tells_none, crate::proofs::ZeroLemmas::no_text, crate::proofs::ZeroLemmas::memory_text))]
 pub(crate) fn text_into(alloc: Global, bytes: &[u8], room: &mut [u8]) -> Answer
     ensures shown { TellsText bytes.now room.old room.new result }
     ensures refused { result.status ≡ 1 → TellsRefusal (IsRefused bytes.now) result }
     ensures kept { (result.status ≡ 1) ⊎ (result.status ≡ 3) → room.new ≡ room.old }
     ensures known { (result.status ≡ 0) ⊎ ((result.status ≡ 1) ⊎ ((result.status ≡ 3) ⊎ (result.status ≡ 6))) }
+    ensures zeros { TextZeros result }
 {
     match show_into(alloc, bytes, room) {
         Ok(what) => shown(what),
@@ -30,7 +31,7 @@ pub(crate) fn text_into(alloc: Global, bytes: &[u8], room: &mut [u8]) -> Answer
 }
 
 /// The answer to a list of names that is wanted in a room, under the filter of a text and of a table of modules.
-#[tactic(auto, using(crate::proofs::TextLemmas::lists_under, crate::proofs::TextLemmas::tells_none))]
+#[tactic(auto, using(crate::proofs::TextLemmas::lists_under, crate::proofs::TextLemmas::tells_none, crate::proofs::ZeroLemmas::misuse_text))]
 pub(crate) fn list_text(
     alloc: Global,
     bytes: &[u8],
@@ -43,6 +44,7 @@ pub(crate) fn list_text(
     ensures misuse { result.status ≡ 2 → TextsAreFaulty text.now modules.now result }
     ensures kept { (result.status ≡ 1) ⊎ ((result.status ≡ 2) ⊎ (result.status ≡ 3)) → room.new ≡ room.old }
     ensures known { (result.status ≡ 0) ⊎ ((result.status ≡ 1) ⊎ ((result.status ≡ 2) ⊎ ((result.status ≡ 3) ⊎ (result.status ≡ 6)))) }
+    ensures zeros { TextZeros result }
 {
     match filter_with(alloc, text, modules) {
         Ok(filter) => list_under(alloc, bytes, filter, room),
@@ -51,12 +53,13 @@ pub(crate) fn list_text(
 }
 
 /// The answer to a list of names that is wanted in a room, under a filter.
-#[tactic(auto, using(crate::proofs::TextLemmas::tells_room, crate::proofs::TextLemmas::tells_none))]
+#[tactic(auto, using(crate::proofs::TextLemmas::tells_room, crate::proofs::TextLemmas::tells_none, crate::proofs::ZeroLemmas::no_text, crate::proofs::ZeroLemmas::memory_text))]
 fn list_under(alloc: Global, bytes: &[u8], filter: Filter, room: &mut [u8]) -> Answer
     ensures listed { TellsRoom (ListsInto filter bytes.now room.old room.new) result }
     ensures refused { result.status ≡ 1 → TellsRefusal (IsRefused bytes.now) result }
     ensures kept { (result.status ≡ 1) ⊎ (result.status ≡ 3) → room.new ≡ room.old }
     ensures known { (result.status ≡ 0) ⊎ ((result.status ≡ 1) ⊎ ((result.status ≡ 3) ⊎ (result.status ≡ 6))) }
+    ensures zeros { TextZeros result }
 {
     match list_into(alloc, bytes, filter, room) {
         Ok(what) => shown(what),
@@ -66,8 +69,10 @@ fn list_under(alloc: Global, bytes: &[u8], filter: Filter, room: &mut [u8]) -> A
 }
 
 /// The answer to what came of a text.
+#[tactic(auto, using(crate::proofs::ZeroLemmas::shown_zeros))]
 fn shown(what: Shown) -> Answer
-    ensures { HasShown result what }
+    ensures has { HasShown result what }
+    ensures zeros { TextZeros result }
 {
     Answer {
         bytes: what.length,

@@ -28,4 +28,4 @@ pub use printer::Printer;
 pub use text::Plain;
 pub use words::line::write;
 pub use words::number::{write_decimal, write_hex};
-pub use words::quote::write_quoted;
+pub use words::quote::{write_quoted, write_units};

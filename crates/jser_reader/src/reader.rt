@@ -1,5 +1,5 @@
 //! The reader: a stream in pieces of any sizes, field by field.
-ghost use Rattle.std.specs.Prelude.{◌≡◌, ◌+◌, ◌<◌, ◌≤◌, [], length, take, IfOk};
+ghost use Rattle.std.specs.Prelude.{◌≡◌, ◌+◌, ◌<◌, ◌≤◌, [], length, take, IfOk, Ok, None};
 ghost use Rattle.jser_reader.specs.ReaderStates.{IsItem, HasProgress, StandsFor, NextTells, SkipTells, StaysStopped, FinishTells};
 ghost use Rattle.jser_reader.specs.Bounds.{FramesAreBounded, AreAssigned, MemoryFree, SkipMemoryFree};
 ghost use Rattle.jser_reader.specs.ItemsMade.{MakesStep};
@@ -163,7 +163,7 @@ impl<G: Gate> Reader<G> {
     /// as if `next` lent its items one after another.
     ///
     /// `None` where something else comes next, or not all bytes of it are there; and for references and strings also where
-    /// they are refused or memory runs out. Nothing is done then, and `next` says what comes.
+    /// they are refused or memory runs out. Nothing is done then, and `next` says what comes. So of a reader that has stopped.
     ///
     /// # Errors
     ///
@@ -171,6 +171,7 @@ impl<G: Gate> Reader<G> {
     #[inline(always)]
     pub fn next_whole<'p>(&mut self, piece: &'p [u8]) -> Result<Option<Whole<'p>>, Stop>
         ensures tells { WholeCases (G.told self.old.gate) piece.now result self.old.machine self.old.tally self.new.machine self.new.tally }
+        ensures stays { self.old.machine.phase ≡ Phase.Stopped → (result ≡ Ok None) × (self.new ≡ self.old) }
         ensures gate { self.new.gate ≡ self.old.gate }
     {
         match self.machine.lend_whole(&mut self.tally, piece) {
@@ -184,9 +185,11 @@ impl<G: Gate> Reader<G> {
     /// bytes, and returns how many bytes they are. They are taken as if `next` lent them one after another.
     ///
     /// `None` where no raw value comes next, or not all its bytes are there. Nothing is done then, and `next` says what comes.
+    /// So of a reader that has stopped.
     #[inline(always)]
     pub fn skip_raws(&mut self, piece: &[u8]) -> Option<usize>
         ensures tells { RawsCases (G.told self.old.gate) piece.now result self.old.machine self.old.tally self.new.machine self.new.tally }
+        ensures stays { self.old.machine.phase ≡ Phase.Stopped → (result ≡ None) × (self.new ≡ self.old) }
         ensures gate { self.new.gate ≡ self.old.gate }
     {
         self.machine.skip_raws(piece)

@@ -1,5 +1,5 @@
 -- From what an index wrote to what the room holds.
-use Rattle.std.proofs.Common.{◌≡◌, ℕ, ◌≤◌, true, false, List, [], ◌++◌, length, take, drop, Some, Result, Ok, Err, sym, ◌∙◌, ap, subst, arith, length-take-le}
+use Rattle.std.proofs.Common.{◌≡◌, ℕ, ◌<◌, ◌≤◌, true, false, List, [], ◌++◌, length, take, drop, Some, Result, Ok, Err, sym, ◌∙◌, ap, subst, arith, length-take-le}
 use Rattle.std.proofs.lemmas.List.{append-nil, drop_all}
 use Rattle.std.specs.Prelude.{IfOk}
 use Rattle.jser_reader.specs.declared.Stop.{Stop}
@@ -26,22 +26,23 @@ fills kept old new size copied =
     let none : drop (length kept) old ≡ [] = drop_all (length kept) old (omega (arith, size)) in
     copied ∙ ap (λ t. kept ++ t) none ∙ append-nil kept
 
-front_of : (text kept old new : List ℕ) (count : ℕ) → count ≤ length text → kept ≡ take count text → length kept ≡ length old → new ≡ kept → Holds false text old new
-front_of text kept old new count within is size same =
+front_of : (text kept old new : List ℕ) (count : ℕ) → length old < length text → count ≤ length text → kept ≡ take count text → length kept ≡ length old → new ≡ kept → Holds false text old new
+front_of text kept old new count more within is size same =
     let long : length kept ≡ count = ap length is ∙ length-take-le count text within in
     let exact : count ≡ length old = sym long ∙ size in
-    (ap length same ∙ size, same ∙ is ∙ ap (λ n. take n text) exact)
+    (more, ap length same ∙ size, same ∙ is ∙ ap (λ n. take n text) exact)
 
-pub puts_front : (graph : GraphView) (kept old new : List ℕ) (what : Shown) (why : GraphFault) → what.whole ≡ false → CountsText graph what.length → WroteFront graph (Some []) (Some kept) why
+pub puts_front : (graph : GraphView) (kept old new : List ℕ) (what : Shown) (why : GraphFault) → what.whole ≡ false → length old < what.length → CountsText graph what.length → WroteFront graph (Some []) (Some kept) why
     → length kept ≡ length old → new ≡ kept ++ drop (length kept) old → PutsInto graph old new what
 unfolding CountsText WroteFront
-puts_front graph kept old new what why whole counts wrote size copied bytes list stands =
+puts_front graph kept old new what why whole more counts wrote size copied bytes list stands =
     let some = wrote bytes list stands in
+    let count_is = counts bytes list stands in
     record {
-      length_is = counts bytes list stands;
+      length_is = count_is;
       holds =
           subst (λ b. Holds b (shown list) old new) (sym whole)
-          (front_of (shown list) kept old new some.count some.within some.went size (fills kept old new size copied));
+          (front_of (shown list) kept old new some.count (omega (arith, more, count_is)) some.within some.went size (fills kept old new size copied));
     }
 
 pub shows_into : (graph : GraphView) (bytes old new : List ℕ) (result : Result Shown Stop) → StandsForSome bytes graph → IfOk result (PutsInto graph old new) → IfOk result (ShowsInto bytes old new)

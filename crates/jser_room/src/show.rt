@@ -70,6 +70,9 @@ fn put(alloc: Global, index: &Index, room: &mut [u8]) -> Result<Shown, Stop>
                 Ok(length) => length,
                 Err(_) => return Err(Stop::OutOfMemory),
             };
+            if length <= room.len() as u64 {
+                return Err(Stop::OutOfMemory);
+            }
             copy(room, front.bytes());
             Ok(Shown {
                 length,

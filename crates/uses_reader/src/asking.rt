@@ -55,12 +55,13 @@ pub fn first_item<'p, G: Gate>(reader: &mut Reader<G>, piece: &'p [u8]) -> Resul
     reader.next(piece)
 }
 
-/// What a reader that has stopped answers to a piece: what it answered before.
-#[tactic(auto, using(crate::proofs::AskingLemmas::stays_refused, crate::proofs::AskingLemmas::stays_spent))]
+/// What a reader that has stopped answers to a piece, in whichever way it was given that before: what it answered before.
 pub fn next_again<'p, G: Gate>(reader: &mut Reader<G>, piece: &'p [u8]) -> Result<Step<'p>, Stop>
     ensures refused { (refusal : Refusal) → HasRefused refusal reader.old.machine → result ≡ Err (Stop.Refused refusal) }
     ensures spent { IsSpent reader.old.machine → result ≡ Err Stop.Spent }
 {
+    let _raws = reader.skip_raws(piece);
+    let _whole = reader.next_whole(piece);
     reader.next(piece)
 }
 

@@ -75,9 +75,9 @@ pub(crate) fn write_name_line<W: Sink>(outbox: &mut Outbox, sink: &mut W, name: 
     write(outbox, sink, b"\"\n");
 }
 
-/// Writes the units of a quoted text.
+/// Writes the units of a quoted text, without its quotes.
 #[tactic(auto, using(crate::proofs::SaysLemmas::says_none, crate::proofs::SaysLemmas::says_no_units))]
-fn write_units<W: Sink>(outbox: &mut Outbox, sink: &mut W, units: &[u16])
+pub fn write_units<W: Sink>(outbox: &mut Outbox, sink: &mut W, units: &[u16])
     ensures { SaysTo W.gone_out W.has_failed outbox.old outbox.new sink.old sink.new (λ k. flat_map quoted_unit units.now ++ k) }
 {
     let mut rest = units;

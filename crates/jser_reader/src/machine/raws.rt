@@ -165,7 +165,8 @@ impl Machine {
     #[tactic(auto, using(crate::proofs::RawLemmas::raws_cases))]
     #[inline(always)]
     pub(crate) fn skip_raws(&mut self, piece: &[u8]) -> Option<usize>
-        ensures { (gate : ToldGate) (tally : Tally) → RawsCases gate piece.now result self.old tally self.new tally }
+        ensures tells { (gate : ToldGate) (tally : Tally) → RawsCases gate piece.now result self.old tally self.new tally }
+        ensures stays { self.old.phase ≡ Phase.Stopped → (result ≡ None) × (self.new ≡ self.old) }
     {
         if self.phase != Phase::Prims || piece.is_empty() || !self.has_room(piece) {
             return None;

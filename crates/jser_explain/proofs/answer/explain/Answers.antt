@@ -1,6 +1,6 @@
-use Rattle.std.proofs.Common.{arith, ap}
+use Rattle.std.proofs.Common.{arith, ap, inr}
 use Rattle.std.proofs.lemmas.Grind.{common_steps}
-use Rattle.jser_explain.proofs.ExplainLemmas.{says_more, says_no_more, status_of, told_of_job, told_since}
+use Rattle.jser_explain.proofs.ExplainLemmas.{explained, explained_some, leaves_some, says_no_more, says_on, status_of, told_of_job, told_since}
 use Rattle.jser_explain.proofs.answer.explain.Goals as goal
 
 pub returns-then-status-ne-REFUSED-clause-accepted : goal.returns-then-status-ne-REFUSED-clause-accepted
@@ -12,8 +12,19 @@ returns-then-status-ne-REFUSED-clause-status g c = status_of c.job_of-job.result
 
 pub returns-clause-refused : goal.returns-clause-refused
 returns-clause-refused g c = λ one_is.
-    says_more c.job_of-job.result c.args.rules _ _ _ _ _ c.job_of-job.ensures.asked c.new-kept.ensures.bytes (c.run-status.ensures.refused (grind (arith, common_steps)))
-    (c.write_more.ensures.more one_is)
+    says_on c.job_of-job.result c.args.rules _ _ _ _ c.job_of-job.ensures.asked c.new-kept.ensures.bytes
+    (explained c.args.rules c.rules_of.result _ _ _ (c.rules_of.ensures c.args.rules c.job_of-job.ensures.asked) (c.write_more.ensures.more one_is))
+    (c.run-status.ensures.refused (grind (arith, common_steps)))
+
+pub returns-then-status-ne-REFUSED-clause-failed : goal.returns-then-status-ne-REFUSED-clause-failed
+returns-then-status-ne-REFUSED-clause-failed g c = λ three_is.
+    leaves_some c.job_of-job.result c.args.rules _ _ _ _ _ c.job_of-job.ensures.asked c.new-kept.ensures.bytes (c.run-status.ensures.failed three_is)
+
+pub returns-clause-failed : goal.returns-clause-failed
+returns-clause-failed g c = λ three_is.
+    inr (says_on c.job_of-job.result c.args.rules _ _ _ _ c.job_of-job.ensures.asked c.new-kept.ensures.bytes
+    (explained_some c.args.rules c.rules_of.result _ _ _ _ (c.rules_of.ensures c.args.rules c.job_of-job.ensures.asked) (c.write_more.ensures.failed three_is))
+    (c.run-status.ensures.refused (grind (arith, common_steps))))
 
 pub returns-then-status-ne-REFUSED-clause-why : goal.returns-then-status-ne-REFUSED-clause-why
 returns-then-status-ne-REFUSED-clause-why g c = λ three_is. told_of_job _ _ _ _ _ _ _ _ (c.run-status.ensures.why three_is)

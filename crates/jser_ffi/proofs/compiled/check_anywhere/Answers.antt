@@ -3,10 +3,10 @@ use Rattle.jser_check.specs.Admitted.{FilterWith}
 use Rattle.jser_ffi.proofs.ToldLemmas.{fault_says, end_says}
 use Rattle.jser_ffi.proofs.compiled.check_anywhere.Goals as goal
 
-pub returns-in-Ok : goal.returns-in-Ok
-returns-in-Ok c = end_says _ _ _ _ c.in-Err-finish.fault _ (ap (λ (j : FilterWith). j.filter) c.feed.ensures.filter ∙ c.lent-checker.ensures.filter)
+pub returns-in-Ok-clause-says : goal.returns-in-Ok-clause-says
+returns-in-Ok-clause-says c = end_says _ _ _ _ c.in-Err-finish.fault _ (ap (λ (j : FilterWith). j.filter) c.feed.ensures.filter ∙ c.lent-checker.ensures.filter)
     (ap (λ (j : FilterWith). j.options) c.feed.ensures.filter ∙ c.lent-checker.ensures.options)
-    (c.in-Err-finish.ensures.tells c.args.bytes.now (c.in-Ok.ensures.tells [] c.lent-checker.ensures.begins)) c.faulted.ensures
+    (c.in-Err-finish.ensures.tells c.args.bytes.now (c.in-Ok.ensures.tells [] c.lent-checker.ensures.begins)) c.faulted.ensures.has
 
-pub returns : goal.returns
-returns c = fault_says _ _ _ [] _ c.in-Err.fault _ c.lent-checker.ensures.filter c.lent-checker.ensures.options (c.in-Err.ensures.tells [] c.lent-checker.ensures.begins) c.faulted-in-Err.ensures
+pub returns-clause-says : goal.returns-clause-says
+returns-clause-says c = fault_says _ _ _ [] _ c.in-Err.fault _ c.lent-checker.ensures.filter c.lent-checker.ensures.options (c.in-Err.ensures.tells [] c.lent-checker.ensures.begins) c.faulted-in-Err.ensures.has

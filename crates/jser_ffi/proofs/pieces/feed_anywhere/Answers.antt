@@ -8,6 +8,6 @@ use Rattle.jser_ffi.proofs.pieces.feed_anywhere.Goals as goal
 pub returns-clause-says : goal.returns-clause-says
 returns-clause-says c = λ taken st.
     fed_anywhere c.args.reader.now c.skip-checked.new.self c.args.scan.now c.feed-hidden.new.self taken c.args.piece.now c.skip-checked.result c.feed-hidden.result c.first.result
-    c.first.ensures (all_bytes c.args.piece.now (λ k. (c.type_inv.piece k).fits)) (omega arith) c.skip-checked.ensures.tells
+    c.first.ensures.has (all_bytes c.args.piece.now (λ k. (c.type_inv.piece k).fits)) (omega arith) c.skip-checked.ensures.tells
     (subst (λ g. TakesBytes (passes_name g.filter g.options) c.args.scan.now c.feed-hidden.new.self c.args.piece.now c.feed-hidden.result) c.gate.ensures c.feed-hidden.ensures)
     c.skip-checked.ensures.gate st

@@ -5,10 +5,10 @@ use Rattle.jser_ffi.proofs.pieces.feed_plain.Goals as goal
 
 pub returns-in-Ok-clause-says : goal.returns-in-Ok-clause-says
 returns-in-Ok-clause-says c = λ taken st.
-    fed_plain c.args.reader.now c.skip.new.self taken c.args.piece.now (Ok c.in-Ok.field-0) c.bare.result c.bare.ensures
+    fed_plain c.args.reader.now c.skip.new.self taken c.args.piece.now (Ok c.in-Ok.field-0) c.bare.result c.bare.ensures.status
     (all_bytes c.args.piece.now (λ k. (c.type_inv.piece k).fits)) c.in-Ok.ensures.tells c.in-Ok.ensures.gate st
 
 pub returns-in-Err-clause-says : goal.returns-in-Err-clause-says
 returns-in-Err-clause-says c = λ taken st.
-    fed_plain c.args.reader.now c.skip.new.self taken c.args.piece.now (Err c.in-Err.stop) c.stopped.result c.stopped.ensures
+    fed_plain c.args.reader.now c.skip.new.self taken c.args.piece.now (Err c.in-Err.stop) c.stopped.result c.stopped.ensures.has
     (all_bytes c.args.piece.now (λ k. (c.type_inv.piece k).fits)) c.in-Err.ensures.tells c.in-Err.ensures.gate st

@@ -117,7 +117,8 @@ impl Machine {
     /// Takes a value that is lent at once, or does nothing.
     #[inline(always)]
     pub(crate) fn lend_whole<'p>(&mut self, tally: &mut Tally, piece: &'p [u8]) -> Lent<'p>
-        ensures { (gate : ToldGate) → IsGate gate → LentCases gate piece.now result self.old tally.old self.new tally.new }
+        ensures tells { (gate : ToldGate) → IsGate gate → LentCases gate piece.now result self.old tally.old self.new tally.new }
+        ensures stays { self.old.phase ≡ Phase.Stopped → (result ≡ Lent.Nothing) × (self.new ≡ self.old) × (tally.new ≡ tally.old) }
     {
         if piece.is_empty() || !self.has_room(piece) {
             return Lent::Nothing;

@@ -12,7 +12,7 @@ returns-in-Ok-clause-shown c =
 
 pub returns-in-Err-Write-clause-shown : goal.returns-in-Err-Write-clause-shown
 returns-in-Err-Write-clause-shown c =
-    puts_front c.args.index.now c.show.new.sink.bytes c.args.room.now c.copy-in-Err-Write.new.room _ c.in-Err-Write.field-0 refl c.in-Ok-show.ensures.length
+    puts_front c.args.index.now c.show.new.sink.bytes c.args.room.now c.copy-in-Err-Write.new.room _ c.in-Err-Write.field-0 refl (grind (arith, nat_tests, c.if-length-room.false)) c.in-Ok-show.ensures.length
     (subst (λ x. WroteFront c.args.index.now (Some x) (Some c.show.new.sink.bytes) c.in-Err-Write.field-0) c.new-front.ensures.bytes c.in-Err-Write.ensures.written)
     (ap length (sym c.bytes-in-Err-Write.ensures) ∙ grind (arith, nat_tests, c.if-bytes-room-2.false))
     (subst (λ t. c.copy-in-Err-Write.new.room ≡ t ++ drop (length t) c.args.room.now) c.bytes-in-Err-Write-2.ensures c.copy-in-Err-Write.ensures)

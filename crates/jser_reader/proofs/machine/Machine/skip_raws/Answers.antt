@@ -2,5 +2,5 @@
 use Rattle.std.proofs.Common.{rules}
 use Rattle.jser_reader.proofs.machine.Machine.skip_raws.Goals as goal
 
-pub returns : goal.returns
-returns c = search rules
+pub returns-clause-tells : goal.returns-clause-tells
+returns-clause-tells c = search rules
