@@ -157,7 +157,7 @@ public final class SerialCheck implements AutoCloseable {
     }
 
     /**
-     * Reads all bytes, checks them, and only then makes an ObjectInputStream of the same bytes.
+     * Reads all bytes, copies them, checks the copy, and only then makes an ObjectInputStream of it.
      *
      * @param most how many bytes there may be
      * @throws Refused where they are no stream that the filter admits; nothing of them was read then
@@ -169,10 +169,11 @@ public final class SerialCheck implements AutoCloseable {
 
     /** The same with a reader of the caller's kind. */
     public <S extends ObjectInputStream> S open(InputStream in, int most, Opener<S> opener) throws IOException {
-        byte[] bytes = in.readNBytes(most);
-        if (bytes.length == most && in.read() >= 0) {
+        byte[] read = in.readNBytes(most);
+        if (read.length > most || read.length == most && in.read() >= 0) {
             throw new InvalidObjectException("more than " + most + " bytes");
         }
+        byte[] bytes = read.clone(); // a stream may have kept the array that it filled, and write to it later
         check(bytes);
         return opener.open(new ByteArrayInputStream(bytes));
     }

@@ -11,9 +11,12 @@ import ctypes
 import os
 import threading
 from pathlib import Path
+from typing import Optional, Union
 
 STRICT = 1
 ANYWHERE = 2
+
+BytesLike = Union[bytes, bytearray, memoryview]
 
 YES, NO, MISUSE, NO_MEMORY, MORE, SPENT, SMALL = range(7)
 
@@ -52,7 +55,7 @@ class Answer(ctypes.Structure):
         return self.status == YES
 
     @property
-    def reason(self):
+    def reason(self) -> Optional[str]:
         """The name of the reason of a refusal, as the program prints it."""
         return REASONS[self.number] if self.status == NO else None
 
@@ -105,15 +108,18 @@ def _settled(answer):
 
 
 def _bytes(data):
-    """The bytes of a bytes-like object. (`bytes` would also take a number, and make so many zeros of it.)"""
-    return data if isinstance(data, bytes) else bytes(memoryview(data))
+    """The bytes of a bytes-like object: of a class below `bytes` those that it holds, whatever its methods answer.
+
+    (`bytes` would also take a number, and make so many zeros of it.)
+    """
+    return data if type(data) is bytes else bytes(memoryview(data))
 
 
 def _flags(strict, anywhere):
     return (STRICT if strict else 0) | (ANYWHERE if anywhere else 0)
 
 
-def check(data, filter="", strict=False, anywhere=False):
+def check(data: BytesLike, filter: str = "", strict: bool = False, anywhere: bool = False) -> Answer:
     """Checks bytes under the filter of a text, which is read each time."""
     data, text, answer = _bytes(data), filter.encode(), Answer()
     _library.serialcheck_check(data, len(data), text, len(text), _flags(strict, anywhere), answer)
@@ -123,21 +129,21 @@ def check(data, filter="", strict=False, anywhere=False):
 class Filter:
     """A filter that is read once. Any thread may use it; calls wait for each other, so give each busy thread its own."""
 
-    def __init__(self, filter="", modules="", strict=False, anywhere=False):
+    def __init__(self, filter: str = "", modules: str = "", strict: bool = False, anywhere: bool = False) -> None:
         """Raises ValueError where the filter or the table of modules (lines `package=module`) is faulty."""
         self._handle, self._lock = _Handle(), threading.Lock()
         text, table, answer = filter.encode(), modules.encode(), Answer()
         _library.serialcheck_filter_new(text, len(text), table, len(table), _flags(strict, anywhere), answer, self._handle)
         _settled(answer)
 
-    def check(self, data):
+    def check(self, data: BytesLike) -> Answer:
         """Checks bytes. The answer is of these bytes: hand on the same ones."""
         data, answer = _bytes(data), Answer()
         with self._lock:
             _library.serialcheck_filter_check(self._handle, data, len(data), answer)
         return _settled(answer)
 
-    def stream(self):
+    def stream(self) -> "Stream":
         """A check of one stream whose bytes come in pieces."""
         answer, handle = Answer(), _Handle()
         with self._lock:
@@ -146,7 +152,7 @@ class Filter:
             _settled(answer)
         return Stream(handle)
 
-    def close(self):
+    def close(self) -> None:
         """Lets the filter go."""
         with self._lock:
             _library.serialcheck_filter_free(self._handle)
@@ -168,19 +174,19 @@ class Stream:
     def __init__(self, handle):
         self._handle = handle
 
-    def feed(self, data):
+    def feed(self, data: BytesLike) -> Optional[Answer]:
         """Takes the next bytes: None where they decide nothing, else the answer, which is a refusal."""
         data, answer = _bytes(data), Answer()
         _library.serialcheck_stream_feed(self._handle, data, len(data), answer)
         return None if answer.status == MORE else _settled(answer)
 
-    def end(self):
+    def end(self) -> Answer:
         """The answer to all bytes. The stream is let go."""
         answer = Answer()
         _library.serialcheck_stream_end(self._handle, answer)
         return _settled(answer)
 
-    def close(self):
+    def close(self) -> None:
         """Lets the stream go, if it was not ended."""
         _library.serialcheck_stream_free(self._handle)
 
