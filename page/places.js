@@ -56,42 +56,57 @@ function dumped(bytes, from, to, width) {
 /** The class name that a refusal is about, quoted, or null: its text is the field, or it stands where HiddenName says. */
 function nameAt(bytes, reason, from, to) {
     if (reason === "ClassRejected" || reason === "ClassUnmatched") {
-        return loose(bytes.subarray(from + 2, to));
+        return quoted(loose(bytes.subarray(from + 2, to)));
     }
     if (reason !== "HiddenName") {
         return null;
     }
     if (bytes[from] === 0x72) {
-        return loose(bytes.subarray(from + 3, to));
+        return quoted(classOf(loose(bytes.subarray(from + 3, to))));
     }
     // A row of interfaces: the name is the text that ends there.
     for (let at = from + 5; at + 2 < to; ) {
         const end = at + 2 + bytes[at] * 256 + bytes[at + 1];
         if (end === to) {
-            return loose(bytes.subarray(at + 2, to));
+            return quoted(classOf(loose(bytes.subarray(at + 2, to))));
         }
         at = end;
     }
     return null;
 }
 
-/** A name in modified UTF-8, in longer spellings too, quoted as `list` quotes names: no sign of it turns round what follows. */
+/** The class that a name stands for which can be read at some place: without `[]` behind it, and the signs of an array around it. */
+function classOf(name) {
+    let inner = name;
+    while (inner.length > 2 && inner.endsWith("[]")) {
+        inner = inner.slice(0, -2);
+    }
+    const found = /^\[+L(.*);$/s.exec(inner);
+    return found ? classOf(found[1]) : inner;
+}
+
+/** A name in modified UTF-8, in longer spellings too. */
 function loose(bytes) {
-    const units = [];
+    let name = "";
     for (let at = 0; at < bytes.length; ) {
         const count = bytes[at] < 0x80 ? 1 : bytes[at] < 0xe0 ? 2 : 3;
         let unit = count === 1 ? bytes[at] : bytes[at] & (count === 2 ? 0x1f : 0x0f);
         for (let next = 1; next < count; next++) {
             unit = (unit << 6) | (bytes[at + next] & 0x3f);
         }
-        units.push(unit);
+        name += String.fromCharCode(unit);
         at += count;
     }
-    return `"${units.map(quotedUnit).join("")}"`;
+    return name;
 }
 
-function quotedUnit(unit) {
-    const sign = String.fromCharCode(unit);
+/** A name quoted as `list` quotes names: no sign of it turns round what follows. */
+function quoted(name) {
+    return `"${name.split("").map(quotedSign).join("")}"`;
+}
+
+function quotedSign(sign) {
+    const unit = sign.charCodeAt(0);
     if (unit < 0x20 || unit > 0x7e) {
         return `\\u${unit.toString(16).padStart(4, "0")}`;
     }

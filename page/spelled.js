@@ -1,8 +1,10 @@
-// The bytes that a text spells, in hexadecimal or base64, by the rules of the program's --hex and --base64: white space is
-// passed over, base64 may be of the standard or the URL-safe alphabet, with or without padding.
+// The bytes that a text spells, in hexadecimal or base64, by the rules of the program's --hex, --base64 and --base64url: white
+// space is passed over where it is not too much, and base64 is of one alphabet, with padding at its end or none.
 
 const SPACES = " \t\n\r";
+const SPARE_SPACE = 2 ** 20; // and one for each byte
 const SHARED = "ABCDEFGHIJKLMNOPQRSTUVWXYZabcdefghijklmnopqrstuvwxyz0123456789";
+const DIGITS = { base64: `${SHARED}+/`, base64url: `${SHARED}-_` };
 
 /** A text that is not of its form, in the words of the program: so many of its signs are right. */
 class Misspelled extends Error {
@@ -11,16 +13,21 @@ class Misspelled extends Error {
     }
 }
 
-/** The form that a text seems to have: hexadecimal where it has nothing else. */
+/** The form that a text seems to have: hexadecimal where it has nothing else, the URL-safe base64 where it has a sign of it. */
 function formOf(text) {
-    return /^[\s0-9a-f]*$/i.test(text) ? "hex" : "base64";
+    if (/^[\s0-9a-f]*$/i.test(text)) {
+        return "hex";
+    }
+    return /[-_]/.test(text) ? "base64url" : "base64";
 }
 
 function bytesOfHex(text) {
     const bytes = [];
     let high = -1;
+    let spaces = 0;
     for (let at = 0; at < text.length; at++) {
-        if (SPACES.includes(text[at])) {
+        if (SPACES.includes(text[at]) && spaces < SPARE_SPACE + bytes.length) {
+            spaces++;
             continue;
         }
         const digit = "0123456789abcdef".indexOf(text[at].toLowerCase());
@@ -40,28 +47,15 @@ function bytesOfHex(text) {
     return Uint8Array.from(bytes);
 }
 
-/** The digit's value; `marks` are the two signs of the alphabet, "" while nothing tells which it is. */
-function base64Digit(sign, marks) {
-    const value = SHARED.indexOf(sign);
-    if (value >= 0) {
-        return { value, marks };
-    }
-    for (const pair of ["+/", "-_"]) {
-        if (pair.includes(sign) && (marks === "" || marks === pair)) {
-            return { value: 62 + pair.indexOf(sign), marks: pair };
-        }
-    }
-    return null;
-}
-
-function bytesOfBase64(text) {
+function bytesOfBase64(text, digits) {
     const bytes = [];
-    let marks = "";
     let group = []; // the digits of a group of four
     let padding = 0; // how many signs `=` are still to come, or -1 behind them
+    let spaces = 0;
     for (let at = 0; at < text.length; at++) {
         const sign = text[at];
-        if (SPACES.includes(sign)) {
+        if (SPACES.includes(sign) && spaces < SPARE_SPACE + bytes.length) {
+            spaces++;
             continue;
         }
         if (sign === "=" && padding === 0 && group.length >= 2 && leavesNothing(group)) {
@@ -71,12 +65,11 @@ function bytesOfBase64(text) {
             padding = padding === 1 ? -1 : padding - 1;
             continue;
         }
-        const digit = padding === 0 ? base64Digit(sign, marks) : null;
-        if (digit === null) {
+        const value = padding === 0 ? digits.indexOf(sign) : -1;
+        if (value < 0) {
             throw new Misspelled("base64", at);
         }
-        marks = digit.marks;
-        group.push(digit.value);
+        group.push(value);
         addBytes(bytes, group);
         group = group.length === 4 ? [] : group;
     }
@@ -101,5 +94,6 @@ function addBytes(bytes, group) {
 
 /** The bytes of a text; throws Misspelled. */
 function spelled(text, form) {
-    return (form === "auto" ? formOf(text) : form) === "hex" ? bytesOfHex(text) : bytesOfBase64(text);
+    const asked = form === "auto" ? formOf(text) : form;
+    return asked === "hex" ? bytesOfHex(text) : bytesOfBase64(text, DIGITS[asked]);
 }

@@ -10,6 +10,7 @@ const FIRST_LIMIT = 1 << 16;
 const MOST_LIMIT = 1 << 24;
 const LIST_LIMIT = 1 << 22;
 const MANY_LINES = 400;
+const MOST_NAMES = 1000;
 const PATIENCE = 300; // milliseconds
 
 let streams = 0;
@@ -145,7 +146,34 @@ class Stream {
         const lines = (answer.text ?? "").split("\n").slice(0, -1);
         const heading = element("h3", "", "Classes");
         heading.append(element("small", "", answer.status === YES || answer.status === SMALL ? numbered(lines.length, "name", "names") : lineOf(answer)));
-        return lines.length === 0 ? [heading] : [heading, this.table(lines), ...(answer.status === SMALL ? [element("p", "cut", "The list is cut here.")] : [])];
+        return lines.length === 0 ? [heading] : [heading, this.pages(lines), ...(answer.status === SMALL ? [element("p", "cut", "The list is cut here.")] : [])];
+    }
+
+    /** The table of the names, at most MOST_NAMES at once, with buttons for those before and behind. */
+    pages(lines) {
+        const box = element("div");
+        const part = (first) => this.table(lines.slice(first, first + MOST_NAMES));
+        box.append(part(0));
+        if (lines.length <= MOST_NAMES) {
+            return box;
+        }
+        let first = 0;
+        const place = element("span");
+        const turn = (by) => {
+            first += by;
+            const end = Math.min(first + MOST_NAMES, lines.length);
+            place.textContent = `Names ${(first + 1).toLocaleString("en")} to ${end.toLocaleString("en")} of ${lines.length.toLocaleString("en")}. `;
+            back.hidden = first === 0;
+            next.hidden = end === lines.length;
+            box.firstChild.replaceWith(part(first));
+        };
+        const back = button("Back", () => turn(-MOST_NAMES));
+        const next = button("Next", () => turn(MOST_NAMES));
+        const row = element("p", "pages");
+        row.append(place, back, " ", next);
+        box.append(row);
+        turn(0);
+        return box;
     }
 
     table(lines) {
