@@ -1,7 +1,7 @@
 # Completion of serialcheck's command line for bash: commands, then their options, then files.
 _serialcheck() {
     local word=${COMP_WORDS[COMP_CWORD]} before=${COMP_WORDS[COMP_CWORD-1]} options
-    local filter='--filter --filter-file --modules' form='--hex --base64'
+    local filter='--filter --filter-file --modules' form='--hex --base64 --base64url'
     local commands='check explain show list scan suggest'
     if ((COMP_CWORD == 1)); then
         mapfile -t COMPREPLY < <(compgen -W "$commands help --help --version" -- "$word")
