@@ -1,0 +1,112 @@
+/* serialcheck in PostgreSQL: what a Java object serialization stream in a bytea holds, for CHECK constraints, triggers and queries. */
+#include "postgres.h"
+
+#include "fmgr.h"
+#include "utils/builtins.h"
+
+#include "serialcheck.h"
+
+PG_MODULE_MAGIC;
+
+static const char *const reasons[] = {"",
+#define X(name) #name,
+    SERIALCHECK_REASONS(X)};
+static const char *const causes[] = {"", SERIALCHECK_CAUSES(X)};
+#undef X
+
+/* The filter of a call site, with the text and the flags that it was made of. It is read once for all rows of a statement. */
+typedef struct {
+    serialcheck_filter filter;
+    MemoryContextCallback end;
+    uint32_t flags;
+    Size len;
+    char *text;
+} Kept;
+
+static void let_go(void *kept)
+{
+    serialcheck_filter_free(&((Kept *) kept)->filter);
+}
+
+/* What this call site keeps: nothing at its first call. It is let go with the memory of the statement. */
+static Kept *kept_by(FmgrInfo *site)
+{
+    if (site->fn_extra == NULL) {
+        Kept *kept = MemoryContextAllocZero(site->fn_mcxt, sizeof *kept);
+
+        kept->end.func = let_go;
+        kept->end.arg = kept;
+        MemoryContextRegisterResetCallback(site->fn_mcxt, &kept->end);
+        site->fn_extra = kept;
+    }
+    return site->fn_extra;
+}
+
+static void stop_without_memory(void)
+{
+    ereport(ERROR, (errcode(ERRCODE_OUT_OF_MEMORY), errmsg("serialcheck: out of memory")));
+}
+
+/* Has the call site keep the filter of this text; a faulty one is an error. */
+static void read_filter(Kept *kept, MemoryContext room, const text *filter, uint32_t flags)
+{
+    const char *words = VARDATA_ANY(filter);
+    Size len = VARSIZE_ANY_EXHDR(filter);
+    serialcheck_answer answer;
+    uint32_t status;
+
+    if (kept->text != NULL && kept->flags == flags && kept->len == len && memcmp(kept->text, words, len) == 0)
+        return;
+    if (kept->text != NULL) {
+        pfree(kept->text);
+        kept->text = NULL;
+    }
+    status = serialcheck_filter_new((const uint8_t *) words, len, (const uint8_t *) "", 0, flags, &answer, &kept->filter);
+    if (status == SERIALCHECK_MISUSE)
+        ereport(ERROR, (errcode(ERRCODE_INVALID_PARAMETER_VALUE),
+                        errmsg("serialcheck: filter pattern %llu: %s", (unsigned long long) answer.from, causes[answer.reason])));
+    if (status != SERIALCHECK_YES)
+        stop_without_memory();
+    kept->text = MemoryContextAlloc(room, len + 1);
+    memcpy(kept->text, words, len);
+    kept->len = len;
+    kept->flags = flags;
+}
+
+/* The answer for the bytes of the first argument, under the filter of the others. */
+static serialcheck_answer answer_of(FunctionCallInfo fcinfo)
+{
+    Kept *kept = kept_by(fcinfo->flinfo);
+    bytea *data = PG_GETARG_BYTEA_PP(0);
+    uint32_t flags = (PG_GETARG_BOOL(2) ? SERIALCHECK_STRICT : 0) | (PG_GETARG_BOOL(3) ? SERIALCHECK_ANYWHERE : 0);
+    serialcheck_answer answer;
+
+    read_filter(kept, fcinfo->flinfo->fn_mcxt, PG_GETARG_TEXT_PP(1), flags);
+    if (serialcheck_filter_check(&kept->filter, (const uint8_t *) VARDATA_ANY(data), VARSIZE_ANY_EXHDR(data), &answer) == SERIALCHECK_NO_MEMORY)
+        stop_without_memory();
+    return answer;
+}
+
+PG_FUNCTION_INFO_V1(pg_serialcheck);
+
+/* Whether the bytes are one stream that the filter admits. */
+Datum pg_serialcheck(PG_FUNCTION_ARGS)
+{
+    PG_RETURN_BOOL(answer_of(fcinfo).status == SERIALCHECK_YES);
+}
+
+PG_FUNCTION_INFO_V1(pg_serialcheck_answer);
+
+/* The line that `serialcheck check` prints of the bytes. */
+Datum pg_serialcheck_answer(PG_FUNCTION_ARGS)
+{
+    serialcheck_answer answer = answer_of(fcinfo);
+    char *line;
+
+    if (answer.status == SERIALCHECK_YES)
+        line = psprintf("yes %llu bytes, %llu contents, %llu refs, depth %llu", (unsigned long long) answer.bytes,
+                        (unsigned long long) answer.contents, (unsigned long long) answer.refs, (unsigned long long) answer.depth);
+    else
+        line = psprintf("no at %llu to %llu: %s", (unsigned long long) answer.from, (unsigned long long) answer.to, reasons[answer.reason]);
+    PG_RETURN_TEXT_P(cstring_to_text(line));
+}
