@@ -1,5 +1,5 @@
 -- What is said of a refusal, and that it went out.
-use Rattle.std.proofs.Common.{◌≡◌, ℕ, true, false, List, [], ◌∷◌, ◌++◌, Option, Some, None, length, Bool, refl, sym, ap, ◌∙◌, subst}
+use Rattle.std.proofs.Common.{◌≡◌, ℕ, ◌≤◌, arith, true, false, List, [], ◌∷◌, ◌++◌, Option, Some, None, length, Bool, refl, sym, ap, ◌∙◌, subst}
 use Rattle.jser_prim.specs.Outgoing.{Outgoing, SinkState, Puts, sink_state}
 use Rattle.jser_prim.proofs.OutgoingLemmas.{nothing, puts_both}
 use Rattle.jser_printer.specs.Says.{Says}
@@ -9,31 +9,40 @@ use Rattle.jser_printer.proofs.SaysLemmas.{says_none, says_both}
 use Rattle.jser_scan.proofs.ScanLemmas.{went, broke, kept}
 use Rattle.jser_scan.specs.declared.found.Found.{Found}
 use Rattle.jser_explain.specs.declared.field.Spot.{Spot}
-use Rattle.jser_explain.specs.Whys.{field_of, field_line, digits_end, hex_end, known_class_line, class_in, class_line, head_words, head_at, why_words, SaysSomeWhy, SaysWhy, SaysWhyTo}
+use Rattle.jser_explain.specs.Heads.{field_of, field_line, digits_end, hex_end, known_class_line, class_in, class_line, head_words}
+use Rattle.jser_explain.specs.Rest.{More, rest_words, without_piece}
+use Rattle.jser_explain.specs.Whys.{why_at, why_words, SaysSomeWhy, SaysWhy, SaysWhyTo}
 
 -- ---- the parts
 
+no_more : More
+no_more = record { class = None; piece = None; opened = []; writer = None; hint = [] }
+
 pub why_nothing : {S : Type 0} (gone_out : S → Option (List ℕ)) (has_failed : S → Bool) (bytes : List ℕ) (result : Found) (a : Outgoing) (s : S) → field_of result ≡ None
     → SaysWhyTo gone_out has_failed bytes result a a s s
+unfolding no_more
 why_nothing gone_out has_failed bytes result a s none = record {
   sentence = [];
-  more = λ k. k;
-  said = subst (λ f. Says a a (sink_state (gone_out s) (has_failed s)) (sink_state (gone_out s) (has_failed s)) (λ k. head_at f [] bytes (class_in result) (λ t. t) k)) (sym none)
+  more = no_more;
+  short = subst (λ f. length (why_at f [] bytes (class_in result) no_more []) ≤ 102400) (sym none) (omega arith);
+  said = subst (λ f. Says a a (sink_state (gone_out s) (has_failed s)) (sink_state (gone_out s) (has_failed s)) (λ k. why_at f [] bytes (class_in result) no_more k)) (sym none)
       (says_none a (sink_state (gone_out s) (has_failed s)) (λ k. k));
 }
 
-pub why_all : {S : Type 0} (gone_out : S → Option (List ℕ)) (has_failed : S → Bool) (sentence bytes : List ℕ) (result : Found) (spot : Spot) (class : Option (List ℕ)) (rest : List ℕ → List ℕ)
-    (a b c : Outgoing) (s t u : S) → field_of result ≡ Some spot → class ≡ class_in result
+pub why_all : {S : Type 0} (gone_out : S → Option (List ℕ)) (has_failed : S → Bool) (sentence bytes : List ℕ) (result : Found) (spot : Spot) (class : Option (List ℕ)) (more : More)
+    (a b c : Outgoing) (s t u : S) → field_of result ≡ Some spot → class ≡ class_in result → length (head_words sentence bytes spot class (rest_words (without_piece more) [])) ≤ 102400
     → Says a b (sink_state (gone_out s) (has_failed s)) (sink_state (gone_out t) (has_failed t)) (λ k. head_words sentence bytes spot class k)
-    → Says b c (sink_state (gone_out t) (has_failed t)) (sink_state (gone_out u) (has_failed u)) rest
+    → Says b c (sink_state (gone_out t) (has_failed t)) (sink_state (gone_out u) (has_failed u)) (λ k. rest_words more k)
     → SaysWhyTo gone_out has_failed bytes result a c s u
-why_all gone_out has_failed sentence bytes result spot class rest a b c s t u at same head more = record {
+why_all gone_out has_failed sentence bytes result spot class more a b c s t u at same small head rest = record {
   sentence = sentence;
-  more = rest;
-  said = subst (λ f. Says a c (sink_state (gone_out s) (has_failed s)) (sink_state (gone_out u) (has_failed u)) (λ k. head_at f sentence bytes (class_in result) rest k)) (sym at)
-      (subst (λ n. Says a c (sink_state (gone_out s) (has_failed s)) (sink_state (gone_out u) (has_failed u)) (λ k. head_words sentence bytes spot n (rest k))) same
+  more = more;
+  short = subst (λ f. length (why_at f sentence bytes (class_in result) (without_piece more) []) ≤ 102400) (sym at)
+      (subst (λ n. length (head_words sentence bytes spot n (rest_words (without_piece more) [])) ≤ 102400) same small);
+  said = subst (λ f. Says a c (sink_state (gone_out s) (has_failed s)) (sink_state (gone_out u) (has_failed u)) (λ k. why_at f sentence bytes (class_in result) more k)) (sym at)
+      (subst (λ n. Says a c (sink_state (gone_out s) (has_failed s)) (sink_state (gone_out u) (has_failed u)) (λ k. head_words sentence bytes spot n (rest_words more k))) same
       (says_both a b c (sink_state (gone_out s) (has_failed s)) (sink_state (gone_out t) (has_failed t)) (sink_state (gone_out u) (has_failed u))
-      (λ k. head_words sentence bytes spot class k) rest head more));
+      (λ k. head_words sentence bytes spot class k) (λ k. rest_words more k) head rest));
 }
 
 -- ---- they went out
@@ -45,6 +54,7 @@ pub why_went : {S : Type 0} (gone_out : S → Option (List ℕ)) (has_failed : S
 why_went gone_out has_failed bytes result start mid now before middle after new says flush on empty = record {
   sentence = says.sentence;
   more = says.more;
+  short = says.short;
   printed = went start mid now (sink_state (gone_out before) (has_failed before)) (sink_state (gone_out middle) (has_failed middle)) (sink_state (gone_out after) (has_failed after))
       (λ k. why_words says.sentence bytes result says.more k) new says.said flush on empty;
 }
@@ -74,6 +84,7 @@ why_some gone_out has_failed bytes result start mid now before middle after new 
     record {
       sentence = says.sentence;
       more = says.more;
+      short = says.short;
       out = hands.out;
       left = hands.left;
       split = said.is [] ∙ sym (ap (λ o. o.waiting ++ (said.bytes ++ [])) new) ∙ hands.split;

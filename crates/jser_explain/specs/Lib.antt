@@ -1,3 +1,5 @@
+pub mod Short
+pub mod Heads
 pub mod Opened
 pub mod Rest
 pub mod Whys

@@ -2,10 +2,11 @@
 ghost use Rattle.std.specs.Prelude.{◌++◌, ◌≡◌, take, drop, IfSome};
 ghost use Rattle.jser_printer.specs.Says.{SaysTo};
 ghost use Rattle.jser_printer.specs.Names.{view_name};
-ghost use Rattle.jser_explain.specs.Whys.{class_in, class_line, digits_end, field_line, field_of, first_bytes, hex_end, known_class_line};
+ghost use Rattle.jser_explain.specs.Heads.{class_in, class_line, digits_end, field_line, field_of, first_bytes, hex_end, known_class_line};
 
+use crate::short::write_class_name;
 use jser_prim::{Outbox, Sink};
-use jser_printer::{write, write_decimal, write_hex, write_quoted};
+use jser_printer::{write, write_decimal, write_hex};
 use jser_scan::Found;
 
 /// How many bytes of a field are printed at most.
@@ -87,7 +88,7 @@ fn first_bytes(bytes: &[u8], spot: Spot) -> &[u8]
 
 /// The bytes from this one on.
 #[tactic(auto, using(std::proofs::lemmas::List::drop_all))]
-fn behind(bytes: &[u8], at: u64) -> &[u8]
+pub(crate) fn behind(bytes: &[u8], at: u64) -> &[u8]
     ensures { result.now ≡ drop at bytes.now }
 {
     if at >= bytes.len() as u64 {
@@ -146,6 +147,6 @@ fn write_known_class<W: Sink>(outbox: &mut Outbox, sink: &mut W, units: &[u16])
     ensures { SaysTo W.gone_out W.has_failed outbox.old outbox.new sink.old sink.new (λ k. known_class_line units.now k) }
 {
     write(outbox, sink, b"  class ");
-    write_quoted(outbox, sink, units);
+    write_class_name(outbox, sink, units);
     write(outbox, sink, b"\n");
 }

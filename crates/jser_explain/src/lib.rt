@@ -11,6 +11,7 @@ mod kept;
 mod opened;
 mod piece;
 mod sentence;
+mod short;
 mod why;
 
 pub use answer::explain;

@@ -1,15 +1,55 @@
 //! What is open where a fault is, a line each.
 ghost use Rattle.std.specs.Prelude.{◌<◌, length};
 ghost use Rattle.jser_printer.specs.Says.{SaysTo, SayingTo};
-ghost use Rattle.jser_shown.specs.Words.{quoted};
-ghost use Rattle.jser_explain.specs.Opened.{class_words, element_words, field_words, name_words, opened_words, open_words, own_writer_words, writer_words};
+ghost use Rattle.jser_explain.specs.Opened.{class_words, element_words, field_words, inner_words, left_out_line, name_words, opened_words, open_words, own_writer_words, places_words, writer_words};
 ghost use Rattle.jser_printer.specs.Names.{view_name};
 
+use crate::short::write_name;
 use jser_prim::{Outbox, Sink};
 use jser_printer::{Name, Open, write, write_decimal};
 
-/// Writes what is open, the outermost first.
-pub(crate) fn write_opened<W: Sink>(outbox: &mut Outbox, sink: &mut W, opened: &[Open<'_>])
+/// How many of the outermost places are told at most, and of the innermost.
+const MOST: usize = 20;
+
+/// Writes what is open, the outermost first; of many the outermost and the innermost, and how many are between them.
+pub(crate) fn write_places<W: Sink>(outbox: &mut Outbox, sink: &mut W, opened: &[Open<'_>])
+    ensures { SaysTo W.gone_out W.has_failed outbox.old outbox.new sink.old sink.new (λ k. places_words opened.now k) }
+{
+    if opened.len() <= MOST {
+        write_opened(outbox, sink, opened);
+    } else {
+        let (outer, others) = opened.split_at(MOST);
+        write_opened(outbox, sink, outer);
+        write_inner(outbox, sink, others);
+    }
+}
+
+/// Writes those that are open in the outermost ones.
+#[tactic(auto, using(crate::proofs::OpenLemmas::inner_few))]
+fn write_inner<W: Sink>(outbox: &mut Outbox, sink: &mut W, others: &[Open<'_>])
+    ensures { SaysTo W.gone_out W.has_failed outbox.old outbox.new sink.old sink.new (λ k. inner_words others.now k) }
+{
+    if others.len() <= MOST {
+        write_opened(outbox, sink, others);
+    } else {
+        let count = others.len() - MOST;
+        let (_, inner) = others.split_at(count);
+        write_left_out(outbox, sink, count as u64);
+        write_opened(outbox, sink, inner);
+    }
+}
+
+/// Writes that so many places are left out.
+fn write_left_out<W: Sink>(outbox: &mut Outbox, sink: &mut W, count: u64)
+    ensures { SaysTo W.gone_out W.has_failed outbox.old outbox.new sink.old sink.new (λ k. left_out_line count k) }
+{
+    write(outbox, sink, b"  .. ");
+    write_decimal(outbox, sink, count);
+    write(outbox, sink, b" more\n");
+}
+
+/// Writes places, the outermost first.
+fn write_opened<W: Sink>(outbox: &mut Outbox, sink: &mut W, opened: &[Open<'_>])
     ensures { SaysTo W.gone_out W.has_failed outbox.old outbox.new sink.old sink.new (λ k. opened_words opened.now k) }
 {
     let mut rest = opened;
@@ -87,15 +127,6 @@ fn write_class_name<W: Sink>(outbox: &mut Outbox, sink: &mut W, class: Option<&N
         Some(name) => write_name(outbox, sink, name),
         None => write(outbox, sink, b"a proxy class"),
     }
-}
-
-/// Writes a name, quoted.
-fn write_name<W: Sink>(outbox: &mut Outbox, sink: &mut W, name: &Name)
-    ensures { SaysTo W.gone_out W.has_failed outbox.old outbox.new sink.old sink.new (λ k. quoted name.now k) }
-{
-    write(outbox, sink, b"\"");
-    write(outbox, sink, name.quoted());
-    write(outbox, sink, b"\"");
 }
 
 /// Writes that a class wrote its data by code of its own, if one did.

@@ -1,10 +1,14 @@
 //! What each reason means, in a sentence.
 
+ghost use Rattle.std.specs.Prelude.{◌≤◌, length};
+
 use jser_reader::Reason;
 use jser_scan::Found;
 
 /// What the reason of a refusal means; nothing where nothing is refused.
-pub(crate) fn sentence_of(found: &Found) -> &'static [u8] {
+pub(crate) fn sentence_of(found: &Found) -> &'static [u8]
+    ensures { length result.now ≤ 160 }
+{
     match found {
         Found::Refused { refusal, .. } => meaning(refusal.reason),
         Found::Hidden { .. } => {
@@ -15,7 +19,9 @@ pub(crate) fn sentence_of(found: &Found) -> &'static [u8] {
 }
 
 /// What a reason means.
-fn meaning(reason: Reason) -> &'static [u8] {
+fn meaning(reason: Reason) -> &'static [u8]
+    ensures { length result.now ≤ 160 }
+{
     match reason {
         Reason::BytesExceeded => b"The stream has more bytes than the limit.",
         Reason::BadHeader => b"The bytes do not begin with the header of a stream, aced0005.",

@@ -1,13 +1,14 @@
 //! The lines behind that of a refusal.
-ghost use Rattle.std.specs.Prelude.{◌≡◌, ◌++◌, OnOk, OnErr, IfErr, Some, true};
+ghost use Rattle.std.specs.Prelude.{◌≡◌, ◌≤◌, ◌++◌, OnOk, OnErr, IfErr, Some, length, true};
 ghost use Rattle.jser_printer.specs.Says.{SaysTo};
-ghost use Rattle.jser_explain.specs.Rest.{rest_words};
-ghost use Rattle.jser_explain.specs.Whys.{field_of, head_words, sentence_line, SaysSomeWhy, SaysWhy, SaysWhyTo};
+ghost use Rattle.jser_explain.specs.Heads.{field_of, head_words, sentence_line};
+ghost use Rattle.jser_explain.specs.Rest.{rest_words, view_rest};
+ghost use Rattle.jser_explain.specs.Whys.{SaysSomeWhy, SaysWhy, SaysWhyTo};
 ghost use Rattle.jser_printer.specs.Names.{view_name};
 
 use crate::field::{Spot, bytes_at, class_in, spot_of, write_class, write_field};
 use crate::hint::hint_of;
-use crate::opened::{write_opened, write_writer, writer_in};
+use crate::opened::{write_places, write_writer, writer_in};
 use crate::piece::{Piece, deciding_piece, write_piece};
 use crate::sentence::sentence_of;
 use jser_grammar::wire::TC_CLASSDESC;
@@ -105,7 +106,8 @@ fn write_lines<W: Sink>(
     spot: Spot,
     rest: &Rest<'_>,
 )
-    requires { field_of found.now ≡ Some spot }
+    requires place { field_of found.now ≡ Some spot }
+    requires hint { length rest.now.hint.now ≤ 64 }
     ensures { SaysWhyTo W.gone_out W.has_failed bytes.now found.now outbox.old outbox.new sink.old sink.new }
 {
     let sentence = sentence_of(found);
@@ -155,11 +157,11 @@ struct Rest<'r> {
 
 /// Writes it.
 fn write_rest<W: Sink>(outbox: &mut Outbox, sink: &mut W, rest: &Rest<'_>)
-    ensures { SaysTo W.gone_out W.has_failed outbox.old outbox.new sink.old sink.new (λ k. rest_words (view_name rest.now.class) rest.now.piece rest.now.opened.now (view_name rest.now.writer) rest.now.hint.now k) }
+    ensures { SaysTo W.gone_out W.has_failed outbox.old outbox.new sink.old sink.new (λ k. rest_words (view_rest rest.now) k) }
 {
     write_class(outbox, sink, rest.class);
     write_piece(outbox, sink, &rest.piece);
-    write_opened(outbox, sink, rest.opened);
+    write_places(outbox, sink, rest.opened);
     write_writer(outbox, sink, rest.writer);
     write(outbox, sink, rest.hint);
 }

@@ -1,6 +1,6 @@
 use Rattle.jser_printer.specs.Names.{view_name}
 use Rattle.jser_printer.proofs.SaysLemmas.{says_three}
-use Rattle.jser_explain.specs.Whys.{class_line, field_line, first_bytes, sentence_line}
+use Rattle.jser_explain.specs.Heads.{class_line, field_line, first_bytes, sentence_line}
 use Rattle.jser_explain.proofs.why.write_head.Goals as goal
 
 pub returns : goal.returns
