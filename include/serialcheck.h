@@ -4,8 +4,10 @@
  *   - No pointer is NULL, also where its length is 0. A length is at most PTRDIFF_MAX.
  *   - What a call writes (answer, handle, room) overlaps nothing that it reads, and the bytes that it reads do not change
  *     meanwhile.
- *   - A handle is zero before its first call (SERIALCHECK_NONE), is written by these calls alone, is not copied, and is used
- *     by one call at a time. Any thread may use it next, ordered by a lock, a join or an atomic.
+ *   - A handle is zero before its first call (SERIALCHECK_NONE), is written by these calls alone, and is not copied. A filter's
+ *     handle is read by any number of calls at once (serialcheck_filter_check, serialcheck_stream_new), of any threads, while
+ *     no call fills or frees it. A stream's handle is used by one call at a time. What fills, frees or uses it next is
+ *     ordered after that by a lock, a join or an atomic.
  *   - No call comes from a signal handler, or from the forked child of a process with threads.
  * Calls on different handles, and calls without one, may run at once. Memory comes from malloc, realloc and free.
  *
@@ -63,7 +65,7 @@ typedef struct {
     uint64_t handles;  /* and its handles */
 } serialcheck_answer;
 
-/* A filter that was read once. */
+/* A filter that was read once. Threads share it: no call that reads it changes it. */
 typedef struct {
     void *at;
     bool is_open;
@@ -87,14 +89,14 @@ uint32_t serialcheck_filter_new(const uint8_t *text, size_t len, const uint8_t *
                                 serialcheck_answer *answer, serialcheck_filter *filter);
 
 /* Checks bytes under the filter of a handle. YES, NO or NO_MEMORY; SPENT where the handle holds nothing. */
-uint32_t serialcheck_filter_check(serialcheck_filter *filter, const uint8_t *bytes, size_t len, serialcheck_answer *answer);
+uint32_t serialcheck_filter_check(const serialcheck_filter *filter, const uint8_t *bytes, size_t len, serialcheck_answer *answer);
 
 /* Lets the filter go, if the handle holds one; then it holds nothing. */
 void serialcheck_filter_free(serialcheck_filter *filter);
 
 /* Begins a stream under the filter of a handle, which may be let go before the stream. MORE: the stream's handle holds it, and
  * what it held before is let go. NO_MEMORY, or SPENT where the filter's handle holds nothing: the stream's handle is as it was. */
-uint32_t serialcheck_stream_new(serialcheck_filter *filter, serialcheck_answer *answer, serialcheck_stream *stream);
+uint32_t serialcheck_stream_new(const serialcheck_filter *filter, serialcheck_answer *answer, serialcheck_stream *stream);
 
 /* The same under the filter of a text with a table of modules. MORE, MISUSE or NO_MEMORY. */
 uint32_t serialcheck_stream_new_text(const uint8_t *text, size_t len, const uint8_t *modules, size_t modules_len, uint32_t flags,

@@ -4,3 +4,4 @@ pub mod ToldLemmas
 pub mod PiecesLemmas
 pub mod TextLemmas
 pub mod ZeroLemmas
+pub mod LentSteps

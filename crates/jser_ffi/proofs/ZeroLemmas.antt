@@ -2,7 +2,7 @@
 use Rattle.std.proofs.Common.{◌≡◌, ℕ, ◌⊎◌, inl, inr, refl, sym, subst}
 use Rattle.std.specs.Prelude.{◌≢◌}
 use Rattle.jser_ffi.specs.declared.answer.Answer.{Answer}
-use Rattle.jser_ffi.specs.Told.{NoCounts, TextZeros, Zeros, bare_answer}
+use Rattle.jser_ffi.specs.Told.{TextZeros, Zeros, bare_answer}
 
 zero_at : (status : ℕ) → Zeros (bare_answer status)
 zero_at status = record {

@@ -6,4 +6,5 @@ pub mod Streams
 pub mod Texts
 pub mod Holding
 pub mod FilterOwning
+pub mod Lending
 pub mod StreamOwning

@@ -22,6 +22,7 @@ pub struct Compiled {
     pub applied: SharedFilter,
     /// Whether it is asked about every class name that can be read at any place of the bytes.
     pub anywhere: bool,
+    pub(crate) alloc: Global,
 }
 
 /// The filter of a text and of a table of modules, asked as the flags say.
@@ -51,6 +52,7 @@ pub(crate) fn compile(
         Ok(applied) => Ok(Compiled {
             applied,
             anywhere: way.anywhere,
+            alloc,
         }),
         Err(_) => Err(bare(NO_MEMORY)),
     }
@@ -112,10 +114,11 @@ fn table_of(alloc: Global, text: &[u8]) -> Result<Modules, Answer>
 
 impl Compiled {
     /// The answer to a check of bytes.
-    pub(crate) fn check(&self, alloc: Global, bytes: &[u8]) -> Answer
+    pub(crate) fn check(&self, bytes: &[u8]) -> Answer
         ensures says { Says self.now bytes.now result }
         ensures zeros { Zeros result }
     {
+        let alloc = self.alloc;
         let (filter, options) = (self.applied.filter(), self.applied.options());
         if self.anywhere {
             check_anywhere(alloc, bytes, filter, options)

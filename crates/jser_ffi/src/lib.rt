@@ -4,7 +4,10 @@
 //! declares these calls and says what the caller owes.
 #![tactic(auto)]
 
-ghost use Rattle.std.specs.Prelude.{◌≡◌, ◌≢◌, ◌⊎◌, ℕ, List, [], None, Some};
+ghost use Rattle.std.specs.Prelude.{◌≡◌, ◌≢◌, ◌⊎◌, ℕ, List, [], None, Some, true, false};
+ghost use types.Logic.{sem};
+ghost use base.Fml.{flft};
+ghost use Rattle.jser_ffi.specs.Lending.{BeginsIn, Checks, IsSpent, Reading, reads};
 ghost use Rattle.jser_ffi.specs.declared.compiled.Compiled.{Compiled};
 ghost use Rattle.jser_ffi.specs.Compiling.{IsCompiled, SaysMisuse, TextsAreFaulty};
 ghost use Rattle.jser_ffi.specs.Holding.{HoldsSuch};
@@ -21,6 +24,7 @@ mod compiled;
 mod filter_handle;
 mod held_filter;
 mod held_stream;
+mod lent_filter;
 mod misuse;
 mod parts;
 mod pieces;
@@ -32,6 +36,7 @@ mod way;
 use answer::{Answer, NO_MEMORY, SPENT, bare};
 use compiled::{Compiled, compile};
 use filter_handle::FilterHandle;
+use lent_filter::{LentFilter, is_open, pointer_of};
 use std::alloc::Global;
 use stream::Stream;
 use stream_handle::StreamHandle;
@@ -64,7 +69,7 @@ fn answer_under(alloc: Global, bytes: &[u8], filter: &[u8], flags: u32) -> Answe
     ensures zeros { Zeros result }
 {
     match compile(alloc, filter, &[], flags) {
-        Ok(compiled) => compiled.check(alloc, bytes),
+        Ok(compiled) => compiled.check(bytes),
         Err(answer) => answer,
     }
 }
@@ -95,28 +100,45 @@ pub extern "C" fn serialcheck_filter_new(
     answer.status
 }
 
-/// Checks whether bytes are one stream that the filter of a handle admits.
+/// Checks whether bytes are one stream that the filter of a handle admits. Any number of threads may ask it at once.
 #[unsafe(no_mangle)]
-pub extern "C" fn serialcheck_filter_check(
-    alloc: Global,
-    filter: &mut FilterHandle,
+pub unsafe extern "C" fn serialcheck_filter_check(
+    filter: &LentFilter,
     bytes: &[u8],
     answer: &mut Answer,
 ) -> u32
+    ghost g: { Reading }
+    requires* { sem 𝓛 (reads filter.now.is_open filter.now.at g) }
+    ensures* given_back { sem 𝓛 (flft g.life g.share) }
     ensures status { result ≡ answer.new.status }
-    ensures says { (compiled : Compiled) → filter.old.owner.held ≡ Some compiled → Says compiled bytes.now answer.new }
-    ensures empty { filter.old.owner.held ≡ None → result ≡ 5 }
-    ensures kept { filter.new.owner.held ≡ filter.old.owner.held }
+    ensures says { filter.now.is_open ≡ true → Says g.compiled bytes.now answer.new }
+    ensures empty { filter.now.is_open ≡ false → result ≡ 5 }
     ensures zeros { Zeros answer.new }
 {
-    *answer = match filter.take(alloc) {
-        Some(compiled) => {
-            let answer = compiled.check(alloc, bytes);
-            filter.put(alloc, compiled);
-            answer
-        }
-        None => bare(SPENT),
-    };
+    if is_open(filter) {
+        checked_under(&*(pointer_of(filter) as *const Compiled), bytes, answer)
+    } else {
+        spent(answer)
+    }
+}
+
+/// Checks bytes under a filter that several threads may have.
+fn checked_under(filter: &Compiled, bytes: &[u8], answer: &mut Answer) -> u32
+    ensures { Checks filter.now bytes.now answer.new result }
+{
+    crosses(filter);
+    *answer = filter.check(bytes);
+    answer.status
+}
+
+/// Takes what several threads may have at once.
+fn crosses<T: Sync>(_shared: &T) {}
+
+/// The answer where a handle holds nothing.
+fn spent(answer: &mut Answer) -> u32
+    ensures { IsSpent answer.new result }
+{
+    *answer = bare(SPENT);
     answer.status
 }
 
@@ -129,31 +151,45 @@ pub extern "C" fn serialcheck_filter_free(alloc: Global, filter: &mut FilterHand
 }
 
 /// Begins a stream under the filter of a handle. Where the status is 4, the stream's handle holds it, and what it held before
-/// is let go; else it is as it was.
+/// is let go; else it is as it was. Any number of threads may begin streams under the filter at once.
 #[unsafe(no_mangle)]
-pub extern "C" fn serialcheck_stream_new(
-    alloc: Global,
-    filter: &mut FilterHandle,
+pub unsafe extern "C" fn serialcheck_stream_new(
+    filter: &LentFilter,
     answer: &mut Answer,
     stream: &mut StreamHandle,
 ) -> u32
+    ghost g: { Reading }
+    requires* { sem 𝓛 (reads filter.now.is_open filter.now.at g) }
+    ensures* given_back { sem 𝓛 (flft g.life g.share) }
     ensures status { result ≡ answer.new.status }
-    ensures begins { (compiled : Compiled) → filter.old.owner.held ≡ Some compiled → result ≡ 4 → HoldsSuch (Begins compiled) stream.new.owner.held }
-    ensures empty { filter.old.owner.held ≡ None → result ≡ 5 }
+    ensures begins { filter.now.is_open ≡ true → result ≡ 4 → HoldsSuch (Begins g.compiled) stream.new.owner.held }
+    ensures empty { filter.now.is_open ≡ false → result ≡ 5 }
     ensures kept { result ≢ 4 → stream.new ≡ stream.old }
-    ensures filter_kept { filter.new.owner.held ≡ filter.old.owner.held }
     ensures known { (result ≡ 4) ⊎ ((result ≡ 3) ⊎ (result ≡ 5)) }
     ensures zeros { Zeros answer.new }
 {
-    *answer = match filter.take(alloc) {
-        Some(shared) => {
-            let answer = begun(alloc, &shared, stream);
-            filter.put(alloc, shared);
-            answer
-        }
-        None => bare(SPENT),
-    };
+    if is_open(filter) {
+        begun_under(&*(pointer_of(filter) as *const Compiled), answer, stream)
+    } else {
+        none_begun(answer, stream)
+    }
+}
+
+/// Begins a stream under a filter that several threads may have.
+fn begun_under(filter: &Compiled, answer: &mut Answer, stream: &mut StreamHandle) -> u32
+    ensures { BeginsIn filter.now stream.old stream.new answer.new result }
+{
+    crosses(filter);
+    *answer = begun(filter, stream);
     answer.status
+}
+
+/// The answer where a handle holds nothing under which a stream could begin.
+fn none_begun(answer: &mut Answer, stream: &mut StreamHandle) -> u32
+    ensures { IsSpent answer.new result × (stream.new ≡ stream.old) }
+{
+    let _ = stream;
+    spent(answer)
 }
 
 /// Begins a stream under the filter of a text.
@@ -174,21 +210,21 @@ pub extern "C" fn serialcheck_stream_new_text(
     ensures zeros { Zeros answer.new }
 {
     *answer = match compile(alloc, text, modules, flags) {
-        Ok(compiled) => begun(alloc, &compiled, stream),
+        Ok(compiled) => begun(&compiled, stream),
         Err(answer) => answer,
     };
     answer.status
 }
 
 /// Begins a stream under a filter.
-fn begun(alloc: Global, compiled: &Compiled, stream: &mut StreamHandle) -> Answer
+fn begun(compiled: &Compiled, stream: &mut StreamHandle) -> Answer
     ensures begins { result.status ≡ 4 → HoldsSuch (Begins compiled.now) stream.new.owner.held }
     ensures kept { result.status ≢ 4 → stream.new ≡ stream.old }
     ensures known { (result.status ≡ 4) ⊎ (result.status ≡ 3) }
     ensures zeros { Zeros result }
 {
-    match Stream::new(alloc, compiled) {
-        Ok(new) => stream.fill(alloc, new),
+    match Stream::new(compiled) {
+        Ok(new) => stream.fill(compiled.alloc, new),
         Err(_) => bare(NO_MEMORY),
     }
 }

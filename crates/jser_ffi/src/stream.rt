@@ -11,7 +11,7 @@ use crate::pieces::{end_anywhere, end_plain, feed_anywhere, feed_plain};
 use jser_anywhere::Scan;
 use jser_reader::Reader;
 use jser_shared::SharedFilter;
-use std::alloc::{AllocError, Global};
+use std::alloc::AllocError;
 
 /// A stream that is being checked, or what was answered of it.
 #[derive(Drop)]
@@ -30,11 +30,11 @@ impl Stream {
     /// # Errors
     ///
     /// Where the filter has too many owners.
-    pub(crate) fn new(alloc: Global, compiled: &Compiled) -> Result<Stream, AllocError>
+    pub(crate) fn new(compiled: &Compiled) -> Result<Stream, AllocError>
         ensures { IfOk result (Begins compiled.now) }
     {
         let reader = match compiled.applied.share() {
-            Ok(filter) => Reader::new(alloc, filter),
+            Ok(filter) => Reader::new(compiled.alloc, filter),
             Err(error) => return Err(error),
         };
         if compiled.anywhere {
