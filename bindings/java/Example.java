@@ -7,14 +7,19 @@ import java.io.ObjectOutputStream;
 import java.io.OutputStream;
 import java.io.Serializable;
 import java.util.ArrayList;
-import java.util.HashMap;
+import java.util.Arrays;
 import java.util.Iterator;
 import java.util.List;
-import java.util.Map;
-import java.util.TreeMap;
 import java.util.concurrent.Callable;
+import java.util.zip.GZIPInputStream;
+import java.util.zip.GZIPOutputStream;
+import serialcheck.Filter;
+import serialcheck.Flag;
+import serialcheck.Refused;
+import serialcheck.Report;
+import serialcheck.Stream;
 
-/** How a message consumer, a session store, a servlet filter and a gateway call the check. Copy what you need. */
+/** How a message consumer, a servlet filter, a gateway, an upload and a job call the check. Copy what you need. */
 public final class Example {
     static final int MOST = 1 << 20;
     static final String LIMITS = "maxbytes=1048576;maxdepth=20;maxrefs=10000;maxarray=10000;";
@@ -49,33 +54,18 @@ public final class Example {
 
     // A message consumer, as of JMS: one filter for each consumer.
     static final class Consumer {
-        private final SerialCheck check = new SerialCheck(LIMITS + "Example$Order;java.lang.*;!*", SerialCheck.ANYWHERE);
+        private final Filter filter = new Filter(LIMITS + "Example$Order;java.lang.*;!*", Flag.ANYWHERE);
 
         Order order(byte[] body) throws IOException, ClassNotFoundException {
-            try (ObjectInputStream in = check.open(new ByteArrayInputStream(body), MOST)) {
+            try (ObjectInputStream in = filter.open(new ByteArrayInputStream(body), MOST)) {
                 return (Order) in.readObject();
             }
         }
     }
 
-    // A session store, as of Tomcat's FileStore: the number of attributes, and then each name with its value.
-    static final class SessionStore {
-        private final SerialCheck check = new SerialCheck(LIMITS + "java.util.*;java.lang.*;!*", SerialCheck.ANYWHERE);
-
-        Map<String, Object> load(InputStream file) throws IOException, ClassNotFoundException {
-            Map<String, Object> attributes = new TreeMap<>();
-            try (ObjectInputStream in = check.open(file, MOST)) {
-                for (int left = (Integer) in.readObject(); left > 0; left--) {
-                    attributes.put((String) in.readObject(), in.readObject());
-                }
-            }
-            return attributes;
-        }
-    }
-
     // A servlet filter: the status that it sends, and the body only where it is accepted.
     static final class BodyFilter {
-        private final SerialCheck check = new SerialCheck(LIMITS + "java.util.*;java.lang.*;!*", SerialCheck.STRICT | SerialCheck.ANYWHERE);
+        private final Filter filter = new Filter(LIMITS + "java.util.*;java.lang.*;!*", Flag.STRICT, Flag.ANYWHERE);
 
         int doFilter(InputStream body, Callable<Integer> chain) throws Exception {
             byte[] bytes = body.readNBytes(MOST + 1);
@@ -83,8 +73,8 @@ public final class Example {
                 return 413;
             }
             try {
-                check.check(bytes);
-            } catch (SerialCheck.Refused refused) {
+                filter.check(bytes);
+            } catch (Refused refused) {
                 return 400;
             }
             return chain.call();
@@ -93,22 +83,43 @@ public final class Example {
 
     // A gateway: it forwards the very bytes that were checked, and reads no object itself.
     static final class Gateway {
-        private final SerialCheck check = new SerialCheck(LIMITS + "java.util.*;java.lang.*;!*", SerialCheck.ANYWHERE);
+        private final Filter filter = new Filter(LIMITS + "java.util.*;java.lang.*;!*", Flag.ANYWHERE);
 
-        SerialCheck.Report forward(byte[] bytes, OutputStream behind) throws IOException {
+        Report forward(byte[] bytes, OutputStream behind) throws IOException {
             byte[] mine = bytes.clone();
-            SerialCheck.Report report = check.check(mine);
+            Report report = filter.check(mine);
             behind.write(mine);
             return report;
+        }
+    }
+
+    // An upload: it is cut off at the piece that decides against it, and handed on once all of it is accepted.
+    static byte[] upload(InputStream from, Filter filter) throws IOException {
+        ByteArrayOutputStream kept = new ByteArrayOutputStream();
+        byte[] piece = new byte[8192];
+        try (Stream stream = filter.stream()) {
+            for (int length; (length = from.read(piece)) >= 0; ) {
+                stream.feed(piece, 0, length);
+                kept.write(piece, 0, length);
+            }
+            stream.end();
+        }
+        return kept.toByteArray();
+    }
+
+    // A compressed body: what comes out of it is bounded, and then checked.
+    static Object unzipped(InputStream body, Filter filter) throws IOException, ClassNotFoundException {
+        try (ObjectInputStream in = filter.open(new GZIPInputStream(body), MOST)) {
+            return in.readObject();
         }
     }
 
     // One partition: the filter is made once, and each record is checked before it is read.
     static List<Object> partition(Iterator<byte[]> records) throws IOException, ClassNotFoundException {
         List<Object> read = new ArrayList<>();
-        try (SerialCheck check = new SerialCheck(LIMITS + "java.util.*;java.lang.*;!*", SerialCheck.ANYWHERE)) {
+        try (Filter filter = new Filter(LIMITS + "java.util.*;java.lang.*;!*", Flag.ANYWHERE)) {
             while (records.hasNext()) {
-                try (ObjectInputStream in = check.open(new ByteArrayInputStream(records.next()), MOST)) {
+                try (ObjectInputStream in = filter.open(new ByteArrayInputStream(records.next()), MOST)) {
                     read.add(in.readObject());
                 }
             }
@@ -126,47 +137,53 @@ public final class Example {
         return bytes.toByteArray();
     }
 
+    static byte[] zipped(byte[] plain) throws IOException {
+        ByteArrayOutputStream bytes = new ByteArrayOutputStream();
+        try (OutputStream out = new GZIPOutputStream(bytes)) {
+            out.write(plain);
+        }
+        return bytes.toByteArray();
+    }
+
     static void tell(String what, Callable<?> call) {
         String answer;
         try {
             answer = String.valueOf(call.call());
-        } catch (SerialCheck.Refused refused) {
-            answer = "refused: " + refused.reason;
+        } catch (Refused refused) {
+            answer = "refused: " + refused.reason();
         } catch (Exception other) {
             answer = other.toString();
         }
         System.out.println(what + ": " + answer);
     }
 
-    static Object inMap(Object value) {
-        Map<String, Object> map = new HashMap<>();
-        map.put("key", value);
-        return map;
-    }
-
     public static void main(String[] words) throws Exception {
         Consumer consumer = new Consumer();
-        SessionStore store = new SessionStore();
-        BodyFilter filter = new BodyFilter();
+        BodyFilter body = new BodyFilter();
         Gateway gateway = new Gateway();
         byte[] order = written(new Order("tea", 3));
         byte[] gadget = written(new Gadget());
-        byte[] hidden = written(inMap(new ArrayList<>(List.of("a", new Gadget()))));
-        byte[] session = written(2, "user", "ann", "cart", new ArrayList<>(List.of(1, 2)));
+        byte[] hidden = written(new ArrayList<>(List.of("a", new Gadget())));
+        byte[] several = written(2, "user", "ann", "cart", new ArrayList<>(List.of(1, 2)));
         tell("message", () -> consumer.order(order));
         tell("message, a gadget", () -> consumer.order(gadget));
-        tell("message, cut", () -> consumer.order(java.util.Arrays.copyOf(order, order.length - 1)));
-        tell("session", () -> store.load(new ByteArrayInputStream(session)));
-        tell("session, a gadget in a list in a map", () -> store.load(new ByteArrayInputStream(hidden)));
-        tell("body", () -> filter.doFilter(new ByteArrayInputStream(session), () -> 200));
-        tell("body, a gadget", () -> filter.doFilter(new ByteArrayInputStream(gadget), () -> 200));
-        tell("body, too long", () -> filter.doFilter(new ByteArrayInputStream(new byte[MOST + 1]), () -> 200));
+        tell("message, cut", () -> consumer.order(Arrays.copyOf(order, order.length - 1)));
+        tell("body", () -> body.doFilter(new ByteArrayInputStream(several), () -> 200));
+        tell("body, a gadget in a list", () -> body.doFilter(new ByteArrayInputStream(hidden), () -> 200));
+        tell("body, too long", () -> body.doFilter(new ByteArrayInputStream(new byte[MOST + 1]), () -> 200));
         ByteArrayOutputStream behind = new ByteArrayOutputStream();
-        tell("gateway", () -> gateway.forward(session, behind).contents + " objects");
+        tell("gateway", () -> gateway.forward(several, behind).contents() + " objects");
         tell("gateway, no stream", () -> gateway.forward(new byte[] {1, 2, 3, 4}, behind));
-        System.out.println("forwarded: " + (java.util.Arrays.equals(behind.toByteArray(), session) ? "the session alone" : "something else"));
+        System.out.println("forwarded: " + (Arrays.equals(behind.toByteArray(), several) ? "the good bytes alone" : "something else"));
+        try (Filter filter = new Filter(LIMITS + "java.util.*;java.lang.*;!*", Flag.ANYWHERE)) {
+            tell("upload", () -> Arrays.equals(upload(new ByteArrayInputStream(several), filter), several));
+            tell("upload, a gadget in a list", () -> upload(new ByteArrayInputStream(hidden), filter));
+            tell("compressed", () -> unzipped(new ByteArrayInputStream(zipped(several)), filter));
+            tell("compressed, a gadget in a list", () -> unzipped(new ByteArrayInputStream(zipped(hidden)), filter));
+            tell("compressed, much of nothing", () -> unzipped(new ByteArrayInputStream(zipped(new byte[MOST + 1])), filter));
+        }
         tell("partition", () -> partition(List.of(written("a"), written(7)).iterator()));
-        tell("a faulty filter", () -> new SerialCheck("java.util.*;maxdept=1", 0));
+        tell("a faulty filter", () -> new Filter("java.util.*;maxdept=1"));
         System.out.println("gadgets that ran: " + Gadget.ran);
         new ObjectInputStream(new ByteArrayInputStream(gadget)).readObject();
         System.out.println("gadgets that ran where nothing checked: " + Gadget.ran);

@@ -1,30 +1,39 @@
-/* The native calls of SerialCheck.java. Bytes are copied before they are checked: no other thread changes the copy. */
+/* The native calls of serialcheck.Native. Bytes are copied before they are checked: no other thread changes the copy. A handle of
+ * Java is the address of a handle of the library, or 0. */
 #include "serialcheck.h"
 
 #include <jni.h>
 #include <stdlib.h>
 
-enum { WORDS = 9, SMALL_ROOM = 4096 };
+#define CALL(type, name) JNIEXPORT type JNICALL Java_serialcheck_Native_##name
+
+enum { WORDS = 9, SMALL_ROOM = 8192 };
 
 static void hand_out(JNIEnv *env, jlongArray out, const serialcheck_answer *a) {
     const jlong words[WORDS] = {(jlong)a->status, (jlong)a->reason, (jlong)a->from, (jlong)a->to, (jlong)a->bytes, (jlong)a->contents, (jlong)a->refs, (jlong)a->depth, (jlong)a->handles};
     (*env)->SetLongArrayRegion(env, out, 0, WORDS, words);
 }
 
-/* A copy of the first bytes of an array, in `room` if they fit there. */
-static uint8_t *copied(JNIEnv *env, jbyteArray from, jsize len, uint8_t *room, size_t room_len) {
+/* A copy of a part of an array, in `room` if it fits there. */
+static uint8_t *copied(JNIEnv *env, jbyteArray bytes, jint from, jsize len, uint8_t *room, size_t room_len) {
     uint8_t *copy = (size_t)len <= room_len ? room : malloc((size_t)len);
-    if (copy) (*env)->GetByteArrayRegion(env, from, 0, len, (jbyte *)copy);
+    if (copy) (*env)->GetByteArrayRegion(env, bytes, from, len, (jbyte *)copy);
     return copy;
 }
 
-JNIEXPORT jlong JNICALL Java_SerialCheck_open(JNIEnv *env, jclass class, jbyteArray filter, jbyteArray modules, jint flags, jlongArray out) {
+CALL(jint, words)(JNIEnv *env, jclass class) {
+    (void)env;
+    (void)class;
+    return WORDS;
+}
+
+CALL(jlong, filterNew)(JNIEnv *env, jclass class, jbyteArray filter, jbyteArray modules, jint flags, jlongArray out) {
     (void)class;
     serialcheck_answer answer = {.status = SERIALCHECK_NO_MEMORY};
     serialcheck_filter *handle = calloc(1, sizeof *handle);
     const jsize len = (*env)->GetArrayLength(env, filter), modules_len = (*env)->GetArrayLength(env, modules);
     uint8_t room[1], modules_room[1];
-    uint8_t *text = copied(env, filter, len, room, sizeof room), *table = copied(env, modules, modules_len, modules_room, sizeof modules_room);
+    uint8_t *text = copied(env, filter, 0, len, room, sizeof room), *table = copied(env, modules, 0, modules_len, modules_room, sizeof modules_room);
     if (handle && text && table)
         serialcheck_filter_new(text, (size_t)len, table, (size_t)modules_len, (uint32_t)flags, &answer, handle);
     if (text != room) free(text);
@@ -35,19 +44,64 @@ JNIEXPORT jlong JNICALL Java_SerialCheck_open(JNIEnv *env, jclass class, jbyteAr
     return 0;
 }
 
-JNIEXPORT void JNICALL Java_SerialCheck_check(JNIEnv *env, jclass class, jlong handle, jbyteArray bytes, jint len, jlongArray out) {
+CALL(void, filterCheck)(JNIEnv *env, jclass class, jlong filter, jbyteArray bytes, jint from, jint len, jlongArray out) {
     (void)class;
-    serialcheck_answer answer = {.status = SERIALCHECK_NO_MEMORY};
+    serialcheck_answer answer = {.status = SERIALCHECK_SPENT};
     uint8_t room[SMALL_ROOM];
-    uint8_t *copy = copied(env, bytes, len, room, sizeof room);
-    if (copy) serialcheck_filter_check((serialcheck_filter *)(intptr_t)handle, copy, (size_t)len, &answer);
-    if (copy != room) free(copy);
+    if (filter) {
+        uint8_t *copy = copied(env, bytes, from, len, room, sizeof room);
+        answer.status = SERIALCHECK_NO_MEMORY;
+        if (copy) serialcheck_filter_check((serialcheck_filter *)(intptr_t)filter, copy, (size_t)len, &answer);
+        if (copy != room) free(copy);
+    }
     hand_out(env, out, &answer);
 }
 
-JNIEXPORT void JNICALL Java_SerialCheck_free(JNIEnv *env, jclass class, jlong handle) {
+CALL(void, filterFree)(JNIEnv *env, jclass class, jlong filter) {
     (void)env;
     (void)class;
-    serialcheck_filter_free((serialcheck_filter *)(intptr_t)handle);
-    free((void *)(intptr_t)handle);
+    if (filter) serialcheck_filter_free((serialcheck_filter *)(intptr_t)filter);
+    free((void *)(intptr_t)filter);
+}
+
+CALL(jlong, streamNew)(JNIEnv *env, jclass class, jlong filter, jlongArray out) {
+    (void)class;
+    serialcheck_answer answer = {.status = SERIALCHECK_SPENT};
+    serialcheck_stream *handle = 0;
+    if (filter) {
+        answer.status = SERIALCHECK_NO_MEMORY;
+        handle = calloc(1, sizeof *handle);
+        if (handle) serialcheck_stream_new((serialcheck_filter *)(intptr_t)filter, &answer, handle);
+    }
+    hand_out(env, out, &answer);
+    if (answer.status == SERIALCHECK_MORE) return (jlong)(intptr_t)handle;
+    free(handle);
+    return 0;
+}
+
+CALL(void, streamFeed)(JNIEnv *env, jclass class, jlong stream, jbyteArray bytes, jint from, jint len, jlongArray out) {
+    (void)class;
+    serialcheck_answer answer = {.status = SERIALCHECK_SPENT};
+    uint8_t room[SMALL_ROOM];
+    if (stream) {
+        uint8_t *copy = copied(env, bytes, from, len, room, sizeof room);
+        answer.status = SERIALCHECK_NO_MEMORY;
+        if (copy) serialcheck_stream_feed((serialcheck_stream *)(intptr_t)stream, copy, (size_t)len, &answer);
+        if (copy != room) free(copy);
+    }
+    hand_out(env, out, &answer);
+}
+
+CALL(void, streamEnd)(JNIEnv *env, jclass class, jlong stream, jlongArray out) {
+    (void)class;
+    serialcheck_answer answer = {.status = SERIALCHECK_SPENT};
+    if (stream) serialcheck_stream_end((serialcheck_stream *)(intptr_t)stream, &answer);
+    hand_out(env, out, &answer);
+}
+
+CALL(void, streamFree)(JNIEnv *env, jclass class, jlong stream) {
+    (void)env;
+    (void)class;
+    if (stream) serialcheck_stream_free((serialcheck_stream *)(intptr_t)stream);
+    free((void *)(intptr_t)stream);
 }

@@ -4,6 +4,7 @@ import java.io.IOException;
 import java.io.InputStream;
 import java.io.ObjectInputStream;
 import java.io.ObjectOutputStream;
+import serialcheck.Filter;
 
 /** Prints what is read of streams that do not do what an InputStream owes. */
 public final class Kept {
@@ -46,7 +47,7 @@ public final class Kept {
 
     public static void main(String[] words) throws IOException, ClassNotFoundException {
         byte[] bytes = written("checked"), others = written("changed");
-        try (SerialCheck check = new SerialCheck("", 0)) {
+        try (Filter check = new Filter("")) {
             Keeper keeper = new Keeper(bytes);
             try (ObjectInputStream in = check.open(keeper, bytes.length, checked -> {
                 keeper.write(others);

@@ -1,3 +1,5 @@
+import serialcheck.Filter;
+
 /** Prints what a filter and a table of modules with an unpaired surrogate are answered: they have no bytes in UTF-8. */
 public final class NoText {
     public static void main(String[] words) {
@@ -7,7 +9,7 @@ public final class NoText {
 
     static void tell(String filter, String modules) {
         try {
-            new SerialCheck(filter, modules, 0).close();
+            new Filter(filter, modules).close();
             System.out.println("a filter was made");
         } catch (IllegalArgumentException fault) {
             System.out.println(fault.getMessage());

@@ -5,7 +5,7 @@ from pathlib import Path
 TOP = Path(__file__).resolve().parent.parent.parent
 HEADER = (TOP / "include/serialcheck.h").read_text(encoding="ascii").replace("\\\n", " ")
 # Each binding, and how it begins and ends a list.
-BINDINGS = (("bindings/python/serialcheck/__init__.py", r"^{} = \((.*?)^\)"), ("bindings/java/SerialCheck.java", r"\b{} = {{(.*?)}};"))
+BINDINGS = (("bindings/python/serialcheck/__init__.py", r"^{} = \((.*?)^\)"), ("bindings/java/src/serialcheck/Answer.java", r"\b{} = {{(.*?)}};"))
 # How a binding says a cause that is about a whole text, or about a flag.
 WHOLE = {"FilterIsNoText": "filter is not text", "ModulesAreNoText": "modules are not text", "UnknownFlag": "unknown flag"}
 

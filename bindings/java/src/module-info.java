@@ -1,0 +1,4 @@
+/** Checks Java object serialization streams before any {@link java.io.ObjectInputStream} exists, by native code for Linux on x86-64. */
+module serialcheck {
+    exports serialcheck;
+}

@@ -1,0 +1,95 @@
+package serialcheck;
+
+import java.util.Locale;
+
+/** What a native call answers: the words of the header's serialcheck_answer, in its order. */
+final class Answer {
+    static final int YES = 0, NO = 1, MISUSE = 2, NO_MEMORY = 3, MORE = 4, SPENT = 5;
+    /** How many words there are. The native code says the same number, or it is of another version. */
+    static final int WORDS = 9;
+
+    private static final String[] REASONS = {"", "BytesExceeded", "BadHeader", "BadTag", "ExceptionTag", "ResetInside", "BadText",
+        "NegativeLength", "BadTypeCode", "FieldOrder", "BadFlags", "NullClass", "NoSuchHandle", "WrongKind", "OpenDescriptor",
+        "BadArrayName", "WrongClass", "ExternalRaw", "NotSerializable", "ClassRejected", "ClassUnmatched", "DepthExceeded",
+        "RefsExceeded", "ArrayExceeded", "Truncated", "HandleSpace", "HiddenName"};
+    private static final String[] CAUSES = {"", "filter pattern %d: UnknownLimit", "filter pattern %d: BadLimit",
+        "filter pattern %d: ModuleMissing", "filter pattern %d: NameMissing", "filter pattern %d: PackageMissing",
+        "filter is not text", "modules line %d: BadLine", "modules line %d: PackageTwice", "modules are not text", "unknown flag"};
+
+    /** No answer, and no yes, before a call has written it. */
+    final long[] words = {NO_MEMORY, 0, 0, 0, 0, 0, 0, 0, 0};
+
+    int status() {
+        return (int) words[0];
+    }
+
+    String reason() {
+        return REASONS[(int) words[1]];
+    }
+
+    long from() {
+        return words[2];
+    }
+
+    long to() {
+        return words[3];
+    }
+
+    long bytes() {
+        return words[4];
+    }
+
+    long contents() {
+        return words[5];
+    }
+
+    long refs() {
+        return words[6];
+    }
+
+    long depth() {
+        return words[7];
+    }
+
+    long handles() {
+        return words[8];
+    }
+
+    /** The line that the program prints of a yes or a no. */
+    String line() {
+        return status() == YES
+            ? "yes " + bytes() + " bytes, " + contents() + " contents, " + refs() + " refs, depth " + depth()
+            : "no at " + from() + " to " + to() + ": " + reason();
+    }
+
+    /** The report of a yes; whatever else is answered is thrown. */
+    Report report() throws Refused {
+        want(YES);
+        return new Report(this);
+    }
+
+    /** Throws what is answered, where it is not what is wanted. */
+    void want(int wanted) throws Refused {
+        if (status() == NO) {
+            throw new Refused(this);
+        }
+        wantOfFilter(wanted);
+    }
+
+    /** The same of a call that refuses no bytes. */
+    void wantOfFilter(int wanted) {
+        if (status() == wanted) {
+            return;
+        }
+        switch (status()) {
+            case MISUSE:
+                throw new IllegalArgumentException(String.format(Locale.ROOT, CAUSES[(int) words[1]], words[2]));
+            case NO_MEMORY:
+                throw new OutOfMemoryError("serialcheck: no native memory");
+            case SPENT:
+                throw new IllegalStateException("closed");
+            default:
+                throw new IllegalStateException("serialcheck answered " + status());
+        }
+    }
+}

@@ -1,0 +1,275 @@
+package serialcheck;
+
+import java.io.ByteArrayInputStream;
+import java.io.IOException;
+import java.io.InputStream;
+import java.io.InvalidObjectException;
+import java.io.ObjectInputStream;
+import java.lang.ref.Cleaner;
+import java.lang.ref.Reference;
+import java.nio.ByteBuffer;
+import java.nio.CharBuffer;
+import java.nio.charset.CharacterCodingException;
+import java.nio.charset.StandardCharsets;
+import java.nio.file.Path;
+import java.util.Arrays;
+import java.util.Objects;
+import java.util.concurrent.locks.Lock;
+import java.util.concurrent.locks.ReadWriteLock;
+import java.util.concurrent.locks.ReentrantReadWriteLock;
+
+/**
+ * A filter that is read once, for many checks. Any number of threads may use it; their checks wait for each other, so a busy
+ * thread is better off with a filter of its own.
+ */
+public final class Filter implements AutoCloseable {
+    private static final Cleaner CLEANER = Cleaner.create();
+    /** How many bytes of a stream are read at once. */
+    private static final int PIECE = 8192;
+
+    private final Held held;
+    private final Cleaner.Cleanable cleanable;
+
+    /**
+     * Makes the reader of checked bytes.
+     *
+     * @param <S> its kind
+     */
+    @FunctionalInterface
+    public interface Opener<S extends ObjectInputStream> {
+        /**
+         * Makes it.
+         *
+         * @param checked the bytes that were checked
+         * @return a reader of these bytes
+         * @throws IOException where the reader cannot be made
+         */
+        S open(InputStream checked) throws IOException;
+    }
+
+    /** The native filter. It refers to no Filter, so that the cleaner may run. */
+    private static final class Held implements Runnable {
+        private final ReadWriteLock lock = new ReentrantReadWriteLock();
+        /** The native call wants a handle for itself, so each check locks as a writer does. */
+        private final Lock checking = lock.writeLock();
+        private long handle;
+
+        @Override
+        public void run() {
+            lock.writeLock().lock();
+            try {
+                Native.filterFree(handle);
+                handle = 0;
+            } finally {
+                lock.writeLock().unlock();
+            }
+        }
+
+        void check(byte[] bytes, int from, int length, long[] answer) {
+            checking.lock();
+            try {
+                Native.filterCheck(handle, bytes, from, length, answer);
+            } finally {
+                checking.unlock();
+            }
+        }
+
+        long stream(long[] answer) {
+            checking.lock();
+            try {
+                return Native.streamNew(handle, answer);
+            } finally {
+                checking.unlock();
+            }
+        }
+    }
+
+    /**
+     * Reads a filter.
+     *
+     * @param text as {@code ObjectInputFilter.Config.createFilter} takes it (docs/FILTERS.md)
+     * @param flags how it is asked
+     * @throws IllegalArgumentException where the text is faulty: the message names the first faulty piece, counted from 0
+     */
+    public Filter(String text, Flag... flags) {
+        this(text, "", flags);
+    }
+
+    /**
+     * Reads a filter with a table of modules.
+     *
+     * @param text the filter's text
+     * @param modules lines {@code package=module}
+     * @param flags how the filter is asked
+     * @throws IllegalArgumentException where the text or the table is faulty: the message names the piece or the line
+     */
+    public Filter(String text, String modules, Flag... flags) {
+        Library.need();
+        Answer answer = new Answer();
+        held = new Held();
+        held.handle = Native.filterNew(spelled(text, "filter is not text"), spelled(modules, "modules are not text"), Flag.bits(flags), answer.words);
+        cleanable = CLEANER.register(this, held);
+        answer.wantOfFilter(Answer.YES);
+    }
+
+    /**
+     * Reads the filter of a file: its lines are pieces, and those that begin with {@code #} are none.
+     *
+     * @param file at most 2^24 bytes of UTF-8
+     * @param flags how the filter is asked
+     * @return the filter
+     * @throws IllegalArgumentException where the file is faulty: the message names the line or the piece
+     * @throws IOException where it cannot be read, or is longer
+     */
+    public static Filter fromFile(Path file, Flag... flags) throws IOException {
+        return new Filter(FilterFile.read(file), flags);
+    }
+
+    /**
+     * Checks the bytes of an array, of a copy made here: where another thread may change them, check and read a copy of your own.
+     *
+     * @param bytes a whole stream
+     * @return the stream's counts
+     * @throws Refused where they are no stream that the filter admits
+     */
+    public Report check(byte[] bytes) throws Refused {
+        return check(bytes, 0, bytes.length);
+    }
+
+    /**
+     * The same of a part of an array.
+     *
+     * @param bytes where they are
+     * @param from the offset of the first one
+     * @param length how many they are
+     * @return the stream's counts
+     * @throws Refused where they are no stream that the filter admits
+     * @throws IndexOutOfBoundsException where the array has no such part
+     */
+    public Report check(byte[] bytes, int from, int length) throws Refused {
+        Objects.checkFromIndexSize(from, length, bytes.length);
+        Answer answer = new Answer();
+        try {
+            held.check(bytes, from, length, answer.words);
+        } finally {
+            Reference.reachabilityFence(this); // else the cleaner could free a filter whose last call is this one
+        }
+        return answer.report();
+    }
+
+    /**
+     * Checks all bytes of an input, in pieces that are not kept: for a file that nobody changes meanwhile. It reads no further
+     * than a refusal needs.
+     *
+     * @param in the input; it is not closed
+     * @param most how many bytes there may be
+     * @return the stream's counts
+     * @throws Refused where they are no stream that the filter admits
+     * @throws InvalidObjectException where there are more of them
+     * @throws IOException where the input cannot be read
+     */
+    public Report check(InputStream in, long most) throws IOException {
+        byte[] piece = new byte[PIECE];
+        long left = most;
+        try (Stream stream = stream()) {
+            for (int length; (length = in.read(piece)) >= 0; left -= length) {
+                if (length > left) {
+                    throw tooLong(most);
+                }
+                stream.feed(piece, 0, length);
+            }
+            return stream.end();
+        }
+    }
+
+    /**
+     * Reads all bytes of an input, copies them, and checks the copy.
+     *
+     * @param in the input; it is not closed
+     * @param most how many bytes there may be
+     * @return the bytes that were checked
+     * @throws Refused where they are no stream that the filter admits
+     * @throws InvalidObjectException where there are more of them
+     * @throws IOException where the input cannot be read
+     */
+    public byte[] read(InputStream in, int most) throws IOException {
+        byte[] read = in.readNBytes(most);
+        if (read.length > most || read.length == most && in.read() >= 0) {
+            throw tooLong(most);
+        }
+        byte[] bytes = read.clone(); // an input may have kept the array that it filled, and write to it later
+        check(bytes);
+        return bytes;
+    }
+
+    /**
+     * Makes an {@link ObjectInputStream} of checked bytes, and only then: those that {@link #read(InputStream, int)} returns.
+     *
+     * @param in the input; it is not closed
+     * @param most how many bytes there may be
+     * @return a reader of the bytes that were checked
+     * @throws Refused where they are no stream that the filter admits; no class of them was loaded
+     * @throws InvalidObjectException where there are more of them
+     * @throws IOException where the input cannot be read
+     */
+    public ObjectInputStream open(InputStream in, int most) throws IOException {
+        return open(in, most, ObjectInputStream::new);
+    }
+
+    /**
+     * The same with a reader of the caller's kind.
+     *
+     * @param <S> the kind
+     * @param in the input; it is not closed
+     * @param most how many bytes there may be
+     * @param opener makes the reader, such as {@code MyObjectInputStream::new}
+     * @return a reader of the bytes that were checked
+     * @throws Refused where they are no stream that the filter admits; no reader was made
+     * @throws InvalidObjectException where there are more of them
+     * @throws IOException where the input cannot be read, or the reader cannot be made
+     */
+    public <S extends ObjectInputStream> S open(InputStream in, int most, Opener<S> opener) throws IOException {
+        return opener.open(new ByteArrayInputStream(read(in, most)));
+    }
+
+    /**
+     * Begins the check of a stream that comes in pieces. The filter may be closed before the stream.
+     *
+     * @return the check, for one thread at a time
+     */
+    public Stream stream() {
+        Answer answer = new Answer();
+        long handle;
+        try {
+            handle = held.stream(answer.words);
+        } finally {
+            Reference.reachabilityFence(this);
+        }
+        answer.wantOfFilter(Answer.MORE);
+        return new Stream(handle);
+    }
+
+    /** Lets the filter go. One that is forgotten is let go some time after it was last used. */
+    @Override
+    public void close() {
+        cleanable.clean();
+    }
+
+    static Cleaner.Cleanable register(Object owner, Runnable held) {
+        return CLEANER.register(owner, held);
+    }
+
+    private static InvalidObjectException tooLong(long most) {
+        return new InvalidObjectException("more than " + most + " bytes");
+    }
+
+    /** The bytes of a text. One with an unpaired surrogate has none, and is not made another text by a `?` in its place. */
+    private static byte[] spelled(String text, String fault) {
+        try {
+            ByteBuffer bytes = StandardCharsets.UTF_8.newEncoder().encode(CharBuffer.wrap(Objects.requireNonNull(text, "no text")));
+            return Arrays.copyOf(bytes.array(), bytes.limit());
+        } catch (CharacterCodingException unpaired) {
+            throw new IllegalArgumentException(fault, unpaired);
+        }
+    }
+}

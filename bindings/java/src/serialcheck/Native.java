@@ -1,0 +1,24 @@
+package serialcheck;
+
+/** The native calls, as serialcheck_jni.c has them. A handle is 0 where there is none; each call writes its answer. */
+final class Native {
+    private Native() {
+    }
+
+    /** How many words an answer has. */
+    static native int words();
+
+    static native long filterNew(byte[] text, byte[] modules, int flags, long[] answer);
+
+    static native void filterCheck(long filter, byte[] bytes, int from, int length, long[] answer);
+
+    static native void filterFree(long filter);
+
+    static native long streamNew(long filter, long[] answer);
+
+    static native void streamFeed(long stream, byte[] bytes, int from, int length, long[] answer);
+
+    static native void streamEnd(long stream, long[] answer);
+
+    static native void streamFree(long stream);
+}

@@ -1,0 +1,90 @@
+package serialcheck;
+
+import java.lang.ref.Cleaner;
+import java.lang.ref.Reference;
+
+/**
+ * A check of one stream that comes in pieces of any sizes: {@link #feed(byte[])} each, then {@link #end()}. Act on no byte before
+ * {@code end} has returned. Calls of several threads wait for each other.
+ */
+public final class Stream implements AutoCloseable {
+    private final Held held;
+    private final Cleaner.Cleanable cleanable;
+
+    /** The native stream. It refers to no Stream, so that the cleaner may run. */
+    private static final class Held implements Runnable {
+        private long handle;
+
+        @Override
+        public synchronized void run() {
+            Native.streamFree(handle);
+            handle = 0;
+        }
+
+        synchronized void feed(byte[] bytes, int from, int length, long[] answer) {
+            Native.streamFeed(handle, bytes, from, length, answer);
+        }
+
+        synchronized void end(long[] answer) {
+            Native.streamEnd(handle, answer);
+        }
+    }
+
+    Stream(long handle) {
+        held = new Held();
+        held.handle = handle;
+        cleanable = Filter.register(this, held);
+    }
+
+    /**
+     * Takes the next bytes. Where it returns, they decide nothing.
+     *
+     * @param bytes the next piece
+     * @throws Refused where a byte of this piece, or of one before it, decides, whatever comes next
+     */
+    public void feed(byte[] bytes) throws Refused {
+        feed(bytes, 0, bytes.length);
+    }
+
+    /**
+     * The same of a part of an array.
+     *
+     * @param bytes where the piece is
+     * @param from the offset of its first byte
+     * @param length how many bytes it has
+     * @throws Refused where a byte of this piece, or of one before it, decides, whatever comes next
+     * @throws IndexOutOfBoundsException where the array has no such part
+     */
+    public void feed(byte[] bytes, int from, int length) throws Refused {
+        java.util.Objects.checkFromIndexSize(from, length, bytes.length);
+        Answer answer = new Answer();
+        try {
+            held.feed(bytes, from, length, answer.words);
+        } finally {
+            Reference.reachabilityFence(this); // else the cleaner could free a stream whose last call is this one
+        }
+        answer.want(Answer.MORE);
+    }
+
+    /**
+     * Ends the stream: answers what a check of all its bytes at once would.
+     *
+     * @return the stream's counts
+     * @throws Refused where the bytes are no stream that the filter admits
+     */
+    public Report end() throws Refused {
+        Answer answer = new Answer();
+        try {
+            held.end(answer.words);
+        } finally {
+            Reference.reachabilityFence(this);
+        }
+        return answer.report();
+    }
+
+    /** Lets the stream go, if it was not ended. One that is forgotten is let go some time after it was last used. */
+    @Override
+    public void close() {
+        cleanable.clean();
+    }
+}

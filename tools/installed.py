@@ -1,0 +1,48 @@
+"""What the tests of packages share: streams and filters, what the program prints of them, and how a tool is run."""
+import functools
+import subprocess
+
+from rows import PROGRAM, TOP
+
+STREAMS = sorted((*TOP.glob("tests/streams/**/*.ser"), *TOP.glob("tests/evasions/*.ser")))
+ARRAY_LIST = TOP / "tests" / "streams" / "array-list.ser"
+# Filters, each with whether it is strict, and asked at any place.
+FILTERS = (("", False, False), ("maxdepth=20;java.util.*;java.lang.*;!*", False, False), ("java.util.*;java.lang.*", True, False), ("java.util.*;!*", False, True))
+STRICT, ANYWHERE = 1, 2
+
+
+def run(*words, given="", **how):
+    """The status of a command, and what it printed and told."""
+    done = subprocess.run([str(it) for it in words], input=given, stdout=subprocess.PIPE, stderr=subprocess.STDOUT, text=True, check=False, **how)
+    return done.returncode, done.stdout
+
+
+@functools.lru_cache(None)
+def quiet_words():
+    """What a JVM is told so that it does not warn of native code, where it knows that."""
+    word = "--enable-native-access=ALL-UNNAMED"
+    return (word,) if run("java", word, "-version")[0] == 0 else ()
+
+
+def java(*words, **how):
+    """What a JVM does."""
+    return run("java", *quiet_words(), *words, **how)
+
+
+def compiled(folder, path, *files):
+    """The folder of the classes of some files; `path` is what they need."""
+    status, said = run("javac", "-Xlint:all,-serial,-path", "-Werror", "-cp", path, "-d", folder, *files)
+    if status:
+        raise SystemExit(f"0 passed, 1 failed: {said}")
+    return folder
+
+
+def wanted_lines():
+    """The program's lines of all streams under all filters."""
+    return "".join(
+        run(PROGRAM, "check", f"--filter={text}", *["--strict"] * strict, *["--anywhere"] * anywhere, file)[1] for text, strict, anywhere in FILTERS for file in STREAMS)
+
+
+def lines_of(tool, *words, **how):
+    """What a program of the form FLAGS FILTER MODULES FILE.. prints of all streams under all filters; `tool` is `run` or `java`."""
+    return "".join(tool(*words, STRICT * strict | ANYWHERE * anywhere, text, "-", *STREAMS, **how)[1] for text, strict, anywhere in FILTERS)
