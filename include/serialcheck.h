@@ -63,6 +63,8 @@ typedef struct {
     uint64_t refs;     /* its references, */
     uint64_t depth;    /* its depth, */
     uint64_t handles;  /* and its handles */
+    uint64_t name_from; /* of NO where the bytes of the class name stand that was refused (ClassRejected, ClassUnmatched), */
+    uint64_t name_to;   /* or the place of a hidden name (HiddenName): that of `72` or `7D`, and the end of its text */
 } serialcheck_answer;
 
 /* A filter that was read once. Threads share it: no call that reads it changes it. */

@@ -9,7 +9,7 @@ const { REASONS, CAUSES } = require("./names.json");
 const STRICT = 1;
 const ANYWHERE = 2;
 const STATUS = { YES: 0, NO: 1, MISUSE: 2, NO_MEMORY: 3, SMALL: 6 };
-const ANSWER_BYTES = 64;
+const ANSWER_BYTES = 80;
 const MOST_TEXT = 1 << 24;
 
 const compiled = new WebAssembly.Module(fs.readFileSync(path.join(__dirname, "serialcheck.wasm")));

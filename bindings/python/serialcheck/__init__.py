@@ -46,6 +46,8 @@ class Answer(ctypes.Structure):
         ("refs", ctypes.c_uint64),
         ("depth", ctypes.c_uint64),
         ("handles", ctypes.c_uint64),
+        ("name_start", ctypes.c_uint64),
+        ("name_end", ctypes.c_uint64),
     ]
 
     def __init__(self):

@@ -1,5 +1,5 @@
 -- What the numbers of an answer to a check mean.
-use Rattle.std.specs.Prelude.{ℕ, ◌≡◌, ◌≢◌, ◌⊎◌, Bool, true, false, List, Option, Some, None}
+use Rattle.std.specs.Prelude.{ℕ, ◌≡◌, ◌≢◌, ◌⊎◌, ◌+◌, ◌==◌, ◌||◌, if◌then◌else◌, min, Bool, true, false, List, Option, Some, None}
 use Rattle.jser_reader.specs.declared.Reason.{Reason}
 use Rattle.jser_reader.specs.declared.Reason.TheVariants as reason
 use Rattle.jser_reader.specs.declared.Refusal.{Refusal}
@@ -105,19 +105,28 @@ HasSooner answer refusal name = HasFault answer (sooner_of refusal name)
 -- the answer of a status alone
 abbrev pub bare_answer : (status : ℕ) → Answer
 bare_answer status =
-    record { status = status; reason = 0; from_byte = 0; to_byte = 0; bytes = 0; contents = 0; refs = 0; depth = 0; handles = 0 }
+    record { status = status; reason = 0; from_byte = 0; to_byte = 0; bytes = 0; contents = 0; refs = 0; depth = 0; handles = 0; name_from = 0; name_to = 0 }
 
 -- no counts behind that of the bytes
 abbrev pub NoCounts : Answer → Type 0
 NoCounts answer = (answer.contents ≡ 0) × (answer.refs ≡ 0) × (answer.depth ≡ 0) × (answer.handles ≡ 0)
 
+-- Where the class name stands that was not let pass: of a refused class (19, 20) behind the two bytes of its length, and of a
+-- hidden name (26) the place found. There is none elsewhere.
+abbrev pub name_by : (reason from to : ℕ) → ℕ × ℕ
+name_by reason from to = if reason == 19 || reason == 20 then (min (from + 2) to, to) else (if reason == 26 then (from, to) else (0, 0))
+
+abbrev pub name_place : Answer → ℕ × ℕ
+name_place answer = if answer.status == 1 then name_by answer.reason answer.from_byte answer.to_byte else (0, 0)
+
 -- counts stand beside a yes alone, but that a room which is too small has a length; an end beside a no; a reason and a place
--- beside a no or a misuse
+-- beside a no or a misuse; the place of a name as said
 pub record Zeros (answer : Answer) : Type 0 where
   pub counts : answer.status ≢ 0 → NoCounts answer
   pub bytes : answer.status ≢ 0 → answer.status ≢ 6 → answer.bytes ≡ 0
   pub end : answer.status ≢ 1 → answer.to_byte ≡ 0
   pub place : answer.status ≢ 1 → answer.status ≢ 2 → (answer.reason ≡ 0) × (answer.from_byte ≡ 0)
+  pub name : (answer.name_from, answer.name_to) ≡ name_place answer
 
 -- of a text there is no count but its length
 abbrev pub TextZeros : Answer → Type 0

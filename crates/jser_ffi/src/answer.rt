@@ -1,6 +1,6 @@
 //! What a call answers, as C reads it.
 ghost use Rattle.std.specs.Prelude.{◌≡◌};
-ghost use Rattle.jser_ffi.specs.Told.{HasHidden, HasRefusal, HasReport, Zeros, bare_answer, reason_number};
+ghost use Rattle.jser_ffi.specs.Told.{HasHidden, HasRefusal, HasReport, Zeros, bare_answer, name_by, reason_number};
 
 use jser_check::{Reason, Refusal, Report};
 
@@ -20,7 +20,7 @@ pub(crate) const SPENT: u32 = 5;
 pub(crate) const SMALL: u32 = 6;
 
 /// The reason of a class name that can be read at some place and does not pass.
-const HIDDEN_NAME: u32 = 26;
+pub(crate) const HIDDEN_NAME: u32 = 26;
 
 /// What a call answers: by `status` the counts of a stream, or the bytes and the reason of a refusal. What a status does not
 /// speak of is 0.
@@ -46,6 +46,10 @@ pub struct Answer {
     pub depth: u64,
     /// The number of its handles.
     pub handles: u64,
+    /// Where the class name of a refusal starts that the filter did not let pass.
+    pub name_from: u64,
+    /// Where that name ends.
+    pub name_to: u64,
 }
 
 /// The answer of an accepted stream.
@@ -70,10 +74,13 @@ pub(crate) fn refused(refusal: Refusal) -> Answer
     ensures has { HasRefusal result refusal }
     ensures zeros { Zeros result }
 {
+    let (name_from, name_to) = name_of(refusal);
     Answer {
         reason: number_of(refusal.reason),
         from_byte: refusal.from_byte,
         to_byte: refusal.to_byte,
+        name_from,
+        name_to,
         ..bare(NO)
     }
 }
@@ -88,6 +95,8 @@ pub(crate) fn hidden(from_byte: u64, to_byte: u64) -> Answer
         reason: HIDDEN_NAME,
         from_byte,
         to_byte,
+        name_from: from_byte,
+        name_to: to_byte,
         ..bare(NO)
     }
 }
@@ -124,6 +133,19 @@ pub(crate) fn bare(status: u32) -> Answer
         refs: 0,
         depth: 0,
         handles: 0,
+        name_from: 0,
+        name_to: 0,
+    }
+}
+
+/// Where the class name of a refusal stands: behind the two bytes of its length.
+fn name_of(refusal: Refusal) -> (u64, u64)
+    ensures { result ≡ name_by (reason_number refusal.reason) refusal.from_byte refusal.to_byte }
+{
+    let (from, to) = (refusal.from_byte, refusal.to_byte);
+    match refusal.reason {
+        Reason::ClassRejected | Reason::ClassUnmatched => (from.saturating_add(2).min(to), to),
+        _ => (0, 0),
     }
 }
 
