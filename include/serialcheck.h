@@ -30,7 +30,7 @@ enum {
     SERIALCHECK_MISUSE = 2,    /* a faulty filter, table of modules or flag: reason is the cause, from the piece or line */
     SERIALCHECK_NO_MEMORY = 3, /* memory ran out */
     SERIALCHECK_MORE = 4,      /* nothing is decided yet: more bytes are wanted */
-    SERIALCHECK_SPENT = 5,     /* the handle holds nothing */
+    SERIALCHECK_SPENT = 5,     /* the handle holds nothing; or there is no such text */
     SERIALCHECK_SMALL = 6      /* the text is longer than the room */
 };
 
@@ -124,6 +124,19 @@ uint32_t serialcheck_show(const uint8_t *bytes, size_t len, uint8_t *room, size_
  * the filter of a text, with a table of modules, says of it. The filter refuses nothing. YES, SMALL, NO, MISUSE or NO_MEMORY. */
 uint32_t serialcheck_list(const uint8_t *bytes, size_t len, const uint8_t *filter, size_t filter_len, const uint8_t *modules,
                           size_t modules_len, uint8_t *room, size_t room_len, serialcheck_answer *answer);
+
+/* The version of the library: its three numbers, in eight bits each; 0x000100 is 0.1.0. */
+uint32_t serialcheck_version(void);
+
+/* Writes the line that `serialcheck check` prints of an answer into a room, with its line feed, or as many of its first bytes as
+ * the room has: of YES, NO, MISUSE and NO_MEMORY. `told` says YES or SMALL, and its `bytes` is the length of the line; SPENT where
+ * the answer has no line; NO_MEMORY. 128 bytes are room enough. `answer` and `told` are different places. */
+uint32_t serialcheck_line(const serialcheck_answer *answer, uint8_t *room, size_t room_len, serialcheck_answer *told);
+
+/* Writes the name of a reason, or of a cause of MISUSE, in the same way. SPENT where no one has the number. 32 bytes are room
+ * enough. */
+uint32_t serialcheck_reason_name(uint32_t reason, uint8_t *room, size_t room_len, serialcheck_answer *told);
+uint32_t serialcheck_cause_name(uint32_t cause, uint8_t *room, size_t room_len, serialcheck_answer *told);
 
 #ifdef __cplusplus
 }

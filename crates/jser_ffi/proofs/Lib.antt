@@ -5,3 +5,4 @@ pub mod PiecesLemmas
 pub mod TextLemmas
 pub mod ZeroLemmas
 pub mod LentSteps
+pub mod LineLemmas

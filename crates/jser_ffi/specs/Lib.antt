@@ -4,6 +4,7 @@ pub mod Told
 pub mod Pieces
 pub mod Streams
 pub mod Texts
+pub mod Lines
 pub mod Holding
 pub mod FilterOwning
 pub mod Lending

@@ -11,9 +11,12 @@ ghost use Rattle.jser_ffi.specs.Lending.{BeginsIn, Checks, IsSpent, Reading, rea
 ghost use Rattle.jser_ffi.specs.declared.compiled.Compiled.{Compiled};
 ghost use Rattle.jser_ffi.specs.Compiling.{IsCompiled, SaysMisuse, TextsAreFaulty};
 ghost use Rattle.jser_ffi.specs.Holding.{HoldsSuch};
+ghost use Rattle.jser_reader.specs.declared.Reason.{Reason};
+ghost use Rattle.jser_reader.specs.ReasonNames.{reason_name};
+ghost use Rattle.jser_ffi.specs.Lines.{Puts, PutsAny, cause_at, line_of, name_at, version_number};
 ghost use Rattle.jser_index.specs.Reading.{IsRefused};
 ghost use Rattle.jser_ffi.specs.Texts.{TellsList, TellsText};
-ghost use Rattle.jser_ffi.specs.Told.{Says, SaysUnder, TellsRefusal, TextZeros, Zeros, bare_answer};
+ghost use Rattle.jser_ffi.specs.Told.{Says, SaysUnder, TellsRefusal, TextZeros, Zeros, bare_answer, reason_number};
 ghost use Rattle.jser_ffi.specs.Streams.{Taken, Begins, BeginsUnder, FeedSays, EndSays, HoldsZeros};
 ghost use Rattle.jser_ffi.specs.declared.answer.Answer.{Answer};
 ghost use Rattle.jser_ffi.specs.declared.stream.Stream.{Stream};
@@ -25,9 +28,12 @@ mod filter_handle;
 mod held_filter;
 mod held_stream;
 mod lent_filter;
+mod line;
 mod misuse;
+mod named;
 mod parts;
 mod pieces;
+mod room;
 mod stream;
 mod stream_handle;
 mod text;
@@ -37,6 +43,9 @@ use answer::{Answer, NO_MEMORY, SPENT, bare};
 use compiled::{Compiled, compile};
 use filter_handle::FilterHandle;
 use lent_filter::{LentFilter, is_open, pointer_of};
+use line::line_into;
+use named::{name_of_cause, name_of_reason};
+use room::put_any;
 use std::alloc::Global;
 use stream::Stream;
 use stream_handle::StreamHandle;
@@ -326,4 +335,54 @@ pub extern "C" fn serialcheck_stream_free(alloc: Global, stream: &mut StreamHand
     ensures { stream.new.owner.held ≡ None }
 {
     drop(stream.take(alloc));
+}
+
+/// The version of the library: its three numbers, in eight bits each.
+#[unsafe(no_mangle)]
+pub extern "C" fn serialcheck_version() -> u32
+    ensures { result ≡ version_number 0 1 0 }
+{
+    0x000100
+}
+
+/// Writes the name of the reason with a number into a room, as the program prints it.
+#[tactic(auto, using(crate::proofs::LineLemmas::named))]
+#[unsafe(no_mangle)]
+pub extern "C" fn serialcheck_reason_name(reason: u32, room: &mut [u8], answer: &mut Answer) -> u32
+    ensures status { result ≡ answer.new.status }
+    ensures named { PutsAny (name_at reason) room.old room.new answer.new }
+    ensures right { (why : Reason) → reason_number why ≡ reason → Puts (reason_name why) room.old room.new answer.new }
+    ensures zeros { TextZeros answer.new }
+{
+    *answer = put_any(name_of_reason(reason), room);
+    answer.status
+}
+
+/// Writes the name of the cause of a misuse with a number into a room.
+#[unsafe(no_mangle)]
+pub extern "C" fn serialcheck_cause_name(cause: u32, room: &mut [u8], answer: &mut Answer) -> u32
+    ensures status { result ≡ answer.new.status }
+    ensures named { PutsAny (cause_at cause) room.old room.new answer.new }
+    ensures zeros { TextZeros answer.new }
+{
+    *answer = put_any(name_of_cause(cause), room);
+    answer.status
+}
+
+/// Writes the line that the program prints of an answer into a room.
+#[unsafe(no_mangle)]
+pub extern "C" fn serialcheck_line(
+    alloc: Global,
+    answer: &Answer,
+    room: &mut [u8],
+    told: &mut Answer,
+) -> u32
+    ensures status { result ≡ told.new.status }
+    ensures puts { result ≢ 3 → PutsAny (line_of answer.now) room.old room.new told.new }
+    ensures kept { result ≡ 3 → room.new ≡ room.old }
+    ensures known { (result ≡ 0) ⊎ ((result ≡ 3) ⊎ ((result ≡ 5) ⊎ (result ≡ 6))) }
+    ensures zeros { TextZeros told.new }
+{
+    *told = line_into(alloc, answer, room);
+    told.status
 }

@@ -70,7 +70,7 @@ fn list_under(alloc: Global, bytes: &[u8], filter: Filter, room: &mut [u8]) -> A
 
 /// The answer to what came of a text.
 #[tactic(auto, using(crate::proofs::ZeroLemmas::shown_zeros))]
-fn shown(what: Shown) -> Answer
+pub(crate) fn shown(what: Shown) -> Answer
     ensures has { HasShown result what }
     ensures zeros { TextZeros result }
 {

@@ -1,0 +1,153 @@
+//! The line that the program prints of an answer.
+ghost use Rattle.std.specs.Prelude.{◌≡◌, ◌⊎◌, ◌≢◌, ◌++◌, IfOk, OnOk, option_map, string_bytes};
+ghost use Rattle.std.specs.Fmt.{decimal};
+ghost use Rattle.jser_commands.specs.Lines.{hidden_line, no_line, yes_line};
+ghost use Rattle.jser_ffi.specs.Lines.{PutsAny, line_of, misuse_line_of, module_line, no_line_of, pattern_line};
+ghost use Rattle.jser_ffi.specs.Told.{TextZeros, refusal_in, report_in};
+
+use crate::answer::{Answer, HIDDEN_NAME, MISUSE, NO, NO_MEMORY, SPENT, YES, bare};
+use crate::named::reason_of;
+use crate::room::put;
+use jser_filter::{FilterCause, FilterFault, ModulesCause, ModulesFault};
+use jser_reader::Reason;
+use std::alloc::{AllocError, Global};
+use std::fmt::Write;
+
+/// Puts the line of an answer into a room, if there is one.
+pub(crate) fn line_into(alloc: Global, answer: &Answer, room: &mut [u8]) -> Answer
+    ensures puts { result.status ≢ 3 → PutsAny (line_of answer.now) room.old room.new result }
+    ensures kept { result.status ≡ 3 → room.new ≡ room.old }
+    ensures known { (result.status ≡ 0) ⊎ ((result.status ≡ 3) ⊎ ((result.status ≡ 5) ⊎ (result.status ≡ 6))) }
+    ensures zeros { TextZeros result }
+{
+    match line_of(alloc, answer) {
+        Ok(Some(line)) => put(line.as_bytes(), room),
+        Ok(None) => bare(SPENT),
+        Err(_) => bare(NO_MEMORY),
+    }
+}
+
+/// The line of an answer.
+fn line_of(alloc: Global, answer: &Answer) -> Result<Option<String>, AllocError>
+    ensures { IfOk result (λ line. option_map (λ text. string_bytes text) line ≡ line_of answer.now) }
+{
+    match answer.status {
+        YES => Ok(Some(line_of_yes(alloc, answer)?)),
+        NO => line_of_no(alloc, answer),
+        MISUSE => line_of_misuse(alloc, answer),
+        NO_MEMORY => Ok(Some(said(alloc, "out of memory\n")?)),
+        _ => Ok(None),
+    }
+}
+
+/// `yes B bytes, C contents, R refs, depth D`
+fn line_of_yes(alloc: Global, answer: &Answer) -> Result<String, AllocError>
+    ensures { IfOk result (λ text. string_bytes text ≡ yes_line (report_in answer.now)) }
+{
+    let mut text = String::new(alloc);
+    push_count(&mut text, "yes ", answer.bytes)?;
+    push_count(&mut text, " bytes, ", answer.contents)?;
+    push_count(&mut text, " contents, ", answer.refs)?;
+    push_count(&mut text, " refs, depth ", answer.depth)?;
+    text.push_str("\n")?;
+    Ok(text)
+}
+
+/// Appends some words and a number in decimal.
+fn push_count(text: &mut String, words: &str, count: u64) -> Result<(), AllocError>
+    ensures { OnOk result (string_bytes text.new ≡ string_bytes text.old ++ words.now ++ decimal count) }
+{
+    text.push_str(words)?;
+    write!(text, "{count}")?;
+    Ok(())
+}
+
+/// `no at A to E: REASON`
+fn line_of_no(alloc: Global, answer: &Answer) -> Result<Option<String>, AllocError>
+    ensures { IfOk result (λ line. option_map (λ text. string_bytes text) line ≡ no_line_of answer.now) }
+{
+    if answer.reason == HIDDEN_NAME {
+        return Ok(Some(line_of_hidden(alloc, answer)?));
+    }
+    match reason_of(answer.reason) {
+        Some(reason) => Ok(Some(line_of_refusal(alloc, answer, reason)?)),
+        None => Ok(None),
+    }
+}
+
+/// `no at A to E: HiddenName`
+fn line_of_hidden(alloc: Global, answer: &Answer) -> Result<String, AllocError>
+    ensures { IfOk result (λ text. string_bytes text ≡ hidden_line answer.now.from_byte answer.now.to_byte) }
+{
+    let mut text = String::new(alloc);
+    push_count(&mut text, "no at ", answer.from_byte)?;
+    push_count(&mut text, " to ", answer.to_byte)?;
+    text.push_str(": HiddenName\n")?;
+    Ok(text)
+}
+
+/// The same of a refusal with a reason.
+fn line_of_refusal(alloc: Global, answer: &Answer, reason: Reason) -> Result<String, AllocError>
+    ensures { IfOk result (λ text. string_bytes text ≡ no_line (refusal_in answer.now reason)) }
+{
+    let mut text = String::new(alloc);
+    push_count(&mut text, "no at ", answer.from_byte)?;
+    push_count(&mut text, " to ", answer.to_byte)?;
+    text.push_str(": ")?;
+    text.push_str(reason.name())?;
+    text.push_str("\n")?;
+    Ok(text)
+}
+
+/// What is wrong with a filter, a table of modules or a flag.
+fn line_of_misuse(alloc: Global, answer: &Answer) -> Result<Option<String>, AllocError>
+    ensures { IfOk result (λ line. option_map (λ text. string_bytes text) line ≡ misuse_line_of answer.now) }
+{
+    let place = answer.from_byte;
+    match answer.reason {
+        1 => Ok(Some(line_of_pattern(alloc, place, FilterCause::UnknownLimit)?)),
+        2 => Ok(Some(line_of_pattern(alloc, place, FilterCause::BadLimit)?)),
+        3 => Ok(Some(line_of_pattern(alloc, place, FilterCause::ModuleMissing)?)),
+        4 => Ok(Some(line_of_pattern(alloc, place, FilterCause::NameMissing)?)),
+        5 => Ok(Some(line_of_pattern(alloc, place, FilterCause::PackageMissing)?)),
+        6 => Ok(Some(said(alloc, "filter is not text\n")?)),
+        7 => Ok(Some(line_of_module(alloc, place, ModulesCause::BadLine)?)),
+        8 => Ok(Some(line_of_module(alloc, place, ModulesCause::PackageTwice)?)),
+        9 => Ok(Some(said(alloc, "modules are not text\n")?)),
+        10 => Ok(Some(said(alloc, "unknown flag\n")?)),
+        _ => Ok(None),
+    }
+}
+
+/// `filter pattern N: CAUSE`
+fn line_of_pattern(alloc: Global, place: u64, cause: FilterCause) -> Result<String, AllocError>
+    ensures { IfOk result (λ text. string_bytes text ≡ (pattern_line place cause)) }
+{
+    let fault = FilterFault {
+        pattern: place as usize,
+        cause,
+    };
+    let line = format!(in alloc; "{fault}\n")?;
+    Ok(line)
+}
+
+/// `modules line N: CAUSE`
+fn line_of_module(alloc: Global, place: u64, cause: ModulesCause) -> Result<String, AllocError>
+    ensures { IfOk result (λ text. string_bytes text ≡ (module_line place cause)) }
+{
+    let fault = ModulesFault {
+        line: place as usize,
+        cause,
+    };
+    let line = format!(in alloc; "{fault}\n")?;
+    Ok(line)
+}
+
+/// A text of its own.
+fn said(alloc: Global, words: &str) -> Result<String, AllocError>
+    ensures { IfOk result (λ text. string_bytes text ≡ words.now) }
+{
+    let mut line = String::new(alloc);
+    line.push_str(words)?;
+    Ok(line)
+}
