@@ -7,10 +7,11 @@
 
 #define CALL(type, name) JNIEXPORT type JNICALL Java_serialcheck_Native_##name
 
-enum { WORDS = 9, SMALL_ROOM = 8192 };
+enum { WORDS = 11, SMALL_ROOM = 8192 };
 
 static void hand_out(JNIEnv *env, jlongArray out, const serialcheck_answer *a) {
-    const jlong words[WORDS] = {(jlong)a->status, (jlong)a->reason, (jlong)a->from, (jlong)a->to, (jlong)a->bytes, (jlong)a->contents, (jlong)a->refs, (jlong)a->depth, (jlong)a->handles};
+    const jlong words[WORDS] = {(jlong)a->status, (jlong)a->reason, (jlong)a->from, (jlong)a->to, (jlong)a->bytes, (jlong)a->contents, (jlong)a->refs, (jlong)a->depth, (jlong)a->handles,
+                                (jlong)a->name_from, (jlong)a->name_to};
     (*env)->SetLongArrayRegion(env, out, 0, WORDS, words);
 }
 

@@ -14,6 +14,8 @@ pub struct Answer {
     pub refs: u64,
     pub depth: u64,
     pub handles: u64,
+    pub name_from: u64,
+    pub name_to: u64,
 }
 
 extern "C" {

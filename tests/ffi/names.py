@@ -29,8 +29,8 @@ for file, form in BINDINGS:
             print(f"{file}, {kind}: {found}; wanted: {wanted}")
 
 # The fields of an answer, which a call writes: each binding that declares them has all, in their order. Python has other names
-# for three of them.
-IN_PYTHON = {"number": "reason", "start": "from", "end": "to"}
+# for some of them.
+IN_PYTHON = {"number": "reason", "start": "from", "end": "to", "name_start": "name_from", "name_end": "name_to"}
 STRUCT = re.search(r"^typedef struct \{(.*?)^\} serialcheck_answer;", (TOP / "include/serialcheck.h").read_text(encoding="ascii"), re.M | re.S)[1]
 FIELDS = re.findall(r"^ +(uint\d+_t) (\w+);", STRUCT, re.M)
 SIZES = {"uint32_t": "u32", "uint64_t": "u64"}
@@ -53,6 +53,6 @@ for file, found in {
     if found != FIELDS or not FIELDS:
         print(f"{file}: {found}; wanted: {FIELDS}")
 words = int(re.search(r"WORDS = (\d+);", (TOP / "bindings/java/src/serialcheck/Answer.java").read_text(encoding="utf-8"))[1])
-native = re.search(r"words\[WORDS\] = \{(.*?)\};", (TOP / "bindings/java/serialcheck_jni.c").read_text(encoding="utf-8"))[1]
+native = re.search(r"words\[WORDS\] = \{(.*?)\};", (TOP / "bindings/java/serialcheck_jni.c").read_text(encoding="utf-8"), re.S)[1]
 if words != len(FIELDS) or re.findall(r"a->(\w+)", native) != [name for _, name in FIELDS]:
     print(f"bindings/java: {words} words, {native}; wanted: {FIELDS}")

@@ -6,7 +6,7 @@ import java.util.Locale;
 final class Answer {
     static final int YES = 0, NO = 1, MISUSE = 2, NO_MEMORY = 3, MORE = 4, SPENT = 5;
     /** How many words there are. The native code says the same number, or it is of another version. */
-    static final int WORDS = 9;
+    static final int WORDS = 11;
 
     private static final String[] REASONS = {"", "BytesExceeded", "BadHeader", "BadTag", "ExceptionTag", "ResetInside", "BadText",
         "NegativeLength", "BadTypeCode", "FieldOrder", "BadFlags", "NullClass", "NoSuchHandle", "WrongKind", "OpenDescriptor",
@@ -17,7 +17,7 @@ final class Answer {
         "filter is not text", "modules line %d: BadLine", "modules line %d: PackageTwice", "modules are not text", "unknown flag"};
 
     /** No answer, and no yes, before a call has written it. */
-    final long[] words = {NO_MEMORY, 0, 0, 0, 0, 0, 0, 0, 0};
+    final long[] words = {NO_MEMORY, 0, 0, 0, 0, 0, 0, 0, 0, 0, 0};
 
     int status() {
         return (int) words[0];
