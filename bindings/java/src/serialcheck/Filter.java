@@ -19,8 +19,8 @@ import java.util.concurrent.locks.ReadWriteLock;
 import java.util.concurrent.locks.ReentrantReadWriteLock;
 
 /**
- * A filter that is read once, for many checks. Any number of threads may use it; their checks wait for each other, so a busy
- * thread is better off with a filter of its own.
+ * A filter that is read once, for many checks. Any number of threads may use it at once; only its close waits for the checks
+ * that run.
  */
 public final class Filter implements AutoCloseable {
     private static final Cleaner CLEANER = Cleaner.create();
@@ -50,18 +50,18 @@ public final class Filter implements AutoCloseable {
     /** The native filter. It refers to no Filter, so that the cleaner may run. */
     private static final class Held implements Runnable {
         private final ReadWriteLock lock = new ReentrantReadWriteLock();
-        /** The native call wants a handle for itself, so each check locks as a writer does. */
-        private final Lock checking = lock.writeLock();
+        private final Lock checking = lock.readLock();
+        private final Lock freeing = lock.writeLock();
         private long handle;
 
         @Override
         public void run() {
-            lock.writeLock().lock();
+            freeing.lock();
             try {
                 Native.filterFree(handle);
                 handle = 0;
             } finally {
-                lock.writeLock().unlock();
+                freeing.unlock();
             }
         }
 

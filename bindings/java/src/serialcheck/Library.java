@@ -46,20 +46,20 @@ final class Library {
         String named = System.getProperty(PROPERTY);
         if (named != null) {
             loadOrCopy(Path.of(named).toAbsolutePath());
-        } else if (!isOnPath()) {
+        } else if (!loadOnPath()) {
             loadInJar();
         }
     }
 
-    /** Loads the library of the library path, if there is one. */
-    private static boolean isOnPath() {
+    /** Loads the library of the library path; false where there is none. */
+    private static boolean loadOnPath() {
         try {
             System.loadLibrary(NAME);
             return true;
         } catch (UnsatisfiedLinkError notFoundOrLoaded) {
             for (String folder : System.getProperty("java.library.path", "").split(File.pathSeparator)) {
-                Path file = Path.of(folder.isEmpty() ? "." : folder, System.mapLibraryName(NAME)).toAbsolutePath();
-                if (Files.isRegularFile(file)) {
+                Path file = Path.of(folder, System.mapLibraryName(NAME)).toAbsolutePath();
+                if (!folder.isEmpty() && Files.isRegularFile(file)) {
                     loadOrCopy(file);
                     return true;
                 }
