@@ -1,5 +1,5 @@
 //! `explain`: the answer of a check, and why.
-ghost use Rattle.std.specs.Prelude.{◌≡◌, ◌⊎◌, ◌≤◌, IfErr};
+ghost use Rattle.std.specs.Prelude.{◌≡◌, ◌≢◌, ◌⊎◌, ◌≤◌, IfErr};
 
 use crate::{filter_reading, filter_text, tell_unopened};
 use jser_explain::explain;
@@ -29,7 +29,9 @@ pub(crate) fn explain_file<W: Sink, E: Sink>(
     output: &mut W,
     faults: &mut E,
 ) -> u8
-    ensures { result ≤ 3 }
+    ensures status { result ≤ 3 }
+    ensures unbroken { result ≢ 3 → W.has_failed output.new ≡ W.has_failed output.old }
+    ensures misuse { result ≡ 2 → output.new ≡ output.old }
 {
     let text = match filter_text(rt, filters, faults) {
         Ok(text) => text,
@@ -57,7 +59,8 @@ fn explain_under<W: Sink, E: Sink>(
     output: &mut W,
     faults: &mut E,
 ) -> u8
-    ensures { (result ≡ 0) ⊎ ((result ≡ 1) ⊎ (result ≡ 3)) }
+    ensures status { (result ≡ 0) ⊎ ((result ≡ 1) ⊎ (result ≡ 3)) }
+    ensures unbroken { result ≢ 3 → W.has_failed output.new ≡ W.has_failed output.old }
 {
     let alloc = rt.alloc();
     if file == "-" {

@@ -4,8 +4,10 @@
 //! does the work on what was opened.
 #![tactic(auto)]
 
-ghost use Rattle.std.specs.Prelude.{◌≡◌, ◌⊎◌, ◌≤◌, IfOk, IfErr, length, vec_len};
+ghost use Rattle.std.specs.Prelude.{◌≡◌, ◌≢◌, ◌⊎◌, ◌≤◌, IfOk, IfErr, length, vec_len};
 ghost use Rattle.jser_commands.specs.Lines.{HasLimit};
+ghost use Rattle.jser_explain.specs.Explains.{check_of};
+ghost use Rattle.serialcheck.specs.Jobs.{list_of};
 
 mod explain;
 mod scan;
@@ -36,9 +38,11 @@ fn main(rt: HostRuntime) -> ExitCode {
     ExitCode::from(status_of(&rt, &mut output, &mut faults))
 }
 
-/// Reads the command line and does what it asks for.
+/// Reads the command line and does what it asks for. Where the output fails the status is 3, and at 2 nothing went to it.
 fn status_of<W: Sink, E: Sink>(rt: &HostRuntime, output: &mut W, faults: &mut E) -> u8
-    ensures { result ≤ 4 }
+    ensures status { result ≤ 4 }
+    ensures unbroken { result ≢ 3 → W.has_failed output.new ≡ W.has_failed output.old }
+    ensures misuse { result ≡ 2 → output.new ≡ output.old }
 {
     match words_of_line(rt, faults) {
         Ok(words) => on_words(rt, &words, output, faults),
@@ -75,7 +79,9 @@ fn on_words<W: Sink, E: Sink>(
     output: &mut W,
     faults: &mut E,
 ) -> u8
-    ensures { result ≤ 4 }
+    ensures status { result ≤ 4 }
+    ensures unbroken { result ≢ 3 → W.has_failed output.new ≡ W.has_failed output.old }
+    ensures misuse { result ≡ 2 → output.new ≡ output.old }
 {
     let alloc = rt.alloc();
     let Ok(words) = borrowed(alloc, words) else {
@@ -104,7 +110,9 @@ fn on_words<W: Sink, E: Sink>(
 
 /// Does what a line with a command says.
 fn on_line<W: Sink, E: Sink>(rt: &HostRuntime, line: &Line, output: &mut W, faults: &mut E) -> u8
-    ensures { result ≤ 4 }
+    ensures status { result ≤ 4 }
+    ensures unbroken { result ≢ 3 → W.has_failed output.new ≡ W.has_failed output.old }
+    ensures misuse { result ≡ 2 → output.new ≡ output.old }
 {
     match line {
         Line::Check {
@@ -182,7 +190,9 @@ fn on_line<W: Sink, E: Sink>(rt: &HostRuntime, line: &Line, output: &mut W, faul
 }
 
 /// The job of a list.
-fn list_job(filter: Filter, anywhere: bool) -> Job {
+fn list_job(filter: Filter, anywhere: bool) -> Job
+    ensures { result ≡ list_of anywhere «filter» }
+{
     if anywhere {
         Job::ListAnywhere { filter }
     } else {
@@ -191,7 +201,9 @@ fn list_job(filter: Filter, anywhere: bool) -> Job {
 }
 
 /// The job of a check.
-fn check_job(filter: Filter, strict: bool, anywhere: bool) -> Job {
+fn check_job(filter: Filter, strict: bool, anywhere: bool) -> Job
+    ensures { result ≡ check_of anywhere strict «filter» }
+{
     if anywhere {
         Job::CheckAnywhere { filter, strict }
     } else {
@@ -334,7 +346,9 @@ fn on_file<W: Sink, E: Sink>(
     output: &mut W,
     faults: &mut E,
 ) -> u8
-    ensures { (result ≡ 0) ⊎ ((result ≡ 1) ⊎ ((result ≡ 3) ⊎ ((result ≡ 4) × HasLimit job.now))) }
+    ensures status { (result ≡ 0) ⊎ ((result ≡ 1) ⊎ ((result ≡ 3) ⊎ ((result ≡ 4) × HasLimit job.now))) }
+    ensures unbroken { result ≢ 3 → W.has_failed output.new ≡ W.has_failed output.old }
+    ensures misuse { result ≢ 2 }
 {
     let alloc = rt.alloc();
     if file == "-" {
@@ -350,7 +364,7 @@ fn on_file<W: Sink, E: Sink>(
     }
 }
 
-/// Does the job on an opened input. Of what `run` promises it passes on the status alone, which is what is needed here.
+/// Does the job on an opened input. Of what `run` promises it passes on the statuses, and whether the output failed.
 fn on_input<R: Input, W: Sink, E: Sink>(
     alloc: Global,
     job: &Job,
@@ -358,7 +372,9 @@ fn on_input<R: Input, W: Sink, E: Sink>(
     output: &mut W,
     faults: &mut E,
 ) -> u8
-    ensures { (result ≡ 0) ⊎ ((result ≡ 1) ⊎ ((result ≡ 3) ⊎ ((result ≡ 4) × HasLimit job.now))) }
+    ensures status { (result ≡ 0) ⊎ ((result ≡ 1) ⊎ ((result ≡ 3) ⊎ ((result ≡ 4) × HasLimit job.now))) }
+    ensures unbroken { result ≢ 3 → W.has_failed output.new ≡ W.has_failed output.old }
+    ensures misuse { result ≢ 2 }
 {
     run(alloc, job, input, output, faults)
 }

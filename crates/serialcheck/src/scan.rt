@@ -1,5 +1,5 @@
 //! `scan`: goes through folders, and checks one file after another.
-ghost use Rattle.std.specs.Prelude.{◌≡◌, ◌≤◌};
+ghost use Rattle.std.specs.Prelude.{◌≡◌, ◌≢◌, ◌≤◌, OnOk};
 
 use jser_inputs::{Decoded, Form, InputFault};
 use jser_prim::{Failed, FromRead, Sink};
@@ -36,7 +36,9 @@ pub(crate) fn scan_paths<W: Sink, E: Sink>(
     output: &mut W,
     faults: &mut E,
 ) -> u8
-    ensures { result ≤ 3 }
+    ensures status { result ≤ 3 }
+    ensures unbroken { result ≢ 3 → W.has_failed output.new ≡ W.has_failed output.old }
+    ensures misuse { result ≡ 2 → output.new ≡ output.old }
 {
     let mut tally = Tally::new();
     for path in paths {
@@ -56,7 +58,9 @@ fn scan_given<W: Sink, E: Sink>(
     tally: &mut Tally,
     output: &mut W,
     faults: &mut E,
-) -> Result<(), Failed> {
+) -> Result<(), Failed>
+    ensures kept { OnOk result (W.has_failed output.new ≡ W.has_failed output.old) }
+{
     let is_folder = match fs::metadata(rt, path) {
         Ok(found) => found.is_dir(),
         Err(_) => false,
@@ -76,11 +80,13 @@ fn scan_folder<W: Sink, E: Sink>(
     tally: &mut Tally,
     output: &mut W,
     faults: &mut E,
-) -> Result<(), Failed> {
+) -> Result<(), Failed>
+    ensures kept { OnOk result (W.has_failed output.new ≡ W.has_failed output.old) }
+{
     // What is still to be looked at, the next one last.
     let mut waiting: Vec<String> = Vec::new(rt.alloc());
     enter(rt, task, folder, &mut waiting, tally, output, faults)?;
-    for _ in 0..u64::MAX {
+    'paths: for _ in 0..u64::MAX {
         let Some(path) = waiting.pop() else {
             return Ok(());
         };
@@ -116,7 +122,9 @@ fn enter<W: Sink, E: Sink>(
     tally: &mut Tally,
     output: &mut W,
     faults: &mut E,
-) -> Result<(), Failed> {
+) -> Result<(), Failed>
+    ensures kept { OnOk result (W.has_failed output.new ≡ W.has_failed output.old) }
+{
     let found = match names_in(rt, folder, waiting) {
         Ok(()) => return Ok(()),
         Err(found) => found,
@@ -189,7 +197,9 @@ fn scan_file<W: Sink, E: Sink>(
     tally: &mut Tally,
     output: &mut W,
     faults: &mut E,
-) -> Result<(), Failed> {
+) -> Result<(), Failed>
+    ensures kept { OnOk result (W.has_failed output.new ≡ W.has_failed output.old) }
+{
     let found = found_in(rt, task, path);
     print(rt, task, path, &found, tally, output, faults)
 }
@@ -221,7 +231,9 @@ fn print<W: Sink, E: Sink>(
     tally: &mut Tally,
     output: &mut W,
     faults: &mut E,
-) -> Result<(), Failed> {
+) -> Result<(), Failed>
+    ensures kept { OnOk result (W.has_failed output.new ≡ W.has_failed output.old) }
+{
     let alloc = rt.alloc();
     let Ok(text) = String::from_str(alloc, path) else {
         return out_of_memory(tally, faults);

@@ -1,5 +1,5 @@
 //! `suggest`: the least filter that admits some good files.
-ghost use Rattle.std.specs.Prelude.{◌≡◌, ◌⊎◌, ◌≤◌, IfErr};
+ghost use Rattle.std.specs.Prelude.{◌≡◌, ◌≢◌, ◌⊎◌, ◌≤◌, IfErr};
 
 use crate::scan::unopened;
 use jser_inputs::{Decoded, Form, Input};
@@ -28,7 +28,9 @@ pub(crate) fn suggest_from<W: Sink, E: Sink>(
     output: &mut W,
     faults: &mut E,
 ) -> u8
-    ensures { result ≤ 3 }
+    ensures status { result ≤ 3 }
+    ensures unbroken { result ≢ 3 → W.has_failed output.new ≡ W.has_failed output.old }
+    ensures misuse { result ≡ 2 → output.new ≡ output.old }
 {
     let mut samples = Samples::new(rt.alloc());
     match learn_all(rt, form, files, &mut samples, faults) {
