@@ -133,6 +133,13 @@ uint32_t serialcheck_version(void);
  * the answer has no line; NO_MEMORY. 128 bytes are room enough. `answer` and `told` are different places. */
 uint32_t serialcheck_line(const serialcheck_answer *answer, uint8_t *room, size_t room_len, serialcheck_answer *told);
 
+/* Writes the class name that an answer to a check of these bytes says was refused or hidden, quoted as the program prints it, in
+ * the same way: other units than printable ASCII are `\u` and four digits. SPENT where the answer has no such name, or the bytes
+ * do not have it at that place: then they are others. Of a stream that came in pieces `bytes` are all of them up to `name_to`.
+ * Six times the length of the name and two bytes are room enough. */
+uint32_t serialcheck_class(const uint8_t *bytes, size_t len, const serialcheck_answer *answer, uint8_t *room, size_t room_len,
+                           serialcheck_answer *told);
+
 /* Writes the name of a reason, or of a cause of MISUSE, in the same way. SPENT where no one has the number. 32 bytes are room
  * enough. */
 uint32_t serialcheck_reason_name(uint32_t reason, uint8_t *room, size_t room_len, serialcheck_answer *told);

@@ -6,3 +6,4 @@ pub mod TextLemmas
 pub mod ZeroLemmas
 pub mod LentSteps
 pub mod LineLemmas
+pub mod ClassLemmas

@@ -5,6 +5,7 @@ pub mod Pieces
 pub mod Streams
 pub mod Texts
 pub mod Lines
+pub mod Classes
 pub mod Holding
 pub mod FilterOwning
 pub mod Lending

@@ -13,6 +13,7 @@ ghost use Rattle.jser_ffi.specs.Compiling.{IsCompiled, SaysMisuse, TextsAreFault
 ghost use Rattle.jser_ffi.specs.Holding.{HoldsSuch};
 ghost use Rattle.jser_reader.specs.declared.Reason.{Reason};
 ghost use Rattle.jser_reader.specs.ReasonNames.{reason_name};
+ghost use Rattle.jser_ffi.specs.Classes.{PutsClass};
 ghost use Rattle.jser_ffi.specs.Lines.{Puts, PutsAny, cause_at, line_of, name_at, version_number};
 ghost use Rattle.jser_index.specs.Reading.{IsRefused};
 ghost use Rattle.jser_ffi.specs.Texts.{TellsList, TellsText};
@@ -23,6 +24,7 @@ ghost use Rattle.jser_ffi.specs.declared.stream.Stream.{Stream};
 ghost use Rattle.jser_ffi.specs.declared.stream.Stream.TheVariants as state;
 
 mod answer;
+mod class;
 mod compiled;
 mod filter_handle;
 mod held_filter;
@@ -40,6 +42,7 @@ mod text;
 mod way;
 
 use answer::{Answer, NO_MEMORY, SPENT, bare};
+use class::class_into;
 use compiled::{Compiled, compile};
 use filter_handle::FilterHandle;
 use lent_filter::{LentFilter, is_open, pointer_of};
@@ -384,5 +387,25 @@ pub extern "C" fn serialcheck_line(
     ensures zeros { TextZeros told.new }
 {
     *told = line_into(alloc, answer, room);
+    told.status
+}
+
+/// Writes the class name that the answer to a check of these bytes says was not let pass into a room, quoted as the program
+/// prints it.
+#[unsafe(no_mangle)]
+pub extern "C" fn serialcheck_class(
+    alloc: Global,
+    bytes: &[u8],
+    answer: &Answer,
+    room: &mut [u8],
+    told: &mut Answer,
+) -> u32
+    ensures status { result ≡ told.new.status }
+    ensures puts { (result ≡ 0) ⊎ (result ≡ 6) → PutsClass bytes.now answer.now room.old room.new told.new }
+    ensures kept { (result ≡ 3) ⊎ (result ≡ 5) → room.new ≡ room.old }
+    ensures known { (result ≡ 0) ⊎ ((result ≡ 3) ⊎ ((result ≡ 5) ⊎ (result ≡ 6))) }
+    ensures zeros { TextZeros told.new }
+{
+    *told = class_into(alloc, bytes, answer, room);
     told.status
 }

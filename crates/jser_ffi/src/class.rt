@@ -1,0 +1,116 @@
+//! The class name of an answer, quoted.
+ghost use Rattle.std.specs.Prelude.{◌≡◌, ◌≢◌, ◌⊎◌, [], length, IfOk, IfSome};
+ghost use Rattle.jser_prim.specs.ModifiedUtf8.{modified_utf8};
+ghost use Rattle.jser_anywhere.specs.Standing.{StandsAt};
+ghost use Rattle.jser_shown.specs.Words.{quoted};
+ghost use Rattle.jser_ffi.specs.Classes.{IsClassOf, PutsClass, is_hidden, part};
+ghost use Rattle.jser_ffi.specs.Lines.{Puts};
+ghost use Rattle.jser_ffi.specs.Told.{TextZeros};
+
+use crate::answer::{Answer, HIDDEN_NAME, NO_MEMORY, SPENT, bare};
+use crate::room::put;
+use jser_anywhere::Names;
+use jser_front::Front;
+use jser_prim::{Outbox, read_units};
+use jser_printer::write_quoted;
+use std::alloc::{AllocError, Global};
+
+/// As many bytes as a quoted name has at most.
+const MOST: usize = 1 << 20;
+
+/// Puts the class name of an answer into a room, quoted: it stands in these bytes.
+#[tactic(auto, using(crate::proofs::ClassLemmas::puts_class))]
+pub(crate) fn class_into(alloc: Global, bytes: &[u8], answer: &Answer, room: &mut [u8]) -> Answer
+    ensures puts { (result.status ≡ 0) ⊎ (result.status ≡ 6) → PutsClass bytes.now answer.now room.old room.new result }
+    ensures kept { (result.status ≡ 3) ⊎ (result.status ≡ 5) → room.new ≡ room.old }
+    ensures known { (result.status ≡ 0) ⊎ ((result.status ≡ 3) ⊎ ((result.status ≡ 5) ⊎ (result.status ≡ 6))) }
+    ensures zeros { TextZeros result }
+{
+    match class_of(alloc, bytes, answer) {
+        Ok(Some(units)) => quoted_into(alloc, units.as_slice(), room),
+        Ok(None) => bare(SPENT),
+        Err(_) => bare(NO_MEMORY),
+    }
+}
+
+/// The class name of an answer.
+fn class_of(alloc: Global, bytes: &[u8], answer: &Answer) -> Result<Option<Vec<u16>>, AllocError>
+    ensures { IfOk result (λ found. IfSome found (λ units. IsClassOf (is_hidden answer.now) (part bytes.now answer.now.name_from answer.now.name_to) units.items)) }
+{
+    let Some(text) = part(bytes, answer.name_from, answer.name_to) else {
+        return Ok(None);
+    };
+    if answer.reason == HIDDEN_NAME {
+        hidden_class(alloc, text)
+    } else {
+        spelled_class(alloc, text)
+    }
+}
+
+/// The bytes from one place to another, if they are there.
+fn part(bytes: &[u8], from: u64, to: u64) -> Option<&[u8]>
+    ensures { IfSome result (λ text. text.now ≡ part bytes.now from to) }
+{
+    if from >= to || to > bytes.len() as u64 {
+        return None;
+    }
+    let (_, rest) = bytes.split_at(from as usize);
+    let (text, _) = rest.split_at((to - from) as usize);
+    Some(text)
+}
+
+/// The name that a text spells.
+fn spelled_class(alloc: Global, text: &[u8]) -> Result<Option<Vec<u16>>, AllocError>
+    ensures { IfOk result (λ found. IfSome found (λ units. modified_utf8 units.items ≡ text.now)) }
+{
+    let mut units = Vec::new(alloc);
+    if read_units(text, &mut units)? {
+        Ok(Some(units))
+    } else {
+        Ok(None)
+    }
+}
+
+/// The class of the name that stands at the front of these bytes and ends where they end.
+#[tactic(auto, using(crate::proofs::ClassLemmas::first_names, crate::proofs::ClassLemmas::later_names, crate::proofs::ClassLemmas::named_here))]
+fn hidden_class(alloc: Global, text: &[u8]) -> Result<Option<Vec<u16>>, AllocError>
+    ensures { IfOk result (λ found. IfSome found (λ units. StandsAt text.now 0 (length text.now) units.items)) }
+{
+    let mut names = Names::new(text);
+    'names: while let Some(found) = names.next() {
+        if found.from == 0 && found.to == text.len() {
+            let units = names.units().to_vec(alloc)?;
+            return Ok(Some(units));
+        }
+    }
+    Ok(None)
+}
+
+/// Puts a name into a room, quoted.
+fn quoted_into(alloc: Global, units: &[u16], room: &mut [u8]) -> Answer
+    ensures puts { result.status ≢ 3 → Puts (quoted units.now []) room.old room.new result }
+    ensures kept { result.status ≡ 3 → room.new ≡ room.old }
+    ensures known { (result.status ≡ 0) ⊎ ((result.status ≡ 3) ⊎ (result.status ≡ 6)) }
+    ensures zeros { TextZeros result }
+{
+    match quoted_text(alloc, units) {
+        Ok(text) => put(text.as_slice(), room),
+        Err(_) => bare(NO_MEMORY),
+    }
+}
+
+/// A name, quoted.
+#[tactic(auto, using(crate::proofs::ClassLemmas::quoted_went))]
+fn quoted_text(alloc: Global, units: &[u16]) -> Result<Vec<u8>, AllocError>
+    ensures { IfOk result (λ text. text.items ≡ quoted units.now []) }
+{
+    let mut outbox = Outbox::new();
+    let mut front = Front::new(alloc, MOST);
+    write_quoted(&mut outbox, &mut front, units);
+    outbox.flush(&mut front);
+    if outbox.has_failed() {
+        Err(AllocError)
+    } else {
+        Ok(front.into_bytes())
+    }
+}

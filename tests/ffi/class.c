@@ -1,0 +1,52 @@
+/* The class names that the library writes: class FLAGS FILTER MODULES FILE..
+ * MODULES is a file with a table of modules, or `-`. Prints the line of the answer to each file, with the class that was refused
+ * behind it. A refused class's name is at the offsets that the answer has. */
+#include "serialcheck.h"
+
+#include <stdio.h>
+#include <stdlib.h>
+#include <string.h>
+
+static void stop(const char *why) {
+    fprintf(stderr, "class: %s\n", why);
+    exit(2);
+}
+
+static size_t read_file(const char *path, uint8_t *bytes, size_t most) {
+    FILE *file = fopen(path, "rb");
+    if (!file) stop(path);
+    const size_t len = fread(bytes, 1, most, file);
+    fclose(file);
+    return len;
+}
+
+static void print(const uint8_t *bytes, size_t len, const serialcheck_answer *answer) {
+    static uint8_t room[1 << 19];
+    serialcheck_answer told;
+    if (serialcheck_line(answer, room, sizeof room, &told) != SERIALCHECK_YES) stop("no line");
+    printf("%.*s", (int)told.bytes - 1, (const char *)room);
+    const bool has_name = answer->name_to > 0;
+    if (serialcheck_class(bytes, len, answer, room, sizeof room, &told) != (has_name ? SERIALCHECK_YES : SERIALCHECK_SPENT)) stop("another status");
+    if (has_name) printf(" %.*s", (int)told.bytes, (const char *)room);
+    putchar('\n');
+    /* A plain name is quoted as it stands. */
+    const size_t from = (size_t)answer->name_from, to = (size_t)answer->name_to;
+    if (has_name && told.bytes == to - from + 2 && memcmp(room + 1, bytes + from, to - from)) stop("another name stands there");
+    if (has_name && serialcheck_class(bytes, to - 1, answer, room, sizeof room, &told) != SERIALCHECK_SPENT) stop("a name beyond the bytes");
+}
+
+int main(int words, char **word) {
+    if (words < 5) stop("class FLAGS FILTER MODULES FILE..");
+    static uint8_t bytes[1 << 22], modules[1 << 16];
+    const size_t modules_len = strcmp(word[3], "-") ? read_file(word[3], modules, sizeof modules) : 0;
+    serialcheck_answer answer;
+    serialcheck_filter filter = SERIALCHECK_NONE;
+    if (serialcheck_filter_new((const uint8_t *)word[2], strlen(word[2]), modules, modules_len, (uint32_t)strtoul(word[1], 0, 10), &answer, &filter)) stop("the filter is faulty");
+    for (int i = 4; i < words; i++) {
+        const size_t len = read_file(word[i], bytes, sizeof bytes);
+        serialcheck_filter_check(&filter, bytes, len, &answer);
+        print(bytes, len, &answer);
+    }
+    serialcheck_filter_free(&filter);
+    return 0;
+}
