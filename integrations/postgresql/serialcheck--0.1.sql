@@ -6,4 +6,4 @@ COMMENT ON FUNCTION serialcheck IS 'whether the bytes are one Java serialization
 
 CREATE FUNCTION serialcheck_answer(data bytea, filter text DEFAULT '', strict boolean DEFAULT false, anywhere boolean DEFAULT false) RETURNS text
     AS 'MODULE_PATHNAME', 'pg_serialcheck_answer' LANGUAGE C IMMUTABLE STRICT PARALLEL SAFE COST 100;
-COMMENT ON FUNCTION serialcheck_answer IS 'the line that serialcheck check prints of the bytes';
+COMMENT ON FUNCTION serialcheck_answer IS 'the line that serialcheck check prints of the bytes, and the class name that was refused';

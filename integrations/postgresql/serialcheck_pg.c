@@ -2,17 +2,15 @@
 #include "postgres.h"
 
 #include "fmgr.h"
+#include "lib/stringinfo.h"
 #include "utils/builtins.h"
 
 #include "serialcheck.h"
 
 PG_MODULE_MAGIC;
 
-static const char *const reasons[] = {"",
-#define X(name) #name,
-    SERIALCHECK_REASONS(X)};
-static const char *const causes[] = {"", SERIALCHECK_CAUSES(X)};
-#undef X
+/* The most bytes of an answer's line and of a cause's name, as the header has them. */
+enum { LINE = 128, NAME = 32 };
 
 /* The filter of a call site, with the text and the flags that it was made of. It is read once for all rows of a statement. */
 typedef struct {
@@ -47,6 +45,18 @@ static void stop_without_memory(void)
     ereport(ERROR, (errcode(ERRCODE_OUT_OF_MEMORY), errmsg("serialcheck: out of memory")));
 }
 
+/* Tells of a faulty piece of a filter. */
+static void stop_at_piece(const serialcheck_answer *fault)
+{
+    char name[NAME];
+    serialcheck_answer told;
+
+    if (serialcheck_cause_name(fault->reason, (uint8_t *) name, sizeof name, &told) != SERIALCHECK_YES)
+        stop_without_memory();
+    ereport(ERROR, (errcode(ERRCODE_INVALID_PARAMETER_VALUE),
+                    errmsg("serialcheck: filter pattern %llu: %.*s", (unsigned long long) fault->from, (int) told.bytes, name)));
+}
+
 /* Has the call site keep the filter of this text; a faulty one is an error. */
 static void read_filter(Kept *kept, MemoryContext room, const text *filter, uint32_t flags)
 {
@@ -63,8 +73,7 @@ static void read_filter(Kept *kept, MemoryContext room, const text *filter, uint
     }
     status = serialcheck_filter_new((const uint8_t *) words, len, (const uint8_t *) "", 0, flags, &answer, &kept->filter);
     if (status == SERIALCHECK_MISUSE)
-        ereport(ERROR, (errcode(ERRCODE_INVALID_PARAMETER_VALUE),
-                        errmsg("serialcheck: filter pattern %llu: %s", (unsigned long long) answer.from, causes[answer.reason])));
+        stop_at_piece(&answer);
     if (status != SERIALCHECK_YES)
         stop_without_memory();
     kept->text = MemoryContextAlloc(room, len + 1);
@@ -73,11 +82,10 @@ static void read_filter(Kept *kept, MemoryContext room, const text *filter, uint
     kept->flags = flags;
 }
 
-/* The answer for the bytes of the first argument, under the filter of the others. */
-static serialcheck_answer answer_of(FunctionCallInfo fcinfo)
+/* The answer for these bytes, under the filter of the other arguments. */
+static serialcheck_answer answer_of(FunctionCallInfo fcinfo, const bytea *data)
 {
     Kept *kept = kept_by(fcinfo->flinfo);
-    bytea *data = PG_GETARG_BYTEA_PP(0);
     uint32_t flags = (PG_GETARG_BOOL(2) ? SERIALCHECK_STRICT : 0) | (PG_GETARG_BOOL(3) ? SERIALCHECK_ANYWHERE : 0);
     serialcheck_answer answer;
 
@@ -92,21 +100,47 @@ PG_FUNCTION_INFO_V1(pg_serialcheck);
 /* Whether the bytes are one stream that the filter admits. */
 Datum pg_serialcheck(PG_FUNCTION_ARGS)
 {
-    PG_RETURN_BOOL(answer_of(fcinfo).status == SERIALCHECK_YES);
+    PG_RETURN_BOOL(answer_of(fcinfo, PG_GETARG_BYTEA_PP(0)).status == SERIALCHECK_YES);
+}
+
+/* Appends the class name that was refused, quoted, if the answer has one. */
+static void append_class(StringInfo text, const serialcheck_answer *answer, const bytea *data)
+{
+    Size room = 6 * (answer->name_to - answer->name_from) + 2;
+    uint8_t *name;
+    serialcheck_answer told;
+
+    if (answer->name_to == answer->name_from)
+        return;
+    name = palloc(room);
+    switch (serialcheck_class((const uint8_t *) VARDATA_ANY(data), VARSIZE_ANY_EXHDR(data), answer, name, room, &told)) {
+    case SERIALCHECK_YES:
+        appendStringInfoChar(text, ' ');
+        appendBinaryStringInfo(text, (const char *) name, told.bytes);
+        break;
+    case SERIALCHECK_SPENT:
+        break;
+    default:
+        stop_without_memory();
+    }
+    pfree(name);
 }
 
 PG_FUNCTION_INFO_V1(pg_serialcheck_answer);
 
-/* The line that `serialcheck check` prints of the bytes. */
+/* The line that `serialcheck check` prints of the bytes, and behind a refusal the class name that was refused. */
 Datum pg_serialcheck_answer(PG_FUNCTION_ARGS)
 {
-    serialcheck_answer answer = answer_of(fcinfo);
-    char *line;
+    bytea *data = PG_GETARG_BYTEA_PP(0);
+    serialcheck_answer answer = answer_of(fcinfo, data), told;
+    uint8_t line[LINE];
+    StringInfoData text;
 
-    if (answer.status == SERIALCHECK_YES)
-        line = psprintf("yes %llu bytes, %llu contents, %llu refs, depth %llu", (unsigned long long) answer.bytes,
-                        (unsigned long long) answer.contents, (unsigned long long) answer.refs, (unsigned long long) answer.depth);
-    else
-        line = psprintf("no at %llu to %llu: %s", (unsigned long long) answer.from, (unsigned long long) answer.to, reasons[answer.reason]);
-    PG_RETURN_TEXT_P(cstring_to_text(line));
+    if (serialcheck_line(&answer, line, sizeof line, &told) != SERIALCHECK_YES)
+        stop_without_memory();
+    initStringInfo(&text);
+    /* All of it but the line feed. */
+    appendBinaryStringInfo(&text, (const char *) line, told.bytes - 1);
+    append_class(&text, &answer, data);
+    PG_RETURN_TEXT_P(cstring_to_text_with_len(text.data, text.len));
 }
