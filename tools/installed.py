@@ -43,6 +43,15 @@ def wanted_lines():
         run(PROGRAM, "check", f"--filter={text}", *["--strict"] * strict, *["--anywhere"] * anywhere, file)[1] for text, strict, anywhere in FILTERS for file in STREAMS)
 
 
+def wanted_classes():
+    """The classes that `scan` names of all streams under all filters, without their quotes, or null."""
+    for text, strict, anywhere in FILTERS:
+        said = run(PROGRAM, "scan", f"--filter={text}", *["--strict"] * strict, *["--anywhere"] * anywhere, *STREAMS)[1].splitlines()
+        for line in said[: len(STREAMS)]:
+            name = line.partition(' "')[2]
+            yield name.removesuffix('"') if name else "null"
+
+
 def lines_of(tool, *words, **how):
     """What a program of the form FLAGS FILTER MODULES FILE.. prints of all streams under all filters; `tool` is `run` or `java`."""
     return "".join(tool(*words, STRICT * strict | ANYWHERE * anywhere, text, "-", *STREAMS, **how)[1] for text, strict, anywhere in FILTERS)

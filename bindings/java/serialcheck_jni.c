@@ -22,6 +22,20 @@ static uint8_t *copied(JNIEnv *env, jbyteArray bytes, jint from, jsize len, uint
     return copy;
 }
 
+/* The class name that an answer says was refused, as the program prints it without its quotes, or NULL. */
+static jstring class_of(JNIEnv *env, const uint8_t *bytes, size_t len, const serialcheck_answer *answer) {
+    const size_t most = 6 * (size_t)(answer->name_to - answer->name_from) + 2;
+    uint8_t *quoted = answer->name_to > answer->name_from ? malloc(most) : NULL;
+    serialcheck_answer told;
+    jstring name = NULL;
+    if (quoted && serialcheck_class(bytes, len, answer, quoted, most, &told) == SERIALCHECK_YES && told.bytes >= 2) {
+        quoted[told.bytes - 1] = 0;
+        name = (*env)->NewStringUTF(env, (const char *)quoted + 1);
+    }
+    free(quoted);
+    return name;
+}
+
 CALL(jint, words)(JNIEnv *env, jclass class) {
     (void)env;
     (void)class;
@@ -45,17 +59,20 @@ CALL(jlong, filterNew)(JNIEnv *env, jclass class, jbyteArray filter, jbyteArray 
     return 0;
 }
 
-CALL(void, filterCheck)(JNIEnv *env, jclass class, jlong filter, jbyteArray bytes, jint from, jint len, jlongArray out) {
+CALL(jstring, filterCheck)(JNIEnv *env, jclass class, jlong filter, jbyteArray bytes, jint from, jint len, jlongArray out) {
     (void)class;
     serialcheck_answer answer = {.status = SERIALCHECK_SPENT};
     uint8_t room[SMALL_ROOM];
+    jstring name = NULL;
     if (filter) {
         uint8_t *copy = copied(env, bytes, from, len, room, sizeof room);
         answer.status = SERIALCHECK_NO_MEMORY;
-        if (copy) serialcheck_filter_check((serialcheck_filter *)(intptr_t)filter, copy, (size_t)len, &answer);
+        if (copy && serialcheck_filter_check((serialcheck_filter *)(intptr_t)filter, copy, (size_t)len, &answer) == SERIALCHECK_NO)
+            name = class_of(env, copy, (size_t)len, &answer);
         if (copy != room) free(copy);
     }
     hand_out(env, out, &answer);
+    return name;
 }
 
 CALL(void, filterFree)(JNIEnv *env, jclass class, jlong filter) {

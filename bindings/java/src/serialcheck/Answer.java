@@ -19,6 +19,9 @@ final class Answer {
     /** No answer, and no yes, before a call has written it. */
     final long[] words = {NO_MEMORY, 0, 0, 0, 0, 0, 0, 0, 0, 0, 0};
 
+    /** The name of the class that was refused, where all bytes were there, or null. */
+    String className;
+
     int status() {
         return (int) words[0];
     }

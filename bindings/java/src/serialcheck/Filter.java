@@ -65,10 +65,10 @@ public final class Filter implements AutoCloseable {
             }
         }
 
-        void check(byte[] bytes, int from, int length, long[] answer) {
+        void check(byte[] bytes, int from, int length, Answer answer) {
             checking.lock();
             try {
-                Native.filterCheck(handle, bytes, from, length, answer);
+                answer.className = Native.filterCheck(handle, bytes, from, length, answer.words);
             } finally {
                 checking.unlock();
             }
@@ -150,7 +150,7 @@ public final class Filter implements AutoCloseable {
         Objects.checkFromIndexSize(from, length, bytes.length);
         Answer answer = new Answer();
         try {
-            held.check(bytes, from, length, answer.words);
+            held.check(bytes, from, length, answer);
         } finally {
             Reference.reachabilityFence(this); // else the cleaner could free a filter whose last call is this one
         }

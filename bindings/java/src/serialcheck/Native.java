@@ -10,7 +10,8 @@ final class Native {
 
     static native long filterNew(byte[] text, byte[] modules, int flags, long[] answer);
 
-    static native void filterCheck(long filter, byte[] bytes, int from, int length, long[] answer);
+    /** Returns the name of the class that was refused, if one was. */
+    static native String filterCheck(long filter, byte[] bytes, int from, int length, long[] answer);
 
     static native void filterFree(long filter);
 

@@ -12,11 +12,15 @@ public final class Refused extends InvalidObjectException {
     /** How many bytes decide. */
     private final long to;
 
+    /** The name of the class that was refused, or null. */
+    private final String className;
+
     Refused(Answer answer) {
         super(answer.line());
         reason = answer.reason();
         from = answer.from();
         to = answer.to();
+        className = answer.className;
     }
 
     /**
@@ -26,6 +30,16 @@ public final class Refused extends InvalidObjectException {
      */
     public String reason() {
         return reason;
+    }
+
+    /**
+     * The class that the filter does not admit: of the reasons {@code ClassRejected}, {@code ClassUnmatched} and {@code HiddenName}.
+     *
+     * @return its name, in which letters other than printable ASCII are escaped, so that it may be logged; null
+     *     with another reason, or where the bytes came in pieces
+     */
+    public String className() {
+        return className;
     }
 
     /**
