@@ -50,6 +50,10 @@ class Answer(ctypes.Structure):
         ("name_end", ctypes.c_uint64),
     ]
 
+    #: The name of the class that was refused, in which letters other than printable ASCII are escaped; None with another
+    #: reason, and where the bytes came in pieces.
+    class_name: Optional[str] = None
+
     def __init__(self):
         super().__init__(status=NO_MEMORY)  # no yes before a call has written it
 
@@ -83,6 +87,7 @@ def _load():
         "check": [*text, *text, ctypes.c_uint32, answer],
         "filter_new": [*text, *text, ctypes.c_uint32, answer, handle],
         "filter_check": [handle, *text, answer],
+        "class": [*text, answer, *text, answer],
         "filter_free": [handle],
         "stream_new": [handle, answer, handle],
         "stream_feed": [handle, *text, answer],
@@ -98,8 +103,19 @@ def _load():
 _library = _load()
 
 
-def _settled(answer):
-    """The answer of a check; a fault of the caller or of memory is an exception."""
+def _class_name(answer, data):
+    """The name of the class that was refused, if one was, as the program prints it without its quotes."""
+    if answer.name_start == answer.name_end:
+        return None
+    room, told = ctypes.create_string_buffer(6 * (answer.name_end - answer.name_start) + 2), Answer()
+    _library.serialcheck_class(data, len(data), answer, room, len(room), told)
+    return room.raw[1 : told.bytes - 1].decode("ascii") if told.status == YES else None
+
+
+def _settled(answer, data=None):
+    """The answer of a check, with the class where these are all bytes; a fault of the caller or of memory is an exception."""
+    if answer.status == NO and data is not None:
+        answer.class_name = _class_name(answer, data)
     if answer.status in (YES, NO):
         return answer
     if answer.status == MISUSE:
@@ -125,7 +141,7 @@ def check(data: BytesLike, filter: str = "", strict: bool = False, anywhere: boo
     """Checks bytes under the filter of a text, which is read each time."""
     data, text, answer = _bytes(data), filter.encode(), Answer()
     _library.serialcheck_check(data, len(data), text, len(text), _flags(strict, anywhere), answer)
-    return _settled(answer)
+    return _settled(answer, data)
 
 
 class Filter:
@@ -143,7 +159,7 @@ class Filter:
         data, answer = _bytes(data), Answer()
         with self._lock:
             _library.serialcheck_filter_check(self._handle, data, len(data), answer)
-        return _settled(answer)
+        return _settled(answer, data)
 
     def stream(self) -> "Stream":
         """A check of one stream whose bytes come in pieces."""
