@@ -56,8 +56,9 @@ def end_of(text, at):
 
 
 def name_of_impl(head):
-    """What the prover calls an impl: its type, and the trait behind it."""
+    """What the prover calls an impl: its type, and the trait behind it with what that takes, as in `FaultFromStop`."""
     head = re.sub(r"\bwhere\b.*", "", head, flags=re.S)
+    head = re.sub(r"(\bFrom)<([\w: ]+)>", r"\1\2", head)
     while re.search(r"<[^<>]*>", head):
         head = re.sub(r"<[^<>]*>", "", head)
     trait, is_of_trait, kind = head.partition(" for ")
