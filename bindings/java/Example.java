@@ -10,11 +10,14 @@ import java.util.ArrayList;
 import java.util.Arrays;
 import java.util.Iterator;
 import java.util.List;
+import java.util.Map;
 import java.util.concurrent.Callable;
 import java.util.zip.GZIPInputStream;
 import java.util.zip.GZIPOutputStream;
 import serialcheck.Filter;
 import serialcheck.Flag;
+import serialcheck.Guard;
+import serialcheck.GuardSettings;
 import serialcheck.Refused;
 import serialcheck.Report;
 import serialcheck.Stream;
@@ -127,6 +130,23 @@ public final class Example {
         return read;
     }
 
+    // Inside of a server: settings by their names, a line of the log for each refusal, and counts, which JMX shows too.
+    static final class Cache {
+        private final Guard guard;
+
+        Cache(Map<String, String> settings) throws IOException {
+            GuardSettings made = new GuardSettings();
+            settings.forEach(made::set);
+            guard = new Guard("cache", made, System.out::println);
+        }
+
+        Object value(String key, InputStream stored) throws IOException, ClassNotFoundException {
+            try (ObjectInputStream in = new ObjectInputStream(guard.open(() -> "the value of " + key, stored))) {
+                return in.readObject();
+            }
+        }
+    }
+
     static byte[] written(Object... objects) throws IOException {
         ByteArrayOutputStream bytes = new ByteArrayOutputStream();
         try (ObjectOutputStream out = new ObjectOutputStream(bytes)) {
@@ -183,6 +203,11 @@ public final class Example {
             tell("compressed, much of nothing", () -> unzipped(new ByteArrayInputStream(zipped(new byte[MOST + 1])), filter));
         }
         tell("partition", () -> partition(List.of(written("a"), written(7)).iterator()));
+        Cache cache = new Cache(Map.of("filter", LIMITS + "java.lang.*;!*", "most", "1000"));
+        tell("cache", () -> cache.value("a", new ByteArrayInputStream(written(7))));
+        tell("cache, a gadget", () -> cache.value("b", new ByteArrayInputStream(gadget)));
+        tell("cache, a setting that there is not", () -> new Cache(Map.of("filters", "!*")));
+        System.out.println("the cache refused " + cache.guard.getRefusals());
         tell("a faulty filter", () -> new Filter("java.util.*;maxdept=1"));
         System.out.println("gadgets that ran: " + Gadget.ran);
         new ObjectInputStream(new ByteArrayInputStream(gadget)).readObject();

@@ -7,7 +7,7 @@
 
 #define CALL(type, name) JNIEXPORT type JNICALL Java_serialcheck_Native_##name
 
-enum { WORDS = 11, SMALL_ROOM = 8192 };
+enum { WORDS = 11, SMALL_ROOM = 8192, MOST_TEXT = 255 };
 
 static void hand_out(JNIEnv *env, jlongArray out, const serialcheck_answer *a) {
     const jlong words[WORDS] = {(jlong)a->status, (jlong)a->reason, (jlong)a->from, (jlong)a->to, (jlong)a->bytes, (jlong)a->contents, (jlong)a->refs, (jlong)a->depth, (jlong)a->handles,
@@ -15,11 +15,18 @@ static void hand_out(JNIEnv *env, jlongArray out, const serialcheck_answer *a) {
     (*env)->SetLongArrayRegion(env, out, 0, WORDS, words);
 }
 
-/* A copy of a part of an array, in `room` if it fits there. */
+/* A copy of a part of an array, in `room` if it fits there, which may be NULL for no bytes; NULL too where there is no memory. */
 static uint8_t *copied(JNIEnv *env, jbyteArray bytes, jint from, jsize len, uint8_t *room, size_t room_len) {
     uint8_t *copy = (size_t)len <= room_len ? room : malloc((size_t)len);
     if (copy) (*env)->GetByteArrayRegion(env, bytes, from, len, (jbyte *)copy);
     return copy;
+}
+
+/* The text that a call has written into a room, which has a byte more for its end; NULL where it has written none. */
+static jstring text_of(JNIEnv *env, uint8_t *room, const serialcheck_answer *told) {
+    if (told->status != SERIALCHECK_YES) return NULL;
+    room[told->bytes] = 0;
+    return (*env)->NewStringUTF(env, (const char *)room);
 }
 
 /* The class name that an answer says was refused, as the program prints it without its quotes, or NULL. */
@@ -42,21 +49,58 @@ CALL(jint, words)(JNIEnv *env, jclass class) {
     return WORDS;
 }
 
-CALL(jlong, filterNew)(JNIEnv *env, jclass class, jbyteArray filter, jbyteArray modules, jint flags, jlongArray out) {
+CALL(jstring, line)(JNIEnv *env, jclass class, jlongArray from) {
     (void)class;
+    jlong w[WORDS];
+    (*env)->GetLongArrayRegion(env, from, 0, WORDS, w);
+    const serialcheck_answer answer = {(uint32_t)w[0], (uint32_t)w[1], (uint64_t)w[2], (uint64_t)w[3], (uint64_t)w[4], (uint64_t)w[5], (uint64_t)w[6], (uint64_t)w[7], (uint64_t)w[8],
+                                       (uint64_t)w[9], (uint64_t)w[10]};
+    uint8_t room[MOST_TEXT + 1];
+    serialcheck_answer told;
+    serialcheck_line(&answer, room, MOST_TEXT, &told);
+    return text_of(env, room, &told);
+}
+
+CALL(jstring, reasonName)(JNIEnv *env, jclass class, jint reason) {
+    (void)class;
+    uint8_t room[MOST_TEXT + 1];
+    serialcheck_answer told;
+    serialcheck_reason_name((uint32_t)reason, room, MOST_TEXT, &told);
+    return text_of(env, room, &told);
+}
+
+CALL(jstring, reasonText)(JNIEnv *env, jclass class, jint reason) {
+    (void)class;
+    uint8_t room[MOST_TEXT + 1];
+    serialcheck_answer told;
+    serialcheck_reason_text((uint32_t)reason, room, MOST_TEXT, &told);
+    return text_of(env, room, &told);
+}
+
+/* Makes a filter by a call that reads it: serialcheck_filter_new or serialcheck_filter_read. */
+static jlong filter_by(__typeof__(serialcheck_filter_new) *read, JNIEnv *env, jbyteArray filter, jbyteArray modules, jint flags, jlongArray out) {
     serialcheck_answer answer = {.status = SERIALCHECK_NO_MEMORY};
     serialcheck_filter *handle = calloc(1, sizeof *handle);
     const jsize len = (*env)->GetArrayLength(env, filter), modules_len = (*env)->GetArrayLength(env, modules);
-    uint8_t room[1], modules_room[1];
-    uint8_t *text = copied(env, filter, 0, len, room, sizeof room), *table = copied(env, modules, 0, modules_len, modules_room, sizeof modules_room);
-    if (handle && text && table)
-        serialcheck_filter_new(text, (size_t)len, table, (size_t)modules_len, (uint32_t)flags, &answer, handle);
-    if (text != room) free(text);
-    if (table != modules_room) free(table);
+    uint8_t *text = copied(env, filter, 0, len, NULL, 0), *table = copied(env, modules, 0, modules_len, NULL, 0);
+    if (handle && (text || !len) && (table || !modules_len))
+        read(text, (size_t)len, table, (size_t)modules_len, (uint32_t)flags, &answer, handle);
+    free(text);
+    free(table);
     hand_out(env, out, &answer);
     if (answer.status == SERIALCHECK_YES) return (jlong)(intptr_t)handle;
     free(handle);
     return 0;
+}
+
+CALL(jlong, filterNew)(JNIEnv *env, jclass class, jbyteArray text, jbyteArray modules, jint flags, jlongArray out) {
+    (void)class;
+    return filter_by(serialcheck_filter_new, env, text, modules, flags, out);
+}
+
+CALL(jlong, filterRead)(JNIEnv *env, jclass class, jbyteArray file, jbyteArray modules, jint flags, jlongArray out) {
+    (void)class;
+    return filter_by(serialcheck_filter_read, env, file, modules, flags, out);
 }
 
 CALL(jstring, filterCheck)(JNIEnv *env, jclass class, jlong filter, jbyteArray bytes, jint from, jint len, jlongArray out) {

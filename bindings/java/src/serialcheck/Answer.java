@@ -1,20 +1,10 @@
 package serialcheck;
 
-import java.util.Locale;
-
 /** What a native call answers: the words of the header's serialcheck_answer, in its order. */
 final class Answer {
     static final int YES = 0, NO = 1, MISUSE = 2, NO_MEMORY = 3, MORE = 4, SPENT = 5;
     /** How many words there are. The native code says the same number, or it is of another version. */
     static final int WORDS = 11;
-
-    private static final String[] REASONS = {"", "BytesExceeded", "BadHeader", "BadTag", "ExceptionTag", "ResetInside", "BadText",
-        "NegativeLength", "BadTypeCode", "FieldOrder", "BadFlags", "NullClass", "NoSuchHandle", "WrongKind", "OpenDescriptor",
-        "BadArrayName", "WrongClass", "ExternalRaw", "NotSerializable", "ClassRejected", "ClassUnmatched", "DepthExceeded",
-        "RefsExceeded", "ArrayExceeded", "Truncated", "HandleSpace", "HiddenName"};
-    private static final String[] CAUSES = {"", "filter pattern %d: UnknownLimit", "filter pattern %d: BadLimit",
-        "filter pattern %d: ModuleMissing", "filter pattern %d: NameMissing", "filter pattern %d: PackageMissing",
-        "filter is not text", "modules line %d: BadLine", "modules line %d: PackageTwice", "modules are not text", "unknown flag"};
 
     /** No answer, and no yes, before a call has written it. */
     final long[] words = {NO_MEMORY, 0, 0, 0, 0, 0, 0, 0, 0, 0, 0};
@@ -26,8 +16,14 @@ final class Answer {
         return (int) words[0];
     }
 
+    /** The name of the reason of a no. */
     String reason() {
-        return REASONS[(int) words[1]];
+        return there(Native.reasonName((int) words[1]));
+    }
+
+    /** What the reason of a no means. */
+    String meaning() {
+        return there(Native.reasonText((int) words[1]));
     }
 
     long from() {
@@ -58,11 +54,9 @@ final class Answer {
         return words[8];
     }
 
-    /** The line that the program prints of a yes or a no. */
+    /** The line that the program prints of it. */
     String line() {
-        return status() == YES
-            ? "yes " + bytes() + " bytes, " + contents() + " contents, " + refs() + " refs, depth " + depth()
-            : "no at " + from() + " to " + to() + ": " + reason();
+        return there(Native.line(words)).stripTrailing();
     }
 
     /** The report of a yes; whatever else is answered is thrown. */
@@ -86,13 +80,25 @@ final class Answer {
         }
         switch (status()) {
             case MISUSE:
-                throw new IllegalArgumentException(String.format(Locale.ROOT, CAUSES[(int) words[1]], words[2]));
+                throw new IllegalArgumentException(line());
             case NO_MEMORY:
-                throw new OutOfMemoryError("serialcheck: no native memory");
+                throw noMemory();
             case SPENT:
                 throw new IllegalStateException("closed");
             default:
                 throw new IllegalStateException("serialcheck answered " + status());
         }
+    }
+
+    /** A text of the library, which has one wherever there is memory for it. */
+    private static String there(String text) {
+        if (text == null) {
+            throw noMemory();
+        }
+        return text;
+    }
+
+    private static OutOfMemoryError noMemory() {
+        return new OutOfMemoryError("serialcheck: no native memory");
     }
 }

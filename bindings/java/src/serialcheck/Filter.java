@@ -17,10 +17,11 @@ import java.util.Objects;
 import java.util.concurrent.locks.Lock;
 import java.util.concurrent.locks.ReadWriteLock;
 import java.util.concurrent.locks.ReentrantReadWriteLock;
+import java.util.function.ToLongFunction;
 
 /**
- * A filter that is read once, for many checks. Any number of threads may use it at once; only its close waits for the checks
- * that run.
+ * A filter that is read once, for many checks. Any number of threads may use it at once, and none waits for another; only its close
+ * waits for the checks that run.
  */
 public final class Filter implements AutoCloseable {
     private static final Cleaner CLEANER = Cleaner.create();
@@ -104,10 +105,15 @@ public final class Filter implements AutoCloseable {
      * @throws IllegalArgumentException where the text or the table is faulty: the message names the piece or the line
      */
     public Filter(String text, String modules, Flag... flags) {
+        this(answer -> Native.filterNew(spelled(text, "filter is not text"), spelled(modules, "modules are not text"), Flag.bits(flags), answer));
+    }
+
+    /** Takes the handle that a native call returns, which writes its answer. */
+    private Filter(ToLongFunction<long[]> read) {
         Library.need();
         Answer answer = new Answer();
         held = new Held();
-        held.handle = Native.filterNew(spelled(text, "filter is not text"), spelled(modules, "modules are not text"), Flag.bits(flags), answer.words);
+        held.handle = read.applyAsLong(answer.words);
         cleanable = CLEANER.register(this, held);
         answer.wantOfFilter(Answer.YES);
     }
@@ -122,7 +128,12 @@ public final class Filter implements AutoCloseable {
      * @throws IOException where it cannot be read, or is longer
      */
     public static Filter fromFile(Path file, Flag... flags) throws IOException {
-        return new Filter(FilterFile.read(file), flags);
+        return ofFile(FilterFile.read(file), flags);
+    }
+
+    /** The filter of the bytes of a file. */
+    static Filter ofFile(byte[] file, Flag... flags) {
+        return new Filter(answer -> Native.filterRead(file, new byte[0], Flag.bits(flags), answer));
     }
 
     /**
@@ -131,6 +142,7 @@ public final class Filter implements AutoCloseable {
      * @param bytes a whole stream
      * @return the stream's counts
      * @throws Refused where they are no stream that the filter admits
+     * @throws IllegalStateException where the filter is closed
      */
     public Report check(byte[] bytes) throws Refused {
         return check(bytes, 0, bytes.length);
@@ -145,6 +157,7 @@ public final class Filter implements AutoCloseable {
      * @return the stream's counts
      * @throws Refused where they are no stream that the filter admits
      * @throws IndexOutOfBoundsException where the array has no such part
+     * @throws IllegalStateException where the filter is closed
      */
     public Report check(byte[] bytes, int from, int length) throws Refused {
         Objects.checkFromIndexSize(from, length, bytes.length);
@@ -167,6 +180,7 @@ public final class Filter implements AutoCloseable {
      * @throws Refused where they are no stream that the filter admits
      * @throws InvalidObjectException where there are more of them
      * @throws IOException where the input cannot be read
+     * @throws IllegalStateException where the filter is closed
      */
     public Report check(InputStream in, long most) throws IOException {
         byte[] piece = new byte[PIECE];
@@ -191,6 +205,7 @@ public final class Filter implements AutoCloseable {
      * @throws Refused where they are no stream that the filter admits
      * @throws InvalidObjectException where there are more of them
      * @throws IOException where the input cannot be read
+     * @throws IllegalStateException where the filter is closed
      */
     public byte[] read(InputStream in, int most) throws IOException {
         byte[] read = in.readNBytes(most);
@@ -211,6 +226,7 @@ public final class Filter implements AutoCloseable {
      * @throws Refused where they are no stream that the filter admits; no class of them was loaded
      * @throws InvalidObjectException where there are more of them
      * @throws IOException where the input cannot be read
+     * @throws IllegalStateException where the filter is closed
      */
     public ObjectInputStream open(InputStream in, int most) throws IOException {
         return open(in, most, ObjectInputStream::new);
@@ -227,6 +243,7 @@ public final class Filter implements AutoCloseable {
      * @throws Refused where they are no stream that the filter admits; no reader was made
      * @throws InvalidObjectException where there are more of them
      * @throws IOException where the input cannot be read, or the reader cannot be made
+     * @throws IllegalStateException where the filter is closed
      */
     public <S extends ObjectInputStream> S open(InputStream in, int most, Opener<S> opener) throws IOException {
         return opener.open(new ByteArrayInputStream(read(in, most)));
@@ -236,6 +253,7 @@ public final class Filter implements AutoCloseable {
      * Begins the check of a stream that comes in pieces. The filter may be closed before the stream.
      *
      * @return the check, for one thread at a time
+     * @throws IllegalStateException where the filter is closed
      */
     public Stream stream() {
         Answer answer = new Answer();

@@ -36,7 +36,7 @@ final class Library {
 
     private static boolean isOfThisVersion() {
         try {
-            return Native.words() == Answer.WORDS;
+            return Native.words() == Answer.WORDS && Native.line(new Answer().words) != null;
         } catch (UnsatisfiedLinkError older) {
             return false;
         }

@@ -2,11 +2,18 @@ package serialcheck;
 
 import java.io.InvalidObjectException;
 
-/** The bytes are no stream that the filter admits. Its message is the line of the program: {@code no at FROM to TO: REASON}. */
+/**
+ * The bytes are no stream that the filter admits. Its message is the line of the program: {@code no at FROM to TO: REASON}. A
+ * {@link Guard} also refuses what it cannot judge. What it tells never changes, so any thread may have it.
+ */
 public final class Refused extends InvalidObjectException {
     private static final long serialVersionUID = 1;
+    /** How many letters of a class name a line has at the most. */
+    private static final int MOST_LETTERS = 200;
     /** The name of the reason. */
     private final String reason;
+    /** What the reason means, or an empty text. */
+    private final String meaning;
     /** The offset of the faulty field. */
     private final long from;
     /** How many bytes decide. */
@@ -18,18 +25,55 @@ public final class Refused extends InvalidObjectException {
     Refused(Answer answer) {
         super(answer.line());
         reason = answer.reason();
+        meaning = answer.meaning();
         from = answer.from();
         to = answer.to();
         className = answer.className;
     }
 
+    /** A refusal of bytes that were not judged. */
+    Refused(String reason, String message) {
+        super(message);
+        this.reason = reason;
+        meaning = "";
+        from = 0;
+        to = 0;
+        className = null;
+    }
+
+    /**
+     * What a log may have of it: the message, and the class that was refused in quotes, if there is one.
+     *
+     * @return one line of printable ASCII, such as {@code no at 6 to 27: ClassRejected "java.util.ArrayList"}; a class name of more
+     *     than 200 letters is cut, and ends in {@code ..}
+     */
+    public String line() {
+        String name = shortName();
+        return name == null ? getMessage() : getMessage() + " \"" + name + "\"";
+    }
+
+    /** The class name, or the beginning of a long one, or null. */
+    String shortName() {
+        return className == null || className.length() <= MOST_LETTERS ? className : className.substring(0, MOST_LETTERS) + "..";
+    }
+
     /**
      * Why.
      *
-     * @return a name of docs/REFUSALS.md, such as {@code ClassRejected}
+     * @return a name of docs/REFUSALS.md, such as {@code ClassRejected}; of a {@link Guard} also {@code TooLong} and {@code BadCompression}
      */
     public String reason() {
         return reason;
+    }
+
+    /**
+     * What the reason means, for a person.
+     *
+     * @return a sentence of printable ASCII, such as {@code A pattern of the filter rejects this class.}; empty with a reason that only a
+     *     {@link Guard} has, whose message says all
+     */
+    public String meaning() {
+        return meaning;
     }
 
     /**

@@ -1,6 +1,6 @@
 package serialcheck;
 
-/** The counts of a stream that is accepted. Its text is the line of the program. */
+/** The counts of a stream that is accepted. Its text is the line of the program. It never changes, so any thread may have it. */
 public final class Report {
     private final Answer answer;
 

@@ -41,6 +41,7 @@ public final class Stream implements AutoCloseable {
      *
      * @param bytes the next piece
      * @throws Refused where a byte of this piece, or of one before it, decides, whatever comes next
+     * @throws IllegalStateException where the stream was ended or closed
      */
     public void feed(byte[] bytes) throws Refused {
         feed(bytes, 0, bytes.length);
@@ -54,6 +55,7 @@ public final class Stream implements AutoCloseable {
      * @param length how many bytes it has
      * @throws Refused where a byte of this piece, or of one before it, decides, whatever comes next
      * @throws IndexOutOfBoundsException where the array has no such part
+     * @throws IllegalStateException where the stream was ended or closed
      */
     public void feed(byte[] bytes, int from, int length) throws Refused {
         java.util.Objects.checkFromIndexSize(from, length, bytes.length);
@@ -71,6 +73,7 @@ public final class Stream implements AutoCloseable {
      *
      * @return the stream's counts
      * @throws Refused where the bytes are no stream that the filter admits
+     * @throws IllegalStateException where the stream was ended or closed
      */
     public Report end() throws Refused {
         Answer answer = new Answer();

@@ -1,0 +1,109 @@
+package serialcheck;
+
+import java.io.IOException;
+import java.nio.file.Files;
+import java.nio.file.Path;
+import java.nio.file.attribute.BasicFileAttributes;
+import java.util.concurrent.TimeUnit;
+import java.util.concurrent.locks.Lock;
+import java.util.concurrent.locks.ReentrantLock;
+import java.util.function.Consumer;
+
+/**
+ * The filter of a guard: that of a text, or of a file, which is looked at once a second at the most, by a thread that needs the
+ * filter, and read again when it changed. A file that cannot be read, or is faulty or empty, changes nothing and is logged once.
+ */
+final class GuardFilter {
+    /** How long one look at the file serves, and how old a change must be: a file that is being written is left alone. */
+    private static final long SECOND = TimeUnit.SECONDS.toNanos(1);
+
+    private final Path file;
+    private final Flag[] flags;
+    private final Consumer<String> log;
+    private final Lock looking = new ReentrantLock();
+    /** What the file was when it was read, and at the last look. */
+    private String read;
+    private String seen;
+    private volatile long looked;
+    // One that another took the place of is not closed, since a check may use it; the cleaner lets it go.
+    private volatile Filter filter;
+
+    /** Reads the filter; a faulty one is an exception here. */
+    GuardFilter(GuardSettings settings, Consumer<String> log) throws IOException {
+        file = settings.filterFile();
+        flags = settings.flags();
+        this.log = log;
+        if ((file == null) == (settings.filter() == null)) {
+            throw new IllegalArgumentException("a guard needs a filter or a filterFile, and not both");
+        }
+        read = seen = file == null ? null : stamp();
+        filter = file == null ? new Filter(settings.filter(), flags) : readFile();
+        looked = System.nanoTime();
+    }
+
+    Filter get() {
+        if (file != null && System.nanoTime() - looked >= SECOND && looking.tryLock()) {
+            try {
+                look();
+            } finally {
+                looking.unlock();
+            }
+        }
+        return filter;
+    }
+
+    void close() {
+        filter.close();
+    }
+
+    private void look() {
+        looked = System.nanoTime();
+        String now;
+        try {
+            now = stamp();
+        } catch (IOException gone) {
+            now = gone.toString();
+        }
+        if (!now.equals(read) && (now.equals(seen) || isOld())) {
+            read = now;
+            takeFile();
+        }
+        seen = now;
+    }
+
+    private void takeFile() {
+        try {
+            filter = readFile();
+            log.accept("serialcheck reads the filter of " + file + " from now on");
+        } catch (IllegalArgumentException faulty) {
+            log.accept("serialcheck keeps the filter that it has: " + faulty.getMessage() + ", in " + file);
+        } catch (IOException unread) {
+            log.accept("serialcheck keeps the filter that it has: " + unread);
+        }
+    }
+
+    private Filter readFile() throws IOException {
+        byte[] bytes = FilterFile.read(file);
+        Filter made = Filter.ofFile(bytes, flags);
+        if (FilterFile.isEmpty(bytes)) {
+            made.close();
+            throw new IllegalArgumentException("the filter file is empty"); // which would admit all
+        }
+        return made;
+    }
+
+    /** Whether the file was last written to a second ago, or earlier. */
+    private boolean isOld() {
+        try {
+            return System.currentTimeMillis() - Files.getLastModifiedTime(file).toMillis() >= TimeUnit.NANOSECONDS.toMillis(SECOND);
+        } catch (IOException gone) {
+            return false;
+        }
+    }
+
+    /** What is another where the file is another, or was written to. */
+    private String stamp() throws IOException {
+        BasicFileAttributes it = Files.readAttributes(file, BasicFileAttributes.class);
+        return it.fileKey() + " " + it.size() + " " + it.lastModifiedTime();
+    }
+}
