@@ -1,12 +1,12 @@
 -- A source over the text of another one.
-use Rattle.std.specs.Prelude.{ℕ, ◌≡◌, ◌+◌, Bool, if◌then◌else◌, List, Option, Some, None, option_map, ◌≤◌, ◌⊎◌, ◌^◌, true}
+use Rattle.std.specs.Prelude.{ℕ, ◌≡◌, ◌+◌, ◌-◌, min, [], Bool, if◌then◌else◌, List, Option, Some, None, option_map, ◌≤◌, ◌⊎◌, ◌^◌, true}
 use Rattle.jser_inputs.specs.declared.form.Form.{Form}
 use Rattle.jser_inputs.specs.declared.form.Form.TheVariants as form
 use Rattle.jser_inputs.specs.declared.spot.Spot.{Spot}
 use Rattle.jser_inputs.specs.declared.fault.InputFault.{InputFault}
 use Rattle.jser_inputs.specs.declared.fault.InputFault.TheVariants as fault
 use Rattle.jser_inputs.specs.Places.{is_wrong}
-use Rattle.jser_inputs.specs.Spelled.{spelled, right_until}
+use Rattle.jser_inputs.specs.Spelled.{Reads, spelled, right_until}
 
 -- the form, the text that is still to come of the other source and whether that has failed, where the text is, how many of
 -- its characters were right, and whether a call has failed
@@ -45,3 +45,22 @@ fault_in a = if is_wrong a.spot.place then misspelled a.form a.at else fault.Fai
 -- what a call fails for, and nothing else: its text goes wrong, the source of that failed, or it has some 2^64 characters
 abbrev pub HasCause : Decoding → (room : ℕ) → Type 0
 HasCause a room = (is_wrong a.spot.place ≡ true) ⊎ ((a.text_failed ≡ true) ⊎ ((2 ^ 64 ≤ a.at + room) ⊎ (2 ^ 64 ≤ a.spot.spare + room)))
+
+-- ---- a text in a buffer of the caller's
+
+-- how far it was read
+pub record TextRead : Type 0 where
+  pub form : Form
+  pub spot : Spot
+  pub at : ℕ
+
+-- more characters of it were read, and spell these bytes; `at` counts those that are right
+pub record ReadsOn (old new : TextRead) (text out : List ℕ) : Type 0 where
+  pub taken : ℕ
+  pub reads : Reads old.spot new.spot text [] out taken
+  pub counted : new.at ≡ min (old.at + taken) (2 ^ 64 - 1)
+  pub form : new.form ≡ old.form
+
+-- what is wrong with the text, if something is
+abbrev pub text_fault : TextRead → Option InputFault
+text_fault a = if is_wrong a.spot.place then Some (misspelled a.form a.at) else None

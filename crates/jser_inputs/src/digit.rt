@@ -1,5 +1,5 @@
 //! The characters of a text: white space, and the digits with their values.
-ghost use Rattle.std.specs.Prelude.{◌≡◌, ◌<◌, IfSome};
+ghost use Rattle.std.specs.Prelude.{◌≡◌, ◌<◌, IfSome, unwrap_or};
 ghost use Rattle.hex.specs.Hex.{hex_digit_value};
 ghost use Rattle.jser_inputs.specs.Digits.{is_space, shared_value, standard_value, url_safe_value, value_in};
 
@@ -37,45 +37,54 @@ pub(crate) fn base64_digit(alphabet: Alphabet, byte: u8) -> Option<u8>
     ensures value { result ≡ value_in alphabet byte }
     ensures small { IfSome result (λ value. value < 64) }
 {
-    match alphabet {
+    let value = match alphabet {
         Alphabet::Standard => standard_value(byte),
         Alphabet::UrlSafe => url_safe_value(byte),
-    }
+    };
+    if value < NO_DIGIT { Some(value) } else { None }
 }
 
+/// In place of the value of what is no digit. A text's digits come in any order, so that a processor cannot guess which of the
+/// ranges below comes next: a value that is chosen costs less than one that is jumped to.
+const NO_DIGIT: u8 = 64;
+
 /// The value of a digit of the standard alphabet.
-fn standard_value(byte: u8) -> Option<u8>
-    ensures value { result ≡ standard_value byte }
-    ensures small { IfSome result (λ value. value < 64) }
+fn standard_value(byte: u8) -> u8
+    ensures { result ≡ unwrap_or (standard_value byte) 64 }
 {
-    match byte {
-        b'+' => Some(62),
-        b'/' => Some(63),
-        _ => shared_value(byte),
+    if byte == b'+' {
+        62
+    } else if byte == b'/' {
+        63
+    } else {
+        shared_value(byte)
     }
 }
 
 /// The value of a digit of the URL-safe alphabet.
-fn url_safe_value(byte: u8) -> Option<u8>
-    ensures value { result ≡ url_safe_value byte }
-    ensures small { IfSome result (λ value. value < 64) }
+fn url_safe_value(byte: u8) -> u8
+    ensures { result ≡ unwrap_or (url_safe_value byte) 64 }
 {
-    match byte {
-        b'-' => Some(62),
-        b'_' => Some(63),
-        _ => shared_value(byte),
+    if byte == b'-' {
+        62
+    } else if byte == b'_' {
+        63
+    } else {
+        shared_value(byte)
     }
 }
 
 /// The value of a digit that both alphabets have.
-fn shared_value(byte: u8) -> Option<u8>
-    ensures value { result ≡ shared_value byte }
-    ensures small { IfSome result (λ value. value < 64) }
+fn shared_value(byte: u8) -> u8
+    ensures { result ≡ unwrap_or (shared_value byte) 64 }
 {
-    match byte {
-        b'A'..=b'Z' => Some(byte - b'A'),
-        b'a'..=b'z' => Some(byte - b'a' + 26),
-        b'0'..=b'9' => Some(byte - b'0' + 52),
-        _ => None,
+    if (b'A'..=b'Z').contains(&byte) {
+        byte - b'A'
+    } else if (b'a'..=b'z').contains(&byte) {
+        byte - b'a' + 26
+    } else if (b'0'..=b'9').contains(&byte) {
+        byte - b'0' + 52
+    } else {
+        NO_DIGIT
     }
 }

@@ -4,11 +4,12 @@ use Rattle.std.specs.Str.{bytes_eq}
 use Rattle.clap.specs.declared.error.ErrorKind.TheVariants.{OutOfMemory}
 use Rattle.clap.specs.Words.{kind_of, takes, App, Row, Text, first_of, new_app, subcommand_of, with_rule, with_subcommand}
 use Rattle.jser_line.specs.declared.args.Forms.{Forms}
+use Rattle.jser_line.specs.declared.records.Records.{Records}
 use Rattle.jser_line.specs.declared.line.Line.{Line}
 use Rattle.jser_line.specs.declared.line.Line.TheVariants as line
 use Rattle.jser_line.specs.declared.line.LineFault.{LineFault}
 use Rattle.jser_line.specs.declared.line.LineFault.TheVariants as fault
-use Rattle.jser_line.specs.Args.{FilterWords, anywhere_rule, file_rule, files_rule, filters_asked, filters_in, forms_in, is_true, json_rule, limit_rule, paths_rule, refused_rule, text_in, texts_in, with_filter_rules, with_form_rules, with_strict_filter_rules}
+use Rattle.jser_line.specs.Args.{FilterWords, anywhere_rule, field_rule, file_rule, files_rule, filters_asked, filters_in, forms_in, frames_rule, is_true, json_rule, limit_rule, most_rule, pass_rule, paths_rule, refused_rule, sized_rule, text_in, texts_in, with_filter_rules, with_form_rules, with_strict_filter_rules, zero_rule}
 
 -- [--filter T | --filter-file F] [--modules M] [--strict] [--hex | --base64 | --base64url] [--anywhere] FILE
 abbrev pub with_check_rules : App → App
@@ -42,15 +43,48 @@ suggest_app = with_rule (with_form_rules (new_app (codes "suggest"))) files_rule
 abbrev pub explain_app : App
 explain_app = with_check_rules (new_app (codes "explain"))
 
+-- [--frames] [--sized] [--zero]
+abbrev pub with_shape_rules : App → App
+with_shape_rules app = with_rule (with_rule (with_rule app frames_rule) sized_rule) zero_rule
+
+-- the same, and [--field N] [--most N]
+abbrev pub with_layout_rules : App → App
+with_layout_rules app = with_rule (with_rule (with_shape_rules app) field_rule) most_rule
+
+-- the same, and [--anywhere] [--refused] [--json] [--pass]
+abbrev pub with_more_rules : App → App
+with_more_rules app = with_rule (with_answer_rules (with_layout_rules app)) pass_rule
+
+-- serialcheck records [--filter T | --filter-file F] [--modules M] [--strict] [--hex | --base64 | --base64url | --frames | --sized]
+-- [--zero] [--field N] [--most N] [--anywhere] [--refused] [--json] [--pass] FILE
+abbrev pub records_app : App
+records_app = with_rule (with_more_rules (with_form_rules (with_strict_filter_rules (new_app (codes "records"))))) file_rule
+
 -- a command that has a version to tell
 abbrev pub versioned : App → App
 versioned app = record app { top = record app.top { has_version = true } }
 
 abbrev pub the_app : App
 the_app =
-    with_subcommand (with_subcommand
+    with_subcommand (with_subcommand (with_subcommand
     (with_subcommand (with_subcommand (with_subcommand (with_subcommand (versioned (new_app (codes "serialcheck"))) check_app.top) show_app.top) list_app.top) scan_app.top)
-    suggest_app.top) explain_app.top
+    suggest_app.top) explain_app.top) records_app.top
+
+-- what the words of records ask for
+pub record RecordsAsked : Type 0 where
+  pub filters : FilterWords
+  pub strict : Bool
+  pub forms : Forms
+  pub frames : Bool
+  pub sized : Bool
+  pub zero : Bool
+  pub field : Option Text
+  pub most : Option Text
+  pub anywhere : Bool
+  pub refused : Bool
+  pub json : Bool
+  pub pass : Bool
+  pub file : Text
 
 -- what the words ask for
 pub data Asked : Type 0 where
@@ -60,6 +94,7 @@ pub data Asked : Type 0 where
   scan : FilterWords → (strict : Bool) → Forms → (anywhere refused json : Bool) → (paths : List Text) → Asked
   suggest : Forms → (files : List Text) → Asked
   explain : FilterWords → (strict : Bool) → Forms → (anywhere : Bool) → (file : Text) → Asked
+  records : RecordsAsked → Asked
 
 abbrev pub check_in : List Row → Asked
 check_in rows =
@@ -83,6 +118,23 @@ abbrev pub explain_in : List Row → Asked
 explain_in rows =
     explain (filters_in rows) (is_true (first_of (codes "strict") rows)) (forms_in rows) (is_true (first_of (codes "anywhere") rows)) (text_in rows (codes "file"))
 
+abbrev pub records_in : List Row → Asked
+records_in rows = records (record {
+  filters = filters_in rows;
+  strict = is_true (first_of (codes "strict") rows);
+  forms = forms_in rows;
+  frames = is_true (first_of (codes "frames") rows);
+  sized = is_true (first_of (codes "sized") rows);
+  zero = is_true (first_of (codes "zero") rows);
+  field = first_of (codes "field") rows;
+  most = first_of (codes "most") rows;
+  anywhere = is_true (first_of (codes "anywhere") rows);
+  refused = is_true (first_of (codes "refused") rows);
+  json = is_true (first_of (codes "json") rows);
+  pass = is_true (first_of (codes "pass") rows);
+  file = text_in rows (codes "file");
+})
+
 -- what a subcommand with these matches asks for
 abbrev pub asked_by : Text × List Row → Option Asked
 asked_by found =
@@ -92,11 +144,29 @@ asked_by found =
     else (if bytes_eq found.0 (codes "scan") then Some (scan_in found.1)
     else (if bytes_eq found.0 (codes "suggest") then Some (suggest_in found.1)
     else (if bytes_eq found.0 (codes "explain") then Some (explain_in found.1)
-    else None)))))
+    else (if bytes_eq found.0 (codes "records") then Some (records_in found.1)
+    else None))))))
 
 -- what the words ask for, by clap's own definition of the matches
 abbrev pub asked_in : List Text → Option Asked
 asked_in words = option_and_then asked_by (subcommand_of the_app words)
+
+abbrev pub records_asked : Records → RecordsAsked
+records_asked words = record {
+  filters = filters_asked words.filters;
+  strict = words.strict;
+  forms = words.forms;
+  frames = words.frames;
+  sized = words.sized;
+  zero = words.zero;
+  field = option_map string_bytes words.field;
+  most = option_map string_bytes words.most;
+  anywhere = words.anywhere;
+  refused = words.refused;
+  json = words.json;
+  pass = words.pass;
+  file = string_bytes words.file;
+}
 
 abbrev pub line_asks : Line → Asked
 line_asks (line.Check filters strict forms anywhere file) = check (filters_asked filters) strict forms anywhere (string_bytes file)
@@ -106,6 +176,7 @@ line_asks (line.Scan filters strict forms anywhere refused json paths) =
     scan (filters_asked filters) strict forms anywhere refused json (map string_bytes paths.items)
 line_asks (line.Suggest forms files) = suggest forms (map string_bytes files.items)
 line_asks (line.Explain filters strict forms anywhere file) = explain (filters_asked filters) strict forms anywhere (string_bytes file)
+line_asks (line.Records words) = records (records_asked words)
 
 -- clap's own definition does not take the words, unless memory ran out
 abbrev pub IsMistake : List Text → LineFault → Type 0

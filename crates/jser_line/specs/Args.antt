@@ -47,6 +47,24 @@ refused_rule = flag_rule (codes "refused")
 abbrev pub json_rule : Rule
 json_rule = flag_rule (codes "json")
 
+abbrev pub frames_rule : Rule
+frames_rule = flag_rule (codes "frames")
+
+abbrev pub sized_rule : Rule
+sized_rule = flag_rule (codes "sized")
+
+abbrev pub zero_rule : Rule
+zero_rule = flag_rule (codes "zero")
+
+abbrev pub field_rule : Rule
+field_rule = option_rule (codes "field")
+
+abbrev pub most_rule : Rule
+most_rule = option_rule (codes "most")
+
+abbrev pub pass_rule : Rule
+pass_rule = flag_rule (codes "pass")
+
 -- files and folders, one or more
 abbrev pub paths_rule : Rule
 paths_rule = record (new_rule (codes "path")) { required = true; action = Some Append }

@@ -1,12 +1,12 @@
 -- Options that exclude one another: a filter is a text or a file, and an input has one form.
-use Rattle.std.specs.Prelude.{◌&&◌, if◌then◌else◌, Option, Some, None, is_some}
+use Rattle.std.specs.Prelude.{◌&&◌, ◌||◌, Bool, if◌then◌else◌, Option, Some, None, is_some}
 use Rattle.jser_inputs.specs.declared.Form.{Form}
 use Rattle.jser_inputs.specs.declared.Form.TheVariants as form
 use Rattle.jser_line.specs.declared.args.Forms.{Forms}
 use Rattle.jser_line.specs.declared.clash.Clash.{Clash}
 use Rattle.jser_line.specs.declared.clash.Clash.TheVariants as clash
 use Rattle.jser_line.specs.Args.{FilterWords}
-use Rattle.jser_line.specs.App.{Asked, check, show, list, scan, suggest, explain}
+use Rattle.jser_line.specs.App.{Asked, check, show, list, scan, suggest, explain, records, RecordsAsked}
 
 abbrev pub form_in : Forms → Form
 form_in forms =
@@ -22,6 +22,22 @@ clash_of_forms forms =
 abbrev pub clash_of : FilterWords → Forms → Option Clash
 clash_of filters forms = if is_some filters.text && is_some filters.file then Some clash.Filters else clash_of_forms forms
 
+-- one of the forms is named
+abbrev pub is_named : Forms → Bool
+is_named forms = forms.hex || (forms.base64 || forms.base64url)
+
+-- records are lines of one form, frames, or sized; NUL and fields are of lines
+abbrev pub clash_of_layout : RecordsAsked → Option Clash
+clash_of_layout asked =
+    if asked.frames && (asked.sized || is_named asked.forms) then Some clash.FramesAndForm
+    else if asked.sized && is_named asked.forms then Some clash.SizedAndForm
+    else if (asked.frames || asked.sized) && (asked.zero || is_some asked.field) then Some clash.LinesAlone
+    else None
+
+abbrev pub first_clash : (first second : Option Clash) → Option Clash
+first_clash (Some clash) second = Some clash
+first_clash None second = second
+
 abbrev pub clash_in : Asked → Option Clash
 clash_in (check filters strict forms anywhere file) = clash_of filters forms
 clash_in (show forms limit file) = clash_of_forms forms
@@ -29,3 +45,4 @@ clash_in (list filters forms anywhere file) = clash_of filters forms
 clash_in (scan filters strict forms anywhere refused json paths) = clash_of filters forms
 clash_in (suggest forms files) = clash_of_forms forms
 clash_in (explain filters strict forms anywhere file) = clash_of filters forms
+clash_in (records asked) = first_clash (clash_of asked.filters asked.forms) (clash_of_layout asked)

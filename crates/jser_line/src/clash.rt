@@ -1,12 +1,13 @@
 //! Options of a line that exclude one another. clap is told of no rule between arguments, so that what it takes is known in
 //! full.
 ghost use Rattle.std.specs.Prelude.{◌≡◌};
-ghost use Rattle.jser_line.specs.Clashes.{clash_in, clash_of, clash_of_forms, form_in};
+ghost use Rattle.jser_line.specs.Clashes.{clash_in, clash_of, clash_of_forms, clash_of_layout, first_clash, form_in, is_named};
 ghost use Rattle.jser_line.specs.Args.{filters_asked};
-ghost use Rattle.jser_line.specs.App.{line_asks};
+ghost use Rattle.jser_line.specs.App.{line_asks, records_asked};
 
 use crate::args::{Filters, Forms};
 use crate::line::Line;
+use crate::records::Records;
 use jser_inputs::Form;
 
 /// Two options that are both given, and exclude one another.
@@ -20,6 +21,12 @@ pub enum Clash {
     HexAndBase64Url,
     /// `--base64` and `--base64url`.
     BothBase64,
+    /// `--frames` and another form.
+    FramesAndForm,
+    /// `--sized` and another form.
+    SizedAndForm,
+    /// `--frames` or `--sized`, and `--zero` or `--field`, which are of lines.
+    LinesAlone,
 }
 
 impl Forms {
@@ -37,6 +44,13 @@ impl Forms {
             Form::Binary
         }
     }
+
+    /// Whether one is asked for.
+    fn is_named(self) -> bool
+        ensures { result ≡ is_named self }
+    {
+        self.hex || self.base64 || self.base64url
+    }
 }
 
 impl Line {
@@ -49,6 +63,10 @@ impl Line {
             | Line::List { filters, forms, .. }
             | Line::Scan { filters, forms, .. }
             | Line::Explain { filters, forms, .. } => clash_of(filters, *forms),
+            Line::Records(records) => first_clash(
+                clash_of(&records.filters, records.forms),
+                clash_of_layout(records),
+            ),
             Line::Show { forms, .. } | Line::Suggest { forms, .. } => clash_of_forms(*forms),
         }
     }
@@ -61,6 +79,31 @@ fn clash_of(filters: &Filters, forms: Forms) -> Option<Clash>
     match (&filters.text, &filters.file) {
         (Some(_), Some(_)) => Some(Clash::Filters),
         _ => clash_of_forms(forms),
+    }
+}
+
+/// The first of two.
+fn first_clash(first: Option<Clash>, second: Option<Clash>) -> Option<Clash>
+    ensures { result ≡ first_clash first second }
+{
+    match first {
+        Some(clash) => Some(clash),
+        None => second,
+    }
+}
+
+/// That of how records lie in an input.
+fn clash_of_layout(records: &Records) -> Option<Clash>
+    ensures { result ≡ clash_of_layout (records_asked records.now) }
+{
+    if records.frames && (records.sized || records.forms.is_named()) {
+        Some(Clash::FramesAndForm)
+    } else if records.sized && records.forms.is_named() {
+        Some(Clash::SizedAndForm)
+    } else if (records.frames || records.sized) && (records.zero || records.field.is_some()) {
+        Some(Clash::LinesAlone)
+    } else {
+        None
     }
 }
 

@@ -1,11 +1,12 @@
 //! The program's command line, as clap reads it.
 ghost use Rattle.std.specs.Prelude.{◌≡◌, IfOk, codes};
 ghost use Rattle.clap.specs.Words.{app_of, new_app, with_subcommand};
-ghost use Rattle.jser_line.specs.App.{check_app, show_app, list_app, scan_app, suggest_app, explain_app, versioned, the_app};
+ghost use Rattle.jser_line.specs.App.{check_app, show_app, list_app, scan_app, suggest_app, explain_app, records_app, versioned, the_app};
 
 use crate::check::check_command;
 use crate::explain::explain_command;
 use crate::list::list_command;
+use crate::records::records_command;
 use crate::scan::scan_command;
 use crate::show::show_command;
 use crate::suggest::suggest_command;
@@ -17,10 +18,10 @@ const VERSION: &str = "0.1.0";
 
 /// What `--help` tells of the statuses, with an example.
 const STATUSES: &str = "Statuses:
-  0  accepted, shown or suggested; of scan, all are accepted
-  1  refused; of scan, one is; of suggest, one is no good stream
+  0  accepted, shown or suggested; of scan and records, all are accepted
+  1  refused; of scan and records, one is; of suggest, one is no good stream
   2  the command line, the filter or the modules are at fault; --help and --version
-  3  something was not opened, read, decoded or written, or memory ran out; of scan, for one file
+  3  something was not opened, read, decoded or written, or memory ran out; of scan and records, for one
   4  shown as far as --limit allows
 
 Example:
@@ -37,7 +38,8 @@ pub(crate) fn command<'a>(alloc: Global) -> Result<Command<'a>, AllocError>
     let three = with_list(alloc, two)?;
     let four = with_scan(alloc, three)?;
     let five = with_suggest(alloc, four)?;
-    with_explain(alloc, five)
+    let six = with_explain(alloc, five)?;
+    with_records(alloc, six)
 }
 
 /// The program's command, without its subcommands.
@@ -102,4 +104,13 @@ fn with_explain<'a>(alloc: Global, command: Command<'a>) -> Result<Command<'a>, 
 {
     let explain = explain_command(alloc)?;
     command.subcommand(explain)
+}
+
+/// The command, with `records` as one more subcommand.
+#[tactic(auto, using(crate::proofs::WordLemmas::subcommand_added))]
+fn with_records<'a>(alloc: Global, command: Command<'a>) -> Result<Command<'a>, AllocError>
+    ensures { IfOk result (λ all. app_of all ≡ with_subcommand (app_of command.entry) records_app.top) }
+{
+    let records = records_command(alloc)?;
+    command.subcommand(records)
 }

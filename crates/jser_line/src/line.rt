@@ -8,6 +8,7 @@ use crate::check::check_line;
 use crate::command::command;
 use crate::explain::explain_line;
 use crate::list::list_line;
+use crate::records::{Records, records_line};
 use crate::scan::scan_line;
 use crate::show::show_line;
 use crate::suggest::suggest_line;
@@ -57,6 +58,8 @@ pub enum Line {
         /// The files and folders, or `-` for standard input.
         paths: Vec<String>,
     },
+    /// Check many streams in one input.
+    Records(Records),
     /// Suggest the least filter that admits some good streams.
     Suggest {
         /// The form of the files.
@@ -158,6 +161,9 @@ fn asked(alloc: Global, name: &str, matches: &ArgMatches<'_>) -> Result<Option<L
     }
     if name == "explain" {
         return Ok(Some(explain_line(alloc, matches)?));
+    }
+    if name == "records" {
+        return Ok(Some(records_line(alloc, matches)?));
     }
     Ok(None)
 }

@@ -38,7 +38,10 @@ pub(crate) fn scan_command<'a>(alloc: Global) -> Result<Command<'a>, AllocError>
 }
 
 /// The command, with the arguments that say what is asked and what is printed.
-fn with_answers<'a>(alloc: Global, command: Command<'a>) -> Result<Command<'a>, AllocError>
+pub(crate) fn with_answers<'a>(
+    alloc: Global,
+    command: Command<'a>,
+) -> Result<Command<'a>, AllocError>
     requires local { (out-Command command).has_globals ≡ false }
     ensures app { IfOk result (λ answered. app_of answered ≡ with_answer_rules (app_of command.entry)) }
     ensures local { IfOk result (λ answered. (out-Command answered).has_globals ≡ false) }
@@ -56,7 +59,7 @@ fn refused_arg<'a>(alloc: Global) -> Arg<'a>
     Arg::new(alloc, "refused")
         .long("refused")
         .action(ArgAction::SetTrue)
-        .help("Leaves out the files that are accepted")
+        .help("Leaves out the files or records that are accepted")
 }
 
 /// Whether JSON is printed.
@@ -67,7 +70,7 @@ fn json_arg<'a>(alloc: Global) -> Arg<'a>
     Arg::new(alloc, "json")
         .long("json")
         .action(ArgAction::SetTrue)
-        .help("Prints a JSON object on a line for each file")
+        .help("Prints a JSON object on a line for each file or record")
 }
 
 /// The files and folders.

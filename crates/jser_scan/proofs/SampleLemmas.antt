@@ -3,11 +3,12 @@ use Rattle.std.proofs.Common.{◌≡◌, ℕ, ◌≤◌, Bool, true, List, ◌++
 use Rattle.std.specs.Io.KnownBytes.{Appends, Keeps}
 use Rattle.jser_prim.specs.ModifiedUtf8.{utf16_units}
 use Rattle.jser_filter.specs.Pieces.{pieces_of}
-use Rattle.jser_suggest.specs.Suggested.{Known, suggested}
+use Rattle.jser_suggest.specs.Suggested.{Known, suggested, suggested_text}
 use Rattle.jser_scan.specs.Samples.{LeavesSuggested, SaysSomeSuggested, SaysSuggested, SpellsSuggested}
 
-pub line_says : (known : Known) (text line : List ℕ) → pieces_of (utf16_units text) ≡ suggested known → line ≡ text ++ codes "\n" → SpellsSuggested known line
-line_says known text line pieces is = record { text = text; pieces = pieces; line_is = is }
+pub line_says : (known : Known) (text line : List ℕ) → utf16_units text ≡ suggested_text known → pieces_of (utf16_units text) ≡ suggested known → line ≡ text ++ codes "\n"
+    → SpellsSuggested known line
+line_says known text line units pieces is = record { text = text; units = units; pieces = pieces; line_is = is }
 
 -- ---- what went out of it
 

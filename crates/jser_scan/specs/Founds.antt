@@ -37,6 +37,15 @@ IsRefusal rules refusal found.NotOpened = ⊥
 IsRefusal rules refusal (found.NotRead fault) = ⊥
 IsRefusal rules refusal found.OutOfMemory = Unit {0}
 
+-- a name that can be read at these places and is told so, or that memory ran out
+abbrev pub IsHidden : Rules → (from to : ℕ) → Found → Type 0
+IsHidden rules from to (found.Accepted totals) = ⊥
+IsHidden rules from to (found.Refused refusal class) = ⊥
+IsHidden rules from to (found.Hidden starts ends class) = ((starts ≡ from) × (ends ≡ to)) × IsRefusedName rules class
+IsHidden rules from to found.NotOpened = ⊥
+IsHidden rules from to (found.NotRead fault) = ⊥
+IsHidden rules from to found.OutOfMemory = Unit {0}
+
 -- A file is told as not read where its input failed, by the fault that the input tells, and nowhere else.
 abbrev pub FailsAs : Found → (failed_before failed_after : Bool) → (why : InputFault) → Type 0
 FailsAs (found.Accepted totals) failed_before failed_after why = failed_after ≡ failed_before

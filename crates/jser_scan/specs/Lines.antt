@@ -41,8 +41,11 @@ says_found how path result k =
 abbrev pub printed : How → FilePath → Found → List ℕ
 printed how path result = says_found how path result []
 
--- F files, A accepted, R refused, T not read
-abbrev pub summary_words : Tally → List ℕ → List ℕ
-summary_words tally k =
-    decimal tally.files ++ count_words (codes " files, ") tally.accepted
+-- F files, A accepted, R refused, T not read; in place of files other things may be counted
+abbrev pub counted_words : List ℕ → Tally → List ℕ → List ℕ
+counted_words things tally k =
+    decimal tally.files ++ count_words things tally.accepted
     (count_words (codes " accepted, ") tally.refused (count_words (codes " refused, ") tally.unread (codes " not read\n" ++ k)))
+
+abbrev pub summary_words : Tally → List ℕ → List ℕ
+summary_words tally k = counted_words (codes " files, ") tally k

@@ -17,9 +17,12 @@ is_plain_behind before (b ∷ bytes) = (is_sign b && not (before == 0x3A && b ==
 abbrev pub is_plain : List ℕ → Bool
 is_plain bytes = is_plain_behind 0x3A bytes
 
--- as it is, or quoted as a class name is
+-- a text with its units, as it is, or quoted as a class name is
+abbrev pub text_words : (bytes units : List ℕ) → List ℕ → List ℕ
+text_words bytes units k = if is_plain bytes then bytes ++ k else quoted units k
+
 abbrev pub path_words : FilePath → List ℕ → List ℕ
-path_words path k = if is_plain (string_bytes path.text) then string_bytes path.text ++ k else quoted path.units.items k
+path_words path k = text_words (string_bytes path.text) path.units.items k
 
 -- cannot open PATH
 abbrev pub unopened_words : FilePath → List ℕ → List ℕ

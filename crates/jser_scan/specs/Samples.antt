@@ -6,7 +6,7 @@ use Rattle.jser_filter.specs.Pieces.{pieces_of}
 use Rattle.jser_shown.specs.Words.{quoted}
 use Rattle.jser_reader.specs.declared.Stop.TheVariants as stop
 use Rattle.jser_settings.specs.Settings.{Tells, TellsNoMemory}
-use Rattle.jser_suggest.specs.Suggested.{Known, suggested}
+use Rattle.jser_suggest.specs.Suggested.{Known, suggested, suggested_text}
 use Rattle.jser_suggest.specs.declared.SampleFault.{SampleFault}
 use Rattle.jser_suggest.specs.declared.SampleFault.TheVariants as fault
 use Rattle.jser_scan.specs.declared.found.Found.TheVariants as found
@@ -14,9 +14,10 @@ use Rattle.jser_scan.specs.declared.path.FilePath.{FilePath}
 use Rattle.jser_scan.specs.Lines.{line_words}
 use Rattle.jser_scan.specs.Paths.{path_words}
 
--- the line of a text which a filter reads as the suggested pieces
+-- the line of the suggested text, which a filter reads as the suggested pieces
 pub record SpellsSuggested (known : Known) (line : List ℕ) : Type 0 where
   pub text : List ℕ
+  pub units : utf16_units text ≡ suggested_text known
   pub pieces : pieces_of (utf16_units text) ≡ suggested known
   pub line_is : line ≡ text ++ codes "\n"
 

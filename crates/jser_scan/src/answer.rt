@@ -12,7 +12,7 @@ use jser_reader::{Reason, Totals};
 
 /// Writes what was found.
 #[tactic(auto, using(crate::proofs::ScanLemmas::says_refused, crate::proofs::ScanLemmas::says_hidden))]
-pub(crate) fn write_answer<W: Sink>(outbox: &mut Outbox, sink: &mut W, found: &Found)
+pub fn write_answer<W: Sink>(outbox: &mut Outbox, sink: &mut W, found: &Found)
     ensures { SaysTo W.gone_out W.has_failed outbox.old outbox.new sink.old sink.new (λ k. answer_words found.now k) }
 {
     match found {
@@ -38,7 +38,7 @@ pub(crate) fn write_answer<W: Sink>(outbox: &mut Outbox, sink: &mut W, found: &F
 }
 
 /// Writes some words and a number.
-pub(crate) fn write_count<W: Sink>(outbox: &mut Outbox, sink: &mut W, words: &[u8], count: u64)
+pub fn write_count<W: Sink>(outbox: &mut Outbox, sink: &mut W, words: &[u8], count: u64)
     ensures { SaysTo W.gone_out W.has_failed outbox.old outbox.new sink.old sink.new (λ k. count_words words.now count k) }
 {
     write(outbox, sink, words);

@@ -1,9 +1,10 @@
 //! The check of one file.
 ghost use Rattle.std.specs.Prelude.{◌≡◌, IfSome};
-ghost use Rattle.jser_scan.specs.Founds.{FailsAs, IsFound, IsFoundAnywhere, IsFoundBy, IsRefusal};
+ghost use Rattle.jser_scan.specs.Founds.{FailsAs, IsFound, IsFoundAnywhere, IsFoundBy, IsHidden, IsRefusal};
 
 use crate::class::{hidden_name, refused_name};
 use crate::found::Found;
+use crate::last::LastBytes;
 use crate::tail::Tail;
 use jser_check::{CheckFault, Options, Stop, check_reader};
 use jser_check_anywhere::{AnywhereFault, check_anywhere};
@@ -51,7 +52,12 @@ fn check<R: Input>(alloc: Global, rules: &Rules, tail: &mut Tail<R>) -> Found
     };
     match check_reader(alloc, tail, &rules.filter, options) {
         Ok(totals) => Found::Accepted(totals),
-        Err(CheckFault::Stop(Stop::Refused(refusal))) => refused(alloc, rules, tail, refusal),
+        Err(CheckFault::Stop(Stop::Refused(refusal))) => refused(
+            alloc,
+            rules,
+            tail.last(),
+            refusal,
+        ),
         Err(CheckFault::Stop(_)) => Found::OutOfMemory,
         Err(CheckFault::ReadFault) => Found::NotRead(tail.fault()),
     }
@@ -68,34 +74,46 @@ fn check_names<R: Input>(alloc: Global, rules: &Rules, tail: &mut Tail<R>) -> Fo
     };
     match check_anywhere(alloc, tail, &rules.filter, options) {
         Ok(totals) => Found::Accepted(totals),
-        Err(AnywhereFault::Stop(Stop::Refused(refusal))) => refused(alloc, rules, tail, refusal),
+        Err(AnywhereFault::Stop(Stop::Refused(refusal))) => refused(
+            alloc,
+            rules,
+            tail.last(),
+            refusal,
+        ),
         Err(AnywhereFault::Hidden { from_byte, to_byte }) => {
-            match hidden_name(alloc, rules, tail, from_byte, to_byte) {
-                Ok(class) => Found::Hidden {
-                    from_byte,
-                    to_byte,
-                    class,
-                },
-                Err(_) => Found::OutOfMemory,
-            }
+            hidden(alloc, rules, tail.last(), from_byte, to_byte)
         }
         Err(AnywhereFault::Stop(_)) => Found::OutOfMemory,
         Err(AnywhereFault::ReadFault) => Found::NotRead(tail.fault()),
     }
 }
 
-/// A refusal, with the class name where the filter refused one.
-fn refused<R: Input>(alloc: Global, rules: &Rules, tail: &Tail<R>, refusal: Refusal) -> Found
+/// A refusal of a stream with these last bytes, with the class name where the filter refused one.
+pub fn refused(alloc: Global, rules: &Rules, last: &LastBytes, refusal: Refusal) -> Found
     ensures { IsRefusal rules.now refusal result }
 {
     let class = match refusal.reason {
         Reason::ClassRejected | Reason::ClassUnmatched => {
-            refused_name(alloc, rules, tail, refusal.from_byte, refusal.to_byte)
+            refused_name(alloc, rules, last, refusal.from_byte, refusal.to_byte)
         }
         _ => Ok(None),
     };
     match class {
         Ok(class) => Found::Refused { refusal, class },
+        Err(_) => Found::OutOfMemory,
+    }
+}
+
+/// A name in a stream with these last bytes that can be read at some place, and that does not pass.
+pub fn hidden(alloc: Global, rules: &Rules, last: &LastBytes, from_byte: u64, to_byte: u64) -> Found
+    ensures { IsHidden rules.now from_byte to_byte result }
+{
+    match hidden_name(alloc, rules, last, from_byte, to_byte) {
+        Ok(class) => Found::Hidden {
+            from_byte,
+            to_byte,
+            class,
+        },
         Err(_) => Found::OutOfMemory,
     }
 }

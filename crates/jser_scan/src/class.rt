@@ -3,55 +3,54 @@ ghost use Rattle.std.specs.Prelude.{IfOk};
 ghost use Rattle.jser_scan.specs.Founds.{IsRefusedName};
 
 use crate::check::Rules;
-use crate::tail::Tail;
+use crate::last::LastBytes;
 use jser_anywhere::named_class;
 use jser_check::Options;
 use jser_check_anywhere::passes;
 use jser_grammar::wire::TC_PROXYCLASSDESC;
-use jser_inputs::Input;
 use std::alloc::{AllocError, Global};
 
 /// The name that ends a field of a length and a text, if the bytes are still kept and the filter refuses it.
-pub(crate) fn refused_name<R: Input>(
+pub(crate) fn refused_name(
     alloc: Global,
     rules: &Rules,
-    tail: &Tail<R>,
+    last: &LastBytes,
     from: u64,
     to: u64,
 ) -> Result<Option<Vec<u16>>, AllocError>
     ensures { IfOk result (IsRefusedName rules.now) }
 {
     match from.checked_add(2) {
-        Some(start) => name_between(alloc, rules, tail, start, to),
+        Some(start) => name_between(alloc, rules, last, start, to),
         None => Ok(None),
     }
 }
 
 /// The class of the name that can be read at a place: behind `72`, or the last one of a row behind `7D`.
-pub(crate) fn hidden_name<R: Input>(
+pub(crate) fn hidden_name(
     alloc: Global,
     rules: &Rules,
-    tail: &Tail<R>,
+    last: &LastBytes,
     from: u64,
     to: u64,
 ) -> Result<Option<Vec<u16>>, AllocError>
     ensures { IfOk result (IsRefusedName rules.now) }
 {
-    match start_of_name(tail, from, to) {
-        Some(start) => class_between(alloc, rules, tail, start, to),
-        None if tail.ran_out() => Err(AllocError),
+    match start_of_name(last, from, to) {
+        Some(start) => class_between(alloc, rules, last, start, to),
+        None if last.ran_out() => Err(AllocError),
         None => Ok(None),
     }
 }
 
 /// Where the text begins that ends at `to`.
-fn start_of_name<R: Input>(tail: &Tail<R>, from: u64, to: u64) -> Option<u64> {
-    let is_row = tail.byte_at(from)? == TC_PROXYCLASSDESC;
+fn start_of_name(last: &LastBytes, from: u64, to: u64) -> Option<u64> {
+    let is_row = last.byte_at(from)? == TC_PROXYCLASSDESC;
     let mut at = from.checked_add(if is_row { 5 } else { 1 })?;
     for _ in 0..0xFFFFu32 {
         let start = at.checked_add(2)?;
-        let high = u64::from(tail.byte_at(at)?);
-        let low = u64::from(tail.byte_at(start - 1)?);
+        let high = u64::from(last.byte_at(at)?);
+        let low = u64::from(last.byte_at(start - 1)?);
         let end = start.checked_add(high * 256 + low)?;
         if end == to {
             return Some(start);
@@ -62,19 +61,19 @@ fn start_of_name<R: Input>(tail: &Tail<R>, from: u64, to: u64) -> Option<u64> {
 }
 
 /// The name whose text these bytes are, if they are still kept and the filter refuses it.
-fn name_between<R: Input>(
+fn name_between(
     alloc: Global,
     rules: &Rules,
-    tail: &Tail<R>,
+    last: &LastBytes,
     start: u64,
     end: u64,
 ) -> Result<Option<Vec<u16>>, AllocError>
     ensures { IfOk result (IsRefusedName rules.now) }
 {
-    if tail.ran_out() {
+    if last.ran_out() {
         return Err(AllocError);
     }
-    let Some(units) = units_between(alloc, tail, start, end)? else {
+    let Some(units) = units_between(alloc, last, start, end)? else {
         return Ok(None);
     };
     let options = Options {
@@ -88,19 +87,19 @@ fn name_between<R: Input>(
 }
 
 /// The class that these bytes name, if they are still kept and the filter refuses it.
-fn class_between<R: Input>(
+fn class_between(
     alloc: Global,
     rules: &Rules,
-    tail: &Tail<R>,
+    last: &LastBytes,
     start: u64,
     end: u64,
 ) -> Result<Option<Vec<u16>>, AllocError>
     ensures { IfOk result (IsRefusedName rules.now) }
 {
-    if tail.ran_out() {
+    if last.ran_out() {
         return Err(AllocError);
     }
-    let Some(units) = units_between(alloc, tail, start, end)? else {
+    let Some(units) = units_between(alloc, last, start, end)? else {
         return Ok(None);
     };
     let Some(class) = named_class(units.as_slice()) else {
@@ -119,9 +118,9 @@ fn class_between<R: Input>(
 
 /// The units of a text in modified UTF-8, if its bytes are still kept. Longer spellings are read too, as names that can be
 /// read at some place may have them.
-fn units_between<R: Input>(
+fn units_between(
     alloc: Global,
-    tail: &Tail<R>,
+    last: &LastBytes,
     start: u64,
     end: u64,
 ) -> Result<Option<Vec<u16>>, AllocError> {
@@ -129,7 +128,7 @@ fn units_between<R: Input>(
     let mut unit: u16 = 0;
     let mut left: u8 = 0;
     for at in start..end {
-        let Some(byte) = tail.byte_at(at) else {
+        let Some(byte) = last.byte_at(at) else {
             return Ok(None);
         };
         (unit, left) = match byte {

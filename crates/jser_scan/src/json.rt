@@ -28,7 +28,7 @@ pub(crate) fn write_object<W: Sink>(
 
 /// Writes the members behind the path.
 #[tactic(auto, using(crate::proofs::ScanLemmas::members_refused, crate::proofs::ScanLemmas::members_hidden))]
-fn write_members<W: Sink>(outbox: &mut Outbox, sink: &mut W, found: &Found)
+pub fn write_members<W: Sink>(outbox: &mut Outbox, sink: &mut W, found: &Found)
     ensures { SaysTo W.gone_out W.has_failed outbox.old outbox.new sink.old sink.new (λ k. found_members found.now k) }
 {
     match found {

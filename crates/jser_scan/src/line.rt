@@ -1,7 +1,7 @@
 //! The line of a file: its path, and what was found.
 ghost use Rattle.std.specs.Prelude.{◌++◌};
 ghost use Rattle.jser_printer.specs.Says.{SaysTo};
-ghost use Rattle.jser_scan.specs.Paths.{path_words};
+ghost use Rattle.jser_scan.specs.Paths.{path_words, text_words};
 ghost use Rattle.jser_scan.specs.Lines.{line_words};
 
 use crate::answer::write_answer;
@@ -24,10 +24,16 @@ pub(crate) fn write_line<W: Sink>(outbox: &mut Outbox, sink: &mut W, path: &File
 pub fn write_path<W: Sink>(outbox: &mut Outbox, sink: &mut W, path: &FilePath)
     ensures { SaysTo W.gone_out W.has_failed outbox.old outbox.new sink.old sink.new (λ k. path_words path.now k) }
 {
-    let bytes = path.text.as_bytes();
+    write_text(outbox, sink, path.text.as_bytes(), path.units.as_slice());
+}
+
+/// Writes a text with these units, as a path is written.
+pub fn write_text<W: Sink>(outbox: &mut Outbox, sink: &mut W, bytes: &[u8], units: &[u16])
+    ensures { SaysTo W.gone_out W.has_failed outbox.old outbox.new sink.old sink.new (λ k. text_words bytes.now units.now k) }
+{
     if is_plain(bytes) {
         write(outbox, sink, bytes);
     } else {
-        write_quoted(outbox, sink, path.units.as_slice());
+        write_quoted(outbox, sink, units);
     }
 }

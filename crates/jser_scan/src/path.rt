@@ -28,7 +28,7 @@ impl FilePath {
 
 /// Whether a path is printed as it is: none of its characters can do anything to a terminal, end the path, or make another of
 /// it.
-pub(crate) fn is_plain(bytes: &[u8]) -> bool
+pub fn is_plain(bytes: &[u8]) -> bool
     ensures { result ≡ is_plain bytes.now }
 {
     let mut before = b':';

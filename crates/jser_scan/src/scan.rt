@@ -2,7 +2,7 @@
 ghost use Rattle.std.specs.Prelude.{◌≡◌, ◌≢◌, ◌⊎◌, [], IfOk, OnOk, OnErr, true};
 ghost use Rattle.std.specs.Io.KnownBytes.{Appends};
 ghost use Rattle.jser_printer.specs.Says.{SaysTo};
-ghost use Rattle.jser_scan.specs.Lines.{is_accepted, is_unread, line_words, printed, says_found, summary_words};
+ghost use Rattle.jser_scan.specs.Lines.{counted_words, is_accepted, is_unread, line_words, printed, says_found, summary_words};
 
 use crate::answer::write_count;
 use crate::found::Found;
@@ -113,13 +113,25 @@ fn write_found<W: Sink>(outbox: &mut Outbox, sink: &mut W, how: How, path: &File
 /// # Errors
 ///
 /// `Failed` where the sink failed.
-#[tactic(auto, using(crate::proofs::ScanLemmas::went, crate::proofs::ScanLemmas::broke, crate::proofs::ScanLemmas::kept))]
 pub fn print_summary<E: Sink>(tally: Tally, faults: &mut E) -> Result<(), Failed>
     ensures printed { OnOk result (Appends (E.gone_out faults.old) (E.gone_out faults.new) (summary_words tally [])) }
     ensures failed { OnErr result (E.has_failed faults.new ≡ true) }
 {
+    print_counts(b" files, ", tally, faults)
+}
+
+/// Prints the counts of all things, which are named between the first two numbers, as ` files, `.
+///
+/// # Errors
+///
+/// `Failed` where the sink failed.
+#[tactic(auto, using(crate::proofs::ScanLemmas::went, crate::proofs::ScanLemmas::broke, crate::proofs::ScanLemmas::kept))]
+pub fn print_counts<E: Sink>(things: &[u8], tally: Tally, faults: &mut E) -> Result<(), Failed>
+    ensures printed { OnOk result (Appends (E.gone_out faults.old) (E.gone_out faults.new) (counted_words things.now tally [])) }
+    ensures failed { OnErr result (E.has_failed faults.new ≡ true) }
+{
     let mut outbox = Outbox::new();
-    write_summary(&mut outbox, faults, tally);
+    write_tally(&mut outbox, faults, things, tally);
     outbox.flush(faults);
     if outbox.has_failed() {
         Err(Failed)
@@ -128,12 +140,12 @@ pub fn print_summary<E: Sink>(tally: Tally, faults: &mut E) -> Result<(), Failed
     }
 }
 
-/// Writes the counts of all files.
-fn write_summary<W: Sink>(outbox: &mut Outbox, sink: &mut W, tally: Tally)
-    ensures { SaysTo W.gone_out W.has_failed outbox.old outbox.new sink.old sink.new (λ k. summary_words tally k) }
+/// Writes the counts.
+fn write_tally<W: Sink>(outbox: &mut Outbox, sink: &mut W, things: &[u8], tally: Tally)
+    ensures { SaysTo W.gone_out W.has_failed outbox.old outbox.new sink.old sink.new (λ k. counted_words things.now tally k) }
 {
     write_decimal(outbox, sink, tally.files);
-    write_count(outbox, sink, b" files, ", tally.accepted);
+    write_count(outbox, sink, things, tally.accepted);
     write_count(outbox, sink, b" accepted, ", tally.refused);
     write_count(outbox, sink, b" refused, ", tally.unread);
     write(outbox, sink, b" not read\n");

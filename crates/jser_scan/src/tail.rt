@@ -1,23 +1,17 @@
 //! An input that keeps the last bytes that it gave.
 ghost use Rattle.std.specs.Prelude.{◌≡◌};
 
+use crate::last::LastBytes;
 use jser_inputs::{Input, InputFault};
 use jser_prim::{Failed, Source};
 use std::alloc::Global;
 use std::marker::Model;
 
-/// How many of the last bytes are kept at least: a text with its length.
-const MOST: usize = 65_537;
-
-/// An input that keeps the last bytes that it gave, at least 65,537 of them. Where there is no memory for them it keeps
-/// none, and remembers that.
+/// An input that keeps the last bytes that it gave.
 #[derive(Drop)]
 pub(crate) struct Tail<R: Input> {
     source: R,
-    older: Vec<u8>,
-    newer: Vec<u8>,
-    end: u64,
-    ran_out: bool,
+    last: LastBytes,
 }
 
 impl<R: Input> Model for Tail<R> {
@@ -36,10 +30,7 @@ impl<R: Input> Tail<R> {
     {
         Tail {
             source,
-            older: Vec::new(alloc),
-            newer: Vec::new(alloc),
-            end: 0,
-            ran_out: false,
+            last: LastBytes::new(alloc),
         }
     }
 
@@ -51,39 +42,16 @@ impl<R: Input> Tail<R> {
         self.source
     }
 
-    /// Whether there was no memory for the bytes.
-    pub(crate) fn ran_out(&self) -> bool {
-        self.ran_out
-    }
-
-    /// The byte at a place, if it is still kept.
-    pub(crate) fn byte_at(&self, place: u64) -> Option<u8> {
-        let behind = self.end.checked_sub(place)?;
-        let newer = self.newer.len() as u64;
-        let older = self.older.len() as u64;
-        if behind <= newer {
-            self.newer.get((newer - behind) as usize).copied()
-        } else if behind - newer <= older {
-            self.older.get((older - (behind - newer)) as usize).copied()
-        } else {
-            None
-        }
+    /// The last bytes that it gave.
+    pub(crate) fn last(&self) -> &LastBytes {
+        &self.last
     }
 
     /// Keeps more bytes.
     fn keep(&mut self, bytes: &[u8])
         ensures { self.new ≡ self.old }
     {
-        self.end = self.end.saturating_add(bytes.len() as u64);
-        if self.newer.len() >= MOST {
-            std::mem::swap(&mut self.older, &mut self.newer);
-            self.newer.clear();
-        }
-        if self.newer.extend_from_slice(bytes).is_err() {
-            self.older.clear();
-            self.newer.clear();
-            self.ran_out = true;
-        }
+        self.last.keep(bytes);
     }
 }
 

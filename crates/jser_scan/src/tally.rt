@@ -1,6 +1,6 @@
 //! How many files were checked, and with what result.
 ghost use Rattle.std.specs.Prelude.{◌≡◌};
-ghost use Rattle.jser_scan.specs.Tallies.{no_files, noted, status_of};
+ghost use Rattle.jser_scan.specs.Tallies.{no_files, noted, one_accepted, one_refused, one_unread, status_of};
 
 use crate::found::Found;
 use jser_settings::{ACCEPTED, FAILED, REFUSED};
@@ -35,16 +35,35 @@ impl Tally {
     pub fn note(&mut self, found: &Found)
         ensures { self.new ≡ noted self.old found.now }
     {
-        self.files = self.files.saturating_add(1);
         match found {
-            Found::Accepted(_) => self.accepted = self.accepted.saturating_add(1),
-            Found::Refused { .. } | Found::Hidden { .. } => {
-                self.refused = self.refused.saturating_add(1);
-            }
-            Found::NotOpened | Found::NotRead(_) | Found::OutOfMemory => {
-                self.unread = self.unread.saturating_add(1);
-            }
+            Found::Accepted(_) => self.note_accepted(),
+            Found::Refused { .. } | Found::Hidden { .. } => self.note_refused(),
+            Found::NotOpened | Found::NotRead(_) | Found::OutOfMemory => self.note_unread(),
         }
+    }
+
+    /// Counts one that is accepted.
+    pub fn note_accepted(&mut self)
+        ensures { self.new ≡ one_accepted self.old }
+    {
+        self.files = self.files.saturating_add(1);
+        self.accepted = self.accepted.saturating_add(1);
+    }
+
+    /// Counts one that is refused.
+    pub fn note_refused(&mut self)
+        ensures { self.new ≡ one_refused self.old }
+    {
+        self.files = self.files.saturating_add(1);
+        self.refused = self.refused.saturating_add(1);
+    }
+
+    /// Counts one that could not be read.
+    pub fn note_unread(&mut self)
+        ensures { self.new ≡ one_unread self.old }
+    {
+        self.files = self.files.saturating_add(1);
+        self.unread = self.unread.saturating_add(1);
     }
 
     /// The status of all: 3 where one could not be read, else 1 where one was refused, else 0.

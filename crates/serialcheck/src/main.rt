@@ -10,10 +10,12 @@ ghost use Rattle.jser_explain.specs.Explains.{check_of};
 ghost use Rattle.serialcheck.specs.Jobs.{list_of};
 
 mod explain;
+mod records;
 mod scan;
 mod suggest;
 
 use crate::explain::{ExplainOptions, explain_file};
+use crate::records::check_records;
 use crate::scan::{Task, scan_paths};
 use crate::suggest::suggest_from;
 use jser_commands::{Job, run};
@@ -23,8 +25,8 @@ use jser_line::{Clash, Filters, Line, LineFault, line_of, printable};
 use jser_prim::{FromRead, Sink, ToWrite};
 use jser_scan::{FilePath, How, Rules};
 use jser_settings::{
-    FAILED, filter_of, filter_text_in, limit_of, modules_of, note_patterns, tell_failure,
-    tell_misuse,
+    FAILED, filter_of, filter_text_in, limit_of, modules_of, note_modules, note_patterns,
+    tell_failure, tell_misuse,
 };
 use std::alloc::{AllocError, Global};
 use std::env;
@@ -90,21 +92,23 @@ fn on_words<W: Sink, E: Sink>(
     match line_of(alloc, &words) {
         Ok(Some(line)) => match line.clash() {
             None => on_line(rt, &line, output, faults),
-            Some(Clash::Filters) => {
-                tell_misuse(faults, "--filter and --filter-file are both given\n")
-            }
-            Some(Clash::HexAndBase64) => {
-                tell_misuse(faults, "--hex and --base64 are both given\n")
-            }
-            Some(Clash::HexAndBase64Url) => {
-                tell_misuse(faults, "--hex and --base64url are both given\n")
-            }
-            Some(Clash::BothBase64) => {
-                tell_misuse(faults, "--base64 and --base64url are both given\n")
-            }
+            Some(clash) => tell_misuse(faults, clash_line(clash)),
         },
         Ok(None) => tell_misuse(faults, "no command\n"),
         Err(fault) => tell_line_fault(alloc, &fault, faults),
+    }
+}
+
+/// What is told of two options that exclude one another.
+fn clash_line(clash: Clash) -> &'static str {
+    match clash {
+        Clash::Filters => "--filter and --filter-file are both given\n",
+        Clash::HexAndBase64 => "--hex and --base64 are both given\n",
+        Clash::HexAndBase64Url => "--hex and --base64url are both given\n",
+        Clash::BothBase64 => "--base64 and --base64url are both given\n",
+        Clash::FramesAndForm => "--frames and another form are both given\n",
+        Clash::SizedAndForm => "--sized and another form are both given\n",
+        Clash::LinesAlone => "--zero and --field are of lines alone\n",
     }
 }
 
@@ -132,6 +136,7 @@ fn on_line<W: Sink, E: Sink>(rt: &HostRuntime, line: &Line, output: &mut W, faul
             Ok(job) => on_file(rt, &job, forms.form(), file.as_str(), output, faults),
             Err(status) => status,
         },
+        Line::Records(words) => check_records(rt, words, output, faults),
         Line::Suggest { forms, files } => suggest_from(rt, forms.form(), files, output, faults),
         Line::List {
             filters,
@@ -259,7 +264,11 @@ fn borrowed<'a>(alloc: Global, owned: &'a [String]) -> Result<Vec<&'a str>, Allo
 }
 
 /// The filter that the options ask for, with the table of modules of a file, if one is named.
-fn filter_with<E: Sink>(rt: &HostRuntime, filters: &Filters, faults: &mut E) -> Result<Filter, u8>
+pub(crate) fn filter_with<E: Sink>(
+    rt: &HostRuntime,
+    filters: &Filters,
+    faults: &mut E,
+) -> Result<Filter, u8>
     ensures { IfErr result (λ status. (status ≡ 2) ⊎ (status ≡ 3)) }
 {
     match filter_text(rt, filters, faults) {
@@ -327,12 +336,18 @@ pub(crate) fn filter_reading<E: Sink>(
     }
 }
 
-/// The table of modules that a file holds.
+/// The table of modules that a file holds. That it is empty is told.
 fn modules_in<E: Sink>(rt: &HostRuntime, file: &str, faults: &mut E) -> Result<Modules, u8>
     ensures { IfErr result (λ status. (status ≡ 2) ⊎ (status ≡ 3)) }
 {
     match File::open(rt, file) {
-        Ok(opened) => modules_of(rt.alloc(), &mut FromRead::new(opened), faults),
+        Ok(opened) => match modules_of(rt.alloc(), &mut FromRead::new(opened), faults) {
+            Ok(table) => {
+                note_modules(&table, faults);
+                Ok(table)
+            }
+            Err(status) => Err(status),
+        },
         Err(_) => Err(tell_unopened(rt.alloc(), file, faults)),
     }
 }

@@ -5,7 +5,7 @@ use Rattle.clap.specs.Words.{Text}
 use Rattle.jser_inputs.specs.declared.Form.{Form}
 use Rattle.jser_line.specs.declared.Forms.{Forms}
 use Rattle.jser_line.specs.Clashes.{clash_in, form_in}
-use Rattle.jser_line.specs.App.{Asked, check, show, list, scan, suggest, explain}
+use Rattle.jser_line.specs.App.{Asked, check, show, list, scan, suggest, explain, records}
 
 -- the files that are named
 abbrev pub files_of : Asked → List Text
@@ -15,6 +15,7 @@ files_of (list filters forms anywhere file) = file ∷ []
 files_of (scan filters strict forms anywhere refused json paths) = paths
 files_of (suggest forms files) = files
 files_of (explain filters strict forms anywhere file) = file ∷ []
+files_of (records words) = words.file ∷ []
 
 abbrev pub all_files : Option Asked → List Text
 all_files None = []
@@ -33,6 +34,7 @@ forms_of (list filters forms anywhere file) = forms
 forms_of (scan filters strict forms anywhere refused json paths) = forms
 forms_of (suggest forms files) = forms
 forms_of (explain filters strict forms anywhere file) = forms
+forms_of (records words) = words.forms
 
 abbrev pub form_asked : Asked → Option Form
 form_asked asked = if is_some (clash_in asked) then None else Some (form_in (forms_of asked))

@@ -13,7 +13,7 @@ ghost use Rattle.uses_commands.specs.Settings.{all_files, files_of, form_asked, 
 
 use jser_filter::{Modules, Verdict};
 use jser_inputs::Form;
-use jser_line::{Line, LineFault, line_of};
+use jser_line::{Line, LineFault, Records, line_of};
 use jser_prim::{Sink, Source};
 use jser_settings::{filter_in, filter_of, modules_of};
 use std::alloc::{AllocError, Global};
@@ -168,6 +168,23 @@ fn files_in(alloc: Global, line: Line) -> Result<Vec<String>, AllocError>
             anywhere: _,
             file,
         } => alone(alloc, file),
+        Line::Records(
+            Records {
+                filters: _filters,
+                strict: _,
+                forms: _,
+                frames: _,
+                sized: _,
+                zero: _,
+                field: _field,
+                most: _most,
+                anywhere: _,
+                refused: _,
+                json: _,
+                pass: _,
+                file,
+            },
+        ) => alone(alloc, file),
     }
 }
 
@@ -194,5 +211,6 @@ pub fn form_named(line: &Line) -> Option<Form>
         | Line::List { forms, .. }
         | Line::Scan { forms, .. }
         | Line::Suggest { forms, .. } => Some(forms.form()),
+        Line::Records(words) => Some(words.forms.form()),
     }
 }

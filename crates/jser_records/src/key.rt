@@ -1,0 +1,86 @@
+//! The KEY of a record: what its line has beside the value.
+
+ghost use Rattle.std.specs.Prelude.{◌≡◌};
+
+use std::alloc::{AllocError, Global};
+use std::str;
+
+/// How many bytes it has at most.
+const MOST: usize = 65_535;
+
+/// The KEY of a record, in room that is taken once.
+#[derive(Drop)]
+pub(crate) struct Key {
+    bytes: Vec<u8>,
+    is_there: bool,
+    is_lost: bool,
+}
+
+impl Key {
+    /// None so far.
+    pub(crate) fn new(alloc: Global) -> Result<Key, AllocError> {
+        let bytes = Vec::with_capacity(alloc, MOST)?;
+        Ok(Key {
+            bytes,
+            is_there: false,
+            is_lost: false,
+        })
+    }
+
+    /// Begins the next record, which has none so far.
+    pub(crate) fn clear(&mut self) {
+        self.bytes.clear();
+        self.is_there = false;
+        self.is_lost = false;
+    }
+
+    /// Adds a front of the KEY, or what is behind it. `false` where it is too long: then it is lost.
+    pub(crate) fn add(&mut self, bytes: &[u8]) -> bool {
+        let room = MOST.saturating_sub(self.bytes.len());
+        if self.is_lost || bytes.len() > room || self.bytes.extend_from_slice(bytes).is_err() {
+            self.lose();
+            return false;
+        }
+        self.is_there = true;
+        true
+    }
+
+    /// Loses it, as it is too long: the record's number stands for it.
+    pub(crate) fn lose(&mut self) {
+        self.clear();
+        self.is_lost = true;
+    }
+
+    /// Whether the record has one.
+    pub(crate) fn is_there(&self) -> bool
+        ensures { result ≡ self.now.is_there }
+    {
+        self.is_there
+    }
+
+    /// Its bytes, as far as they are known.
+    pub(crate) fn bytes(&self) -> &[u8]
+        ensures { result.now ≡ self.now.bytes.items }
+    {
+        self.bytes.as_slice()
+    }
+}
+
+/// The UTF-16 units of a KEY, with U+FFFD for each byte above 7F where it is not UTF-8.
+pub(crate) fn units_of_key(alloc: Global, bytes: &[u8]) -> Result<Vec<u16>, AllocError> {
+    match str::from_utf8(bytes) {
+        Ok(text) => jser_prim::units_of(alloc, text),
+        Err(_) => {
+            let mut units = Vec::new(alloc);
+            for byte in bytes {
+                let unit = if *byte < 0x80 {
+                    u16::from(*byte)
+                } else {
+                    0xFFFD
+                };
+                units.push(unit)?;
+            }
+            Ok(units)
+        }
+    }
+}

@@ -1,0 +1,24 @@
+//! Many streams in one input: each record is checked, and gets one line, in order.
+//!
+//! A `Layout` says how records lie in the input. `run_records` reads them from any `Source`, and writes their answers, or those
+//! that are accepted, to any `Sink`.
+#![tactic(auto)]
+
+mod answer;
+mod clerk;
+mod frames;
+mod header;
+mod inbox;
+mod judge;
+mod key;
+mod layout;
+mod lines;
+mod parts;
+mod reading;
+mod run;
+mod sized;
+mod words;
+
+pub use answer::Answer;
+pub use layout::{Layout, Lines, Shape};
+pub use run::{Asked, run_records};

@@ -1,0 +1,156 @@
+//! All records of an input, from the first to the counts.
+ghost use Rattle.std.specs.Prelude.{◌≡◌, ◌≢◌, ◌⊎◌};
+
+use crate::clerk::Clerk;
+use crate::frames::read_frames;
+use crate::inbox::Inbox;
+use crate::layout::{Layout, Shape};
+use crate::lines::read_lines;
+use crate::sized::read_sized;
+use jser_prim::{Sink, Source};
+use jser_scan::{How, Rules, Tally, print_counts};
+use jser_settings::tell_failure;
+use std::alloc::Global;
+
+/// What is asked of records.
+#[derive(Clone, Copy, PartialEq, Eq, Debug)]
+pub struct Asked {
+    /// How they lie in the input.
+    pub layout: Layout,
+    /// How their answers are printed.
+    pub how: How,
+    /// Whether the records that are accepted are handed on, and the answers of the others go to standard error.
+    pub pass: bool,
+}
+
+/// Why reading ended before the input did.
+#[derive(Clone, Copy, PartialEq, Eq, Debug)]
+pub(crate) enum Trouble {
+    /// A read failed.
+    Read,
+    /// A write failed.
+    Write,
+    /// There was no memory to begin with.
+    Memory,
+}
+
+/// Checks each record of a source, and writes one answer for each, in order.
+///
+/// What it allocates is what a check does, and room that does not grow: 128 KB for what was read and a KEY of at most 65,535 bytes.
+/// With `pass` it also keeps one record. The status is that of `scan`: 3 where a record could not be read, or a device failed, else 1
+/// where one was refused, else 0.
+pub fn run_records<R: Source + Drop, W: Sink, E: Sink>(
+    alloc: Global,
+    rules: &Rules,
+    asked: Asked,
+    source: R,
+    output: &mut W,
+    faults: &mut E,
+) -> u8
+    ensures status { (result ≡ 0) ⊎ ((result ≡ 1) ⊎ (result ≡ 3)) }
+    ensures unbroken { result ≢ 3 → W.has_failed output.new ≡ W.has_failed output.old }
+{
+    if output.failed() {
+        return tell_failure(faults, "write failed\n");
+    }
+    let read = read_all(alloc, rules, asked, source, output, faults);
+    let has_failed = output.failed();
+    if has_failed {
+        return tell_failure(faults, "write failed\n");
+    }
+    status_of(read, faults)
+}
+
+/// Prints the counts, or what went wrong, and returns the status.
+fn status_of<E: Sink>(read: Result<Tally, Trouble>, faults: &mut E) -> u8
+    ensures { (result ≡ 0) ⊎ ((result ≡ 1) ⊎ (result ≡ 3)) }
+{
+    match read {
+        Ok(tally) => {
+            let _ = print_counts(b" records, ", tally, faults);
+            tally.status()
+        }
+        Err(Trouble::Read) => tell_failure(faults, "read failed\n"),
+        Err(Trouble::Write) => tell_failure(faults, "write failed\n"),
+        Err(Trouble::Memory) => tell_failure(faults, "out of memory\n"),
+    }
+}
+
+/// Reads all records, and writes their answers. The counts are returned.
+fn read_all<R: Source + Drop, W: Sink, E: Sink>(
+    alloc: Global,
+    rules: &Rules,
+    asked: Asked,
+    source: R,
+    output: &mut W,
+    faults: &mut E,
+) -> Result<Tally, Trouble> {
+    match Inbox::new(alloc, source) {
+        Ok(mut inbox) => read_from(alloc, rules, asked, &mut inbox, output, faults),
+        Err(_) => Err(Trouble::Memory),
+    }
+}
+
+/// Reads all records that come there.
+fn read_from<R: Source, W: Sink, E: Sink>(
+    alloc: Global,
+    rules: &Rules,
+    asked: Asked,
+    inbox: &mut Inbox<R>,
+    output: &mut W,
+    faults: &mut E,
+) -> Result<Tally, Trouble> {
+    match Clerk::new(alloc, rules, asked.how, asked.pass, asked.layout.most) {
+        Ok(mut clerk) => read_by(inbox, &mut clerk, asked.layout, output, faults),
+        Err(_) => Err(Trouble::Memory),
+    }
+}
+
+/// Reads all records by this clerk, and writes all that waits.
+fn read_by<R: Source, W: Sink, E: Sink>(
+    inbox: &mut Inbox<R>,
+    clerk: &mut Clerk<'_>,
+    layout: Layout,
+    output: &mut W,
+    faults: &mut E,
+) -> Result<Tally, Trouble> {
+    let read = read_shape(inbox, clerk, layout, output, faults);
+    if clerk.flush(output, faults).is_err() {
+        return Err(Trouble::Write);
+    }
+    match read {
+        Ok(()) => Ok(clerk.tally()),
+        Err(trouble) => Err(trouble),
+    }
+}
+
+/// Reads all records of this layout.
+fn read_shape<R: Source, W: Sink, E: Sink>(
+    inbox: &mut Inbox<R>,
+    clerk: &mut Clerk<'_>,
+    layout: Layout,
+    output: &mut W,
+    faults: &mut E,
+) -> Result<(), Trouble> {
+    match layout.shape {
+        Shape::Lines(lines) => read_lines(inbox, clerk, lines, output, faults),
+        Shape::Frames => read_frames(inbox, clerk, layout.most, output, faults),
+        Shape::Sized => read_sized(inbox, clerk, layout.most, output, faults),
+    }
+}
+
+/// Reads once more, after all that waits has gone out. `false` at the end of the input.
+pub(crate) fn read_more<R: Source, W: Sink, E: Sink>(
+    inbox: &mut Inbox<R>,
+    clerk: &mut Clerk<'_>,
+    output: &mut W,
+    faults: &mut E,
+) -> Result<bool, Trouble> {
+    if clerk.flush(output, faults).is_err() {
+        return Err(Trouble::Write);
+    }
+    match inbox.read() {
+        Ok(more) => Ok(more),
+        Err(_) => Err(Trouble::Read),
+    }
+}

@@ -1,0 +1,140 @@
+//! `records`: opens the input, and hands it to the check of its records.
+ghost use Rattle.std.specs.Prelude.{◌≡◌, ◌≢◌, ◌⊎◌, ◌≤◌, IfErr};
+
+use crate::{filter_with, tell_unopened};
+use jser_inputs::Form;
+use jser_line::Records;
+use jser_prim::{FromRead, Sink};
+use jser_records::{Asked, Layout, Lines, Shape, run_records};
+use jser_scan::{How, Rules};
+use jser_settings::tell_misuse;
+use std::fs::File;
+
+/// How many bytes of a record are read at most, where that is not said.
+const MOST: u64 = 16_777_216;
+
+/// Checks the records of a file, or of standard input where it is named `-`.
+pub(crate) fn check_records<W: Sink, E: Sink>(
+    rt: &HostRuntime,
+    words: &Records,
+    output: &mut W,
+    faults: &mut E,
+) -> u8
+    ensures status { result ≤ 3 }
+    ensures unbroken { result ≢ 3 → W.has_failed output.new ≡ W.has_failed output.old }
+    ensures misuse { result ≡ 2 → output.new ≡ output.old }
+{
+    match asked_by(words, faults) {
+        Ok(asked) => check_asked(rt, words, asked, output, faults),
+        Err(status) => status,
+    }
+}
+
+/// The same, with what is asked.
+fn check_asked<W: Sink, E: Sink>(
+    rt: &HostRuntime,
+    words: &Records,
+    asked: Asked,
+    output: &mut W,
+    faults: &mut E,
+) -> u8
+    ensures status { result ≤ 3 }
+    ensures unbroken { result ≢ 3 → W.has_failed output.new ≡ W.has_failed output.old }
+    ensures misuse { result ≡ 2 → output.new ≡ output.old }
+{
+    match filter_with(rt, &words.filters, faults) {
+        Ok(filter) => {
+            let rules = Rules {
+                filter,
+                strict: words.strict,
+                anywhere: words.anywhere,
+            };
+            check_under(rt, &rules, asked, words.file.as_str(), output, faults)
+        }
+        Err(status) => status,
+    }
+}
+
+/// The same, under these rules.
+fn check_under<W: Sink, E: Sink>(
+    rt: &HostRuntime,
+    rules: &Rules,
+    asked: Asked,
+    file: &str,
+    output: &mut W,
+    faults: &mut E,
+) -> u8
+    ensures status { (result ≡ 0) ⊎ ((result ≡ 1) ⊎ (result ≡ 3)) }
+    ensures unbroken { result ≢ 3 → W.has_failed output.new ≡ W.has_failed output.old }
+{
+    let alloc = rt.alloc();
+    if file == "-" {
+        let source = FromRead::new(rt.stdin());
+        return run_records(alloc, rules, asked, source, output, faults);
+    }
+    match File::open(rt, file) {
+        Ok(opened) => {
+            let source = FromRead::new(opened);
+            run_records(alloc, rules, asked, source, output, faults)
+        }
+        Err(_) => tell_unopened(alloc, file, faults),
+    }
+}
+
+/// What is asked of the records.
+fn asked_by<E: Sink>(words: &Records, faults: &mut E) -> Result<Asked, u8>
+    ensures { IfErr result (λ status. status ≡ 2) }
+{
+    let field = match number_in(&words.field, faults, "--field is not a number from 1\n") {
+        Ok(Some(0)) => return Err(tell_misuse(faults, "--field is not a number from 1\n")),
+        Ok(field) => field,
+        Err(status) => return Err(status),
+    };
+    let most = match number_in(&words.most, faults, "--most is not a number of bytes\n") {
+        Ok(most) => most.unwrap_or(MOST),
+        Err(status) => return Err(status),
+    };
+    Ok(Asked {
+        layout: Layout {
+            shape: shape_of(words, field),
+            most,
+        },
+        how: How {
+            refused: words.refused,
+            json: words.json,
+        },
+        pass: words.pass,
+    })
+}
+
+/// How the records lie.
+fn shape_of(words: &Records, field: Option<u64>) -> Shape {
+    if words.frames {
+        return Shape::Frames;
+    }
+    if words.sized {
+        return Shape::Sized;
+    }
+    let form = match words.forms.form() {
+        Form::Binary => Form::Base64,
+        form => form,
+    };
+    Shape::Lines(Lines {
+        form,
+        zero: words.zero,
+        field,
+    })
+}
+
+/// The number that a text says, if there is one. Where it says none, this line is told.
+fn number_in<E: Sink>(text: &Option<String>, faults: &mut E, line: &str) -> Result<Option<u64>, u8>
+    ensures { IfErr result (λ status. status ≡ 2) }
+{
+    let Some(text) = text else {
+        return Ok(None);
+    };
+    match text.as_str().parse::<u64>() {
+        Ok(number) => Ok(Some(number)),
+        Err(_) => Err(tell_misuse(faults, line)),
+    }
+}
