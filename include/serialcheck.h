@@ -1,7 +1,7 @@
 /* serialcheck: whether bytes are one Java object serialization stream that a filter admits. No class is loaded or run.
  *
  * What the caller owes, in every call:
- *   - No pointer is NULL, also where its length is 0. A length is at most PTRDIFF_MAX.
+ *   - A pointer is to as many bytes as its length says; where that is 0, it may be NULL. A length is at most PTRDIFF_MAX.
  *   - What a call writes (answer, handle, room) overlaps nothing that it reads, and the bytes that it reads do not change
  *     meanwhile.
  *   - A handle is zero before its first call (SERIALCHECK_NONE), is written by these calls alone, and is not copied. A filter's
@@ -47,10 +47,12 @@ enum {
     X(ExternalRaw) X(NotSerializable) X(ClassRejected) X(ClassUnmatched) X(DepthExceeded) X(RefsExceeded) X(ArrayExceeded) \
     X(Truncated) X(HandleSpace) X(HiddenName)
 
-/* The causes of SERIALCHECK_MISUSE, numbered from 1: six of the filter's text, three of the table of modules, one of the flags. */
+/* The causes of SERIALCHECK_MISUSE, numbered from 1: six of the filter's text, three of the table of modules, one of the flags,
+ * three of a line of a filter's file. */
 #define SERIALCHECK_CAUSES(X) \
     X(UnknownLimit) X(BadLimit) X(ModuleMissing) X(NameMissing) X(PackageMissing) X(FilterIsNoText) \
-    X(BadLine) X(PackageTwice) X(ModulesAreNoText) X(UnknownFlag)
+    X(BadLine) X(PackageTwice) X(ModulesAreNoText) X(UnknownFlag) \
+    X(ByteOrderMark) X(NumberSign) X(WhiteSpace)
 
 /* What a call answers. What the status does not speak of is 0. */
 typedef struct {
@@ -90,6 +92,11 @@ uint32_t serialcheck_check(const uint8_t *bytes, size_t len, const uint8_t *filt
 uint32_t serialcheck_filter_new(const uint8_t *text, size_t len, const uint8_t *modules, size_t modules_len, uint32_t flags,
                                 serialcheck_answer *answer, serialcheck_filter *filter);
 
+/* The same of the bytes of a filter's file: its lines are pieces of a filter, or several with `;`, and a line that begins with `#`
+ * is a comment. */
+uint32_t serialcheck_filter_read(const uint8_t *file, size_t len, const uint8_t *modules, size_t modules_len, uint32_t flags,
+                                 serialcheck_answer *answer, serialcheck_filter *filter);
+
 /* Checks bytes under the filter of a handle. YES, NO or NO_MEMORY; SPENT where the handle holds nothing. */
 uint32_t serialcheck_filter_check(const serialcheck_filter *filter, const uint8_t *bytes, size_t len, serialcheck_answer *answer);
 
@@ -117,13 +124,14 @@ void serialcheck_stream_free(serialcheck_stream *stream);
 
 /* Writes the text of `show` of a stream into a room, or as many of its first bytes as the room has. The answer's `bytes` is the
  * length of the whole text. YES: all of it is in the room. SMALL: the room is full. NO: the bytes are no stream. NO_MEMORY.
- * A small hostile stream can have gigabytes of text, all of which is made to count it. */
-uint32_t serialcheck_show(const uint8_t *bytes, size_t len, uint8_t *room, size_t room_len, serialcheck_answer *answer);
+ * A small hostile stream can have gigabytes of text, so no more than `most` bytes are made: of a longer text the first of these
+ * are in the room, as many as it has, the answer is SMALL, and `bytes` is 0. That takes up to `most` bytes of memory. */
+uint32_t serialcheck_show(const uint8_t *bytes, size_t len, size_t most, uint8_t *room, size_t room_len, serialcheck_answer *answer);
 
 /* Writes the text of `list` of a stream in the same way: a line for each class name, with how often the stream has it and what
  * the filter of a text, with a table of modules, says of it. The filter refuses nothing. YES, SMALL, NO, MISUSE or NO_MEMORY. */
 uint32_t serialcheck_list(const uint8_t *bytes, size_t len, const uint8_t *filter, size_t filter_len, const uint8_t *modules,
-                          size_t modules_len, uint8_t *room, size_t room_len, serialcheck_answer *answer);
+                          size_t modules_len, size_t most, uint8_t *room, size_t room_len, serialcheck_answer *answer);
 
 /* The version of the library: its three numbers, in eight bits each; 0x000100 is 0.1.0. */
 uint32_t serialcheck_version(void);
@@ -140,9 +148,10 @@ uint32_t serialcheck_line(const serialcheck_answer *answer, uint8_t *room, size_
 uint32_t serialcheck_class(const uint8_t *bytes, size_t len, const serialcheck_answer *answer, uint8_t *room, size_t room_len,
                            serialcheck_answer *told);
 
-/* Writes the name of a reason, or of a cause of MISUSE, in the same way. SPENT where no one has the number. 32 bytes are room
- * enough. */
+/* Writes the name of a reason, what a reason means in a sentence, or the name of a cause of MISUSE, in the same way. SPENT where
+ * none has the number. 32 bytes are room enough for a name, 160 for a sentence. */
 uint32_t serialcheck_reason_name(uint32_t reason, uint8_t *room, size_t room_len, serialcheck_answer *told);
+uint32_t serialcheck_reason_text(uint32_t reason, uint8_t *room, size_t room_len, serialcheck_answer *told);
 uint32_t serialcheck_cause_name(uint32_t cause, uint8_t *room, size_t room_len, serialcheck_answer *told);
 
 #ifdef __cplusplus

@@ -18,9 +18,12 @@ func admitted(stream []byte, filter string) bool {
 	return C.serialcheck_check(at(stream), C.size_t(len(stream)), at([]byte(filter)), C.size_t(len(filter)), C.SERIALCHECK_ANYWHERE, &answer) == C.SERIALCHECK_YES
 }
 
-// at is where the bytes are, and not nil where there are none.
+// at is where the bytes are, or nil where there are none.
 func at(bytes []byte) *C.uint8_t {
-	return (*C.uint8_t)(&append(bytes[:len(bytes):len(bytes)], 0)[0])
+	if len(bytes) == 0 {
+		return nil
+	}
+	return (*C.uint8_t)(&bytes[0])
 }
 
 func main() {

@@ -60,13 +60,26 @@ class Engine {
     }
 
     /** The struct of include/serialcheck.h. */
-    answer() {
-        const view = new DataView(this.calls.memory.buffer, this.place, ANSWER_BYTES);
+    answer(place = this.place) {
+        const view = new DataView(this.calls.memory.buffer, place, ANSWER_BYTES);
         const number = (at) => Number(view.getBigUint64(at, true));
         return {
             status: view.getUint32(0, true), number: view.getUint32(4, true), from: number(8), to: number(16), bytes: number(24),
-            contents: number(32), refs: number(40), depth: number(48), handles: number(56),
+            contents: number(32), refs: number(40), depth: number(48), handles: number(56), nameFrom: number(64), nameTo: number(72),
         };
+    }
+
+    /** The class that the answer at hand to a check of given bytes says was refused, as the program prints it without its quotes; or null. */
+    className(given) {
+        const { nameFrom, nameTo } = this.answer();
+        if (nameFrom === nameTo) {
+            return null;
+        }
+        const most = 6 * (nameTo - nameFrom) + 2;
+        const [room, told] = [this.room(most), this.room(ANSWER_BYTES)];
+        this.calls.serialcheck_class(...given, this.place, room, BigInt(most), told);
+        const { status, bytes } = this.answer(told);
+        return status === STATUS.YES ? new TextDecoder().decode(new Uint8Array(this.calls.memory.buffer, room + 1, bytes - 2)) : null;
     }
 
     /** The answer of a call that writes a text into a room, and as many whole lines of the text as the room has. */
@@ -113,13 +126,13 @@ function misuse(answer) {
     return Object.assign(new TypeError(`serialcheck: ${CAUSES[answer.number].replace("%d", answer.from)}`), { piece: answer.from });
 }
 
-function settled(answer) {
+function settled(answer, className = null) {
     const { status, number, from, to, bytes, contents, refs, depth, handles } = answer;
     switch (status) {
         case STATUS.YES:
-            return new Answer({ ok: true, reason: null, from: null, to: null, bytes, contents, refs, depth, handles });
+            return new Answer({ ok: true, reason: null, from: null, to: null, className: null, bytes, contents, refs, depth, handles });
         case STATUS.NO:
-            return new Answer({ ok: false, reason: REASONS[number], from, to, bytes: null, contents: null, refs: null, depth: null, handles: null });
+            return new Answer({ ok: false, reason: REASONS[number], from, to, className, bytes: null, contents: null, refs: null, depth: null, handles: null });
         case STATUS.MISUSE:
             throw misuse(answer);
         default:
@@ -131,9 +144,10 @@ function check(data, filter = "", { strict = false, anywhere = false } = {}) {
     const bytes = bytesOf(data);
     const text = textOf(filter, "the filter is not text");
     const flags = (strict ? STRICT : 0) | (anywhere ? ANYWHERE : 0);
-    return settled(asked((engine) => {
-        engine.calls.serialcheck_check(...engine.given(bytes), ...engine.given(text), flags, engine.place);
-        return engine.answer();
+    return settled(...asked((engine) => {
+        const given = engine.given(bytes);
+        engine.calls.serialcheck_check(...given, ...engine.given(text), flags, engine.place);
+        return [engine.answer(), engine.className(given)];
     }));
 }
 
@@ -161,7 +175,7 @@ function show(data, { most = MOST_TEXT } = {}) {
     const bytes = bytesOf(data);
     return textAnswer(asked((engine) => {
         const given = engine.given(bytes);
-        return engine.text(most, (room) => engine.calls.serialcheck_show(...given, room, BigInt(most), engine.place));
+        return engine.text(most, (room) => engine.calls.serialcheck_show(...given, BigInt(most), room, BigInt(most), engine.place));
     }));
 }
 
@@ -170,7 +184,7 @@ function list(data, filter = "", { modules = "", most = MOST_TEXT } = {}) {
     const texts = [textOf(filter, "the filter is not text"), textOf(modules, "the table of modules is not text")];
     return textAnswer(asked((engine) => {
         const given = [bytes, ...texts].flatMap((it) => engine.given(it));
-        return engine.text(most, (room) => engine.calls.serialcheck_list(...given, room, BigInt(most), engine.place));
+        return engine.text(most, (room) => engine.calls.serialcheck_list(...given, BigInt(most), room, BigInt(most), engine.place));
     }));
 }
 

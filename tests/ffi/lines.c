@@ -1,7 +1,8 @@
 /* The lines and names that the library writes: lines FLAGS FILTER MODULES FILE..
- * MODULES is a file with a table of modules, or `-`. Prints the line of the answer to each file, or of the one misuse. Each text
+ * FILTER is a text, or `@` and the path of a filter's file. MODULES is a file with a table of modules, or `-`. Prints the line of the answer to each file, or of the one misuse. Each text
  * is asked for in a room of each size up to one byte more than it has: in a smaller one its first bytes are, and nothing behind
- * a room is written. With no file it prints the names of all reasons, and then of all causes. */
+ * a room is written. With no file it prints the names of all reasons, and then of all causes; with the word `texts` alone, what
+ * each reason means. */
 #include "serialcheck.h"
 
 #include <stdio.h>
@@ -28,6 +29,10 @@ static uint32_t line_of(subject of, uint8_t *room, size_t len, serialcheck_answe
 
 static uint32_t reason_of(subject of, uint8_t *room, size_t len, serialcheck_answer *told) {
     return serialcheck_reason_name(of.number, room, len, told);
+}
+
+static uint32_t meaning_of(subject of, uint8_t *room, size_t len, serialcheck_answer *told) {
+    return serialcheck_reason_text(of.number, room, len, told);
 }
 
 static uint32_t cause_of(subject of, uint8_t *room, size_t len, serialcheck_answer *told) {
@@ -80,7 +85,18 @@ static size_t read_file(const char *path, uint8_t *bytes, size_t most) {
     return len;
 }
 
+/* Reads a filter's text, or its file. */
+static uint32_t filter_of(const char *words, uint32_t flags, const uint8_t *modules, size_t modules_len, serialcheck_answer *answer, serialcheck_filter *filter) {
+    static uint8_t file[1 << 16];
+    if (words[0] != '@') return serialcheck_filter_new((const uint8_t *)words, strlen(words), modules, modules_len, flags, answer, filter);
+    return serialcheck_filter_read(file, read_file(words + 1, file, sizeof file), modules, modules_len, flags, answer, filter);
+}
+
 int main(int words, char **word) {
+    if (words == 2 && !strcmp(word[1], "texts")) {
+        print_names(meaning_of);
+        return 0;
+    }
     if (words == 1) {
         print_names(reason_of);
         print_names(cause_of);
@@ -91,7 +107,7 @@ int main(int words, char **word) {
     const size_t modules_len = strcmp(word[3], "-") ? read_file(word[3], modules, sizeof modules) : 0;
     serialcheck_answer answer;
     serialcheck_filter filter = SERIALCHECK_NONE;
-    if (serialcheck_filter_new((const uint8_t *)word[2], strlen(word[2]), modules, modules_len, (uint32_t)strtoul(word[1], 0, 10), &answer, &filter)) {
+    if (filter_of(word[2], (uint32_t)strtoul(word[1], 0, 10), modules, modules_len, &answer, &filter)) {
         print_line(&answer);
         return 0;
     }

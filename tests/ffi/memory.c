@@ -56,8 +56,8 @@ int main(int words, char **word) {
         for (uint32_t flags = 0; flags < 4; flags += 2) {
             serialcheck_answer wanted, shown, listed, found;
             serialcheck_check(bytes, len, text, text_len, flags, &wanted);
-            serialcheck_show(bytes, len, room, sizeof room, &shown);
-            serialcheck_list(bytes, len, text, text_len, table, sizeof table - 1, room, sizeof room, &listed);
+            serialcheck_show(bytes, len, sizeof room, room, sizeof room, &shown);
+            serialcheck_list(bytes, len, text, text_len, table, sizeof table - 1, sizeof room, room, sizeof room, &listed);
             bool again = true;
             for (long turn = 0; again; turn++) {
                 const long before = refused;
@@ -87,11 +87,18 @@ int main(int words, char **word) {
                 } else {
                     expect("another answer to a stream", found.status == SERIALCHECK_NO_MEMORY && !stream.is_open);
                 }
+                serialcheck_filter read = SERIALCHECK_NONE;
                 left = turn;
-                serialcheck_show(bytes, len, room, sizeof room, &found);
+                if (serialcheck_filter_read(text, text_len, table, sizeof table - 1, flags, &found, &read)) {
+                    expect("another answer to a filter's file", found.status == SERIALCHECK_NO_MEMORY && !read.is_open);
+                }
+                left = -1;
+                serialcheck_filter_free(&read);
+                left = turn;
+                serialcheck_show(bytes, len, sizeof room, room, sizeof room, &found);
                 expect("another text", either(&found, &shown));
                 left = turn;
-                serialcheck_list(bytes, len, text, text_len, table, sizeof table - 1, room, sizeof room, &found);
+                serialcheck_list(bytes, len, text, text_len, table, sizeof table - 1, sizeof room, room, sizeof room, &found);
                 expect("another list", either(&found, &listed));
                 left = -1;
                 serialcheck_filter_free(&filter);

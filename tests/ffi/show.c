@@ -1,6 +1,6 @@
 /* Prints the text of `show` of a file by the library: show FILE, or that of `list`: show FILE FILTER MODULES. The room grows as
- * the answer asks; smaller ones must get its first bytes and the same length. Where they do not, the status is 2. A refused
- * file: the line of the program, and the status 1. */
+ * the answer asks; smaller ones must get its first bytes and the same length, and one that is made up to a most these alone. Where
+ * they do not, the status is 2. A refused file: the line of the program, and the status 1. */
 #include "serialcheck.h"
 
 #include <inttypes.h>
@@ -22,10 +22,26 @@ static uint8_t *room_of(size_t len) {
 
 static const char *filter, *modules;
 
-static uint32_t text_of(const uint8_t *bytes, size_t len, uint8_t *room, size_t room_len, serialcheck_answer *answer) {
-    if (!filter) return serialcheck_show(bytes, len, room, room_len, answer);
-    return serialcheck_list(bytes, len, (const uint8_t *)filter, strlen(filter), (const uint8_t *)modules, strlen(modules), room,
+static uint32_t text_within(size_t most, const uint8_t *bytes, size_t len, uint8_t *room, size_t room_len, serialcheck_answer *answer) {
+    if (!filter) return serialcheck_show(bytes, len, most, room, room_len, answer);
+    return serialcheck_list(bytes, len, (const uint8_t *)filter, strlen(filter), (const uint8_t *)modules, strlen(modules), most, room,
                             room_len, answer);
+}
+
+static uint32_t text_of(const uint8_t *bytes, size_t len, uint8_t *room, size_t room_len, serialcheck_answer *answer) {
+    return text_within(SIZE_MAX, bytes, len, room, room_len, answer);
+}
+
+/* Of a text that is longer than `most` a room has its first bytes, as many as fit and are made, and the answer no length. */
+static void expect_cut(size_t most, const uint8_t *bytes, size_t len, const uint8_t *text, size_t room_len) {
+    serialcheck_answer answer;
+    uint8_t *room = room_of(room_len);
+    const size_t written = most < room_len ? most : room_len;
+    if (text_within(most, bytes, len, room, room_len, &answer) != SERIALCHECK_SMALL || answer.bytes != 0) exit(2);
+    if (memcmp(room, text, written) != 0) exit(2);
+    for (size_t at = written; at < room_len; at++)
+        if (room[at] != '?') exit(2);
+    free(room);
 }
 
 int main(int words, char **word) {
@@ -59,6 +75,15 @@ int main(int words, char **word) {
         if (memcmp(room, text, sizes[i]) != 0) return 2;
         free(room);
     }
+    const size_t mosts[] = {0, 1, whole / 2, whole - 1};
+    for (size_t i = 0; whole && i < sizeof mosts / sizeof *mosts; i++) {
+        for (size_t j = 0; j < sizeof sizes / sizeof *sizes; j++) expect_cut(mosts[i], bytes, len, text, sizes[j]);
+        expect_cut(mosts[i], bytes, len, text, 0);
+    }
+    uint8_t *room = room_of(whole);
+    if (text_within(whole, bytes, len, room, whole, &answer) != SERIALCHECK_YES || answer.bytes != whole) return 2;
+    if (memcmp(room, text, whole) != 0) return 2;
+    free(room);
     fwrite(text, 1, whole, stdout);
     free(text);
     free(bytes);

@@ -11,30 +11,39 @@ use Rattle.jser_index.specs.declared.GraphFault.{GraphFault}
 use Rattle.jser_index.specs.Graphs.{GraphView, StandsFor, StandsForSome}
 use Rattle.jser_index.specs.Showing.{WroteText, WroteFront}
 use Rattle.jser_commands.specs.declared.limited.Limited.TheVariants as limited
-use Rattle.jser_commands.specs.declared.limited.Start.{Start}
-use Rattle.jser_commands.specs.Limits.{IsFrontOf, IsLimitedText, WentCut, WentWithin, WroteCut, WroteSomeLimited, WroteWithin}
+use Rattle.jser_commands.specs.declared.start.Start.{Start}
+use Rattle.jser_commands.specs.Limits.{BeginsText, IsFrontOf, IsLimitedText, WentCut, WentWithin, WroteCut, WroteSomeLimited, WroteWithin}
 use Rattle.jser_commands.specs.Lines.{cut_line, AppendsSome, CutText, KeptOrCut, KeptOrSaidSome, SaysCutShown, SaysLimited, SaysRefusal, SaysWithin}
 
--- ---- the first bytes of the text
+-- ---- the first bytes of a text
+
+pub begins_whole : (text : List ℕ) (start : Start) (first kept : List ℕ) → first ≡ [] → start.bytes.items ≡ kept → Appends (Some first) (Some kept) text
+    → BeginsText start text
+begins_whole text start first kept none is wrote =
+    let same : start.bytes.items ≡ text = is ∙ wrote ∙ ap (λ xs. xs ++ text) none in
+    record { rest = []; begins = sym same ∙ sym (append-nil start.bytes.items); all = λ yes. same }
+
+pub begins_some : (text : List ℕ) (start : Start) (first kept : List ℕ) → start.whole ≡ false → first ≡ [] → start.bytes.items ≡ kept
+    → AppendsSome (Some first) (Some kept) text → BeginsText start text
+begins_some text start first kept part none is some =
+    let same : start.bytes.items ≡ take some.count text = is ∙ some.went ∙ ap (λ xs. xs ++ take some.count text) none in
+    record {
+      rest = drop some.count text;
+      begins = sym (take-append-drop some.count text) ∙ ap (λ xs. xs ++ drop some.count text) (sym same);
+      all = λ yes. absurd (cc);
+    }
 
 pub front_whole : (graph : GraphView) (start : Start) (first kept : List ℕ) → first ≡ [] → start.bytes.items ≡ kept → WroteText graph (Some first) (Some kept)
     → IsFrontOf graph start
 unfolding WroteText IsFrontOf
-front_whole graph start first kept none is wrote bytes list stands =
-    let same : start.bytes.items ≡ shown list = is ∙ wrote bytes list stands ∙ ap (λ xs. xs ++ shown list) none in
-    record { rest = []; begins = sym same ∙ sym (append-nil start.bytes.items); all = λ yes. same }
+front_whole graph start first kept none is wrote bytes list stands = begins_whole (shown list) start first kept none is (wrote bytes list stands)
 
 pub front_some : (graph : GraphView) (start : Start) (first kept : List ℕ) (why : GraphFault) → start.whole ≡ false → first ≡ [] → start.bytes.items ≡ kept
     → WroteFront graph (Some first) (Some kept) why → IsFrontOf graph start
 unfolding WroteFront IsFrontOf
 front_some graph start first kept why part none is wrote bytes list stands =
     let some = wrote bytes list stands in
-    let same : start.bytes.items ≡ take some.count (shown list) = is ∙ some.went ∙ ap (λ xs. xs ++ take some.count (shown list)) none in
-    record {
-      rest = drop some.count (shown list);
-      begins = sym (take-append-drop some.count (shown list)) ∙ ap (λ xs. xs ++ drop some.count (shown list)) (sym same);
-      all = λ yes. absurd (cc);
-    }
+    begins_some (shown list) start first kept part none is (record { count = some.count; within = some.within; went = some.went })
 
 -- ---- what is printed of it
 

@@ -4,3 +4,4 @@ pub mod Inputs
 pub mod Limits
 pub mod Lines
 pub mod Places
+pub mod Reasons

@@ -7,7 +7,7 @@ use Rattle.jser_index.specs.Graphs.{GraphView, StandsFor}
 use Rattle.jser_commands.specs.Lines.{AppendsSome, CutText}
 use Rattle.jser_commands.specs.declared.limited.Limited.{Limited}
 use Rattle.jser_commands.specs.declared.limited.Limited.TheVariants as limited
-use Rattle.jser_commands.specs.declared.limited.Start.{Start}
+use Rattle.jser_commands.specs.declared.start.Start.{Start}
 
 -- what holds of the text of the list for which a graph stands
 abbrev pub OfText : GraphView → (List ℕ → Type 0) → Type 0

@@ -1,13 +1,14 @@
 //! The job of `show --limit N`: the text of a stream, or as many of its lines as the limit allows.
 ghost use Rattle.std.specs.Prelude.{◌≡◌, ◌≢◌, ◌<◌, ◌⊎◌, ◌++◌, List, ℕ, length, vec_len, IfOk, IfSome};
 ghost use Rattle.std.specs.Io.KnownBytes.{Appends};
-ghost use Rattle.jser_commands.specs.Limits.{IsFrontOf, IsLimitedText, WroteWithin, WroteCut, WroteSomeLimited};
+ghost use Rattle.jser_commands.specs.Limits.{IsLimitedText, WroteWithin, WroteCut, WroteSomeLimited};
 ghost use Rattle.jser_commands.specs.Lines.{CutText, SaysWithin, SaysCutShown, SaysLimited, SaysRefusal, SaysWhy, SaysUnwritten, KeptOrSaidSome};
 
 use crate::answer::print_bytes;
 use crate::input::{print_unread, read_stream};
-use jser_front::{Front, whole_lines};
-use jser_index::{GraphFault, Index};
+use crate::start::{Start, start_of_show};
+use jser_front::whole_lines;
+use jser_index::Index;
 use jser_inputs::Input;
 use jser_prim::Sink;
 use jser_settings::{ACCEPTED, CUT, tell_failure};
@@ -73,7 +74,7 @@ pub(crate) enum Limited {
 fn limited_text(alloc: Global, graph: &Index, limit: u64) -> Result<Limited, AllocError>
     ensures { IfOk result (IsLimitedText limit graph.now) }
 {
-    let Start { bytes, whole } = start_of(alloc, graph, limit)?;
+    let Start { bytes, whole } = start_of_show(alloc, graph, limit)?;
     if bytes.len() as u64 > limit {
         return Ok(Limited::Cut(cut(alloc, bytes, limit)?));
     }
@@ -82,32 +83,6 @@ fn limited_text(alloc: Global, graph: &Index, limit: u64) -> Result<Limited, All
     }
     // The sink takes one byte more than the limit allows, so where it failed, memory had run out.
     Err(AllocError)
-}
-
-/// The first bytes of a text.
-#[derive(Drop)]
-pub(crate) struct Start {
-    bytes: Vec<u8>,
-    /// Whether they are all.
-    whole: bool,
-}
-
-/// The first bytes of the text of a stream: one more than the limit allows, if it has so many.
-fn start_of(alloc: Global, graph: &Index, limit: u64) -> Result<Start, AllocError>
-    ensures { IfOk result (IsFrontOf graph.now) }
-{
-    let mut front = Front::new(alloc, (limit as usize).saturating_add(1));
-    match graph.show(alloc, &mut front) {
-        Ok(_) => Ok(Start {
-            bytes: front.into_bytes(),
-            whole: true,
-        }),
-        Err(GraphFault::Write { .. }) => Ok(Start {
-            bytes: front.into_bytes(),
-            whole: false,
-        }),
-        Err(GraphFault::OutOfMemory { .. }) => Err(AllocError),
-    }
 }
 
 /// The lines that the limit allows of a text that begins with these bytes, and the line that says so.

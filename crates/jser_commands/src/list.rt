@@ -1,6 +1,6 @@
 //! The job of `list`: the checked names of a stream, with how often each stands there and what a filter says of it. The stream
 //! is read in pieces, and its names alone are kept.
-ghost use Rattle.std.specs.Prelude.{◌≡◌, ◌≢◌, ◌⊎◌, ◌++◌, [], IfErr, IfOk, IfSome, OnOk};
+ghost use Rattle.std.specs.Prelude.{◌≡◌, ◌≢◌, ◌⊎◌, ◌++◌, [], Err, IfErr, IfOk, IfSome, OnErr, OnOk, true};
 ghost use Rattle.std.specs.Io.KnownBytes.{Appends};
 ghost use Rattle.jser_filter.specs.Filters.{verdict_of};
 ghost use Rattle.jser_shown.specs.Counting.{name_tally, tally_all, tally_lines};
@@ -10,14 +10,14 @@ ghost use Rattle.jser_names.specs.Sources.{HasNames};
 ghost use Rattle.jser_printer.specs.Says.{SaysTo};
 ghost use Rattle.jser_commands.specs.Counts.{tallies_of, tally_line, lines_before};
 ghost use Rattle.jser_commands.specs.Inputs.{IfUnreadRefused, IsReadFault};
-ghost use Rattle.jser_commands.specs.Lines.{SaysText, SaysRefusal, SaysWhy, SaysUnwritten, KeptOrCut, KeptOrSaidSome, marked_words, verdict_words, words_on};
+ghost use Rattle.jser_commands.specs.Lines.{AppendsSome, SaysText, SaysRefusal, SaysWhy, SaysUnwritten, KeptOrCut, KeptOrSaidSome, marked_words, verdict_words, words_on};
 
 use crate::counting::{NameCounts, count_names};
 use crate::input::{Unread, print_unread, unread_of};
 use jser_filter::{Filter, Verdict};
 use jser_inputs::Input;
 use jser_names::{NameList, names_of};
-use jser_prim::{Outbox, Sink, Source};
+use jser_prim::{Failed, Outbox, Sink, Source};
 use jser_printer::{write, write_decimal, write_quoted};
 use jser_settings::{ACCEPTED, tell_failure};
 use jser_shown::laws::counted;
@@ -67,7 +67,7 @@ fn read_names<R: Source>(alloc: Global, input: &mut R) -> Result<NameList, Unrea
     }
 }
 
-/// Prints the lines of the checked names of a stream. They are counted first.
+/// Prints the lines of the checked names of a stream.
 #[tactic(auto, using(crate::proofs::Lines::kept))]
 fn print_names<W: Sink, E: Sink>(
     alloc: Global,
@@ -83,34 +83,66 @@ fn print_names<W: Sink, E: Sink>(
     ensures unbroken { result ≡ 0 → W.has_failed output.new ≡ W.has_failed output.old }
     ensures quiet { result ≡ 0 → faults.new ≡ faults.old }
 {
-    match count_names(alloc, names) {
-        Ok(counts) => print_counts(filter, &counts, output, faults),
-        Err(_) => tell_failure(faults, "out of memory\n"),
+    match write_names(alloc, filter, names, output) {
+        Ok(()) => ACCEPTED,
+        Err(TextFault::Write) => tell_failure(faults, "write failed\n"),
+        Err(TextFault::OutOfMemory) => tell_failure(faults, "out of memory\n"),
     }
 }
 
-/// Prints a line for each name that was counted. Takes no memory.
+/// Why a text did not go out whole.
+#[derive(Clone, Copy, PartialEq, Eq, Debug)]
+pub(crate) enum TextFault {
+    /// The sink failed.
+    Write,
+    /// Memory ran out.
+    OutOfMemory,
+}
+
+/// Writes the text of `list`: a line for each different name, with how often it is among these and what the filter says of it.
+/// They are counted first; that takes memory for each different name, and the writing none.
+///
+/// # Errors
+///
+/// `Write` where the sink failed, behind the first bytes of the text; `OutOfMemory` where memory ran out, before the first.
+pub(crate) fn write_names<W: Sink>(
+    alloc: Global,
+    filter: &Filter,
+    names: &NameList,
+    sink: &mut W,
+) -> Result<(), TextFault>
+    ensures written { OnOk result (Appends (W.gone_out sink.old) (W.gone_out sink.new) (tally_lines (words_on filter.now) (tally_all [] names.now))) }
+    ensures unbroken { OnOk result (W.has_failed sink.new ≡ W.has_failed sink.old) }
+    ensures cut { result ≡ Err TextFault.Write → (W.has_failed sink.new ≡ true) × AppendsSome (W.gone_out sink.old) (W.gone_out sink.new) (tally_lines (words_on filter.now) (tally_all [] names.now)) }
+    ensures kept { result ≡ Err TextFault.OutOfMemory → sink.new ≡ sink.old }
+{
+    match count_names(alloc, names) {
+        Ok(counts) => match write_counts(filter, &counts, sink) {
+            Ok(()) => Ok(()),
+            Err(_) => Err(TextFault::Write),
+        },
+        Err(_) => Err(TextFault::OutOfMemory),
+    }
+}
+
+/// Writes a line for each name that was counted. Takes no memory.
 #[tactic(auto, using(crate::proofs::ListLemmas::text_kept))]
-fn print_counts<W: Sink, E: Sink>(
+fn write_counts<W: Sink>(
     filter: &Filter,
     counts: &NameCounts<'_>,
-    output: &mut W,
-    faults: &mut E,
-) -> u8
-    ensures printed { result ≡ 0 → Appends (W.gone_out output.old) (W.gone_out output.new) (tally_lines (words_on filter.now) (tallies_of counts.now.entries)) }
-    ensures failed { result ≡ 3 → KeptOrCut (W.has_failed output.new) (W.gone_out output.old) (W.gone_out output.new) (tally_lines (words_on filter.now) (tallies_of counts.now.entries)) }
-    ensures status { (result ≡ 0) ⊎ (result ≡ 3) }
-    ensures why { result ≡ 3 → SaysUnwritten (W.has_failed output.old) (W.has_failed output.new) (E.has_failed faults.new) (E.gone_out faults.old) (E.gone_out faults.new) }
-    ensures unbroken { result ≡ 0 → W.has_failed output.new ≡ W.has_failed output.old }
-    ensures quiet { result ≡ 0 → faults.new ≡ faults.old }
+    sink: &mut W,
+) -> Result<(), Failed>
+    ensures written { OnOk result (Appends (W.gone_out sink.old) (W.gone_out sink.new) (tally_lines (words_on filter.now) (tallies_of counts.now.entries))) }
+    ensures unbroken { OnOk result (W.has_failed sink.new ≡ W.has_failed sink.old) }
+    ensures cut { OnErr result ((W.has_failed sink.new ≡ true) × AppendsSome (W.gone_out sink.old) (W.gone_out sink.new) (tally_lines (words_on filter.now) (tallies_of counts.now.entries))) }
 {
     let mut outbox = Outbox::new();
-    write_lines(&mut outbox, output, filter, b"", counts);
-    outbox.flush(output);
+    write_lines(&mut outbox, sink, filter, b"", counts);
+    outbox.flush(sink);
     if outbox.has_failed() {
-        return tell_failure(faults, "write failed\n");
+        return Err(Failed);
     }
-    ACCEPTED
+    Ok(())
 }
 
 /// Writes a line for each name that was counted, with this mark before its verdict.

@@ -11,7 +11,7 @@ use Rattle.jser_anywhere.specs.Standing.{StandsAt}
 use Rattle.jser_anywhere.proofs.NamedLemmas.{names_stand}
 use Rattle.jser_ffi.specs.declared.answer.Answer.{Answer}
 use Rattle.jser_ffi.specs.Classes.{IsClassOf, PutsClass, is_hidden, part}
-use Rattle.jser_ffi.specs.Lines.{Puts}
+use Rattle.jser_ffi.specs.Rooms.{Puts}
 
 -- ---- names that stand at the front of a text and end where it ends
 

@@ -2,6 +2,8 @@ pub mod AsFilterBox
 pub mod AsStreamBox
 pub mod ToldLemmas
 pub mod PiecesLemmas
+pub mod RoomLemmas
+pub mod CompileLemmas
 pub mod TextLemmas
 pub mod ZeroLemmas
 pub mod LentSteps

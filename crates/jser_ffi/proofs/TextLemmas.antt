@@ -1,34 +1,42 @@
--- From what came of a text to what the answer says.
-use Rattle.std.proofs.Common.{◌≡◌, ℕ, Bool, true, false, List, sym, subst}
+-- From what was put into a room to what the answer says.
+use Rattle.std.proofs.Common.{◌≡◌, ℕ, List, [], sym, ap, ◌∙◌, subst}
+use Rattle.std.specs.Prelude.{IfSome, Option, Some}
 use Rattle.jser_filter.specs.Filters.{FilterView}
-use Rattle.jser_room.specs.declared.Shown.{Shown}
-use Rattle.jser_listing.specs.Listings.{ListsInto}
+use Rattle.jser_index.specs.Graphs.{GraphView}
+use Rattle.jser_shown.specs.Counting.{tally_all, tally_lines}
+use Rattle.jser_shown.specs.Laws.{Counted}
+use Rattle.jser_shown.specs.Listed.{listed}
+use Rattle.jser_shown.specs.Shown.{shown}
+use Rattle.jser_names.specs.Sources.{HasNames}
+use Rattle.jser_commands.specs.declared.Start.{Start}
+use Rattle.jser_commands.specs.Limits.{BeginsText, IsFrontOf}
+use Rattle.jser_commands.specs.Lines.{words_on}
 use Rattle.jser_ffi.specs.declared.answer.Answer.{Answer}
 use Rattle.jser_ffi.specs.Compiling.{IsFilterOf, IsTableOf}
-use Rattle.jser_ffi.specs.Texts.{HasShown, TellsList, TellsRoom, text_status}
+use Rattle.jser_ffi.specs.Rooms.{PutsUpTo}
+use Rattle.jser_ffi.specs.Texts.{HasText, PutsShown, TellsList, TellsNames}
 
-by_whole : (Into : Shown → Type 0) (length : ℕ) (whole : Bool) (answer : Answer) → answer.status ≡ text_status whole → answer.bytes ≡ length
-    → Into (record { length = length; whole = whole }) → TellsRoom Into answer
-by_whole Into length true answer s e holds = record {
-  whole = λ z. subst (λ n. Into (record { length = n; whole = true })) (sym e) holds;
-  front = λ z. absurd (cc);
-}
-by_whole Into length false answer s e holds = record {
-  whole = λ z. absurd (cc);
-  front = λ z. subst (λ n. Into (record { length = n; whole = false })) (sym e) holds;
-}
+-- the first bytes of the text of a graph are those of each list for which it stands
+pub puts_shown : (most : ℕ) (graph : GraphView) (start : Start) (old new : List ℕ) (answer : Answer) → IsFrontOf graph start
+    → ((text : List ℕ) → BeginsText start text → HasText answer → PutsUpTo most text old new answer) → PutsShown most graph old new answer
+unfolding IsFrontOf
+puts_shown most graph start old new answer front puts bytes list stands has = puts (shown list) (front bytes list stands) has
 
-pub tells_room : (Into : Shown → Type 0) (what : Shown) (answer : Answer) → HasShown answer what → Into what → TellsRoom Into answer
-tells_room Into what answer h holds = by_whole Into what.length what.whole answer h.status h.length_is holds
-
--- an answer that speaks of no text
-pub tells_none : (Into : Shown → Type 0) (answer : Answer) → (answer.status ≡ 0 → ⊥) → (answer.status ≡ 6 → ⊥) → TellsRoom Into answer
-tells_none Into answer zero six = record { whole = λ z. absurd (zero z); front = λ z. absurd (six z) }
+-- the lines of the names of a stream are the text of its list
+pub lists_names : Counted → (told : Option (List ℕ)) (bytes : List ℕ) (filter : FilterView) (names : List (List ℕ)) (most : ℕ) (old new : List ℕ) (answer : Answer) → told ≡ Some bytes
+    → IfSome told (λ bytes. HasNames bytes names) → (HasText answer → PutsUpTo most (tally_lines (words_on filter) (tally_all [] names)) old new answer)
+    → TellsNames filter most bytes old new answer
+lists_names law told bytes filter names most old new answer is some puts text =
+    let has : HasNames bytes names = subst (λ o. IfSome o (λ bytes. HasNames bytes names)) is some in
+    record {
+      list = has.list;
+      passes = has.passes;
+      puts = subst (λ t. PutsUpTo most t old new answer)
+          (ap (λ ns. tally_lines (words_on filter) (tally_all [] ns)) has.names_are ∙ sym (law (words_on filter) has.list)) (puts text);
+    }
 
 -- under the filter of the texts
-pub lists_under : (text modules bytes old new : List ℕ) (filter : FilterView) (answer : Answer) → IsFilterOf text filter.pieces → IsTableOf modules filter.modules
-    → TellsRoom (ListsInto filter bytes old new) answer → TellsList text modules bytes old new answer
-lists_under text modules bytes old new filter answer pieces table tells = record {
-  whole = λ z. record { filter = filter; pieces_are = pieces; table_is = table; lists = tells.whole z };
-  front = λ z. record { filter = filter; pieces_are = pieces; table_is = table; lists = tells.front z };
-}
+pub lists_under : (text modules bytes old new : List ℕ) (most : ℕ) (filter : FilterView) (answer : Answer) → IsFilterOf text filter.pieces → IsTableOf modules filter.modules
+    → TellsNames filter most bytes old new answer → TellsList text modules most bytes old new answer
+lists_under text modules bytes old new most filter answer pieces table tells has =
+    record { filter = filter; pieces_are = pieces; table_is = table; lists = tells has }

@@ -4,7 +4,7 @@ use Rattle.jser_prim.specs.ModifiedUtf8.{modified_utf8}
 use Rattle.jser_anywhere.specs.Standing.{StandsAt}
 use Rattle.jser_shown.specs.Words.{quoted}
 use Rattle.jser_ffi.specs.declared.answer.Answer.{Answer}
-use Rattle.jser_ffi.specs.Lines.{Puts}
+use Rattle.jser_ffi.specs.Rooms.{Puts}
 
 -- the bytes from one place to another
 abbrev pub part : List ℕ → (from to : ℕ) → List ℕ

@@ -11,6 +11,11 @@ use Rattle.jser_filter.specs.declared.ModulesFault.{ModulesFault}
 use Rattle.jser_filter.specs.Filters.{AreSound, IsFirstFault}
 use Rattle.jser_filter.specs.Pieces.{Piece, pieces_of}
 use Rattle.jser_filter.specs.Tables.{ModuleTable, lines_of, table_of, AreSoundLines, IsFirstLineFault}
+use Rattle.jser_settings.specs.declared.FileCause.{FileCause}
+use Rattle.jser_settings.specs.declared.FileCause.TheVariants as slip
+use Rattle.jser_settings.specs.declared.FileFault.{FileFault}
+use Rattle.jser_settings.specs.FileFaults.{file_fault}
+use Rattle.jser_settings.specs.FilterFiles.{filter_text}
 use Rattle.jser_ffi.specs.declared.answer.Answer.{Answer}
 use Rattle.jser_ffi.specs.declared.compiled.Compiled.{Compiled}
 use Rattle.jser_ffi.specs.Ways.{way_of}
@@ -34,7 +39,14 @@ pub record IsCompiled (flags : ℕ) (text modules : List ℕ) (compiled : Compil
   pub filter : IsFilterOf text compiled.applied.filter.pieces
   pub table : IsTableOf modules compiled.applied.filter.modules
 
--- ---- the causes of a misuse: 1 to 6 of the filter's text, 7 to 9 of the table of modules, 10 of the flags
+-- of the text of the lines of a file
+pub record IsCompiledFile (flags : ℕ) (file modules : List ℕ) (compiled : Compiled) : Type 0 where
+  pub is_text : IsUtf8 file
+  pub lines : file_fault file ≡ None
+  pub is : IsCompiled flags (filter_text file) modules compiled
+
+-- ---- the causes of a misuse: 1 to 6 of the filter's text, 7 to 9 of the table of modules, 10 of the flags, 11 to 13 of a
+-- filter's file
 
 abbrev pub filter_cause_number : FilterCause → ℕ
 filter_cause_number cause.UnknownLimit = 1
@@ -43,6 +55,11 @@ filter_cause_number cause.ModuleMissing = 3
 filter_cause_number cause.NameMissing = 4
 filter_cause_number cause.PackageMissing = 5
 filter_cause_number cause.OutOfMemory = 0
+
+abbrev pub file_cause_number : FileCause → ℕ
+file_cause_number slip.ByteOrderMark = 11
+file_cause_number slip.NumberSign = 12
+file_cause_number slip.WhiteSpace = 13
 
 abbrev pub modules_cause_number : ModulesCause → ℕ
 modules_cause_number line.BadLine = 7
@@ -85,3 +102,14 @@ TextsAreFaulty text modules answer = TextIsFaulty text answer ⊎ ModulesAreFaul
 
 abbrev pub SaysMisuse : (flags : ℕ) → (text modules : List ℕ) → Answer → Type 0
 SaysMisuse flags text modules answer = FlagsAreUnknown flags answer ⊎ TextsAreFaulty text modules answer
+
+-- the first faulty line of a filter's file, with its cause
+pub record FileIsFaulty (file : List ℕ) (answer : Answer) : Type 0 where
+  pub fault : FileFault
+  pub first : file_fault file ≡ Some fault
+  pub reason : answer.reason ≡ file_cause_number fault.cause
+  pub place : answer.from_byte ≡ fault.line
+
+-- the file is no text, or a line of it is faulty, or else what is wrong with the text of its lines, the table or the flags
+unfoldable pub SaysFileMisuse : (flags : ℕ) → (file modules : List ℕ) → Answer → Type 0
+SaysFileMisuse flags file modules answer = (IsNoText 6 file answer ⊎ FileIsFaulty file answer) ⊎ SaysMisuse flags (filter_text file) modules answer

@@ -3,6 +3,7 @@ pub mod Compiling
 pub mod Told
 pub mod Pieces
 pub mod Streams
+pub mod Rooms
 pub mod Texts
 pub mod Lines
 pub mod Classes

@@ -8,19 +8,16 @@ use Rattle.jser_filter.specs.declared.FilterCause.TheVariants as cause
 use Rattle.jser_filter.specs.declared.ModulesCause.{ModulesCause}
 use Rattle.jser_filter.specs.declared.ModulesCause.TheVariants as line
 use Rattle.jser_filter.specs.Faults.{cause_text, modules_cause_text, fault_text, modules_fault_text}
-use Rattle.jser_room.specs.Rooms.{Holds}
 use Rattle.jser_commands.specs.Lines.{yes_line, no_line, hidden_line}
+use Rattle.jser_settings.specs.declared.FileCause.{FileCause}
+use Rattle.jser_settings.specs.declared.FileCause.TheVariants as slip
+use Rattle.jser_settings.specs.FileFaults.{file_cause_text, file_fault_text}
+use Rattle.jser_commands.specs.Reasons.{hidden_meaning, reason_meaning}
 use Rattle.jser_ffi.specs.declared.answer.Answer.{Answer}
+use Rattle.jser_ffi.specs.Rooms.{Puts}
 use Rattle.jser_ffi.specs.Told.{bare_answer, refusal_in, report_in}
 
--- the text is in the room, or its first bytes fill it; the answer has its length
-pub record Puts (text old new : List ℕ) (answer : Answer) : Type 0 where
-  pub length_is : answer.bytes ≡ length text
-  pub whole : answer.status ≡ 0 → Holds true text old new
-  pub front : answer.status ≡ 6 → Holds false text old new
-  pub known : (answer.status ≡ 0) ⊎ (answer.status ≡ 6)
-
--- the same of a text, if there is one; else the answer is 5 and nothing is written
+-- a text is put into the room, if there is one; else the answer is 5 and nothing is written
 abbrev pub PutsAny : Option (List ℕ) → (old new : List ℕ) → Answer → Type 0
 PutsAny None old new answer = (answer ≡ bare_answer 5) × (new ≡ old)
 PutsAny (Some text) old new answer = Puts text old new answer
@@ -62,6 +59,10 @@ reason_at n =
 abbrev pub name_at : ℕ → Option (List ℕ)
 name_at n = if n == 26 then Some (codes "HiddenName") else option_map reason_name (reason_at n)
 
+-- what the reason of a number means, in a sentence
+abbrev pub meaning_at : ℕ → Option (List ℕ)
+meaning_at n = if n == 26 then Some hidden_meaning else option_map reason_meaning (reason_at n)
+
 -- the names of the causes of a misuse
 abbrev pub cause_at : ℕ → Option (List ℕ)
 cause_at n =
@@ -74,7 +75,10 @@ cause_at n =
     (if n == 7 then Some (modules_cause_text line.BadLine) else
     (if n == 8 then Some (modules_cause_text line.PackageTwice) else
     (if n == 9 then Some (codes "ModulesAreNoText") else
-    (if n == 10 then Some (codes "UnknownFlag") else None)))))))))
+    (if n == 10 then Some (codes "UnknownFlag") else
+    (if n == 11 then Some (file_cause_text slip.ByteOrderMark) else
+    (if n == 12 then Some (file_cause_text slip.NumberSign) else
+    (if n == 13 then Some (file_cause_text slip.WhiteSpace) else None))))))))))))
 
 -- ---- the line that the program prints of an answer
 
@@ -89,6 +93,9 @@ pattern_line pattern why = fault_text (record { pattern = pattern; cause = why }
 abbrev pub module_line : (number : ℕ) → ModulesCause → List ℕ
 module_line number why = modules_fault_text (record { line = number; cause = why }) ++ codes "\n"
 
+abbrev pub file_line : (number : ℕ) → FileCause → List ℕ
+file_line number why = file_fault_text (record { line = number; cause = why }) ++ codes "\n"
+
 abbrev pub misuse_line_of : Answer → Option (List ℕ)
 misuse_line_of answer =
     if answer.reason == 1 then Some (pattern_line answer.from_byte cause.UnknownLimit) else
@@ -100,7 +107,10 @@ misuse_line_of answer =
     (if answer.reason == 7 then Some (module_line answer.from_byte line.BadLine) else
     (if answer.reason == 8 then Some (module_line answer.from_byte line.PackageTwice) else
     (if answer.reason == 9 then Some (codes "modules are not text\n") else
-    (if answer.reason == 10 then Some (codes "unknown flag\n") else None)))))))))
+    (if answer.reason == 10 then Some (codes "unknown flag\n") else
+    (if answer.reason == 11 then Some (file_line answer.from_byte slip.ByteOrderMark) else
+    (if answer.reason == 12 then Some (file_line answer.from_byte slip.NumberSign) else
+    (if answer.reason == 13 then Some (file_line answer.from_byte slip.WhiteSpace) else None))))))))))))
 
 abbrev pub line_of : Answer → Option (List ℕ)
 line_of answer =

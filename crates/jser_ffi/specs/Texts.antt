@@ -1,39 +1,45 @@
 -- What the answer to a text in a room means.
-use Rattle.std.specs.Prelude.{ℕ, ◌≡◌, Bool, true, false, List}
-use Rattle.jser_room.specs.declared.Shown.{Shown}
-use Rattle.jser_room.specs.Rooms.{ShowsInto}
+use Rattle.std.specs.Prelude.{ℕ, ◌≡◌, ◌⊎◌, List}
+use Rattle.jser_grammar.specs.Trees.{ContentTrees}
+use Rattle.jser_verdict.specs.Passing.{Passes}
+use Rattle.jser_reader.specs.Gates.{open_gate}
 use Rattle.jser_filter.specs.Filters.{FilterView}
-use Rattle.jser_listing.specs.Listings.{ListsInto}
+use Rattle.jser_index.specs.Graphs.{GraphView, StandsFor}
+use Rattle.jser_shown.specs.Listed.{listed}
+use Rattle.jser_shown.specs.Shown.{shown}
+use Rattle.jser_commands.specs.Lines.{words_on}
 use Rattle.jser_ffi.specs.declared.answer.Answer.{Answer}
 use Rattle.jser_ffi.specs.Compiling.{IsFilterOf, IsTableOf}
+use Rattle.jser_ffi.specs.Rooms.{PutsUpTo}
 
-abbrev pub text_status : (whole : Bool) → ℕ
-text_status true = 0
-text_status false = 6
+-- a text was written, or its first bytes
+abbrev pub HasText : Answer → Type 0
+HasText answer = (answer.status ≡ 0) ⊎ (answer.status ≡ 6)
 
--- the answer has the length of the text, and says whether the room has all of it
-pub record HasShown (answer : Answer) (what : Shown) : Type 0 where
-  pub status : answer.status ≡ text_status what.whole
-  pub length_is : answer.bytes ≡ what.length
+-- the text of the one list that the bytes spell, or its first bytes
+pub record PutsOf (text : ContentTrees → List ℕ) (most : ℕ) (bytes old new : List ℕ) (answer : Answer) : Type 0 where
+  pub list : ContentTrees
+  pub passes : Passes open_gate bytes list
+  pub puts : PutsUpTo most (text list) old new answer
 
-abbrev pub shown_in : Answer → (whole : Bool) → Shown
-shown_in answer whole = record { length = answer.bytes; whole = whole }
+-- that of show
+abbrev pub TellsText : (most : ℕ) → (bytes old new : List ℕ) → Answer → Type 0
+TellsText most bytes old new answer = HasText answer → PutsOf shown most bytes old new answer
 
--- with the status 0 the room begins with the text, with 6 it is filled by the first bytes of a longer one: `Into` says of which text
-pub record TellsRoom (Into : Shown → Type 0) (answer : Answer) : Type 0 where
-  pub whole : answer.status ≡ 0 → Into (shown_in answer true)
-  pub front : answer.status ≡ 6 → Into (shown_in answer false)
+-- of each list for which a graph stands
+abbrev pub PutsShown : (most : ℕ) → GraphView → (old new : List ℕ) → Answer → Type 0
+PutsShown most graph old new answer = (bytes : List ℕ) (list : ContentTrees) → StandsFor graph bytes list → HasText answer → PutsUpTo most (shown list) old new answer
 
--- of the text of show
-abbrev pub TellsText : (bytes old new : List ℕ) → Answer → Type 0
-TellsText bytes old new answer = TellsRoom (ShowsInto bytes old new) answer
+-- that of list, with what the filter says of each name
+abbrev pub TellsNames : FilterView → (most : ℕ) → (bytes old new : List ℕ) → Answer → Type 0
+TellsNames filter most bytes old new answer = HasText answer → PutsOf (listed (words_on filter)) most bytes old new answer
 
--- of the text of list, under the filter of a text and of a table of modules
-pub record ListsUnder (text modules bytes old new : List ℕ) (what : Shown) : Type 0 where
+-- under the filter of a text and of a table of modules
+pub record ListsUnder (text modules : List ℕ) (most : ℕ) (bytes old new : List ℕ) (answer : Answer) : Type 0 where
   pub filter : FilterView
   pub pieces_are : IsFilterOf text filter.pieces
   pub table_is : IsTableOf modules filter.modules
-  pub lists : ListsInto filter bytes old new what
+  pub lists : PutsOf (listed (words_on filter)) most bytes old new answer
 
-abbrev pub TellsList : (text modules bytes old new : List ℕ) → Answer → Type 0
-TellsList text modules bytes old new answer = TellsRoom (ListsUnder text modules bytes old new) answer
+abbrev pub TellsList : (text modules : List ℕ) → (most : ℕ) → (bytes old new : List ℕ) → Answer → Type 0
+TellsList text modules most bytes old new answer = HasText answer → ListsUnder text modules most bytes old new answer

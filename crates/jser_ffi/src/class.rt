@@ -4,7 +4,7 @@ ghost use Rattle.jser_prim.specs.ModifiedUtf8.{modified_utf8};
 ghost use Rattle.jser_anywhere.specs.Standing.{StandsAt};
 ghost use Rattle.jser_shown.specs.Words.{quoted};
 ghost use Rattle.jser_ffi.specs.Classes.{IsClassOf, PutsClass, is_hidden, part};
-ghost use Rattle.jser_ffi.specs.Lines.{Puts};
+ghost use Rattle.jser_ffi.specs.Rooms.{Puts};
 ghost use Rattle.jser_ffi.specs.Told.{TextZeros};
 
 use crate::answer::{Answer, HIDDEN_NAME, NO_MEMORY, SPENT, bare};

@@ -1,16 +1,18 @@
 //! A filter that was read once, and the check of bytes under it.
 ghost use Rattle.std.specs.Prelude.{◌≡◌, ◌⊎◌, IfOk, IfErr};
-ghost use Rattle.jser_ffi.specs.Compiling.{IsCompiled, IsFilterOf, IsTableOf, TextIsFaulty, TextsAreFaulty, ModulesAreFaulty, SaysMisuse};
+ghost use Rattle.jser_ffi.specs.Compiling.{IsCompiled, IsCompiledFile, IsFilterOf, IsTableOf, TextIsFaulty, TextsAreFaulty, ModulesAreFaulty, SaysFileMisuse, SaysMisuse};
 ghost use Rattle.jser_ffi.specs.Told.{HasFault, Says, SaysAnywhere, SaysPlain, Zeros};
 
 use crate::answer::{Answer, NO_MEMORY, SPENT, accepted, bare, hidden, misuse, refused};
 use crate::misuse::{
-    FILTER_IS_NO_TEXT, MODULES_ARE_NO_TEXT, UNKNOWN_FLAG, filter_answer, modules_answer,
+    FILTER_IS_NO_TEXT, MODULES_ARE_NO_TEXT, UNKNOWN_FLAG, file_answer, filter_answer,
+    modules_answer,
 };
 use crate::way::way_of;
 use jser_check::{Options, Stop, check_bytes};
 use jser_check_anywhere::{AnywhereChecker, AnywhereFault};
 use jser_filter::{Filter, Modules};
+use jser_settings::{FileTextFault, filter_text_of};
 use jser_shared::SharedFilter;
 use std::alloc::Global;
 use std::str;
@@ -55,6 +57,34 @@ pub(crate) fn compile(
             alloc,
         }),
         Err(_) => Err(bare(NO_MEMORY)),
+    }
+}
+
+/// The filter of a file of these bytes and of a table of modules, asked as the flags say.
+///
+/// # Errors
+///
+/// The answer: of a misuse, or that memory ran out.
+#[tactic(auto, using(crate::proofs::CompileLemmas::file_misuse, crate::proofs::CompileLemmas::file_compiled, crate::proofs::CompileLemmas::no_file_text, crate::proofs::CompileLemmas::file_line))]
+pub(crate) fn compile_file(
+    alloc: Global,
+    file: &[u8],
+    modules: &[u8],
+    flags: u32,
+) -> Result<Compiled, Answer>
+    ensures compiled { IfOk result (IsCompiledFile flags file.now modules.now) }
+    ensures misuse { IfErr result (λ answer. answer.status ≡ 2 → SaysFileMisuse flags file.now modules.now answer) }
+    ensures known { IfErr result (λ answer. (answer.status ≡ 2) ⊎ (answer.status ≡ 3)) }
+    ensures zeros { IfErr result Zeros }
+{
+    match filter_text_of(alloc, file) {
+        Ok(text) => match compile(alloc, text.as_bytes(), modules, flags) {
+            Ok(compiled) => Ok(compiled),
+            Err(answer) => Err(answer),
+        },
+        Err(FileTextFault::NoText) => Err(misuse(FILTER_IS_NO_TEXT, 0)),
+        Err(FileTextFault::Faulty(fault)) => Err(file_answer(fault)),
+        Err(FileTextFault::OutOfMemory) => Err(bare(NO_MEMORY)),
     }
 }
 

@@ -9,12 +9,14 @@ ghost use types.Logic.{sem};
 ghost use base.Fml.{flft};
 ghost use Rattle.jser_ffi.specs.Lending.{BeginsIn, Checks, IsSpent, Reading, reads};
 ghost use Rattle.jser_ffi.specs.declared.compiled.Compiled.{Compiled};
-ghost use Rattle.jser_ffi.specs.Compiling.{IsCompiled, SaysMisuse, TextsAreFaulty};
+ghost use Rattle.jser_ffi.specs.Compiling.{IsCompiled, IsCompiledFile, SaysFileMisuse, SaysMisuse, TextsAreFaulty};
 ghost use Rattle.jser_ffi.specs.Holding.{HoldsSuch};
 ghost use Rattle.jser_reader.specs.declared.Reason.{Reason};
 ghost use Rattle.jser_reader.specs.ReasonNames.{reason_name};
 ghost use Rattle.jser_ffi.specs.Classes.{PutsClass};
-ghost use Rattle.jser_ffi.specs.Lines.{Puts, PutsAny, cause_at, line_of, name_at, version_number};
+ghost use Rattle.jser_commands.specs.Reasons.{reason_meaning};
+ghost use Rattle.jser_ffi.specs.Lines.{PutsAny, cause_at, line_of, meaning_at, name_at, version_number};
+ghost use Rattle.jser_ffi.specs.Rooms.{Puts};
 ghost use Rattle.jser_index.specs.Reading.{IsRefused};
 ghost use Rattle.jser_ffi.specs.Texts.{TellsList, TellsText};
 ghost use Rattle.jser_ffi.specs.Told.{Says, SaysUnder, TellsRefusal, TextZeros, Zeros, bare_answer, reason_number};
@@ -43,16 +45,16 @@ mod way;
 
 use answer::{Answer, NO_MEMORY, SPENT, bare};
 use class::class_into;
-use compiled::{Compiled, compile};
+use compiled::{Compiled, compile, compile_file};
 use filter_handle::FilterHandle;
 use lent_filter::{LentFilter, is_open, pointer_of};
 use line::line_into;
-use named::{name_of_cause, name_of_reason};
+use named::{meaning_of_reason, name_of_cause, name_of_reason};
 use room::put_any;
 use std::alloc::Global;
 use stream::Stream;
 use stream_handle::StreamHandle;
-use text::{list_text, text_into};
+use text::{list_text, show_text};
 
 /// Checks whether bytes are one stream that the filter of a text admits. The text is read each time.
 #[unsafe(no_mangle)]
@@ -106,6 +108,32 @@ pub extern "C" fn serialcheck_filter_new(
     ensures bare { result ≢ 2 → answer.new ≡ bare_answer result }
 {
     *answer = match compile(alloc, text, modules, flags) {
+        Ok(compiled) => filter.fill(alloc, compiled),
+        Err(answer) => answer,
+    };
+    answer.status
+}
+
+/// Reads the file of a filter and a table of modules once: the lines of a file are pieces, and one that begins with `#` is a
+/// comment. Where the status is 0, the handle holds the filter, and what it held before is let go; else it is as it was.
+#[unsafe(no_mangle)]
+pub extern "C" fn serialcheck_filter_read(
+    alloc: Global,
+    file: &[u8],
+    modules: &[u8],
+    flags: u32,
+    answer: &mut Answer,
+    filter: &mut FilterHandle,
+) -> u32
+    ensures status { result ≡ answer.new.status }
+    ensures holds { result ≡ 0 → HoldsSuch (IsCompiledFile flags file.now modules.now) filter.new.owner.held }
+    ensures misuse { result ≡ 2 → SaysFileMisuse flags file.now modules.now answer.new }
+    ensures kept { result ≢ 0 → filter.new ≡ filter.old }
+    ensures known { (result ≡ 0) ⊎ ((result ≡ 2) ⊎ (result ≡ 3)) }
+    ensures zeros { Zeros answer.new }
+    ensures bare { result ≢ 2 → answer.new ≡ bare_answer result }
+{
+    *answer = match compile_file(alloc, file, modules, flags) {
         Ok(compiled) => filter.fill(alloc, compiled),
         Err(answer) => answer,
     };
@@ -290,45 +318,48 @@ pub extern "C" fn serialcheck_stream_end(
 }
 
 /// Writes the text of `show` of a stream into a room, or as many of its first bytes as the room has; the answer has the length
-/// of the whole text.
+/// of the whole text. Of a text of more than `most` bytes no more is made: the answer is 6 then, with no length.
 #[unsafe(no_mangle)]
 pub extern "C" fn serialcheck_show(
     alloc: Global,
     bytes: &[u8],
+    most: usize,
     room: &mut [u8],
     answer: &mut Answer,
 ) -> u32
     ensures status { result ≡ answer.new.status }
-    ensures shown { TellsText bytes.now room.old room.new answer.new }
+    ensures shown { TellsText most bytes.now room.old room.new answer.new }
     ensures refused { result ≡ 1 → TellsRefusal (IsRefused bytes.now) answer.new }
     ensures kept { (result ≡ 1) ⊎ (result ≡ 3) → room.new ≡ room.old }
     ensures known { (result ≡ 0) ⊎ ((result ≡ 1) ⊎ ((result ≡ 3) ⊎ (result ≡ 6))) }
     ensures zeros { TextZeros answer.new }
 {
-    *answer = text_into(alloc, bytes, room);
+    *answer = show_text(alloc, bytes, most, room);
     answer.status
 }
 
 /// Writes the text of `list` of a stream into a room, or as many of its first bytes as the room has; the answer has the length
-/// of the whole text. The filter of a text and of a table of modules is asked about each name, and refuses nothing.
+/// of the whole text. Of a text of more than `most` bytes no more is made: the answer is 6 then, with no length. The filter of a
+/// text and of a table of modules is asked about each name, and refuses nothing.
 #[unsafe(no_mangle)]
 pub extern "C" fn serialcheck_list(
     alloc: Global,
     bytes: &[u8],
     filter: &[u8],
     modules: &[u8],
+    most: usize,
     room: &mut [u8],
     answer: &mut Answer,
 ) -> u32
     ensures status { result ≡ answer.new.status }
-    ensures listed { TellsList filter.now modules.now bytes.now room.old room.new answer.new }
+    ensures listed { TellsList filter.now modules.now most bytes.now room.old room.new answer.new }
     ensures refused { result ≡ 1 → TellsRefusal (IsRefused bytes.now) answer.new }
     ensures misuse { result ≡ 2 → TextsAreFaulty filter.now modules.now answer.new }
     ensures kept { (result ≡ 1) ⊎ ((result ≡ 2) ⊎ (result ≡ 3)) → room.new ≡ room.old }
     ensures known { (result ≡ 0) ⊎ ((result ≡ 1) ⊎ ((result ≡ 2) ⊎ ((result ≡ 3) ⊎ (result ≡ 6)))) }
     ensures zeros { TextZeros answer.new }
 {
-    *answer = list_text(alloc, bytes, filter, modules, room);
+    *answer = list_text(alloc, bytes, filter, modules, most, room);
     answer.status
 }
 
@@ -358,6 +389,19 @@ pub extern "C" fn serialcheck_reason_name(reason: u32, room: &mut [u8], answer: 
     ensures zeros { TextZeros answer.new }
 {
     *answer = put_any(name_of_reason(reason), room);
+    answer.status
+}
+
+/// Writes what the reason with a number means into a room: a sentence.
+#[tactic(auto, using(crate::proofs::LineLemmas::means))]
+#[unsafe(no_mangle)]
+pub extern "C" fn serialcheck_reason_text(reason: u32, room: &mut [u8], answer: &mut Answer) -> u32
+    ensures status { result ≡ answer.new.status }
+    ensures told { PutsAny (meaning_at reason) room.old room.new answer.new }
+    ensures right { (why : Reason) → reason_number why ≡ reason → Puts (reason_meaning why) room.old room.new answer.new }
+    ensures zeros { TextZeros answer.new }
+{
+    *answer = put_any(meaning_of_reason(reason), room);
     answer.status
 }
 

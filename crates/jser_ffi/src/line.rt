@@ -2,7 +2,7 @@
 ghost use Rattle.std.specs.Prelude.{◌≡◌, ◌⊎◌, ◌≢◌, ◌++◌, IfOk, OnOk, option_map, string_bytes};
 ghost use Rattle.std.specs.Fmt.{decimal};
 ghost use Rattle.jser_commands.specs.Lines.{hidden_line, no_line, yes_line};
-ghost use Rattle.jser_ffi.specs.Lines.{PutsAny, line_of, misuse_line_of, module_line, no_line_of, pattern_line};
+ghost use Rattle.jser_ffi.specs.Lines.{PutsAny, file_line, line_of, misuse_line_of, module_line, no_line_of, pattern_line};
 ghost use Rattle.jser_ffi.specs.Told.{TextZeros, refusal_in, report_in};
 
 use crate::answer::{Answer, HIDDEN_NAME, MISUSE, NO, NO_MEMORY, SPENT, YES, bare};
@@ -10,6 +10,7 @@ use crate::named::reason_of;
 use crate::room::put;
 use jser_filter::{FilterCause, FilterFault, ModulesCause, ModulesFault};
 use jser_reader::Reason;
+use jser_settings::{FileCause, FileFault};
 use std::alloc::{AllocError, Global};
 use std::fmt::Write;
 
@@ -86,7 +87,7 @@ fn line_of_hidden(alloc: Global, answer: &Answer) -> Result<String, AllocError>
     Ok(text)
 }
 
-/// The same of a refusal with a reason.
+/// `no at A to E: REASON`, of a reason
 fn line_of_refusal(alloc: Global, answer: &Answer, reason: Reason) -> Result<String, AllocError>
     ensures { IfOk result (λ text. string_bytes text ≡ no_line (refusal_in answer.now reason)) }
 {
@@ -115,6 +116,9 @@ fn line_of_misuse(alloc: Global, answer: &Answer) -> Result<Option<String>, Allo
         8 => Ok(Some(line_of_module(alloc, place, ModulesCause::PackageTwice)?)),
         9 => Ok(Some(said(alloc, "modules are not text\n")?)),
         10 => Ok(Some(said(alloc, "unknown flag\n")?)),
+        11 => Ok(Some(line_of_file(alloc, place, FileCause::ByteOrderMark)?)),
+        12 => Ok(Some(line_of_file(alloc, place, FileCause::NumberSign)?)),
+        13 => Ok(Some(line_of_file(alloc, place, FileCause::WhiteSpace)?)),
         _ => Ok(None),
     }
 }
@@ -136,6 +140,18 @@ fn line_of_module(alloc: Global, place: u64, cause: ModulesCause) -> Result<Stri
     ensures { IfOk result (λ text. string_bytes text ≡ (module_line place cause)) }
 {
     let fault = ModulesFault {
+        line: place as usize,
+        cause,
+    };
+    let line = format!(in alloc; "{fault}\n")?;
+    Ok(line)
+}
+
+/// `filter line N: CAUSE`
+fn line_of_file(alloc: Global, place: u64, cause: FileCause) -> Result<String, AllocError>
+    ensures { IfOk result (λ text. string_bytes text ≡ (file_line place cause)) }
+{
+    let fault = FileFault {
         line: place as usize,
         cause,
     };

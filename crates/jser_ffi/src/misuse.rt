@@ -1,12 +1,13 @@
-//! The answers where a filter's text or a table of modules is faulty.
+//! The answers where a filter's text or file or a table of modules is faulty.
 ghost use Rattle.std.specs.Prelude.{◌≡◌, ◌≢◌, ◌⊎◌};
 ghost use Rattle.jser_filter.specs.declared.FilterCause.TheVariants as cause;
 ghost use Rattle.jser_filter.specs.declared.ModulesCause.TheVariants as line;
-ghost use Rattle.jser_ffi.specs.Compiling.{filter_cause_number, modules_cause_number};
+ghost use Rattle.jser_ffi.specs.Compiling.{file_cause_number, filter_cause_number, modules_cause_number};
 ghost use Rattle.jser_ffi.specs.Told.{Zeros};
 
 use crate::answer::{Answer, NO_MEMORY, bare, misuse};
 use jser_filter::{FilterCause, FilterFault, ModulesCause, ModulesFault};
+use jser_settings::{FileCause, FileFault};
 
 /// The cause that the bytes of a filter are no text, by its number in `include/serialcheck.h`.
 pub(crate) const FILTER_IS_NO_TEXT: u32 = 6;
@@ -29,6 +30,21 @@ pub(crate) fn filter_answer(fault: FilterFault) -> Answer
         FilterCause::NameMissing => misuse(4, place),
         FilterCause::PackageMissing => misuse(5, place),
         FilterCause::OutOfMemory => bare(NO_MEMORY),
+    }
+}
+
+/// The answer of a faulty line of a filter's file.
+pub(crate) fn file_answer(fault: FileFault) -> Answer
+    ensures status { result.status ≡ 2 }
+    ensures reason { result.reason ≡ file_cause_number fault.cause }
+    ensures place { result.from_byte ≡ fault.line }
+    ensures zeros { Zeros result }
+{
+    let place = fault.line as u64;
+    match fault.cause {
+        FileCause::ByteOrderMark => misuse(11, place),
+        FileCause::NumberSign => misuse(12, place),
+        FileCause::WhiteSpace => misuse(13, place),
     }
 }
 

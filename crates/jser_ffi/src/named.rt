@@ -1,8 +1,9 @@
 //! The reasons of a refusal and the causes of a misuse, by their numbers.
 ghost use Rattle.std.specs.Prelude.{◌≡◌, option_map};
-ghost use Rattle.jser_ffi.specs.Lines.{cause_at, name_at, reason_at};
+ghost use Rattle.jser_ffi.specs.Lines.{cause_at, meaning_at, name_at, reason_at};
 
 use crate::answer::HIDDEN_NAME;
+use jser_commands::{meaning_of, meaning_of_hidden};
 use jser_reader::Reason;
 
 /// The reason with a number.
@@ -52,6 +53,19 @@ pub(crate) fn name_of_reason(number: u32) -> Option<&'static str>
     }
 }
 
+/// What the reason with a number means, in a sentence.
+pub(crate) fn meaning_of_reason(number: u32) -> Option<&'static str>
+    ensures { option_map (λ text. text.now) result ≡ meaning_at number }
+{
+    if number == HIDDEN_NAME {
+        return Some(meaning_of_hidden());
+    }
+    match reason_of(number) {
+        Some(reason) => Some(meaning_of(reason)),
+        None => None,
+    }
+}
+
 /// The name of the cause with a number.
 pub(crate) fn name_of_cause(number: u32) -> Option<&'static str>
     ensures { option_map (λ name. name.now) result ≡ cause_at number }
@@ -67,6 +81,9 @@ pub(crate) fn name_of_cause(number: u32) -> Option<&'static str>
         8 => Some("PackageTwice"),
         9 => Some("ModulesAreNoText"),
         10 => Some("UnknownFlag"),
+        11 => Some("ByteOrderMark"),
+        12 => Some("NumberSign"),
+        13 => Some("WhiteSpace"),
         _ => None,
     }
 }
