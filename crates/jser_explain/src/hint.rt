@@ -25,6 +25,10 @@ fn looks_like(bytes: &[u8]) -> &'static [u8]
         b"  The bytes look like hexadecimal: try --hex.\n"
     } else if bytes.starts_with(&[0x1F, 0x8B]) {
         b"  The bytes look like gzip: unpack them first.\n"
+    } else if bytes.starts_with(b"PK\x03\x04") {
+        b"  The bytes look like zip: unpack them first.\n"
+    } else if bytes.starts_with(b"{") || bytes.starts_with(b"[") {
+        b"  The bytes look like JSON, which holds no Java objects.\n"
     } else {
         b""
     }

@@ -138,7 +138,7 @@ piece_agrees found package_found name is (kept.Limit limit value) = no_finder fo
     no_finder None (Some package_name) name = refl
     no_finder (Some module_name) None name = refl
     no_finder (Some module_name) (Some package_name) name = refl
-piece_agrees found package_found name is (kept.Pattern pattern) = sym (agrees found package_found name pattern.in_module pattern.name is)
+piece_agrees found package_found name is (kept.Pattern pattern) = sym (agrees found package_found name pattern.value.in_module pattern.value.name is)
 
 inside_is : (pieces : List Piece) (index : Index) → IsIndex pieces index → (package_found : Option (List ℕ)) → first_inside index.packages package_found ≡ position (inside_test package_found) pieces
 inside_is pieces index is None = sym (no_first pieces)

@@ -79,7 +79,7 @@ view_pattern p = record { rejects = p.rejects; in_module = p.in_module; name = v
 abbrev pub view_piece : KeptPiece → Piece
 view_piece kept.Empty = empty_piece
 view_piece (kept.Limit limit value) = limit_piece limit value
-view_piece (kept.Pattern pattern) = pattern_piece (view_pattern pattern)
+view_piece (kept.Pattern pattern) = pattern_piece (view_pattern pattern.value)
 
 -- the cause is the one that the piece has, or memory ran out
 abbrev pub IsCauseOf : Piece → FilterCause → Type 0

@@ -1,5 +1,5 @@
 //! The table of modules: which module each package is in.
-ghost use Rattle.std.specs.Prelude.{List, ◌≡◌, ◌≢◌, ℕ, ◌<◌, [], length, option_map, option_and_then, map, None, IfOk, IfErr, OnOk, ◌++◌, ◌∷◌};
+ghost use Rattle.std.specs.Prelude.{List, ◌≡◌, ◌==◌, ◌≢◌, ℕ, ◌<◌, [], length, option_map, option_and_then, map, None, IfOk, IfErr, OnOk, ◌++◌, ◌∷◌};
 ghost use Rattle.jser_prim.specs.ModifiedUtf8.{utf16_units};
 ghost use Rattle.jser_filter.specs.Cuts.{cut, part_now, both_now};
 ghost use Rattle.jser_filter.specs.Tables.{module_of, module_at, entry_of, view_entry, view_sides, read_sides, read_line, lines_of, table_of, fault_in, IsLineCause, AreSoundLines, IsFirstLineFault};
@@ -80,6 +80,13 @@ impl Modules {
             Ok(units) => read_lines(alloc, &units),
             Err(_) => Err(no_memory_at_first()),
         }
+    }
+
+    /// Whether no package has a module.
+    pub fn is_empty(&self) -> bool
+        ensures { result ≡ (length self.now == 0) }
+    {
+        self.entries.is_empty()
     }
 
     /// The module of a package, if the table has it. It allocates nothing.

@@ -18,12 +18,13 @@ pub(crate) struct Pattern {
     pub(crate) name: NamePattern,
 }
 
-/// What a piece says. An empty one says nothing, and keeps its place in the order.
+/// What a piece says. An empty one says nothing, and keeps its place in the order. A pattern lies on the heap, so that a text
+/// of separators alone costs 16 bytes a piece.
 #[derive(Drop)]
 pub(crate) enum Piece {
     Empty,
     Limit(Limit, u64),
-    Pattern(Pattern),
+    Pattern(Box<Pattern>),
 }
 
 const EQUALS: u16 = 0x3D;
@@ -105,11 +106,15 @@ fn read_name(
         return Err(FilterCause::PackageMissing);
     }
     let name = NamePattern::read(alloc, units)?;
-    Ok(Piece::Pattern(Pattern {
+    let pattern = Pattern {
         rejects,
         in_module,
         name,
-    }))
+    };
+    match Box::new(alloc, pattern) {
+        Ok(pattern) => Ok(Piece::Pattern(pattern)),
+        Err(_) => Err(FilterCause::OutOfMemory),
+    }
 }
 
 /// Whether the name pattern is `.*` or `.**` alone.

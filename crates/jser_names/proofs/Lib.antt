@@ -5,5 +5,6 @@ pub mod LentLemmas
 pub mod ListLemmas
 pub mod PieceLemmas
 pub mod SourceLemmas
+pub mod ReadOnLemmas
 pub mod StepLemmas
 pub mod WholeLemmas

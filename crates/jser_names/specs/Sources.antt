@@ -1,5 +1,5 @@
 -- The names of the stream of a source, and why there are none.
-use Rattle.std.specs.Prelude.{ℕ, ◌≡◌, ◌≢◌, ◌+◌, ◌≤◌, ◌⊎◌, Bool, true, List, length, map, take, Option, Result, Ok, Err, Vec}
+use Rattle.std.specs.Prelude.{ℕ, ◌≡◌, ◌≢◌, ◌+◌, ◌≤◌, ◌⊎◌, Bool, true, List, length, map, take, IfSome, Option, Result, Ok, Err, Vec}
 use Rattle.std.specs.Global.{Global}
 use Rattle.std.specs.Io.KnownBytes.{Consumes, IsAtEnd}
 use Rattle.jser_grammar.specs.Caps.{most_bytes}
@@ -41,7 +41,21 @@ FailsWith (fault.Refused refusal) failed_before failed_after = failed_after ≡ 
 FailsWith fault.ReadFault failed_before failed_after = failed_after ≡ true
 FailsWith fault.OutOfMemory failed_before failed_after = failed_after ≡ failed_before
 
+-- Some bytes came off a source: it is at its end, or with so many that are left there are at least `most`.
+pub record Passed (most left : ℕ) (had has : Option (List ℕ)) : Type 0 where
+  pub bytes : List ℕ
+  pub off : Consumes had has bytes
+  pub all : IfSome had (λ tells. IsAtEnd has ⊎ (most ≤ length bytes + left))
+
+-- where the bytes are refused, the source was read to its end, or one byte more than a stream may have has come
+abbrev pub IsReadOn : (had has : Option (List ℕ)) → NamesFault → Type 0
+IsReadOn had has why = IfRefused (λ refusal. Passed (most_bytes + 1) 0 had has) why
+
 -- ---- as code reads
+
+-- where the bytes are refused, so many may be read on
+abbrev pub IsHalted : (had has : Option (List ℕ)) → Halt → Type 0
+IsHalted had has halt = IfRefused (λ refusal. Passed (most_bytes + 1) halt.left had has) halt.fault
 
 -- one read, to the front of a buffer
 pub record TakesSome (most : ℕ) (buffer : List ℕ) (had has : Option (List ℕ)) (count : ℕ) : Type 0 where

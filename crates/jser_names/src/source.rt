@@ -1,7 +1,7 @@
 //! The names of the stream of a source, which is read in pieces.
 ghost use Rattle.std.specs.Prelude.{◌≡◌, ◌⊎◌, ◌<◌, ◌≤◌, length, vec_len, take, true, IfOk, IfErr, IfSome, OnOk, OnErr, map};
 ghost use Rattle.std.specs.Io.KnownBytes.{Consumes, IsAtEnd};
-ghost use Rattle.jser_names.specs.Sources.{Ends, EndsWith, FailsWith, HasNames, IfRefused, IsRefused, TakesSome};
+ghost use Rattle.jser_names.specs.Sources.{Ends, EndsWith, FailsWith, HasNames, IfRefused, IsHalted, IsReadOn, IsRefused, Passed, TakesSome};
 
 use crate::collector::Collector;
 use crate::laws::names_are_collected;
@@ -42,12 +42,13 @@ pub(crate) struct Halt {
 /// # Errors
 ///
 /// `NamesFault`, with the reason. A failed read is told whatever came before it, unless memory ran out.
-#[tactic(auto, using(crate::proofs::SourceLemmas::none_refused, crate::proofs::SourceLemmas::told_refused, crate::proofs::SourceLemmas::told_fails))]
+#[tactic(auto, using(crate::proofs::SourceLemmas::none_refused, crate::proofs::SourceLemmas::told_refused, crate::proofs::SourceLemmas::told_fails, crate::proofs::ReadOnLemmas::none_read, crate::proofs::ReadOnLemmas::reads_on))]
 pub fn names_of<R: Source>(alloc: Global, source: &mut R) -> Result<NameList, NamesFault>
     ensures accepted { IfOk result (λ names. IfSome (R.to_come source.old) (λ bytes. HasNames bytes names)) }
     ensures refused { IfErr result (λ why. IfSome (R.to_come source.old) (λ bytes. IfRefused (IsRefused bytes) why)) }
     ensures unbroken { OnOk result (R.has_failed source.new ≡ R.has_failed source.old) }
     ensures fault { IfErr result (λ why. FailsWith why (R.has_failed source.old) (R.has_failed source.new)) }
+    ensures read { IfErr result (λ why. IsReadOn (R.to_come source.old) (R.to_come source.new) why) }
 {
     let Ok(mut buffer) = new_buffer(alloc) else {
         return Err(NamesFault::OutOfMemory);
@@ -69,19 +70,23 @@ pub(crate) fn new_buffer(alloc: Global) -> Result<Vec<u8>, AllocError>
 pub(crate) fn told<R: Source>(source: &mut R, buffer: &mut [u8], halt: Halt) -> NamesFault
     requires room { 0 < length buffer.old }
     ensures is { (result ≡ halt.fault) × (R.has_failed source.new ≡ R.has_failed source.old) ⊎ ((result ≡ NamesFault.ReadFault) × (R.has_failed source.new ≡ true)) }
+    ensures read { IfRefused (λ refusal. Passed halt.left 0 (R.to_come source.old) (R.to_come source.new)) result }
 {
     match halt.fault {
-        NamesFault::Refused(_) => match pass_rest(source, buffer, halt.left) {
-            Ok(()) => halt.fault,
+        NamesFault::Refused(refusal) => match pass_rest(source, buffer, halt.left) {
+            Ok(()) => NamesFault::Refused(refusal),
             Err(_) => NamesFault::ReadFault,
         },
-        fault => fault,
+        NamesFault::ReadFault => NamesFault::ReadFault,
+        NamesFault::OutOfMemory => NamesFault::OutOfMemory,
     }
 }
 
 /// Reads on, to the end or so many bytes, and keeps nothing.
+#[tactic(auto, using(crate::proofs::ReadOnLemmas::passed_none, crate::proofs::ReadOnLemmas::passed_more, crate::proofs::ReadOnLemmas::passed_end, crate::proofs::ReadOnLemmas::passed_all))]
 fn pass_rest<R: Source>(source: &mut R, buffer: &mut [u8], most: u64) -> Result<(), Failed>
     requires { 0 < length buffer.old }
+    ensures read { OnOk result (Passed most 0 (R.to_come source.old) (R.to_come source.new)) }
     ensures ok { OnOk result (R.has_failed source.new ≡ R.has_failed source.old) }
     ensures err { OnErr result (R.has_failed source.new ≡ true) }
 {
@@ -115,7 +120,7 @@ pub(crate) fn read_some<R: Source>(
 }
 
 /// Reads the source to its end, and collects the names.
-#[tactic(auto, using(crate::proofs::SourceLemmas::reads_none, crate::proofs::SourceLemmas::reads_some, crate::proofs::SourceLemmas::reads_more, crate::proofs::SourceLemmas::reads_stop, crate::proofs::SourceLemmas::stop_fails, crate::proofs::SourceLemmas::failed_refused, crate::proofs::SourceLemmas::end_accepts, crate::proofs::SourceLemmas::end_refuses, crate::proofs::SourceLemmas::end_fails))]
+#[tactic(auto, using(crate::proofs::SourceLemmas::reads_none, crate::proofs::SourceLemmas::reads_some, crate::proofs::SourceLemmas::reads_more, crate::proofs::SourceLemmas::reads_stop, crate::proofs::SourceLemmas::stop_fails, crate::proofs::SourceLemmas::failed_refused, crate::proofs::SourceLemmas::end_accepts, crate::proofs::SourceLemmas::end_refuses, crate::proofs::SourceLemmas::end_fails, crate::proofs::ReadOnLemmas::halted_failed, crate::proofs::ReadOnLemmas::halted_end, crate::proofs::ReadOnLemmas::halted_stop))]
 fn read_names<R: Source>(
     alloc: Global,
     source: &mut R,
@@ -126,6 +131,7 @@ fn read_names<R: Source>(
     ensures refused { IfErr result (λ halt. IfSome (R.to_come source.old) (λ bytes. IfRefused (IsRefused bytes) halt.fault)) }
     ensures unbroken { OnOk result (R.has_failed source.new ≡ R.has_failed source.old) }
     ensures fault { IfErr result (λ halt. FailsWith halt.fault (R.has_failed source.old) (R.has_failed source.new)) }
+    ensures read { IfErr result (λ halt. IsHalted (R.to_come source.old) (R.to_come source.new) halt) }
     ensures size { length buffer.new ≡ length buffer.old }
 {
     let mut reader = Reader::new(alloc, OpenGate);
@@ -153,7 +159,8 @@ fn read_names<R: Source>(
 
 /// Where a reader stopped.
 pub(crate) fn halted(stop: Stop, left: u64) -> Halt
-    ensures { Ends stop result.fault }
+    ensures ends { Ends stop result.fault }
+    ensures left { result.left ≡ left }
 {
     let fault = match stop {
         Stop::Refused(refusal) => NamesFault::Refused(refusal),

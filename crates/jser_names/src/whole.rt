@@ -1,6 +1,6 @@
 //! The bytes of a source, if they are a stream. They are checked as they come, so that none is kept of one that is refused.
 ghost use Rattle.std.specs.Prelude.{◌≡◌, ◌<◌, ◌++◌, length, IfOk, IfErr, IfSome, OnOk};
-ghost use Rattle.jser_names.specs.Sources.{FailsWith, IfRefused, IsRefused};
+ghost use Rattle.jser_names.specs.Sources.{FailsWith, IfRefused, IsHalted, IsReadOn, IsRefused};
 ghost use Rattle.jser_names.specs.Wholes.{EndsKept, IsStream, KeepsPiece};
 
 use crate::source::{Halt, NamesFault, halted, new_buffer, read_some, told};
@@ -15,12 +15,13 @@ use std::alloc::Global;
 /// # Errors
 ///
 /// `NamesFault`, with the reason. A failed read is told whatever came before it, unless memory ran out.
-#[tactic(auto, using(crate::proofs::SourceLemmas::none_refused, crate::proofs::SourceLemmas::told_refused, crate::proofs::SourceLemmas::told_fails))]
+#[tactic(auto, using(crate::proofs::SourceLemmas::none_refused, crate::proofs::SourceLemmas::told_refused, crate::proofs::SourceLemmas::told_fails, crate::proofs::ReadOnLemmas::none_read, crate::proofs::ReadOnLemmas::reads_on))]
 pub fn bytes_of<R: Source>(alloc: Global, source: &mut R) -> Result<Vec<u8>, NamesFault>
     ensures accepted { IfOk result (λ whole. IfSome (R.to_come source.old) (λ bytes. IsStream bytes whole.items)) }
     ensures refused { IfErr result (λ why. IfSome (R.to_come source.old) (λ bytes. IfRefused (IsRefused bytes) why)) }
     ensures unbroken { OnOk result (R.has_failed source.new ≡ R.has_failed source.old) }
     ensures fault { IfErr result (λ why. FailsWith why (R.has_failed source.old) (R.has_failed source.new)) }
+    ensures read { IfErr result (λ why. IsReadOn (R.to_come source.old) (R.to_come source.new) why) }
 {
     let Ok(mut buffer) = new_buffer(alloc) else {
         return Err(NamesFault::OutOfMemory);
@@ -32,13 +33,14 @@ pub fn bytes_of<R: Source>(alloc: Global, source: &mut R) -> Result<Vec<u8>, Nam
 }
 
 /// Reads the source to its end, and keeps its bytes.
-#[tactic(auto, using(crate::proofs::WholeLemmas::kept_none, crate::proofs::SourceLemmas::stop_fails, crate::proofs::SourceLemmas::failed_refused))]
+#[tactic(auto, using(crate::proofs::WholeLemmas::kept_none, crate::proofs::SourceLemmas::stop_fails, crate::proofs::SourceLemmas::failed_refused, crate::proofs::ReadOnLemmas::halted_failed, crate::proofs::ReadOnLemmas::kept_end, crate::proofs::ReadOnLemmas::halted_kept))]
 fn read_bytes<R: Source>(alloc: Global, source: &mut R, buffer: &mut [u8]) -> Result<Vec<u8>, Halt>
     requires { 0 < length buffer.old }
     ensures accepted { IfOk result (λ whole. IfSome (R.to_come source.old) (λ bytes. IsStream bytes whole.items)) }
     ensures refused { IfErr result (λ halt. IfSome (R.to_come source.old) (λ bytes. IfRefused (IsRefused bytes) halt.fault)) }
     ensures unbroken { OnOk result (R.has_failed source.new ≡ R.has_failed source.old) }
     ensures fault { IfErr result (λ halt. FailsWith halt.fault (R.has_failed source.old) (R.has_failed source.new)) }
+    ensures read { IfErr result (λ halt. IsHalted (R.to_come source.old) (R.to_come source.new) halt) }
     ensures size { length buffer.new ≡ length buffer.old }
 {
     let mut reader = Reader::new(alloc, OpenGate);

@@ -1,5 +1,6 @@
 pub mod FilterFiles
 pub mod FileFaults
+pub mod FileTexts
 pub mod NoPatterns
 pub mod Settings
 pub mod Whole

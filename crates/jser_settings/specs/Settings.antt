@@ -17,7 +17,6 @@ use Rattle.jser_filter.specs.Filters.{FilterView, AreSound, IsFirstFault}
 use Rattle.jser_filter.specs.Pieces.{Piece, pieces_of}
 use Rattle.jser_settings.specs.FilterFiles.{filter_text}
 use Rattle.jser_settings.specs.FileFaults.{file_fault, file_fault_text}
-use Rattle.jser_settings.specs.NoPatterns.{has_pattern}
 use Rattle.jser_settings.specs.declared.file_fault.FileFault.{FileFault}
 use Rattle.jser_filter.specs.Tables.{ModuleTable, lines_of, table_of, AreSoundLines, IsFirstLineFault}
 
@@ -129,7 +128,7 @@ pub record IsNotRead (broken : Bool) (to_come : Option (List ℕ)) (failed : Boo
 abbrev pub RanOut : (broken_before broken_after : Bool) → (failed : Bool) → (old new : Option (List ℕ)) → Type 0
 RanOut broken_before broken_after failed old new = (broken_after ≡ broken_before) × TellsNoMemory failed old new
 
--- that the text of a filter's file has no pattern is told, and nothing of another
-pub record Notes {S : Type 0} (text : List ℕ) (failed : Bool) (old new : S) (gone_before gone_after : Option (List ℕ)) : Type 0 where
-  pub some : has_pattern text ≡ true → new ≡ old
-  pub none : has_pattern text ≡ false → Tells failed gone_before gone_after (codes "filter file has no pattern\n")
+-- what a file lacks is told in this line, and nothing of one that lacks nothing
+pub record Notes {S : Type 0} (has_some : Bool) (line : List ℕ) (failed : Bool) (old new : S) (gone_before gone_after : Option (List ℕ)) : Type 0 where
+  pub some : has_some ≡ true → new ≡ old
+  pub none : has_some ≡ false → Tells failed gone_before gone_after line

@@ -1,14 +1,13 @@
 //! The first faulty line of a filter's file.
-ghost use Rattle.std.specs.Prelude.{◌≡◌, ◌≤◌, length};
+ghost use Rattle.std.specs.Prelude.{◌≡◌, ◌<◌, ◌^◌, length};
 ghost use Rattle.jser_settings.specs.FileFaults.{begins_with_mark, cause_of, file_fault, has_blank, has_sign, is_blank};
-ghost use Rattle.jser_settings.specs.Settings.{most_modules_bytes};
 
 use crate::file_fault::{FileCause, FileFault};
 use crate::filter_file::{uncommented, without_return};
 
 /// The first faulty line of a text, if one is faulty.
 pub(crate) fn first_fault(text: &str) -> Option<FileFault>
-    requires { length text.now ≤ most_modules_bytes }
+    requires { length text.now < 2 ^ 63 }
     ensures { result ≡ file_fault text.now }
 {
     if begins_with_mark(text.as_bytes()) {

@@ -7,6 +7,7 @@
 
 mod faulty_line;
 mod file_fault;
+mod file_text;
 mod filter_file;
 mod limit;
 mod no_pattern;
@@ -15,8 +16,9 @@ mod status;
 mod whole;
 
 pub use file_fault::{FileCause, FileFault};
+pub use file_text::{FileTextFault, filter_text_of};
 pub use limit::limit_of;
-pub use no_pattern::note_patterns;
+pub use no_pattern::{note_modules, note_patterns};
 pub use settings::{filter_in, filter_of, filter_text_in, modules_of};
 pub use status::{
     ACCEPTED, CUT, FAILED, MISUSED, REFUSED, tell_failure, tell_input_fault, tell_misuse,

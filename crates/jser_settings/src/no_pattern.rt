@@ -1,9 +1,11 @@
-//! A filter's file without a pattern refuses no class: it may be an empty file, in place of another.
-ghost use Rattle.std.specs.Prelude.{◌≡◌, true, false};
+//! A filter's file without a pattern refuses no class, and with a table without a module no pattern that names one matches: it
+//! may be an empty file, in place of another.
+ghost use Rattle.std.specs.Prelude.{◌≡◌, ◌==◌, codes, length, not, true, false};
 ghost use Rattle.jser_settings.specs.NoPatterns.{has_pattern, is_pattern, with_byte};
 ghost use Rattle.jser_settings.specs.Settings.{Notes};
 
 use crate::status::tell_failure;
+use jser_filter::Modules;
 use jser_prim::Sink;
 
 /// A piece of a filter's text, as far as it was read.
@@ -19,10 +21,19 @@ pub(crate) enum PieceSoFar {
 
 /// Tells that the text of a filter's file has no pattern, if it has none. This changes no answer.
 pub fn note_patterns<E: Sink>(text: &str, faults: &mut E)
-    ensures { Notes text.now (E.has_failed faults.new) faults.old faults.new (E.gone_out faults.old) (E.gone_out faults.new) }
+    ensures { Notes (has_pattern text.now) (codes "filter file has no pattern\n") (E.has_failed faults.new) faults.old faults.new (E.gone_out faults.old) (E.gone_out faults.new) }
 {
     if !has_pattern(text.as_bytes()) {
         let _ = tell_failure(faults, "filter file has no pattern\n");
+    }
+}
+
+/// Tells that a table of modules is empty, if it is. This changes no answer.
+pub fn note_modules<E: Sink>(table: &Modules, faults: &mut E)
+    ensures { Notes (not (length table.now == 0)) (codes "modules file has no module\n") (E.has_failed faults.new) faults.old faults.new (E.gone_out faults.old) (E.gone_out faults.new) }
+{
+    if table.is_empty() {
+        let _ = tell_failure(faults, "modules file has no module\n");
     }
 }
 

@@ -6,9 +6,8 @@ ghost use Rattle.jser_filter.specs.Pieces.{pieces_of};
 ghost use Rattle.jser_settings.specs.FileFaults.{file_fault_text};
 ghost use Rattle.jser_settings.specs.Settings.{most_modules_bytes, Tells, TellsNoMemory, RanOut, TellsFilterFault, TellsModulesFault, FilterIsFaulty, IsFilterOf, IsTextOf, IsNoFilterText, FilterFileIsFaulty, IsTable, IsNotRead, ModulesAreFaulty};
 
-use crate::faulty_line::first_fault;
 use crate::file_fault::FileFault;
-use crate::filter_file::joined_lines;
+use crate::file_text::{FileTextFault, filter_text_of};
 use crate::status::{tell_failure, tell_misuse, tell_misuse_of};
 use crate::whole::{WholeFault, read_whole};
 use jser_filter::{Filter, FilterCause, FilterFault, Modules, ModulesCause, ModulesFault};
@@ -86,15 +85,11 @@ fn text_of_bytes<E: Sink>(alloc: Global, bytes: &[u8], faults: &mut E) -> Result
     ensures quiet { OnOk result (faults.new ≡ faults.old) }
     ensures status { IfErr result (λ status. (status ≡ 2) ⊎ (status ≡ 3)) }
 {
-    let Ok(text) = str::from_utf8(bytes) else {
-        return Err(tell_misuse(faults, "filter file is not text\n"));
-    };
-    if let Some(fault) = first_fault(text) {
-        return Err(tell_file_fault(alloc, fault, faults));
-    }
-    match joined_lines(alloc, text) {
-        Ok(joined) => Ok(joined),
-        Err(_) => Err(tell_failure(faults, "out of memory\n")),
+    match filter_text_of(alloc, bytes) {
+        Ok(text) => Ok(text),
+        Err(FileTextFault::NoText) => Err(tell_misuse(faults, "filter file is not text\n")),
+        Err(FileTextFault::Faulty(fault)) => Err(tell_file_fault(alloc, fault, faults)),
+        Err(FileTextFault::OutOfMemory) => Err(tell_failure(faults, "out of memory\n")),
     }
 }
 

@@ -1,5 +1,6 @@
 use Rattle.std.proofs.Common.{rules}
 use Rattle.jser_names.proofs.SourceLemmas.{reads_more, reads_stop, end_accepts, end_refuses, end_fails}
+use Rattle.jser_names.proofs.ReadOnLemmas.{halted_end, halted_stop}
 use Rattle.jser_names.proofs.source.read_names.Goals as goal
 
 pub returns-in-Ok-eq0-clause-accepted : goal.returns-in-Ok-eq0-clause-accepted
@@ -32,4 +33,14 @@ returns-in-Err-take_piece-clause-refused g c =
     reads_stop (g.R.Source.to_come c.args.source.now) (g.R.Source.to_come c.reads.source) (g.R.Source.to_come c.read_some.new.source) c.reads.left c.in-Ok.count
     c.read_some.new.buffer c.split_at.result.0.now c.in-Err-take_piece.stop c.halted.result.fault c.reads.reader.machine c.reads.reader.tally c.reads.names
     c.take_piece.new.reader.machine c.take_piece.new.reader.tally c.take_piece.new.names c.reads.invariant.reads c.in-Ok.ensures.took (search rules)
-    c.in-Err-take_piece.ensures c.halted.ensures
+    c.in-Err-take_piece.ensures c.halted.ensures.ends
+
+pub returns-in-Ok-eq0-clause-read : goal.returns-in-Ok-eq0-clause-read
+returns-in-Ok-eq0-clause-read g c =
+    halted_end (g.R.Source.to_come c.args.source.now) (g.R.Source.to_come c.reads.source) (g.R.Source.to_come c.read_some.new.source) c.reads.left
+    c.read_some.new.buffer c.reads.reader.machine c.reads.reader.tally c.reads.names c.finish.result c.reads.invariant.reads (search rules)
+
+pub returns-in-Err-take_piece-clause-read : goal.returns-in-Err-take_piece-clause-read
+returns-in-Err-take_piece-clause-read g c =
+    halted_stop (g.R.Source.to_come c.args.source.now) (g.R.Source.to_come c.reads.source) (g.R.Source.to_come c.read_some.new.source) c.reads.left c.in-Ok.count
+    c.read_some.new.buffer c.reads.reader.machine c.reads.reader.tally c.reads.names c.halted.result c.reads.invariant.reads c.in-Ok.ensures.took c.halted.ensures.left

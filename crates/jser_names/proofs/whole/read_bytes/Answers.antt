@@ -1,5 +1,6 @@
 use Rattle.std.proofs.Common.{rules}
 use Rattle.jser_names.proofs.WholeLemmas.{kept_some, kept_more, kept_stop, end_keeps, end_refuses_kept, end_fails_kept}
+use Rattle.jser_names.proofs.ReadOnLemmas.{halted_kept}
 use Rattle.jser_names.proofs.whole.read_bytes.Goals as goal
 
 pub returns-in-Ok-eq0-clause-accepted : goal.returns-in-Ok-eq0-clause-accepted
@@ -32,7 +33,12 @@ returns-in-Err-keep_piece-clause-refused g c =
     kept_stop (g.R.Source.to_come c.args.source.now) (g.R.Source.to_come c.reads.source) (g.R.Source.to_come c.read_some.new.source) c.reads.left c.in-Ok.count
     c.read_some.new.buffer c.split_at.result.0.now c.reads.bytes.items c.keep_piece.new.bytes.items c.in-Err-keep_piece.stop c.halted.result.fault
     c.reads.reader.machine c.reads.reader.tally c.keep_piece.new.reader.machine c.keep_piece.new.reader.tally c.reads.invariant.reads c.in-Ok.ensures.took
-    (search rules) c.in-Err-keep_piece.ensures c.halted.ensures
+    (search rules) c.in-Err-keep_piece.ensures c.halted.ensures.ends
 
 pub read_some-requires-clause-some : goal.read_some-requires-clause-some
 read_some-requires-clause-some g c = kept_some _ _ c.reads.left c.reads.reader.machine c.reads.reader.tally c.reads.bytes.items c.reads.invariant.reads
+
+pub returns-in-Err-keep_piece-clause-read : goal.returns-in-Err-keep_piece-clause-read
+returns-in-Err-keep_piece-clause-read g c =
+    halted_kept (g.R.Source.to_come c.args.source.now) (g.R.Source.to_come c.reads.source) (g.R.Source.to_come c.read_some.new.source) c.reads.left c.in-Ok.count
+    c.read_some.new.buffer c.reads.bytes.items c.reads.reader.machine c.reads.reader.tally c.halted.result c.reads.invariant.reads c.in-Ok.ensures.took c.halted.ensures.left
