@@ -2,7 +2,7 @@
 _serialcheck() {
     local word=${COMP_WORDS[COMP_CWORD]} before=${COMP_WORDS[COMP_CWORD-1]} options
     local filter='--filter --filter-file --modules' form='--hex --base64 --base64url'
-    local commands='check explain show list scan suggest'
+    local commands='check explain show list scan records suggest'
     if ((COMP_CWORD == 1)); then
         mapfile -t COMPREPLY < <(compgen -W "$commands help --help --version" -- "$word")
         return
@@ -16,9 +16,10 @@ _serialcheck() {
     show) options="$form --limit --help" ;;
     suggest) options="$form --help" ;;
     list) options="$filter $form --anywhere --help" ;;
+    records) options="$filter --strict $form --frames --sized --zero --field --most --anywhere --refused --json --pass --help" ;;
     scan) options="$filter --strict $form --anywhere --refused --json --help" ;;
     esac
-    if [[ $before == --filter || $before == --limit ]]; then
+    if [[ $before == --filter || $before == --limit || $before == --field || $before == --most ]]; then
         COMPREPLY=()
     elif [[ $word == -* ]]; then
         mapfile -t COMPREPLY < <(compgen -W "$options" -- "$word")

@@ -1,36 +1,7 @@
-// What an answer says: the line of the program, and a sentence on each reason.
+// What an answer says: the line of the program, and what bytes seem to be that are no stream.
 
 const REASONS = [@REASONS@];
 const CAUSES = [@CAUSES@];
-
-const SENTENCES = {
-    BytesExceeded: "There are more bytes than the limit allows.",
-    BadHeader: "A stream begins with AC ED 00 05. This one does not.",
-    BadTag: "No part of a stream that may stand here begins with this byte.",
-    ExceptionTag: "The writer was stopped here by an exception (tag 7B), so what it had begun is not whole.",
-    ResetInside: "A reset (tag 79) may stand at the top level only.",
-    BadText: "No text of this length has this byte here (modified UTF-8).",
-    NegativeLength: "The highest bit of this length or count is set, so it is negative.",
-    BadTypeCode: "The type of a field is one of B C D F I J S Z [ L.",
-    FieldOrder: "A class lists its primitive fields before all others. Here one comes after.",
-    BadFlags: "A class has no such flags: a bit of E0 is set, or 02 and 04 both are.",
-    NullClass: "There is null in place of a class.",
-    NoSuchHandle: "This refers to a handle that nothing has so far.",
-    WrongKind: "This refers to something that may not stand here.",
-    OpenDescriptor: "This refers to a class whose superclass has not been read yet.",
-    BadArrayName: "The name begins with [ and is not that of an array class.",
-    WrongClass: "The class does not suit the value: an object has the class of an array, say.",
-    ExternalRaw: "The class writes its own data without saying where they end. Only its code could tell.",
-    NotSerializable: "A class of this object does not have the flag of a serializable one.",
-    ClassRejected: "The filter rejects this class.",
-    ClassUnmatched: "No pattern of the filter matches this class, and the filter is strict.",
-    DepthExceeded: "A value lies deeper than the limit allows.",
-    RefsExceeded: "There are more values than the limit allows.",
-    ArrayExceeded: "An array is longer than the limit allows.",
-    Truncated: "The bytes end before the stream does.",
-    HandleSpace: "There are more values than a stream has handles for.",
-    HiddenName: "A class name can be read here that the filter does not let pass. A program that reads out of step may take it for a class.",
-};
 
 /** What the bytes seem to be where they are no stream. */
 function guessed(bytes) {
@@ -41,7 +12,13 @@ function guessed(bytes) {
     if (text.toLowerCase() === "aced0005") {
         return "They look like hexadecimal: paste them as text.";
     }
-    return bytes[0] === 0x1f && bytes[1] === 0x8b ? "They look like gzip: unpack them first." : "";
+    if (bytes[0] === 0x1f && bytes[1] === 0x8b) {
+        return "They look like gzip: unpack them first.";
+    }
+    if (text.startsWith("PK\x03\x04")) {
+        return "They look like zip: unpack them first.";
+    }
+    return /^[{[]/.test(text) ? "They look like JSON, which holds no Java objects." : "";
 }
 
 /** The line that the program prints for an answer to a check. */

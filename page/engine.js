@@ -1,8 +1,9 @@
 // Asks the compiled code, in a worker, so that a long text does not hold up the page. Each question gets a fresh memory:
 // nothing of one stream is there for the next, also where the code was stopped by a lack of memory or of stack.
 
-const STATUS = { YES: 0, NO_MEMORY: 3, SMALL: 6, STOPPED: 7 };
+const STATUS = { YES: 0, NO: 1, NO_MEMORY: 3, SMALL: 6, STOPPED: 7 };
 const ANSWER_BYTES = 80;
+const SENTENCE_BYTES = 160;
 
 let module = null;
 
@@ -53,17 +54,23 @@ class Engine {
 
     check({ bytes, filter, flags }) {
         this.calls.serialcheck_check(...this.given(bytes), ...this.given(filter), flags, this.answerPlace);
-        return this.answer();
+        const answer = this.answer();
+        return answer.status === STATUS.NO ? { ...answer, meaning: this.meaning(answer.reason) } : answer;
+    }
+
+    /** What the reason of a refusal means, in a sentence. */
+    meaning(reason) {
+        return this.text(SENTENCE_BYTES, (room) => this.calls.serialcheck_reason_text(reason, room, BigInt(SENTENCE_BYTES), this.answerPlace)).text;
     }
 
     show({ bytes, limit }) {
         const given = this.given(bytes);
-        return this.text(limit, (room) => this.calls.serialcheck_show(...given, room, BigInt(limit), this.answerPlace));
+        return this.text(limit, (room) => this.calls.serialcheck_show(...given, BigInt(limit), room, BigInt(limit), this.answerPlace));
     }
 
     list({ bytes, filter, limit }) {
         const given = [...this.given(bytes), ...this.given(filter), ...this.given(new Uint8Array())];
-        return this.text(limit, (room) => this.calls.serialcheck_list(...given, room, BigInt(limit), this.answerPlace));
+        return this.text(limit, (room) => this.calls.serialcheck_list(...given, BigInt(limit), room, BigInt(limit), this.answerPlace));
     }
 
     /** The answer of a call that writes a text into a room, and as many whole lines of the text as the room has. */

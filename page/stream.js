@@ -118,11 +118,11 @@ class Stream {
     }
 
     /** Why it is refused: the reason in words, the class name, and the bytes round the place. */
-    refusal({ reason: number, from, to }) {
+    refusal({ reason: number, from, to, meaning }) {
         const reason = REASONS[number - 1];
         const box = element("section", "refusal");
         const guess = reason === "BadHeader" ? ` ${guessed(this.bytes)}` : "";
-        box.append(element("h3", "", reason), element("p", "", SENTENCES[reason] + guess));
+        box.append(element("h3", "", reason), element("p", "", meaning + guess));
         const name = nameAt(this.bytes, reason, from, to);
         if (name !== null) {
             const row = element("p", "", "Class ");
