@@ -155,6 +155,7 @@ public final class Clients {
         } catch (JMSException told) {
             System.out.println("not committed");
         }
+        toldByListener.tryAcquire(10, TimeUnit.SECONDS);
         session.close();
     }
 
