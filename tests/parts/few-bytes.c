@@ -1,6 +1,6 @@
 /* Makes the standard devices of the program into which it is loaded by LD_PRELOAD small. A read of the input, and a write
    to the output or to the faults, passes on at most so many bytes as INPUT_MOST, OUTPUT_MOST or FAULTS_MOST says, and fails
-   once as many bytes went through the device as INPUT_ROOM, OUTPUT_ROOM or FAULTS_ROOM says. See tools/test-devices. */
+   once as many bytes went through the device as INPUT_ROOM, OUTPUT_ROOM or FAULTS_ROOM says. See tests/parts/devices. */
 #define _GNU_SOURCE
 #include <errno.h>
 #include <stdlib.h>

@@ -1,6 +1,6 @@
 """A second writer of the text of `serialcheck show`, which shares no code with serialcheck.
 
-`python3 tools/shown.py FILE` prints the text of an accepted stream, by docs/FORMAT.md (what the bytes are) and
+`python3 tests/parts/shown.py FILE` prints the text of an accepted stream, and with `--values` behind FILE that with values, by docs/FORMAT.md (what the bytes are) and
 crates/jser_shown/README.md (how they are written). It checks next to nothing, and calls itself for each level.
 """
 import sys
@@ -34,6 +34,16 @@ def quoted(data):
     return quoted_units(units_of(data))
 
 
+def meaning(code, data):
+    """What raw bits mean, in brackets; nothing of those that are told no meaning."""
+    number = int.from_bytes(data, "big", signed=code != "C")
+    if code in "BSIJ":
+        return f" ({number})"
+    if code == "C":
+        return f" ({quoted_units([number])})"
+    return {b"\0": " (false)", b"\1": " (true)"}.get(data, "") if code == "Z" else ""
+
+
 class Descriptor:
     """A class: what a section needs to know of it."""
 
@@ -52,8 +62,9 @@ class Descriptor:
 class Stream:
     """A stream that is read from its front; each form becomes its line and the lines under it, a level deeper."""
 
-    def __init__(self, data):
+    def __init__(self, data, values=False):
         self.data, self.at, self.epoch, self.handles = data, 0, 0, []
+        self.values = values
 
     def take(self, size):
         self.at += size
@@ -175,7 +186,10 @@ class Stream:
         return [f"data {quoted(described.name)}", *deeper(under)]
 
     def raw_or_value(self, words, code):
-        return [words + self.take(SIZES[code]).hex()] if code in SIZES else before(words, self.value()[0])
+        if code not in SIZES:
+            return before(words, self.value()[0])
+        data = self.take(SIZES[code])
+        return [words + data.hex() + (meaning(code, data) if self.values else "")]
 
 
 def before(words, lines):
@@ -187,9 +201,9 @@ def deeper(lines):
     return [f"  {it}" for it in lines]
 
 
-def main(file):
+def main(file, values=None):
     sys.setrecursionlimit(20000)
-    sys.stdout.write("".join(f"{it}\n" for it in Stream(Path(file).read_bytes()).contents()))
+    sys.stdout.write("".join(f"{it}\n" for it in Stream(Path(file).read_bytes(), values == "--values").contents()))
 
 
 if __name__ == "__main__":

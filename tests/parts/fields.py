@@ -1,6 +1,6 @@
 """A reader of accepted streams that shares no code with serialcheck: it cuts one into fields, and counts.
 
-`python3 tools/fields.py FILE..` prints for each file the line that `serialcheck check` must print of it. It knows just
+`python3 tests/parts/fields.py FILE..` prints for each file the line that `serialcheck check` must print of it. It knows just
 enough of chapter 6 to read what is accepted, checks next to nothing, and calls itself for each level.
 """
 import sys
