@@ -67,6 +67,8 @@ typedef struct {
     uint64_t handles;  /* and its handles */
     uint64_t name_from; /* of NO where the bytes of the class name stand that was refused (ClassRejected, ClassUnmatched), */
     uint64_t name_to;   /* or the place of a hidden name (HiddenName): that of `72` or `7D`, and the end of its text */
+    uint64_t whole;    /* of a check (YES, NO, MORE) how many of the bytes that came are whole contents: the length of their longest
+                        * front that the filter admits, or 0; ANYWHERE is not asked. So streams one after another can be cut */
 } serialcheck_answer;
 
 /* A filter that was read once. Threads share it: no call that reads it changes it. */

@@ -12,7 +12,7 @@ import time
 from pathlib import Path
 
 TOP = Path(__file__).resolve().parent.parent
-sys.path.insert(0, str(TOP / "tools"))
+sys.path.insert(0, str(TOP / "tests" / "parts"))
 from installed import quiet_words  # noqa: E402
 
 VERSION = "0.1"

@@ -2,7 +2,7 @@
 // nothing of one stream is there for the next, also where the code was stopped by a lack of memory or of stack.
 
 const STATUS = { YES: 0, NO: 1, NO_MEMORY: 3, SMALL: 6, STOPPED: 7 };
-const ANSWER_BYTES = 80;
+const ANSWER_BYTES = 88;
 const SENTENCE_BYTES = 160;
 
 let module = null;

@@ -7,11 +7,11 @@
 
 #define CALL(type, name) JNIEXPORT type JNICALL Java_serialcheck_Native_##name
 
-enum { WORDS = 11, SMALL_ROOM = 8192, MOST_TEXT = 255 };
+enum { WORDS = 12, SMALL_ROOM = 8192, MOST_TEXT = 255 };
 
 static void hand_out(JNIEnv *env, jlongArray out, const serialcheck_answer *a) {
     const jlong words[WORDS] = {(jlong)a->status, (jlong)a->reason, (jlong)a->from, (jlong)a->to, (jlong)a->bytes, (jlong)a->contents, (jlong)a->refs, (jlong)a->depth, (jlong)a->handles,
-                                (jlong)a->name_from, (jlong)a->name_to};
+                                (jlong)a->name_from, (jlong)a->name_to, (jlong)a->whole};
     (*env)->SetLongArrayRegion(env, out, 0, WORDS, words);
 }
 
@@ -54,7 +54,7 @@ CALL(jstring, line)(JNIEnv *env, jclass class, jlongArray from) {
     jlong w[WORDS];
     (*env)->GetLongArrayRegion(env, from, 0, WORDS, w);
     const serialcheck_answer answer = {(uint32_t)w[0], (uint32_t)w[1], (uint64_t)w[2], (uint64_t)w[3], (uint64_t)w[4], (uint64_t)w[5], (uint64_t)w[6], (uint64_t)w[7], (uint64_t)w[8],
-                                       (uint64_t)w[9], (uint64_t)w[10]};
+                                       (uint64_t)w[9], (uint64_t)w[10], (uint64_t)w[11]};
     uint8_t room[MOST_TEXT + 1];
     serialcheck_answer told;
     serialcheck_line(&answer, room, MOST_TEXT, &told);

@@ -1,7 +1,7 @@
 -- Says of each file whether it is handed on: luajit first.lua FILE..
 local ffi = require("ffi")
 ffi.cdef [[
-typedef struct { uint32_t status, reason; uint64_t from, to, bytes, contents, refs, depth, handles, name_from, name_to; } serialcheck_answer;
+typedef struct { uint32_t status, reason; uint64_t from, to, bytes, contents, refs, depth, handles, name_from, name_to, whole; } serialcheck_answer;
 uint32_t serialcheck_check(const uint8_t *bytes, size_t len, const uint8_t *filter, size_t filter_len, uint32_t flags, serialcheck_answer *answer);
 ]]
 local library = ffi.load("libserialcheck.so.0")

@@ -35,6 +35,8 @@ export interface Answer {
     readonly depth: number | null;
     /** Of a yes, how many handles it assigns. */
     readonly handles: number | null;
+    /** The length of the longest front of the bytes that is a stream which the filter admits, or 0: where to cut. A text has none: 0. */
+    readonly whole: number;
     toString(): string;
 }
 

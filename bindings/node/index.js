@@ -9,7 +9,7 @@ const { REASONS, CAUSES } = require("./names.json");
 const STRICT = 1;
 const ANYWHERE = 2;
 const STATUS = { YES: 0, NO: 1, MISUSE: 2, NO_MEMORY: 3, SMALL: 6 };
-const ANSWER_BYTES = 80;
+const ANSWER_BYTES = 88;
 const MOST_TEXT = 1 << 24;
 
 const compiled = new WebAssembly.Module(fs.readFileSync(path.join(__dirname, "serialcheck.wasm")));
@@ -65,7 +65,7 @@ class Engine {
         const number = (at) => Number(view.getBigUint64(at, true));
         return {
             status: view.getUint32(0, true), number: view.getUint32(4, true), from: number(8), to: number(16), bytes: number(24),
-            contents: number(32), refs: number(40), depth: number(48), handles: number(56), nameFrom: number(64), nameTo: number(72),
+            contents: number(32), refs: number(40), depth: number(48), handles: number(56), nameFrom: number(64), nameTo: number(72), whole: number(80),
         };
     }
 
@@ -127,12 +127,12 @@ function misuse(answer) {
 }
 
 function settled(answer, className = null) {
-    const { status, number, from, to, bytes, contents, refs, depth, handles } = answer;
+    const { status, number, from, to, bytes, contents, refs, depth, handles, whole } = answer;
     switch (status) {
         case STATUS.YES:
-            return new Answer({ ok: true, reason: null, from: null, to: null, className: null, bytes, contents, refs, depth, handles });
+            return new Answer({ ok: true, reason: null, from: null, to: null, className: null, bytes, contents, refs, depth, handles, whole });
         case STATUS.NO:
-            return new Answer({ ok: false, reason: REASONS[number], from, to, className, bytes: null, contents: null, refs: null, depth: null, handles: null });
+            return new Answer({ ok: false, reason: REASONS[number], from, to, className, bytes: null, contents: null, refs: null, depth: null, handles: null, whole });
         case STATUS.MISUSE:
             throw misuse(answer);
         default:

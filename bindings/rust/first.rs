@@ -16,6 +16,7 @@ pub struct Answer {
     pub handles: u64,
     pub name_from: u64,
     pub name_to: u64,
+    pub whole: u64,
 }
 
 extern "C" {

@@ -39,6 +39,8 @@ class Answer(ctypes.Structure):
     Of a refusal, and 0 of a yes:
         start     the offset of the faulty field, in bytes
         end       how many bytes decide: no admitted stream begins with these (of Truncated: all, which are no stream)
+    Of both:
+        whole     the length of the longest front of the bytes that is a stream which the filter admits, or 0: where to cut
     """
 
     start: int
@@ -48,6 +50,7 @@ class Answer(ctypes.Structure):
     refs: int
     depth: int
     handles: int
+    whole: int
 
     _fields_ = [
         ("status", ctypes.c_uint32),
@@ -61,6 +64,7 @@ class Answer(ctypes.Structure):
         ("handles", ctypes.c_uint64),
         ("name_start", ctypes.c_uint64),
         ("name_end", ctypes.c_uint64),
+        ("whole", ctypes.c_uint64),
     ]
 
     #: The name of the class that was refused, in which letters other than printable ASCII are escaped, so that it may be

@@ -1,6 +1,9 @@
 -- What a reader has taken, call after call.
-use Rattle.std.proofs.Common.{◌≡◌, ℕ, List, [], ◌++◌, Result, Ok, Err, inr, refl, sym, ◌∙◌, ap, subst, append_assoc, append-nil}
+use Rattle.std.specs.Prelude.{IfErr}
+use Rattle.std.proofs.Common.{◌≡◌, ℕ, List, [], ◌++◌, take, drop, Result, Ok, Err, inr, refl, sym, ◌∙◌, ap, subst, append_assoc, append-nil, take-append-drop}
+use Rattle.jser_grammar.specs.Parts.{IsBytes}
 use Rattle.jser_verdict.specs.Gates.{Gate}
+use Rattle.jser_verdict.proofs.ByteLists.{bytes_both, bytes_right}
 use Rattle.jser_reader.specs.declared.Reason.TheVariants as reason
 use Rattle.jser_reader.specs.declared.Refusal.{Refusal}
 use Rattle.jser_reader.specs.declared.Stop.{Stop}
@@ -9,6 +12,9 @@ use Rattle.jser_reader.specs.declared.Totals.{Totals}
 use Rattle.jser_reader.specs.declared.tally.Tally.{Tally}
 use Rattle.jser_reader.specs.Readers.{Seen}
 use Rattle.jser_reader.specs.ReaderStates.{Reading, StandsFor, SkipTells, FinishTells}
+use Rattle.jser_reader.specs.Answers.{IfRefused}
+use Rattle.jser_reader.specs.Tallies.{whole_of}
+use Rattle.jser_reader.specs.WholeContents.{IsWhole, StaysWhole}
 use Rattle.jser_check.specs.Feeding.{Fed, StopsIn, HasStopped, FeedTells, EndTells}
 
 -- ---- a piece
@@ -29,6 +35,27 @@ unfolding SkipTells
 feed_stops gate piece taken (stop.Refused refusal) old before new after t st = (t taken st).3
 feed_stops gate piece taken stop.OutOfMemory old before new after t st = t taken st
 feed_stops gate piece taken stop.Spent old before new after t st = absurd (t taken st)
+
+-- where it refuses bytes of the piece, so many of all bytes are whole contents
+pub feed_whole : (gate : Gate) (piece taken : List ℕ) (why : Stop) (old : Seen) (before : Tally) (new : Seen) (after : Tally) → IsBytes piece
+    → SkipTells gate piece (Err why) old before new after → StandsFor gate taken old before → IfRefused (λ _. StaysWhole gate (taken ++ piece) (whole_of new after)) why
+unfolding SkipTells
+feed_whole gate piece taken (stop.Refused refusal) old before new after h t st = λ more bytes.
+    let x = t taken st in
+    let rest : List ℕ = drop x.0 piece in
+    let split : (taken ++ piece) ++ more ≡ (taken ++ take x.0 piece) ++ (rest ++ more) =
+    ap (λ xs. (taken ++ xs) ++ more) (sym (take-append-drop x.0 piece)) ∙ ap (λ xs. xs ++ more) (sym (append_assoc taken (take x.0 piece) rest))
+    ∙ append_assoc (taken ++ take x.0 piece) rest more in
+    let left : IsBytes rest = bytes_right (take x.0 piece) rest (subst (λ z. IsBytes z) (sym (take-append-drop x.0 piece)) h) in
+    subst (λ xs. IsWhole gate xs (whole_of new after)) (sym split) (x.5 (rest ++ more) (bytes_both rest more left bytes))
+feed_whole gate piece taken stop.OutOfMemory old before new after h t st = tt
+feed_whole gate piece taken stop.Spent old before new after h t st = absurd (t taken st)
+
+pub feed_knows : (gate : Gate) (piece taken : List ℕ) (result : Result (Unit {0}) Stop) (old : Seen) (before : Tally) (new : Seen) (after : Tally) → IsBytes piece
+    → SkipTells gate piece result old before new after → StandsFor gate taken old before
+    → IfErr result (IfRefused (λ _. StaysWhole gate (taken ++ piece) (whole_of new after)))
+feed_knows gate piece taken (Ok x) old before new after h t st = tt
+feed_knows gate piece taken (Err why) old before new after h t st = feed_whole gate piece taken why old before new after h t st
 
 -- ---- the end
 

@@ -5,3 +5,4 @@ pub mod AnswerLemmas
 pub mod SourceLemmas
 pub mod ReaderLemmas
 pub mod CheckLemmas
+pub mod FrontLemmas

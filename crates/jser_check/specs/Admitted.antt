@@ -43,7 +43,7 @@ pub record IsAdmitted (filter : FilterView) (options : Options) (bytes : List �
 abbrev pub AreAdmitted : FilterView → Options → List ℕ → Type 0
 AreAdmitted filter options bytes = (list : ContentTrees) × IsAdmitted filter options bytes list
 
--- The same as a gate: each limit is the lesser of the filter's, if it sets one, and the greatest.
+-- A filter with its options as a gate: each limit is the lesser of the filter's, if it sets one, and the greatest.
 
 abbrev pub lesser : Option ℕ → ℕ → ℕ
 lesser None most = most

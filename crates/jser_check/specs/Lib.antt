@@ -3,6 +3,7 @@ pub mod Caps
 pub mod Answers
 pub mod Feeding
 pub mod Checks
+pub mod Fronts
 pub mod Sources
 pub mod SourceAnswers
 pub mod FaultTexts

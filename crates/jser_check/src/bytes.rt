@@ -1,8 +1,12 @@
 //! The check of a slice: the check in pieces, of one piece.
-ghost use Rattle.std.specs.Prelude.{IfOk, IfErr};
+ghost use Rattle.std.specs.Prelude.{[], IfOk, IfErr};
 ghost use Rattle.jser_check.specs.Admitted.{gate_of_filter};
 ghost use Rattle.jser_reader.specs.Answers.{Tells};
+ghost use Rattle.jser_reader.specs.ReaderStates.{StandsFor};
+ghost use Rattle.jser_reader.specs.Tallies.{whole_of};
+ghost use Rattle.jser_reader.specs.WholeContents.{IsWhole};
 ghost use Rattle.jser_check.specs.Answers.{IfRefused, Reports, Refuses, CarriesFirst};
+ghost use Rattle.jser_check.specs.Fronts.{IfDecided, IsFront};
 
 use crate::check::Check;
 use crate::gate::{FilterGate, Options};
@@ -29,14 +33,49 @@ pub fn check_bytes(
     ensures refused { IfErr result (IfRefused (Refuses filter.now options bytes.now)) }
     ensures first { IfErr result (IfRefused (CarriesFirst (gate_of_filter filter.now options) bytes.now)) }
 {
+    check_under(alloc, bytes, FilterGate::new(filter, options)).answer
+}
+
+/// What a check of bytes answers, and how many of them are whole contents.
+#[derive(Clone, Copy)]
+pub struct Judged {
+    /// The counts of the stream, or why it is refused.
+    pub answer: Result<Totals, Stop>,
+    /// The length of the longest front of the bytes that the filter admits; 0 where there is none. It says nothing where
+    /// memory ran out.
+    pub whole: u64,
+}
+
+/// Checks bytes as `check_bytes` does, and also says how many of them are whole contents: so a caller with streams one after
+/// another, or with a stream and other bytes behind it, knows where to cut. The header alone is a stream of no contents.
+pub fn judge_bytes(alloc: Global, bytes: &[u8], filter: &Filter, options: Options) -> Judged
+    ensures accepted { IfOk result.answer (Reports filter.now options bytes.now) }
+    ensures refused { IfErr result.answer (IfRefused (Refuses filter.now options bytes.now)) }
+    ensures first { IfErr result.answer (IfRefused (CarriesFirst (gate_of_filter filter.now options) bytes.now)) }
+    ensures whole { IfDecided (IsFront filter.now options bytes.now result.whole) result.answer }
+{
     check_under(alloc, bytes, FilterGate::new(filter, options))
 }
 
 /// Checks bytes under any gate.
-fn check_under<G: Gate + Drop>(alloc: Global, bytes: &[u8], gate: G) -> Result<Totals, Stop>
-    ensures { Tells (G.told gate) bytes.now result }
+fn check_under<G: Gate + Drop>(alloc: Global, bytes: &[u8], gate: G) -> Judged
+    ensures tells { Tells (G.told gate) bytes.now result.answer }
+    ensures whole { IfDecided (IsWhole (G.told gate) bytes.now result.whole) result.answer }
 {
     let mut check = Check::new(alloc, gate);
+    let answer = answer_to(&mut check, bytes);
+    Judged {
+        answer,
+        whole: check.whole(),
+    }
+}
+
+/// What a check that has taken nothing answers to all bytes.
+fn answer_to<G: Gate>(check: &mut Check<G>, bytes: &[u8]) -> Result<Totals, Stop>
+    requires { StandsFor (G.told check.old.gate) [] check.old.machine check.old.tally }
+    ensures tells { Tells (G.told check.old.gate) bytes.now result }
+    ensures whole { IfDecided (IsWhole (G.told check.old.gate) bytes.now (whole_of check.new.machine check.new.tally)) result }
+{
     match check.feed(bytes) {
         Ok(()) => check.finish(),
         Err(stop) => Err(stop),

@@ -4,6 +4,7 @@ ghost use Rattle.jser_reader.specs.declared.Refusal.{Refusal};
 ghost use Rattle.jser_check.specs.Answers.{IfRefused, Reports, Refuses, CarriesFirst, DecideNothing};
 ghost use Rattle.jser_check.specs.Feeding.{HasStopped, HasEnded};
 ghost use Rattle.jser_check.specs.Checks.{gate_in, HasTaken, Repeats, IsOver, DecidesIn, IsCut};
+ghost use Rattle.jser_check.specs.Fronts.{IsFront, StaysFront, whole_in};
 
 use crate::check::Check;
 use crate::gate::Options;
@@ -57,14 +58,18 @@ impl Checker {
     ///
     /// `Refused` where a byte of the piece decides, whatever comes after it, with the first fault. `OutOfMemory` where
     /// memory ran out. Then each call answers the same refusal, or `Spent` where memory ran out, until `restart`.
-    #[tactic(auto, using(crate::proofs::CheckLemmas::stays_repeats, crate::proofs::CheckLemmas::stays_over))]
+    #[tactic(auto, using(crate::proofs::CheckLemmas::stays_repeats, crate::proofs::CheckLemmas::stays_over, crate::proofs::FrontLemmas::repeats_whole, crate::proofs::FrontLemmas::over_whole))]
     pub fn feed(&mut self, piece: &[u8]) -> Result<(), Stop>
         ensures takes { (taken : List ℕ) → HasTaken self.old taken → OnOk result (HasTaken self.new (taken ++ piece.now)) }
         ensures undecided { (taken : List ℕ) → HasTaken self.old taken → OnOk result (DecideNothing (gate_in self.old) (taken ++ piece.now)) }
         ensures refused { (taken : List ℕ) → HasTaken self.old taken → IfErr result (IfRefused (DecidesIn self.old.gate.filter self.old.gate.options taken piece.now)) }
+        ensures whole { (taken : List ℕ) → HasTaken self.old taken
+            → IfErr result (IfRefused (λ _. StaysFront self.old.gate.filter self.old.gate.options (taken ++ piece.now) (whole_in self.new))) }
         ensures stops { (taken : List ℕ) → HasTaken self.old taken → IfErr result (λ why. HasStopped why self.new.machine) }
         ensures repeats { (refusal : Refusal) → Repeats self.old refusal → (result ≡ Err (Stop.Refused refusal)) × Repeats self.new refusal }
         ensures over { IsOver self.old → (result ≡ Err Stop.Spent) × IsOver self.new }
+        ensures repeats_whole { (refusal : Refusal) → Repeats self.old refusal → whole_in self.new ≡ whole_in self.old }
+        ensures over_whole { IsOver self.old → whole_in self.new ≡ whole_in self.old }
         ensures filter { self.new.gate ≡ self.old.gate }
     {
         self.check.feed(piece)
@@ -76,19 +81,35 @@ impl Checker {
     ///
     /// `Refused`, as `Truncated`, where the stream has not ended. After an error of `feed` what it answers, and after the
     /// counts `Spent`, until `restart`. Never `OutOfMemory`.
-    #[tactic(auto, using(crate::proofs::CheckLemmas::stays_repeats, crate::proofs::CheckLemmas::stays_over))]
+    #[tactic(auto, using(crate::proofs::CheckLemmas::stays_repeats, crate::proofs::CheckLemmas::stays_over, crate::proofs::FrontLemmas::repeats_whole, crate::proofs::FrontLemmas::over_whole))]
     pub fn finish(&mut self) -> Result<Totals, Stop>
         ensures accepted { (taken : List ℕ) → HasTaken self.old taken → IfOk result (Reports self.old.gate.filter self.old.gate.options taken) }
         ensures refused { (taken : List ℕ) → HasTaken self.old taken → IfErr result (IfRefused (Refuses self.old.gate.filter self.old.gate.options taken)) }
         ensures first { (taken : List ℕ) → HasTaken self.old taken → IfErr result (IfRefused (CarriesFirst (gate_in self.old) taken)) }
         ensures cut { (taken : List ℕ) → HasTaken self.old taken → IfErr result (IfRefused IsCut) }
+        ensures whole { (taken : List ℕ) → HasTaken self.old taken → IsFront self.old.gate.filter self.old.gate.options taken (whole_in self.new) }
         ensures sure { (taken : List ℕ) → HasTaken self.old taken → result ≢ Err Stop.OutOfMemory }
         ensures ends { (taken : List ℕ) → HasTaken self.old taken → HasEnded result self.new.machine }
         ensures repeats { (refusal : Refusal) → Repeats self.old refusal → (result ≡ Err (Stop.Refused refusal)) × Repeats self.new refusal }
         ensures over { IsOver self.old → (result ≡ Err Stop.Spent) × IsOver self.new }
+        ensures repeats_whole { (refusal : Refusal) → Repeats self.old refusal → whole_in self.new ≡ whole_in self.old }
+        ensures over_whole { IsOver self.old → whole_in self.new ≡ whole_in self.old }
         ensures filter { self.new.gate ≡ self.old.gate }
     {
         self.check.finish()
+    }
+
+    /// How many of the bytes that were taken are whole contents: the length of their longest front that the filter admits.
+    /// The header alone is a stream of no contents; before its end this is 0.
+    ///
+    /// After a refusal, and after the end, it is that of all bytes that came, whatever comes after them: so a caller with
+    /// streams one after another, or with a stream and other bytes behind it, knows where to cut. After `OutOfMemory` it
+    /// says nothing.
+    pub fn whole(&self) -> u64
+        ensures is { result ≡ whole_in self.now }
+        ensures front { (taken : List ℕ) → HasTaken self.now taken → IsFront self.now.gate.filter self.now.gate.options taken result }
+    {
+        self.check.whole()
     }
 
     /// Makes it a check that has taken nothing, under the same filter and options, whatever it took or answered before. It

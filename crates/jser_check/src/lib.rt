@@ -11,7 +11,7 @@ mod owned;
 mod reader;
 
 pub use answer::CheckFault;
-pub use bytes::check_bytes;
+pub use bytes::{Judged, check_bytes, judge_bytes};
 pub use checker::Checker;
 pub use gate::{FilterGate, Options};
 pub use jser_reader::{Reason, Refusal, Stop, Totals as Report};

@@ -31,7 +31,7 @@ impl OwnedGate {
         OwnedGate { filter, options }
     }
 
-    /// The same gate, of the filter that is lent.
+    /// The gate of this filter, which is lent.
     fn lent(&self) -> FilterGate<'_>
         ensures { result ≡ self.now }
     {

@@ -1,5 +1,5 @@
 //! The check of a source: the check in pieces, of what each read gives.
-ghost use Rattle.std.specs.Prelude.{◌≡◌, ◌≢◌, ◌+◌, ◌<◌, ◌≤◌, [], length, vec_len, IfOk, IfErr, IfSome};
+ghost use Rattle.std.specs.Prelude.{◌≡◌, ◌≢◌, ◌+◌, ◌<◌, ◌≤◌, ℕ, List, [], length, vec_len, IfOk, IfErr, IfSome};
 ghost use Rattle.std.specs.Io.KnownBytes.{IsAtEnd};
 ghost use Rattle.jser_grammar.specs.Parts.{IsBytes};
 ghost use Rattle.jser_reader.specs.ReaderStates.{StandsFor};
@@ -45,6 +45,7 @@ pub fn check_reader<R: Source>(
     ensures never_spent { result ≢ Err (CheckFault.Stop Stop.Spent) }
     ensures within { TakesAtMost (most_bytes + 1) (R.to_come source.old) (R.to_come source.new) }
     ensures prompt { TakesFew (R.to_come source.old) (R.to_come source.new) result }
+    ensures remembers { (all : List ℕ) → R.remembers source.old all → R.remembers source.new all }
 {
     check_under(alloc, source, FilterGate::new(filter, options))
 }
@@ -59,6 +60,7 @@ fn check_under<R: Source, G: Gate + Drop>(
     ensures fails { FailsWith result (R.has_failed source.old) (R.has_failed source.new) }
     ensures within { TakesAtMost (most_bytes + 1) (R.to_come source.old) (R.to_come source.new) }
     ensures prompt { TakesFew (R.to_come source.old) (R.to_come source.new) result }
+    ensures remembers { (all : List ℕ) → R.remembers source.old all → R.remembers source.new all }
 {
     let mut check = Check::new(alloc, gate);
     match read_whole(alloc, source, &mut check) {
@@ -85,6 +87,7 @@ fn read_whole<R: Source, G: Gate>(
     requires { StandsFor (G.told check.old.gate) [] check.old.machine check.old.tally }
     ensures tells { ReadsTell (λ gate. G.told gate) check.old check.new (R.to_come source.old) (R.to_come source.new) result }
     ensures fails { FailsWith result (R.has_failed source.old) (R.has_failed source.new) }
+    ensures remembers { (all : List ℕ) → R.remembers source.old all → R.remembers source.new all }
 {
     let Ok(mut buffer) = new_buffer(alloc, BUFFER_LEN) else {
         return Err(CheckFault::Stop(Stop::OutOfMemory));
@@ -119,6 +122,7 @@ fn read_some<R: Source, G: Gate>(
     ensures few { IfOk result (λ count. count ≤ length buffer.old) }
     ensures end { result ≡ Ok 0 → IsAtEnd (R.to_come source.new) }
     ensures fails { FailsWith result (R.has_failed source.old) (R.has_failed source.new) }
+    ensures remembers { (all : List ℕ) → R.remembers source.old all → R.remembers source.new all }
 {
     let count = match source.take(buffer) {
         Ok(count) => count,

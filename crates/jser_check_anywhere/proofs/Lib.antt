@@ -1,3 +1,4 @@
 pub mod AnywhereLemmas
+mod FrontLemmas
 pub mod SourceLemmas
 pub mod JudgedLemmas

@@ -75,6 +75,14 @@ abbrev pub FeedTells : FilterView → Options → (taken piece : List ℕ) → R
 FeedTells filter options taken piece (Ok _) new = HasTaken new (taken ++ piece)
 FeedTells filter options taken piece (Err why) new = TellsFault filter options taken piece why
 
+-- what holds of a check that was decided: memory did not run out
+abbrev pub IfDecided : Type 0 → AnywhereFault → Type 0
+IfDecided P (fault.Stop (stop.Refused refusal)) = P
+IfDecided P (fault.Stop stop.OutOfMemory) = Unit {0}
+IfDecided P (fault.Stop stop.Spent) = Unit {0}
+IfDecided P fault.ReadFault = Unit {0}
+IfDecided P (fault.Hidden from to) = P
+
 -- what is answered at the end of the bytes: they end too early, and all names pass
 pub record CutAnywhere (filter : FilterView) (options : Options) (bytes : List ℕ) (refusal : Refusal) : Type 0 where
   pub right : Refuses filter options bytes refusal

@@ -1,8 +1,9 @@
 //! The check of a stream that comes in pieces, which asks the filter about every class name that can be read at any place.
-ghost use Rattle.std.specs.Prelude.{◌≡◌, ◌++◌, ℕ, List, [], Some, Err, IfErr, OnOk};
+ghost use Rattle.std.specs.Prelude.{◌≡◌, ◌++◌, ℕ, List, [], Some, Err, IfErr, IfSome, OnOk};
+ghost use Rattle.jser_check.specs.Fronts.{IsFront, whole_in};
 ghost use Rattle.jser_check_anywhere.specs.declared.fault.AnywhereFault.{AnywhereFault};
 ghost use Rattle.jser_check_anywhere.specs.Joins.{over, repeated};
-ghost use Rattle.jser_check_anywhere.specs.Answers.{AreUndecided, EndTells, FeedTells, HasTaken, PieceTells};
+ghost use Rattle.jser_check_anywhere.specs.Answers.{AreUndecided, EndTells, FeedTells, HasTaken, IfDecided, PieceTells};
 
 use crate::fault::{AnywhereFault, first_of};
 use crate::gate::{Held, HeldGate};
@@ -81,6 +82,8 @@ impl<'f> AnywhereChecker<'f> {
     pub fn feed(&mut self, piece: &[u8]) -> Result<(), AnywhereFault>
         ensures tells { (taken : List ℕ) → HasTaken self.old taken → FeedTells self.old.reader.gate.filter self.old.reader.gate.options taken piece.now result self.new }
         ensures undecided { (taken : List ℕ) → HasTaken self.old taken → OnOk result (AreUndecided self.old.reader.gate.filter self.old.reader.gate.options (taken ++ piece.now)) }
+        ensures whole { (taken : List ℕ) → HasTaken self.old taken
+            → IfErr result (IfDecided (IsFront self.old.reader.gate.filter self.old.reader.gate.options (taken ++ piece.now) (whole_in self.new.reader))) }
         ensures stops { (taken : List ℕ) → HasTaken self.old taken → IfErr result (λ why. self.new.stopped ≡ Some (repeated why)) }
         ensures stays { (fault : AnywhereFault) → self.old.stopped ≡ Some fault → (result ≡ Err fault) × (self.new ≡ self.old) }
         ensures filter { self.new.reader.gate ≡ self.old.reader.gate }
@@ -100,6 +103,8 @@ impl<'f> AnywhereChecker<'f> {
     /// The check and the scan of a piece: the first fault of the two, if there is one.
     fn both(&mut self, piece: &[u8]) -> Option<AnywhereFault>
         ensures tells { (taken : List ℕ) → HasTaken self.old taken → PieceTells self.old.reader.gate.filter self.old.reader.gate.options taken piece.now result self.new }
+        ensures whole { (taken : List ℕ) → HasTaken self.old taken
+            → IfSome result (IfDecided (IsFront self.old.reader.gate.filter self.old.reader.gate.options (taken ++ piece.now) (whole_in self.new.reader))) }
         ensures gate { self.new.reader.gate ≡ self.old.reader.gate }
         ensures stopped { self.new.stopped ≡ self.old.stopped }
     {
@@ -116,6 +121,7 @@ impl<'f> AnywhereChecker<'f> {
     /// after the counts `Stop` with `Spent`, until `restart`.
     pub fn finish(&mut self) -> Result<Totals, AnywhereFault>
         ensures tells { (taken : List ℕ) → HasTaken self.old taken → EndTells self.old.reader.gate.filter self.old.reader.gate.options taken result }
+        ensures whole { (taken : List ℕ) → HasTaken self.old taken → IsFront self.old.reader.gate.filter self.old.reader.gate.options taken (whole_in self.new.reader) }
         ensures ends { (taken : List ℕ) → HasTaken self.old taken → self.new.stopped ≡ Some (over result) }
         ensures stays { (fault : AnywhereFault) → self.old.stopped ≡ Some fault → (result ≡ Err fault) × (self.new ≡ self.old) }
         ensures filter { self.new.reader.gate ≡ self.old.reader.gate }
@@ -134,6 +140,16 @@ impl<'f> AnywhereChecker<'f> {
                 Err(fault)
             }
         }
+    }
+
+    /// How many of the bytes that came are whole contents: the length of their longest front that the filter admits, whatever
+    /// names can be read at other places. The header alone is a stream of no contents; before its end this is 0. After
+    /// `OutOfMemory` it says nothing.
+    pub fn whole(&self) -> u64
+        ensures is { result ≡ whole_in self.now.reader }
+        ensures front { (taken : List ℕ) → HasTaken self.now taken → IsFront self.now.reader.gate.filter self.now.reader.gate.options taken result }
+    {
+        self.reader.whole()
     }
 
     /// Makes it a check that has taken nothing, under the same filter and options, whatever it took or answered before. It

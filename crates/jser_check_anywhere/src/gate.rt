@@ -54,7 +54,7 @@ impl<'f> HeldGate<'f> {
         }
     }
 
-    /// The same gate, of the filter that is lent.
+    /// The gate of this filter, which is lent.
     fn lent(&self) -> FilterGate<'_>
         ensures { result ≡ self.now }
     {

@@ -40,6 +40,7 @@ pub fn check_anywhere<R: Source>(
     ensures never_spent { result ≢ Err (AnywhereFault.Stop Stop.Spent) }
     ensures within { TakesAtMost (most_bytes + 1) (R.to_come source.old) (R.to_come source.new) }
     ensures prompt { TakesFew (R.to_come source.old) (R.to_come source.new) result }
+    ensures remembers { (all : List ℕ) → R.remembers source.old all → R.remembers source.new all }
 {
     let mut checker = AnywhereChecker::lent(alloc, filter, options);
     answer_of(alloc, source, &mut checker)
@@ -54,6 +55,7 @@ fn answer_of<'f, R: Source>(
     requires { HasTaken checker.old [] }
     ensures answers { Answered checker.old.reader.gate.filter checker.old.reader.gate.options (R.to_come source.old) (R.to_come source.new) result }
     ensures fails { FailsWith result (R.has_failed source.old) (R.has_failed source.new) }
+    ensures remembers { (all : List ℕ) → R.remembers source.old all → R.remembers source.new all }
 {
     match read_whole(alloc, source, checker) {
         Ok(()) => checker.finish(),
@@ -71,6 +73,7 @@ fn read_whole<'f, R: Source>(
     ensures tells { WholeTells checker.old.reader.gate.filter checker.old.reader.gate.options checker.new (R.to_come source.old) (R.to_come source.new) result }
     ensures filter { checker.new.reader.gate ≡ checker.old.reader.gate }
     ensures fails { FailsWith result (R.has_failed source.old) (R.has_failed source.new) }
+    ensures remembers { (all : List ℕ) → R.remembers source.old all → R.remembers source.new all }
 {
     let Ok(mut buffer) = new_buffer(alloc, BUFFER_LEN) else {
         return Err(AnywhereFault::Stop(Stop::OutOfMemory));
@@ -107,6 +110,7 @@ fn read_some<'f, R: Source>(
     ensures few { IfOk result (λ count. count ≤ length buffer.old) }
     ensures end { result ≡ Ok 0 → IsAtEnd (R.to_come source.new) }
     ensures fails { (taken : List ℕ) → HasTaken checker.old taken → FailsWith result (R.has_failed source.old) (R.has_failed source.new) }
+    ensures remembers { (all : List ℕ) → R.remembers source.old all → R.remembers source.new all }
 {
     let count = match source.take(buffer) {
         Ok(count) => count,

@@ -9,3 +9,4 @@ pub mod ZeroLemmas
 pub mod LentSteps
 pub mod LineLemmas
 pub mod ClassLemmas
+pub mod WholeLemmas

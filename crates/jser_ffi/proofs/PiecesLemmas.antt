@@ -33,7 +33,7 @@ use Rattle.jser_ffi.specs.declared.answer.Answer.{Answer}
 use Rattle.jser_ffi.specs.declared.compiled.Compiled.{Compiled}
 use Rattle.jser_ffi.specs.declared.stream.Stream.TheVariants as state
 use Rattle.jser_ffi.specs.Streams.{Begins}
-use Rattle.jser_ffi.specs.Told.{HasFirst, HasHidden, HasRefusal, HasReport, HasStop, IsRight, TellsRefusal, SaysAnywhere, SaysPlain}
+use Rattle.jser_ffi.specs.Told.{HasEnd, HasFirst, HasHidden, HasRefusal, HasStop, IsRight, TellsRefusal, SaysAnywhere, SaysPlain}
 use Rattle.jser_ffi.specs.Pieces.{TakenAnywhere, checking, DecidesAlone, FedPlain, FedAnywhere, TellsNameIn}
 use Rattle.jser_ffi.proofs.ToldLemmas.{end_says, report_says}
 
@@ -62,11 +62,6 @@ fed_plain old new taken piece result answer h bytes s same st =
     fed_by old new taken piece result answer h (feed_takes old new piece taken result f st) (feed_refused old new piece taken result bytes f st)
 
 -- ---- the end, without names at any place
-
--- the answer to what a reader says at the end
-abbrev pub HasEnd : Answer → Result Totals Stop → Type 0
-HasEnd answer (Ok report) = HasReport answer report
-HasEnd answer (Err why) = HasStop answer why
 
 end_plain_by : (filter : FilterView) (options : Options) (taken : List ℕ) (result : Result Totals Stop) (answer : Answer) (new : Seen) → HasEnd answer result → IsBytes taken
     → Ends (gate_of_filter filter options) taken result new → SaysPlain filter options taken answer

@@ -1,5 +1,5 @@
 -- From what was put into a room to what the answer says.
-use Rattle.std.proofs.Common.{◌≡◌, ℕ, List, [], sym, ap, ◌∙◌, subst}
+use Rattle.std.proofs.Common.{◌≡◌, ℕ, List, [], sym, ap, ◌∙◌, subst, false}
 use Rattle.std.specs.Prelude.{IfSome, Option, Some}
 use Rattle.jser_filter.specs.Filters.{FilterView}
 use Rattle.jser_index.specs.Graphs.{GraphView}
@@ -17,10 +17,10 @@ use Rattle.jser_ffi.specs.Rooms.{PutsUpTo}
 use Rattle.jser_ffi.specs.Texts.{HasText, PutsShown, TellsList, TellsNames}
 
 -- the first bytes of the text of a graph are those of each list for which it stands
-pub puts_shown : (most : ℕ) (graph : GraphView) (start : Start) (old new : List ℕ) (answer : Answer) → IsFrontOf graph start
+pub puts_shown : (most : ℕ) (graph : GraphView) (start : Start) (old new : List ℕ) (answer : Answer) → IsFrontOf false graph start
     → ((text : List ℕ) → BeginsText start text → HasText answer → PutsUpTo most text old new answer) → PutsShown most graph old new answer
 unfolding IsFrontOf
-puts_shown most graph start old new answer front puts bytes list stands has = puts (shown list) (front bytes list stands) has
+puts_shown most graph start old new answer front puts bytes list stands has = puts (shown false list) (front bytes list stands) has
 
 -- the lines of the names of a stream are the text of its list
 pub lists_names : Counted → (told : Option (List ℕ)) (bytes : List ℕ) (filter : FilterView) (names : List (List ℕ)) (most : ℕ) (old new : List ℕ) (answer : Answer) → told ≡ Some bytes

@@ -30,7 +30,7 @@ pub record FedPlain (old new : Plain) (taken piece : List ℕ) (answer : Answer)
   pub refused : answer.status ≡ 1 → RefusesPlain old taken piece answer
   pub known : (answer.status ≡ 4) ⊎ ((answer.status ≡ 1) ⊎ (answer.status ≡ 3))
 
--- The same, and no hidden name ends before it; or a hidden name that ends in the piece, and no fault ends before it.
+-- With names at any place: such a refusal, and no hidden name ends before it; or a hidden name that ends in the piece, and no fault ends before it.
 
 abbrev pub DecidesAlone : FilterView → Options → (taken piece : List ℕ) → Refusal → Type 0
 DecidesAlone filter options taken piece refusal = DecidesIn filter options taken piece refusal × NoneSooner filter options (taken ++ piece) refusal.to_byte

@@ -7,7 +7,7 @@ use Rattle.jser_ffi.specs.declared.compiled.Compiled.{Compiled}
 use Rattle.jser_ffi.specs.declared.stream.Stream.{Stream}
 use Rattle.jser_ffi.specs.declared.stream.Stream.TheVariants as stream
 use Rattle.jser_ffi.specs.Compiling.{IsCompiled}
-use Rattle.jser_ffi.specs.Told.{SaysAnywhere, SaysPlain, Zeros}
+use Rattle.jser_ffi.specs.Told.{SaysAnywhere, SaysPlain, SaysWhole, Zeros}
 use Rattle.jser_ffi.specs.Pieces.{TakenAnywhere, RefusesPlain, RefusesUnder}
 
 -- it took these bytes, which decide nothing
@@ -28,7 +28,7 @@ KeepsZeros (stream.Plain reader) = Unit {0}
 KeepsZeros (stream.Anywhere reader scan) = Unit {0}
 KeepsZeros (stream.Over answer) = Zeros answer
 
--- the same of the stream of a handle
+-- the stream of a handle, where it has one, keeps such zeros
 abbrev pub HoldsZeros : Option Stream → Type 0
 HoldsZeros None = Unit {0}
 HoldsZeros (Some now) = KeepsZeros now
@@ -48,21 +48,29 @@ RefusesIn (stream.Plain reader) taken piece answer = RefusesPlain reader taken p
 RefusesIn (stream.Anywhere reader scan) taken piece answer = RefusesUnder reader.gate taken piece answer
 RefusesIn (stream.Over before) taken piece answer = ⊥
 
+-- how many bytes are whole contents, under its filter
+abbrev pub SaysWholeOf : Stream → List ℕ → Answer → Type 0
+SaysWholeOf (stream.Plain reader) bytes answer = SaysWhole reader.gate.filter reader.gate.options bytes answer
+SaysWholeOf (stream.Anywhere reader scan) bytes answer = SaysWhole reader.gate.filter reader.gate.options bytes answer
+SaysWholeOf (stream.Over before) bytes answer = Unit {0}
+
 -- what the next bytes decide
 pub record NextSays (old new : Stream) (taken piece : List ℕ) (answer : Answer) : Type 0 where
   pub more : answer.status ≡ 4 → Taken new (taken ++ piece)
   pub filter : under new ≡ under old
   pub refused : answer.status ≡ 1 → RefusesIn old taken piece answer
+  pub whole : SaysWholeOf old (taken ++ piece) answer
   pub known : (answer.status ≡ 4) ⊎ ((answer.status ≡ 1) ⊎ (answer.status ≡ 3))
 
--- the same, of a stream that ends with every answer but that more bytes are wanted
+-- what the next bytes decide, of a stream that ends with every answer but that more bytes are wanted
 pub record FeedSays (old new : Stream) (taken piece : List ℕ) (answer : Answer) : Type 0 where
   pub more : answer.status ≡ 4 → Taken new (taken ++ piece) × (under new ≡ under old)
   pub refused : answer.status ≡ 1 → RefusesIn old taken piece answer
+  pub whole : SaysWholeOf old (taken ++ piece) answer
   pub known : (answer.status ≡ 4) ⊎ ((answer.status ≡ 1) ⊎ (answer.status ≡ 3))
 
 -- the end says of what was taken what a check of it all at once says
 abbrev pub EndSays : Stream → (taken : List ℕ) → Answer → Type 0
-EndSays (stream.Plain reader) taken answer = SaysPlain reader.gate.filter reader.gate.options taken answer
-EndSays (stream.Anywhere reader scan) taken answer = SaysAnywhere reader.gate.filter reader.gate.options taken answer
+EndSays (stream.Plain reader) taken answer = SaysPlain reader.gate.filter reader.gate.options taken answer × SaysWhole reader.gate.filter reader.gate.options taken answer
+EndSays (stream.Anywhere reader scan) taken answer = SaysAnywhere reader.gate.filter reader.gate.options taken answer × SaysWhole reader.gate.filter reader.gate.options taken answer
 EndSays (stream.Over before) taken answer = answer ≡ before

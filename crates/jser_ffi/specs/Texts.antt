@@ -1,5 +1,5 @@
 -- What the answer to a text in a room means.
-use Rattle.std.specs.Prelude.{ℕ, ◌≡◌, ◌⊎◌, List}
+use Rattle.std.specs.Prelude.{ℕ, ◌≡◌, ◌⊎◌, List, false}
 use Rattle.jser_grammar.specs.Trees.{ContentTrees}
 use Rattle.jser_verdict.specs.Passing.{Passes}
 use Rattle.jser_reader.specs.Gates.{open_gate}
@@ -22,15 +22,15 @@ pub record PutsOf (text : ContentTrees → List ℕ) (most : ℕ) (bytes old new
   pub passes : Passes open_gate bytes list
   pub puts : PutsUpTo most (text list) old new answer
 
--- that of show
+-- the text of show
 abbrev pub TellsText : (most : ℕ) → (bytes old new : List ℕ) → Answer → Type 0
-TellsText most bytes old new answer = HasText answer → PutsOf shown most bytes old new answer
+TellsText most bytes old new answer = HasText answer → PutsOf (shown false) most bytes old new answer
 
 -- of each list for which a graph stands
 abbrev pub PutsShown : (most : ℕ) → GraphView → (old new : List ℕ) → Answer → Type 0
-PutsShown most graph old new answer = (bytes : List ℕ) (list : ContentTrees) → StandsFor graph bytes list → HasText answer → PutsUpTo most (shown list) old new answer
+PutsShown most graph old new answer = (bytes : List ℕ) (list : ContentTrees) → StandsFor graph bytes list → HasText answer → PutsUpTo most (shown false list) old new answer
 
--- that of list, with what the filter says of each name
+-- the text of list, with what the filter says of each name
 abbrev pub TellsNames : FilterView → (most : ℕ) → (bytes old new : List ℕ) → Answer → Type 0
 TellsNames filter most bytes old new answer = HasText answer → PutsOf (listed (words_on filter)) most bytes old new answer
 

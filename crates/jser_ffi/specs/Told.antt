@@ -1,5 +1,5 @@
 -- What the numbers of an answer to a check mean.
-use Rattle.std.specs.Prelude.{ℕ, ◌≡◌, ◌≢◌, ◌⊎◌, ◌+◌, ◌==◌, ◌||◌, if◌then◌else◌, min, Bool, true, false, List, Option, Some, None}
+use Rattle.std.specs.Prelude.{ℕ, ◌≡◌, ◌≢◌, ◌⊎◌, ◌+◌, ◌==◌, ◌||◌, if◌then◌else◌, min, Bool, true, false, List, Option, Some, None, Result, Ok, Err}
 use Rattle.jser_reader.specs.declared.Reason.{Reason}
 use Rattle.jser_reader.specs.declared.Reason.TheVariants as reason
 use Rattle.jser_reader.specs.declared.Refusal.{Refusal}
@@ -11,6 +11,7 @@ use Rattle.jser_check.specs.declared.Options.{Options}
 use Rattle.jser_check.specs.Admitted.{gate_of_filter}
 use Rattle.jser_check.specs.Answers.{Reports, Refuses, CarriesFirst}
 use Rattle.jser_check.specs.Checks.{IsCut}
+use Rattle.jser_check.specs.Fronts.{IsFront}
 use Rattle.jser_anywhere.specs.declared.Hidden.{Hidden}
 use Rattle.jser_anywhere.specs.Standing.{AllPass}
 use Rattle.jser_check_anywhere.specs.Passing.{passes_name}
@@ -84,6 +85,11 @@ HasStop answer (stop.Refused refusal) = HasRefusal answer refusal
 HasStop answer stop.OutOfMemory = answer.status ≡ 3
 HasStop answer stop.Spent = answer.status ≡ 5
 
+-- and to what a check answers at the end
+abbrev pub HasEnd : Answer → Result Totals Stop → Type 0
+HasEnd answer (Ok report) = HasReport answer report
+HasEnd answer (Err why) = HasStop answer why
+
 -- the answer to a fault
 abbrev pub HasFault : Answer → AnywhereFault → Type 0
 HasFault answer (fault.Stop (stop.Refused refusal)) = HasRefusal answer refusal
@@ -105,7 +111,7 @@ HasSooner answer refusal name = HasFault answer (sooner_of refusal name)
 -- the answer of a status alone
 abbrev pub bare_answer : (status : ℕ) → Answer
 bare_answer status =
-    record { status = status; reason = 0; from_byte = 0; to_byte = 0; bytes = 0; contents = 0; refs = 0; depth = 0; handles = 0; name_from = 0; name_to = 0 }
+    record { status = status; reason = 0; from_byte = 0; to_byte = 0; bytes = 0; contents = 0; refs = 0; depth = 0; handles = 0; name_from = 0; name_to = 0; whole = 0 }
 
 -- no counts behind that of the bytes
 abbrev pub NoCounts : Answer → Type 0
@@ -120,19 +126,33 @@ abbrev pub name_place : Answer → ℕ × ℕ
 name_place answer = if answer.status == 1 then name_by answer.reason answer.from_byte answer.to_byte else (0, 0)
 
 -- counts stand beside a yes alone, but that a room which is too small has a length; an end beside a no; a reason and a place
--- beside a no or a misuse; the place of a name as said
+-- beside a no or a misuse; the place of a name as said; and how many bytes are whole contents beside a yes, a no, and where
+-- more are wanted
 pub record Zeros (answer : Answer) : Type 0 where
   pub counts : answer.status ≢ 0 → NoCounts answer
   pub bytes : answer.status ≢ 0 → answer.status ≢ 6 → answer.bytes ≡ 0
   pub end : answer.status ≢ 1 → answer.to_byte ≡ 0
   pub place : answer.status ≢ 1 → answer.status ≢ 2 → (answer.reason ≡ 0) × (answer.from_byte ≡ 0)
   pub name : (answer.name_from, answer.name_to) ≡ name_place answer
+  pub whole : answer.status ≢ 0 → answer.status ≢ 1 → answer.status ≢ 4 → answer.whole ≡ 0
 
 -- of a text there is no count but its length
 abbrev pub TextZeros : Answer → Type 0
 TextZeros answer = Zeros answer × NoCounts answer
 
 -- ---- what a check says
+
+-- the statuses beside which an answer says how many bytes are whole contents: a yes, a no, and that more bytes are wanted
+abbrev pub KnowsWhole : (status : ℕ) → Type 0
+KnowsWhole status = (status ≡ 0) ⊎ ((status ≡ 1) ⊎ (status ≡ 4))
+
+-- it says this number
+abbrev pub HasWhole : Answer → ℕ → Type 0
+HasWhole answer n = KnowsWhole answer.status → answer.whole ≡ n
+
+-- it says the length of the longest front of the bytes that the filter admits
+unfoldable pub SaysWhole : FilterView → Options → List ℕ → Answer → Type 0
+SaysWhole filter options bytes answer = KnowsWhole answer.status → IsFront filter options bytes answer.whole
 
 -- a refusal of which this holds stands in the answer
 pub record TellsRefusal (Right : Refusal → Type 0) (answer : Answer) : Type 0 where
@@ -149,7 +169,7 @@ pub record SaysPlain (filter : FilterView) (options : Options) (bytes : List ℕ
   pub refused : answer.status ≡ 1 → TellsRefusal (IsRight filter options bytes) answer
   pub known : (answer.status ≡ 0) ⊎ ((answer.status ≡ 1) ⊎ (answer.status ≡ 3))
 
--- The same of a check that asks about every class name that can be read at any place: no hidden name ends before the
+-- Of a check that asks about every class name that can be read at any place: such a refusal, and no hidden name ends before the
 -- refusal, and that the bytes end too early is told where all names pass; or there is one, and no fault ends before it.
 
 abbrev pub IsRightAnywhere : FilterView → Options → List ℕ → Refusal → Type 0
@@ -169,8 +189,11 @@ abbrev pub SaysBy : (anywhere : Bool) → FilterView → Options → List ℕ �
 SaysBy false filter options bytes answer = SaysPlain filter options bytes answer
 SaysBy true filter options bytes answer = SaysAnywhere filter options bytes answer
 
+-- what the filter that was read says of the bytes, and how many of them are whole contents
 abbrev pub Says : Compiled → List ℕ → Answer → Type 0
-Says compiled bytes answer = SaysBy compiled.anywhere compiled.applied.filter compiled.applied.options bytes answer
+Says compiled bytes answer =
+    SaysBy compiled.anywhere compiled.applied.filter compiled.applied.options bytes answer
+    × SaysWhole compiled.applied.filter compiled.applied.options bytes answer
 
 -- what a check says under the filter of a text and of a table of modules
 pub record SaysUnder (flags : ℕ) (text modules bytes : List ℕ) (answer : Answer) : Type 0 where

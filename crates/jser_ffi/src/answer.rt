@@ -50,12 +50,15 @@ pub struct Answer {
     pub name_from: u64,
     /// Where that name ends.
     pub name_to: u64,
+    /// How many of the bytes that came are whole contents: the length of their longest front that the filter admits.
+    pub whole: u64,
 }
 
 /// The answer of an accepted stream.
 #[tactic(auto, using(crate::proofs::ZeroLemmas::yes_zeros))]
-pub(crate) fn accepted(report: Report) -> Answer
+pub(crate) fn accepted(report: Report, whole: u64) -> Answer
     ensures has { HasReport result report }
+    ensures whole { result.whole ≡ whole }
     ensures zeros { Zeros result }
 {
     Answer {
@@ -64,14 +67,16 @@ pub(crate) fn accepted(report: Report) -> Answer
         refs: report.refs,
         depth: report.depth,
         handles: report.handles,
+        whole,
         ..bare(YES)
     }
 }
 
 /// The answer of a refusal.
 #[tactic(auto, using(crate::proofs::ZeroLemmas::no_zeros))]
-pub(crate) fn refused(refusal: Refusal) -> Answer
+pub(crate) fn refused(refusal: Refusal, whole: u64) -> Answer
     ensures has { HasRefusal result refusal }
+    ensures whole { result.whole ≡ whole }
     ensures zeros { Zeros result }
 {
     let (name_from, name_to) = name_of(refusal);
@@ -81,14 +86,16 @@ pub(crate) fn refused(refusal: Refusal) -> Answer
         to_byte: refusal.to_byte,
         name_from,
         name_to,
+        whole,
         ..bare(NO)
     }
 }
 
 /// The answer of a class name that can be read at some place and does not pass.
 #[tactic(auto, using(crate::proofs::ZeroLemmas::no_zeros))]
-pub(crate) fn hidden(from_byte: u64, to_byte: u64) -> Answer
+pub(crate) fn hidden(from_byte: u64, to_byte: u64, whole: u64) -> Answer
     ensures has { HasHidden result from_byte to_byte }
+    ensures whole { result.whole ≡ whole }
     ensures zeros { Zeros result }
 {
     Answer {
@@ -97,7 +104,21 @@ pub(crate) fn hidden(from_byte: u64, to_byte: u64) -> Answer
         to_byte,
         name_from: from_byte,
         name_to: to_byte,
+        whole,
         ..bare(NO)
+    }
+}
+
+/// The answer where more bytes are wanted.
+#[tactic(auto, using(crate::proofs::ZeroLemmas::more_zeros))]
+pub(crate) fn more(whole: u64) -> Answer
+    ensures status { result.status ≡ 4 }
+    ensures whole { result.whole ≡ whole }
+    ensures zeros { Zeros result }
+{
+    Answer {
+        whole,
+        ..bare(MORE)
     }
 }
 
@@ -135,6 +156,7 @@ pub(crate) fn bare(status: u32) -> Answer
         handles: 0,
         name_from: 0,
         name_to: 0,
+        whole: 0,
     }
 }
 

@@ -10,8 +10,7 @@ ghost use Rattle.jser_ffi.specs.Told.{TextZeros};
 use crate::answer::{Answer, HIDDEN_NAME, NO_MEMORY, SPENT, bare};
 use crate::room::put;
 use jser_anywhere::Names;
-use jser_front::Front;
-use jser_prim::{Outbox, read_units};
+use jser_prim::{Front, Outbox, read_units};
 use jser_printer::write_quoted;
 use std::alloc::{AllocError, Global};
 

@@ -1,15 +1,16 @@
 //! A filter that was read once, and the check of bytes under it.
 ghost use Rattle.std.specs.Prelude.{◌≡◌, ◌⊎◌, IfOk, IfErr};
 ghost use Rattle.jser_ffi.specs.Compiling.{IsCompiled, IsCompiledFile, IsFilterOf, IsTableOf, TextIsFaulty, TextsAreFaulty, ModulesAreFaulty, SaysFileMisuse, SaysMisuse};
-ghost use Rattle.jser_ffi.specs.Told.{HasFault, Says, SaysAnywhere, SaysPlain, Zeros};
+ghost use Rattle.jser_ffi.specs.Told.{HasEnd, HasFault, HasWhole, Says, SaysAnywhere, SaysPlain, SaysWhole, Zeros};
 
 use crate::answer::{Answer, NO_MEMORY, SPENT, accepted, bare, hidden, misuse, refused};
 use crate::misuse::{
     FILTER_IS_NO_TEXT, MODULES_ARE_NO_TEXT, UNKNOWN_FLAG, file_answer, filter_answer,
     modules_answer,
 };
+use crate::pieces::stopped;
 use crate::way::way_of;
-use jser_check::{Options, Stop, check_bytes};
+use jser_check::{Options, Report, Stop, judge_bytes};
 use jser_check_anywhere::{AnywhereChecker, AnywhereFault};
 use jser_filter::{Filter, Modules};
 use jser_settings::{FileTextFault, filter_text_of};
@@ -159,14 +160,25 @@ impl Compiled {
 }
 
 /// The answer to a check of bytes.
+#[tactic(auto, using(crate::proofs::WholeLemmas::judged_whole))]
 fn check_plain(alloc: Global, bytes: &[u8], filter: &Filter, options: Options) -> Answer
     ensures says { SaysPlain filter.now options bytes.now result }
+    ensures whole { SaysWhole filter.now options bytes.now result }
     ensures zeros { Zeros result }
 {
-    match check_bytes(alloc, bytes, filter, options) {
-        Ok(report) => accepted(report),
-        Err(Stop::Refused(refusal)) => refused(refusal),
-        Err(_) => bare(NO_MEMORY),
+    let judged = judge_bytes(alloc, bytes, filter, options);
+    judged_answer(judged.answer, judged.whole)
+}
+
+/// The answer to what a check of bytes answers.
+fn judged_answer(answer: Result<Report, Stop>, whole: u64) -> Answer
+    ensures has { HasEnd result answer }
+    ensures whole { HasWhole result whole }
+    ensures zeros { Zeros result }
+{
+    match answer {
+        Ok(report) => accepted(report, whole),
+        Err(stop) => stopped(stop, whole),
     }
 }
 
@@ -174,27 +186,29 @@ fn check_plain(alloc: Global, bytes: &[u8], filter: &Filter, options: Options) -
 #[tactic(auto, using(crate::proofs::ToldLemmas::fault_says, crate::proofs::ToldLemmas::end_says, crate::proofs::ToldLemmas::report_says))]
 fn check_anywhere(alloc: Global, bytes: &[u8], filter: &Filter, options: Options) -> Answer
     ensures says { SaysAnywhere filter.now options bytes.now result }
+    ensures whole { SaysWhole filter.now options bytes.now result }
     ensures zeros { Zeros result }
 {
     let mut checker = AnywhereChecker::lent(alloc, filter, options);
     match checker.feed(bytes) {
         Ok(()) => match checker.finish() {
-            Ok(report) => accepted(report),
-            Err(fault) => faulted(fault),
+            Ok(report) => accepted(report, checker.whole()),
+            Err(fault) => faulted(fault, checker.whole()),
         },
-        Err(fault) => faulted(fault),
+        Err(fault) => faulted(fault, checker.whole()),
     }
 }
 
 /// The answer to a fault.
-fn faulted(fault: AnywhereFault) -> Answer
+fn faulted(fault: AnywhereFault, whole: u64) -> Answer
     ensures has { HasFault result fault }
+    ensures whole { HasWhole result whole }
     ensures zeros { Zeros result }
 {
     match fault {
-        AnywhereFault::Stop(Stop::Refused(refusal)) => refused(refusal),
+        AnywhereFault::Stop(Stop::Refused(refusal)) => refused(refusal, whole),
         AnywhereFault::Stop(Stop::OutOfMemory) => bare(NO_MEMORY),
         AnywhereFault::Stop(Stop::Spent) | AnywhereFault::ReadFault => bare(SPENT),
-        AnywhereFault::Hidden { from_byte, to_byte } => hidden(from_byte, to_byte),
+        AnywhereFault::Hidden { from_byte, to_byte } => hidden(from_byte, to_byte, whole),
     }
 }

@@ -18,7 +18,7 @@ use std::alloc::AllocError;
 pub enum Stream {
     /// It is checked, and nothing is decided yet.
     Plain(Reader<SharedFilter>),
-    /// The same, and the filter is asked about every class name that can be read at any place.
+    /// It is checked, the filter is asked about every class name that can be read at any place, and nothing is decided yet.
     Anywhere(Reader<SharedFilter>, Scan),
     /// It cannot go on: each call answers this.
     Over(Answer),
@@ -58,7 +58,7 @@ impl Stream {
         answer
     }
 
-    /// The same, and the stream goes on.
+    /// Takes the next bytes of a stream of which nothing is decided yet.
     fn next(&mut self, piece: &[u8]) -> Answer
         ensures says { (taken : List ℕ) → Taken self.old taken → NextSays self.old self.new taken piece.now result }
         ensures zeros { KeepsZeros self.old → Zeros result × KeepsZeros self.new }

@@ -31,7 +31,7 @@ pub(crate) fn show_text(alloc: Global, bytes: &[u8], most: usize, room: &mut [u8
 {
     match Index::read(alloc, bytes) {
         Ok(index) => put_show(alloc, &index, most, room),
-        Err(Stop::Refused(refusal)) => refused(refusal),
+        Err(Stop::Refused(refusal)) => refused(refusal, 0),
         Err(_) => bare(NO_MEMORY),
     }
 }
@@ -43,7 +43,7 @@ fn put_show(alloc: Global, index: &Index, most: usize, room: &mut [u8]) -> Answe
     ensures known { (result.status ≡ 0) ⊎ ((result.status ≡ 3) ⊎ (result.status ≡ 6)) }
     ensures zeros { TextZeros result }
 {
-    match start_of_show(alloc, index, most as u64) {
+    match start_of_show(alloc, false, index, most as u64) {
         Ok(start) => put_start(&start, most, room),
         Err(_) => bare(NO_MEMORY),
     }
@@ -85,7 +85,7 @@ fn list_under(alloc: Global, bytes: &[u8], filter: &Filter, most: usize, room: &
     counted();
     match names_of(alloc, &mut FromRead::new(bytes)) {
         Ok(names) => put_list(alloc, filter, &names, most, room),
-        Err(NamesFault::Refused(refusal)) => refused(refusal),
+        Err(NamesFault::Refused(refusal)) => refused(refusal, 0),
         Err(_) => bare(NO_MEMORY),
     }
 }

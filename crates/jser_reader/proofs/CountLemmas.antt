@@ -27,11 +27,13 @@ use Rattle.jser_reader.specs.declared.phase.Phase.TheVariants as phase
 use Rattle.jser_reader.specs.declared.tally.Tally.{Tally}
 use Rattle.jser_reader.specs.Readers.{Seen, moment_of}
 use Rattle.jser_reader.specs.Walks.{gate_with, Stands, HasTaken, Takes, Keeps, IsNew}
-use Rattle.jser_reader.specs.Tallies.{ended_by, earlier_handles, no_tally, Tallied, mark_of, tally_after, HasCounted, totals_of, AreTotals}
+use Rattle.jser_reader.specs.WholeContents.{IsWhole}
+use Rattle.jser_reader.specs.Tallies.{ended_by, earlier_handles, no_tally, is_top, Tallied, mark_of, tally_after, HasCounted, totals_of, AreTotals}
 use Rattle.jser_reader.proofs.GoalCounts.{entries_after, Has, one_field, counted_from_start, label_moment}
 use Rattle.jser_reader.proofs.MarkLemmas.{moment_is, tells_is}
 use Rattle.jser_reader.proofs.StandLemmas.{field_read, took_stands, kept_stands}
 use Rattle.jser_reader.proofs.StreamWalks.{new_stands, ends_at_top}
+use Rattle.jser_reader.proofs.WholeContentLemmas.{whole_of_none, whole_inside, took_whole, kept_whole}
 
 -- ---- one piece more
 
@@ -112,12 +114,16 @@ tallied_on gate old new s t cut fields field tally so sn a h c =
 
 -- ---- a machine with its tally
 
+pub shorter : (bytes came : List ℕ) (n : ℕ) → length (bytes ++ came) ≤ n → length bytes ≤ n
+shorter bytes came n le = let l = length-append bytes came in omega arith
+
 -- a new machine has counted nothing
 unfoldable pub new_counts : (gate : Gate) (r : Seen) → IsNew r → gate_with r gate.answer ≡ gate → HasCounted gate [] r no_tally
 unfolding new_stands
 new_counts gate r n e = record {
   taken = new_stands gate r n e;
   tallied = record { contents = refl; earlier = refl; depth = refl };
+  whole = λ room. subst (IsWhole gate []) (sym (whole_inside r no_tally (ap is_top n.phase_is))) (whole_of_none gate);
 }
 
 -- the open field has ended
@@ -138,6 +144,7 @@ took_counts gate old new bytes taken tally h bt c =
       tallied =
           tallied_on gate old new s (settled (advance s x.field)) st.cut st.fields x.field tally st.stands x.stands f.1
           (one_field s x.field o f.1) c.tallied;
+      whole = λ room. took_whole gate old new bytes taken tally h bt st room (c.whole (shorter bytes taken gate.bytes room));
     }
 
 -- the same field is still open
@@ -147,6 +154,7 @@ unfolding Keeps kept_stands
 kept_counts gate old new bytes taken tally h bt c = record {
   taken = kept_stands gate old new bytes taken h bt c.taken;
   tallied = c.tallied;
+  whole = λ room. kept_whole gate old new bytes taken tally h bt c.taken room (c.whole (shorter bytes taken gate.bytes room));
 }
 
 -- ---- no count is more than the number of the bytes

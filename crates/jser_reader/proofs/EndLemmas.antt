@@ -36,7 +36,7 @@ pub tells_next : (told : Option Reason) (s : State) (b : Bool) (old new : Seen) 
 unfolding Tells
 tells_next told s b old new h eb et = rw eb (rw et h)
 
--- the same, said of a machine that was as far
+-- what a handler tells, said of a machine that was as far
 pub tells_from : (told : Option Reason) (s t : State) (b : Bool) (old mid new : Seen) → Tells told s b mid new → mid.meter ≡ old.meter → mid.table.max ≡ old.table.max → s ≡ t → Tells told t b old new
 unfolding Tells
 tells_from None s t true old mid new h em ex e = record { ready = subst (Ready new) e h.ready; meter = h.meter ∙ ap moved em; max = h.max ∙ ex }

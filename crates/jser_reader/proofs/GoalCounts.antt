@@ -88,7 +88,7 @@ abbrev pub entries_after : Position → StreamField → ℕ → ℕ
 entries_after position reset_tag_field n = 0
 entries_after position field n = one_more_if (assigns_handle position field) n
 
--- the same as `Has`, of a state that is not settled
+-- `Has`, of a state that is not settled
 abbrev Leads : State → (places entries : ℕ) → Type 0
 Leads s places entries = (s.0.places ≡ places) × (one_more_if (makes s.1) (length s.0.table) ≡ entries) × Orderly s.1
 

@@ -115,7 +115,7 @@ ready_place phase.Bytes r s h = told r.table.chains s _ _ (place_at phase.Bytes 
 ready_place phase.Cut r s h = absurd h
 ready_place phase.Stopped r s h = absurd h
 
--- the same where some bytes of the field were taken
+-- the place of a field of which some bytes were taken
 stands_place : (p : Phase) (r : Seen) (s : State) (cut : List ℕ) → StandsAt p r s cut → TellsPlace r.table.chains s.1 (place_at (open_in p r.meter.cut_phase) r.text r.frames)
 stands_place phase.Text r s cut h = texts r r.text h.long _ s h.is
 stands_place phase.Prims r s cut h = told r.table.chains s _ _ (place_at phase.Prims r.text r.frames) h.is (refl, tt)

@@ -39,6 +39,8 @@ use Rattle.jser_reader.specs.ReaderStates.{HasRefused, IsSpent, NextCases, NextT
 use Rattle.jser_reader.specs.States.{AnswersStop, stop_after}
 use Rattle.jser_reader.specs.Wholes.{IsPlace, HasPlace, HasNumber, HasText, HasReference, tag_of_owner, placed, AssignsText}
 use Rattle.jser_reader.specs.WholesTold.{TellsReference, TellsText, TellsString, OwnerCases}
+use Rattle.jser_reader.specs.WholeContents.{StaysWhole}
+use Rattle.jser_reader.proofs.WholeContentLemmas.{whole_stopped}
 use Rattle.jser_reader.proofs.NumberLemmas.{right_handle}
 use Rattle.jser_reader.proofs.TakeLemmas.{counts_bytes, one_taken, takes_back_handle, takes_class_handle}
 use Rattle.jser_reader.proofs.CutLemmas.{four_taken}
@@ -254,14 +256,15 @@ owner_told gate o n true piece old mid new m1 m2 before after g can i first h sm
 
 -- ---- the machine stops within it
 
-pub halts_next : (gate : Gate) (piece : List ℕ) (why : Stop) (old mid new : Seen) (before between after : Tally) → Passes gate piece None old before mid between
+pub halts_next : (gate : Gate) (piece : List ℕ) (why : Stop) (old mid new : Seen) (before after : Tally) → Passes gate piece None old before mid after
     → AnswersStop why mid new → NextTells gate piece (Err why) old before new after
 unfolding PassTells NextTells HasRefused IsSpent
-halts_next gate piece why old mid new before between after h a = λ bytes st.
+halts_next gate piece why old mid new before after h a = λ bytes st.
     let x = h.tells bytes st in
     subst (λ y. NextCases gate bytes piece (Err y) new after) (sym a.is) (go mid.meter.stop bytes x.0 refl x.1)
   where
-    go : (y : Stop) (bytes : List ℕ) → mid.phase ≡ phase.Stopped → mid.meter.stop ≡ y → HaltCases gate bytes piece y → NextCases gate bytes piece (Err y) new after
-    go (stop.Refused refusal) bytes ep es x = (x.0, x.1, x.2, (a.phase ∙ ep, a.stop_is ∙ ap stop_after es), x.3)
+    go : (y : Stop) (bytes : List ℕ) → mid.phase ≡ phase.Stopped → mid.meter.stop ≡ y → HaltCases gate bytes piece after y → NextCases gate bytes piece (Err y) new after
+    go (stop.Refused refusal) bytes ep es x =
+        (x.0, x.1, x.2, (a.phase ∙ ep, a.stop_is ∙ ap stop_after es), x.3, subst (StaysWhole gate (bytes ++ take x.0 piece)) (sym (whole_stopped new after (a.phase ∙ ep))) x.4)
     go stop.OutOfMemory bytes ep es x = (a.phase ∙ ep, a.stop_is ∙ ap stop_after es)
     go stop.Spent bytes ep es x = x

@@ -8,6 +8,7 @@ pub mod NumberWalks
 pub mod RawWalks
 pub mod TextSteps
 pub mod StreamWalks
+pub mod WholeContentLemmas
 pub mod JoinLemmas
 pub mod TakeLemmas
 pub mod CutLemmas

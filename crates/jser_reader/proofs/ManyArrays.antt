@@ -34,7 +34,7 @@ use Rattle.jser_reader.proofs.ClassLemmas.{right_class}
 use Rattle.jser_reader.proofs.CutLemmas.{four_taken}
 use Rattle.jser_reader.proofs.EndLemmas.{tells_next}
 use Rattle.jser_reader.proofs.WholeLemmas.{assigned_other}
-use Rattle.jser_reader.proofs.ManyLemmas.{place_on, rest_can, place_counted, place_holds, same_can}
+use Rattle.jser_reader.proofs.ManyLemmas.{same_start, same_room, place_on, rest_can, place_counted, place_holds, same_can}
 use Rattle.jser_reader.proofs.ManyPlain.{tag_there}
 use Rattle.jser_reader.proofs.OwnerLemmas.{array_owned}
 use Rattle.jser_reader.proofs.PartLemmas.{made}
@@ -84,7 +84,7 @@ length_passes gate piece n chain count old k before next b full g told =
     then_passes gate rest last 6 4 r m next (tally_at before k) (tally_at before (with_place k 10)) (tally_at before (with_place k 10))
     (owner_passes gate owner.Array n true rest r mid m (mark_of r) (mark_of mid) (tally_at before k) (tally_at before (with_place k 10)) g
     can (place_on old.frames) (tag_there piece k.used 0x75 b.tag) b.class b.small b.place refl (class_told r n chain is full) refl refl
-    (λ _ _. place_counted before old mid k 10 b.holds.depth refl (λ none. none)))
+    (λ _ _. place_counted before old mid k 10 b.holds.depth b.holds.start refl (λ none. none)))
     (quiet_end gate 4 (taken.Ended 4) last m next (tally_at before (with_place k 10))
     (four_taken count true (taken.Ended 4) last (take 4 last) m next
     (takes_array_length count 4 true m (farther m 4) next told refl refl (omega arith) (omega arith))
@@ -199,6 +199,7 @@ values_turn piece n chain count old new k i j b some elements assigns ei ej =
     let frames : length new.frames ≡ suc (length old.frames) = ap (λ r. length r.frames) en in
     let held = place_holds piece old (added old other_entry) k (with_place k 10) 10 b.holds b.place (omega arith) (omega arith) refl refl refl in
     let items : j.items ≡ (with_place k 10).items = ap (λ x. x.items) e in
+    let counted : j.items.count ≡ (with_place k 10).items.count = ap (λ b. b.count) items in
     let deepest : j.deepest ≡ (with_place k 10).deepest = ap (λ x. x.deepest) e in
     let x = held.items in
     let y = held.deep in
@@ -218,7 +219,7 @@ values_turn piece n chain count old new k i j b some elements assigns ei ej =
             ap (λ m. record { at = m.at + j.used; from = m.at + j.used; limits = m.limits; stop = m.stop; cut_phase = m.cut_phase; kept = m.kept }) em
             ∙ ap (λ n. record { at = n; from = n; limits = old.meter.limits; stop = old.meter.stop; cut_phase = old.meter.cut_phase; kept = old.meter.kept }) (let same : new.meter.at ≡ old.meter.at = ap (λ m. m.at) em in let at' : old.meter.at + j.used ≡ r.meter.at = omega arith in at') in
             subst (λ t. Passes gate (drop k.used piece) (Some 10) (seen_at old k) (tally_at before k) (seen_at new j) t)
-            (ap₂ (λ p q. record { contents = before.contents + p; earlier = before.earlier; depth = q }) (sym items) (sym deepest))
+            (ap₂ (λ p q. record { contents = before.contents + p.count; earlier = before.earlier; depth = q; begun = p.last }) (sym items) (sym deepest))
             (length_passes gate piece n chain count old k before (seen_at new j) b assigns.0 g
             (some_values count true r (seen_at new j)
             (tells_next None (after_length r None count) true r (seen_at new j)
@@ -230,7 +231,7 @@ values_turn piece n chain count old new k i j b some elements assigns ei ej =
             elements (λ over. let low = b.low in omega arith) (λ over. let short = b.short in omega arith)));
         nothing = λ none. absurd (omega arith);
       },
-      record { can = same_can piece old new em b.holds.can; within = omega arith; depth = omega arith; deep = omega arith; items = omega arith },
+      record { can = same_can piece old new em b.holds.can; within = omega arith; depth = omega arith; deep = omega arith; items = omega arith; start = same_start old new (with_place k 10) j em items b.holds.start; room = same_room (length piece) (with_place k 10) j items b.holds.room },
       omega arith,
     )
 

@@ -25,7 +25,7 @@ use Rattle.jser_reader.specs.Tallies.{mark_of}
 use Rattle.jser_reader.specs.Wholes.{HasPlace, HasReference}
 use Rattle.jser_reader.proofs.ClassLemmas.{right_class}
 use Rattle.jser_reader.proofs.WholeLemmas.{assigned_other}
-use Rattle.jser_reader.proofs.ManyLemmas.{place_on, rest_can, place_counted, place_holds, same_can}
+use Rattle.jser_reader.proofs.ManyLemmas.{same_start, same_room, place_on, rest_can, place_counted, place_holds, same_can}
 use Rattle.jser_reader.proofs.ManyPlain.{tag_there}
 use Rattle.jser_reader.proofs.OwnerLemmas.{bare_object, external_object, object_begins, object_owned}
 use Rattle.jser_reader.proofs.WholeLemmas.{with_class, TellsClass, owner_passes}
@@ -89,7 +89,7 @@ bare_leads piece n chain old k b full plain none =
           (class_told r next n chain is full
           (bare_object old.table.chains (chain_in old.table.chains chain) true (begins r) next none refl plain comes.ready (comes.meter ∙ same_meter old k)
           (record { table = kept.table; layers = kept.layers; refs = kept.refs })))
-          refl refl (λ _ _. place_counted before old mid k 6 b.holds.depth refl (λ none. none));
+          refl refl (λ _ _. place_counted before old mid k 6 b.holds.depth b.holds.start refl (λ none. none));
     }
 
 pub bare_turn : (piece : List ℕ) (n chain : ℕ) (old new : Seen) (k j : Counts) → ObjectBegins piece n chain old k → is_external (chain_in old.table.chains chain) ≡ false
@@ -128,6 +128,7 @@ external_turn piece n chain old new k i j b external assigns ei ej =
     let frames : length new.frames ≡ suc (length old.frames) = ap (λ r. length r.frames) en in
     let held = place_holds piece old (added old other_entry) k (with_place k 6) 6 b.holds b.place (omega arith) (omega arith) refl refl refl in
     let items : j.items ≡ (with_place k 6).items = ap (λ x. x.items) e in
+    let counted : j.items.count ≡ (with_place k 6).items.count = ap (λ b. b.count) items in
     let deepest : j.deepest ≡ (with_place k 6).deepest = ap (λ x. x.deepest) e in
     let x = held.items in
     let y = held.deep in
@@ -143,15 +144,15 @@ external_turn piece n chain old new k i j b external assigns ei ej =
         meter = em;
         passes = λ gate g before.
             subst (λ t. Passes gate (drop k.used piece) (Some 6) (seen_at old k) (tally_at before k) (seen_at new j) t)
-            (ap₂ (λ p q. record { contents = before.contents + p; earlier = before.earlier; depth = q }) (sym items) (sym deepest))
+            (ap₂ (λ p q. record { contents = before.contents + p.count; earlier = before.earlier; depth = q; begun = p.last }) (sym items) (sym deepest))
             (owner_passes gate owner.Object n true (drop k.used piece) r mid (seen_at new j) (mark_of r) (mark_of mid) (tally_at before k) (tally_at before (with_place k 6)) g
             (rest_can piece old k b.holds more) (place_on old.frames) (tag_there piece k.used 0x73 b.tag) b.class b.small b.place refl
             (class_told r (seen_at new j) n chain is assigns.0
             (external_object (chain_in old.table.chains chain) true true (begins r) (pushed (begins r) frame.ExternalNotes) (seen_at new j) (pushed_frame (begins r)) refl refl external
             (ap phase_on (ap (λ r. r.frames) en)) (ap (λ r. r.frames) en) (ap (λ r. r.layers) en) (ap (λ r. r.table) en) (ap (λ x. x.refs) e) meter))
-            refl refl (λ _ _. place_counted before old mid k 6 b.holds.depth refl (λ none. none)));
+            refl refl (λ _ _. place_counted before old mid k 6 b.holds.depth b.holds.start refl (λ none. none)));
         nothing = λ none. absurd (omega arith);
       },
-      record { can = same_can piece old new em b.holds.can; within = omega arith; depth = omega arith; deep = omega arith; items = omega arith },
+      record { can = same_can piece old new em b.holds.can; within = omega arith; depth = omega arith; deep = omega arith; items = omega arith; start = same_start old new (with_place k 6) j em items b.holds.start; room = same_room (length piece) (with_place k 6) j items b.holds.room },
       omega arith,
     )

@@ -129,7 +129,7 @@ constant_leads piece n name old k b full =
           (ap (λ x. record { at = x; from = x; limits = old.meter.limits; stop = old.meter.stop; cut_phase = old.meter.cut_phase; kept = old.meter.kept }) (sym at)) refl refl refl refl in
           then_passes gate rest last 6 5 r m next (tally_at before k) told told
           (owner_passes gate owner.EnumConst n true rest r mid m (mark_of r) (mark_of mid) (tally_at before k) told g can (place_on old.frames) (tag_there piece k.used 0x7E b.tag) b.class b.small b.place
-          refl (class_told r n is full) refl refl (λ _ _. place_counted before old mid k 11 b.holds.depth refl (λ none. none)))
+          refl (class_told r n is full) refl refl (λ _ _. place_counted before old mid k 11 b.holds.depth b.holds.start refl (λ none. none)))
           (then_passes gate last (drop 1 last) 1 4 m q next told told told
           (quiet_end gate 1 (taken.Ended 1) last m q told
           (one_taken 0x71 true (taken.Ended 1) last m q

@@ -22,7 +22,7 @@ use Rattle.jser_reader.specs.Stacks.{tail_of, HasNoValue, IsOnTop, CountsValue}
 use Rattle.jser_reader.specs.Steps.{before_parts, after_value, GoesOn}
 use Rattle.jser_reader.specs.Takes.{counted_on}
 use Rattle.jser_reader.specs.Many.{without_top}
-use Rattle.jser_reader.proofs.ManyLemmas.{leads_there, same_can}
+use Rattle.jser_reader.proofs.ManyLemmas.{same_start, same_room, leads_there, same_can}
 use Rattle.jser_reader.proofs.ManySections.{none_dropped}
 use Rattle.jser_reader.proofs.PartLemmas.{fits_without, leaves_elements, at_notes, at_top, value_comes, field_ready}
 
@@ -56,7 +56,7 @@ leads_same piece old mid new k i j s t h em ey et eu er ei ed es = record {
   meter = em ∙ h.meter;
   to = λ gate is_gate before next comes kept.
       subst (λ n. Passes gate (drop k.used piece) (Some h.size) (seen_at old k) (tally_at before k) next n)
-      (ap₂ (λ x y. record { contents = before.contents + x; earlier = before.earlier; depth = y }) (sym ei) (sym ed))
+      (ap₂ (λ x y. record { contents = before.contents + x.count; earlier = before.earlier; depth = y; begun = x.last }) (sym ei) (sym ed))
       (h.to gate is_gate before next
       (record {
         ready = subst (Ready next) (sym es) comes.ready;
@@ -99,9 +99,10 @@ pub used_holds : (piece : List ℕ) (old new : Seen) (i j : Counts) (size : ℕ)
     → j.deepest ≡ i.deepest → j.depth ≡ length new.frames → Holds piece new j
 used_holds piece old new i j size h em enough eu ei ed en =
     let items = h.items in
+    let count : j.items.count ≡ i.items.count = ap (λ b. b.count) ei in
     let deep = h.deep in
     let limit : new.meter.limits.depth ≡ old.meter.limits.depth = ap (λ m. m.limits.depth) em in
-    record { can = same_can piece old new em h.can; within = omega arith; depth = en; deep = omega arith; items = omega arith }
+    record { can = same_can piece old new em h.can; within = omega arith; depth = en; deep = omega arith; items = omega arith; start = same_start old new i j em ei h.start; room = same_room (length piece) i j ei h.room }
 
 no_element : (frames : List Frame) (left : ℕ) → frames ≡ frame.Elements left ∷ tail_of frames → IsOnTop HasNoValue frames → 0 < left → ⊥
 no_element frames left e none = let h : IsOnTop HasNoValue (frame.Elements left ∷ tail_of frames) = subst (IsOnTop HasNoValue) e none in h

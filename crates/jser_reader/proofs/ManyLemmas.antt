@@ -1,5 +1,5 @@
 -- The loop over whole values: from one place in the piece to another.
-use Rattle.std.proofs.Common.{◌≡◌, ℕ, zero, suc, ◌+◌, ◌-◌, ◌^◌, ◌<◌, ◌≤◌, ◌==◌, Bool, true, false, nat_lt, max, ◌&&◌, List, [], ◌∷◌, length, drop, refl, sym, ◌∙◌, ap, subst, arith}
+use Rattle.std.proofs.Common.{◌≡◌, ℕ, zero, suc, ◌+◌, ◌-◌, ◌^◌, ◌<◌, ◌≤◌, ◌==◌, Bool, true, false, nat_lt, max, ◌&&◌, if◌then◌else◌, List, [], ◌∷◌, length, drop, refl, sym, ◌∙◌, ap, subst, arith}
 use Rattle.std.proofs.lemmas.Bool.Decides.{nat_tests}
 use Rattle.std.proofs.lemmas.List.{drop-drop}
 use Rattle.jser_reading.specs.Goals.{State}
@@ -63,24 +63,32 @@ none_new false n k none = refl
 none_new true n zero none = none refl
 none_new true n (suc k) none = let some : (suc k == 0) ≡ false = grind (arith, nat_tests) in ap (λ b. number_if (true && b) n) some
 
-pub tally_is : (c e d c' e' d' : ℕ) → c ≡ c' → e ≡ e' → d ≡ d'
-    → (let x : Tally = record { contents = c; earlier = e; depth = d } in let y : Tally = record { contents = c'; earlier = e'; depth = d' } in x ≡ y)
-tally_is c e d c' e' d' ec ee ed =
-    ap (λ n. record { contents = n; earlier = e; depth = d }) ec ∙ ap (λ n. record { contents = c'; earlier = n; depth = d }) ee ∙ ap (λ n. record { contents = c'; earlier = e'; depth = n }) ed
+pub tally_is : (c e d b c' e' d' b' : ℕ) → c ≡ c' → e ≡ e' → d ≡ d' → b ≡ b'
+    → (let x : Tally = record { contents = c; earlier = e; depth = d; begun = b } in let y : Tally = record { contents = c'; earlier = e'; depth = d'; begun = b' } in x ≡ y)
+tally_is c e d b c' e' d' b' ec ee ed eb =
+    ap (λ n. record { contents = n; earlier = e; depth = d; begun = b }) ec ∙ ap (λ n. record { contents = c'; earlier = n; depth = d; begun = b }) ee
+    ∙ ap (λ n. record { contents = c'; earlier = e'; depth = n; begun = b }) ed ∙ ap (λ n. record { contents = c'; earlier = e'; depth = d'; begun = n }) eb
+
+-- where the last content begins
+pub last_begun : (old : Seen) (k : Counts) → k.items.start ≡ old.meter.at → is_top (phase_on old.frames) ≡ (k.depth == 0)
+    → (if k.depth == 0 then k.items.start + k.used else k.items.last) ≡ (if is_top (phase_on old.frames) then old.meter.at + k.used else k.items.last)
+last_begun old k es top =
+    ap (λ n. if k.depth == 0 then n + k.used else k.items.last) es ∙ ap (λ b. if b then old.meter.at + k.used else k.items.last) (sym top)
 
 -- those of a place
-pub place_counted : (before : Tally) (old far : Seen) (k : Counts) (size : ℕ) → k.depth ≡ length old.frames → far.refs ≡ suc k.refs
+pub place_counted : (before : Tally) (old far : Seen) (k : Counts) (size : ℕ) → k.depth ≡ length old.frames → k.items.start ≡ old.meter.at → far.refs ≡ suc k.refs
     → (length far.table.entries ≡ 0 → length old.table.entries ≡ 0)
     → tally_at before (with_place k size) ≡ tally_after (mark_of (seen_at old k)) (mark_of far) (tally_at before k)
-place_counted before old far k size ed er none =
+place_counted before old far k size ed es er none =
     let top : is_top (phase_on old.frames) ≡ (k.depth == 0) = top_on old.frames ∙ ap (λ n. n == 0) (sym ed) in
     let zero_more = none_new (is_top (phase_on old.frames)) (length old.table.entries) (length far.table.entries) none in
     let same : before.earlier ≡ before.earlier + 0 = omega arith in
     let one : nat_lt k.refs far.refs ≡ true = grind (arith, nat_tests) in
-    tally_is _ _ _ _ _ _
-    (one_more (k.depth == 0) before.contents k.items ∙ ap (λ b. one_more_if b (before.contents + k.items)) (sym top))
+    tally_is _ _ _ _ _ _ _ _
+    (one_more (k.depth == 0) before.contents k.items.count ∙ ap (λ b. one_more_if b (before.contents + k.items.count)) (sym top))
     (same ∙ ap (λ n. before.earlier + n) (sym zero_more))
     (ap (λ n. max k.deepest (suc n)) ed ∙ ap (λ b. max k.deepest (number_if b (suc (length old.frames)))) (sym one))
+    (last_begun old k es top)
 
 pub items_within : (b : Bool) (items used size : ℕ) → items ≤ used → 0 < size → items + number_if b 1 ≤ used + size
 items_within true items used size le some = omega arith
@@ -99,6 +107,13 @@ same_can piece old new em can = record {
   all_bytes = can.all_bytes;
 }
 
+-- the piece begins at the same place
+pub same_start : (old new : Seen) (i j : Counts) → new.meter ≡ old.meter → j.items ≡ i.items → i.items.start ≡ old.meter.at → j.items.start ≡ new.meter.at
+same_start old new i j em ei h = ap (λ b. b.start) ei ∙ h ∙ ap (λ m. m.at) (sym em)
+
+pub same_room : (n : ℕ) (i j : Counts) → j.items ≡ i.items → i.items.start + n < 2 ^ 64 → j.items.start + n < 2 ^ 64
+same_room n i j ei h = subst (λ b. b.start + n < 2 ^ 64) (sym ei) h
+
 -- they are right after a place
 pub place_holds : (piece : List ℕ) (old new : Seen) (k j : Counts) (size : ℕ) → Holds piece old k → HasPlace (seen_at old k) → 0 < size → k.used + size ≤ length piece
     → new.meter ≡ old.meter → new.frames ≡ old.frames → j ≡ with_place k size → Holds piece new j
@@ -113,7 +128,9 @@ place_holds piece old new k j size h p some enough em ef e =
       within = enough;
       depth = depth ∙ ap length (sym ef);
       deep = omega arith;
-      items = items_within (k.depth == 0) k.items k.used size h.items some;
+      items = items_within (k.depth == 0) k.items.count k.used size h.items some;
+      start = h.start ∙ ap (λ m. m.at) (sym em);
+      room = h.room;
     })
 
 -- ---- one after another

@@ -1,5 +1,5 @@
 -- The loop over whole values: blocks, and the ends of annotations.
-use Rattle.std.proofs.Common.{◌≡◌, ℕ, suc, ◌+◌, ◌-◌, ◌<◌, ◌≤◌, ◌==◌, true, false, nat_lt, max, List, [], ◌∷◌, length, get_or, drop, refl, sym, ◌∙◌, ap, subst, arith}
+use Rattle.std.proofs.Common.{if◌then◌else◌, ◌≡◌, ℕ, suc, ◌+◌, ◌-◌, ◌<◌, ◌≤◌, ◌==◌, true, false, nat_lt, max, List, [], ◌∷◌, length, get_or, drop, refl, sym, ◌∙◌, ap, subst, arith}
 use Rattle.std.proofs.Common.{get_or-drop}
 use Rattle.std.proofs.lemmas.Bool.Decides.{nat_tests}
 use Rattle.std.proofs.lemmas.List.{length-drop}
@@ -23,7 +23,7 @@ use Rattle.jser_reader.specs.Takes.{farther, IsOne}
 use Rattle.jser_reader.specs.Tallies.{is_top, mark_of, tally_after}
 use Rattle.jser_reader.specs.Many.{without_top}
 use Rattle.jser_reader.proofs.ManyEnds.{leads_same, leads_raws, stands_there, used_holds}
-use Rattle.jser_reader.proofs.ManyLemmas.{place_on, top_on, rest_can, tally_is, one_more, none_new, items_within, leads_there}
+use Rattle.jser_reader.proofs.ManyLemmas.{last_begun, place_on, top_on, rest_can, tally_is, one_more, none_new, items_within, leads_there}
 use Rattle.jser_reader.proofs.ManyPlain.{tag_there, ends_there}
 use Rattle.jser_reader.proofs.ManySections.{no_raws}
 use Rattle.jser_reader.proofs.PassLemmas.{passes_end}
@@ -37,18 +37,19 @@ not_less : (n m : ℕ) → m ≡ n → nat_lt n m ≡ false
 not_less n m e = grind (arith, nat_tests)
 
 -- the counts of a field where no place begins
-pub no_place_counted : (before : Tally) (old far : Seen) (k : Counts) (size : ℕ) → k.depth ≡ length old.frames → far.refs ≡ k.refs → far.table.entries ≡ old.table.entries
+pub no_place_counted : (before : Tally) (old far : Seen) (k : Counts) (size : ℕ) → k.depth ≡ length old.frames → k.items.start ≡ old.meter.at → far.refs ≡ k.refs → far.table.entries ≡ old.table.entries
     → tally_at before (with_block k size) ≡ tally_after (mark_of (seen_at old k)) (mark_of far) (tally_at before k)
-no_place_counted before old far k size ed er et =
+no_place_counted before old far k size ed es er et =
     let top : is_top (phase_on old.frames) ≡ (k.depth == 0) = top_on old.frames ∙ ap (λ n. n == 0) (sym ed) in
     let zero_more = none_new (is_top (phase_on old.frames)) (length old.table.entries) (length far.table.entries) (λ none. ap length (sym et) ∙ none) in
     let same : before.earlier ≡ before.earlier + 0 = omega arith in
     let none = not_less k.refs far.refs er in
     let deep : k.deepest ≡ max k.deepest 0 = omega arith in
-    tally_is _ _ _ _ _ _
-    (one_more (k.depth == 0) before.contents k.items ∙ ap (λ b. one_more_if b (before.contents + k.items)) (sym top))
+    tally_is _ _ _ _ _ _ _ _
+    (one_more (k.depth == 0) before.contents k.items.count ∙ ap (λ b. one_more_if b (before.contents + k.items.count)) (sym top))
     (same ∙ ap (λ n. before.earlier + n) (sym zero_more))
     (deep ∙ ap (λ b. max k.deepest (number_if b (suc (length old.frames)))) (sym none))
+    (last_begun old k es top)
 
 -- ---- a block
 
@@ -69,7 +70,7 @@ block_ends piece len old k j h room tag second enough other ej =
           block_passes gate len (drop k.used piece) r (farther r (len + 2)) next (mark_of r) (mark_of (farther r (len + 2))) (tally_at before k) (tally_at before (with_block k (len + 2))) g
           (rest_can piece old k h more) (place_on old.frames) other (tag_there piece k.used 0x77 tag) (second ∙ sym (get_or-drop k.used piece 1 0)) (omega arith) refl
           (ends_there old (farther r (len + 2)) old next k (with_block k (len + 2)) (len + 2) refl refl refl refl refl refl refl comes) refl refl
-          (λ _ _. no_place_counted before old (farther r (len + 2)) k (len + 2) h.depth refl refl);
+          (λ _ _. no_place_counted before old (farther r (len + 2)) k (len + 2) h.depth h.start refl refl);
     })
 
 pub block_turn : (piece : List ℕ) (len : ℕ) (old : Seen) (k j : Counts) → Holds piece old k → k.used + 6 ≤ length piece → 0x77 ≡ get_or piece k.used 0 → len ≡ get_or piece (k.used + 1) 0
@@ -79,7 +80,7 @@ block_turn piece len old k j h room tag second enough other ej =
     let used : j.used ≡ k.used + (len + 2) = ap (λ x. x.used) ej in
     let deep = h.deep in (
       block_ends piece len old k j h room tag second enough other ej,
-      subst (Holds piece old) (sym ej) (record { can = h.can; within = enough; depth = h.depth; deep = deep; items = items_within (k.depth == 0) k.items k.used (len + 2) h.items (omega arith) }),
+      subst (Holds piece old) (sym ej) (record { can = h.can; within = enough; depth = h.depth; deep = deep; items = items_within (k.depth == 0) k.items.count k.used (len + 2) h.items (omega arith); start = h.start; room = h.room }),
       omega arith,
     )
 
@@ -114,13 +115,14 @@ one_byte old next k parts left comes =
 inside_depth : (fs : List Frame) (f : Frame) → fs ≡ f ∷ tail_of fs → (length fs == 0) ≡ false
 inside_depth fs f e = let n : length fs ≡ suc (length (tail_of fs)) = ap length e in grind (arith, nat_tests)
 
-notes_counted : (before : Tally) (old next : Seen) (k : Counts) (f : Frame) → k.depth ≡ length old.frames → old.frames ≡ f ∷ tail_of old.frames → next.refs ≡ k.refs → next.table ≡ old.table
+notes_counted : (before : Tally) (old next : Seen) (k : Counts) (f : Frame) → k.depth ≡ length old.frames → k.items.start ≡ old.meter.at → old.frames ≡ f ∷ tail_of old.frames → next.refs ≡ k.refs → next.table ≡ old.table
     → tally_at before (with_used k 1) ≡ tally_after (mark_of (seen_at old k)) (mark_of next) (tally_at before k)
-notes_counted before old next k f ed e er et =
+notes_counted before old next k f ed es e er et =
     let inside : (k.depth == 0) ≡ false = ap (λ n. n == 0) ed ∙ inside_depth old.frames f e in
-    let none : k.items ≡ k.items + 0 = omega arith in
-    ap (λ n. record { contents = before.contents + n; earlier = before.earlier; depth = k.deepest }) (none ∙ ap (λ b. k.items + number_if b 1) (sym inside))
-    ∙ no_place_counted before old next k 1 ed er (ap (λ t. t.entries) et)
+    let none : k.items.count ≡ k.items.count + 0 = omega arith in
+    ap (λ n. record { contents = before.contents + n; earlier = before.earlier; depth = k.deepest; begun = k.items.last }) none
+    ∙ ap (λ b. record { contents = before.contents + (k.items.count + number_if b 1); earlier = before.earlier; depth = k.deepest; begun = if b then k.items.start + k.used else k.items.last }) (sym inside)
+    ∙ no_place_counted before old next k 1 ed es er (ap (λ t. t.entries) et)
 
 notes_lead : (piece : List ℕ) (old : Seen) (k : Counts) (f : Frame) (parts : List Part) → Holds piece old k → k.used + 6 ≤ length piece → 0x78 ≡ get_or piece k.used 0
     → old.frames ≡ f ∷ tail_of old.frames → phase_on old.frames ≡ phase.Note → IsLeft (farther (seen_at old k) 1) parts
@@ -140,7 +142,7 @@ notes_lead piece old k f parts h room tag e ep left =
           (one_taken 0x78 true (taken.Ended 1) (drop k.used piece) r next
           (takes_note 0x78 true r (farther r 1) next (λ _. note_end 0x78 true (farther r 1) next refl (one_byte old next k parts left comes) refl) refl ep)
           refl (tag_there piece k.used 0x78 tag) (omega arith) (subst IsOne (sym ep) tt) gate)
-          refl (λ _ _. notes_counted before old next k f h.depth e kept.refs kept.table) g (rest_can piece old k h more);
+          refl (λ _ _. notes_counted before old next k f h.depth h.start e kept.refs kept.table) g (rest_can piece old k h more);
     }
 
 none_state : (old new : Seen) (i j : Counts) → new ≡ without_top old → j.refs ≡ i.refs → before_parts (seen_at old i) (tail_of old.frames) [] ≡ after_value (seen_at new j)

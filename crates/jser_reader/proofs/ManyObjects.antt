@@ -30,7 +30,7 @@ use Rattle.jser_reader.specs.Wholes.{HasPlace, HasReference}
 use Rattle.jser_reader.proofs.ClassLemmas.{right_class}
 use Rattle.jser_reader.proofs.WholeLemmas.{assigned_other}
 use Rattle.jser_reader.proofs.ManyEnds.{leads_same, leads_raws, stands_there}
-use Rattle.jser_reader.proofs.ManyLemmas.{place_on, rest_can, place_counted, place_holds, leads_there, same_can}
+use Rattle.jser_reader.proofs.ManyLemmas.{same_start, same_room, place_on, rest_can, place_counted, place_holds, leads_there, same_can}
 use Rattle.jser_reader.proofs.OwnerLemmas.{filled_object, object_begins, object_owned}
 use Rattle.jser_reader.proofs.WholeLemmas.{with_class, TellsClass, owner_passes}
 
@@ -151,7 +151,7 @@ object_leads piece n old k sections h p room tag class small c full =
           (class_told r next n 0 sections
           (record { chain = c.chain; low = c.low; is_class = c.is_class; fits = c.fits; plain = c.plain; are = c.are }) full comes.ready
           (record { table = kept.table; layers = kept.layers; refs = kept.refs }) (comes.meter ∙ same))
-          refl refl (λ _ _. place_counted before old mid k 6 h.depth refl (λ none. none));
+          refl refl (λ _ _. place_counted before old mid k 6 h.depth h.start refl (λ none. none));
     }
 
 -- ---- all of it, as far as its first value
@@ -193,6 +193,7 @@ object_opened piece n used f old new k i j sections h room tag class small c p o
     let s = before_parts (seen_at (with_other old) l) old.frames opens.parts in
     let held = place_holds piece old (with_other old) k (with_place k (used + 6)) (used + 6) h p (omega arith) (omega arith) refl refl refl in
     let items : j.items ≡ (with_place k (used + 6)).items = ap (λ x. x.items) e in
+    let counted : j.items.count ≡ (with_place k (used + 6)).items.count = ap (λ b. b.count) items in
     let deepest : j.deepest ≡ (with_place k (used + 6)).deepest = ap (λ x. x.deepest) e in
     let a = held.items in
     let b = held.deep in
@@ -201,6 +202,6 @@ object_opened piece n used f old new k i j sections h room tag class small c p o
       leads_there piece old new k j s
           (leads_same piece old (with_other old) new k l j s s leads (ap (λ r. r.meter) en) (ap (λ r. r.layers) en) (ap (λ r. r.table) en) (omega arith) (ap (λ x. x.refs) e) items deepest refl)
           (stands_there (with_other old) new (with_place k 6) j f opens.parts used old.frames opens.stands (ap (λ r. r.frames) en) (ap (λ r. r.layers) en) (ap (λ r. r.table) en) (ap (λ x. x.refs) e)),
-      record { can = same_can piece old new (ap (λ r. r.meter) en) h.can; within = omega arith; depth = omega arith; deep = omega arith; items = omega arith },
+      record { can = same_can piece old new (ap (λ r. r.meter) en) h.can; within = omega arith; depth = omega arith; deep = omega arith; items = omega arith; start = same_start old new (with_place k (used + 6)) j (ap (λ r. r.meter) en) items h.start; room = same_room (length piece) (with_place k (used + 6)) j items h.room },
       omega arith,
     )

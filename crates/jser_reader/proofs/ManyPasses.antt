@@ -57,7 +57,7 @@ pub goes_first : (piece : List ℕ) (old : Seen) (before : Tally) (k : Counts) �
     → GoesSo piece old before old k
 goes_first piece old before k can some deep e =
     let c : Counts = counts_of old before in
-    let h : Holds piece old c = record { can = can; within = omega arith; depth = refl; deep = deep; items = omega arith } in
+    let h : Holds piece old c = record { can = can; within = omega arith; depth = refl; deep = deep; items = omega arith; start = refl; room = can.within.room some } in
     subst (GoesSo piece old before old) (sym e)
     (record {
       goes = record {
@@ -154,23 +154,23 @@ counted gate piece used items old new before after told g can some few within co
         counts (omega arith)
 
 pub many_pass : (piece : List ℕ) (old now new : Seen) (before between after : Tally) (k : Counts) → GoesSo piece old before now k → CanPass old piece → 0 < length piece → IsAtRest old
-    → new ≡ seen_at now k → between ≡ before → (between.contents + k.items < 2 ^ 64 → after ≡ tally_at between k) → (gate : Gate) → IsGate gate → Passes gate piece (Some k.used) old before new after
+    → new ≡ seen_at now k → between ≡ before → (between.contents + k.items.count < 2 ^ 64 → after ≡ tally_at between k) → (gate : Gate) → IsGate gate → Passes gate piece (Some k.used) old before new after
 many_pass piece old now new before between after k h can some rest en et counts gate g =
-    counted gate piece k.used k.items old new before after (tally_at before k) g can some h.holds.items h.holds.within
-    (subst (λ t. t.contents + k.items < 2 ^ 64 → after ≡ tally_at t k) et counts)
+    counted gate piece k.used k.items.count old new before after (tally_at before k) g can some h.holds.items h.holds.within
+    (subst (λ t. t.contents + k.items.count < 2 ^ 64 → after ≡ tally_at t k) et counts)
     (from_first gate piece old new before (tally_at before k) h.goes.size k.used rest h.goes.used
     (subst (λ r. Passes gate (drop 0 piece) (Some h.goes.size) (seen_at old (counts_of old before)) (tally_at before (counts_of old before)) r (tally_at before k)) (sym en) (h.goes.passes gate g before)))
 
 pub many_end : (piece : List ℕ) (old now mid new : Seen) (before between after : Tally) (k : Counts) → Ends piece old (counts_of old before) now k × Holds piece now k → CanPass old piece → 0 < length piece
     → IsAtRest old → mid ≡ seen_at now k → Ready new (after_value mid) → Kept mid new → new.meter ≡ mid.meter → between ≡ before
-    → (between.contents + k.items < 2 ^ 64 → after ≡ tally_at between k)
+    → (between.contents + k.items.count < 2 ^ 64 → after ≡ tally_at between k)
     → (gate : Gate) → IsGate gate → Passes gate piece (Some k.used) old before new after
 unfolding Ends
 many_end piece old now mid new before between after k h can some rest em ready kept meter et counts gate g =
     let leads = h.0 in
     let r : Seen = seen_at now k in
-    counted gate piece k.used k.items old new before after (tally_at before k) g can some h.1.items h.1.within
-    (subst (λ t. t.contents + k.items < 2 ^ 64 → after ≡ tally_at t k) et counts)
+    counted gate piece k.used k.items.count old new before after (tally_at before k) g can some h.1.items h.1.within
+    (subst (λ t. t.contents + k.items.count < 2 ^ 64 → after ≡ tally_at t k) et counts)
     (from_first gate piece old new before (tally_at before k) leads.size k.used rest leads.used
     (leads.to gate g before new
     (record {

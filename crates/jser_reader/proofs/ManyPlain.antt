@@ -70,7 +70,7 @@ null_ends piece old k j h p more tag ej = subst (λ j. LeadsTo piece old k old j
       (omega arith) (tag_there piece k.used 0x70 tag)
       (counted_tag null_tag true (farther r 1) far next
       (null_begun true far next (ends_there old far old next k (with_place k 1) 1 refl refl refl refl refl refl refl comes) refl) refl (λ over. absurd (omega arith)) (λ over. absurd (omega arith)))
-      (λ _ _. place_counted before old next k 1 h.depth kept.refs (λ none. sym (ap (λ t. length t.entries) kept.table) ∙ none));
+      (λ _ _. place_counted before old next k 1 h.depth h.start kept.refs (λ none. sym (ap (λ t. length t.entries) kept.table) ∙ none));
 })
 
 pub back_ends : (piece : List ℕ) (n : ℕ) (old : Seen) (k j : Counts) → Holds piece old k → HasPlace (seen_at old k) → k.used < length piece → 0x71 ≡ get_or piece k.used 0
@@ -87,7 +87,7 @@ back_ends piece n old k j h p more tag is small low high ej = subst (λ j. Leads
       reference_passes gate n (drop k.used piece) r (placed r 5) next (mark_of r) (mark_of (placed r 5)) (tally_at before k) (tally_at before (with_place k 5)) g
       (rest_can piece old k h more) (place_on old.frames) (tag_there piece k.used 0x71 tag) is small p low high refl
       (ends_there old (placed r 5) old next k (with_place k 5) 5 refl refl refl refl refl refl refl comes) refl refl
-      (λ _ _. place_counted before old (placed r 5) k 5 h.depth refl (λ none. none));
+      (λ _ _. place_counted before old (placed r 5) k 5 h.depth h.start refl (λ none. none));
 })
 
 no_entry_lost : (r : Seen) → length (added r text_entry).table.entries ≡ 0 → length r.table.entries ≡ 0
@@ -114,7 +114,7 @@ string_ends piece rest len old new k j h p more tag er is assigns ej =
           string_passes gate len (drop k.used piece) r mid far next (mark_of r) (mark_of far) (tally_at before k) (tally_at before (with_place k (len + 3))) g
           (rest_can piece old k h more) (place_on old.frames) (tag_there piece k.used 0x74 tag) (subst (λ xs. HasText xs len) er is) p (assigns.0, refl) refl
           (ends_there old far (added old text_entry) next k (with_place k (len + 3)) (len + 3) refl refl refl refl refl refl refl comes) refl refl
-          (λ _ _. place_counted before old far k (len + 3) h.depth refl (no_entry_lost r));
+          (λ _ _. place_counted before old far k (len + 3) h.depth h.start refl (no_entry_lost r));
     }))
 
 -- ---- the turns

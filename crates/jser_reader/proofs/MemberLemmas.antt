@@ -70,7 +70,7 @@ code_passes gate code is_object piece r mid tally can ep some ec b =
 
 -- ---- what comes after a field
 
--- the same of a machine that was as far, and has the same
+-- what comes after a declared field, said of a machine that was as far and has the same
 goes_as : (a k new : Seen) → GoesOnFields true a new → moved k.meter ≡ moved a.meter → k.frames ≡ a.frames → k.layers ≡ a.layers → k.table ≡ a.table → k.refs ≡ a.refs
     → k.header ≡ a.header → GoesOnFields true k new
 unfolding GoesOnFields TellsSurely

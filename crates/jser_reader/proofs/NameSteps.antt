@@ -19,7 +19,7 @@ use Rattle.jser_reader.specs.Walks.{Takes, Counts}
 use Rattle.jser_reader.specs.Takes.{farther, TakesFromFor}
 use Rattle.jser_reader.specs.Passes.{Passes, CanPass}
 use Rattle.jser_reader.specs.Wholes.{all_or_none}
-use Rattle.jser_reader.proofs.PassLemmas.{joined_takes, quiet_takes, passes_stop}
+use Rattle.jser_reader.proofs.PassLemmas.{quiet_stopped, joined_takes, quiet_takes, passes_stop}
 use Rattle.jser_reader.proofs.PlainTextLemmas.{plain_units}
 use Rattle.jser_reader.proofs.TakeLemmas.{counts_bytes}
 use Rattle.jser_reader.proofs.TextLemmas.{class_name_ends}
@@ -82,7 +82,7 @@ name_passes gate len found piece old mid new tally can ep et h told em = go foun
     go : (found : Bool) → TellsSurely (class_name_reason gate (head_role mid) mid.name) (named_state mid mid.name) found mid new
         → Passes gate piece (all_or_none found (2 + len)) old tally new tally
     go true told = quiet_takes gate (2 + len) piece old new tally enough (taken_whole true told) (rw ep tt) can
-    go false told = passes_stop gate (2 + len) (taken.Stopped (2 + len)) piece old new tally tally (stops told) refl can
+    go false told = passes_stop gate (2 + len) (taken.Stopped (2 + len)) piece old new tally tally (stops told) refl can (quiet_stopped old tally (rw ep tt))
       where
         stops : TellsSurely (class_name_reason gate (head_role mid) mid.name) (named_state mid mid.name) false mid new
             → TakesFromFor gate (taken.Stopped (2 + len)) piece old new

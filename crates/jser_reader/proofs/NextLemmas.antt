@@ -17,18 +17,20 @@ use Rattle.jser_reader.specs.Handlers.{StopsWith, refusal}
 use Rattle.jser_reader.specs.declared.machine.Limits.{Limits as MachineLimits}
 use Rattle.jser_reader.specs.Walks.{IsNew, gate_with, HasTaken, Takes, Keeps, StandsAt}
 use Rattle.jser_reader.specs.declared.tally.Tally.{Tally}
-use Rattle.jser_reader.specs.Tallies.{no_tally, mark_of, tally_after, HasCounted, totals_of, AreTotals}
+use Rattle.jser_reader.specs.Tallies.{no_tally, mark_of, tally_after, tally_stopped, whole_of, HasCounted, totals_of, AreTotals}
 use Rattle.jser_reader.specs.Takes.{TakenCases, TakesFromFor}
 use Rattle.jser_reader.specs.declared.machine.take.taken.Taken.{Taken}
 use Rattle.jser_reader.specs.declared.machine.take.taken.Taken.TheVariants as taken
 use Rattle.jser_reader.specs.States.{HasLimits, AreLimitsOf, IsWithin, AnswersStop, stop_after, exceeded}
-use Rattle.jser_reader.specs.ReaderStates.{IsItem, HasProgress, StandsFor, HasRefused, IsSpent, NextCases, NextTells, StaysStopped, FinishCases, FinishTells}
+use Rattle.jser_reader.specs.ReaderStates.{IsItem, HasProgress, StandsFor, HasRefused, IsSpent, NextCases, NextTells, StaysStopped, FinishCases, FinishTells, WholeTold, WholeAtEnd, KeepsWhole}
+use Rattle.jser_reader.specs.WholeContents.{IsWhole, StaysWhole}
 use Rattle.jser_reader.proofs.JoinLemmas.{kept_none}
 use Rattle.jser_reader.proofs.StreamWalks.{ends_only_at_top}
 use Rattle.jser_reader.proofs.AnswerLemmas.{truncates}
 use Rattle.jser_reader.proofs.CountLemmas.{new_counts, counts_within}
 use Rattle.jser_reader.proofs.TotalLemmas.{field_counts, goes_on_counts, finish_totals}
-use Rattle.jser_reader.proofs.ReaderLemmas.{field_goes_on, field_stops, never_spent, has_stopped, over, limit_is, take_whole}
+use Rattle.jser_reader.proofs.ReaderLemmas.{field_stops, never_spent, has_stopped, over, over_whole, limit_is, take_whole, bytes_front, front_of_front}
+use Rattle.jser_reader.proofs.WholeContentLemmas.{stopped_whole, whole_stopped, whole_below}
 
 -- ---- items, and more bytes
 
@@ -96,34 +98,43 @@ spent_after : (r : Seen) (why : Stop) → r.phase ≡ phase.Stopped → r.meter.
 spent_after r why ep es e = (ep, es ∙ ap stop_after e)
 
 pub next_stops : (why : Stop) (used : ℕ) (piece front : List ℕ) (gate : Gate) (old mid new : Seen) (before after : Tally) → IsWithin old piece front → IsBytes piece → 0 < used → used ≤ length front
-    → Takes gate (take used front) false old mid → AnswersStop why mid new → NextTells gate piece (Err why) old before new after
+    → Takes gate (take used front) false old mid → AnswersStop why mid new → after ≡ tally_stopped (mark_of old) before → NextTells gate piece (Err why) old before new after
 unfolding NextTells StandsFor HasRefused IsSpent
-next_stops why used piece front gate old mid new before after w h some le t a = λ bytes st. go bytes st.0.taken st.1 why refl
+next_stops why used piece front gate old mid new before after w h some le t a ea = λ bytes st. go bytes st.0 st.1 why refl
   where
-    go : (bytes : List ℕ) → HasTaken gate bytes old → length bytes ≤ gate.bytes → (y : Stop) → why ≡ y → NextCases gate bytes piece (Err y) new after
+    go : (bytes : List ℕ) → HasCounted gate bytes old before → length bytes ≤ gate.bytes → (y : Stop) → why ≡ y → NextCases gate bytes piece (Err y) new after
     go bytes st room (stop.Refused refusal) e =
         let es : mid.meter.stop ≡ stop.Refused refusal = sym a.is ∙ e in
-        let ep = has_stopped gate bytes (take used front) old mid t st in
-        let x = field_stops gate bytes piece front used refusal old mid w le h t st room es in
+        let ep = has_stopped gate bytes (take used front) old mid t st.taken in
+        let x = field_stops gate bytes piece front used refusal old mid w le h t st.taken room es in
         let s = w.short in
-        (used, omega arith, x, (a.phase ∙ ep, a.stop_is ∙ ap stop_after es), some)
+        let whole : StaysWhole gate (bytes ++ take used piece) after.begun =
+        stopped_whole gate old mid bytes (take used piece) refusal after.begun (subst (λ xs. Takes gate xs false old mid) (front_of_front old piece front used w le) t) es
+        (bytes_front used piece h) st.taken (subst (λ x. IsWhole gate bytes x.begun) (sym ea) (st.whole room)) in (
+          used,
+          omega arith,
+          x,
+          (a.phase ∙ ep, a.stop_is ∙ ap stop_after es),
+          some,
+          subst (StaysWhole gate (bytes ++ take used piece)) (sym (whole_stopped new after (a.phase ∙ ep))) whole,
+        )
     go bytes st room stop.OutOfMemory e =
         let es : mid.meter.stop ≡ stop.OutOfMemory = sym a.is ∙ e in
-        let ep = has_stopped gate bytes (take used front) old mid t st in
+        let ep = has_stopped gate bytes (take used front) old mid t st.taken in
         spent_after new mid.meter.stop (a.phase ∙ ep) a.stop_is es
-    go bytes st room stop.Spent e = never_spent gate bytes (take used front) old mid t st (sym a.is ∙ e)
+    go bytes st room stop.Spent e = never_spent gate bytes (take used front) old mid t st.taken (sym a.is ∙ e)
 
 -- the limit was reached, and the piece has a byte more
 pub next_over : (why : Stop) (piece front : List ℕ) (gate : Gate) (old mid new : Seen) (before after : Tally) → IsWithin old piece front → IsBytes piece → length front < length piece
     → Keeps gate front old mid
     → (mid.meter.at + 1 < 2 ^ 64 → (why ≡ exceeded mid.meter) × StopsWith (exceeded mid.meter) mid new)
-    → IsGate gate → NextTells gate piece (Err why) old before new after
+    → IsGate gate → after ≡ tally_stopped (mark_of mid) before → NextTells gate piece (Err why) old before new after
 unfolding NextTells StandsFor HasRefused
-next_over why piece front gate old mid new before after w h more k x g = λ bytes st.
+next_over why piece front gate old mid new before after w h more k x g ea = λ bytes st.
     let t : take (length front) front ≡ front = take_whole front in
-    let y = field_goes_on gate bytes piece front (length front) old mid w (omega arith) h (subst (λ xs. Keeps gate xs old mid) (sym t) k) st.0.taken st.1 in
+    let y = goes_on_counts gate bytes piece front (length front) old mid before w (omega arith) h (subst (λ xs. Keeps gate xs old mid) (sym t) k) st.0 st.1 in
     let full = w.full more in
-    let at = y.0.taken in
+    let at = y.0.taken.taken in
     let cap = g.0 in
     let le = y.1 in
     let m = limit_is gate bytes old st.0.taken in
@@ -132,15 +143,22 @@ next_over why piece front gate old mid new before after w h more k x g = λ byte
     let j = length-take-le (length front) piece w.short in
     let z = x (omega arith) in
     let told : Refusal = record { from_byte = mid.meter.from; to_byte = mid.meter.at + 1; reason = reason.BytesExceeded } in
-    let refused = over gate bytes piece (length front) mid y.0 more (omega arith) h told refl in
-    subst (λ s. NextCases gate bytes piece (Err s) new after) (sym z.0)
-    (suc (length front), omega arith, refused, (z.1.phase, z.1.stop), omega arith)
+    let refused = over gate bytes piece (length front) mid y.0.taken more (omega arith) h told refl in
+    let whole = over_whole gate bytes piece (length front) (whole_of mid before) more (omega arith) (y.0.whole y.1) in
+    subst (λ s. NextCases gate bytes piece (Err s) new after) (sym z.0) (
+      suc (length front),
+      omega arith,
+      refused,
+      (z.1.phase, z.1.stop),
+      omega arith,
+      subst (StaysWhole gate (bytes ++ take (suc (length front)) piece)) (sym (ap (λ x. x.begun) ea) ∙ sym (whole_stopped new after z.1.phase)) whole,
+    )
 
 pub next_full : (why : Stop) (piece front : List ℕ) (gate : Gate) (old new : Seen) (before after : Tally) → IsWithin old piece front → IsBytes piece → length front ≡ 0 → 0 < length piece
     → (old.meter.at + 1 < 2 ^ 64 → (why ≡ exceeded old.meter) × StopsWith (exceeded old.meter) old new)
-    → IsGate gate → NextTells gate piece (Err why) old before new after
-next_full why piece front gate old new before after w h none some x g =
-    next_over why piece front gate old old new before after w h (omega arith) (no_bytes_kept front none) x g
+    → IsGate gate → after ≡ tally_stopped (mark_of old) before → NextTells gate piece (Err why) old before new after
+next_full why piece front gate old new before after w h none some x g ea =
+    next_over why piece front gate old old new before after w h (omega arith) (no_bytes_kept front none) x g ea
   where
     no_bytes_kept : (xs : List ℕ) → length xs ≡ 0 → Keeps gate xs old old
     no_bytes_kept [] e = kept_none gate old
@@ -167,16 +185,19 @@ unfolding TakesFromFor
 step_more took piece front gate old new tally k e w h long = next_more piece front gate old new tally w h long (subst (λ x. TakenCases gate x front old new) e k).0
 
 pub step_stops : (why : Stop) (used : ℕ) (took : Taken) (piece front : List ℕ) (gate : Gate) (old mid new : Seen) (before after : Tally) → TakesFromFor gate took front old mid
-    → took ≡ taken.Stopped used → AnswersStop why mid new → IsWithin old piece front → IsBytes piece → NextTells gate piece (Err why) old before new after
+    → took ≡ taken.Stopped used → AnswersStop why mid new → IsWithin old piece front → IsBytes piece → after ≡ tally_stopped (mark_of old) before
+    → NextTells gate piece (Err why) old before new after
 unfolding TakesFromFor
-step_stops why used took piece front gate old mid new before after k e a w h =
-    let t = subst (λ x. TakenCases gate x front old mid) e k in next_stops why used piece front gate old mid new before after w h t.0 t.1 t.2 a
+step_stops why used took piece front gate old mid new before after k e a w h ea =
+    let t = subst (λ x. TakenCases gate x front old mid) e k in next_stops why used piece front gate old mid new before after w h t.0 t.1 t.2 a ea
 
 pub step_over : (why : Stop) (took : Taken) (piece front : List ℕ) (gate : Gate) (old mid new : Seen) (before after : Tally) → TakesFromFor gate took front old mid
     → took ≡ taken.Open → (mid.meter.at + 1 < 2 ^ 64 → (why ≡ exceeded mid.meter) × StopsWith (exceeded mid.meter) mid new)
-    → IsWithin old piece front → IsBytes piece → length front < length piece → IsGate gate → NextTells gate piece (Err why) old before new after
+    → IsWithin old piece front → IsBytes piece → length front < length piece → IsGate gate → after ≡ tally_stopped (mark_of mid) before
+    → NextTells gate piece (Err why) old before new after
 unfolding TakesFromFor
-step_over why took piece front gate old mid new before after k e x w h more g = next_over why piece front gate old mid new before after w h more (subst (λ x. TakenCases gate x front old mid) e k).0 x g
+step_over why took piece front gate old mid new before after k e x w h more g ea =
+    next_over why piece front gate old mid new before after w h more (subst (λ x. TakenCases gate x front old mid) e k).0 x g ea
 
 pub item_progress : (result : Step) (used : ℕ) (took : Taken) (piece front : List ℕ) (gate : Gate) (old new : Seen) → TakesFromFor gate took front old new
     → took ≡ taken.Ended used → IsWithin old piece front → IsItem used result → HasProgress piece result
@@ -221,6 +242,35 @@ stays_stopped A why old new e a = (
 pub not_stopped : {A : Type 0} (result : Result A Stop) (old new : Seen) → (old.phase ≡ phase.Stopped → ⊥) → StaysStopped result old new
 unfolding StaysStopped HasRefused IsSpent
 not_stopped result old new n = (λ refusal h. absurd (n h.0), λ h. absurd (n h.0))
+
+-- it says no other number
+pub keeps_stopped : (why : Stop) (old new : Seen) (before after : Tally) → old.phase ≡ phase.Stopped → AnswersStop why old new → after ≡ before → KeepsWhole old before new after
+unfolding KeepsWhole
+keeps_stopped why old new before after e a same = λ _. whole_stopped new after (a.phase ∙ e) ∙ ap (λ t. t.begun) same ∙ sym (whole_stopped old before e)
+
+pub keeps_going : (old new : Seen) (before after : Tally) → (old.phase ≡ phase.Stopped → ⊥) → KeepsWhole old before new after
+unfolding KeepsWhole
+keeps_going old new before after n = λ e. absurd (n e)
+
+-- ---- how many bytes are whole contents
+
+pub whole_known : (gate : Gate) (n : ℕ) (r : Seen) (tally : Tally) → n ≡ whole_of r tally → WholeTold gate n r tally
+unfolding WholeTold StandsFor
+whole_known gate n r tally e = λ bytes st. subst (IsWhole gate bytes) (sym e) (st.0.whole st.1)
+
+pub whole_at_end : (gate : Gate) (why : Stop) (old new : Seen) (before after : Tally) → StopsWith why old new → after ≡ tally_stopped (mark_of old) before → WholeAtEnd gate old before new after
+unfolding WholeAtEnd StandsFor
+whole_at_end gate why old new before after h ea = λ bytes st.
+    subst (IsWhole gate bytes) (sym (ap (λ t. t.begun) ea) ∙ sym (whole_stopped new after h.phase)) (st.0.whole st.1)
+
+pub whole_cut : (gate : Gate) (why : Stop) (old new : Seen) (before after : Tally) → (old.phase ≡ phase.Top → ⊥) → StopsWith why old new → after ≡ before → WholeAtEnd gate old before new after
+unfolding WholeAtEnd StandsFor
+whole_cut gate why old new before after inside h ea = λ bytes st.
+    subst (IsWhole gate bytes) (whole_below old before inside ∙ sym (ap (λ t. t.begun) ea) ∙ sym (whole_stopped new after h.phase)) (st.0.whole st.1)
+
+pub whole_of_stopped : (gate : Gate) (old new : Seen) (before after : Tally) → old.phase ≡ phase.Stopped → WholeAtEnd gate old before new after
+unfolding WholeAtEnd
+whole_of_stopped gate old new before after e = λ bytes st. absurd (no_bytes gate bytes old before e st)
 
 -- ---- the end
 

@@ -81,7 +81,7 @@ number_judged gate p r s n bytes told next f i h e b er ef goes =
           };
     }
 
--- the same of a field of one byte
+-- a field of one byte is judged
 pub byte_judged : (gate : Gate) (p : Phase) (r : Seen) (s : State) (b : ℕ) (told : Option Reason) (next : State) (f : StreamField)
     → IsFixed p → ReadyAt p r s → gate_with r gate.answer ≡ gate → size_of_phase p ≡ 1
     → reason_at (plain_gate r) (label_at (phase_position p r) (phase_depth p r) r) (phase_position p r) (b ∷ []) ≡ told

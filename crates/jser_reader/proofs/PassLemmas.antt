@@ -1,5 +1,5 @@
 -- A step of `skip`: what was taken of a piece, field after field.
-use Rattle.std.proofs.Common.{◌≡◌, ℕ, zero, suc, ◌+◌, ◌-◌, ◌^◌, ◌<◌, ◌≤◌, ◌==◌, Bool, true, false, nat_lt, max, ◌&&◌, List, ◌∷◌, ◌++◌, length, take, drop, Option, Some, None, Result, Ok, Err, refl, sym, ◌∙◌, ap, subst, arith, append_assoc, append-nil, length-append}
+use Rattle.std.proofs.Common.{◌≡◌, ℕ, zero, suc, ◌+◌, ◌-◌, ◌^◌, ◌<◌, ◌≤◌, ◌==◌, Bool, true, false, nat_lt, max, ◌&&◌, if◌then◌else◌, List, ◌∷◌, ◌++◌, length, take, drop, Option, Some, None, Result, Ok, Err, refl, sym, ◌∙◌, ap, subst, arith, append_assoc, append-nil, length-append}
 use Rattle.std.proofs.lemmas.Bool.Decides.{nat_tests}
 use Rattle.std.proofs.lemmas.List.{length-take-le, take-append-drop}
 use Rattle.jser_grammar.specs.Parts.{IsBytes}
@@ -31,7 +31,7 @@ use Rattle.jser_reader.specs.Memory.{IsCheckedName, EndsInside, MayRunOut}
 use Rattle.jser_reader.specs.Readers.{Seen, moment_of, top_role, top_number, fields_goals, text_goal, text_rest}
 use Rattle.jser_reader.specs.Walks.{StandsAt, HasTaken, StopTold, Takes, Keeps}
 use Rattle.jser_reader.specs.Takes.{TakenCases, TakesFromFor}
-use Rattle.jser_reader.specs.Tallies.{is_top, mark_of, tally_after, HasCounted}
+use Rattle.jser_reader.specs.Tallies.{is_top, mark_of, tally_after, tally_stopped, HasCounted}
 use Rattle.jser_reader.specs.Handlers.{StopsWith}
 use Rattle.jser_reader.specs.States.{IsWithin, AnswersStop, stop_after, exceeded}
 use Rattle.jser_reader.specs.Bounds.{SkipMemoryFree}
@@ -39,6 +39,7 @@ use Rattle.jser_reader.specs.ReaderStates.{StandsFor, HasRefused, IsSpent, NextC
 use Rattle.jser_reader.specs.ItemsTold.{StandsIn}
 use Rattle.jser_reader.specs.Streams.{AreRefused}
 use Rattle.jser_reader.specs.Passes.{HaltCases, PassCases, PassTells, InsideCases, PassInside, Passes, passed_of, HasPassed, IsQuiet, CanPass}
+use Rattle.jser_reader.specs.WholeContents.{IsWhole, StaysWhole}
 use Rattle.jser_reader.proofs.StandLemmas.{took_stands}
 use Rattle.jser_reader.proofs.CountLemmas.{count_one_more, places_are}
 use Rattle.jser_reader.proofs.TotalLemmas.{field_counts, goes_on_counts}
@@ -48,6 +49,7 @@ use Rattle.jser_reader.proofs.SkipMemory.{size_after}
 use Rattle.jser_reader.proofs.SkipLemmas.{take_more}
 use Rattle.jser_reader.proofs.ItemCalls.{field_open}
 use Rattle.jser_reader.proofs.NextLemmas.{CountsField, next_item, next_full, no_bytes}
+use Rattle.jser_reader.proofs.WholeContentLemmas.{stopped_whole, whole_stopped}
 
 -- ---- one step after another
 
@@ -103,16 +105,18 @@ pass_halts gate piece rest used old mid new before between after h g e = record 
       g.inside front (cut ++ take used piece) label x comes (subst (EndsInside label.position) all inside);
 }
   where
-    farther : (why : Stop) (bytes : List ℕ) → used ≤ length piece → HaltCases gate (bytes ++ take used piece) rest why → HaltCases gate bytes piece why
+    farther : (why : Stop) (bytes : List ℕ) → used ≤ length piece → HaltCases gate (bytes ++ take used piece) rest after why → HaltCases gate bytes piece after why
     farther (stop.Refused refusal) bytes le y =
         let n = rest_length piece rest used le e in
         let more = y.1 in
-        let some = y.3 in (
+        let some = y.3 in
+        let same : (bytes ++ take used piece) ++ take y.0 rest ≡ bytes ++ take (used + y.0) piece =
+        append_assoc bytes (take used piece) (take y.0 rest) ∙ ap (λ xs. bytes ++ xs) (joined_takes piece rest used y.0 le e) in (
           used + y.0,
           omega arith,
-          subst (λ xs. AreRefused gate xs refusal)
-              (append_assoc bytes (take used piece) (take y.0 rest) ∙ ap (λ xs. bytes ++ xs) (joined_takes piece rest used y.0 le e)) y.2,
+          subst (λ xs. AreRefused gate xs refusal) same y.2,
           omega arith,
+          subst (λ xs. StaysWhole gate xs after.begun) same y.4,
         )
     farther stop.OutOfMemory bytes le y = tt
     farther stop.Spent bytes le y = absurd y
@@ -223,21 +227,26 @@ pub quiet_top : (p : Phase) → IsQuiet p → is_top p ≡ false
 quiet_top phase.Top q = absurd q
 quiet_top _ q = refl
 
-abbrev tally_of : (contents earlier depth : ℕ) → Tally
-tally_of contents earlier depth = record { contents = contents; earlier = earlier; depth = depth }
+abbrev tally_of : (contents earlier depth begun : ℕ) → Tally
+tally_of contents earlier depth begun = record { contents = contents; earlier = earlier; depth = depth; begun = begun }
 
-same_tally : (tally : Tally) (contents earlier depth : ℕ) → contents ≡ tally.contents → earlier ≡ tally.earlier → depth ≡ tally.depth
-    → tally_of contents earlier depth ≡ tally
-same_tally tally contents earlier depth ec ee ed = rw ec (rw ee (rw ed refl))
+same_tally : (tally : Tally) (contents earlier depth begun : ℕ) → contents ≡ tally.contents → earlier ≡ tally.earlier → depth ≡ tally.depth → begun ≡ tally.begun
+    → tally_of contents earlier depth begun ≡ tally
+same_tally tally contents earlier depth begun ec ee ed eb = rw ec (rw ee (rw ed (rw eb refl)))
 
 pub quiet_tally : (old new : Mark) (tally : Tally) → old.at_top ≡ false → new.refs ≡ old.refs → tally_after old new tally ≡ tally
 quiet_tally old new tally et er =
     let none : nat_lt old.refs new.refs ≡ false = grind (arith, nat_tests) in
     let n : tally.earlier + 0 ≡ tally.earlier = omega arith in
     let d : max tally.depth 0 ≡ tally.depth = omega arith in
-    same_tally tally _ _ _ (ap (λ b. one_more_if b tally.contents) et)
+    same_tally tally _ _ _ _ (ap (λ b. one_more_if b tally.contents) et)
     (ap (λ b. tally.earlier + number_if (b && new.entries == 0) old.entries) et ∙ n)
     (ap (λ b. max tally.depth (number_if b old.depth)) none ∙ d)
+    (ap (λ b. if b then old.at else tally.begun) et)
+
+-- nor where the machine stops
+pub quiet_stopped : (old : Seen) (tally : Tally) → IsQuiet old.phase → tally ≡ tally_stopped (mark_of old) tally
+quiet_stopped old tally q = ap (λ n. record tally { begun = n }) (sym (ap (λ b. if b then old.meter.at else tally.begun) (quiet_top old.phase q)))
 
 pub quiet_takes : (gate : Gate) (used : ℕ) (piece : List ℕ) (old new : Seen) (tally : Tally) → used ≤ length piece → Takes gate (take used piece) true old new
     → IsQuiet old.phase → CanPass old piece → Passes gate piece (Some used) old tally new tally
@@ -283,21 +292,27 @@ passes_open gate took piece old new tally k e can =
 -- ---- the machine stops
 
 pub passes_stop : (gate : Gate) (used : ℕ) (took : Taken) (piece : List ℕ) (old new : Seen) (before after : Tally) → TakesFromFor gate took piece old new
-    → took ≡ taken.Stopped used → CanPass old piece → Passes gate piece None old before new after
+    → took ≡ taken.Stopped used → CanPass old piece → after ≡ tally_stopped (mark_of old) before → Passes gate piece None old before new after
 unfolding Takes TakesFromFor PassTells PassInside StandsFor
-passes_stop gate used took piece old new before after k e can =
+passes_stop gate used took piece old new before after k e can ea =
     let t = subst (λ x. TakenCases gate x piece old new) e k in
     record {
-      tells = λ bytes st. (has_stopped gate bytes (take used piece) old new t.2 st.0.taken, halts t.0 t.1 t.2 bytes st.0.taken st.1 new.meter.stop refl);
+      tells = λ bytes st. (has_stopped gate bytes (take used piece) old new t.2 st.0.taken, halts t.0 t.1 t.2 bytes st.0 st.1 new.meter.stop refl);
       inside = λ front cut label st comes inside other none. runs_out t.1 t.2 front cut label st comes inside other none;
     }
   where
-    halts : 0 < used → used ≤ length piece → Takes gate (take used piece) false old new → (bytes : List ℕ) → HasTaken gate bytes old → length bytes ≤ gate.bytes
-        → (why : Stop) → new.meter.stop ≡ why → HaltCases gate bytes piece why
-    halts some le t bytes st room (stop.Refused refusal) es =
-        (used, le, field_stops gate bytes piece piece used refusal old new can.within le can.all_bytes t st room es, some)
+    halts : 0 < used → used ≤ length piece → Takes gate (take used piece) false old new → (bytes : List ℕ) → HasCounted gate bytes old before → length bytes ≤ gate.bytes
+        → (why : Stop) → new.meter.stop ≡ why → HaltCases gate bytes piece after why
+    halts some le t bytes st room (stop.Refused refusal) es = (
+      used,
+      le,
+      field_stops gate bytes piece piece used refusal old new can.within le can.all_bytes t st.taken room es,
+      some,
+      stopped_whole gate old new bytes (take used piece) refusal after.begun t es (bytes_front used piece can.all_bytes) st.taken
+          (subst (λ x. IsWhole gate bytes x.begun) (sym ea) (st.whole room)),
+    )
     halts some le t bytes st room stop.OutOfMemory es = tt
-    halts some le t bytes st room stop.Spent es = never_spent gate bytes (take used piece) old new t st es
+    halts some le t bytes st room stop.Spent es = never_spent gate bytes (take used piece) old new t st.taken es
 
     runs_out : used ≤ length piece → Takes gate (take used piece) false old new → (front : List Piece) (cut : List ℕ) (label : Label) → StandsIn gate front cut old before
         → ComesNext front label → EndsInside label.position (cut ++ piece) → (IsCheckedName label.position → ⊥) → new.meter.stop ≡ stop.OutOfMemory → ⊥
@@ -315,7 +330,7 @@ pub quiet_passes : (gate : Gate) (took : Taken) (piece : List ℕ) (old new : Se
 quiet_passes gate (taken.Ended used) piece old new tally k q can = quiet_end gate used (taken.Ended used) piece old new tally k refl q can
 quiet_passes gate (taken.Part used) piece old new tally k q can = passes_part gate used (taken.Part used) piece old new tally k refl can
 quiet_passes gate taken.Open piece old new tally k q can = passes_open gate taken.Open piece old new tally k refl can
-quiet_passes gate (taken.Stopped used) piece old new tally k q can = passes_stop gate used (taken.Stopped used) piece old new tally tally k refl can
+quiet_passes gate (taken.Stopped used) piece old new tally k q can = passes_stop gate used (taken.Stopped used) piece old new tally tally k refl can (quiet_stopped old tally q)
 
 -- ---- how much was taken
 
@@ -356,11 +371,12 @@ passes_front gate piece front result old new before after h w = record {
         ap (λ xs. cut ++ xs) (sym (take-append-drop (length front) piece) ∙ ap (λ xs. xs ++ drop (length front) piece) (sym w.is_front))
         ∙ sym (append_assoc cut front (drop (length front) piece))
 
-    halts : (why : Stop) (bytes : List ℕ) → HaltCases gate bytes front why → HaltCases gate bytes piece why
+    halts : (why : Stop) (bytes : List ℕ) → HaltCases gate bytes front after why → HaltCases gate bytes piece after why
     halts (stop.Refused refusal) bytes x =
         let s = w.short in
         let le = x.1 in
-        (x.0, omega arith, subst (λ xs. AreRefused gate (bytes ++ xs) refusal) (front_of_front old piece front x.0 w x.1) x.2, x.3)
+        let same = front_of_front old piece front x.0 w x.1 in
+        (x.0, omega arith, subst (λ xs. AreRefused gate (bytes ++ xs) refusal) same x.2, x.3, subst (λ xs. StaysWhole gate (bytes ++ xs) after.begun) same x.4)
     halts stop.OutOfMemory bytes x = x
     halts stop.Spent bytes x = x
 
@@ -379,13 +395,13 @@ passes_front gate piece front result old new before after h w = record {
 -- not a byte of it is within the limit
 pub passes_full : (why : Stop) (piece front : List ℕ) (gate : Gate) (old new : Seen) (before after : Tally) → IsWithin old piece front → IsBytes piece → length front ≡ 0 → 0 < length piece
     → (old.meter.at + 1 < 2 ^ 64 → (why ≡ exceeded old.meter) × StopsWith (exceeded old.meter) old new)
-    → IsGate gate → Passes gate piece None old before new after
+    → IsGate gate → after ≡ tally_stopped (mark_of old) before → Passes gate piece None old before new after
 unfolding PassTells PassInside NextTells StandsFor
-passes_full why piece front gate old new before after w h none some x g = record {
+passes_full why piece front gate old new before after w h none some x g ea = record {
   tells = λ bytes st.
-      let y = next_full why piece front gate old new before after w h none some x g bytes st in
+      let y = next_full why piece front gate old new before after w h none some x g ea bytes st in
       let z = stops bytes st in
-      (z.1.phase, halts bytes new.meter.stop z.1.stop (subst (λ s. NextCases gate bytes piece (Err s) new after) z.0 y));
+      (z.1.phase, halts bytes new.meter.stop z.1.phase z.1.stop (subst (λ s. NextCases gate bytes piece (Err s) new after) z.0 y));
   inside = λ fields cut label st comes inside other out.
       let z = stops (joined fields ++ cut) (for_bytes gate fields cut old before st) in
       let e = z.1.stop in
@@ -399,8 +415,10 @@ passes_full why piece front gate old new before after w h none some x g = record
         let cap = g.0 in
         x (omega arith)
 
-    halts : (bytes : List ℕ) (y : Stop) → y ≡ exceeded old.meter → NextCases gate bytes piece (Err (exceeded old.meter)) new after → HaltCases gate bytes piece y
-    halts bytes y e n = let x : HaltCases gate bytes piece (exceeded old.meter) = (n.0, n.1, n.2, n.4) in subst (HaltCases gate bytes piece) (sym e) x
+    halts : (bytes : List ℕ) (y : Stop) → new.phase ≡ phase.Stopped → y ≡ exceeded old.meter → NextCases gate bytes piece (Err (exceeded old.meter)) new after → HaltCases gate bytes piece after y
+    halts bytes y ep e n =
+        let x : HaltCases gate bytes piece after (exceeded old.meter) = (n.0, n.1, n.2, n.4, subst (StaysWhole gate (bytes ++ take n.0 piece)) (whole_stopped new after ep) n.5) in
+        subst (HaltCases gate bytes piece after) (sym e) x
 
 -- ---- a whole piece
 
@@ -413,15 +431,16 @@ passes_skip gate piece used old new before after h all = λ bytes st.
     let n : used ≡ length piece = omega arith in
     subst (λ xs. StandsFor gate (bytes ++ xs) new after) (ap (λ k. take k piece) n ∙ take_whole piece) x.1
 
-pub halts_skip : (gate : Gate) (piece : List ℕ) (why : Stop) (old mid new : Seen) (before between after : Tally) → Passes gate piece None old before mid between
+pub halts_skip : (gate : Gate) (piece : List ℕ) (why : Stop) (old mid new : Seen) (before after : Tally) → Passes gate piece None old before mid after
     → AnswersStop why mid new → SkipTells gate piece (Err why) old before new after
 unfolding PassTells SkipTells HasRefused IsSpent
-halts_skip gate piece why old mid new before between after h a = λ bytes st.
+halts_skip gate piece why old mid new before after h a = λ bytes st.
     let x = h.tells bytes st in
     subst (λ y. SkipCases gate bytes piece (Err y) new after) (sym a.is) (go mid.meter.stop bytes x.0 refl x.1)
   where
-    go : (y : Stop) (bytes : List ℕ) → mid.phase ≡ phase.Stopped → mid.meter.stop ≡ y → HaltCases gate bytes piece y → SkipCases gate bytes piece (Err y) new after
-    go (stop.Refused refusal) bytes ep es x = (x.0, x.1, x.2, (a.phase ∙ ep, a.stop_is ∙ ap stop_after es), x.3)
+    go : (y : Stop) (bytes : List ℕ) → mid.phase ≡ phase.Stopped → mid.meter.stop ≡ y → HaltCases gate bytes piece after y → SkipCases gate bytes piece (Err y) new after
+    go (stop.Refused refusal) bytes ep es x =
+        (x.0, x.1, x.2, (a.phase ∙ ep, a.stop_is ∙ ap stop_after es), x.3, subst (StaysWhole gate (bytes ++ take x.0 piece)) (sym (whole_stopped new after (a.phase ∙ ep))) x.4)
     go stop.OutOfMemory bytes ep es x = (a.phase ∙ ep, a.stop_is ∙ ap stop_after es)
     go stop.Spent bytes ep es x = x
 
@@ -469,7 +488,7 @@ front_can_pass piece front r w all = record {
   all_bytes = all;
 }
 
--- the same of a step that answers how much was taken
+-- a step that answers how much was taken
 
 pub quiet_step : (gate : Gate) (took : Taken) (result : Option ℕ) (piece : List ℕ) (old new : Seen) (tally : Tally) → TakesFromFor gate took piece old new
     → result ≡ passed_of took (length piece) → IsQuiet old.phase → CanPass old piece → Passes gate piece result old tally new tally
@@ -486,7 +505,7 @@ quiet_in p r e q = subst IsQuiet (sym e) q
 pub any_gate : Gate
 any_gate = record { bytes = 0; depth = 0; refs = 0; array = 0; handles = 0; answer = λ name. pass }
 
--- the same, of what is left of a piece after the bytes that were taken
+-- a step on what is left of a piece after the bytes that were taken
 
 split_there : (piece rest : List ℕ) (used : ℕ) → rest ≡ drop used piece → piece ≡ take used piece ++ rest
 split_there piece rest used e = sym (take-append-drop used piece) ∙ ap (λ xs. take used piece ++ xs) (sym e)

@@ -227,7 +227,7 @@ raws_begin piece r last section prims values first used held can ep ef fits is c
               (subst (λ xs. Leads piece r.left r (state_with r last section values xs)) rest start));
         }
 
--- the same of the frame on top
+-- the raw values of the frame on top begin here
 pub raws_begin_here : (piece : List ℕ) (r : Seen) (f : Frame) (last section pos prims values first used : ℕ) (held : Section) → CanPass r piece → r.phase ≡ phase.Prims
     → r.frames ≡ f ∷ tail_of r.frames → f ≡ frame.Fields last section pos prims values → pos ≡ 1 → AllFit r.table.entries r.table.chains r.frames
     → HoldsFor (layer_of r.table.chains section) held → option_map size_of (slice_get (codes_of r section) 0) ≡ Some first
@@ -265,7 +265,7 @@ raws_go_on piece r next end held can h none plain on is enough =
           (leads_raws (codes_of r next) piece end.used r end.last next 0 held.values can before (omega arith) refl start);
     }
 
--- the same, whatever machine it is
+-- the raw values begin, whatever machine it is
 
 pub goes_nowhere : (C : List (List Layer)) (size : ℕ) (end : RawsEnd) → IsOn C end.last end.section → end.used ≤ size → GoesTo C size end end
 goes_nowhere C size end on within = record { on = on; last = refl; within = within; ends = λ piece r el ec can h. h }

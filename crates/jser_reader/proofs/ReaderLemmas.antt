@@ -13,10 +13,12 @@ use Rattle.jser_reader.specs.Readers.{Seen}
 use Rattle.jser_reader.specs.Walks.{HasTaken, Takes, Keeps, StopsFor}
 use Rattle.jser_reader.specs.States.{IsWithin, exceeded}
 use Rattle.jser_reader.specs.Streams.{AreRefused}
+use Rattle.jser_reader.specs.WholeContents.{IsWhole, StaysWhole}
 use Rattle.jser_reader.proofs.StandLemmas.{took_stands, kept_stands}
 use Rattle.jser_reader.proofs.StreamWalks.{stop_stands}
 use Rattle.jser_reader.proofs.TextSteps.{take_last}
 use Rattle.jser_reader.proofs.AnswerLemmas.{refuses, exceeds}
+use Rattle.jser_reader.proofs.WholeContentLemmas.{limit_whole}
 
 -- ---- pieces
 
@@ -120,6 +122,13 @@ over gate bytes piece k r st more le h refusal er =
     subst (λ xs. AreRefused gate xs refusal) (sym all)
     (exceeds gate (bytes ++ take k piece) st.cut x.0 (left begin_state st.fields) refusal st.all_bytes last le st.walked
     (ap (λ x. x.reason) same) (let k = ap (λ x. x.from_byte) same in omega arith) (let k = ap (λ x. x.to_byte) same in omega arith))
+
+pub over_whole : (gate : Gate) (bytes piece : List ℕ) (k n : ℕ) → k < length piece → length (bytes ++ take k piece) ≡ gate.bytes → IsWhole gate (bytes ++ take k piece) n
+    → StaysWhole gate (bytes ++ take (suc k) piece) n
+over_whole gate bytes piece k n more full i =
+    let x = take_last k piece more in
+    let all : bytes ++ take (suc k) piece ≡ (bytes ++ take k piece) ++ (x.0 ∷ []) = ap (λ xs. bytes ++ xs) x.1 ∙ sym (append_assoc bytes (take k piece) (x.0 ∷ [])) in
+    subst (λ xs. StaysWhole gate xs n) (sym all) (limit_whole gate (bytes ++ take k piece) (x.0 ∷ []) n full i)
 
 -- it has stopped then
 pub has_stopped : (gate : Gate) (bytes taken : List ℕ) (old new : Seen) → Takes gate taken false old new → HasTaken gate bytes old → new.phase ≡ phase.Stopped

@@ -66,7 +66,7 @@ bytes_begin r s h = record {
   goes_on = let e = h.size in omega arith;
 }
 
-stands_at : (p : Phase) (r : Seen) (s : State) → ReadyAt p r s → StandsAt p r s []
+pub stands_at : (p : Phase) (r : Seen) (s : State) → ReadyAt p r s → StandsAt p r s []
 stands_at phase.Prims r s h = prims_begin r s h
 stands_at phase.Bytes r s h = bytes_begin r s h
 stands_at phase.Text r s h = absurd h

@@ -1,5 +1,5 @@
 -- What a machine that stands for bytes says of the stream: where it begins, where it may end, and why it stops.
-use Rattle.std.proofs.Common.{◌≡◌, ℕ, ◌+◌, Bool, true, false, List, [], ◌∷◌, ◌++◌, length, refl, sym, ◌∙◌, ap, subst, arith, append_assoc, length-append}
+use Rattle.std.proofs.Common.{◌≡◌, ℕ, ◌+◌, ◌<◌, Bool, true, false, List, [], ◌∷◌, ◌++◌, length, refl, sym, ◌∙◌, ap, subst, arith, append_assoc, length-append}
 use Rattle.jser_reading.specs.Goals.{Goal, State, settled}
 use Rattle.jser_reading.specs.Machine.{begin_state, left, IsDone}
 use Rattle.jser_reading.specs.Scanner.{walk}
@@ -15,7 +15,8 @@ use Rattle.jser_reader.specs.declared.refusal.Stop.{Stop}
 use Rattle.jser_reader.specs.declared.refusal.Stop.TheVariants as stop
 use Rattle.jser_reader.specs.Fitting.{HasDescriptor}
 use Rattle.jser_reader.specs.Readers.{Seen, moment_of, goals_of, text_goal, text_rest, HasNotes, HasPart, value_goals, superclass_goals, superclass_handle_goals}
-use Rattle.jser_reader.specs.Walks.{gate_with, StandsAt, Stands, HasTaken, StopTold, Takes, StopsFor, IsNew}
+use Rattle.jser_reader.specs.Walks.{gate_with, size_of_phase, StandsAt, Stands, HasTaken, StopTold, Takes, StopsFor, IsNew}
+use Rattle.jser_reader.proofs.StandLemmas.{stands_at}
 use Rattle.jser_reader.proofs.WalkLemmas.{walk_on}
 
 -- a new machine stands for no bytes
@@ -142,3 +143,39 @@ no_end_at phase.Stopped r s cut h top d = h
 
 pub ends_only_at_top : (gate : Gate) (r : Seen) (s : State) (cut : List ℕ) → Stands gate r s cut → (r.phase ≡ phase.Top → ⊥) → MayEnd s cut → ⊥
 ends_only_at_top gate r s cut st top d = no_end_at r.phase r s cut st.stands top d
+
+-- where only the top is left, the machine is at the top
+
+other_than_top : (p : Phase) (cut : List ℕ) → 0 < length cut → length cut < size_of_phase p → p ≡ phase.Top → ⊥
+other_than_top p cut some short e = let one : size_of_phase p ≡ 1 = ap size_of_phase e in omega arith
+
+done_top : (p : Phase) (r : Seen) (s : State) (cut : List ℕ) → StandsAt p r s cut → IsDone s → (p ≡ phase.Top → ⊥) → ⊥
+done_top phase.Top r s cut h d top = top refl
+done_top phase.Header r s cut h d top = no_end_at phase.Header r s cut h top (d, h.1)
+done_top phase.Note r s cut h d top = no_end_at phase.Note r s cut h top (d, h.1)
+done_top phase.Value r s cut h d top = no_end_at phase.Value r s cut h top (d, h.1)
+done_top phase.ClassTag r s cut h d top = no_end_at phase.ClassTag r s cut h top (d, h.1)
+done_top phase.SuperTag r s cut h d top = no_end_at phase.SuperTag r s cut h top (d, h.1)
+done_top phase.TextTag r s cut h d top = no_end_at phase.TextTag r s cut h top (d, h.1)
+done_top phase.BackHandle r s cut h d top = no_end_at phase.BackHandle r s cut h top (d, h.1)
+done_top phase.ClassHandle r s cut h d top = no_end_at phase.ClassHandle r s cut h top (d, h.1)
+done_top phase.SuperHandle r s cut h d top = no_end_at phase.SuperHandle r s cut h top (d, h.1)
+done_top phase.TextHandle r s cut h d top = no_end_at phase.TextHandle r s cut h top (d, h.1)
+done_top phase.Length2 r s cut h d top = no_end_at phase.Length2 r s cut h top (d, h.1)
+done_top phase.Length8 r s cut h d top = no_end_at phase.Length8 r s cut h top (d, h.1)
+done_top phase.Text r s cut h d top = not_done s _ h.is (text_not_done r r.text h.long (text_rest r r.text)) d
+done_top phase.Suid r s cut h d top = no_end_at phase.Suid r s cut h top (d, h.1)
+done_top phase.Flags r s cut h d top = no_end_at phase.Flags r s cut h top (d, h.1)
+done_top phase.FieldCount r s cut h d top = no_end_at phase.FieldCount r s cut h top (d, h.1)
+done_top phase.TypeCode r s cut h d top = no_end_at phase.TypeCode r s cut h top (d, h.1)
+done_top phase.InterfaceCount r s cut h d top = no_end_at phase.InterfaceCount r s cut h top (d, h.1)
+done_top phase.ArrayLength r s cut h d top = no_end_at phase.ArrayLength r s cut h top (d, h.1)
+done_top phase.BlockLength1 r s cut h d top = no_end_at phase.BlockLength1 r s cut h top (d, h.1)
+done_top phase.BlockLength4 r s cut h d top = no_end_at phase.BlockLength4 r s cut h top (d, h.1)
+done_top phase.Prims r s cut h d top = not_done s _ h.is (λ k. absurd (cc)) d
+done_top phase.Bytes r s cut h d top = not_done s _ h.is (λ k. absurd (cc)) d
+done_top phase.Cut r s cut h d top = no_end_at r.meter.cut_phase r s [] (stands_at r.meter.cut_phase r s h.ready) (other_than_top r.meter.cut_phase cut h.some h.short) (d, refl)
+done_top phase.Stopped r s cut h d top = h
+
+pub done_at_top : (gate : Gate) (r : Seen) (s : State) (cut : List ℕ) → Stands gate r s cut → IsDone s → (r.phase ≡ phase.Top → ⊥) → ⊥
+done_at_top gate r s cut st d top = done_top r.phase r s cut st.stands d top

@@ -45,7 +45,7 @@ use Rattle.jser_reader.proofs.TextLemmas.{value_ends}
 use Rattle.jser_reader.proofs.TextSteps.{short_text_taken}
 use Rattle.jser_reader.proofs.ReaderLemmas.{take_whole}
 use Rattle.jser_reader.proofs.NextLemmas.{CountsField}
-use Rattle.jser_reader.proofs.PassLemmas.{joined_takes, then_passes, then_halts, passes_end, passes_stop, quiet_end, quiet_takes}
+use Rattle.jser_reader.proofs.PassLemmas.{quiet_stopped, joined_takes, then_passes, then_halts, passes_end, passes_stop, quiet_end, quiet_takes}
 
 -- ---- the tag of a value, at any place
 
@@ -140,7 +140,7 @@ of_marks m k n l before after em ek h = subst (λ x. CountsMarks x l before afte
 
 -- ---- a value ends
 
--- that of a machine that was as far, and has the same
+-- the end of a value, said of a machine that was as far and has the same
 pub same_end : (m k new : Seen) → Comes m new (after_value m) → moved k.meter ≡ moved m.meter → k.frames ≡ m.frames → k.layers ≡ m.layers
     → k.table ≡ m.table → k.refs ≡ m.refs → Comes k new (after_value k)
 same_end m k new h em ef ey et er = record {
@@ -336,7 +336,7 @@ class_passes gate n found piece r new tally can ep enough spelled small told =
   where
     go : (found : Bool) → TakesFromFor gate (taken_by 4 found) piece r new → Passes gate piece (all_or_none found 4) r tally new tally
     go true h = quiet_end gate 4 (taken.Ended 4) piece r new tally h refl (rw ep tt) can
-    go false h = passes_stop gate 4 (taken.Stopped 4) piece r new tally tally h refl can
+    go false h = passes_stop gate 4 (taken.Stopped 4) piece r new tally tally h refl can (quiet_stopped r tally (rw ep tt))
 
 -- one step after another, where the second may stop
 pub then_all : (gate : Gate) (piece rest : List ℕ) (used k all : ℕ) (found : Bool) (old mid new : Seen) (before between after : Tally) → Passes gate piece (Some used) old before mid between

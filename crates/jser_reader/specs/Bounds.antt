@@ -35,7 +35,7 @@ unfoldable pub MemoryFree : Gate → (piece : List ℕ) → Result Step Stop →
 MemoryFree gate piece result r tally =
     (front : List Piece) (cut : List ℕ) (label : Label) → StandsIn gate front cut r tally → ComesNext front label → MemoryFreeAt label cut piece result
 
--- The same of a call that takes a whole piece: where it ends inside the field in which it begins, which is no checked name.
+-- Where a call that takes a whole piece needs no memory: where it ends inside the field in which it begins, which is no checked name.
 unfoldable pub SkipMemoryFree : Gate → (piece : List ℕ) → Result (Unit {0}) Stop → Seen → Tally → Type 0
 SkipMemoryFree gate piece result r tally =
     (front : List Piece) (cut : List ℕ) (label : Label) → StandsIn gate front cut r tally → ComesNext front label

@@ -73,7 +73,7 @@ pub record PopsLayer (old new : Seen) : Type 0 where
 unfoldable pub made_state : Seen → Owner → List Layer → State
 made_state r owner chain = owner_state_at owner r chain
 
--- The same, said of what the machine stands for: the entry is closed, and the stack below goes on as it would have.
+-- A class is closed, said of what the machine stands for: the entry is closed, and the stack below goes on as it would have.
 pub record ClosesTop (number : ℕ) (role : Role) (parent : Option ℕ) (old new : Seen) : Type 0 where
   pub goals : stack_goals new.table.chains new.layers new.frames ≡ stack_goals old.table.chains (tail_layers old.layers) (tail_of old.frames)
   pub moment : moment_of new ≡ closing (moment_of old) number (new_chain old parent)

@@ -56,7 +56,7 @@ TellCases (Some k) s false old new = StopsWith (refusal old.meter (named k)) old
 unfoldable pub Tells : Option ToldReason → State → Bool → Seen → Seen → Type 0
 Tells k s b old new = TellCases k s b old new
 
--- the same where no memory is taken
+-- what a handler tells that takes no memory
 abbrev pub SureCases : Option ToldReason → State → Bool → Seen → Seen → Type 0
 SureCases None s true old new = Comes old new s
 SureCases None s false old new = ⊥

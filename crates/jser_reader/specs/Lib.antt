@@ -1,5 +1,6 @@
 pub mod Memory
 pub mod Walks
+pub mod WholeContents
 pub mod Tallies
 pub mod Takes
 pub mod Cuts

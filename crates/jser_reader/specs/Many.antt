@@ -1,6 +1,6 @@
 -- The loop over whole values. While it runs, the counters are kept apart from the machine, and what comes next is told by the
 -- frames alone.
-use Rattle.std.specs.Prelude.{◌≡◌, ℕ, suc, ◌+◌, ◌-◌, ◌^◌, ◌<◌, ◌≤◌, max, ◌==◌, Bool, true, false, List, [], ◌∷◌, length, get_or, take, drop, slice_get, Some}
+use Rattle.std.specs.Prelude.{◌≡◌, ℕ, suc, ◌+◌, ◌-◌, ◌^◌, ◌<◌, ◌≤◌, max, ◌==◌, if◌then◌else◌, Bool, true, false, List, [], ◌∷◌, length, get_or, take, drop, slice_get, Some}
 use Rattle.jser_prim.specs.Bytes.{big_bytes}
 use Rattle.jser_table.specs.declared.class.Class.TheVariants as class
 use Rattle.jser_table.specs.declared.layer.Fit.TheVariants as fit
@@ -18,6 +18,7 @@ use Rattle.jser_reading.specs.Totals.{number_if}
 use Rattle.jser_verdict.specs.Gates.{Gate, IsGate}
 use Rattle.jser_reader.specs.declared.frame.Frame.{Frame}
 use Rattle.jser_reader.specs.declared.frame.Frame.TheVariants as frame
+use Rattle.jser_reader.specs.declared.machine.many.counts.Begun.{Begun}
 use Rattle.jser_reader.specs.declared.machine.many.counts.Counts.{Counts}
 use Rattle.jser_reader.specs.declared.machine.many.counts.Turn.{Turn}
 use Rattle.jser_reader.specs.declared.machine.many.counts.Turn.TheVariants as turn
@@ -52,7 +53,7 @@ abbrev pub seen_at : Seen → Counts → Seen
 seen_at r k = record { meter = moved (counted_on r.meter k.used); phase = phase_on r.frames; frames = r.frames; layers = r.layers; table = r.table; refs = k.refs; owner = r.owner; elements = r.elements; header = r.header; text = r.text; left = r.left; scan = r.scan; name = r.name }
 
 abbrev pub tally_at : Tally → Counts → Tally
-tally_at before k = record { contents = before.contents + k.items; earlier = before.earlier; depth = k.deepest }
+tally_at before k = record { contents = before.contents + k.items.count; earlier = before.earlier; depth = k.deepest; begun = k.items.last }
 
 -- a machine at which the loop may begin, and its counters there
 
@@ -61,7 +62,7 @@ pub record IsAtRest (r : Seen) : Type 0 where
   pub from : r.meter.from ≡ r.meter.at
 
 abbrev pub counts_of : Seen → Tally → Counts
-counts_of r tally = record { used = 0; refs = r.refs; items = 0; depth = length r.frames; deepest = tally.depth }
+counts_of r tally = record { used = 0; refs = r.refs; items = record { count = 0; start = r.meter.at; last = tally.begun }; depth = length r.frames; deepest = tally.depth }
 
 -- the counters are right, and all of the piece may be taken
 pub record Holds (piece : List ℕ) (r : Seen) (k : Counts) : Type 0 where
@@ -69,15 +70,21 @@ pub record Holds (piece : List ℕ) (r : Seen) (k : Counts) : Type 0 where
   pub within : k.used ≤ length piece
   pub depth : k.depth ≡ length r.frames
   pub deep : k.deepest ≤ r.meter.limits.depth
-  pub items : k.items ≤ k.used
+  pub items : k.items.count ≤ k.used
+  pub start : k.items.start ≡ r.meter.at
+  pub room : k.items.start + length piece < 2 ^ 64
+
+-- a content has begun after so many bytes of the piece, if one has
+abbrev pub with_content : Begun → (begins : Bool) → (used : ℕ) → Begun
+with_content b begins used = record { count = b.count + number_if begins 1; start = b.start; last = if begins then b.start + used else b.last }
 
 -- a place and so many bytes were counted
 abbrev pub with_place : Counts → ℕ → Counts
-with_place k size = record { used = k.used + size; refs = suc k.refs; items = k.items + number_if (k.depth == 0) 1; depth = k.depth; deepest = max k.deepest (suc k.depth) }
+with_place k size = record { used = k.used + size; refs = suc k.refs; items = with_content k.items (k.depth == 0) k.used; depth = k.depth; deepest = max k.deepest (suc k.depth) }
 
 -- so many bytes were counted where no place begins
 abbrev pub with_block : Counts → ℕ → Counts
-with_block k size = record { used = k.used + size; refs = k.refs; items = k.items + number_if (k.depth == 0) 1; depth = k.depth; deepest = k.deepest }
+with_block k size = record { used = k.used + size; refs = k.refs; items = with_content k.items (k.depth == 0) k.used; depth = k.depth; deepest = k.deepest }
 
 -- ---- from one place in the piece to another
 

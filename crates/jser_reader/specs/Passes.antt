@@ -13,21 +13,23 @@ use Rattle.jser_reader.specs.declared.refusal.Stop.TheVariants as stop
 use Rattle.jser_reader.specs.declared.tally.Tally.{Tally}
 use Rattle.jser_reader.specs.Memory.{IsCheckedName, EndsInside}
 use Rattle.jser_reader.specs.Readers.{Seen}
+use Rattle.jser_reader.specs.WholeContents.{StaysWhole}
 use Rattle.jser_reader.specs.Streams.{AreRefused}
 use Rattle.jser_reader.specs.ReaderStates.{StandsFor}
 use Rattle.jser_reader.specs.ItemsTold.{StandsIn}
 use Rattle.jser_reader.specs.States.{IsWithin}
 
 -- why the machine stopped within a piece: bytes of it are refused, or memory ran out
-abbrev pub HaltCases : Gate → (bytes piece : List ℕ) → Stop → Type 0
-HaltCases gate bytes piece (stop.Refused refusal) = (used : ℕ) × (used ≤ length piece) × AreRefused gate (bytes ++ take used piece) refusal × (0 < used)
-HaltCases gate bytes piece stop.OutOfMemory = Unit {0}
-HaltCases gate bytes piece stop.Spent = ⊥
+abbrev pub HaltCases : Gate → (bytes piece : List ℕ) → Tally → Stop → Type 0
+HaltCases gate bytes piece tally (stop.Refused refusal) =
+    (used : ℕ) × (used ≤ length piece) × AreRefused gate (bytes ++ take used piece) refusal × (0 < used) × StaysWhole gate (bytes ++ take used piece) tally.begun
+HaltCases gate bytes piece tally stop.OutOfMemory = Unit {0}
+HaltCases gate bytes piece tally stop.Spent = ⊥
 
 -- So many bytes of the piece were taken; or the machine stopped within it.
 abbrev pub PassCases : Gate → (bytes piece : List ℕ) → Option ℕ → Seen → Tally → Type 0
 PassCases gate bytes piece (Some used) r tally = (used ≤ length piece) × StandsFor gate (bytes ++ take used piece) r tally
-PassCases gate bytes piece None r tally = (r.phase ≡ phase.Stopped) × HaltCases gate bytes piece r.meter.stop
+PassCases gate bytes piece None r tally = (r.phase ≡ phase.Stopped) × HaltCases gate bytes piece tally r.meter.stop
 
 unfoldable pub PassTells : Gate → (piece : List ℕ) → Option ℕ → Seen → Tally → Seen → Tally → Type 0
 PassTells gate piece result old before new after =

@@ -13,7 +13,8 @@ use Rattle.jser_reader.specs.declared.refusal.Stop.TheVariants as stop
 use Rattle.jser_reader.specs.Readers.{Seen}
 use Rattle.jser_reader.specs.Streams.{AreRefused, AreTruncated}
 use Rattle.jser_reader.specs.declared.tally.Tally.{Tally}
-use Rattle.jser_reader.specs.Tallies.{HasCounted, AreTotals}
+use Rattle.jser_reader.specs.Tallies.{HasCounted, AreTotals, whole_of}
+use Rattle.jser_reader.specs.WholeContents.{IsWhole, StaysWhole}
 
 -- What the contracts of a reader see of it: its gate, its machine, and the counts of what it read.
 pub record Reading (G : Type 0) : Type 0 where
@@ -40,12 +41,14 @@ IsItem used (step.Item item count) = count ≡ used
 IsItem used step.More = ⊥
 
 -- Where it stood for `bytes` and was given a piece, it answers an item and stands for some bytes of the piece more; or it
--- took the whole piece; or it refuses the bytes up to the deciding one, which lies in the piece; or memory ran out.
+-- took the whole piece; or it refuses the bytes up to the deciding one, which lies in the piece, and knows how many of all
+-- bytes are whole contents, whatever comes; or memory ran out.
 abbrev pub NextCases : Gate → (bytes piece : List ℕ) → Result Step Stop → Seen → Tally → Type 0
 NextCases gate bytes piece (Ok (step.Item item used)) r tally = (0 < used) × (used ≤ length piece) × StandsFor gate (bytes ++ take used piece) r tally
 NextCases gate bytes piece (Ok step.More) r tally = StandsFor gate (bytes ++ piece) r tally
 NextCases gate bytes piece (Err (stop.Refused refusal)) r tally =
     (used : ℕ) × (used ≤ length piece) × AreRefused gate (bytes ++ take used piece) refusal × HasRefused refusal r × (0 < used)
+    × StaysWhole gate (bytes ++ take used piece) (whole_of r tally)
 NextCases gate bytes piece (Err stop.OutOfMemory) r tally = IsSpent r
 NextCases gate bytes piece (Err stop.Spent) r tally = ⊥
 
@@ -58,11 +61,12 @@ abbrev pub HasProgress : (piece : List ℕ) → Step → Type 0
 HasProgress piece (step.Item item used) = (0 < used) × (used ≤ length piece)
 HasProgress piece step.More = Unit {0}
 
--- The same of a whole piece, with no item lent.
+-- What a whole piece comes to, with no item lent.
 abbrev pub SkipCases : Gate → (bytes piece : List ℕ) → Result (Unit {0}) Stop → Seen → Tally → Type 0
 SkipCases gate bytes piece (Ok _) r tally = StandsFor gate (bytes ++ piece) r tally
 SkipCases gate bytes piece (Err (stop.Refused refusal)) r tally =
     (used : ℕ) × (used ≤ length piece) × AreRefused gate (bytes ++ take used piece) refusal × HasRefused refusal r × (0 < used)
+    × StaysWhole gate (bytes ++ take used piece) (whole_of r tally)
 SkipCases gate bytes piece (Err stop.OutOfMemory) r tally = IsSpent r
 SkipCases gate bytes piece (Err stop.Spent) r tally = ⊥
 
@@ -86,3 +90,15 @@ FinishCases gate bytes (Err stop.Spent) r = ⊥
 
 unfoldable pub FinishTells : Gate → Result Totals Stop → Seen → Tally → Seen → Type 0
 FinishTells gate result old tally new = (bytes : List ℕ) → StandsFor gate bytes old tally → FinishCases gate bytes result new
+
+-- How many of the bytes for which it stands are whole contents.
+unfoldable pub WholeTold : Gate → ℕ → Seen → Tally → Type 0
+WholeTold gate n r tally = (bytes : List ℕ) → StandsFor gate bytes r tally → IsWhole gate bytes n
+
+-- At the end of the bytes for which it stood it knows how many of them are whole contents: all of a stream.
+unfoldable pub WholeAtEnd : Gate → Seen → Tally → Seen → Tally → Type 0
+WholeAtEnd gate old before new after = (bytes : List ℕ) → StandsFor gate bytes old before → IsWhole gate bytes (whole_of new after)
+
+-- A reader that has stopped goes on to say how many bytes are whole contents.
+unfoldable pub KeepsWhole : Seen → Tally → Seen → Tally → Type 0
+KeepsWhole old before new after = old.phase ≡ phase.Stopped → whole_of new after ≡ whole_of old before

@@ -47,7 +47,7 @@ GivesValue true (frame.Notes last section) new = ⊥
 GivesValue true frame.ExternalNotes new = ⊥
 GivesValue true (frame.Descriptor number role) new = ⊥
 
--- the same of a raw value
+-- a raw value is taken from a frame
 abbrev pub GivesRaw : Option RawPlace → Frame → Frame → Type 0
 GivesRaw None old new = (new ≡ old) × HasNoRaw old
 GivesRaw (Some raw) (frame.Elements left) new = ⊥
@@ -57,7 +57,7 @@ GivesRaw (Some raw) (frame.Notes last section) new = ⊥
 GivesRaw (Some raw) frame.ExternalNotes new = ⊥
 GivesRaw (Some raw) (frame.Descriptor number role) new = ⊥
 
--- the same of what is on top
+-- a raw value is taken from the frame on top
 
 abbrev pub IsOnTop : (Frame → Type 0) → List Frame → Type 0
 IsOnTop P [] = Unit {0}

@@ -6,7 +6,7 @@ use Rattle.jser_reader.specs.Stacks.{tail_of, HasNoField}
 use Rattle.jser_reader.specs.Frames.{frame_goals}
 use Rattle.jser_reader.specs.Readers.{Seen, moment_of, goals_of, Ready}
 
--- the same but for what comes next
+-- the machine is as it was, but for what comes next
 pub record Kept (old new : Seen) : Type 0 where
   pub table : new.table ≡ old.table
   pub layers : new.layers ≡ old.layers

@@ -1,6 +1,6 @@
 -- The counts of a stream, as they are kept while it is read: what is known of the machine before and after a field is
 -- enough to go on from one field to the next.
-use Rattle.std.specs.Prelude.{ℕ, ◌≡◌, suc, ◌+◌, max, ◌==◌, ◌&&◌, nat_lt, Bool, true, false, List, [], ◌∷◌, length}
+use Rattle.std.specs.Prelude.{ℕ, ◌≡◌, suc, ◌+◌, max, ◌==◌, ◌&&◌, nat_lt, ◌≤◌, if◌then◌else◌, Bool, true, false, List, [], ◌∷◌, length}
 use Rattle.jser_grammar.specs.Trees.{ContentTrees}
 use Rattle.jser_grammar.specs.TableAfter.{Entries}
 use Rattle.jser_grammar.specs.Counts.{content_count, refs_of, depth_of, handle_count}
@@ -14,6 +14,7 @@ use Rattle.jser_reader.specs.declared.tally.Tally.{Tally}
 use Rattle.jser_reader.specs.declared.tally.Mark.{Mark}
 use Rattle.jser_reader.specs.Readers.{Seen}
 use Rattle.jser_reader.specs.Walks.{HasTaken}
+use Rattle.jser_reader.specs.WholeContents.{IsWhole}
 
 -- ---- what is counted along the fields
 
@@ -29,10 +30,10 @@ earlier_handles (piece label field ∷ pieces) = ended_by field label.moment.tab
 
 -- ---- what is kept
 
--- The contents that have begun, the handles of the epochs that have ended, and the greatest depth of a place. (The
--- places, and the handles of the epoch that has not ended, are in the machine.)
+-- The contents that have begun, the handles of the epochs that have ended, the greatest depth of a place, and where the
+-- last content begins. (The places, and the handles of the epoch that has not ended, are in the machine.)
 abbrev pub no_tally : Tally
-no_tally = record { contents = 0; earlier = 0; depth = 0 }
+no_tally = record { contents = 0; earlier = 0; depth = 0; begun = 0 }
 
 -- it tells these fields
 pub record Tallied (fields : List Piece) (tally : Tally) : Type 0 where
@@ -42,14 +43,14 @@ pub record Tallied (fields : List Piece) (tally : Tally) : Type 0 where
 
 -- ---- how it goes on
 
--- What a tally asks of a machine before and after a field: whether the field stands at the top, the depth of a place
--- that begins there, how many places there were, and how many entries the table has.
+-- What a tally asks of a machine before and after a field: whether the field stands at the top, how many bytes were taken,
+-- the depth of a place that begins there, how many places there were, and how many entries the table has.
 abbrev pub is_top : Phase → Bool
 is_top phase.Top = true
 is_top _ = false
 
 abbrev pub mark_of : Seen → Mark
-mark_of r = record { at_top = is_top r.phase; depth = suc (length r.frames); refs = r.refs; entries = length r.table.entries }
+mark_of r = record { at_top = is_top r.phase; at = r.meter.at; depth = suc (length r.frames); refs = r.refs; entries = length r.table.entries }
 
 -- A field has ended. At the top a content has begun; if the table is empty after it, an epoch may have ended, and if not,
 -- the table was empty before it too. Where there is one place more, it has the depth of the field.
@@ -58,18 +59,28 @@ tally_after old new tally = record {
   contents = one_more_if old.at_top tally.contents;
   earlier = tally.earlier + number_if (old.at_top && new.entries == 0) old.entries;
   depth = max tally.depth (number_if (nat_lt old.refs new.refs) old.depth);
+  begun = if old.at_top then old.at else tally.begun;
 }
 
--- So many contents have begun, no epoch has ended, and this is the greatest depth.
-abbrev pub all_counted : Tally → (contents depth : ℕ) → Tally
-all_counted tally contents depth = record { contents = tally.contents + contents; earlier = tally.earlier; depth = depth }
+-- Nothing more is taken: at the top no content begins any more.
+abbrev pub tally_stopped : (last : Mark) → Tally → Tally
+tally_stopped last tally = record { contents = tally.contents; earlier = tally.earlier; depth = tally.depth; begun = if last.at_top then last.at else tally.begun }
+
+-- So many contents have begun, no epoch has ended, this is the greatest depth, and there the last content begins.
+abbrev pub all_counted : Tally → (contents depth begun : ℕ) → Tally
+all_counted tally contents depth begun = record { contents = tally.contents + contents; earlier = tally.earlier; depth = depth; begun = begun }
+
+-- How many of the bytes that were taken are whole contents: all at the top, and else those before the last content.
+abbrev pub whole_of : Seen → Tally → ℕ
+whole_of r tally = if is_top r.phase then r.meter.at else tally.begun
 
 -- ---- a machine with its tally
 
--- the machine stands for these bytes, and the tally tells the fields that it took
+-- The machine stands for these bytes, and the tally tells the fields that it took; so many of the bytes are whole contents.
 pub record HasCounted (gate : Gate) (bytes : List ℕ) (r : Seen) (tally : Tally) : Type 0 where
   pub taken : HasTaken gate bytes r
   pub tallied : Tallied taken.fields tally
+  pub whole : length bytes ≤ gate.bytes → IsWhole gate bytes (whole_of r tally)
 
 -- ---- the end
 

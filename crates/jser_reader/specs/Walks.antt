@@ -90,7 +90,7 @@ pub record HasRead (r : Seen) (len : ℕ) (bytes units : List ℕ) : Type 0 wher
   pub accepted : HasAccepted len bytes units r.scan
   pub kept : is_checked r.text ≡ true → r.name ≡ units
 
--- the same, of units of which these are the first
+-- the bytes of a text that were read, where these units are the first of those that they spell
 pub record HasReadAfter (r : Seen) (len : ℕ) (bytes units : List ℕ) : Type 0 where
   pub more : List ℕ
   pub read : HasRead r len bytes (units ++ more)

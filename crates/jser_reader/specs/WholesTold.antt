@@ -74,7 +74,7 @@ WholeCases gate given (Ok (Some w)) old before new after = TellsWhole gate given
 WholeCases gate given (Ok None) old before new after = (new ≡ old) × (after ≡ before)
 WholeCases gate given (Err why) old before new after = NextTells gate given (Err why) old before new after
 
--- the same of the machine, which says later why it has stopped
+-- what the machine lends, which says later why it has stopped
 abbrev pub LentCases : Gate → (given : List ℕ) → Lent → Seen → Tally → Seen → Tally → Type 0
 LentCases gate given (lent.Value w) old before new after = TellsWhole gate given w old before new after
 LentCases gate given lent.Nothing old before new after = (new ≡ old) × (after ≡ before)

@@ -16,9 +16,9 @@ pub enum Place {
         /// The section whose annotation it is.
         section: SectionNumber,
     },
-    /// The same in the annotation that is all the data of an externalizable object.
+    /// A tag in the annotation that is all the data of an externalizable object.
     ExternalNote,
-    /// The same in the annotation of a descriptor.
+    /// A tag in the annotation of a descriptor.
     DescriptorNote,
     /// The tag of an element of an array of values.
     Element {
@@ -50,12 +50,12 @@ pub enum Place {
     Text,
     /// The length or the bytes of the name of a class.
     ClassName,
-    /// The same of the name of a field.
+    /// The length or the bytes of the name of a field.
     FieldName {
         /// Whether the text that is its type comes after it.
         is_typed: bool,
     },
-    /// The same of the name of an interface.
+    /// The length or the bytes of the name of an interface.
     InterfaceName,
     /// The suid of a descriptor.
     Suid,

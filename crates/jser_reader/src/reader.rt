@@ -1,6 +1,7 @@
 //! The reader: a stream in pieces of any sizes, field by field.
 ghost use Rattle.std.specs.Prelude.{◌≡◌, ◌+◌, ◌<◌, ◌≤◌, [], length, take, IfOk, Ok, None};
-ghost use Rattle.jser_reader.specs.ReaderStates.{IsItem, HasProgress, StandsFor, NextTells, SkipTells, StaysStopped, FinishTells};
+ghost use Rattle.jser_reader.specs.ReaderStates.{IsItem, HasProgress, StandsFor, NextTells, SkipTells, StaysStopped, FinishTells, WholeTold, WholeAtEnd, KeepsWhole};
+ghost use Rattle.jser_reader.specs.Tallies.{whole_of};
 ghost use Rattle.jser_reader.specs.Bounds.{FramesAreBounded, AreAssigned, MemoryFree, SkipMemoryFree};
 ghost use Rattle.jser_reader.specs.ItemsMade.{MakesStep};
 ghost use Rattle.jser_reader.specs.ItemsTold.{StandsIn, TellsItems, TellsFields};
@@ -119,9 +120,13 @@ impl<G: Gate> Reader<G> {
                 Ok(lend(field, kept, front, used))
             }
             Taken::Part(used) => Ok(lend(field, kept, front, used)),
-            Taken::Stopped(_) => Err(self.machine.answer()),
+            Taken::Stopped(_) => {
+                self.tally.stop(before);
+                Err(self.machine.answer())
+            }
             _ => {
                 if front.len() < piece.len() {
+                    self.tally.stop(self.machine.mark());
                     return Err(self.machine.exceed());
                 }
                 Ok(Step::More)
@@ -142,6 +147,7 @@ impl<G: Gate> Reader<G> {
         ensures items { TellsItems (G.told self.old.gate) piece.now result self.old.machine self.old.tally self.new.machine self.new.tally }
         ensures memory { MemoryFree (G.told self.old.gate) piece.now result self.old.machine self.old.tally }
         ensures stays { StaysStopped result self.old.machine self.new.machine }
+        ensures keeps { KeepsWhole self.old.machine self.old.tally self.new.machine self.new.tally }
         ensures progress { IfOk result (λ step. HasProgress piece.now step) }
         ensures gate { self.new.gate ≡ self.old.gate }
     {
@@ -153,6 +159,7 @@ impl<G: Gate> Reader<G> {
         }
         let front = self.machine.within(piece);
         if front.is_empty() {
+            self.tally.stop(self.machine.mark());
             return Err(self.machine.exceed());
         }
         self.step(piece, front)
@@ -204,6 +211,7 @@ impl<G: Gate> Reader<G> {
         ensures tells { SkipTells (G.told self.old.gate) piece.now result self.old.machine self.old.tally self.new.machine self.new.tally }
         ensures memory { SkipMemoryFree (G.told self.old.gate) piece.now result self.old.machine self.old.tally }
         ensures stays { StaysStopped result self.old.machine self.new.machine }
+        ensures keeps { KeepsWhole self.old.machine self.old.tally self.new.machine self.new.tally }
         ensures gate { self.new.gate ≡ self.old.gate }
     {
         if self.machine.is_stopped() {
@@ -228,7 +236,9 @@ impl<G: Gate> Reader<G> {
     pub fn finish(&mut self) -> Result<Totals, Stop>
         ensures tells { FinishTells (G.told self.old.gate) result self.old.machine self.old.tally self.new.machine }
         ensures fields { TellsFields (G.told self.old.gate) result self.old.machine self.old.tally }
+        ensures whole { WholeAtEnd (G.told self.old.gate) self.old.machine self.old.tally self.new.machine self.new.tally }
         ensures stays { StaysStopped result self.old.machine self.new.machine }
+        ensures keeps { KeepsWhole self.old.machine self.old.tally self.new.machine self.new.tally }
         ensures gate { self.new.gate ≡ self.old.gate }
     {
         if self.machine.is_stopped() {
@@ -238,8 +248,22 @@ impl<G: Gate> Reader<G> {
             return Err(self.machine.truncate());
         }
         let totals = self.machine.totals(self.tally);
+        self.tally.stop(self.machine.mark());
         self.machine.end();
         Ok(totals)
+    }
+
+    /// How many of the bytes that were taken are whole contents: the length of their longest front that is a stream which
+    /// the gate lets pass. The header alone is a stream of no contents; before its end this is 0.
+    ///
+    /// After a refusal, and after the end, it is that of all bytes that came, whatever comes after them. After `OutOfMemory`
+    /// it says nothing.
+    #[tactic(auto, using(crate::proofs::NextLemmas::whole_known))]
+    pub fn whole(&self) -> u64
+        ensures is { result ≡ whole_of self.now.machine self.now.tally }
+        ensures tells { WholeTold (G.told self.now.gate) result self.now.machine self.now.tally }
+    {
+        self.machine.whole(self.tally)
     }
 
     /// The gate under which it reads.

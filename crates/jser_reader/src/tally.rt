@@ -1,22 +1,27 @@
 //! The counts of a stream that its fields tell, kept while it is read.
 ghost use Rattle.std.specs.Prelude.{◌≡◌, ◌+◌, ◌<◌, ◌^◌};
-ghost use Rattle.jser_reader.specs.Tallies.{tally_after, all_counted, no_tally};
+ghost use Rattle.jser_reader.specs.Tallies.{tally_after, tally_stopped, all_counted, no_tally};
 
 /// What a tally asks of the machine before and after a field.
 #[derive(Clone, Copy)]
 pub(crate) struct Mark {
     pub(crate) at_top: bool,
+    /// How many bytes were taken.
+    pub(crate) at: u64,
     pub(crate) depth: u64,
     pub(crate) refs: u64,
     pub(crate) entries: u64,
 }
 
-/// The contents that have begun, the handles of the epochs that have ended, and the greatest depth of a place.
+/// The contents that have begun, the handles of the epochs that have ended, the greatest depth of a place, and where the
+/// last content begins.
 #[derive(Clone, Copy)]
 pub(crate) struct Tally {
     pub(crate) contents: u64,
     pub(crate) earlier: u64,
     pub(crate) depth: u64,
+    /// Where the last content begins that has begun, or was refused at its tag; 0 where none has.
+    pub(crate) begun: u64,
 }
 
 impl Tally {
@@ -28,6 +33,7 @@ impl Tally {
             contents: 0,
             earlier: 0,
             depth: 0,
+            begun: 0,
         }
     }
 
@@ -38,6 +44,7 @@ impl Tally {
     {
         if old.at_top {
             self.contents = self.contents.wrapping_add(1);
+            self.begun = old.at;
             if new.entries == 0 {
                 self.earlier = self.earlier.wrapping_add(old.entries);
             }
@@ -47,12 +54,23 @@ impl Tally {
         }
     }
 
-    /// So many contents have begun, and this is the greatest depth of a place.
+    /// Nothing more is taken: what was known before the field in which the machine stops, or before the end.
     #[inline(always)]
-    pub(crate) fn count_all(&mut self, contents: u64, depth: u64)
-        ensures { self.old.contents + contents < 2 ^ 64 → self.new ≡ all_counted self.old contents depth }
+    pub(crate) fn stop(&mut self, last: Mark)
+        ensures { self.new ≡ tally_stopped last self.old }
+    {
+        if last.at_top {
+            self.begun = last.at;
+        }
+    }
+
+    /// So many contents have begun, this is the greatest depth of a place, and there the last content begins.
+    #[inline(always)]
+    pub(crate) fn count_all(&mut self, contents: u64, depth: u64, begun: u64)
+        ensures { self.old.contents + contents < 2 ^ 64 → self.new ≡ all_counted self.old contents depth begun }
     {
         self.contents = self.contents.wrapping_add(contents);
         self.depth = depth;
+        self.begun = begun;
     }
 }

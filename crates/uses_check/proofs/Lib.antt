@@ -1,2 +1,3 @@
 pub mod HeadlineLemmas
 pub mod ReaderLemmas
+pub mod FrontLemmas

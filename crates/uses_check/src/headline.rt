@@ -42,7 +42,8 @@ pub fn admits(
     }
 }
 
-/// The same of the bytes that a source tells, however it cuts them.
+/// Whether the filter admits the bytes that a source tells, however it cuts them. There is an answer, and it is right,
+/// wherever there is memory.
 ///
 /// # Errors
 ///

@@ -4,6 +4,7 @@
 #![tactic(auto)]
 
 pub mod devices;
+pub mod fronts;
 pub mod headline;
 pub mod pieces;
 pub mod readers;

@@ -18,6 +18,7 @@ mod cuts;
 mod devices;
 mod example;
 mod filters;
+mod fronts;
 mod large;
 mod memory;
 mod nests;

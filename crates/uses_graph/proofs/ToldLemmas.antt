@@ -1,6 +1,6 @@
 -- What is told of the list for which a graph stands is told of every list that the bytes spell.
 use denote.Bor.{Bor}
-use Rattle.std.proofs.Common.{◌≡◌, ℕ, List, length, slice_get, Option, Result, Ok, Err, IfOk, IfErr, OnOk, ap, subst, ◌∙◌}
+use Rattle.std.proofs.Common.{◌≡◌, ℕ, false, List, length, slice_get, Option, Result, Ok, Err, IfOk, IfErr, OnOk, ap, subst, ◌∙◌}
 use Rattle.std.specs.Io.KnownBytes.{Appends}
 use Rattle.jser_grammar.specs.CheckedNames.{checked_names}
 use Rattle.jser_reading.specs.ByteLaws.{OneReading}
@@ -44,18 +44,18 @@ name_told one bytes graph number name some is = λ list spelled.
 pub bytes_told : (bytes : List ℕ) (graph : GraphView) → StandsForSome bytes graph → graph.bytes ≡ bytes
 bytes_told bytes graph some = some.1.bytes_are
 
-pub text_shown : OneReading → (bytes : List ℕ) (graph : GraphView) (old new : Option (List ℕ)) → StandsForSome bytes graph → WroteText graph old new
-    → OfEachList bytes (λ list. Appends old new (shown list))
+pub text_shown : OneReading → (bytes : List ℕ) (graph : GraphView) (old new : Option (List ℕ)) → StandsForSome bytes graph → WroteText false graph old new
+    → OfEachList bytes (λ list. Appends old new (shown false list))
 unfolding WroteText
 text_shown one bytes graph old new some went = λ list spelled. went bytes list (each one bytes graph some list spelled)
 
-pub length_shown : OneReading → (bytes : List ℕ) (graph : GraphView) (count : ℕ) → StandsForSome bytes graph → CountsText graph count
-    → OfEachList bytes (λ list. count ≡ counted (length (shown list)))
+pub length_shown : OneReading → (bytes : List ℕ) (graph : GraphView) (count : ℕ) → StandsForSome bytes graph → CountsText false graph count
+    → OfEachList bytes (λ list. count ≡ counted (length (shown false list)))
 unfolding CountsText
 length_shown one bytes graph count some is = λ list spelled. is bytes list (each one bytes graph some list spelled)
 
 pub front_shown : OneReading → (bytes : List ℕ) (graph : GraphView) (old new : Option (List ℕ)) (why : GraphFault) → StandsForSome bytes graph
-    → WroteFront graph old new why → OfEachList bytes (λ list. FrontShown old new (shown list) why)
+    → WroteFront false graph old new why → OfEachList bytes (λ list. FrontShown old new (shown false list) why)
 unfolding WroteFront
 front_shown one bytes graph old new why some went = λ list spelled. went bytes list (each one bytes graph some list spelled)
 
@@ -72,17 +72,17 @@ cause_told one bytes graph why some is = λ list spelled. is bytes list (each on
 -- ---- of what a call answers
 
 pub shown_told : OneReading → {X E : Type 0} (bytes : List ℕ) (graph : GraphView) (result : Result X E) (old new : Option (List ℕ)) → StandsForSome bytes graph
-    → OnOk result (WroteText graph old new) → OnOk result (OfEachList bytes (λ list. Appends old new (shown list)))
+    → OnOk result (WroteText false graph old new) → OnOk result (OfEachList bytes (λ list. Appends old new (shown false list)))
 shown_told one bytes graph (Ok x) old new some went = text_shown one bytes graph old new some went
 shown_told one bytes graph (Err e) old new some went = tt
 
 pub length_told : OneReading → {E : Type 0} (bytes : List ℕ) (graph : GraphView) (result : Result ℕ E) → StandsForSome bytes graph
-    → IfOk result (CountsText graph) → IfOk result (λ count. OfEachList bytes (λ list. count ≡ counted (length (shown list))))
+    → IfOk result (CountsText false graph) → IfOk result (λ count. OfEachList bytes (λ list. count ≡ counted (length (shown false list))))
 length_told one bytes graph (Ok count) some is = length_shown one bytes graph count some is
 length_told one bytes graph (Err e) some is = tt
 
 pub front_told : OneReading → {X : Type 0} (bytes : List ℕ) (graph : GraphView) (result : Result X GraphFault) (old new : Option (List ℕ)) → StandsForSome bytes graph
-    → IfErr result (WroteFront graph old new) → IfErr result (λ why. OfEachList bytes (λ list. FrontShown old new (shown list) why))
+    → IfErr result (WroteFront false graph old new) → IfErr result (λ why. OfEachList bytes (λ list. FrontShown old new (shown false list) why))
 front_told one bytes graph (Ok x) old new some went = tt
 front_told one bytes graph (Err why) old new some went = front_shown one bytes graph old new why some went
 

@@ -1,5 +1,5 @@
 //! What is told of a stream by a graph of it: each promise speaks of every list that the bytes spell, and there is one.
-ghost use Rattle.std.specs.Prelude.{◌≡◌, length, slice_get, IfOk, IfErr, OnOk, OnErr, true};
+ghost use Rattle.std.specs.Prelude.{◌≡◌, length, slice_get, IfOk, IfErr, OnOk, OnErr, false, true};
 ghost use Rattle.std.specs.Io.KnownBytes.{Appends};
 ghost use Rattle.jser_grammar.specs.Trees.{ContentTrees};
 ghost use Rattle.jser_grammar.specs.Streams.{IsStreamOf};
@@ -91,9 +91,9 @@ pub fn show<W: Sink>(
     sink: &mut W,
 ) -> Result<u64, GraphFault>
     requires { StandsForSome bytes.now graph.now }
-    ensures shown { OnOk result (OfEachList bytes.now (λ list. Appends (W.gone_out sink.old) (W.gone_out sink.new) (shown list))) }
-    ensures length { IfOk result (λ count. OfEachList bytes.now (λ list. count ≡ counted (length (shown list)))) }
-    ensures front { IfErr result (λ why. OfEachList bytes.now (λ list. FrontShown (W.gone_out sink.old) (W.gone_out sink.new) (shown list) why)) }
+    ensures shown { OnOk result (OfEachList bytes.now (λ list. Appends (W.gone_out sink.old) (W.gone_out sink.new) (shown false list))) }
+    ensures length { IfOk result (λ count. OfEachList bytes.now (λ list. count ≡ counted (length (shown false list)))) }
+    ensures front { IfErr result (λ why. OfEachList bytes.now (λ list. FrontShown (W.gone_out sink.old) (W.gone_out sink.new) (shown false list) why)) }
     ensures kept { OnOk result (W.has_failed sink.new ≡ W.has_failed sink.old) }
 {
     one_reading();

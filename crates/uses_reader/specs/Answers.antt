@@ -26,6 +26,6 @@ Answers gate bytes (Err (stop.Refused refusal)) = IsRefusal gate bytes refusal
 Answers gate bytes (Err stop.OutOfMemory) = Unit {0}
 Answers gate bytes (Err stop.Spent) = ⊥
 
--- the same, where memory did not run out
+-- such an answer, where memory did not run out
 abbrev pub IsAnswerOf : Gate → List ℕ → Result Totals Stop → Type 0
 IsAnswerOf gate bytes answer = Answers gate bytes answer × (answer ≢ Err stop.OutOfMemory)

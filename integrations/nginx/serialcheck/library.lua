@@ -2,7 +2,7 @@
 -- those of include/serialcheck.h.
 local ffi = require("ffi")
 ffi.cdef [[
-typedef struct { uint32_t status, reason; uint64_t from, to, bytes, contents, refs, depth, handles, name_from, name_to; } serialcheck_answer;
+typedef struct { uint32_t status, reason; uint64_t from, to, bytes, contents, refs, depth, handles, name_from, name_to, whole; } serialcheck_answer;
 typedef struct { void *at; bool is_open; } serialcheck_filter;
 typedef struct { void *at; bool is_open; } serialcheck_stream;
 uint32_t serialcheck_filter_new(const uint8_t *text, size_t len, const uint8_t *modules, size_t modules_len, uint32_t flags,

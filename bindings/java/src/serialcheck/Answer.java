@@ -4,10 +4,10 @@ package serialcheck;
 final class Answer {
     static final int YES = 0, NO = 1, MISUSE = 2, NO_MEMORY = 3, MORE = 4, SPENT = 5;
     /** How many words there are. The native code says the same number, or it is of another version. */
-    static final int WORDS = 11;
+    static final int WORDS = 12;
 
     /** No answer, and no yes, before a call has written it. */
-    final long[] words = {NO_MEMORY, 0, 0, 0, 0, 0, 0, 0, 0, 0, 0};
+    final long[] words = {NO_MEMORY, 0, 0, 0, 0, 0, 0, 0, 0, 0, 0, 0};
 
     /** The name of the class that was refused, where all bytes were there, or null. */
     String className;
@@ -52,6 +52,10 @@ final class Answer {
 
     long handles() {
         return words[8];
+    }
+
+    long whole() {
+        return words[11];
     }
 
     /** The line that the program prints of it. */

@@ -19,6 +19,9 @@ public final class Refused extends InvalidObjectException {
     /** How many bytes decide. */
     private final long to;
 
+    /** How many of the bytes are whole contents. */
+    private final long whole;
+
     /** The name of the class that was refused, or null. */
     private final String className;
 
@@ -28,6 +31,7 @@ public final class Refused extends InvalidObjectException {
         meaning = answer.meaning();
         from = answer.from();
         to = answer.to();
+        whole = answer.whole();
         className = answer.className;
     }
 
@@ -38,6 +42,7 @@ public final class Refused extends InvalidObjectException {
         meaning = "";
         from = 0;
         to = 0;
+        whole = 0;
         className = null;
     }
 
@@ -102,5 +107,15 @@ public final class Refused extends InvalidObjectException {
      */
     public long to() {
         return to;
+    }
+
+    /**
+     * How many of the bytes that came are whole contents: where to cut a stream from what lies behind it.
+     *
+     * @return the length of their longest front that is a stream which the filter admits, whatever names can be read at other places;
+     *     0 where there is none
+     */
+    public long whole() {
+        return whole;
     }
 }

@@ -93,7 +93,7 @@ impl Machine {
         }
     }
 
-    /// The handle of a reference that is the class of this owner. Where the caller names the owner, its arms alone are left.
+    /// The handle of a reference that is the class of this owner.
     #[tactic(auto, using(crate::proofs::ClassLemmas::low_class, crate::proofs::ClassLemmas::no_such_class, crate::proofs::ClassLemmas::no_class, crate::proofs::ClassLemmas::open_class, crate::proofs::ClassLemmas::wrong_class_handle, crate::proofs::ClassLemmas::right_class))]
     #[inline(always)]
     fn known_class_handle(&mut self, owner: Owner, n: u32) -> bool
@@ -123,50 +123,5 @@ impl Machine {
     {
         let owner = self.owner;
         self.known_class_handle(owner, n)
-    }
-
-    /// The handle of a reference that is the class of an object.
-    #[inline(never)]
-    fn object_handle(&mut self, n: u32) -> bool
-        requires owner { self.old.owner ≡ Owner.Object }
-        ensures { Tells (class_handle_reason (plain_gate self.old) (label_at (class_handle_at (goal_owner self.old.owner)) (suc (length self.old.frames)) self.old) (goal_owner self.old.owner) n)
-            (owner_state self.old (chain_at self.old.table.entries (n - BASE_WIRE_HANDLE))) result self.old self.new }
-    {
-        self.known_class_handle(Owner::Object, n)
-    }
-
-    /// The handle of a reference that is the class of an array.
-    #[inline(never)]
-    fn array_handle(&mut self, n: u32) -> bool
-        requires owner { self.old.owner ≡ Owner.Array }
-        ensures { Tells (class_handle_reason (plain_gate self.old) (label_at (class_handle_at (goal_owner self.old.owner)) (suc (length self.old.frames)) self.old) (goal_owner self.old.owner) n)
-            (owner_state self.old (chain_at self.old.table.entries (n - BASE_WIRE_HANDLE))) result self.old self.new }
-    {
-        self.known_class_handle(Owner::Array, n)
-    }
-
-    /// The handle of a reference that is the class of an enum constant.
-    #[inline(never)]
-    fn constant_handle(&mut self, n: u32) -> bool
-        requires owner { self.old.owner ≡ Owner.EnumConst }
-        ensures { Tells (class_handle_reason (plain_gate self.old) (label_at (class_handle_at (goal_owner self.old.owner)) (suc (length self.old.frames)) self.old) (goal_owner self.old.owner) n)
-            (owner_state self.old (chain_at self.old.table.entries (n - BASE_WIRE_HANDLE))) result self.old self.new }
-    {
-        self.known_class_handle(Owner::EnumConst, n)
-    }
-
-    /// The same, by a function for each owner.
-    #[inline(always)]
-    pub(super) fn owner_handle(&mut self, owner: Owner, n: u32) -> bool
-        requires owner { self.old.owner ≡ owner }
-        ensures { Tells (class_handle_reason (plain_gate self.old) (label_at (class_handle_at (goal_owner self.old.owner)) (suc (length self.old.frames)) self.old) (goal_owner self.old.owner) n)
-            (owner_state self.old (chain_at self.old.table.entries (n - BASE_WIRE_HANDLE))) result self.old self.new }
-    {
-        match owner {
-            Owner::Object => self.object_handle(n),
-            Owner::Array => self.array_handle(n),
-            Owner::EnumConst => self.constant_handle(n),
-            Owner::ClassObject => self.class_handle(n),
-        }
     }
 }

@@ -57,7 +57,7 @@ impl Machine {
         true
     }
 
-    /// The same; the next field or element of what is on top is found in line.
+    /// The field has ended, and a value with it; the next field or element of what is on top is found in line.
     #[tactic(auto, using(crate::proofs::EndLemmas::ends))]
     #[inline(always)]
     pub(super) fn ended_in_line(&mut self) -> bool

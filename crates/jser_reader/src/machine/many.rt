@@ -10,7 +10,7 @@ ghost use Rattle.jser_reader.specs.Steps.{Kept, after_value};
 
 use crate::frame::Frame;
 use crate::machine::Machine;
-use crate::machine::many::counts::{Counts, Turn};
+use crate::machine::many::counts::{Begun, Counts, Turn};
 use crate::phase::Phase;
 use crate::tally::Tally;
 use jser_grammar::wire::{
@@ -57,7 +57,11 @@ impl Machine {
         Counts {
             used: 0,
             refs: self.refs,
-            items: 0,
+            items: Begun {
+                count: 0,
+                start: self.at,
+                last: tally.begun,
+            },
             depth: self.frames.len() as u64,
             deepest: tally.depth,
         }
@@ -84,7 +88,7 @@ impl Machine {
         }
     }
 
-    /// The same, with the end of what has ended.
+    /// A turn of the loop, with the end of what has ended.
     #[inline(always)]
     fn turn(&mut self, counts: &mut Counts, piece: &[u8]) -> Turn
         requires holds { Holds piece.now self.old counts.old }
@@ -109,13 +113,13 @@ impl Machine {
     fn write_back(&mut self, tally: &mut Tally, counts: Counts)
         requires { self.old.meter.at + counts.used < 2 ^ 64 }
         ensures machine { self.new ≡ seen_at self.old counts }
-        ensures tally { tally.old.contents + counts.items < 2 ^ 64 → tally.new ≡ tally_at tally.old counts }
+        ensures tally { tally.old.contents + counts.items.count < 2 ^ 64 → tally.new ≡ tally_at tally.old counts }
     {
         self.at += counts.used as u64;
         self.from = self.at;
         self.refs = counts.refs;
         self.phase = self.phase_on_top();
-        tally.count_all(counts.items, counts.deepest);
+        tally.count_all(counts.items.count, counts.deepest, counts.items.last);
     }
 
     /// Takes contents and values from the front of the piece, as many as are common and have all their bytes there, and returns

@@ -39,7 +39,10 @@ impl Machine {
                 Some(used)
             }
             Taken::Part(used) => Some(used),
-            Taken::Stopped(_) => None,
+            Taken::Stopped(_) => {
+                tally.stop(before);
+                None
+            }
             Taken::Open => Some(piece.len()),
         }
     }
@@ -54,6 +57,7 @@ impl Machine {
     {
         let front = self.within(piece);
         if front.is_empty() {
+            tally.stop(self.mark());
             let _ = self.exceed();
             return None;
         }
@@ -76,7 +80,10 @@ impl Machine {
                 Some(used)
             }
             Taken::Part(used) => Some(used),
-            Taken::Stopped(_) => None,
+            Taken::Stopped(_) => {
+                tally.stop(start);
+                None
+            }
             Taken::Open => Some(piece.len()),
         }
     }

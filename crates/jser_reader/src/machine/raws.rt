@@ -46,7 +46,8 @@ impl Machine {
         }
     }
 
-    /// The same of this frame, which is on top.
+    /// The end of the raw values of this frame, which is on top, where the first of them comes next or is open, and all
+    /// their bytes are in the piece.
     #[tactic(auto, using(crate::proofs::RawLemmas::raw_in_section, crate::proofs::PartLemmas::fits_top))]
     #[inline(always)]
     fn raws_of_frame(&self, piece: &[u8], frame: Frame) -> Option<RawsEnd>

@@ -2,7 +2,7 @@
 ghost use Rattle.std.specs.Prelude.{◌≡◌, ◌+◌, ◌-◌, ◌<◌, ◌≤◌, ◌^◌, true, false, length};
 ghost use Rattle.jser_reader.specs.Handlers.{StopsWith, refusal};
 ghost use Rattle.jser_reader.specs.Walks.{IsNew};
-ghost use Rattle.jser_reader.specs.Tallies.{totals_of};
+ghost use Rattle.jser_reader.specs.Tallies.{totals_of, whole_of};
 ghost use Rattle.jser_reader.specs.Tallies.{mark_of};
 ghost use Rattle.jser_reader.specs.Passes.{CanPass};
 ghost use Rattle.jser_reader.specs.States.{HasLimits, AnswersStop, IsWithin, exceeded};
@@ -134,6 +134,7 @@ impl Machine {
     {
         Mark {
             at_top: self.phase == Phase::Top,
+            at: self.at,
             depth: self.frames.len() as u64 + 1,
             refs: self.refs,
             entries: u64::from(self.table.count()),
@@ -191,6 +192,16 @@ impl Machine {
             depth: tally.depth,
             handles: tally.earlier.saturating_add(u64::from(self.table.count())),
         }
+    }
+
+    /// How many of the bytes that it took are whole contents, with what the tally keeps.
+    pub(crate) fn whole(&self, tally: Tally) -> u64
+        ensures { result ≡ whole_of self.now tally }
+    {
+        if self.is_at_top() {
+            return self.at;
+        }
+        tally.begun
     }
 
     /// How many frames there are.

@@ -104,7 +104,7 @@ impl Machine {
         self.text_done(gate)
     }
 
-    /// The same, of a text that is no string.
+    /// A text that is no string has ended, and all its bytes have been counted.
     #[inline(never)]
     pub(super) fn text_done<G: Gate>(&mut self, gate: &G) -> bool
         ensures { (units : List ℕ) → EndsText self.old units → TellsSurely (text_reason (G.told gate.now) self.old units) (after_text self.old units) result self.old self.new }
@@ -112,7 +112,7 @@ impl Machine {
         self.text_done_in_line(gate)
     }
 
-    /// The same; what comes after it is found in line.
+    /// A text that is no string has ended; what comes after it is found in line.
     #[inline(always)]
     #[tactic(auto, using(crate::proofs::TextLemmas::value_ends, crate::proofs::TextLemmas::type_ends, crate::proofs::TextLemmas::object_field_named, crate::proofs::TextLemmas::field_named, crate::proofs::TextLemmas::class_name_ends, crate::proofs::TextLemmas::interface_name_ends))]
     pub(super) fn text_done_in_line<G: Gate>(&mut self, gate: &G) -> bool

@@ -37,7 +37,7 @@ fn assert_cuts(rt: &(impl Abort + AllocGlobal), filter: &Filter, name: &str, byt
     }
 }
 
-/// The same of each of the worked streams.
+/// Each beginning of each of the worked streams is a stream, or Truncated at its end.
 fn assert_each_cut(rt: &(impl Abort + AllocGlobal), filter: &Filter) -> Result<(), Fail> {
     for (name, bytes) in STREAMS {
         assert_cuts(rt, filter, name, bytes);

@@ -238,7 +238,7 @@ fn assert_limits(
     })
 }
 
-/// The same of the filter that this text is.
+/// The limits of the gate of the filter that this text is.
 fn assert_limits_under(rt: &impl Abort, text: &str, filter: &Filter, limits: [u64; 4]) {
     let gate = FilterGate::new(filter, LAX);
     let found = [

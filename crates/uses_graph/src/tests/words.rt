@@ -39,7 +39,7 @@ fn assert_said(
 ) -> Result<(), Fail> {
     let mut page = Page::new(rt.alloc(), 1, 4096);
     let mut outbox = Outbox::new();
-    let mut printer = Printer::new(rt.alloc(), owners);
+    let mut printer = Printer::new(rt.alloc(), false, owners);
     write_fields(&mut outbox, &mut page, &mut printer, fields)?;
     outbox.flush(&mut page);
     assert!(rt; page.bytes.as_slice() == text);

@@ -20,7 +20,7 @@ fn reads(rt: &(impl Abort + AllocGlobal), size: usize) -> bool {
     reads_by(rt, &mut Reader::new(rt.alloc(), OpenGate), size)
 }
 
-/// The same by this reader, which is new.
+/// Reads the stream in pieces of this size by this reader, which is new; whether there was memory.
 fn reads_by(rt: &impl Abort, reader: &mut Reader<OpenGate>, size: usize) -> bool {
     for piece in LINKED_PAIR.chunks(size.max(1)) {
         if let Err(stop) = skip(reader, piece) {

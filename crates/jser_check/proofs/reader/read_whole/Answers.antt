@@ -13,6 +13,7 @@ reads-preserved g c =
       short = taken_short g.G.Gate.told c.args.check.now c.read_some.new.check _ _ (c.reads.taken + c.in-Ok-read_some.count) g.met.G.Gate.within c.requires all;
       room = c.reads.invariant.room;
       failed = c.in-Ok-read_some.ensures.fails ∙ c.reads.invariant.failed;
+      remembers = λ all m. c.in-Ok-read_some.ensures.remembers all (c.reads.invariant.remembers all m);
     }
 
 pub returns-in-Err-clause-tells : goal.returns-in-Err-clause-tells

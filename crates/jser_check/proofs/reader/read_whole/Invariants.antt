@@ -1,4 +1,4 @@
-use Rattle.std.proofs.Common.{◌≡◌, ◌≤◌, ◌+◌, ◌-◌, vec_len}
+use Rattle.std.proofs.Common.{◌≡◌, ◌≤◌, ◌+◌, ◌-◌, ℕ, List, vec_len}
 use Rattle.jser_grammar.specs.Caps.{most_bytes}
 use Rattle.jser_check.specs.Sources.{read_bytes, Taken}
 use Rattle.jser_check.proofs.reader.read_whole.Given as goal
@@ -10,6 +10,7 @@ invariant-reads g l = record {
   short : l.taken ≤ most_bytes;
   room : vec_len l.buffer ≡ read_bytes;
   failed : g.R.Source.has_failed l.source ≡ g.R.Source.has_failed l.fn.source;
+  remembers : (all : List ℕ) → g.R.Source.remembers l.fn.source all → g.R.Source.remembers l.source all;
 }
 
 abbrev pub decreases-reads : goal.decreases-reads

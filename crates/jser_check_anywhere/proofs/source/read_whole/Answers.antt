@@ -19,6 +19,7 @@ reads-preserved g c =
       gate = c.in-Ok-read_some.ensures.filter ∙ c.reads.invariant.gate;
       room = c.reads.invariant.room;
       failed = c.in-Ok-read_some.ensures.fails came.bytes came.all ∙ c.reads.invariant.failed;
+      remembers = λ all m. c.in-Ok-read_some.ensures.remembers all (c.reads.invariant.remembers all m);
     }
 
 pub returns-in-Err-clause-tells : goal.returns-in-Err-clause-tells

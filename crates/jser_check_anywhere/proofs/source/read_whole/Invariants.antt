@@ -1,4 +1,4 @@
-use Rattle.std.proofs.Common.{◌≡◌, ◌≤◌, ◌+◌, ◌-◌, [], vec_len}
+use Rattle.std.proofs.Common.{◌≡◌, ◌≤◌, ◌+◌, ◌-◌, ℕ, List, [], vec_len}
 use Rattle.jser_grammar.specs.Caps.{most_bytes}
 use Rattle.jser_check_anywhere.specs.SourceAnswers.{Came}
 use Rattle.jser_check_anywhere.proofs.source.read_whole.Given as goal
@@ -11,6 +11,7 @@ invariant-reads g l = record {
   gate : l.checker.reader.gate ≡ l.fn.checker.reader.gate;
   room : vec_len l.buffer ≡ 57344;
   failed : g.R.Source.has_failed l.source ≡ g.R.Source.has_failed l.fn.source;
+  remembers : (all : List ℕ) → g.R.Source.remembers l.fn.source all → g.R.Source.remembers l.source all;
 }
 
 abbrev pub decreases-reads : goal.decreases-reads

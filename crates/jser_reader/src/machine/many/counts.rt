@@ -2,6 +2,17 @@
 ghost use Rattle.std.specs.Prelude.{◌≡◌, ◌+◌, ◌-◌, ◌<◌, ◌^◌};
 ghost use Rattle.jser_reader.specs.Many.{with_block, with_place, with_used, with_depth};
 
+/// The contents that have begun.
+#[derive(Clone, Copy)]
+pub(super) struct Begun {
+    /// How many have begun in the piece.
+    pub(super) count: u64,
+    /// Where the piece begins in the stream.
+    pub(super) start: u64,
+    /// Where the last one begins, in the stream.
+    pub(super) last: u64,
+}
+
 /// The counters.
 #[derive(Clone, Copy)]
 pub(super) struct Counts {
@@ -9,8 +20,8 @@ pub(super) struct Counts {
     pub(super) used: usize,
     /// How many places there were.
     pub(super) refs: u64,
-    /// How many contents have begun in the piece.
-    pub(super) items: u64,
+    /// The contents that have begun.
+    pub(super) items: Begun,
     /// How many frames there are.
     pub(super) depth: u64,
     /// The greatest depth of a place.
@@ -34,12 +45,14 @@ impl Counts {
     pub(super) fn place(&mut self, size: usize)
         requires used { self.old.used + size < 2 ^ 64 }
         requires refs { self.old.refs + 1 < 2 ^ 64 }
-        requires items { self.old.items + 1 < 2 ^ 64 }
+        requires items { self.old.items.count + 1 < 2 ^ 64 }
+        requires start { self.old.items.start + self.old.used < 2 ^ 64 }
         requires depth { self.old.depth + 1 < 2 ^ 64 }
         ensures { self.new ≡ with_place self.old size }
     {
         if self.depth == 0 {
-            self.items += 1;
+            self.items.count += 1;
+            self.items.last = self.items.start + self.used as u64;
         }
         self.deepest = self.deepest.max(self.depth + 1);
         self.refs += 1;
@@ -79,11 +92,13 @@ impl Counts {
     #[inline(always)]
     pub(super) fn block(&mut self, size: usize)
         requires used { self.old.used + size < 2 ^ 64 }
-        requires items { self.old.items + 1 < 2 ^ 64 }
+        requires items { self.old.items.count + 1 < 2 ^ 64 }
+        requires start { self.old.items.start + self.old.used < 2 ^ 64 }
         ensures { self.new ≡ with_block self.old size }
     {
         if self.depth == 0 {
-            self.items += 1;
+            self.items.count += 1;
+            self.items.last = self.items.start + self.used as u64;
         }
         self.used += size;
     }

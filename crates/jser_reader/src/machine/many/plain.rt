@@ -30,7 +30,8 @@ fn any_text(rest: &[u8]) -> Option<usize>
     text_after(rest)
 }
 
-/// The same. Texts whose units have one byte each are looked at in line.
+/// How many bytes the text has whose length comes after a tag, where all of them are there and are one. Texts whose units
+/// have one byte each are looked at in line.
 #[inline(always)]
 fn text_here(rest: &[u8]) -> Option<usize>
     requires { 3 ≤ length rest.now }

@@ -62,7 +62,7 @@ impl Machine {
         }
     }
 
-    /// The same of the sections after this one.
+    /// What the sections after this one come to, where so many bytes are there.
     #[tactic(auto, using(crate::proofs::ManySections::none_after, crate::proofs::ManySections::some_after))]
     #[inline(always)]
     pub(super) fn sections_after(
@@ -80,7 +80,7 @@ impl Machine {
         }
     }
 
-    /// The same, after the fields of this section: its annotation comes first, if it has one.
+    /// What comes after the fields of this section, its annotation first, if it has one, where so many bytes are there.
     #[tactic(auto, using(crate::proofs::ManySections::notes_after, crate::proofs::ManySections::sections_behind))]
     #[inline(always)]
     pub(super) fn after_section(

@@ -31,7 +31,8 @@ impl Machine {
         }
     }
 
-    /// The same where this tag comes next in this phase; else it takes nothing more.
+    /// After so many bytes of a piece, takes this tag too, where it comes next in this phase. It returns how many bytes were
+    /// taken in all.
     #[inline(always)]
     fn then_tag(
         &mut self,
@@ -53,7 +54,8 @@ impl Machine {
         self.then_next_tag(tally, piece, used)
     }
 
-    /// The same where a superclass place comes next.
+    /// After so many bytes of a piece, takes the tag of a superclass place too, where one comes next. It returns how many
+    /// bytes were taken in all.
     #[inline(always)]
     fn then_superclass(&mut self, tally: &mut Tally, piece: &[u8], used: usize) -> Option<usize>
         requires used { HasPassed piece.now (Some used) }
@@ -136,7 +138,7 @@ impl Machine {
         }
     }
 
-    /// The same of one descriptor after another, as many as come there.
+    /// Takes one descriptor after another, as many as come there, and what comes after them, with which no count changes.
     #[inline(never)]
     pub(crate) fn pass_classes<G: Gate>(
         &mut self,

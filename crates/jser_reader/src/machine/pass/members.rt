@@ -197,7 +197,7 @@ impl Machine {
         Some(len + 3)
     }
 
-    /// The same of what comes next: a field, or the type of one.
+    /// Takes what comes next, a field or the type of one, where it is whole in the piece; or does nothing.
     #[inline(always)]
     fn next_member(&mut self, piece: &[u8]) -> Option<usize>
         requires can { CanPass self.old piece.now }

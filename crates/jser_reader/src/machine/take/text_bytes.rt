@@ -35,7 +35,7 @@ fn add_few(name: &mut Vec<u16>, bytes: &[u8])
     }
 }
 
-/// The same of as many as there are lanes.
+/// Adds as many units of one byte each as there are lanes, where there is room for them.
 #[inline(always)]
 fn add_lanes<const N: usize>(name: &mut Vec<u16>, bytes: &[u8])
     requires few { N ≤ 64 }
@@ -51,7 +51,7 @@ fn add_lanes<const N: usize>(name: &mut Vec<u16>, bytes: &[u8])
     }
 }
 
-/// The same of fewer than twice as many.
+/// Adds fewer than twice as many units of one byte each as there are lanes, where there is room for them.
 #[inline(always)]
 fn add_half(name: &mut Vec<u16>, bytes: &[u8])
     requires { vec_len name.old + length bytes.now ≤ vec_capacity name.old }
@@ -220,7 +220,8 @@ impl Machine {
         Taken::after(used.max(1), goes_on)
     }
 
-    /// The same; where the units of the text are not kept and each byte is one, that is found in line.
+    /// Takes bytes of the open text: as many as are left of it, or all of the piece. Where the units of the text are not
+    /// kept and each byte is one, that is found in line.
     #[tactic(auto, using(crate::proofs::TextScanLemmas::text_stays_open, crate::proofs::TextScanLemmas::text_ends))]
     #[inline(always)]
     pub(crate) fn take_text_in_line<G: Gate>(&mut self, gate: &G, piece: &[u8]) -> Taken

@@ -129,7 +129,7 @@ impl Machine {
         }
     }
 
-    /// The same, where a content or a value comes next.
+    /// Takes a value that is lent at once, where a content or a value comes next, or does nothing.
     #[inline(always)]
     fn lend_value<'p>(&mut self, tally: &mut Tally, piece: &'p [u8]) -> Lent<'p>
         requires can { CanPass self.old piece.now }

@@ -86,7 +86,7 @@ fn write_plain(
         return Ok(false);
     };
     let mut outbox = Outbox::new();
-    let mut printer = Printer::new(rt.alloc(), &[]);
+    let mut printer = Printer::new(rt.alloc(), false, &[]);
     write_fields(
         &mut outbox,
         page,

@@ -71,7 +71,7 @@ fn spaces_of_last(text: &[u8]) -> Option<usize> {
 fn spaces_at(rt: &impl AllocGlobal, levels: u32) -> Result<Option<usize>, AllocError> {
     let mut page = Page::new(rt.alloc(), 512, 100000);
     let mut outbox = Outbox::new();
-    let mut printer = Printer::new(rt.alloc(), &[]);
+    let mut printer = Printer::new(rt.alloc(), false, &[]);
     write_nested(&mut outbox, &mut page, &mut printer, levels)?;
     outbox.flush(&mut page);
     Ok(spaces_of_last(page.bytes.as_slice()))
@@ -99,7 +99,7 @@ fn lines_begin_with_two_spaces_a_level(rt: HostRuntime) -> Result<(), Fail> {
 fn field_that_is_not_wanted(rt: HostRuntime) -> Result<(), Fail> {
     let mut page = Page::new(rt.alloc(), 1, 1000);
     let mut outbox = Outbox::new();
-    let mut printer = Printer::new(rt.alloc(), &[]);
+    let mut printer = Printer::new(rt.alloc(), false, &[]);
     printer.write_next(&mut outbox, &mut page, Field::Flags(3))?;
     outbox.flush(&mut page);
     assert!(rt; page.bytes.is_empty());
@@ -166,7 +166,7 @@ fn has_200_bytes(rt: &impl Abort, text: &[u8]) {
 fn many_bytes_in_hexadecimal(rt: HostRuntime) -> Result<(), Fail> {
     let mut page = Page::new(rt.alloc(), 1, 1000);
     let mut outbox = Outbox::new();
-    let mut printer = Printer::new(rt.alloc(), &[]);
+    let mut printer = Printer::new(rt.alloc(), false, &[]);
     write_each(&mut outbox, &mut page, &mut printer, &BLOCK)?;
     outbox.flush(&mut page);
     has_200_bytes(&rt, &page.bytes);

@@ -10,7 +10,7 @@ pub returns-in-Part-clause-passes : goal.returns-in-Part-clause-passes
 returns-in-Part-clause-passes g c = passes_part _ c.in-Part.used _ c.args.piece.now _ _ _ c.take.ensures c.in-Part.is c.requires.can
 
 pub returns-in-Stopped-clause-passes : goal.returns-in-Stopped-clause-passes
-returns-in-Stopped-clause-passes g c = passes_stop _ _ _ c.args.piece.now _ _ _ _ c.take.ensures c.in-Stopped.is c.requires.can
+returns-in-Stopped-clause-passes g c = passes_stop _ _ _ c.args.piece.now _ _ _ _ c.take.ensures c.in-Stopped.is c.requires.can (search rules)
 
 pub returns-in-Open-clause-passes : goal.returns-in-Open-clause-passes
 returns-in-Open-clause-passes g c = passes_open _ _ c.args.piece.now _ _ _ c.take.ensures c.in-Open.is c.requires.can

@@ -9,7 +9,7 @@ pass_field-requires-clause-can g c =
 
 pub returns-then-is_empty-clause-passes : goal.returns-then-is_empty-clause-passes
 returns-then-is_empty-clause-passes g c =
-    passes_full c.exceed.result c.args.piece.now c.within-front.result.now _ _ _ _ _ c.within-front.ensures (all_bytes c.args.piece.now (λ k. omega (arith, c.type_inv.piece k))) (search rules) (search rules) c.exceed.ensures (search rules)
+    passes_full c.exceed.result c.args.piece.now c.within-front.result.now _ _ _ _ _ c.within-front.ensures (all_bytes c.args.piece.now (λ k. omega (arith, c.type_inv.piece k))) (search rules) (search rules) c.exceed.ensures (search rules) (search rules)
 
 pub returns-clause-passes : goal.returns-clause-passes
 returns-clause-passes g c = passes_front _ c.args.piece.now c.within-front.result.now _ _ _ _ _ c.pass_field.ensures.passes c.within-front.ensures

@@ -4,7 +4,7 @@ use Rattle.jser_reader.specs.declared.refusal.Stop.TheVariants as stop
 use Rattle.jser_reader.specs.Handlers.{StopsWith, refusal}
 use Rattle.jser_reader.specs.States.{AnswersStop}
 use Rattle.jser_reader.specs.Tallies.{totals_of}
-use Rattle.jser_reader.proofs.NextLemmas.{stopped_finishes, stays_stopped, finish_truncates, finish_accepts, not_stopped}
+use Rattle.jser_reader.proofs.NextLemmas.{stopped_finishes, stays_stopped, finish_truncates, finish_accepts, not_stopped, keeps_stopped, keeps_going, whole_at_end, whole_cut, whole_of_stopped}
 use Rattle.jser_reader.proofs.ItemCalls.{tells_fields, tells_no_fields}
 use Rattle.jser_reader.proofs.reader.Reader.finish.Goals as goal
 
@@ -39,3 +39,25 @@ returns-then-not-is_at_top-clause-fields g c = tells_no_fields c.truncate.result
 
 pub returns-clause-fields : goal.returns-clause-fields
 returns-clause-fields g c = tells_fields _ _ _ _ (search rules)
+
+pub returns-then-is_stopped-clause-whole : goal.returns-then-is_stopped-clause-whole
+returns-then-is_stopped-clause-whole g c = whole_of_stopped _ _ _ _ _ (search rules)
+
+pub returns-then-not-is_at_top-clause-whole : goal.returns-then-not-is_at_top-clause-whole
+returns-then-not-is_at_top-clause-whole g c =
+    whole_cut _ _ _ _ _ _ (search rules)
+    (subst (λ r. StopsWith (refusal r.machine.meter reason.Truncated) r.machine c.truncate.new.self) c.self.view_is c.truncate.ensures.stops) (search rules)
+
+pub returns-clause-whole : goal.returns-clause-whole
+returns-clause-whole g c =
+    whole_at_end _ stop.Spent _ _ _ _ (subst (λ r. StopsWith stop.Spent r.machine c.end.new.self) c.self.view_is c.end.ensures) (search rules)
+
+pub returns-then-is_stopped-clause-keeps : goal.returns-then-is_stopped-clause-keeps
+returns-then-is_stopped-clause-keeps g c =
+    keeps_stopped c.answer.result _ _ _ _ (search rules) (subst (λ r. AnswersStop c.answer.result r.machine c.answer.new.self) c.self.view_is c.answer.ensures) (search rules)
+
+pub returns-then-not-is_at_top-clause-keeps : goal.returns-then-not-is_at_top-clause-keeps
+returns-then-not-is_at_top-clause-keeps g c = keeps_going _ _ _ _ (search rules)
+
+pub returns-clause-keeps : goal.returns-clause-keeps
+returns-clause-keeps g c = keeps_going _ _ _ _ (search rules)

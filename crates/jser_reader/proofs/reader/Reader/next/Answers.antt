@@ -4,7 +4,7 @@ use Rattle.jser_reader.specs.Bounds.{MemoryFree}
 use Rattle.jser_reader.specs.ReaderStates.{NextTells}
 use Rattle.jser_reader.specs.States.{AnswersStop}
 use Rattle.jser_reader.proofs.ReaderLemmas.{all_bytes}
-use Rattle.jser_reader.proofs.NextLemmas.{stopped_tells, stays_stopped, next_none, not_stopped, next_full}
+use Rattle.jser_reader.proofs.NextLemmas.{stopped_tells, stays_stopped, next_none, not_stopped, next_full, keeps_stopped, keeps_going}
 use Rattle.jser_reader.proofs.ItemCalls.{tells_stop, tells_none}
 use Rattle.jser_reader.proofs.MemoryLemmas.{free_ok, free_full, free_stopped}
 use Rattle.jser_reader.proofs.reader.Reader.next.Goals as goal
@@ -24,9 +24,9 @@ returns-then-is_empty-clause-stays g c = not_stopped _ _ _ (search rules)
 
 pub returns-then-is_empty-2-clause-tells : goal.returns-then-is_empty-2-clause-tells
 returns-then-is_empty-2-clause-tells g c =
-    subst (λ r. NextTells (g.G.Gate.told r.gate) c.args.piece.now (Err c.exceed.result) r.machine r.tally c.exceed.new.self c.self.inside.tally) c.self.view_is
+    subst (λ r. NextTells (g.G.Gate.told r.gate) c.args.piece.now (Err c.exceed.result) r.machine r.tally c.exceed.new.self c.stop.new.self) c.self.view_is
     (next_full c.exceed.result c.args.piece.now c.within-front.result.now _ _ _ _ _ c.within-front.ensures (all_bytes c.args.piece.now (λ k. omega (arith, c.type_inv.piece k)))
-    (search rules) (search rules) c.exceed.ensures (search rules))
+    (search rules) (search rules) c.exceed.ensures (search rules) (search rules))
 
 pub returns-then-is_empty-2-clause-stays : goal.returns-then-is_empty-2-clause-stays
 returns-then-is_empty-2-clause-stays g c = not_stopped _ _ _ (search rules)
@@ -65,3 +65,16 @@ returns-clause-items g c = search rules
 
 pub returns-clause-memory : goal.returns-clause-memory
 returns-clause-memory g c = search rules
+
+pub returns-then-is_stopped-clause-keeps : goal.returns-then-is_stopped-clause-keeps
+returns-then-is_stopped-clause-keeps g c =
+    keeps_stopped c.answer.result _ _ _ _ (search rules) (subst (λ r. AnswersStop c.answer.result r.machine c.answer.new.self) c.self.view_is c.answer.ensures) (search rules)
+
+pub returns-then-is_empty-clause-keeps : goal.returns-then-is_empty-clause-keeps
+returns-then-is_empty-clause-keeps g c = keeps_going _ _ _ _ (search rules)
+
+pub returns-then-is_empty-2-clause-keeps : goal.returns-then-is_empty-2-clause-keeps
+returns-then-is_empty-2-clause-keeps g c = keeps_going _ _ _ _ (search rules)
+
+pub returns-clause-keeps : goal.returns-clause-keeps
+returns-clause-keeps g c = keeps_going _ _ _ _ (search rules)

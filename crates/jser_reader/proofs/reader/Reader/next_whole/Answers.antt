@@ -7,7 +7,7 @@ pub returns-in-Stopped-clause-tells : goal.returns-in-Stopped-clause-tells
 returns-in-Stopped-clause-tells g c =
     subst (λ r. NextTells (g.G.Gate.told r.gate) c.args.piece.now (Err c.answer.result) r.machine r.tally c.answer.new.self c.lend_whole.new.tally) c.self.view_is
     (halts_next (g.G.Gate.told c.self.inside.gate) c.args.piece.now c.answer.result c.self.inside.machine c.lend_whole.new.self c.answer.new.self c.self.inside.tally c.lend_whole.new.tally
-    c.lend_whole.new.tally (c.in-Stopped.ensures.tells (g.G.Gate.told c.self.inside.gate) (search rules)) c.answer.ensures)
+    (c.in-Stopped.ensures.tells (g.G.Gate.told c.self.inside.gate) (search rules)) c.answer.ensures)
 
 pub returns-in-Nothing-clause-tells : goal.returns-in-Nothing-clause-tells
 returns-in-Nothing-clause-tells g c =

@@ -1,7 +1,7 @@
 use Rattle.std.proofs.Common.{rules, arith, refl, sym, ap, subst, Some, None}
 use Rattle.jser_reader.specs.States.{AnswersStop}
 use Rattle.jser_reader.specs.Passes.{Passes}
-use Rattle.jser_reader.proofs.NextLemmas.{no_bytes, stays_stopped, not_stopped}
+use Rattle.jser_reader.proofs.NextLemmas.{no_bytes, stays_stopped, not_stopped, keeps_stopped, keeps_going}
 use Rattle.jser_reader.proofs.SkipMemory.{inside_ok, inside_stopped}
 use Rattle.jser_reader.proofs.SkipLemmas.{stopped_skips}
 use Rattle.jser_reader.proofs.PassLemmas.{pass_none, then_passes, then_halts, passes_skip, halts_skip, halts_memory}
@@ -29,7 +29,7 @@ steps-init g c = record {
 
 pub returns-in-None-clause-tells : goal.returns-in-None-clause-tells
 returns-in-None-clause-tells g c =
-    halts_skip _ c.args.piece.now c.answer-in-None.result _ _ _ _ _ _
+    halts_skip _ c.args.piece.now c.answer-in-None.result _ _ _ _ _
     (then_halts _ c.args.piece.now c.split_at.result.1.now c.steps.used _ _ _ _ _ _ c.steps.invariant.passes
     (subst (λ x. Passes (g.G.Gate.told x) c.split_at.result.1.now None c.steps.self-inside.machine c.steps.self-inside.tally c.pass.new.self c.pass.new.tally) c.steps.invariant.gate c.in-None.ensures.passes)
     c.split_at.ensures.back)
@@ -69,3 +69,13 @@ returns-clause-memory g c = inside_ok _ tt c.args.piece.now _ _ _ refl
 
 pub returns-clause-stays : goal.returns-clause-stays
 returns-clause-stays g c = not_stopped _ _ _ c.steps.invariant.goes_on
+
+pub returns-then-is_stopped-clause-keeps : goal.returns-then-is_stopped-clause-keeps
+returns-then-is_stopped-clause-keeps g c =
+    keeps_stopped c.answer.result _ _ _ _ (search rules) (subst (λ r. AnswersStop c.answer.result r.machine c.answer.new.self) c.self.view_is c.answer.ensures) (search rules)
+
+pub returns-in-None-clause-keeps : goal.returns-in-None-clause-keeps
+returns-in-None-clause-keeps g c = keeps_going _ _ _ _ c.steps.invariant.goes_on
+
+pub returns-clause-keeps : goal.returns-clause-keeps
+returns-clause-keeps g c = keeps_going _ _ _ _ c.steps.invariant.goes_on

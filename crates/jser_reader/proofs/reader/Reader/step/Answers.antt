@@ -36,15 +36,15 @@ returns-in-Part-clause-progress g c =
 
 pub returns-in-Stopped-clause-tells : goal.returns-in-Stopped-clause-tells
 returns-in-Stopped-clause-tells g c =
-    subst (λ r. NextTells (g.G.Gate.told r.gate) c.args.piece.now (Err c.answer.result) r.machine r.tally c.answer.new.self c.self.inside.tally) c.self.view_is
+    subst (λ r. NextTells (g.G.Gate.told r.gate) c.args.piece.now (Err c.answer.result) r.machine r.tally c.answer.new.self c.stop.new.self) c.self.view_is
     (step_stops c.answer.result _ _ c.args.piece.now c.args.front.now _ _ _ _ _ _ c.take.ensures c.in-Stopped.is c.answer.ensures (subst (λ r. IsWithin r.machine c.args.piece.now c.args.front.now) (sym c.self.view_is) c.requires.within)
-    (all_bytes c.args.piece.now (λ k. omega (arith, c.type_inv.piece k))))
+    (all_bytes c.args.piece.now (λ k. omega (arith, c.type_inv.piece k))) (search rules))
 
 pub returns-then-front-piece-clause-tells : goal.returns-then-front-piece-clause-tells
 returns-then-front-piece-clause-tells g c =
-    subst (λ r. NextTells (g.G.Gate.told r.gate) c.args.piece.now (Err c.exceed.result) r.machine r.tally c.exceed.new.self c.self.inside.tally) c.self.view_is
+    subst (λ r. NextTells (g.G.Gate.told r.gate) c.args.piece.now (Err c.exceed.result) r.machine r.tally c.exceed.new.self c.stop-then-front-piece.new.self) c.self.view_is
     (step_over c.exceed.result _ c.args.piece.now c.args.front.now _ _ _ _ _ _ c.take.ensures c.in_default.is c.exceed.ensures (subst (λ r. IsWithin r.machine c.args.piece.now c.args.front.now) (sym c.self.view_is) c.requires.within)
-    (all_bytes c.args.piece.now (λ k. omega (arith, c.type_inv.piece k))) c.if-front-piece.true (search rules))
+    (all_bytes c.args.piece.now (λ k. omega (arith, c.type_inv.piece k))) c.if-front-piece.true (search rules) (search rules))
 
 pub returns-else-front-piece-clause-tells : goal.returns-else-front-piece-clause-tells
 returns-else-front-piece-clause-tells g c =
