@@ -93,7 +93,7 @@ pub fn print_costs(rt: &HostRuntime, calls: u32) -> Result<()> {
     Ok(())
 }
 
-/// The same for one form.
+/// Judges each name so many times by patterns of this form, and prints what it takes.
 fn print_form(rt: &HostRuntime, form: &Form, calls: u32) -> Result<()> {
     for count in &COUNTS {
         let Costs {
@@ -168,7 +168,7 @@ fn cost(rt: &impl Clock, alloc: Global, filter: &Filter, name: &str, calls: u32)
     }
 }
 
-/// The same of a name in units: that of so many calls, divided by their number.
+/// How many nanoseconds it takes to judge a name in units: those of so many calls, divided by their number.
 fn time_judging(rt: &impl Clock, filter: &Filter, name: &[u16], calls: u32) -> Result<u64>
     requires { element_of name.now ≢ malformed_element }
 {

@@ -48,7 +48,7 @@ fn best(rt: &impl Clock, alloc: Global, stream: &[u8], way: Way) -> Result<Speed
     best_with(rt, alloc, stream, graph.as_ref(), way)
 }
 
-/// The same, with the graph of the stream where this way begins with one.
+/// The best of three speeds, with the graph of the stream where this way begins with one.
 fn best_with(
     rt: &impl Clock,
     alloc: Global,

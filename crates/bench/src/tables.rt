@@ -99,7 +99,7 @@ fn measure(rt: &impl Clock, alloc: Global, shape: Shape, calls: u32) -> Result<C
     measure_in(rt, alloc, &mut table, shape, calls)
 }
 
-/// The same, in this table.
+/// Measures all calls on a chain of this shape that this table has.
 fn measure_in(
     rt: &impl Clock,
     alloc: Global,
@@ -280,7 +280,7 @@ fn raw_bytes(table: &Table, first: SectionNumber, last: SectionNumber, most: u32
     bytes
 }
 
-/// The same by layers.
+/// How many nanoseconds it takes to ask for the layers of a section, one by one.
 fn time_layers(rt: &impl Clock, table: &Table, shape: Shape, calls: u32) -> Result<u64> {
     let own = shape.classes.saturating_sub(1);
     ensure!(is_closed(table, own), "the class is not closed");

@@ -44,7 +44,7 @@ fn speeds_of(rt: &impl Clock, alloc: Global, pattern: &[u8], megabytes: u32) -> 
     both_speeds(rt, &text, megabytes)
 }
 
-/// The same of a text.
+/// How many megabytes of a text are scanned in a second: alone, and together.
 fn both_speeds(rt: &impl Clock, text: &[u8], megabytes: u32) -> Result<(u64, u64)> {
     let alone = speed(rt, text, megabytes, Way::Alone)?;
     let together = speed(rt, text, megabytes, Way::Together)?;
@@ -94,11 +94,11 @@ fn accepts_alone(text: &[u8]) -> bool {
             return false;
         }
     }
-    scan.is_done()
+    scan.left() == 0
 }
 
 /// Whether the text's bytes are accepted, all at once.
 fn accepts_together(text: &[u8]) -> bool {
     let mut scan = TextScan::new(text.len() as u64);
-    scan.push_all(text).is_ok() && scan.is_done()
+    scan.push_all(text).is_ok() && scan.left() == 0
 }

@@ -65,7 +65,7 @@ ahead_more passes most bytes turn gone rest units after end a less told good e =
   room = omega (arith, a.room, told.2, ap length e, length-drop end rest);
 }
 
--- the same, of what one text's search answered
+-- no text is told, of what one text's search answered
 pub told_none : (rest units : List ℕ) (found : Option ℕ) → TellsText rest found units → found ≡ None → text_of rest ≡ None
 told_none rest units found told e = subst (λ (o : Option ℕ). TellsText rest o units) e told
 

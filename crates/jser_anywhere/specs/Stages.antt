@@ -85,7 +85,7 @@ abbrev pub text_read : Whose → (left : ℕ) → Option Reading → Stage
 text_read whose left None = nothing
 text_read whose left (Some reading) = text whose left reading
 
--- the same with the byte, where it is one of a text
+-- the stage with the byte, where it is one of a text
 abbrev pub with_byte : Stage → ℕ → Stage
 with_byte nothing byte = nothing
 with_byte (head bytes) byte = head bytes

@@ -56,7 +56,7 @@ text_with t byte (taken.Unit unit) = Some (record { left = t.left; group = place
 text_with t byte (taken.Part here) = Some (record { left = t.left; group = here; skip = skip_on t.skip byte })
 text_with t byte taken.Refused = None
 
--- the same with the byte, where it is one of a text
+-- the text with the byte, where it is one of it
 abbrev pub with_text : Whose → Text → ℕ → Option Text
 with_text whose t byte = if in_text whose byte then text_with t byte (take_byte t.group byte) else None
 

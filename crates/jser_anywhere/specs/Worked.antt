@@ -12,7 +12,7 @@ letters n = replicate n 0x61
 abbrev pub three_names : List ℕ
 three_names = 0x7D ∷ 0 ∷ 0 ∷ 0 ∷ 3 ∷ 0 ∷ 1 ∷ 0x61 ∷ 0 ∷ 1 ∷ 0x62 ∷ 0 ∷ 1 ∷ 0x63 ∷ []
 
--- the same with `;` for b, which is no name
+-- these bytes with `;` for b, which is no name
 abbrev pub no_name_between : List ℕ
 no_name_between = 0x7D ∷ 0 ∷ 0 ∷ 0 ∷ 3 ∷ 0 ∷ 1 ∷ 0x61 ∷ 0 ∷ 1 ∷ 0x3B ∷ 0 ∷ 1 ∷ 0x63 ∷ []
 

@@ -71,7 +71,7 @@ impl Text {
         }
     }
 
-    /// The same with the byte, which is one of a text.
+    /// The text behind this byte, which is one of its bytes.
     fn with_byte(self, byte: u8) -> Option<Text>
         ensures { Fits self.group → result ≡ text_with self byte (take_byte self.group byte) }
     {
@@ -132,7 +132,7 @@ impl Text {
 }
 
 impl Name {
-    /// The same with the byte, if it can be one of a name.
+    /// The name behind this byte, if it can be one of a name.
     pub(crate) fn with_byte(self, byte: u8) -> Option<Name>
         ensures { Fits self.text.group → result ≡ name_with (Some self) byte }
     {
@@ -178,7 +178,7 @@ impl Name {
 }
 
 impl Row {
-    /// The same with the byte, if a text is being read: where that can have it.
+    /// The row behind this byte, if the text that is being read can have it.
     pub(crate) fn with_byte(self, byte: u8) -> Option<Row>
         ensures { AtFits self.at → result ≡ at_with self self.at byte }
     {

@@ -28,7 +28,7 @@ pub(crate) fn quiet_until(piece: &[u8], from: usize) -> usize
     quiet_until_each(piece, at)
 }
 
-/// The same, byte by byte.
+/// How far the bytes of a piece from `from` on begin no name, found byte by byte.
 #[tactic(auto, using(crate::proofs::QuietLemmas::quiet_none, crate::proofs::QuietLemmas::quiet_more, crate::proofs::QuietLemmas::quiet_whole))]
 fn quiet_until_each(piece: &[u8], from: usize) -> usize
     requires { (6 ≤ from) × (from ≤ length piece.now) }

@@ -137,7 +137,7 @@ impl Scan {
         });
     }
 
-    /// The same, where none is being read.
+    /// Past the bytes that begin no name, where no name is being read.
     #[inline(always)]
     fn hurry_outside(&mut self, piece: &[u8], at: usize) -> usize
         requires at { (6 ≤ at) × (at ≤ length piece.now) }

@@ -10,21 +10,19 @@ use Rattle.std.specs.Map.{lookup}
 use Rattle.std.specs.Prelude.{IfSome}
 use Rattle.std.specs.Io.KnownBytes.{Appends}
 use Rattle.std.proofs.lemmas.Slice.Eq.{bytes_eq-Decides}
-use Rattle.std.proofs.Math.Seq.{take-suc}
-use Rattle.std.proofs.lemmas.Option.{get_or_from_slice_get, slice_get_within}
 use Rattle.jser_grammar.specs.CheckedNames.{checked_names}
 use Rattle.jser_table.specs.Names.{element_of}
 use Rattle.jser_filter.specs.Filters.{FilterView}
-use Rattle.jser_index.specs.Listed.{IsList}
+use Rattle.jser_names.specs.Named.{IsNamed}
+use Rattle.jser_names.specs.declared.NamedStream.{NamedStream}
 use Rattle.jser_shown.specs.Counting.{NameTally, name_tally, tally_one, tally_all, tally_lines}
 use Rattle.jser_shown.specs.Laws.{Counted}
 use Rattle.jser_shown.specs.Listed.{has_name}
-use Rattle.jser_commands.specs.declared.list_anywhere.Whole.{Whole}
 use Rattle.jser_commands.specs.Lines.{AppendsSome, KeptOrCut, KeptOrSaidSome, SaysListedAnywhere, SaysRefusal, hidden_lines, words_on}
 use Rattle.jser_commands.proofs.Lines.{yes_cut}
 use Rattle.jser_commands.specs.Counts.{tallies_of}
 use Rattle.jser_commands.specs.Hidden.{has_place, hidden_in, hidden_of, is_class, is_hidden, is_unchecked, once_each}
-use Rattle.jser_commands.specs.Places.{HasWhole, KeepsPlaces, NotesPlace, lines_of_both, names_in_tallies}
+use Rattle.jser_commands.specs.Places.{KeepsPlaces, NotesPlace, lines_of_both, names_in_tallies}
 
 -- whether a name was counted
 abbrev is_found : Option ℕ → Bool
@@ -222,8 +220,8 @@ both_lines filter tallies names bytes lent same is =
     ∙ ap (λ xs. tally_lines (words_on filter) (tally_all [] names) ++ hidden_lines filter xs) (same_hidden names (once_each [] (names_in 0 bytes)))
 
 -- the text of the list that has these names
-pub says_anywhere : Counted → (told : Option (List ℕ)) (filter : FilterView) (whole : Whole) (Went : List ℕ → Type 0)
-    → IfSome told (λ bytes. HasWhole bytes whole) → Went (lines_of_both filter whole)
+pub says_anywhere : Counted → (told : Option (List ℕ)) (filter : FilterView) (whole : NamedStream) (Went : List ℕ → Type 0)
+    → IfSome told (λ bytes. IsNamed bytes whole) → Went (lines_of_both filter whole)
     → IfSome told (λ bytes. SaysListedAnywhere filter bytes Went)
 says_anywhere law None filter whole Went has wrote = tt
 says_anywhere law (Some bytes) filter whole Went has wrote = record {
@@ -236,29 +234,14 @@ says_anywhere law (Some bytes) filter whole Went has wrote = record {
       wrote;
 }
 
-pub anywhere_all : Counted → (told : Option (List ℕ)) (filter : FilterView) (whole : Whole) (old new : Option (List ℕ))
-    → IfSome told (λ bytes. HasWhole bytes whole) → Appends old new (lines_of_both filter whole)
+pub anywhere_all : Counted → (told : Option (List ℕ)) (filter : FilterView) (whole : NamedStream) (old new : Option (List ℕ))
+    → IfSome told (λ bytes. IsNamed bytes whole) → Appends old new (lines_of_both filter whole)
     → IfSome told (λ bytes. SaysListedAnywhere filter bytes (Appends old new))
 anywhere_all law told filter whole old new = says_anywhere law told filter whole (Appends old new)
 
 -- its first bytes, where the output failed
-pub anywhere_cut : Counted → (told : Option (List ℕ)) (filter : FilterView) (whole : Whole) (failed : Bool) (old new : Option (List ℕ))
-    → IfSome told (λ bytes. HasWhole bytes whole) → KeptOrCut failed old new (lines_of_both filter whole)
+pub anywhere_cut : Counted → (told : Option (List ℕ)) (filter : FilterView) (whole : NamedStream) (failed : Bool) (old new : Option (List ℕ))
+    → IfSome told (λ bytes. IsNamed bytes whole) → KeptOrCut failed old new (lines_of_both filter whole)
     → KeptOrSaidSome failed old new told (SaysListedAnywhere filter) SaysRefusal
 anywhere_cut law told filter whole failed old new has =
     yes_cut failed old new told (lines_of_both filter whole) (SaysListedAnywhere filter) SaysRefusal (λ some. says_anywhere law told filter whole (AppendsSome old new) has some)
-
--- ---- the names of an index
-
-pub taken_on : (names taken more : List (List ℕ)) (number : ℕ) (name : Bor (List ℕ)) → taken ≡ take number names → IsList (slice_get names number) (Some name)
-    → more ≡ taken ++ name.now ∷ [] → more ≡ take (number + 1) names
-taken_on names taken more number name is here pushed = by (slice_get names number) refl here
-  where
-    by : (found : Option (List ℕ)) → slice_get names number ≡ found → IsList found (Some name) → more ≡ take (number + 1) names
-    by None e h = absurd h
-    by (Some other) e h =
-        let more_names : take (suc number) names ≡ take number names ++ other ∷ [] =
-        take-suc names number other (slice_get_within names number other e)
-        ∙ ap (λ x. take number names ++ x ∷ []) (get_or_from_slice_get names number other other e) in
-        let n : suc number ≡ number + 1 = omega arith in
-        pushed ∙ ap (λ xs. xs ++ name.now ∷ []) is ∙ ap (λ x. take number names ++ x ∷ []) h ∙ sym more_names ∙ ap (λ k. take k names) n

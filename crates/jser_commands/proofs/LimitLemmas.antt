@@ -4,7 +4,7 @@ use Rattle.std.proofs.lemmas.List.{append-nil, take-append-le, take-append-drop}
 use Rattle.std.specs.Global.{Global}
 use Rattle.std.specs.Prelude.{◌⊎◌, IfSome, Vec}
 use Rattle.std.specs.Io.KnownBytes.{Appends, Keeps}
-use Rattle.jser_front.specs.Fronts.{CutAt}
+use Rattle.jser_prim.specs.Fronts.{CutAt}
 use Rattle.jser_grammar.specs.Trees.{ContentTrees}
 use Rattle.jser_shown.specs.Shown.{shown}
 use Rattle.jser_index.specs.declared.GraphFault.{GraphFault}
@@ -33,31 +33,31 @@ begins_some text start first kept part none is some =
       all = λ yes. absurd (cc);
     }
 
-pub front_whole : (graph : GraphView) (start : Start) (first kept : List ℕ) → first ≡ [] → start.bytes.items ≡ kept → WroteText graph (Some first) (Some kept)
-    → IsFrontOf graph start
+pub front_whole : (values : Bool) (graph : GraphView) (start : Start) (first kept : List ℕ) → first ≡ [] → start.bytes.items ≡ kept → WroteText values graph (Some first) (Some kept)
+    → IsFrontOf values graph start
 unfolding WroteText IsFrontOf
-front_whole graph start first kept none is wrote bytes list stands = begins_whole (shown list) start first kept none is (wrote bytes list stands)
+front_whole values graph start first kept none is wrote bytes list stands = begins_whole (shown values list) start first kept none is (wrote bytes list stands)
 
-pub front_some : (graph : GraphView) (start : Start) (first kept : List ℕ) (why : GraphFault) → start.whole ≡ false → first ≡ [] → start.bytes.items ≡ kept
-    → WroteFront graph (Some first) (Some kept) why → IsFrontOf graph start
+pub front_some : (values : Bool) (graph : GraphView) (start : Start) (first kept : List ℕ) (why : GraphFault) → start.whole ≡ false → first ≡ [] → start.bytes.items ≡ kept
+    → WroteFront values graph (Some first) (Some kept) why → IsFrontOf values graph start
 unfolding WroteFront IsFrontOf
-front_some graph start first kept why part none is wrote bytes list stands =
+front_some values graph start first kept why part none is wrote bytes list stands =
     let some = wrote bytes list stands in
-    begins_some (shown list) start first kept part none is (record { count = some.count; within = some.within; went = some.went })
+    begins_some (shown values list) start first kept part none is (record { count = some.count; within = some.within; went = some.went })
 
 -- ---- what is printed of it
 
-pub all_fits : (limit : ℕ) (graph : GraphView) (start : Start) → IsFrontOf graph start → start.whole ≡ true → length start.bytes.items ≤ limit
-    → IsLimitedText limit graph (limited.Whole start.bytes)
+pub all_fits : (limit : ℕ) (values : Bool) (graph : GraphView) (start : Start) → IsFrontOf values graph start → start.whole ≡ true → length start.bytes.items ≤ limit
+    → IsLimitedText values limit graph (limited.Whole start.bytes)
 unfolding IsFrontOf IsLimitedText
-all_fits limit graph start front whole fits bytes list stands =
-    let same : start.bytes.items ≡ shown list = (front bytes list stands).all whole in
+all_fits limit values graph start front whole fits bytes list stands =
+    let same : start.bytes.items ≡ shown values list = (front bytes list stands).all whole in
     record { fits = subst (λ xs. length xs ≤ limit) same fits; is = same }
 
-pub is_cut : (limit : ℕ) (graph : GraphView) (start : Start) (text : Vec ℕ Global) → IsFrontOf graph start
-    → ((rest : List ℕ) → CutText limit (start.bytes.items ++ rest) text.items) → IsLimitedText limit graph (limited.Cut text)
+pub is_cut : (limit : ℕ) (values : Bool) (graph : GraphView) (start : Start) (text : Vec ℕ Global) → IsFrontOf values graph start
+    → ((rest : List ℕ) → CutText limit (start.bytes.items ++ rest) text.items) → IsLimitedText values limit graph (limited.Cut text)
 unfolding IsFrontOf IsLimitedText
-is_cut limit graph start text front cut bytes list stands =
+is_cut limit values graph start text front cut bytes list stands =
     let begins = front bytes list stands in
     subst (λ all. CutText limit all text.items) (sym begins.begins) (cut begins.rest)
 
@@ -70,69 +70,69 @@ cut_text limit count bytes text long cut is rest =
 
 -- ---- what went out
 
-pub went_within : (limit : ℕ) (graph : GraphView) (text : Vec ℕ Global) (printed : List ℕ) (old new : Option (List ℕ)) → IsLimitedText limit graph (limited.Whole text)
-    → printed ≡ text.items → Appends old new printed → WroteWithin limit graph old new
+pub went_within : (limit : ℕ) (values : Bool) (graph : GraphView) (text : Vec ℕ Global) (printed : List ℕ) (old new : Option (List ℕ)) → IsLimitedText values limit graph (limited.Whole text)
+    → printed ≡ text.items → Appends old new printed → WroteWithin values limit graph old new
 unfolding IsLimitedText WroteWithin
-went_within limit graph text printed old new right same went bytes list stands =
+went_within limit values graph text printed old new right same went bytes list stands =
     let fits = right bytes list stands in
     record { fits = fits.fits; went = subst (Appends old new) (same ∙ fits.is) went }
 
-pub went_cut : (limit : ℕ) (graph : GraphView) (text : Vec ℕ Global) (printed : List ℕ) (old new : Option (List ℕ)) → IsLimitedText limit graph (limited.Cut text)
-    → printed ≡ text.items → Appends old new printed → WroteCut limit graph old new
+pub went_cut : (limit : ℕ) (values : Bool) (graph : GraphView) (text : Vec ℕ Global) (printed : List ℕ) (old new : Option (List ℕ)) → IsLimitedText values limit graph (limited.Cut text)
+    → printed ≡ text.items → Appends old new printed → WroteCut values limit graph old new
 unfolding IsLimitedText WroteCut
-went_cut limit graph text printed old new right same went bytes list stands =
+went_cut limit values graph text printed old new right same went bytes list stands =
     record { printed = text.items; cut = right bytes list stands; went = subst (Appends old new) same went }
 
-pub within_failed : (limit : ℕ) (graph : GraphView) (text : Vec ℕ Global) (printed : List ℕ) (failed : Bool) (old new : Option (List ℕ))
-    → IsLimitedText limit graph (limited.Whole text) → printed ≡ text.items → KeptOrCut failed old new printed → WroteSomeLimited limit graph failed old new
+pub within_failed : (limit : ℕ) (values : Bool) (graph : GraphView) (text : Vec ℕ Global) (printed : List ℕ) (failed : Bool) (old new : Option (List ℕ))
+    → IsLimitedText values limit graph (limited.Whole text) → printed ≡ text.items → KeptOrCut failed old new printed → WroteSomeLimited values limit graph failed old new
 unfolding IsLimitedText WroteSomeLimited
-within_failed limit graph text printed failed old new right same (inl kept) = inl kept
-within_failed limit graph text printed failed old new right same (inr some) = inr (
+within_failed limit values graph text printed failed old new right same (inl kept) = inl kept
+within_failed limit values graph text printed failed old new right same (inr some) = inr (
   some.0,
   λ bytes list stands. inl (record { fits = (right bytes list stands).fits; went = subst (AppendsSome old new) (same ∙ (right bytes list stands).is) some.1 }),
 )
 
-pub cut_failed : (limit : ℕ) (graph : GraphView) (text : Vec ℕ Global) (printed : List ℕ) (failed : Bool) (old new : Option (List ℕ))
-    → IsLimitedText limit graph (limited.Cut text) → printed ≡ text.items → KeptOrCut failed old new printed → WroteSomeLimited limit graph failed old new
+pub cut_failed : (limit : ℕ) (values : Bool) (graph : GraphView) (text : Vec ℕ Global) (printed : List ℕ) (failed : Bool) (old new : Option (List ℕ))
+    → IsLimitedText values limit graph (limited.Cut text) → printed ≡ text.items → KeptOrCut failed old new printed → WroteSomeLimited values limit graph failed old new
 unfolding IsLimitedText WroteSomeLimited
-cut_failed limit graph text printed failed old new right same (inl kept) = inl kept
-cut_failed limit graph text printed failed old new right same (inr some) = inr (
+cut_failed limit values graph text printed failed old new right same (inl kept) = inl kept
+cut_failed limit values graph text printed failed old new right same (inr some) = inr (
   some.0,
   λ bytes list stands. inr (record { printed = text.items; cut = right bytes list stands; went = subst (AppendsSome old new) same some.1 }),
 )
 
-pub nothing_went : (limit : ℕ) (graph : GraphView) (failed : Bool) (old new : Option (List ℕ)) → Keeps old new → WroteSomeLimited limit graph failed old new
+pub nothing_went : (limit : ℕ) (values : Bool) (graph : GraphView) (failed : Bool) (old new : Option (List ℕ)) → Keeps old new → WroteSomeLimited values limit graph failed old new
 unfolding WroteSomeLimited
-nothing_went limit graph failed old new kept = inl kept
+nothing_went limit values graph failed old new kept = inl kept
 
 -- ---- of a source
 
-pub says_within : (told : Option (List ℕ)) (limit : ℕ) (graph : GraphView) (old new : Option (List ℕ)) → IfSome told (λ bytes. StandsForSome bytes graph)
-    → WroteWithin limit graph old new → IfSome told (λ bytes. SaysWithin limit bytes (Appends old new))
+pub says_within : (told : Option (List ℕ)) (limit : ℕ) (values : Bool) (graph : GraphView) (old new : Option (List ℕ)) → IfSome told (λ bytes. StandsForSome bytes graph)
+    → WroteWithin values limit graph old new → IfSome told (λ bytes. SaysWithin values limit bytes (Appends old new))
 unfolding WroteWithin
-says_within None limit graph old new stands wrote = tt
-says_within (Some bytes) limit graph old new stands wrote =
+says_within None limit values graph old new stands wrote = tt
+says_within (Some bytes) limit values graph old new stands wrote =
     let went = wrote bytes stands.0 stands.1 in
     record { list = stands.0; passes = stands.1.passes; fits = went.fits; printed = went.went }
 
-pub says_cut : (told : Option (List ℕ)) (limit : ℕ) (graph : GraphView) (old new : Option (List ℕ)) → IfSome told (λ bytes. StandsForSome bytes graph)
-    → WroteCut limit graph old new → IfSome told (λ bytes. SaysCutShown limit bytes (Appends old new))
+pub says_cut : (told : Option (List ℕ)) (limit : ℕ) (values : Bool) (graph : GraphView) (old new : Option (List ℕ)) → IfSome told (λ bytes. StandsForSome bytes graph)
+    → WroteCut values limit graph old new → IfSome told (λ bytes. SaysCutShown values limit bytes (Appends old new))
 unfolding WroteCut
-says_cut None limit graph old new stands wrote = tt
-says_cut (Some bytes) limit graph old new stands wrote =
+says_cut None limit values graph old new stands wrote = tt
+says_cut (Some bytes) limit values graph old new stands wrote =
     let went = wrote bytes stands.0 stands.1 in
     record { list = stands.0; passes = stands.1.passes; text = went.printed; cut = went.cut; printed = went.went }
 
-says_some : (bytes : List ℕ) (limit : ℕ) (list : ContentTrees) (graph : GraphView) (old new : Option (List ℕ)) → StandsFor graph bytes list
-    → WentWithin limit (AppendsSome old new) (shown list) ⊎ WentCut limit (AppendsSome old new) (shown list) → SaysLimited limit bytes (AppendsSome old new)
-says_some bytes limit list graph old new stands (inl went) = inl (record { list = list; passes = stands.passes; fits = went.fits; printed = went.went })
-says_some bytes limit list graph old new stands (inr went) =
+says_some : (bytes : List ℕ) (limit : ℕ) (list : ContentTrees) (values : Bool) (graph : GraphView) (old new : Option (List ℕ)) → StandsFor graph bytes list
+    → WentWithin limit (AppendsSome old new) (shown values list) ⊎ WentCut limit (AppendsSome old new) (shown values list) → SaysLimited values limit bytes (AppendsSome old new)
+says_some bytes limit list values graph old new stands (inl went) = inl (record { list = list; passes = stands.passes; fits = went.fits; printed = went.went })
+says_some bytes limit list values graph old new stands (inr went) =
     inr (record { list = list; passes = stands.passes; text = went.printed; cut = went.cut; printed = went.went })
 
-pub limited_failed : (told : Option (List ℕ)) (limit : ℕ) (graph : GraphView) (failed : Bool) (old new : Option (List ℕ)) → IfSome told (λ bytes. StandsForSome bytes graph)
-    → WroteSomeLimited limit graph failed old new → KeptOrSaidSome failed old new told (SaysLimited limit) SaysRefusal
+pub limited_failed : (told : Option (List ℕ)) (limit : ℕ) (values : Bool) (graph : GraphView) (failed : Bool) (old new : Option (List ℕ)) → IfSome told (λ bytes. StandsForSome bytes graph)
+    → WroteSomeLimited values limit graph failed old new → KeptOrSaidSome failed old new told (SaysLimited values limit) SaysRefusal
 unfolding WroteSomeLimited
-limited_failed told limit graph failed old new stands (inl kept) = inl kept
-limited_failed None limit graph failed old new stands (inr some) = inr (some.0, tt)
-limited_failed (Some bytes) limit graph failed old new stands (inr some) =
-    inr (some.0, inl (says_some bytes limit stands.0 graph old new stands.1 (some.1 bytes stands.0 stands.1)))
+limited_failed told limit values graph failed old new stands (inl kept) = inl kept
+limited_failed None limit values graph failed old new stands (inr some) = inr (some.0, tt)
+limited_failed (Some bytes) limit values graph failed old new stands (inr some) =
+    inr (some.0, inl (says_some bytes limit stands.0 values graph old new stands.1 (some.1 bytes stands.0 stands.1)))

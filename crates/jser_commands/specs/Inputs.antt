@@ -33,7 +33,7 @@ IsReadFault (unread.Refused refusal) failed_before failed_after = failed_after �
 IsReadFault unread.Failed failed_before failed_after = failed_after ≡ true
 IsReadFault unread.OutOfMemory failed_before failed_after = failed_after ≡ failed_before
 
--- the same fault
+-- a fault of reading names is this one of reading the stream
 abbrev pub IsUnread : NamesFault → Unread → Type 0
 IsUnread (fault.Refused refusal) told = told ≡ unread.Refused refusal
 IsUnread fault.ReadFault told = told ≡ unread.Failed

@@ -2,7 +2,7 @@
 use Rattle.std.specs.Prelude.{ℕ, ◌≡◌, ◌≤◌, ◌⊎◌, Bool, true, List, [], ◌++◌, codes, length, take, Option, IfSome}
 use Rattle.std.specs.Fmt.{decimal}
 use Rattle.std.specs.Io.KnownBytes.{Appends, Keeps}
-use Rattle.jser_front.specs.Fronts.{CutAt}
+use Rattle.jser_prim.specs.Fronts.{CutAt}
 use Rattle.jser_grammar.specs.Parts.{IsBytes}
 use Rattle.jser_grammar.specs.Trees.{ContentTrees}
 use Rattle.jser_verdict.specs.Passing.{Passes}
@@ -66,7 +66,7 @@ pub record SaysNo (filter : FilterView) (options : Options) (bytes : List ℕ) (
 abbrev pub hidden_line : (from to : ℕ) → List ℕ
 hidden_line from to = codes "no at " ++ decimal from ++ codes " to " ++ decimal to ++ codes ": HiddenName\n"
 
--- The same of a check that asks about every class name that can be read at any place: the line of its report.
+-- A yes of a check that asks about every class name that can be read at any place: the line of its report.
 pub record SaysYesAnywhere (filter : FilterView) (options : Options) (bytes : List ℕ) (Went : List ℕ → Type 0) : Type 0 where
   pub report : Report
   pub reported : ReportsAnywhere filter options bytes report
@@ -116,7 +116,7 @@ pub record SaysText (text : ContentTrees → List ℕ) (bytes : List ℕ) (Went 
   pub passes : Passes open_gate bytes list
   pub printed : Went (text list)
 
--- that of the list with the names at any place
+-- the text of such a list, with the names at any place
 abbrev pub SaysListedAnywhere : FilterView → List ℕ → (List ℕ → Type 0) → Type 0
 SaysListedAnywhere filter bytes Went = SaysText (listed_anywhere filter bytes) bytes Went
 
@@ -131,22 +131,22 @@ pub record CutText (limit : ℕ) (text printed : List ℕ) : Type 0 where
   pub is : printed ≡ take count text ++ cut_line limit
 
 -- the text of show, where the limit allows all of it
-pub record SaysWithin (limit : ℕ) (bytes : List ℕ) (Went : List ℕ → Type 0) : Type 0 where
+pub record SaysWithin (values : Bool) (limit : ℕ) (bytes : List ℕ) (Went : List ℕ → Type 0) : Type 0 where
   pub list : ContentTrees
   pub passes : Passes open_gate bytes list
-  pub fits : length (shown list) ≤ limit
-  pub printed : Went (shown list)
+  pub fits : length (shown values list) ≤ limit
+  pub printed : Went (shown values list)
 
 -- where it does not, what is printed of it
-pub record SaysCutShown (limit : ℕ) (bytes : List ℕ) (Went : List ℕ → Type 0) : Type 0 where
+pub record SaysCutShown (values : Bool) (limit : ℕ) (bytes : List ℕ) (Went : List ℕ → Type 0) : Type 0 where
   pub list : ContentTrees
   pub passes : Passes open_gate bytes list
   pub text : List ℕ
-  pub cut : CutText limit (shown list) text
+  pub cut : CutText limit (shown values list) text
   pub printed : Went text
 
-abbrev pub SaysLimited : (limit : ℕ) → (bytes : List ℕ) → (Went : List ℕ → Type 0) → Type 0
-SaysLimited limit bytes Went = SaysWithin limit bytes Went ⊎ SaysCutShown limit bytes Went
+abbrev pub SaysLimited : (values : Bool) → (limit : ℕ) → (bytes : List ℕ) → (Went : List ℕ → Type 0) → Type 0
+SaysLimited values limit bytes Went = SaysWithin values limit bytes Went ⊎ SaysCutShown values limit bytes Went
 
 -- the line of a refusal that is right of the bytes under no filter, with their first fault
 pub record SaysRefusal (bytes : List ℕ) (Went : List ℕ → Type 0) : Type 0 where
@@ -161,8 +161,8 @@ options_of strict = record { strict = strict }
 abbrev pub SaysAccepted : Job → List ℕ → (Went : List ℕ → Type 0) → Type 0
 SaysAccepted (job.Check filter strict) bytes Went = SaysYes filter (options_of strict) bytes Went
 SaysAccepted (job.CheckAnywhere filter strict) bytes Went = SaysYesAnywhere filter (options_of strict) bytes Went
-SaysAccepted job.Show bytes Went = SaysText shown bytes Went
-SaysAccepted (job.ShowLimited limit) bytes Went = SaysWithin limit bytes Went
+SaysAccepted (job.Show values) bytes Went = SaysText (shown values) bytes Went
+SaysAccepted (job.ShowLimited values limit) bytes Went = SaysWithin values limit bytes Went
 SaysAccepted (job.List filter) bytes Went = SaysText (listed (words_on filter)) bytes Went
 SaysAccepted (job.ListAnywhere filter) bytes Went = SaysText (listed_anywhere filter bytes) bytes Went
 
@@ -170,8 +170,8 @@ SaysAccepted (job.ListAnywhere filter) bytes Went = SaysText (listed_anywhere fi
 abbrev pub SaysRefused : Job → List ℕ → (Went : List ℕ → Type 0) → Type 0
 SaysRefused (job.Check filter strict) bytes Went = SaysNo filter (options_of strict) bytes Went
 SaysRefused (job.CheckAnywhere filter strict) bytes Went = SaysNoAnywhere filter (options_of strict) bytes Went
-SaysRefused job.Show bytes Went = SaysRefusal bytes Went
-SaysRefused (job.ShowLimited limit) bytes Went = SaysRefusal bytes Went
+SaysRefused (job.Show values) bytes Went = SaysRefusal bytes Went
+SaysRefused (job.ShowLimited values limit) bytes Went = SaysRefusal bytes Went
 SaysRefused (job.List filter) bytes Went = SaysRefusal bytes Went
 SaysRefused (job.ListAnywhere filter) bytes Went = SaysRefusal bytes Went
 
@@ -179,8 +179,8 @@ SaysRefused (job.ListAnywhere filter) bytes Went = SaysRefusal bytes Went
 abbrev pub SaysCut : Job → List ℕ → (Went : List ℕ → Type 0) → Type 0
 SaysCut (job.Check filter strict) bytes Went = ⊥
 SaysCut (job.CheckAnywhere filter strict) bytes Went = ⊥
-SaysCut job.Show bytes Went = ⊥
-SaysCut (job.ShowLimited limit) bytes Went = SaysCutShown limit bytes Went
+SaysCut (job.Show values) bytes Went = ⊥
+SaysCut (job.ShowLimited values limit) bytes Went = SaysCutShown values limit bytes Went
 SaysCut (job.List filter) bytes Went = ⊥
 SaysCut (job.ListAnywhere filter) bytes Went = ⊥
 
@@ -188,8 +188,8 @@ SaysCut (job.ListAnywhere filter) bytes Went = ⊥
 abbrev pub HasLimit : Job → Type 0
 HasLimit (job.Check filter strict) = ⊥
 HasLimit (job.CheckAnywhere filter strict) = ⊥
-HasLimit job.Show = ⊥
-HasLimit (job.ShowLimited limit) = Unit {0}
+HasLimit (job.Show values) = ⊥
+HasLimit (job.ShowLimited values limit) = Unit {0}
 HasLimit (job.List filter) = ⊥
 HasLimit (job.ListAnywhere filter) = ⊥
 
@@ -197,7 +197,7 @@ HasLimit (job.ListAnywhere filter) = ⊥
 abbrev pub KeptOrCut : (failed : Bool) → (old new : Option (List ℕ)) → (text : List ℕ) → Type 0
 KeptOrCut failed old new text = Keeps old new ⊎ ((failed ≡ true) × AppendsSome old new text)
 
--- the same of the line or text that answers: an accepted stream, or a refused one
+-- nothing went out, or the first bytes did of the line or text that answers: an accepted stream, or a refused one
 abbrev pub KeptOrSaidSome : (failed : Bool) → (old new told : Option (List ℕ))
     → (Yes No : List ℕ → (List ℕ → Type 0) → Type 0) → Type 0
 KeptOrSaidSome failed old new told Yes No =
@@ -214,9 +214,9 @@ abbrev pub SaysFailed : Job → (told : Option (List ℕ)) → (failed : Bool) �
 SaysFailed (job.Check filter strict) told failed old new = KeptOrSaidSome failed old new told (SaysYes filter (options_of strict)) (SaysNo filter (options_of strict))
 SaysFailed (job.CheckAnywhere filter strict) told failed old new =
     KeptOrSaidSome failed old new told (SaysYesAnywhere filter (options_of strict)) (SaysNoAnywhere filter (options_of strict))
-SaysFailed job.Show told failed old new =
-    KeptOrSaidSome failed old new told (SaysText shown) SaysRefusal ⊎ IfSome told (λ bytes. SaysText shown bytes (AppendsSome old new))
-SaysFailed (job.ShowLimited limit) told failed old new = KeptOrSaidSome failed old new told (SaysLimited limit) SaysRefusal
+SaysFailed (job.Show values) told failed old new =
+    KeptOrSaidSome failed old new told (SaysText (shown values)) SaysRefusal ⊎ IfSome told (λ bytes. SaysText (shown values) bytes (AppendsSome old new))
+SaysFailed (job.ShowLimited values limit) told failed old new = KeptOrSaidSome failed old new told (SaysLimited values limit) SaysRefusal
 SaysFailed (job.List filter) told failed old new = KeptOrSaidSome failed old new told (SaysText (listed (words_on filter))) SaysRefusal
 SaysFailed (job.ListAnywhere filter) told failed old new = KeptOrSaidSome failed old new told (SaysListedAnywhere filter) SaysRefusal
 

@@ -1,9 +1,8 @@
 -- Places that were noted.
 use Rattle.std.specs.Prelude.{◌≡◌, ◌<◌, ℕ, Bool, true, false, not, List, [], ◌∷◌, ◌++◌, length, get_or, set}
 use Rattle.jser_filter.specs.Filters.{FilterView}
-use Rattle.jser_names.specs.Sources.{HasNames}
+use Rattle.jser_names.specs.declared.NamedStream.{NamedStream}
 use Rattle.jser_shown.specs.Counting.{NameTally, tally_all, tally_lines}
-use Rattle.jser_commands.specs.declared.list_anywhere.Whole.{Whole}
 use Rattle.jser_commands.specs.Hidden.{has_place, hidden_in}
 use Rattle.jser_commands.specs.Lines.{hidden_lines, words_on}
 
@@ -21,11 +20,7 @@ pub record NotesPlace (at : ℕ) (old new : List Bool) (is_new : Bool) : Type 0 
   pub noted : new ≡ set old at true
   pub is : is_new ≡ not (get_or old at false)
 
--- the bytes of a stream, and its checked names
-abbrev pub HasWhole : List ℕ → Whole → Type 0
-HasWhole bytes whole = (whole.bytes.items ≡ bytes) × HasNames bytes whole.names
-
 -- the lines of the checked names and of the hidden ones
-abbrev pub lines_of_both : FilterView → Whole → List ℕ
+abbrev pub lines_of_both : FilterView → NamedStream → List ℕ
 lines_of_both filter whole =
     tally_lines (words_on filter) (tally_all [] whole.names) ++ hidden_lines filter (hidden_in whole.names whole.bytes.items)

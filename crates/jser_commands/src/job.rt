@@ -26,7 +26,7 @@ pub enum Job {
         /// Whether a name that no pattern matches is refused.
         strict: bool,
     },
-    /// The same, and whether the filter lets each class name pass that can be read at any place of the input.
+    /// Check the input under a filter that is also asked about each class name that can be read at any place of it.
     CheckAnywhere {
         /// The filter, with its table of modules.
         filter: Filter,
@@ -34,9 +34,15 @@ pub enum Job {
         strict: bool,
     },
     /// Print the input as text, if it is a stream.
-    Show,
-    /// The same, if the text has at most so many bytes; else as many of its lines as that allows, and a line that says so.
+    Show {
+        /// Whether raw values are followed by what they mean.
+        values: bool,
+    },
+    /// Print the input as text, if that has at most so many bytes; else as many of its lines as that allows, and a line that
+    /// says so.
     ShowLimited {
+        /// Whether raw values are followed by what they mean.
+        values: bool,
         /// How many bytes of the text are printed at most.
         limit: u64,
     },
@@ -46,8 +52,8 @@ pub enum Job {
         /// The filter, with its table of modules.
         filter: Filter,
     },
-    /// The same, and behind it the names of classes that can be read at some place of the input and are no checked names of the
-    /// stream, with at how many places the text of each stands.
+    /// List the class names of the input, and behind them the names of classes that can be read at some place of it and are
+    /// no checked names of the stream, with at how many places the text of each stands.
     ListAnywhere {
         /// The filter, with its table of modules.
         filter: Filter,
@@ -85,8 +91,10 @@ pub fn run<R: Input, W: Sink, E: Sink>(
             let options = Options { strict: *strict };
             check_names(alloc, filter, options, input, output, faults)
         }
-        Job::Show => show(alloc, input, output, faults),
-        Job::ShowLimited { limit } => show_limited(alloc, *limit, input, output, faults),
+        Job::Show { values } => show(alloc, *values, input, output, faults),
+        Job::ShowLimited { values, limit } => {
+            show_limited(alloc, *values, *limit, input, output, faults)
+        }
         Job::List { filter } => list(alloc, filter, input, output, faults),
         Job::ListAnywhere { filter } => list_anywhere(alloc, filter, input, output, faults),
     }

@@ -7,10 +7,9 @@ ghost use Rattle.jser_commands.specs.Lines.{CutText, SaysWithin, SaysCutShown, S
 use crate::answer::print_bytes;
 use crate::input::{print_unread, read_stream};
 use crate::start::{Start, start_of_show};
-use jser_front::whole_lines;
 use jser_index::Index;
 use jser_inputs::Input;
-use jser_prim::Sink;
+use jser_prim::{Sink, whole_lines};
 use jser_settings::{ACCEPTED, CUT, tell_failure};
 use std::alloc::{AllocError, Global};
 
@@ -18,22 +17,23 @@ use std::alloc::{AllocError, Global};
 #[tactic(auto, using(crate::proofs::LimitLemmas::says_within, crate::proofs::LimitLemmas::says_cut, crate::proofs::LimitLemmas::limited_failed, crate::proofs::InputLemmas::says_refusal, crate::proofs::InputLemmas::refusal_cut, crate::proofs::InputLemmas::unbroken_refusal, crate::proofs::InputLemmas::why_unread))]
 pub(crate) fn show_limited<R: Input, W: Sink, E: Sink>(
     alloc: Global,
+    values: bool,
     limit: u64,
     input: &mut R,
     output: &mut W,
     faults: &mut E,
 ) -> u8
-    ensures accepted { result ≡ 0 → IfSome (R.to_come input.old) (λ bytes. SaysWithin limit bytes (Appends (W.gone_out output.old) (W.gone_out output.new))) }
-    ensures cut { result ≡ 4 → IfSome (R.to_come input.old) (λ bytes. SaysCutShown limit bytes (Appends (W.gone_out output.old) (W.gone_out output.new))) }
+    ensures accepted { result ≡ 0 → IfSome (R.to_come input.old) (λ bytes. SaysWithin values limit bytes (Appends (W.gone_out output.old) (W.gone_out output.new))) }
+    ensures cut { result ≡ 4 → IfSome (R.to_come input.old) (λ bytes. SaysCutShown values limit bytes (Appends (W.gone_out output.old) (W.gone_out output.new))) }
     ensures refused { result ≡ 1 → IfSome (R.to_come input.old) (λ bytes. SaysRefusal bytes (Appends (W.gone_out output.old) (W.gone_out output.new))) }
-    ensures failed { result ≡ 3 → KeptOrSaidSome (W.has_failed output.new) (W.gone_out output.old) (W.gone_out output.new) (R.to_come input.old) (SaysLimited limit) SaysRefusal }
+    ensures failed { result ≡ 3 → KeptOrSaidSome (W.has_failed output.new) (W.gone_out output.old) (W.gone_out output.new) (R.to_come input.old) (SaysLimited values limit) SaysRefusal }
     ensures status { (result ≡ 0) ⊎ ((result ≡ 1) ⊎ ((result ≡ 3) ⊎ (result ≡ 4))) }
     ensures why { result ≡ 3 → SaysWhy (R.why_failed input.new) (R.has_failed input.old) (R.has_failed input.new) (W.has_failed output.old) (W.has_failed output.new) (E.has_failed faults.new) (E.gone_out faults.old) (E.gone_out faults.new) }
     ensures unbroken { result ≢ 3 → (R.has_failed input.new ≡ R.has_failed input.old) × (W.has_failed output.new ≡ W.has_failed output.old) }
     ensures quiet { result ≢ 3 → faults.new ≡ faults.old }
 {
     match read_stream(alloc, input) {
-        Ok(graph) => print_limited(alloc, limit, &graph, output, faults),
+        Ok(graph) => print_limited(alloc, values, limit, &graph, output, faults),
         Err(unread) => print_unread(alloc, unread, input.fault(), output, faults),
     }
 }
@@ -41,20 +41,21 @@ pub(crate) fn show_limited<R: Input, W: Sink, E: Sink>(
 /// Prints the text of a stream, or as many lines of it as the limit allows.
 fn print_limited<W: Sink, E: Sink>(
     alloc: Global,
+    values: bool,
     limit: u64,
     graph: &Index,
     output: &mut W,
     faults: &mut E,
 ) -> u8
-    ensures printed { result ≡ 0 → WroteWithin limit graph.now (W.gone_out output.old) (W.gone_out output.new) }
-    ensures cut { result ≡ 4 → WroteCut limit graph.now (W.gone_out output.old) (W.gone_out output.new) }
-    ensures failed { result ≡ 3 → WroteSomeLimited limit graph.now (W.has_failed output.new) (W.gone_out output.old) (W.gone_out output.new) }
+    ensures printed { result ≡ 0 → WroteWithin values limit graph.now (W.gone_out output.old) (W.gone_out output.new) }
+    ensures cut { result ≡ 4 → WroteCut values limit graph.now (W.gone_out output.old) (W.gone_out output.new) }
+    ensures failed { result ≡ 3 → WroteSomeLimited values limit graph.now (W.has_failed output.new) (W.gone_out output.old) (W.gone_out output.new) }
     ensures status { (result ≡ 0) ⊎ ((result ≡ 3) ⊎ (result ≡ 4)) }
     ensures why { result ≡ 3 → SaysUnwritten (W.has_failed output.old) (W.has_failed output.new) (E.has_failed faults.new) (E.gone_out faults.old) (E.gone_out faults.new) }
     ensures unbroken { result ≢ 3 → W.has_failed output.new ≡ W.has_failed output.old }
     ensures quiet { result ≢ 3 → faults.new ≡ faults.old }
 {
-    match limited_text(alloc, graph, limit) {
+    match limited_text(alloc, values, graph, limit) {
         Ok(Limited::Whole(text)) => print_bytes(output, faults, &text, ACCEPTED),
         Ok(Limited::Cut(text)) => print_bytes(output, faults, &text, CUT),
         Err(_) => tell_failure(faults, "out of memory\n"),
@@ -71,10 +72,15 @@ pub(crate) enum Limited {
 }
 
 /// What is printed of the text of a stream. It holds one byte more than the limit allows, at most, and the walk stops there.
-fn limited_text(alloc: Global, graph: &Index, limit: u64) -> Result<Limited, AllocError>
-    ensures { IfOk result (IsLimitedText limit graph.now) }
+fn limited_text(
+    alloc: Global,
+    values: bool,
+    graph: &Index,
+    limit: u64,
+) -> Result<Limited, AllocError>
+    ensures { IfOk result (IsLimitedText values limit graph.now) }
 {
-    let Start { bytes, whole } = start_of_show(alloc, graph, limit)?;
+    let Start { bytes, whole } = start_of_show(alloc, values, graph, limit)?;
     if bytes.len() as u64 > limit {
         return Ok(Limited::Cut(cut(alloc, bytes, limit)?));
     }

@@ -4,26 +4,25 @@ ghost use Rattle.std.specs.Prelude.{◌≡◌, ◌≢◌, ◌⊎◌, ◌++◌, [
 ghost use Rattle.std.specs.Io.KnownBytes.{Appends};
 ghost use Rattle.jser_anywhere.specs.NamesIn.{names_in};
 ghost use Rattle.jser_index.specs.Reading.{IsRefused};
-ghost use Rattle.jser_names.specs.Sources.{HasNames};
+ghost use Rattle.jser_names.specs.Named.{IsNamed};
 ghost use Rattle.jser_shown.specs.Counting.{tally_all, tally_lines};
 ghost use Rattle.jser_commands.specs.Counts.{tallies_of};
 ghost use Rattle.jser_commands.specs.Hidden.{hidden_of, once_each};
 ghost use Rattle.jser_commands.specs.Inputs.{IfUnreadRefused, IsReadFault};
 ghost use Rattle.jser_commands.specs.Lines.{SaysListedAnywhere, SaysRefusal, SaysWhy, SaysUnwritten, KeptOrCut, KeptOrSaidSome, hidden_lines, marked_words, words_on};
-ghost use Rattle.jser_commands.specs.Places.{HasWhole, lines_of_both, names_in_tallies};
+ghost use Rattle.jser_commands.specs.Places.{lines_of_both, names_in_tallies};
 
 use crate::counting::{NameCounts, count_names};
 use crate::hidden::hidden_names;
-use crate::input::{Unread, print_unread, stream_of, unread_of};
+use crate::input::{Unread, print_unread, unread_of};
 use crate::list::write_lines;
 use jser_filter::Filter;
-use jser_index::Index;
 use jser_inputs::Input;
-use jser_names::{NameList, bytes_of};
+use jser_names::{NameList, NamedStream, bytes_and_names_of};
 use jser_prim::{Outbox, Sink, Source};
 use jser_settings::{ACCEPTED, tell_failure};
 use jser_shown::laws::counted;
-use std::alloc::{AllocError, Global};
+use std::alloc::Global;
 
 /// Reads the stream of the input, and prints the lines of its checked names and of those at any place.
 #[tactic(auto, using(crate::proofs::InputLemmas::says_refusal, crate::proofs::InputLemmas::refusal_cut, crate::proofs::InputLemmas::unbroken_refusal, crate::proofs::InputLemmas::why_unread))]
@@ -49,61 +48,22 @@ pub(crate) fn list_anywhere<R: Input, W: Sink, E: Sink>(
     }
 }
 
-/// The bytes of a stream, and its checked names.
-#[derive(Drop)]
-struct Whole {
-    bytes: Vec<u8>,
-    names: NameList,
-}
-
 /// The stream of a source, which is read to its end, or until one byte more than a stream may have has come.
 ///
 /// # Errors
 ///
 /// `Unread`, with the reason. A failed read is told whatever came before it.
 #[tactic(auto, using(crate::proofs::InputLemmas::unread_refuses, crate::proofs::InputLemmas::unread_fails))]
-fn read_whole<R: Source>(alloc: Global, input: &mut R) -> Result<Whole, Unread>
-    ensures accepted { IfOk result (λ whole. IfSome (R.to_come input.old) (λ bytes. HasWhole bytes whole)) }
+fn read_whole<R: Source>(alloc: Global, input: &mut R) -> Result<NamedStream, Unread>
+    ensures accepted { IfOk result (λ whole. IfSome (R.to_come input.old) (λ bytes. IsNamed bytes whole)) }
     ensures refused { IfErr result (λ unread. IfSome (R.to_come input.old) (λ bytes. IfUnreadRefused (IsRefused bytes) unread)) }
     ensures unbroken { OnOk result (R.has_failed input.new ≡ R.has_failed input.old) }
     ensures fault { IfErr result (λ unread. IsReadFault unread (R.has_failed input.old) (R.has_failed input.new)) }
 {
-    match bytes_of(alloc, input) {
-        Ok(bytes) => match names_in_bytes(alloc, &bytes) {
-            Ok(names) => Ok(Whole { bytes, names }),
-            Err(unread) => Err(unread),
-        },
+    match bytes_and_names_of(alloc, input) {
+        Ok(whole) => Ok(whole),
         Err(fault) => Err(unread_of(fault)),
     }
-}
-
-/// The checked names of a stream.
-fn names_in_bytes(alloc: Global, bytes: &[u8]) -> Result<NameList, Unread>
-    ensures accepted { IfOk result (HasNames bytes.now) }
-    ensures refused { IfErr result (IfUnreadRefused (IsRefused bytes.now)) }
-    ensures read { IfErr result (λ unread. unread ≢ Unread.Failed) }
-{
-    match stream_of(alloc, bytes) {
-        Ok(graph) => match names_in_index(alloc, &graph) {
-            Ok(names) => Ok(names),
-            Err(_) => Err(Unread::OutOfMemory),
-        },
-        Err(unread) => Err(unread),
-    }
-}
-
-/// The checked names of an index.
-fn names_in_index(alloc: Global, graph: &Index) -> Result<NameList, AllocError>
-    ensures { IfOk result (λ names. names ≡ graph.now.names) }
-{
-    let mut names = NameList::new(alloc);
-    'names: for number in 0..graph.name_count() {
-        match graph.name_at(number) {
-            Some(name) => names.push(alloc, name)?,
-            None => unreachable!(),
-        }
-    }
-    Ok(names)
 }
 
 /// Prints the lines of the checked names and of the hidden ones. They are counted first.
@@ -111,7 +71,7 @@ fn names_in_index(alloc: Global, graph: &Index) -> Result<NameList, AllocError>
 fn print_whole<W: Sink, E: Sink>(
     alloc: Global,
     filter: &Filter,
-    whole: &Whole,
+    whole: &NamedStream,
     output: &mut W,
     faults: &mut E,
 ) -> u8
@@ -128,7 +88,7 @@ fn print_whole<W: Sink, E: Sink>(
     }
 }
 
-/// The same, where the checked names are counted.
+/// Prints the lines of the checked names, which are counted, and of the hidden ones, which are gathered first.
 #[tactic(auto, using(crate::proofs::Lines::kept))]
 fn print_checked<W: Sink, E: Sink>(
     alloc: Global,
@@ -151,7 +111,7 @@ fn print_checked<W: Sink, E: Sink>(
     }
 }
 
-/// The same, where the hidden names are gathered.
+/// Prints the lines of the checked names, and of the hidden ones, which are counted first.
 #[tactic(auto, using(crate::proofs::Lines::kept))]
 fn print_hidden<W: Sink, E: Sink>(
     alloc: Global,

@@ -6,9 +6,9 @@ ghost use Rattle.jser_commands.specs.Lines.{words_on};
 
 use crate::list::{TextFault, write_names};
 use jser_filter::Filter;
-use jser_front::Front;
 use jser_index::{GraphFault, Index};
 use jser_names::NameList;
+use jser_prim::Front;
 use std::alloc::{AllocError, Global};
 
 /// The first bytes of a text.
@@ -26,11 +26,16 @@ pub struct Start {
 /// # Errors
 ///
 /// Where memory ran out.
-pub fn start_of_show(alloc: Global, graph: &Index, limit: u64) -> Result<Start, AllocError>
-    ensures { IfOk result (IsFrontOf graph.now) }
+pub fn start_of_show(
+    alloc: Global,
+    values: bool,
+    graph: &Index,
+    limit: u64,
+) -> Result<Start, AllocError>
+    ensures { IfOk result (IsFrontOf values graph.now) }
 {
     let mut front = front_for(alloc, limit);
-    match graph.show(alloc, &mut front) {
+    match graph.show(alloc, values, &mut front) {
         Ok(_) => Ok(Start {
             bytes: front.into_bytes(),
             whole: true,

@@ -140,8 +140,8 @@ says_no_more the_job rules told same Went is one says =
 pub no_limit : (the_job : Job) → IsCheck the_job → HasLimit the_job → ⊥
 no_limit (job.Check filter strict) is has = has
 no_limit (job.CheckAnywhere filter strict) is has = has
-no_limit job.Show is has = is
-no_limit (job.ShowLimited limit) is has = is
+no_limit (job.Show values) is has = is
+no_limit (job.ShowLimited values limit) is has = is
 no_limit (job.List filter) is has = is
 no_limit (job.ListAnywhere filter) is has = is
 
@@ -170,6 +170,6 @@ told_of_job why read_before read_after write_before write_after failed old new (
 told_of_job why read_before read_after write_before write_after failed old new (inr unwritten) =
     told_unwritten write_before write_after failed old new unwritten.1
 
--- the same, where nothing was told before
+-- why there is no answer, where nothing was told before
 pub told_since : (broken failed : Bool) (old mid new : Option (List ℕ)) → mid ≡ old → TellsWhy broken failed mid new → TellsWhy broken failed old new
 told_since broken failed old mid new is told = subst (λ o. TellsWhy broken failed o new) is told

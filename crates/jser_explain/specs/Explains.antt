@@ -24,8 +24,8 @@ asked rules = check_of rules.anywhere rules.strict rules.filter
 abbrev pub IsCheck : Job → Type 0
 IsCheck (job.Check filter strict) = Unit {0}
 IsCheck (job.CheckAnywhere filter strict) = Unit {0}
-IsCheck job.Show = ⊥
-IsCheck (job.ShowLimited limit) = ⊥
+IsCheck (job.Show values) = ⊥
+IsCheck (job.ShowLimited values limit) = ⊥
 IsCheck (job.List filter) = ⊥
 IsCheck (job.ListAnywhere filter) = ⊥
 

@@ -1,3 +1,4 @@
+pub mod Devices
 pub mod Short
 pub mod Heads
 pub mod Opened

@@ -41,7 +41,7 @@ pub record SaysSomeWhy (bytes : List ℕ) (result : Found) (old new : Option (Li
   pub split : why_words sentence bytes result more [] ≡ out ++ left
   pub printed : Appends old new out
 
--- the same of what was said
+-- such a text is what was said to a sink
 pub record SaysWhyTo {S : Type 0} (gone_out : S → Option (List ℕ)) (has_failed : S → Bool) (bytes : List ℕ) (result : Found) (old new : Outgoing) (before after : S) : Type 0 where
   pub sentence : List ℕ
   pub more : More

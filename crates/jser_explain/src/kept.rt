@@ -16,7 +16,7 @@ pub(crate) struct Kept<R: Input> {
 }
 
 impl<R: Input> Model for Kept<R> {
-    ghost use Rattle.jser_scan.specs.Devices.{ToldInput};
+    ghost use Rattle.jser_explain.specs.Devices.{ToldInput};
 
     ghost Value = { ToldInput };
 

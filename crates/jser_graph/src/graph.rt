@@ -1,5 +1,5 @@
 //! A graph: an index, whose calls it hands on, and the tree of the stream.
-ghost use Rattle.std.specs.Prelude.{◌≡◌, true, length, slice_get, IfOk, IfErr, OnOk, OnErr};
+ghost use Rattle.std.specs.Prelude.{◌≡◌, true, length, slice_get, IfOk, IfErr, OnOk, OnErr, false};
 ghost use Rattle.std.specs.Io.KnownBytes.{Appends};
 ghost use Rattle.jser_index.specs.Graphs.{IsGraph, StandsForSome, IfRefused, node_at, IsNode, text_of};
 ghost use Rattle.jser_index.specs.Listed.{IsList};
@@ -98,7 +98,7 @@ impl Graph {
         self.index.write_to(alloc, sink)
     }
 
-    /// Writes the text of `show`, and returns its length, which is exact up to 2^64 - 1 and stays there. `Index::show` says
+    /// Writes the text of `show` without what raw values mean, and returns its length, which is exact up to 2^64 - 1 and stays there. `Index::show` says
     /// what memory it takes.
     ///
     /// # Errors
@@ -106,13 +106,13 @@ impl Graph {
     /// `Write` where the sink failed; nothing more is read then. `OutOfMemory` where memory ran out. Both say how many
     /// of the first bytes of the text went out.
     pub fn show<W: Sink>(&self, alloc: Global, sink: &mut W) -> Result<u64, GraphFault>
-        ensures length { IfOk result (CountsText self.now) }
-        ensures out { OnOk result (WroteText self.now (W.gone_out sink.old) (W.gone_out sink.new)) }
-        ensures written { IfErr result (WroteFront self.now (W.gone_out sink.old) (W.gone_out sink.new)) }
+        ensures length { IfOk result (CountsText false self.now) }
+        ensures out { OnOk result (WroteText false self.now (W.gone_out sink.old) (W.gone_out sink.new)) }
+        ensures written { IfErr result (WroteFront false self.now (W.gone_out sink.old) (W.gone_out sink.new)) }
         ensures kept { OnOk result (W.has_failed sink.new ≡ W.has_failed sink.old) }
         ensures failed { IfErr result (FailedIf (W.has_failed sink.old) (W.has_failed sink.new)) }
     {
-        self.index.show(alloc, sink)
+        self.index.show(alloc, false, sink)
     }
 
     /// The contents of the stream, as a tree.

@@ -101,32 +101,32 @@ pub show_laws : Told → TellsFronts → ShowLaws
 show_laws t f = record { told = t; fronts = f }
 
 -- what is left of the text after some first fields
-text_after : (start : Teller) (list : ContentTrees) (bytes : List ℕ) (front later : List Piece) → ShowLaws → Passes open_gate bytes list → start ≡ begin_telling (owners_of list)
-    → fields_of list ≡ front ++ later → shown list ≡ said start front (tell (teller_at start front) later)
-text_after start list bytes front later laws p begin is =
-    sym (laws.told list p.0.1) ∙ ap (λ s. tell s (fields_of list)) (sym begin) ∙ ap (tell start) is ∙ laws.fronts start front later
+text_after : (values : Bool) (start : Teller) (list : ContentTrees) (bytes : List ℕ) (front later : List Piece) → ShowLaws → Passes open_gate bytes list → start ≡ begin_telling values (owners_of list)
+    → fields_of list ≡ front ++ later → shown values list ≡ said start front (tell (teller_at start front) later)
+text_after values start list bytes front later laws p begin is =
+    sym (laws.told values list p.0.1) ∙ ap (λ s. tell s (fields_of list)) (sym begin) ∙ ap (tell start) is ∙ laws.fronts start front later
 
 -- the sink has failed
 pub says_stopped : (bytes rest : List ℕ) (r : Seen) (tally : Tally) (start walk : Teller) (a b : Outgoing) (d e : SinkState) → ShowLaws
     → SaysAlong bytes rest r tally start a b d e walk → b.failed ≡ true → PutsText bytes start a b d e
 unfolding PutsText
-says_stopped bytes rest r tally start walk a b d e laws h off = λ list p begin.
+says_stopped bytes rest r tally start walk a b d e laws h off = λ values list p begin.
     let x = reached bytes rest r tally (HasSaid start a b d e walk) list h p in
     let left = tell (teller_at start x.front) x.begins.later in
-    let is = text_after start list bytes x.front x.begins.later laws p begin x.begins.is ∙ x.holds.text.is left in
+    let is = text_after values start list bytes x.front x.begins.later laws p begin x.begins.is ∙ x.holds.text.is left in
     subst (Puts a b d e) (sym is) (put_behind a b d e x.holds.text.bytes left x.holds.text.puts off)
 
 -- nothing more is read
 pub says_front : (bytes rest : List ℕ) (r : Seen) (tally : Tally) (start walk : Teller) (a b : Outgoing) (d e : SinkState) → ShowLaws
     → SaysAlong bytes rest r tally start a b d e walk → PutsFront bytes start a b d e
 unfolding PutsFront
-says_front bytes rest r tally start walk a b d e laws h = λ list p begin.
+says_front bytes rest r tally start walk a b d e laws h = λ values list p begin.
     let x = reached bytes rest r tally (HasSaid start a b d e walk) list h p in
     let left = tell (teller_at start x.front) x.begins.later in
     record {
       front = x.holds.text.bytes;
       left = left;
-      split = text_after start list bytes x.front x.begins.later laws p begin x.begins.is ∙ x.holds.text.is left;
+      split = text_after values start list bytes x.front x.begins.later laws p begin x.begins.is ∙ x.holds.text.is left;
       puts = x.holds.text.puts;
     }
 
@@ -135,7 +135,7 @@ pub item_front : (bytes rest : List ℕ) (lent : Item) (r : Seen) (tally : Tally
     → Turn bytes rest lent r tally (HasSaid start a b d e walk) → ((told : StreamField) → Ends lent told → Begins b c e f (λ k. says_next walk told k))
     → (IsLength lent → ⊥) → PutsFront bytes start a c d f
 unfolding PutsFront
-item_front bytes rest lent r tally start walk a b c d e f more laws (inl x) part none = λ list p begin.
+item_front bytes rest lent r tally start walk a b c d e f more laws (inl x) part none = λ values list p begin.
     let all = x.front ++ (piece x.label x.told ∷ []) in
     let h = x.before in
     let begun = part x.told x.ends in
@@ -146,45 +146,45 @@ item_front bytes rest lent r tally start walk a b c d e f more laws (inl x) part
       front = h.text.bytes ++ begun.said.bytes;
       left = begun.left to_come;
       split =
-          text_after start list bytes all so_far.later laws p begin so_far.is ∙ one.1 to_come
+          text_after values start list bytes all so_far.later laws p begin so_far.is ∙ one.1 to_come
           ∙ ap (λ w. said start x.front (says_next w x.told to_come)) (sym h.walk_is)
           ∙ h.text.is (says_next walk x.told to_come)
           ∙ ap (λ xs. h.text.bytes ++ xs) (begun.said.is to_come) ∙ sym (append_assoc h.text.bytes begun.said.bytes (begun.left to_come));
       puts = puts_both a b c d e f h.text.bytes begun.said.bytes h.text.puts begun.said.puts;
     }
-item_front bytes rest lent r tally start walk a b c d e f more laws (inr x) part none = λ list p begin. goes list p x.goes_on
+item_front bytes rest lent r tally start walk a b c d e f more laws (inr x) part none = λ values list p begin. goes values list p x.goes_on
   where
-    goes : (list : ContentTrees) → Passes open_gate bytes list → (IsLength lent × InText x.front x.cut × HasSaid start a b d e walk x.front) ⊎ IsStuck open_gate x.front x.cut rest
-        → PutsSome a c d f (shown list)
-    goes list p (inl y) = absurd (none y.0)
-    goes list p (inr s) = absurd (not_stuck bytes rest x.front x.cut r tally list x.split x.stands p s)
+    goes : (values : Bool) (list : ContentTrees) → Passes open_gate bytes list → (IsLength lent × InText x.front x.cut × HasSaid start a b d e walk x.front) ⊎ IsStuck open_gate x.front x.cut rest
+        → PutsSome a c d f (shown values list)
+    goes values list p (inl y) = absurd (none y.0)
+    goes values list p (inr s) = absurd (not_stuck bytes rest x.front x.cut r tally list x.split x.stands p s)
 
 -- ---- the end
 
-last_text : (start : Teller) (list : ContentTrees) (bytes : List ℕ) → ShowLaws → Passes open_gate bytes list → start ≡ begin_telling (owners_of list)
-    → let now = teller_at start (fields_of list) in shown list ≡ said start (fields_of list) (settle_says now.known now.cues [])
-last_text start list bytes laws p begin = text_after start list bytes (fields_of list) [] laws p begin (sym (append-nil (fields_of list)))
+last_text : (values : Bool) (start : Teller) (list : ContentTrees) (bytes : List ℕ) → ShowLaws → Passes open_gate bytes list → start ≡ begin_telling values (owners_of list)
+    → let now = teller_at start (fields_of list) in shown values list ≡ said start (fields_of list) (settle_says now.known now.cues [])
+last_text values start list bytes laws p begin = text_after values start list bytes (fields_of list) [] laws p begin (sym (append-nil (fields_of list)))
 
 pub says_all : (bytes rest : List ℕ) (r : Seen) (tally : Tally) (start walk : Teller) (a b c : Outgoing) (d e f : SinkState) → ShowLaws
     → SaysAlong bytes rest r tally start a b d e walk → length rest ≡ 0 → Says b c e f (λ k. settle_says walk.known walk.cues k) → PutsText bytes start a c d f
 unfolding PutsText
-says_all bytes rest r tally start walk a b c d e f laws h n due = λ list p begin.
+says_all bytes rest r tally start walk a b c d e f laws h n due = λ values list p begin.
     let x = reached_all bytes rest r tally (HasSaid start a b d e walk) list h p n in
-    let is : shown list ≡ x.text.bytes ++ due.bytes =
-    last_text start list bytes laws p begin ∙ ap (λ w. said start (fields_of list) (settle_says w.known w.cues [])) (sym x.walk_is)
+    let is : shown values list ≡ x.text.bytes ++ due.bytes =
+    last_text values start list bytes laws p begin ∙ ap (λ w. said start (fields_of list) (settle_says w.known w.cues [])) (sym x.walk_is)
     ∙ x.text.is (settle_says walk.known walk.cues []) ∙ ap (λ xs. x.text.bytes ++ xs) (due.is [] ∙ append-nil due.bytes) in
     subst (Puts a c d f) (sym is) (puts_both a b c d e f x.text.bytes due.bytes x.text.puts due.puts)
 
 pub due_front : (bytes rest : List ℕ) (r : Seen) (tally : Tally) (start walk : Teller) (a b c : Outgoing) (d e f : SinkState) → ShowLaws
     → SaysAlong bytes rest r tally start a b d e walk → length rest ≡ 0 → Begins b c e f (λ k. settle_says walk.known walk.cues k) → PutsFront bytes start a c d f
 unfolding PutsFront
-due_front bytes rest r tally start walk a b c d e f laws h n due = λ list p begin.
+due_front bytes rest r tally start walk a b c d e f laws h n due = λ values list p begin.
     let x = reached_all bytes rest r tally (HasSaid start a b d e walk) list h p n in
     record {
       front = x.text.bytes ++ due.said.bytes;
       left = due.left [];
       split =
-          last_text start list bytes laws p begin ∙ ap (λ w. said start (fields_of list) (settle_says w.known w.cues [])) (sym x.walk_is)
+          last_text values start list bytes laws p begin ∙ ap (λ w. said start (fields_of list) (settle_says w.known w.cues [])) (sym x.walk_is)
           ∙ x.text.is (settle_says walk.known walk.cues []) ∙ ap (λ xs. x.text.bytes ++ xs) (due.said.is [])
           ∙ sym (append_assoc x.text.bytes due.said.bytes (due.left []));
       puts = puts_both a b c d e f x.text.bytes due.said.bytes x.text.puts due.said.puts;

@@ -45,7 +45,7 @@ abbrev pub IsLength : Item → Type 0
 IsLength (item.TextLength n) = 0 < n
 IsLength _ = ⊥
 
--- the same as a part
+-- an item as a part
 abbrev pub IsPartOf : Item → Part → Type 0
 IsPartOf item.Header p = p ≡ part.Field field.Header
 IsPartOf (item.Tag n) p = p ≡ part.Field (field.Tag n)

@@ -46,7 +46,7 @@ Walks bytes survey (Err (stop.Refused refusal)) = IsRefused bytes refusal
 Walks bytes survey (Err stop.OutOfMemory) = Unit {0}
 Walks bytes survey (Err stop.Spent) = ⊥
 
--- the same of what is handed out
+-- what is handed out of the walk
 abbrev pub FoundCases : List ℕ → Result Found Stop → Type 0
 FoundCases bytes (Ok found) = (list : ContentTrees) × IsOfList bytes found.survey found.totals list
 FoundCases bytes (Err (stop.Refused refusal)) = IsRefused bytes refusal

@@ -38,7 +38,7 @@ BeginsItems (lent ∷ []) old new before after walk = BeginsField (Ends lent) ol
 BeginsItems (lent ∷ (other ∷ items)) old new before after walk =
     BeginsField (Ends lent) old new before after walk ⊎ SaysFirst (Ends lent) (λ out sink w. BeginsItems (other ∷ items) out new sink after w) old before walk
 
--- the same of a sink, by what it tells
+-- how far the items are said to a sink, by what it tells
 
 abbrev pub SaysItemsTo : {S : Type 0} → (S → Option (List ℕ)) → (S → Bool) → List Item → (old new : Outgoing) → S → S → (walk next : Teller) → Type 0
 SaysItemsTo gone_out has_failed items old new before after walk next =

@@ -1,4 +1,5 @@
 -- The text of show of the one list for which a graph stands: what went out of it, and how it is told along the bytes.
+-- `values` says whether raw values are followed by what they mean.
 use Rattle.std.specs.Prelude.{ℕ, ◌≡◌, ◌≤◌, ◌-◌, ◌^◌, min, Bool, true, List, ◌++◌, length, take, Option}
 use Rattle.std.specs.Io.KnownBytes.{Appends}
 use Rattle.jser_prim.specs.Outgoing.{Outgoing, SinkState, Puts, sink_state}
@@ -20,12 +21,14 @@ abbrev pub counted : ℕ → ℕ
 counted n = min n (2 ^ 64 - 1)
 
 -- the count is that of the bytes of the text
-unfoldable pub CountsText : GraphView → ℕ → Type 0
-CountsText graph count = (bytes : List ℕ) (list : ContentTrees) → StandsFor graph bytes list → count ≡ counted (length (shown list))
+unfoldable pub CountsText : (values : Bool) → GraphView → ℕ → Type 0
+CountsText values graph count =
+    (bytes : List ℕ) (list : ContentTrees) → StandsFor graph bytes list → count ≡ counted (length (shown values list))
 
 -- the text went out
-unfoldable pub WroteText : GraphView → (old new : Option (List ℕ)) → Type 0
-WroteText graph old new = (bytes : List ℕ) (list : ContentTrees) → StandsFor graph bytes list → Appends old new (shown list)
+unfoldable pub WroteText : (values : Bool) → GraphView → (old new : Option (List ℕ)) → Type 0
+WroteText values graph old new =
+    (bytes : List ℕ) (list : ContentTrees) → StandsFor graph bytes list → Appends old new (shown values list)
 
 abbrev pub written_of : GraphFault → ℕ
 written_of (fault.Write written) = written
@@ -38,9 +41,9 @@ pub record WroteSome (old new : Option (List ℕ)) (text : List ℕ) (written : 
   pub written_is : written ≡ counted count
   pub went : Appends old new (take count text)
 
-unfoldable pub WroteFront : GraphView → (old new : Option (List ℕ)) → GraphFault → Type 0
-WroteFront graph old new why =
-    (bytes : List ℕ) (list : ContentTrees) → StandsFor graph bytes list → WroteSome old new (shown list) (written_of why)
+unfoldable pub WroteFront : (values : Bool) → GraphView → (old new : Option (List ℕ)) → GraphFault → Type 0
+WroteFront values graph old new why =
+    (bytes : List ℕ) (list : ContentTrees) → StandsFor graph bytes list → WroteSome old new (shown values list) (written_of why)
 
 -- the sink failed where the fault says so, and only there
 abbrev pub FailedIf : (old new : Bool) → GraphFault → Type 0
@@ -52,7 +55,8 @@ FailedIf old new (fault.OutOfMemory written) = new ≡ old
 -- Where the bytes are a stream, and the walk is given the owners of its list, the text of show was put.
 unfoldable pub PutsText : (bytes : List ℕ) → Teller → (old new : Outgoing) → (before after : SinkState) → Type 0
 PutsText bytes start old new before after =
-    (list : ContentTrees) → Passes open_gate bytes list → start ≡ begin_telling (owners_of list) → Puts old new before after (shown list)
+    (values : Bool) (list : ContentTrees) → Passes open_gate bytes list → start ≡ begin_telling values (owners_of list)
+    → Puts old new before after (shown values list)
 
 -- the first bytes of a text were put
 pub record PutsSome (old new : Outgoing) (before after : SinkState) (text : List ℕ) : Type 0 where
@@ -63,9 +67,10 @@ pub record PutsSome (old new : Outgoing) (before after : SinkState) (text : List
 
 unfoldable pub PutsFront : (bytes : List ℕ) → Teller → (old new : Outgoing) → (before after : SinkState) → Type 0
 PutsFront bytes start old new before after =
-    (list : ContentTrees) → Passes open_gate bytes list → start ≡ begin_telling (owners_of list) → PutsSome old new before after (shown list)
+    (values : Bool) (list : ContentTrees) → Passes open_gate bytes list → start ≡ begin_telling values (owners_of list)
+    → PutsSome old new before after (shown values list)
 
--- the same of a sink, by what it tells
+-- what is put out to a sink, by what it tells
 
 abbrev pub PutsTextTo : {S : Type 0} → (S → Option (List ℕ)) → (S → Bool) → (bytes : List ℕ) → Teller → (old new : Outgoing) → S → S → Type 0
 PutsTextTo gone_out has_failed bytes start old new before after =

@@ -42,8 +42,8 @@ fn widen(bytes: &[u8], room: &mut Vec<u16>) -> Result<bool, AllocError>
     Ok(widen_all(bytes, room))
 }
 
-/// The same, where there is room. The last bytes of a text, where they are too few for all lanes, are put with some that
-/// were put before.
+/// Puts the bytes as units at the front of `room`, which has room for all. The last bytes of a text, where they are too few
+/// for all lanes, are put with some that were put before.
 #[inline(always)]
 pub(crate) fn widen_all(bytes: &[u8], room: &mut [u16]) -> bool
     requires { length bytes.now ≤ length room.old }
@@ -61,7 +61,7 @@ pub(crate) fn widen_all(bytes: &[u8], room: &mut [u16]) -> bool
     widen_few(bytes, room)
 }
 
-/// The same of a long text.
+/// Puts the bytes of a long text as units at the front of the room, load by load.
 #[tactic(auto, using(crate::proofs::DecodeLemmas::none_widened, crate::proofs::DecodeLemmas::more_widened, crate::proofs::DecodeLemmas::all_widened))]
 #[inline(never)]
 fn widen_loads(bytes: &[u8], room: &mut [u16]) -> bool
@@ -79,7 +79,7 @@ fn widen_loads(bytes: &[u8], room: &mut [u16]) -> bool
     widen_lanes::<LANES>(bytes, room, bytes.len() - LANES)
 }
 
-/// The same of as many bytes as there are lanes, or up to twice as many.
+/// Puts as many bytes as there are lanes, or up to twice as many, as units at the front of the room.
 #[tactic(auto, using(crate::proofs::DecodeLemmas::none_widened, crate::proofs::DecodeLemmas::more_widened, crate::proofs::DecodeLemmas::all_widened))]
 #[inline(always)]
 fn widen_ends<const N: usize>(bytes: &[u8], room: &mut [u16]) -> bool
@@ -107,7 +107,7 @@ fn widen_lanes<const N: usize>(bytes: &[u8], room: &mut [u16], at: usize) -> boo
     lanes.simd_ge(Simd::splat(0x80)).to_bitmask() == 0
 }
 
-/// The same, byte by byte.
+/// Puts a few bytes as units at the front of the room, one by one.
 #[inline(always)]
 fn widen_few(bytes: &[u8], room: &mut [u16]) -> bool
     requires { length bytes.now ≤ length room.old }

@@ -21,7 +21,8 @@ use jser_shown::laws::{one_more, tells_fronts, told};
 use std::alloc::{AllocError, Global};
 
 impl Index {
-    /// Writes the text of `show`, and returns its length, which is exact up to 2^64 - 1 and stays there.
+    /// Writes the text of `show`, and returns its length, which is exact up to 2^64 - 1 and stays there. With `values` a raw
+    /// value is followed by what it means, in brackets.
     ///
     /// The bytes are gone along a second time. It takes memory for the table of handles of an epoch with the names of
     /// classes and fields, for the stack of what is open, and for the units of the longest text, but for strings of units
@@ -31,16 +32,21 @@ impl Index {
     ///
     /// `Write` where the sink failed; nothing more is read then. `OutOfMemory` where memory ran out. Both say how many
     /// of the first bytes of the text went out.
-    pub fn show<W: Sink>(&self, alloc: Global, sink: &mut W) -> Result<u64, GraphFault>
-        ensures length { IfOk result (CountsText self.now) }
-        ensures out { OnOk result (WroteText self.now (W.gone_out sink.old) (W.gone_out sink.new)) }
-        ensures written { IfErr result (WroteFront self.now (W.gone_out sink.old) (W.gone_out sink.new)) }
+    pub fn show<W: Sink>(
+        &self,
+        alloc: Global,
+        values: bool,
+        sink: &mut W,
+    ) -> Result<u64, GraphFault>
+        ensures length { IfOk result (CountsText values self.now) }
+        ensures out { OnOk result (WroteText values self.now (W.gone_out sink.old) (W.gone_out sink.new)) }
+        ensures written { IfErr result (WroteFront values self.now (W.gone_out sink.old) (W.gone_out sink.new)) }
         ensures kept { OnOk result (W.has_failed sink.new ≡ W.has_failed sink.old) }
         ensures failed { IfErr result (FailedIf (W.has_failed sink.old) (W.has_failed sink.new)) }
     {
         let _ = &self.totals;
         let mut outbox = Outbox::new();
-        let told = self.write(alloc, &mut outbox, sink);
+        let told = self.write(alloc, values, &mut outbox, sink);
         outbox.flush(sink);
         let written = outbox.written();
         if outbox.has_failed() {
@@ -60,14 +66,15 @@ impl Index {
     fn write<W: Sink>(
         &self,
         alloc: Global,
+        values: bool,
         outbox: &mut Outbox,
         sink: &mut W,
     ) -> Result<(), AllocError>
-        ensures said { OnOk result (PutsTextTo W.gone_out W.has_failed self.now.bytes (begin_telling self.now.owners) outbox.old outbox.new sink.old sink.new) }
-        ensures front { OnErr result (PutsFrontTo W.gone_out W.has_failed self.now.bytes (begin_telling self.now.owners) outbox.old outbox.new sink.old sink.new) }
+        ensures said { OnOk result (PutsTextTo W.gone_out W.has_failed self.now.bytes (begin_telling values self.now.owners) outbox.old outbox.new sink.old sink.new) }
+        ensures front { OnErr result (PutsFrontTo W.gone_out W.has_failed self.now.bytes (begin_telling values self.now.owners) outbox.old outbox.new sink.old sink.new) }
     {
         let mut reader = Reader::new(alloc, OpenGate);
-        let mut printer = Printer::new(alloc, &self.owners);
+        let mut printer = Printer::new(alloc, values, &self.owners);
         let mut units = Vec::new(alloc);
         write_along(
             outbox,

@@ -76,7 +76,7 @@ impl Strings {
         }
     }
 
-    /// The same by way of the room, also where a unit has several bytes.
+    /// Keeps the units of a text by way of the room, also where a unit has several bytes.
     #[tactic(auto, using(crate::proofs::KeptLemmas::extends_none, crate::proofs::KeptLemmas::has_units))]
     #[inline(never)]
     fn add_wide(&mut self, bytes: &[u8], scratch: &mut Vec<u16>) -> Result<Spot, AllocError>

@@ -18,7 +18,7 @@ use std::alloc::{AllocError, Global};
 /// Where memory runs out.
 pub fn walk_along(alloc: Global, bytes: &[u8], to: u64) -> Result<Printer<'static>, AllocError> {
     let mut reader = Reader::new(alloc, OpenGate);
-    let mut printer = Printer::new(alloc, &[]);
+    let mut printer = Printer::new(alloc, false, &[]);
     let mut room = Vec::new(alloc);
     let mut rest = bytes;
     for _ in 0..=bytes.len() {

@@ -1,3 +1,5 @@
 pub mod ReadLemmas
+pub mod DigitLemmas
+pub mod GroupLemmas
 pub mod TurnLemmas
 pub mod TextLemmas

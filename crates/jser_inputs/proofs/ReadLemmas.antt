@@ -1,7 +1,6 @@
 -- A text that is read character by character.
 use Rattle.std.proofs.Common.{◌≡◌, ℕ, suc, ◌+◌, ◌<◌, ◌≤◌, length, take, drop, get_or, set, Bool, true, false, if◌then◌else◌, List, [], ◌∷◌, ◌++◌, refl, sym, ap, subst, ◌∙◌, arith, append_assoc}
 use Rattle.std.proofs.lemmas.List.{length-take-le, get_or-take, get_or-drop, drop_more, drop-drop, drop-set-lt, take_more_set}
-use Rattle.jser_inputs.specs.declared.place.Place.{Place}
 use Rattle.jser_inputs.specs.declared.place.Place.TheVariants as place
 use Rattle.jser_inputs.specs.declared.spot.Spot.{Spot}
 use Rattle.jser_inputs.specs.declared.spot.Move.{Move}

@@ -1,7 +1,6 @@
 -- One read of a text: what comes of the source over it.
 use Rattle.std.proofs.Common.{◌≡◌, ℕ, ◌+◌, true, false, if◌then◌else◌, List, [], ◌∷◌, Option, Some, None, option_map, refl, sym, ap, ◌∙◌, arith}
 use Rattle.std.specs.Io.KnownBytes.{Consumes, IsAtEnd, Keeps}
-use Rattle.jser_inputs.specs.declared.place.Place.TheVariants as place
 use Rattle.jser_inputs.specs.declared.spot.Spot.{Spot}
 use Rattle.jser_inputs.specs.Places.{is_whole}
 use Rattle.jser_inputs.specs.Spelled.{Reads, spelled, right_until, no_byte}

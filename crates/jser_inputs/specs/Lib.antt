@@ -1,5 +1,6 @@
 pub mod Digits
 pub mod Places
 pub mod Spelled
+pub mod Groups
 pub mod Decoding
 pub mod FaultTexts

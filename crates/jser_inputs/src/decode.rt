@@ -1,8 +1,10 @@
 //! The text of one read becomes bytes, in the place where it was read: no character completes more than one.
-ghost use Rattle.std.specs.Prelude.{◌≡◌, ◌≤◌, ◌<◌, ◌+◌, ◌^◌, ◌⊎◌, [], length, take, true};
+ghost use Rattle.std.specs.Prelude.{◌≡◌, ◌≤◌, ◌<◌, ◌+◌, ◌-◌, ◌^◌, ◌⊎◌, [], length, take, true, IfSome};
 ghost use Rattle.jser_inputs.specs.Places.{Fits, is_wrong};
+ghost use Rattle.jser_inputs.specs.Groups.{IsGroupAt};
 ghost use Rattle.jser_inputs.specs.Spelled.{Reads};
 
+use crate::group::{Group, group_of};
 use crate::place::Place;
 use crate::spot::{Move, Spot, move_of};
 
@@ -40,7 +42,7 @@ pub(crate) fn decode(start: Spot, buf: &mut [u8], count: usize) -> Piece
     }
 }
 
-/// The same, character by character.
+/// The bytes of a text of digits, in whole groups and else character by character.
 #[tactic(auto, using(crate::proofs::ReadLemmas::reads_none, crate::proofs::ReadLemmas::reads_goes, crate::proofs::ReadLemmas::reads_gives, crate::proofs::ReadLemmas::reads_wrong))]
 fn decode_text(start: Spot, buf: &mut [u8], count: usize) -> Piece
     requires fits { Fits start.place }
@@ -54,12 +56,26 @@ fn decode_text(start: Spot, buf: &mut [u8], count: usize) -> Piece
 {
     let mut spot = start;
     let mut given = 0;
-    'characters: for taken in 0..count {
+    let mut taken = 0;
+    'characters: while taken < count {
+        if let Some(group) = group_at(spot, buf, taken, count) {
+            buf[given] = group.first;
+            buf[given + 1] = group.second;
+            buf[given + 2] = group.third;
+            given += 3;
+            taken += 4;
+            spot = group.next;
+            continue;
+        }
         match move_of(spot, buf[taken]) {
-            Move::Goes(next) => spot = next,
+            Move::Goes(next) => {
+                taken += 1;
+                spot = next;
+            }
             Move::Gives(byte, next) => {
                 buf[given] = byte;
                 given += 1;
+                taken += 1;
                 spot = next;
             }
             Move::Wrong => {
@@ -74,9 +90,19 @@ fn decode_text(start: Spot, buf: &mut [u8], count: usize) -> Piece
             }
         }
     }
-    Piece {
-        given,
-        taken: count,
-        spot,
+    Piece { given, taken, spot }
+}
+
+/// The group that begins here, if one does and all of it is there.
+#[inline(always)]
+fn group_at(spot: Spot, buf: &[u8], at: usize, count: usize) -> Option<Group>
+    requires room { spot.spare + (count - at) < 2 ^ 64 }
+    requires inside { count ≤ length buf.now }
+    requires begun { at < count }
+    ensures { IfSome result (IsGroupAt spot buf.now at count) }
+{
+    if count - at < 4 {
+        return None;
     }
+    group_of(spot, [buf[at], buf[at + 1], buf[at + 2], buf[at + 3]])
 }

@@ -18,7 +18,8 @@ pub enum InputFault {
     },
     /// The text is not base64 of its alphabet.
     NotBase64 {
-        /// The same.
+        /// How many characters come before the first that may not come there: where that is the length of the text, it
+        /// ends too early.
         at: u64,
     },
 }

@@ -10,6 +10,7 @@ mod decoder;
 mod digit;
 mod fault;
 mod form;
+mod group;
 mod place;
 mod spot;
 

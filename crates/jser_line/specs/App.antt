@@ -5,11 +5,12 @@ use Rattle.clap.specs.declared.error.ErrorKind.TheVariants.{OutOfMemory}
 use Rattle.clap.specs.Words.{kind_of, takes, App, Row, Text, first_of, new_app, subcommand_of, with_rule, with_subcommand}
 use Rattle.jser_line.specs.declared.args.Forms.{Forms}
 use Rattle.jser_line.specs.declared.records.Records.{Records}
+use Rattle.jser_line.specs.declared.find.Find.{Find}
 use Rattle.jser_line.specs.declared.line.Line.{Line}
 use Rattle.jser_line.specs.declared.line.Line.TheVariants as line
 use Rattle.jser_line.specs.declared.line.LineFault.{LineFault}
 use Rattle.jser_line.specs.declared.line.LineFault.TheVariants as fault
-use Rattle.jser_line.specs.Args.{FilterWords, anywhere_rule, field_rule, file_rule, files_rule, filters_asked, filters_in, forms_in, frames_rule, is_true, json_rule, limit_rule, most_rule, pass_rule, paths_rule, refused_rule, sized_rule, text_in, texts_in, with_filter_rules, with_form_rules, with_strict_filter_rules, zero_rule}
+use Rattle.jser_line.specs.Args.{FilterWords, all_rule, anywhere_rule, carve_rule, field_rule, file_rule, files_rule, filters_asked, filters_in, forms_in, frames_rule, is_true, json_rule, limit_rule, most_rule, pass_rule, paths_rule, progress_rule, refused_rule, sized_rule, slack_rule, text_in, text_rule, texts_in, values_rule, with_filter_rules, with_form_rules, with_strict_filter_rules, zero_rule}
 
 -- [--filter T | --filter-file F] [--modules M] [--strict] [--hex | --base64 | --base64url] [--anywhere] FILE
 abbrev pub with_check_rules : App → App
@@ -19,25 +20,25 @@ with_check_rules app = with_rule (with_rule (with_form_rules (with_strict_filter
 abbrev pub check_app : App
 check_app = with_check_rules (new_app (codes "check"))
 
--- serialcheck show [--hex | --base64 | --base64url] [--limit N] FILE
+-- serialcheck show [--hex | --base64 | --base64url] [--values] [--limit N] FILE
 abbrev pub show_app : App
-show_app = with_rule (with_rule (with_form_rules (new_app (codes "show"))) limit_rule) file_rule
+show_app = with_rule (with_rule (with_rule (with_form_rules (new_app (codes "show"))) values_rule) limit_rule) file_rule
 
 -- serialcheck list [--filter T | --filter-file F] [--modules M] [--hex | --base64 | --base64url] [--anywhere] FILE
 abbrev pub list_app : App
 list_app = with_rule (with_rule (with_form_rules (with_filter_rules (new_app (codes "list")))) anywhere_rule) file_rule
 
--- [--anywhere] [--refused] [--json]
+-- [--anywhere] [--refused] [--json] [--progress]
 abbrev pub with_answer_rules : App → App
-with_answer_rules app = with_rule (with_rule (with_rule app anywhere_rule) refused_rule) json_rule
+with_answer_rules app = with_rule (with_rule (with_rule (with_rule app anywhere_rule) refused_rule) json_rule) progress_rule
 
--- serialcheck scan [--filter T | --filter-file F] [--modules M] [--strict] [--hex | --base64 | --base64url] [--anywhere] [--refused] [--json] PATH..
+-- serialcheck scan [--filter T | --filter-file F] [--modules M] [--strict] [--hex | --base64 | --base64url] [--anywhere] [--refused] [--json] [--progress] PATH..
 abbrev pub scan_app : App
 scan_app = with_rule (with_answer_rules (with_form_rules (with_strict_filter_rules (new_app (codes "scan"))))) paths_rule
 
--- serialcheck suggest [--hex | --base64 | --base64url] FILE..
+-- serialcheck suggest [--hex | --base64 | --base64url] [--slack N] FILE..
 abbrev pub suggest_app : App
-suggest_app = with_rule (with_form_rules (new_app (codes "suggest"))) files_rule
+suggest_app = with_rule (with_rule (with_form_rules (new_app (codes "suggest"))) slack_rule) files_rule
 
 -- serialcheck explain, with the words of check
 abbrev pub explain_app : App
@@ -47,28 +48,43 @@ explain_app = with_check_rules (new_app (codes "explain"))
 abbrev pub with_shape_rules : App → App
 with_shape_rules app = with_rule (with_rule (with_rule app frames_rule) sized_rule) zero_rule
 
--- the same, and [--field N] [--most N]
+-- [--frames] [--sized] [--zero] [--field N] [--most N]
 abbrev pub with_layout_rules : App → App
 with_layout_rules app = with_rule (with_rule (with_shape_rules app) field_rule) most_rule
 
--- the same, and [--anywhere] [--refused] [--json] [--pass]
+-- all these, and [--anywhere] [--refused] [--json] [--progress] [--pass]
 abbrev pub with_more_rules : App → App
 with_more_rules app = with_rule (with_answer_rules (with_layout_rules app)) pass_rule
 
 -- serialcheck records [--filter T | --filter-file F] [--modules M] [--strict] [--hex | --base64 | --base64url | --frames | --sized]
--- [--zero] [--field N] [--most N] [--anywhere] [--refused] [--json] [--pass] FILE
+-- [--zero] [--field N] [--most N] [--anywhere] [--refused] [--json] [--progress] [--pass] FILE
 abbrev pub records_app : App
 records_app = with_rule (with_more_rules (with_form_rules (with_strict_filter_rules (new_app (codes "records"))))) file_rule
+
+-- [--json] [--progress] [--carve DIR]
+abbrev pub with_find_answer_rules : App → App
+with_find_answer_rules app = with_rule (with_rule (with_rule app json_rule) progress_rule) carve_rule
+
+-- [--text] [--all] [--most N] [--json] [--progress] [--carve DIR]
+abbrev pub with_find_rules : App → App
+with_find_rules app = with_find_answer_rules (with_rule (with_rule (with_rule app text_rule) all_rule) most_rule)
+
+-- serialcheck find [--filter T | --filter-file F] [--modules M] [--strict] [--text] [--all] [--most N] [--json] [--progress] [--carve DIR] FILE..
+abbrev pub find_app : App
+find_app = with_rule (with_find_rules (with_strict_filter_rules (new_app (codes "find")))) files_rule
 
 -- a command that has a version to tell
 abbrev pub versioned : App → App
 versioned app = record app { top = record app.top { has_version = true } }
 
+-- check, show, list and scan
+abbrev pub with_first_commands : App → App
+with_first_commands app = with_subcommand (with_subcommand (with_subcommand (with_subcommand app check_app.top) show_app.top) list_app.top) scan_app.top
+
 abbrev pub the_app : App
 the_app =
-    with_subcommand (with_subcommand (with_subcommand
-    (with_subcommand (with_subcommand (with_subcommand (with_subcommand (versioned (new_app (codes "serialcheck"))) check_app.top) show_app.top) list_app.top) scan_app.top)
-    suggest_app.top) explain_app.top) records_app.top
+    with_subcommand (with_subcommand (with_subcommand (with_subcommand (with_first_commands (versioned (new_app (codes "serialcheck")))) suggest_app.top) explain_app.top)
+    records_app.top) find_app.top
 
 -- what the words of records ask for
 pub record RecordsAsked : Type 0 where
@@ -83,25 +99,40 @@ pub record RecordsAsked : Type 0 where
   pub anywhere : Bool
   pub refused : Bool
   pub json : Bool
+  pub progress : Bool
   pub pass : Bool
   pub file : Text
+
+-- what the words of find ask for
+pub record FindAsked : Type 0 where
+  pub filters : FilterWords
+  pub strict : Bool
+  pub text : Bool
+  pub all : Bool
+  pub most : Option Text
+  pub json : Bool
+  pub progress : Bool
+  pub carve : Option Text
+  pub files : List Text
 
 -- what the words ask for
 pub data Asked : Type 0 where
   check : FilterWords → (strict : Bool) → Forms → (anywhere : Bool) → (file : Text) → Asked
-  show : Forms → (limit : Option Text) → (file : Text) → Asked
+  show : Forms → (values : Bool) → (limit : Option Text) → (file : Text) → Asked
   list : FilterWords → Forms → (anywhere : Bool) → (file : Text) → Asked
-  scan : FilterWords → (strict : Bool) → Forms → (anywhere refused json : Bool) → (paths : List Text) → Asked
-  suggest : Forms → (files : List Text) → Asked
+  scan : FilterWords → (strict : Bool) → Forms → (anywhere refused json progress : Bool) → (paths : List Text) → Asked
+  suggest : Forms → (slack : Option Text) → (files : List Text) → Asked
   explain : FilterWords → (strict : Bool) → Forms → (anywhere : Bool) → (file : Text) → Asked
   records : RecordsAsked → Asked
+  find : FindAsked → Asked
 
 abbrev pub check_in : List Row → Asked
 check_in rows =
     check (filters_in rows) (is_true (first_of (codes "strict") rows)) (forms_in rows) (is_true (first_of (codes "anywhere") rows)) (text_in rows (codes "file"))
 
 abbrev pub show_in : List Row → Asked
-show_in rows = show (forms_in rows) (first_of (codes "limit") rows) (text_in rows (codes "file"))
+show_in rows =
+    show (forms_in rows) (is_true (first_of (codes "values") rows)) (first_of (codes "limit") rows) (text_in rows (codes "file"))
 
 abbrev pub list_in : List Row → Asked
 list_in rows = list (filters_in rows) (forms_in rows) (is_true (first_of (codes "anywhere") rows)) (text_in rows (codes "file"))
@@ -109,10 +140,10 @@ list_in rows = list (filters_in rows) (forms_in rows) (is_true (first_of (codes 
 abbrev pub scan_in : List Row → Asked
 scan_in rows =
     scan (filters_in rows) (is_true (first_of (codes "strict") rows)) (forms_in rows) (is_true (first_of (codes "anywhere") rows))
-    (is_true (first_of (codes "refused") rows)) (is_true (first_of (codes "json") rows)) (texts_in rows (codes "path"))
+    (is_true (first_of (codes "refused") rows)) (is_true (first_of (codes "json") rows)) (is_true (first_of (codes "progress") rows)) (texts_in rows (codes "path"))
 
 abbrev pub suggest_in : List Row → Asked
-suggest_in rows = suggest (forms_in rows) (texts_in rows (codes "file"))
+suggest_in rows = suggest (forms_in rows) (first_of (codes "slack") rows) (texts_in rows (codes "file"))
 
 abbrev pub explain_in : List Row → Asked
 explain_in rows =
@@ -131,8 +162,22 @@ records_in rows = records (record {
   anywhere = is_true (first_of (codes "anywhere") rows);
   refused = is_true (first_of (codes "refused") rows);
   json = is_true (first_of (codes "json") rows);
+  progress = is_true (first_of (codes "progress") rows);
   pass = is_true (first_of (codes "pass") rows);
   file = text_in rows (codes "file");
+})
+
+abbrev pub find_in : List Row → Asked
+find_in rows = find (record {
+  filters = filters_in rows;
+  strict = is_true (first_of (codes "strict") rows);
+  text = is_true (first_of (codes "text") rows);
+  all = is_true (first_of (codes "all") rows);
+  most = first_of (codes "most") rows;
+  json = is_true (first_of (codes "json") rows);
+  progress = is_true (first_of (codes "progress") rows);
+  carve = first_of (codes "carve") rows;
+  files = texts_in rows (codes "file");
 })
 
 -- what a subcommand with these matches asks for
@@ -145,7 +190,8 @@ asked_by found =
     else (if bytes_eq found.0 (codes "suggest") then Some (suggest_in found.1)
     else (if bytes_eq found.0 (codes "explain") then Some (explain_in found.1)
     else (if bytes_eq found.0 (codes "records") then Some (records_in found.1)
-    else None))))))
+    else (if bytes_eq found.0 (codes "find") then Some (find_in found.1)
+    else None)))))))
 
 -- what the words ask for, by clap's own definition of the matches
 abbrev pub asked_in : List Text → Option Asked
@@ -164,19 +210,34 @@ records_asked words = record {
   anywhere = words.anywhere;
   refused = words.refused;
   json = words.json;
+  progress = words.progress;
   pass = words.pass;
   file = string_bytes words.file;
 }
 
+abbrev pub find_asked : Find → FindAsked
+find_asked words = record {
+  filters = filters_asked words.filters;
+  strict = words.strict;
+  text = words.text;
+  all = words.all;
+  most = option_map string_bytes words.most;
+  json = words.json;
+  progress = words.progress;
+  carve = option_map string_bytes words.carve;
+  files = map string_bytes words.files.items;
+}
+
 abbrev pub line_asks : Line → Asked
 line_asks (line.Check filters strict forms anywhere file) = check (filters_asked filters) strict forms anywhere (string_bytes file)
-line_asks (line.Show forms limit file) = show forms (option_map string_bytes limit) (string_bytes file)
+line_asks (line.Show forms values limit file) = show forms values (option_map string_bytes limit) (string_bytes file)
 line_asks (line.List filters forms anywhere file) = list (filters_asked filters) forms anywhere (string_bytes file)
-line_asks (line.Scan filters strict forms anywhere refused json paths) =
-    scan (filters_asked filters) strict forms anywhere refused json (map string_bytes paths.items)
-line_asks (line.Suggest forms files) = suggest forms (map string_bytes files.items)
+line_asks (line.Scan filters strict forms anywhere refused json progress paths) =
+    scan (filters_asked filters) strict forms anywhere refused json progress (map string_bytes paths.items)
+line_asks (line.Suggest forms slack files) = suggest forms (option_map string_bytes slack) (map string_bytes files.items)
 line_asks (line.Explain filters strict forms anywhere file) = explain (filters_asked filters) strict forms anywhere (string_bytes file)
 line_asks (line.Records words) = records (records_asked words)
+line_asks (line.Find words) = find (find_asked words)
 
 -- clap's own definition does not take the words, unless memory ran out
 abbrev pub IsMistake : List Text → LineFault → Type 0

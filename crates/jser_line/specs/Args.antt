@@ -32,6 +32,21 @@ anywhere_rule = flag_rule (codes "anywhere")
 abbrev pub limit_rule : Rule
 limit_rule = option_rule (codes "limit")
 
+abbrev pub all_rule : Rule
+all_rule = flag_rule (codes "all")
+
+abbrev pub text_rule : Rule
+text_rule = flag_rule (codes "text")
+
+abbrev pub carve_rule : Rule
+carve_rule = option_rule (codes "carve")
+
+abbrev pub slack_rule : Rule
+slack_rule = option_rule (codes "slack")
+
+abbrev pub values_rule : Rule
+values_rule = flag_rule (codes "values")
+
 abbrev pub hex_rule : Rule
 hex_rule = flag_rule (codes "hex")
 
@@ -62,6 +77,9 @@ field_rule = option_rule (codes "field")
 abbrev pub most_rule : Rule
 most_rule = option_rule (codes "most")
 
+abbrev pub progress_rule : Rule
+progress_rule = flag_rule (codes "progress")
+
 abbrev pub pass_rule : Rule
 pass_rule = flag_rule (codes "pass")
 
@@ -81,7 +99,7 @@ file_rule = record (new_rule (codes "file")) { required = true }
 abbrev pub with_filter_rules : App → App
 with_filter_rules app = with_rule (with_rule (with_rule app filter_rule) filter_file_rule) modules_rule
 
--- the same, and [--strict]
+-- the words of a filter, and [--strict]
 abbrev pub with_strict_filter_rules : App → App
 with_strict_filter_rules app = with_rule (with_filter_rules app) strict_rule
 

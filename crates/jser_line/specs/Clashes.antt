@@ -1,12 +1,12 @@
 -- Options that exclude one another: a filter is a text or a file, and an input has one form.
-use Rattle.std.specs.Prelude.{◌&&◌, ◌||◌, Bool, if◌then◌else◌, Option, Some, None, is_some}
+use Rattle.std.specs.Prelude.{◌&&◌, ◌||◌, Bool, false, if◌then◌else◌, Option, Some, None, is_some}
 use Rattle.jser_inputs.specs.declared.Form.{Form}
 use Rattle.jser_inputs.specs.declared.Form.TheVariants as form
 use Rattle.jser_line.specs.declared.args.Forms.{Forms}
 use Rattle.jser_line.specs.declared.clash.Clash.{Clash}
 use Rattle.jser_line.specs.declared.clash.Clash.TheVariants as clash
 use Rattle.jser_line.specs.Args.{FilterWords}
-use Rattle.jser_line.specs.App.{Asked, check, show, list, scan, suggest, explain, records, RecordsAsked}
+use Rattle.jser_line.specs.App.{Asked, check, show, list, scan, suggest, explain, records, find, RecordsAsked}
 
 abbrev pub form_in : Forms → Form
 form_in forms =
@@ -34,15 +34,20 @@ clash_of_layout asked =
     else if (asked.frames || asked.sized) && (asked.zero || is_some asked.field) then Some clash.LinesAlone
     else None
 
+-- a command whose input has no other form
+abbrev pub no_forms : Forms
+no_forms = record { hex = false; base64 = false; base64url = false }
+
 abbrev pub first_clash : (first second : Option Clash) → Option Clash
 first_clash (Some clash) second = Some clash
 first_clash None second = second
 
 abbrev pub clash_in : Asked → Option Clash
 clash_in (check filters strict forms anywhere file) = clash_of filters forms
-clash_in (show forms limit file) = clash_of_forms forms
+clash_in (show forms values limit file) = clash_of_forms forms
 clash_in (list filters forms anywhere file) = clash_of filters forms
-clash_in (scan filters strict forms anywhere refused json paths) = clash_of filters forms
-clash_in (suggest forms files) = clash_of_forms forms
+clash_in (scan filters strict forms anywhere refused json progress paths) = clash_of filters forms
+clash_in (suggest forms slack files) = clash_of_forms forms
 clash_in (explain filters strict forms anywhere file) = clash_of filters forms
 clash_in (records asked) = first_clash (clash_of asked.filters asked.forms) (clash_of_layout asked)
+clash_in (find asked) = clash_of asked.filters no_forms

@@ -2,7 +2,7 @@
 ghost use Rattle.std.specs.Prelude.{◌≡◌, IfOk, map, option_map, codes, string_bytes, false};
 ghost use Rattle.clap.specs.Words.{app_of, rule_of, with_rule, first_of, rows_of, found_of};
 ghost use Rattle.clap.specs.declared.Command.{out-Command};
-ghost use Rattle.jser_line.specs.Args.{filter_rule, filter_file_rule, modules_rule, strict_rule, anywhere_rule, limit_rule, hex_rule, base64_rule, base64url_rule, file_rule, with_filter_rules, with_strict_filter_rules, with_form_rules, text_in, texts_in, is_true, filters_in, filters_asked, forms_in};
+ghost use Rattle.jser_line.specs.Args.{filter_rule, filter_file_rule, modules_rule, strict_rule, anywhere_rule, limit_rule, values_rule, hex_rule, base64_rule, base64url_rule, file_rule, with_filter_rules, with_strict_filter_rules, with_form_rules, text_in, texts_in, is_true, filters_in, filters_asked, forms_in};
 
 use clap::{Arg, ArgAction, ArgMatches, Command};
 use std::alloc::{AllocError, Global};
@@ -43,7 +43,8 @@ pub(crate) fn with_filters<'a>(
     with_file.arg(modules_arg(alloc))
 }
 
-/// The same, with the one that says whether a name that no pattern matches is refused.
+/// The command, with the arguments that say which class names are admitted, and whether one that no pattern matches is
+/// refused.
 pub(crate) fn with_strict_filters<'a>(
     alloc: Global,
     command: Command<'a>,
@@ -118,6 +119,19 @@ pub(crate) fn anywhere_arg<'a>(alloc: Global) -> Arg<'a>
         .action(ArgAction::SetTrue)
         .help(
             "Also asks the filter about every class name that can be read at any place of the file, or lists it",
+        )
+}
+
+/// Whether raw values are followed by what they mean.
+pub(crate) fn values_arg<'a>(alloc: Global) -> Arg<'a>
+    ensures rule { rule_of result ≡ values_rule }
+    ensures local { result.global ≡ false }
+{
+    Arg::new(alloc, "values")
+        .long("values")
+        .action(ArgAction::SetTrue)
+        .help(
+            "Prints behind the bytes of a primitive value what they mean, in brackets: a number in decimal, a char in quotes, true or false",
         )
 }
 

@@ -1,7 +1,7 @@
 //! Options of a line that exclude one another. clap is told of no rule between arguments, so that what it takes is known in
 //! full.
 ghost use Rattle.std.specs.Prelude.{◌≡◌};
-ghost use Rattle.jser_line.specs.Clashes.{clash_in, clash_of, clash_of_forms, clash_of_layout, first_clash, form_in, is_named};
+ghost use Rattle.jser_line.specs.Clashes.{clash_in, clash_of, clash_of_forms, clash_of_layout, first_clash, form_in, is_named, no_forms};
 ghost use Rattle.jser_line.specs.Args.{filters_asked};
 ghost use Rattle.jser_line.specs.App.{line_asks, records_asked};
 
@@ -30,6 +30,17 @@ pub enum Clash {
 }
 
 impl Forms {
+    /// No form: the input is bytes as they are.
+    fn none() -> Forms
+        ensures { result ≡ no_forms }
+    {
+        Forms {
+            hex: false,
+            base64: false,
+            base64url: false,
+        }
+    }
+
     /// The form. Where several are asked for, which is a clash, it is the first of hexadecimal, base64 and base64url.
     pub fn form(self) -> Form
         ensures { result ≡ form_in self }
@@ -67,12 +78,13 @@ impl Line {
                 clash_of(&records.filters, records.forms),
                 clash_of_layout(records),
             ),
+            Line::Find(find) => clash_of(&find.filters, Forms::none()),
             Line::Show { forms, .. } | Line::Suggest { forms, .. } => clash_of_forms(*forms),
         }
     }
 }
 
-/// That of a filter and a form.
+/// The clash of a filter and a form.
 fn clash_of(filters: &Filters, forms: Forms) -> Option<Clash>
     ensures { result ≡ clash_of (filters_asked filters.now) forms }
 {
@@ -92,7 +104,7 @@ fn first_clash(first: Option<Clash>, second: Option<Clash>) -> Option<Clash>
     }
 }
 
-/// That of how records lie in an input.
+/// The clash of words that say how records lie in an input.
 fn clash_of_layout(records: &Records) -> Option<Clash>
     ensures { result ≡ clash_of_layout (records_asked records.now) }
 {
@@ -107,7 +119,7 @@ fn clash_of_layout(records: &Records) -> Option<Clash>
     }
 }
 
-/// That of a form.
+/// The clash of two forms.
 fn clash_of_forms(forms: Forms) -> Option<Clash>
     ensures { result ≡ clash_of_forms forms }
 {

@@ -1,10 +1,11 @@
 //! The program's command line, as clap reads it.
 ghost use Rattle.std.specs.Prelude.{◌≡◌, IfOk, codes};
 ghost use Rattle.clap.specs.Words.{app_of, new_app, with_subcommand};
-ghost use Rattle.jser_line.specs.App.{check_app, show_app, list_app, scan_app, suggest_app, explain_app, records_app, versioned, the_app};
+ghost use Rattle.jser_line.specs.App.{check_app, show_app, list_app, scan_app, suggest_app, explain_app, records_app, find_app, versioned, with_first_commands, the_app};
 
 use crate::check::check_command;
 use crate::explain::explain_command;
+use crate::find::find_command;
 use crate::list::list_command;
 use crate::records::records_command;
 use crate::scan::scan_command;
@@ -18,10 +19,10 @@ const VERSION: &str = "0.1.0";
 
 /// What `--help` tells of the statuses, with an example.
 const STATUSES: &str = "Statuses:
-  0  accepted, shown or suggested; of scan and records, all are accepted
-  1  refused; of scan and records, one is; of suggest, one is no good stream
+  0  accepted, shown or suggested; of scan, records and find, all are accepted
+  1  refused; of scan, records and find, one is; of suggest, one is no good stream
   2  the command line, the filter or the modules are at fault; --help and --version
-  3  something was not opened, read, decoded or written, or memory ran out; of scan and records, for one
+  3  something was not opened, read, decoded or written, or memory ran out; of scan, records and find, for one
   4  shown as far as --limit allows
 
 Example:
@@ -33,13 +34,21 @@ serialcheck COMMAND --help tells more of a command.";
 pub(crate) fn command<'a>(alloc: Global) -> Result<Command<'a>, AllocError>
     ensures { IfOk result (λ command. app_of command ≡ the_app) }
 {
-    let one = with_check(alloc, bare_command(alloc))?;
-    let two = with_show(alloc, one)?;
-    let three = with_list(alloc, two)?;
-    let four = with_scan(alloc, three)?;
-    let five = with_suggest(alloc, four)?;
-    let six = with_explain(alloc, five)?;
-    with_records(alloc, six)
+    let first = with_first_commands(alloc, bare_command(alloc))?;
+    let suggest = with_suggest(alloc, first)?;
+    let explain = with_explain(alloc, suggest)?;
+    let records = with_records(alloc, explain)?;
+    with_find(alloc, records)
+}
+
+/// The command, with `check`, `show`, `list` and `scan` as its first subcommands.
+fn with_first_commands<'a>(alloc: Global, command: Command<'a>) -> Result<Command<'a>, AllocError>
+    ensures { IfOk result (λ all. app_of all ≡ with_first_commands (app_of command.entry)) }
+{
+    let check = with_check(alloc, command)?;
+    let show = with_show(alloc, check)?;
+    let list = with_list(alloc, show)?;
+    with_scan(alloc, list)
 }
 
 /// The program's command, without its subcommands.
@@ -113,4 +122,13 @@ fn with_records<'a>(alloc: Global, command: Command<'a>) -> Result<Command<'a>, 
 {
     let records = records_command(alloc)?;
     command.subcommand(records)
+}
+
+/// The command, with `find` as one more subcommand.
+#[tactic(auto, using(crate::proofs::WordLemmas::subcommand_added))]
+fn with_find<'a>(alloc: Global, command: Command<'a>) -> Result<Command<'a>, AllocError>
+    ensures { IfOk result (λ all. app_of all ≡ with_subcommand (app_of command.entry) find_app.top) }
+{
+    let find = find_command(alloc)?;
+    command.subcommand(find)
 }

@@ -9,6 +9,7 @@ mod check;
 mod clash;
 mod command;
 mod explain;
+mod find;
 mod line;
 mod list;
 mod printed;
@@ -19,6 +20,7 @@ mod suggest;
 
 pub use args::{Filters, Forms};
 pub use clash::Clash;
+pub use find::Find;
 pub use line::{Line, LineFault, line_of};
 pub use printed::printable;
 pub use records::Records;

@@ -7,6 +7,7 @@ use crate::args::{Filters, Forms};
 use crate::check::check_line;
 use crate::command::command;
 use crate::explain::explain_line;
+use crate::find::{Find, find_line};
 use crate::list::list_line;
 use crate::records::{Records, records_line};
 use crate::scan::scan_line;
@@ -36,6 +37,8 @@ pub enum Line {
     Show {
         /// The form of the input.
         forms: Forms,
+        /// Whether raw values are followed by what they mean.
+        values: bool,
         /// How many bytes of text are printed at most, if that is said.
         limit: Option<String>,
         /// The file that holds the stream, or `-` for standard input.
@@ -55,15 +58,21 @@ pub enum Line {
         refused: bool,
         /// Whether JSON is printed.
         json: bool,
+        /// Whether standard error is told how far it is.
+        progress: bool,
         /// The files and folders, or `-` for standard input.
         paths: Vec<String>,
     },
     /// Check many streams in one input.
     Records(Records),
+    /// Find the streams in other bytes.
+    Find(Find),
     /// Suggest the least filter that admits some good streams.
     Suggest {
         /// The form of the files.
         forms: Forms,
+        /// How many times as high the limits are, in decimal: as high as the streams have them without it.
+        slack: Option<String>,
         /// The files that hold the streams, or `-` for standard input.
         files: Vec<String>,
     },
@@ -164,6 +173,9 @@ fn asked(alloc: Global, name: &str, matches: &ArgMatches<'_>) -> Result<Option<L
     }
     if name == "records" {
         return Ok(Some(records_line(alloc, matches)?));
+    }
+    if name == "find" {
+        return Ok(Some(find_line(alloc, matches)?));
     }
     Ok(None)
 }

@@ -1,5 +1,5 @@
 //! `serialcheck records [--filter T | --filter-file F] [--modules M] [--strict] [--hex | --base64 | --base64url | --frames | --sized]
-//! [--zero] [--field N] [--most N] [--anywhere] [--refused] [--json] [--pass] FILE`
+//! [--zero] [--field N] [--most N] [--anywhere] [--refused] [--json] [--progress] [--pass] FILE`
 ghost use Rattle.std.specs.Prelude.{◌≡◌, IfOk, false};
 ghost use Rattle.clap.specs.Words.{app_of, rule_of, rows_of, found_of};
 ghost use Rattle.clap.specs.declared.Command.{out-Command};
@@ -40,6 +40,8 @@ pub struct Records {
     pub refused: bool,
     /// Whether JSON is printed.
     pub json: bool,
+    /// Whether standard error is told how far it is.
+    pub progress: bool,
     /// Whether the records that are accepted are handed on.
     pub pass: bool,
     /// The file of the records, or `-` for standard input.
@@ -191,6 +193,7 @@ pub(crate) fn records_line(alloc: Global, matches: &ArgMatches<'_>) -> Result<Li
         anywhere: is_set(matches, "anywhere"),
         refused: is_set(matches, "refused"),
         json: is_set(matches, "json"),
+        progress: is_set(matches, "progress"),
         pass: is_set(matches, "pass"),
         file,
     }))

@@ -1,9 +1,9 @@
 //! `serialcheck scan [--filter T | --filter-file F] [--modules M] [--strict] [--hex | --base64 | --base64url] [--anywhere] [--refused]
-//! [--json] PATH..`
+//! [--json] [--progress] PATH..`
 ghost use Rattle.std.specs.Prelude.{◌≡◌, IfOk, false};
 ghost use Rattle.clap.specs.Words.{app_of, rule_of, rows_of, found_of};
 ghost use Rattle.clap.specs.declared.Command.{out-Command};
-ghost use Rattle.jser_line.specs.Args.{refused_rule, json_rule, paths_rule};
+ghost use Rattle.jser_line.specs.Args.{refused_rule, json_rule, progress_rule, paths_rule};
 ghost use Rattle.jser_line.specs.App.{scan_app, scan_in, line_asks, with_answer_rules};
 
 use crate::args::{
@@ -48,7 +48,8 @@ pub(crate) fn with_answers<'a>(
 {
     let anywhere = command.arg(anywhere_arg(alloc))?;
     let refused = anywhere.arg(refused_arg(alloc))?;
-    refused.arg(json_arg(alloc))
+    let json = refused.arg(json_arg(alloc))?;
+    json.arg(progress_arg(alloc))
 }
 
 /// Whether files that are accepted are left out.
@@ -63,14 +64,27 @@ fn refused_arg<'a>(alloc: Global) -> Arg<'a>
 }
 
 /// Whether JSON is printed.
-fn json_arg<'a>(alloc: Global) -> Arg<'a>
+pub(crate) fn json_arg<'a>(alloc: Global) -> Arg<'a>
     ensures rule { rule_of result ≡ json_rule }
     ensures local { result.global ≡ false }
 {
     Arg::new(alloc, "json")
         .long("json")
         .action(ArgAction::SetTrue)
-        .help("Prints a JSON object on a line for each file or record")
+        .help("Prints a JSON object on a line for each file, record or stream")
+}
+
+/// Whether standard error is told how far it is.
+pub(crate) fn progress_arg<'a>(alloc: Global) -> Arg<'a>
+    ensures rule { rule_of result ≡ progress_rule }
+    ensures local { result.global ≡ false }
+{
+    Arg::new(alloc, "progress")
+        .long("progress")
+        .action(ArgAction::SetTrue)
+        .help(
+            "Says once a second on standard error how far it is: where that is a terminal and standard output is none, also without it",
+        )
 }
 
 /// The files and folders.
@@ -99,6 +113,7 @@ pub(crate) fn scan_line(alloc: Global, matches: &ArgMatches<'_>) -> Result<Line,
         anywhere: is_set(matches, "anywhere"),
         refused: is_set(matches, "refused"),
         json: is_set(matches, "json"),
+        progress: is_set(matches, "progress"),
         paths,
     })
 }

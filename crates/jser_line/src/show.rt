@@ -1,10 +1,12 @@
-//! `serialcheck show [--hex | --base64 | --base64url] [--limit N] FILE`
+//! `serialcheck show [--hex | --base64 | --base64url] [--values] [--limit N] FILE`
 ghost use Rattle.std.specs.Prelude.{◌≡◌, IfOk, false};
 ghost use Rattle.clap.specs.Words.{app_of, rows_of, found_of};
 ghost use Rattle.clap.specs.declared.Command.{out-Command};
 ghost use Rattle.jser_line.specs.App.{show_app, show_in, line_asks};
 
-use crate::args::{file_arg, forms_of, limit_arg, text_of, value_of, with_forms};
+use crate::args::{
+    file_arg, forms_of, is_set, limit_arg, text_of, value_of, values_arg, with_forms,
+};
 use crate::line::Line;
 use clap::{ArgMatches, Command};
 use std::alloc::{AllocError, Global};
@@ -14,7 +16,7 @@ const EXAMPLES: &str =
     "A small stream can have gigabytes of text: show one that you do not trust with --limit.
 
 Examples:
-  serialcheck show session.ser
+  serialcheck show --values session.ser
   serialcheck show --limit 1000000 upload.ser
   xxd -p session.ser | serialcheck show --hex -";
 
@@ -29,7 +31,8 @@ pub(crate) fn show_command<'a>(alloc: Global) -> Result<Command<'a>, AllocError>
         )
         .after_help(EXAMPLES);
     let formed = with_forms(alloc, show)?;
-    let limited = formed.arg(limit_arg(alloc))?;
+    let told = formed.arg(values_arg(alloc))?;
+    let limited = told.arg(limit_arg(alloc))?;
     limited.arg(file_arg(alloc))
 }
 
@@ -41,6 +44,7 @@ pub(crate) fn show_line(alloc: Global, matches: &ArgMatches<'_>) -> Result<Line,
     let file = text_of(alloc, matches, "file")?;
     Ok(Line::Show {
         forms: forms_of(matches),
+        values: is_set(matches, "values"),
         limit,
         file,
     })

@@ -1,11 +1,11 @@
-//! `serialcheck suggest [--hex | --base64 | --base64url] FILE..`
+//! `serialcheck suggest [--hex | --base64 | --base64url] [--slack N] FILE..`
 ghost use Rattle.std.specs.Prelude.{◌≡◌, IfOk, false};
 ghost use Rattle.clap.specs.Words.{app_of, rule_of, rows_of, found_of};
 ghost use Rattle.clap.specs.declared.Command.{out-Command};
-ghost use Rattle.jser_line.specs.Args.{files_rule};
+ghost use Rattle.jser_line.specs.Args.{files_rule, slack_rule};
 ghost use Rattle.jser_line.specs.App.{suggest_app, suggest_in, line_asks};
 
-use crate::args::{forms_of, texts_of, with_forms};
+use crate::args::{forms_of, texts_of, value_of, with_forms};
 use crate::line::Line;
 use clap::{Arg, ArgAction, ArgMatches, Command};
 use std::alloc::{AllocError, Global};
@@ -14,8 +14,9 @@ use std::alloc::{AllocError, Global};
 const EXAMPLES: &str =
     "Prints maxbytes=B;maxrefs=R;maxdepth=D;maxarray=A;NAME;..;!*, the least filter of this form.
 
-Example:
+Examples:
   serialcheck suggest samples/*.ser > session.filter
+  serialcheck suggest --slack 4 samples/*.ser > session.filter
   serialcheck check --strict --filter-file session.filter session.ser";
 
 /// The command.
@@ -27,11 +28,22 @@ pub(crate) fn suggest_command<'a>(alloc: Global) -> Result<Command<'a>, AllocErr
         .about("Prints a filter that admits good streams, and no class that none of them has")
         .after_help(EXAMPLES);
     let formed = with_forms(alloc, suggest)?;
-    formed.arg(files_arg(alloc))
+    let slackened = formed.arg(slack_arg(alloc))?;
+    slackened.arg(files_arg(alloc))
+}
+
+/// How many times as high the limits are.
+fn slack_arg<'a>(alloc: Global) -> Arg<'a>
+    ensures rule { rule_of result ≡ slack_rule }
+    ensures local { result.global ≡ false }
+{
+    Arg::new(alloc, "slack").long("slack").help(
+        "Makes each limit so many times as high, from 1, so that the next good stream is not refused for one element more",
+    )
 }
 
 /// The files.
-fn files_arg<'a>(alloc: Global) -> Arg<'a>
+pub(crate) fn files_arg<'a>(alloc: Global) -> Arg<'a>
     ensures rule { rule_of result ≡ files_rule }
     ensures local { result.global ≡ false }
 {
@@ -45,9 +57,11 @@ fn files_arg<'a>(alloc: Global) -> Arg<'a>
 pub(crate) fn suggest_line(alloc: Global, matches: &ArgMatches<'_>) -> Result<Line, AllocError>
     ensures { IfOk result (λ line. line_asks line ≡ suggest_in (rows_of (found_of matches.now))) }
 {
+    let slack = value_of(alloc, matches, "slack")?;
     let files = texts_of(alloc, matches, "file")?;
     Ok(Line::Suggest {
         forms: forms_of(matches),
+        slack,
         files,
     })
 }

@@ -1,5 +1,5 @@
 -- One item further along a stream in pieces, with the names collected.
-use Rattle.std.proofs.Common.{◌≡◌, ℕ, zero, suc, ◌-◌, ◌<◌, Bool, true, false, List, [], ◌∷◌, ◌++◌, length, refl, sym, ◌∙◌, ap, subst, arith, append_assoc, append-nil}
+use Rattle.std.proofs.Common.{◌≡◌, ℕ, zero, suc, ◌-◌, ◌<◌, max, Bool, true, false, List, [], ◌∷◌, ◌++◌, length, refl, sym, ◌∙◌, ap, subst, arith, append_assoc, append-nil}
 use Rattle.jser_prim.specs.Bytes.{big_bytes}
 use Rattle.jser_prim.specs.ModifiedUtf8.{modified_utf8}
 use Rattle.jser_grammar.specs.Parts.{IsText}
@@ -14,14 +14,18 @@ use Rattle.jser_reading.proofs.Decoding.{number_4, length-big_bytes}
 use Rattle.jser_reader.specs.declared.Item.{Item}
 use Rattle.jser_reader.specs.declared.Item.TheVariants as item
 use Rattle.jser_reader.specs.Items.{Items, text_items, items_at, IsOfText, IsRawPart, IsLent}
-use Rattle.jser_names.specs.Collecting.{Collected, collect, collect_text, collected}
-use Rattle.jser_names.specs.Standing.{left_behind}
+use Rattle.jser_names.specs.Collecting.{Collected, collect, collect_text, collected, measure, measured}
+use Rattle.jser_names.specs.Standing.{left_behind, longest_behind}
 
 -- ---- fields, and what is collected along them
 
 pub collected_one : (x : Collected) (front : List Piece) (label : Label) (told : StreamField) → collected x (front ++ (piece label told ∷ [])) ≡ collect told (collected x front)
 collected_one x [] label told = refl
 collected_one x (piece l f ∷ front) label told = collected_one (collect f x) front label told
+
+pub measured_one : (n : ℕ) (front : List Piece) (label : Label) (told : StreamField) → measured n (front ++ (piece label told ∷ [])) ≡ measure told (measured n front)
+measured_one n [] label told = refl
+measured_one n (piece l f ∷ front) label told = measured_one (measure f n) front label told
 
 pub joined_one : (front : List Piece) (label : Label) (told : StreamField) → joined (front ++ (piece label told ∷ [])) ≡ joined front ++ bytes_of told
 joined_one [] label told = append-nil (bytes_of told)
@@ -234,3 +238,46 @@ ends_plain (class_name_at role) m told cut taken lent x a plain b h = absurd (no
 ends_plain field_name_at m told cut taken lent x a plain b h = absurd (no_text_item false cut taken lent plain h)
 ends_plain interface_name_at m told cut taken lent x a plain b h = absurd (no_text_item false cut taken lent plain h)
 ends_plain _ m told cut taken lent x a plain b h = absurd a
+
+-- ---- what it does to the longest array
+
+no_length : (told : StreamField) (lent other : Item) (n : ℕ) → lent ≡ other → measure told n ≡ n → longest_behind other n ≡ n → measure told n ≡ longest_behind lent n
+no_length told lent other n e m l = m ∙ sym l ∙ ap (λ i. longest_behind i n) (sym e)
+
+raw_length : (taken : List ℕ) (lent : Item) (n : ℕ) → IsRawPart taken lent → n ≡ longest_behind lent n
+raw_length taken (item.RawPart part) n h = refl
+raw_length taken _ n h = absurd h
+
+-- the item is lent of all bytes of a field
+pub ends_measured : (p : Position) (m : Moment) (told : StreamField) (cut taken : List ℕ) (lent : Item) (n : ℕ) → AcceptsAt p m told → (IsTextItem lent → ⊥)
+    → bytes_of told ≡ cut ++ taken → IsLent (items_at p) cut taken lent → measure told n ≡ longest_behind lent n
+ends_measured header_at m header_field cut taken lent n a plain b h = no_length header_field lent item.Header n h.1 refl refl
+ends_measured top_at m (tag_field tag) cut taken lent n a plain b h = no_length (tag_field tag) lent (item.Tag (number_of (cut ++ taken))) n h.1 refl refl
+ends_measured top_at m (block_tag_field long) cut taken lent n a plain b h = no_length (block_tag_field long) lent (item.Tag (number_of (cut ++ taken))) n h.1 refl refl
+ends_measured top_at m reset_tag_field cut taken lent n a plain b h = no_length reset_tag_field lent (item.Tag (number_of (cut ++ taken))) n h.1 refl refl
+ends_measured annotation_at m (tag_field tag) cut taken lent n a plain b h = no_length (tag_field tag) lent (item.Tag (number_of (cut ++ taken))) n h.1 refl refl
+ends_measured annotation_at m (block_tag_field long) cut taken lent n a plain b h = no_length (block_tag_field long) lent (item.Tag (number_of (cut ++ taken))) n h.1 refl refl
+ends_measured annotation_at m end_tag_field cut taken lent n a plain b h = no_length end_tag_field lent (item.Tag (number_of (cut ++ taken))) n h.1 refl refl
+ends_measured value_at m (tag_field tag) cut taken lent n a plain b h = no_length (tag_field tag) lent (item.Tag (number_of (cut ++ taken))) n h.1 refl refl
+ends_measured text_place_at m (tag_field tag) cut taken lent n a plain b h = no_length (tag_field tag) lent (item.Tag (number_of (cut ++ taken))) n h.1 refl refl
+ends_measured (class_place_at owner) m (tag_field tag) cut taken lent n a plain b h = no_length (tag_field tag) lent (item.Tag (number_of (cut ++ taken))) n h.1 refl refl
+ends_measured (superclass_place_at owner strict) m (tag_field tag) cut taken lent n a plain b h = no_length (tag_field tag) lent (item.Tag (number_of (cut ++ taken))) n h.1 refl refl
+ends_measured back_handle_at m (handle_field j) cut taken lent n a plain b h = no_length (handle_field j) lent (item.Handle (number_of (cut ++ taken))) n h.1 refl refl
+ends_measured text_handle_at m (handle_field j) cut taken lent n a plain b h = no_length (handle_field j) lent (item.Handle (number_of (cut ++ taken))) n h.1 refl refl
+ends_measured (class_handle_at owner) m (handle_field j) cut taken lent n a plain b h = no_length (handle_field j) lent (item.Handle (number_of (cut ++ taken))) n h.1 refl refl
+ends_measured (superclass_handle_at owner strict) m (handle_field j) cut taken lent n a plain b h = no_length (handle_field j) lent (item.Handle (number_of (cut ++ taken))) n h.1 refl refl
+ends_measured suid_at m (suid_field j) cut taken lent n a plain b h = no_length (suid_field j) lent (item.Suid (number_of (cut ++ taken))) n h.1 refl refl
+ends_measured (flags_at role) m (flags_field j) cut taken lent n a plain b h = no_length (flags_field j) lent (item.Flags (number_of (cut ++ taken))) n h.1 refl refl
+ends_measured field_count_at m (field_count_field j) cut taken lent n a plain b h = no_length (field_count_field j) lent (item.FieldCount (number_of (cut ++ taken))) n h.1 refl refl
+ends_measured interface_count_at m (interface_count_field j) cut taken lent n a plain b h = no_length (interface_count_field j) lent (item.InterfaceCount (number_of (cut ++ taken))) n h.1 refl refl
+ends_measured array_length_at m (array_length_field j) cut taken lent n a plain b h = let count : number_of (cut ++ taken) ≡ j = ap number_of (sym b) ∙ number_4 j (omega arith) in ap (max n) (sym count) ∙ ap (λ i. longest_behind i n) (sym h.1)
+ends_measured (type_code_at seen) m (code_field j) cut taken lent n a plain b h = no_length (code_field j) lent (item.TypeCode (number_of (cut ++ taken))) n h.1 refl refl
+ends_measured (block_length_at false) m (block_length_field false j) cut taken lent n a plain b h = no_length (block_length_field false j) lent (item.BlockLength (number_of (cut ++ taken))) n h.1 refl refl
+ends_measured (block_length_at true) m (block_length_field true j) cut taken lent n a plain b h = no_length (block_length_field true j) lent (item.BlockLength (number_of (cut ++ taken))) n h.1 refl refl
+ends_measured (raw_at c (suc k)) m (prims_field ps) cut taken lent n a plain b h = raw_length taken lent n h
+ends_measured (bytes_at (suc k)) m (bytes_field bytes) cut taken lent n a plain b h = raw_length taken lent n h
+ends_measured (string_at long) m told cut taken lent n a plain b h = absurd (no_text_item long cut taken lent plain h)
+ends_measured (class_name_at role) m told cut taken lent n a plain b h = absurd (no_text_item false cut taken lent plain h)
+ends_measured field_name_at m told cut taken lent n a plain b h = absurd (no_text_item false cut taken lent plain h)
+ends_measured interface_name_at m told cut taken lent n a plain b h = absurd (no_text_item false cut taken lent plain h)
+ends_measured _ m told cut taken lent n a plain b h = absurd a

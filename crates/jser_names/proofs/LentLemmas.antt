@@ -11,11 +11,11 @@ use Rattle.jser_reader.specs.declared.tally.Tally.{Tally}
 use Rattle.jser_reader.specs.Gates.{open_gate}
 use Rattle.jser_reader.specs.Readers.{Seen}
 use Rattle.jser_reader.specs.WholesTold.{TellsText, TellsWhole, WholeCases}
-use Rattle.jser_names.specs.Collecting.{begin_collecting, collect, collected}
+use Rattle.jser_names.specs.Collecting.{begin_collecting, collect, collected, measure}
 use Rattle.jser_names.specs.Pieces.{Taking}
 use Rattle.jser_names.specs.Standing.{Names, view_of, Closes, ClosesThen, left_behind, IsAt, Stands}
 use Rattle.jser_names.specs.Wholes.{whole_size}
-use Rattle.jser_names.proofs.ItemLemmas.{collected_one, joined_one, text_none, IsTextField, text_told}
+use Rattle.jser_names.proofs.ItemLemmas.{collected_one, measured_one, joined_one, text_none, IsTextField, text_told}
 use Rattle.jser_names.proofs.StepLemmas.{no_text, takes_item}
 
 -- ---- what is done
@@ -69,6 +69,8 @@ past_text taken given text r tally next after y h closed none t =
             ∙ ap (collect (text_field false told.0)) (so_far h.at) ∙ text_none told.0 (view_of y) none;
         plain = λ i. absurd (no_text (h.front ++ (piece x.label x.ends.field ∷ [])) i);
       });
+      measures =
+          measured_one 0 h.front x.label x.ends.field ∙ ap (measure x.ends.field) h.measures ∙ ap (λ f. measure f y.longest) told.2;
     }
   where
     so_far : IsAt h.front h.cut y → collected begin_collecting h.front ≡ view_of y
@@ -82,14 +84,14 @@ past_text taken given text r tally next after y h closed none t =
 tag_first : (x y : Names) (tag : ℕ) → ClosesThen x y (λ z. record z { left = 0 }) → ClosesThen x (record y { left = left_behind (item.Tag tag) 0 }) (λ z. record z { left = left_behind (item.Tag tag) z.left })
 tag_first x y tag p =
     let same : record y { left = left_behind (item.Tag tag) 0 } ≡ record p.mid { left = left_behind (item.Tag tag) 0 } =
-    ap (λ (z : Names). record { names = z.names; left = left_behind (item.Tag tag) 0; is_open = z.is_open; text = z.text }) p.is in
+    ap (λ (z : Names). record { names = z.names; left = left_behind (item.Tag tag) 0; is_open = z.is_open; text = z.text; longest = z.longest }) p.is in
     record { mid = p.mid; closes = p.closes; is = same }
 
 tag_next : (y : Names) (left : ℕ) → y.is_open ≡ false → y.left ≡ 0 → ClosesThen (record y { left = left }) y (λ z. record z { left = left_behind (item.Tag TC_REFERENCE) z.left })
 tag_next y left closed none = record {
   mid = record y { left = left };
   closes = none_to_close (record y { left = left }) closed;
-  is = ap (λ (n : ℕ). record { names = y.names; left = n; is_open = y.is_open; text = y.text }) none;
+  is = ap (λ (n : ℕ). record { names = y.names; left = n; is_open = y.is_open; text = y.text; longest = y.longest }) none;
 }
 
 left_none : (x y : Names) → ClosesThen x y (λ z. record z { left = 0 }) → y.left ≡ 0

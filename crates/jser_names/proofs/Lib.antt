@@ -1,8 +1,11 @@
 pub mod CollectedLemmas
 pub mod CollectorLemmas
+pub mod FoundLemmas
 pub mod ItemLemmas
 pub mod LentLemmas
 pub mod ListLemmas
+pub mod MeasureLemmas
+pub mod NamedLemmas
 pub mod PieceLemmas
 pub mod SourceLemmas
 pub mod ReadOnLemmas

@@ -7,6 +7,7 @@ use Rattle.std.specs.Io.KnownBytes.{Consumes, IsAtEnd}
 use Rattle.jser_grammar.specs.Caps.{most_bytes}
 use Rattle.jser_reader.specs.declared.tally.Tally.{Tally}
 use Rattle.jser_reader.specs.Readers.{Seen}
+use Rattle.jser_names.specs.declared.found.Found.{Found}
 use Rattle.jser_names.specs.declared.source.Halt.{Halt}
 use Rattle.jser_names.specs.declared.source.NamesFault.{NamesFault}
 use Rattle.jser_names.specs.declared.source.NamesFault.TheVariants as fault
@@ -132,9 +133,9 @@ ended_from had mid has left buffer bytes halt off t =
     told None done = tt
     told (Some all) done = inl done
 
-pub halted_end : (had mid has : Option (List ℕ)) (left : ℕ) (buffer : List ℕ) (r : Seen) (tally : Tally) (x : Names) (result : Result (Vec (Vec ℕ Global) Global) Halt)
+pub halted_end : (had mid has : Option (List ℕ)) (left : ℕ) (buffer : List ℕ) (r : Seen) (tally : Tally) (x : Names) (result : Result Found Halt)
     → Reads had mid left r tally x → TakesSome left buffer mid has 0 → IfErr result (λ halt. IsHalted had has halt)
-halted_end had mid has left buffer r tally x (Ok names) h t = tt
+halted_end had mid has left buffer r tally x (Ok found) h t = tt
 halted_end had mid has left buffer r tally x (Err halt) h t = ended_from had mid has left buffer h.bytes halt h.off t
 
 pub kept_end : (had mid has : Option (List ℕ)) (left : ℕ) (buffer kept : List ℕ) (r : Seen) (tally : Tally) (result : Result (Vec ℕ Global) Halt)

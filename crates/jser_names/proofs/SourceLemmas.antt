@@ -1,93 +1,58 @@
 -- The reads of a source, one after another, and its end.
-use Rattle.std.proofs.Common.{◌≡◌, ◌≢◌, ◌⊎◌, inl, inr, ℕ, ◌+◌, ◌-◌, ◌<◌, Bool, true, false, List, [], ◌++◌, map, length, take, drop, Option, Some, None, Result, Ok, Err, refl, sym, ◌∙◌, ap, subst, arith, append_assoc, append-nil, length-append, length-take-le}
+use Rattle.std.proofs.Common.{◌≡◌, ◌≢◌, ◌⊎◌, inl, inr, ℕ, ◌+◌, ◌-◌, ◌<◌, Bool, true, false, List, [], ◌++◌, length, take, drop, Option, Some, None, Result, Ok, Err, refl, sym, ◌∙◌, ap, subst, arith, append_assoc, append-nil, length-append, length-take-le}
 use Rattle.std.proofs.KnownBytes.{Consumes-nil, Consumes-trans}
 use Rattle.std.proofs.lemmas.List.{take-append-drop}
-use Rattle.std.specs.Global.{Global}
-use Rattle.std.specs.Prelude.{IfSome, IfOk, IfErr, Vec}
+use Rattle.std.specs.Prelude.{IfSome, IfOk, IfErr}
 use Rattle.std.specs.Io.KnownBytes.{Consumes, IsAtEnd}
 use Rattle.jser_grammar.specs.Caps.{most_bytes}
-use Rattle.jser_reading.specs.FieldBytes.{joined}
-use Rattle.jser_reading.specs.Labels.{Piece}
-use Rattle.jser_verdict.specs.Passing.{Passes}
 use Rattle.jser_reader.specs.declared.Refusal.{Refusal}
 use Rattle.jser_reader.specs.declared.Stop.{Stop}
 use Rattle.jser_reader.specs.declared.Stop.TheVariants as stop
-use Rattle.jser_reader.specs.declared.Totals.{Totals}
 use Rattle.jser_reader.specs.declared.tally.Tally.{Tally}
 use Rattle.jser_reader.specs.Gates.{open_gate}
-use Rattle.jser_reader.specs.ItemsTold.{StandsIn, TellsFields}
+use Rattle.jser_reader.specs.ItemsTold.{StandsIn}
 use Rattle.jser_reader.specs.Readers.{Seen}
-use Rattle.jser_reader.specs.ReaderStates.{FinishTells}
 use Rattle.jser_reader.specs.Streams.{AreRefused, AreTruncated}
-use Rattle.jser_names.specs.Collecting.{NamesAreCollected, begin_collecting, collected}
 use Rattle.jser_names.specs.Pieces.{PieceTells}
-use Rattle.jser_names.specs.Standing.{Names, Closes, Closed, IsAt}
+use Rattle.jser_names.specs.Standing.{Names}
 use Rattle.jser_reader.proofs.RefusalLemmas.{front_refused}
+use Rattle.jser_names.specs.Finds.{EndsFound}
+use Rattle.jser_names.specs.Found.{HasFound}
 use Rattle.jser_names.specs.Sources.{HasNames, IsRefused, IfRefused, FailsWith, TakesSome, Ends, EndsWith, Reads}
+use Rattle.jser_names.specs.declared.found.Found.{Found}
 use Rattle.jser_names.specs.declared.source.Halt.{Halt}
 use Rattle.jser_names.specs.declared.source.NamesFault.{NamesFault}
 use Rattle.jser_names.specs.declared.source.NamesFault.TheVariants as fault
-use Rattle.jser_names.proofs.PieceLemmas.{stands_for}
-use Rattle.jser_names.proofs.StepLemmas.{close_closed, close_ended, head_some}
+use Rattle.jser_names.proofs.FoundLemmas.{nothing_taken}
 
--- ---- the end
+-- ---- what is found, and its names
 
-at_end : (front : List Piece) (cut : List ℕ) (old mid : Names) → IsAt front cut old → cut ≡ [] → Closes old.is_open old mid → Closed front cut mid
-at_end front cut old mid (inl c) none closes = close_closed front cut old mid c closes
-at_end front cut old mid (inr (inl e)) none closes = close_ended front cut old mid e closes
-at_end front cut old mid (inr (inr g)) none closes =
-    let a = ap length (sym none ∙ g.cut_is) ∙ length-append g.head old.text in
-    let b = g.size in
-    let c = head_some g.long in
-    absurd (omega arith)
+pub of_found : (told : Option (List ℕ)) (found : Found) (names : List (List ℕ)) → names ≡ found.names → IfSome told (λ bytes. HasFound bytes found)
+    → IfSome told (λ bytes. HasNames bytes names)
+of_found None found names is h = tt
+of_found (Some bytes) found names is h = record { list = h.0; passes = h.1.passes; names_are = is ∙ h.1.names_are }
 
-pub no_memory : (r : Seen) (tally : Tally) (x : Names) (halt : Halt) → halt.fault ≡ fault.OutOfMemory → EndsWith r tally x (Err halt)
-unfolding EndsWith
-no_memory r tally x halt is = λ taken h.
-    subst (λ why. IfRefused (AreTruncated open_gate taken) why × (why ≢ fault.ReadFault)) (sym is) (tt, λ e. absurd (cc))
+pub ends_so : (r : Seen) (tally : Tally) (x : Names) (found : Found) → EndsFound r tally x (Ok found) → EndsWith r tally x (Ok found)
+unfolding EndsWith EndsFound
+ends_so r tally x found e = λ taken h. e taken h
 
-pub ends_names : NamesAreCollected → (r : Seen) (tally : Tally) (after : Seen) (totals : Totals) (old new : Names) (names : Vec (Vec ℕ Global) Global) → Closes old.is_open old new
-    → TellsFields open_gate (Ok totals) r tally → map (λ name. name.items) names.items ≡ new.names → EndsWith r tally old (Ok names)
-unfolding EndsWith TellsFields
-ends_names law r tally after totals old new names closes fields is = λ taken h.
-    let f = fields h.front h.cut h.reads in
-    let c = at_end h.front h.cut old new h.at f.0 closes in
-    let all : joined h.front ≡ taken = sym (append-nil (joined h.front)) ∙ ap (λ xs. joined h.front ++ xs) (sym f.0) ∙ sym h.split in
-    let passes : Passes open_gate taken f.1.0 = subst (λ bytes. Passes open_gate bytes f.1.0) all f.1.1 in
-    record {
-      list = f.1.0;
-      passes = passes;
-      names_are =
-          is ∙ sym (ap (λ y. y.names) c.so_far) ∙ ap (λ ps. (collected begin_collecting ps).names) f.1.2 ∙ law f.1.0 passes.0.1;
-    }
-
-pub ends_refused : (r : Seen) (tally : Tally) (after : Seen) (why : Stop) (x : Names) (halt : Halt) → FinishTells open_gate (Err why) r tally after → Ends why halt.fault
-    → EndsWith r tally x (Err halt)
-unfolding EndsWith FinishTells
-ends_refused r tally after (stop.Refused refusal) x halt t is = λ taken h.
-    subst (λ why. IfRefused (AreTruncated open_gate taken) why × (why ≢ fault.ReadFault)) (sym is) ((t taken (stands_for taken r tally x h)).0, λ e. absurd (cc))
-ends_refused r tally after stop.OutOfMemory x halt t is = λ taken h. absurd (t taken (stands_for taken r tally x h))
-ends_refused r tally after stop.Spent x halt t is = λ taken h. absurd (t taken (stands_for taken r tally x h))
+pub ends_refused : (r : Seen) (tally : Tally) (why : Stop) (x : Names) (halt : Halt) → EndsFound r tally x (Err why) → Ends why halt.fault → EndsWith r tally x (Err halt)
+unfolding EndsWith EndsFound
+ends_refused r tally (stop.Refused refusal) x halt e is = λ taken h.
+    subst (λ why. IfRefused (AreTruncated open_gate taken) why × (why ≢ fault.ReadFault)) (sym is) (e taken h, λ same. absurd (cc))
+ends_refused r tally stop.OutOfMemory x halt e is = λ taken h.
+    subst (λ why. IfRefused (AreTruncated open_gate taken) why × (why ≢ fault.ReadFault)) (sym is) (tt, λ same. absurd (cc))
+ends_refused r tally stop.Spent x halt e is = λ taken h. absurd (e taken h)
 
 -- ---- reads
 
 pub reads_none : (had : Option (List ℕ)) (r : Seen) (tally : Tally) (x : Names) → StandsIn open_gate [] [] r tally
-    → x ≡ record { names = []; left = 0; is_open = false; text = [] } → Reads had had (most_bytes + 1) r tally x
+    → x ≡ record { names = []; left = 0; is_open = false; text = []; longest = 0 } → Reads had had (most_bytes + 1) r tally x
 reads_none had r tally x st is = record {
   bytes = [];
   size = refl;
   off = Consumes-nil had;
-  stands = record {
-    front = [];
-    cut = [];
-    split = refl;
-    reads = st;
-    at = inl (record {
-      is = ap (λ y. y.is_open) is;
-      so_far = ap (λ y. record { names = y.names; left = y.left }) (sym is);
-      plain = λ i. ap (λ y. y.left) is;
-    });
-  };
+  stands = nothing_taken r tally x st is;
 }
 
 pub reads_some : (had has : Option (List ℕ)) (left : ℕ) (r : Seen) (tally : Tally) (x : Names) → Reads had has left r tally x → 0 < left
@@ -170,12 +135,12 @@ ended : (had mid has : Option (List ℕ)) (left : ℕ) (buffer : List ℕ) (r : 
 ended had mid has left buffer r tally x h t =
     whole_read had has h.bytes (subst (Consumes had has) (append-nil h.bytes) (Consumes-trans had mid has h.bytes [] h.off t.off)) (t.end refl)
 
-pub end_accepts : (had mid has : Option (List ℕ)) (left : ℕ) (buffer : List ℕ) (r : Seen) (tally : Tally) (x : Names) (result : Result (Vec (Vec ℕ Global) Global) Halt)
+pub end_accepts : (had mid has : Option (List ℕ)) (left : ℕ) (buffer : List ℕ) (r : Seen) (tally : Tally) (x : Names) (result : Result Found Halt)
     → Reads had mid left r tally x → TakesSome left buffer mid has 0 → EndsWith r tally x result
-    → IfOk result (λ names. IfSome had (λ bytes. HasNames bytes (map (λ name. name.items) names.items)))
+    → IfOk result (λ found. IfSome had (λ bytes. HasFound bytes found))
 unfolding EndsWith
-end_accepts had mid has left buffer r tally x (Ok names) h t e =
-    at_all had h.bytes (λ bytes. HasNames bytes (map (λ name. name.items) names.items)) (ended had mid has left buffer r tally x h t) (e h.bytes h.stands)
+end_accepts had mid has left buffer r tally x (Ok found) h t e =
+    at_all had h.bytes (λ bytes. HasFound bytes found) (ended had mid has left buffer r tally x h t) (e h.bytes h.stands)
 end_accepts had mid has left buffer r tally x (Err halt) h t e = tt
 
 pub truncated : (bytes : List ℕ) (why : NamesFault) → IfRefused (AreTruncated open_gate bytes) why → IfRefused (IsRefused bytes) why
@@ -183,11 +148,11 @@ truncated bytes (fault.Refused refusal) h = inr h
 truncated bytes fault.ReadFault h = tt
 truncated bytes fault.OutOfMemory h = tt
 
-pub end_refuses : (had mid has : Option (List ℕ)) (left : ℕ) (buffer : List ℕ) (r : Seen) (tally : Tally) (x : Names) (result : Result (Vec (Vec ℕ Global) Global) Halt)
+pub end_refuses : (had mid has : Option (List ℕ)) (left : ℕ) (buffer : List ℕ) (r : Seen) (tally : Tally) (x : Names) (result : Result Found Halt)
     → Reads had mid left r tally x → TakesSome left buffer mid has 0 → EndsWith r tally x result
     → IfErr result (λ halt. IfSome had (λ bytes. IfRefused (IsRefused bytes) halt.fault))
 unfolding EndsWith
-end_refuses had mid has left buffer r tally x (Ok names) h t e = tt
+end_refuses had mid has left buffer r tally x (Ok found) h t e = tt
 end_refuses had mid has left buffer r tally x (Err halt) h t e =
     at_all had h.bytes (λ bytes. IfRefused (IsRefused bytes) halt.fault) (ended had mid has left buffer r tally x h t) (truncated h.bytes halt.fault (e h.bytes h.stands).0)
 
@@ -196,10 +161,10 @@ not_read (fault.Refused refusal) before after other same = same
 not_read fault.ReadFault before after other same = absurd (other refl)
 not_read fault.OutOfMemory before after other same = same
 
-pub end_fails : (had mid has : Option (List ℕ)) (left : ℕ) (r : Seen) (tally : Tally) (x : Names) (result : Result (Vec (Vec ℕ Global) Global) Halt) (before after : Bool)
+pub end_fails : (had mid has : Option (List ℕ)) (left : ℕ) (r : Seen) (tally : Tally) (x : Names) (result : Result Found Halt) (before after : Bool)
     → Reads had mid left r tally x → EndsWith r tally x result → after ≡ before → IfErr result (λ halt. FailsWith halt.fault before after)
 unfolding EndsWith
-end_fails had mid has left r tally x (Ok names) before after h e same = tt
+end_fails had mid has left r tally x (Ok found) before after h e same = tt
 end_fails had mid has left r tally x (Err halt) before after h e same = not_read halt.fault before after (e h.bytes h.stands).1 same
 
 -- ---- what is told

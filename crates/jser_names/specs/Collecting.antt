@@ -1,11 +1,12 @@
 -- The checked names of a stream, collected along its fields: the text behind the tag of a plain descriptor is one, and so are
--- as many texts behind the number of interfaces.
-use Rattle.std.specs.Prelude.{ℕ, zero, suc, ◌≡◌, List, [], ◌∷◌, ◌++◌}
+-- as many texts behind the number of interfaces. And the length of its longest array.
+use Rattle.std.specs.Prelude.{ℕ, zero, suc, ◌≡◌, max, List, [], ◌∷◌, ◌++◌}
 use Rattle.jser_grammar.specs.Trees.{ContentTrees}
 use Rattle.jser_grammar.specs.WellFormed.{WellFormed}
 use Rattle.jser_grammar.specs.CheckedNames.{checked_names}
+use Rattle.jser_grammar.specs.Counts.{array_lengths}
 use Rattle.jser_reading.specs.Fields.{fields_of}
-use Rattle.jser_reading.specs.Labels.{Tag, class_desc_tag, StreamField, tag_field, block_tag_field, end_tag_field, reset_tag_field, interface_count_field, text_field, Piece, piece}
+use Rattle.jser_reading.specs.Labels.{Tag, class_desc_tag, StreamField, tag_field, block_tag_field, end_tag_field, reset_tag_field, interface_count_field, array_length_field, text_field, Piece, piece}
 
 -- the names so far, and how many of the next texts are names
 pub record Collected : Type 0 where
@@ -38,6 +39,28 @@ abbrev pub collected : Collected → List Piece → Collected
 collected x [] = x
 collected x (piece label field ∷ rest) = collected (collect field x) rest
 
+-- ---- the longest array
+
+abbrev pub greatest : List ℕ → ℕ
+greatest [] = 0
+greatest (n ∷ ns) = max n (greatest ns)
+
+-- the greater of a length and that of the array that the field begins, if it begins one
+abbrev pub measure : StreamField → ℕ → ℕ
+measure (array_length_field n) longest = max longest n
+measure field longest = longest
+
+-- these fields more
+abbrev pub measured : ℕ → List Piece → ℕ
+measured longest [] = longest
+measured longest (piece label field ∷ rest) = measured (measure field longest) rest
+
+-- ---- laws
+
 -- Along the fields of a list that obeys the format its checked names are collected.
 abbrev pub NamesAreCollected : Type 0
 NamesAreCollected = (list : ContentTrees) → WellFormed list → (collected begin_collecting (fields_of list)).names ≡ checked_names list
+
+-- .. and the greatest of its array lengths.
+abbrev pub LengthsAreMeasured : Type 0
+LengthsAreMeasured = (list : ContentTrees) → WellFormed list → measured 0 (fields_of list) ≡ greatest (array_lengths list)

@@ -1,5 +1,8 @@
 pub mod Collecting
+pub mod Finds
+pub mod Found
 pub mod Lists
+pub mod Named
 pub mod Pieces
 pub mod Sources
 pub mod Standing

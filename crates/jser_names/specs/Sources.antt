@@ -1,6 +1,5 @@
 -- The names of the stream of a source, and why there are none.
-use Rattle.std.specs.Prelude.{ℕ, ◌≡◌, ◌≢◌, ◌+◌, ◌≤◌, ◌⊎◌, Bool, true, List, length, map, take, IfSome, Option, Result, Ok, Err, Vec}
-use Rattle.std.specs.Global.{Global}
+use Rattle.std.specs.Prelude.{ℕ, ◌≡◌, ◌≢◌, ◌+◌, ◌≤◌, ◌⊎◌, Bool, true, List, length, take, IfSome, Option, Result, Ok, Err}
 use Rattle.std.specs.Io.KnownBytes.{Consumes, IsAtEnd}
 use Rattle.jser_grammar.specs.Caps.{most_bytes}
 use Rattle.jser_grammar.specs.CheckedNames.{checked_names}
@@ -14,7 +13,9 @@ use Rattle.jser_reader.specs.Gates.{open_gate}
 use Rattle.jser_reader.specs.Readers.{Seen}
 use Rattle.jser_reader.specs.Streams.{AreTruncated}
 use Rattle.jser_reader.specs.Answers.{IsRightOf}
+use Rattle.jser_names.specs.Found.{HasFound}
 use Rattle.jser_names.specs.Standing.{Names, Stands}
+use Rattle.jser_names.specs.declared.found.Found.{Found}
 use Rattle.jser_names.specs.declared.source.Halt.{Halt}
 use Rattle.jser_names.specs.declared.source.NamesFault.{NamesFault}
 use Rattle.jser_names.specs.declared.source.NamesFault.TheVariants as fault
@@ -70,12 +71,12 @@ Ends (stop.Refused refusal) why = why ≡ fault.Refused refusal
 Ends stop.OutOfMemory why = why ≡ fault.OutOfMemory
 Ends stop.Spent why = why ≡ fault.OutOfMemory
 
--- the end: the names, or the bytes end too early
-abbrev pub EndCases : (taken : List ℕ) → Result (Vec (Vec ℕ Global) Global) Halt → Type 0
-EndCases taken (Ok names) = HasNames taken (map (λ name. name.items) names.items)
+-- the end: what was found, or the bytes end too early
+abbrev pub EndCases : (taken : List ℕ) → Result Found Halt → Type 0
+EndCases taken (Ok found) = HasFound taken found
 EndCases taken (Err halt) = IfRefused (AreTruncated open_gate taken) halt.fault × (halt.fault ≢ fault.ReadFault)
 
-unfoldable pub EndsWith : Seen → Tally → Names → Result (Vec (Vec ℕ Global) Global) Halt → Type 0
+unfoldable pub EndsWith : Seen → Tally → Names → Result Found Halt → Type 0
 EndsWith r tally x result = (taken : List ℕ) → Stands taken r tally x → EndCases taken result
 
 -- what came off a source was taken, and so many bytes more may come

@@ -1,6 +1,6 @@
 -- Where a reader stands in a stream, and what of the names was collected: the names of the fields that it took, but for the last
 -- one, whose text may be there and not yet be a name.
-use Rattle.std.specs.Prelude.{ℕ, ◌≡◌, ◌<◌, ◌≤◌, ◌-◌, ◌⊎◌, Bool, true, false, if◌then◌else◌, nat_eq, List, [], ◌∷◌, ◌++◌, length}
+use Rattle.std.specs.Prelude.{ℕ, ◌≡◌, ◌<◌, ◌≤◌, ◌-◌, ◌⊎◌, max, Bool, true, false, if◌then◌else◌, nat_eq, List, [], ◌∷◌, ◌++◌, length}
 use Rattle.jser_prim.specs.ModifiedUtf8.{IsUnits, modified_utf8}
 use Rattle.jser_grammar.specs.Wire.{TC_CLASSDESC}
 use Rattle.jser_reading.specs.Labels.{text_field, Label, Piece, piece}
@@ -14,14 +14,16 @@ use Rattle.jser_reader.specs.Gates.{open_gate}
 use Rattle.jser_reader.specs.Items.{items_at, text_items}
 use Rattle.jser_reader.specs.ItemsTold.{StandsIn}
 use Rattle.jser_reader.specs.Readers.{Seen}
-use Rattle.jser_names.specs.Collecting.{Collected, begin_collecting, collected}
+use Rattle.jser_names.specs.Collecting.{Collected, begin_collecting, collected, measured}
 
--- the names; how many of the next texts are names; whether a name is being read, and its bytes so far
+-- the names; how many of the next texts are names; whether a name is being read, and its bytes so far; the length of the longest
+-- array
 pub record Names : Type 0 where
   pub names : List (List ℕ)
   pub left : ℕ
   pub is_open : Bool
   pub text : List ℕ
+  pub longest : ℕ
 
 abbrev pub view_of : Names → Collected
 view_of x = record { names = x.names; left = x.left }
@@ -32,6 +34,7 @@ view_of x = record { names = x.names; left = x.left }
 pub record ClosesName (old new : Names) : Type 0 where
   pub is : new.is_open ≡ false
   pub left : new.left ≡ old.left - 1
+  pub longest : new.longest ≡ old.longest
   pub names : (units : List ℕ) → IsUnits units → modified_utf8 units ≡ old.text → new.names ≡ old.names ++ (units ∷ [])
 
 abbrev pub Closes : (was_open : Bool) → (old new : Names) → Type 0
@@ -53,6 +56,14 @@ left_behind (item.Tag tag) left = if nat_eq tag TC_CLASSDESC then 1 else 0
 left_behind (item.InterfaceCount n) left = n
 left_behind _ left = left
 
+-- the length of the longest array behind an item
+abbrev pub longest_behind : Item → ℕ → ℕ
+longest_behind (item.ArrayLength n) longest = max longest n
+longest_behind _ longest = longest
+
+abbrev pub behind : Item → Names → Names
+behind lent x = record x { left = left_behind lent x.left; longest = longest_behind lent x.longest }
+
 pub record ClosesThen (old new : Names) (change : Names → Names) : Type 0 where
   pub mid : Names
   pub closes : Closes old.is_open old mid
@@ -62,7 +73,7 @@ pub record ClosesThen (old new : Names) (change : Names → Names) : Type 0 wher
 abbrev pub Takes : Item → (old new : Names) → Type 0
 Takes (item.TextPart part) old new = Adds old.is_open part.now old new
 Takes (item.TextLength n) old new = ClosesThen old new begun
-Takes lent old new = ClosesThen old new (λ x. record x { left = left_behind lent x.left })
+Takes lent old new = ClosesThen old new (behind lent)
 
 -- ---- where it stands
 
@@ -110,10 +121,11 @@ pub record GoesOn (front : List Piece) (cut : List ℕ) (x : Names) : Type 0 whe
 abbrev pub IsAt : (front : List Piece) → (cut : List ℕ) → Names → Type 0
 IsAt front cut x = Closed front cut x ⊎ (Ended front cut x ⊎ GoesOn front cut x)
 
--- the reader took these bytes, and the names are those of the fields in them
+-- the reader took these bytes, and the names and the longest array are those of the fields in them
 pub record Stands (taken : List ℕ) (r : Seen) (tally : Tally) (x : Names) : Type 0 where
   pub front : List Piece
   pub cut : List ℕ
   pub split : taken ≡ joined front ++ cut
   pub reads : StandsIn open_gate front cut r tally
   pub at : IsAt front cut x
+  pub measures : measured 0 front ≡ x.longest

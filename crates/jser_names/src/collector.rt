@@ -1,7 +1,8 @@
-//! The names that are collected along the items of a stream in pieces.
-ghost use Rattle.std.specs.Prelude.{◌≡◌, [], false, OnOk, map};
+//! The names that are collected along the items of a stream in pieces, and the length of its longest array.
+ghost use Rattle.std.specs.Prelude.{◌≡◌, [], false, OnOk};
 ghost use Rattle.jser_names.specs.Standing.{Adds, Closes, ClosesThen, Takes, begun};
 
+use crate::list::NameList;
 use crate::units::units_of;
 use jser_grammar::wire::TC_CLASSDESC;
 use jser_reader::Item;
@@ -17,6 +18,8 @@ pub(crate) struct Collector {
     /// Whether a name is being read.
     is_open: bool,
     text: Vec<u8>,
+    /// The length of the longest array so far; 0 where there was none.
+    longest: u32,
 }
 
 impl Model for Collector {
@@ -30,19 +33,21 @@ impl Model for Collector {
       left = a.left;
       is_open = a.is_open;
       text = a.text.items;
+      longest = a.longest;
     } };
 }
 
 impl Collector {
     /// No names. Takes no memory.
     pub(crate) fn new(alloc: Global) -> Collector
-        ensures { result ≡ record { names = []; left = 0; is_open = false; text = [] } }
+        ensures { result ≡ record { names = []; left = 0; is_open = false; text = []; longest = 0 } }
     {
         Collector {
             names: Vec::new(alloc),
             left: 0,
             is_open: false,
             text: Vec::new(alloc),
+            longest: 0,
         }
     }
 
@@ -67,13 +72,17 @@ impl Collector {
                 self.left = count;
                 Ok(())
             }
+            Item::ArrayLength(length) => {
+                self.close(alloc)?;
+                self.longest = self.longest.max(length);
+                Ok(())
+            }
             Item::Header => self.close(alloc),
             Item::Handle(_) => self.close(alloc),
             Item::Suid(_) => self.close(alloc),
             Item::Flags(_) => self.close(alloc),
             Item::FieldCount(_) => self.close(alloc),
             Item::TypeCode(_) => self.close(alloc),
-            Item::ArrayLength(_) => self.close(alloc),
             Item::BlockLength(_) => self.close(alloc),
             Item::RawPart(_) => self.close(alloc),
         }
@@ -124,10 +133,17 @@ impl Collector {
         Ok(())
     }
 
-    /// The names.
-    pub(crate) fn into_names(self) -> Vec<Vec<u16>>
-        ensures { map (λ name. name.items) result.items ≡ self.names }
+    /// The length of the longest array; 0 where there is none.
+    pub(crate) fn longest(&self) -> u32
+        ensures { result ≡ self.now.longest }
     {
-        self.names
+        self.longest
+    }
+
+    /// The names.
+    pub(crate) fn into_list(self) -> NameList
+        ensures { result ≡ self.names }
+    {
+        NameList { names: self.names }
     }
 }

@@ -1,14 +1,19 @@
-//! The checked names of a stream that comes in pieces. It keeps no bytes of the stream but those of one name.
+//! The checked names of a stream that comes in pieces, or is whole in memory. It keeps no bytes of the stream but those of one
+//! name, unless they are asked for.
 #![tactic(auto)]
 
 mod collector;
+mod found;
 pub mod laws;
 mod list;
+mod named;
 mod piece;
 mod source;
 mod units;
 mod whole;
 
+pub use found::{Found, names_in};
 pub use list::NameList;
-pub use source::{NamesFault, names_of};
+pub use named::{NamedStream, bytes_and_names_of};
+pub use source::{NamesFault, found_of, names_of};
 pub use whole::bytes_of;

@@ -1,10 +1,11 @@
-//! The names of the stream of a source, which is read in pieces.
-ghost use Rattle.std.specs.Prelude.{◌≡◌, ◌⊎◌, ◌<◌, ◌≤◌, length, vec_len, take, true, IfOk, IfErr, IfSome, OnOk, OnErr, map};
+//! The names of the stream of a source, which is read in pieces; and what else is found along it.
+ghost use Rattle.std.specs.Prelude.{◌≡◌, ◌⊎◌, ◌<◌, ◌≤◌, length, vec_len, take, true, IfOk, IfErr, IfSome, OnOk, OnErr};
 ghost use Rattle.std.specs.Io.KnownBytes.{Consumes, IsAtEnd};
+ghost use Rattle.jser_names.specs.Found.{HasFound};
 ghost use Rattle.jser_names.specs.Sources.{Ends, EndsWith, FailsWith, HasNames, IfRefused, IsHalted, IsReadOn, IsRefused, Passed, TakesSome};
 
 use crate::collector::Collector;
-use crate::laws::names_are_collected;
+use crate::found::{Found, end};
 use crate::list::NameList;
 use crate::piece::take_piece;
 use jser_grammar::caps::MOST_BYTES;
@@ -42,9 +43,29 @@ pub(crate) struct Halt {
 /// # Errors
 ///
 /// `NamesFault`, with the reason. A failed read is told whatever came before it, unless memory ran out.
-#[tactic(auto, using(crate::proofs::SourceLemmas::none_refused, crate::proofs::SourceLemmas::told_refused, crate::proofs::SourceLemmas::told_fails, crate::proofs::ReadOnLemmas::none_read, crate::proofs::ReadOnLemmas::reads_on))]
+#[tactic(auto, using(crate::proofs::SourceLemmas::of_found))]
 pub fn names_of<R: Source>(alloc: Global, source: &mut R) -> Result<NameList, NamesFault>
     ensures accepted { IfOk result (λ names. IfSome (R.to_come source.old) (λ bytes. HasNames bytes names)) }
+    ensures refused { IfErr result (λ why. IfSome (R.to_come source.old) (λ bytes. IfRefused (IsRefused bytes) why)) }
+    ensures unbroken { OnOk result (R.has_failed source.new ≡ R.has_failed source.old) }
+    ensures fault { IfErr result (λ why. FailsWith why (R.has_failed source.old) (R.has_failed source.new)) }
+    ensures read { IfErr result (λ why. IsReadOn (R.to_come source.old) (R.to_come source.new) why) }
+{
+    match found_of(alloc, source) {
+        Ok(Found { names, .. }) => Ok(names),
+        Err(why) => Err(why),
+    }
+}
+
+/// What is found along the stream of a source: its checked names, its counts and the length of its longest array. The source is
+/// read as `names_of` reads it.
+///
+/// # Errors
+///
+/// As `names_of`.
+#[tactic(auto, using(crate::proofs::SourceLemmas::none_refused, crate::proofs::SourceLemmas::told_refused, crate::proofs::SourceLemmas::told_fails, crate::proofs::ReadOnLemmas::none_read, crate::proofs::ReadOnLemmas::reads_on))]
+pub fn found_of<R: Source>(alloc: Global, source: &mut R) -> Result<Found, NamesFault>
+    ensures accepted { IfOk result (λ found. IfSome (R.to_come source.old) (λ bytes. HasFound bytes found)) }
     ensures refused { IfErr result (λ why. IfSome (R.to_come source.old) (λ bytes. IfRefused (IsRefused bytes) why)) }
     ensures unbroken { OnOk result (R.has_failed source.new ≡ R.has_failed source.old) }
     ensures fault { IfErr result (λ why. FailsWith why (R.has_failed source.old) (R.has_failed source.new)) }
@@ -53,8 +74,8 @@ pub fn names_of<R: Source>(alloc: Global, source: &mut R) -> Result<NameList, Na
     let Ok(mut buffer) = new_buffer(alloc) else {
         return Err(NamesFault::OutOfMemory);
     };
-    match read_names(alloc, source, &mut buffer) {
-        Ok(names) => Ok(NameList { names }),
+    match read_found(alloc, source, &mut buffer) {
+        Ok(found) => Ok(found),
         Err(halt) => Err(told(source, &mut buffer, halt)),
     }
 }
@@ -119,15 +140,11 @@ pub(crate) fn read_some<R: Source>(
     source.take(front)
 }
 
-/// Reads the source to its end, and collects the names.
+/// Reads the source to its end, and finds what is along its bytes.
 #[tactic(auto, using(crate::proofs::SourceLemmas::reads_none, crate::proofs::SourceLemmas::reads_some, crate::proofs::SourceLemmas::reads_more, crate::proofs::SourceLemmas::reads_stop, crate::proofs::SourceLemmas::stop_fails, crate::proofs::SourceLemmas::failed_refused, crate::proofs::SourceLemmas::end_accepts, crate::proofs::SourceLemmas::end_refuses, crate::proofs::SourceLemmas::end_fails, crate::proofs::ReadOnLemmas::halted_failed, crate::proofs::ReadOnLemmas::halted_end, crate::proofs::ReadOnLemmas::halted_stop))]
-fn read_names<R: Source>(
-    alloc: Global,
-    source: &mut R,
-    buffer: &mut [u8],
-) -> Result<Vec<Vec<u16>>, Halt>
+fn read_found<R: Source>(alloc: Global, source: &mut R, buffer: &mut [u8]) -> Result<Found, Halt>
     requires { 0 < length buffer.old }
-    ensures accepted { IfOk result (λ names. IfSome (R.to_come source.old) (λ bytes. HasNames bytes (map (λ name. name.items) names.items))) }
+    ensures accepted { IfOk result (λ found. IfSome (R.to_come source.old) (λ bytes. HasFound bytes found)) }
     ensures refused { IfErr result (λ halt. IfSome (R.to_come source.old) (λ bytes. IfRefused (IsRefused bytes) halt.fault)) }
     ensures unbroken { OnOk result (R.has_failed source.new ≡ R.has_failed source.old) }
     ensures fault { IfErr result (λ halt. FailsWith halt.fault (R.has_failed source.old) (R.has_failed source.new)) }
@@ -170,22 +187,17 @@ pub(crate) fn halted(stop: Stop, left: u64) -> Halt
     Halt { fault, left }
 }
 
-/// The end of the source: the names of the stream, if it is one.
-#[tactic(auto, using(crate::proofs::SourceLemmas::no_memory, crate::proofs::SourceLemmas::ends_names, crate::proofs::SourceLemmas::ends_refused))]
-fn finish(alloc: Global, reader: Reader<OpenGate>, names: Collector) -> Result<Vec<Vec<u16>>, Halt>
+/// The end of the source: what was found, if it is a stream.
+#[tactic(auto, using(crate::proofs::SourceLemmas::ends_so, crate::proofs::SourceLemmas::ends_refused))]
+pub(crate) fn finish(
+    alloc: Global,
+    reader: Reader<OpenGate>,
+    names: Collector,
+) -> Result<Found, Halt>
     ensures { EndsWith reader.machine reader.tally names result }
 {
-    names_are_collected();
-    let mut reader = reader;
-    let mut names = names;
-    if names.close(alloc).is_err() {
-        return Err(Halt {
-            fault: NamesFault::OutOfMemory,
-            left: 0,
-        });
-    }
-    match reader.finish() {
-        Ok(_) => Ok(names.into_names()),
+    match end(alloc, reader, names) {
+        Ok(found) => Ok(found),
         Err(stop) => Err(halted(stop, 0)),
     }
 }

@@ -1,6 +1,7 @@
 pub mod BlockLemmas
 pub mod GiveLemmas
 pub mod LaneLemmas
+pub mod LineLemmas
 pub mod NumberLemmas
 pub mod OutgoingLemmas
 pub mod PlaceLemmas

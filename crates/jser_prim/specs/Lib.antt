@@ -1,5 +1,6 @@
 pub mod Bytes
 pub mod Devices
+pub mod Fronts
 pub mod ModifiedUtf8
 pub mod Outgoing
 pub mod Places

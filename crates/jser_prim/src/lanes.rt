@@ -107,7 +107,7 @@ fn ascii_run(bytes: &[u8], at: usize) -> usize
     first_set(stops.to_bitmask(), LANES)
 }
 
-/// The same of a load of half as many bytes.
+/// How many bytes from `at` on, of a load of half as many, come before the first that is not a unit of one byte.
 #[inline(always)]
 fn ascii_half(bytes: &[u8], at: usize) -> usize
     requires { at + HALF ≤ length bytes.now }

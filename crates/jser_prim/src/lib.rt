@@ -5,8 +5,11 @@
 #![tactic(auto)]
 
 mod blocks;
+mod broken;
 mod device;
+mod front;
 mod lanes;
+mod lines;
 mod number;
 mod outbox;
 mod place;
@@ -17,8 +20,11 @@ mod sink;
 mod source;
 mod spelling;
 
+pub use broken::Broken;
 pub use device::{Failed, FailedAfter};
+pub use front::Front;
 pub use lanes::is_plain_between;
+pub use lines::whole_lines;
 pub use number::{read_u16, read_u32, read_u64};
 pub use outbox::Outbox;
 pub use reading::read_units;

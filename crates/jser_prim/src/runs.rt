@@ -33,7 +33,7 @@ fn after_units(bytes: &[u8]) -> Option<&[u8]>
     }
 }
 
-/// The same of units of two bytes.
+/// What follows the run of units of two bytes that is at the front of `bytes`, if one is.
 #[tactic(auto, using(crate::proofs::RunLemmas::follows_two))]
 #[inline(always)]
 fn after_twos(bytes: &[u8]) -> Option<&[u8]>
@@ -45,7 +45,7 @@ fn after_twos(bytes: &[u8]) -> Option<&[u8]>
     }
 }
 
-/// The same of units of three bytes.
+/// What follows the run of units of three bytes that is at the front of `bytes`, if one is.
 #[tactic(auto, using(crate::proofs::RunLemmas::follows_three))]
 #[inline(always)]
 fn after_threes(bytes: &[u8]) -> Option<&[u8]>

@@ -15,6 +15,11 @@ pub trait Source {
     /// Whether a `take` has failed.
     ghost has_failed: { Self → Bool };
 
+    /// A fact about the source and all its bytes, from the first to the last, that each `take` keeps. By default it is always
+    /// true. A source that remembers what it gave says here what it remembers: so its caller can use that after a call
+    /// that takes bytes.
+    ghost remembers: { Self → List ℕ → Type 0 } = { λ _ _. Unit {0} };
+
     /// Puts the next bytes at the front of `buf`, and returns how many. For a `buf` that is not empty, 0 is
     /// the end.
     ///
@@ -25,7 +30,8 @@ pub trait Source {
         ensures within { IfOk result (λ count. count ≤ length buf.new) }
         ensures bytes { ReadConsumes (to_come self.old) (to_come self.new) result buf.new }
         ensures ok { OnOk result (has_failed self.new ≡ has_failed self.old) }
-        ensures err { OnErr result (has_failed self.new ≡ true) };
+        ensures err { OnErr result (has_failed self.new ≡ true) }
+        ensures remembers { (all : List ℕ) → remembers self.old all → remembers self.new all };
 
     /// Whether a `take` has failed.
     fn failed(&self) -> bool

@@ -2,7 +2,7 @@
 use Rattle.std.proofs.Common.{◌≡◌, ℕ, ◌+◌, ◌≤◌, Bool, true, false, List, [], ◌∷◌, length, drop, slice_get, Option, Some, None, ap, sym, ◌∙◌, subst}
 use Rattle.std.proofs.lemmas.Option.{get_or_from_slice_get, slice_get_within}
 use Rattle.std.proofs.lemmas.List.{drop_all, drop_more}
-use Rattle.jser_shown.specs.Known.{NamedField, NamedLayer, prim_names, object_names, fields_in, has_notes}
+use Rattle.jser_shown.specs.Known.{NamedField, NamedLayer, prim_fields, object_names, fields_in, has_notes}
 use Rattle.jser_shown.specs.Shown.{field_named}
 use Rattle.jser_shown.specs.Cues.{SectionPart, data_part, raw_part, value_part, note_part, raw_parts, value_parts, note_if, section_parts}
 use Rattle.jser_printer.specs.declared.frame.Stage.{Stage}
@@ -42,21 +42,21 @@ behind_raw l others = value_parts (object_names (fields_in l)) (note_if (has_not
 abbrev behind_values : NamedLayer → List NamedLayer → List SectionPart
 behind_values l others = note_if (has_notes l) (section_parts others)
 
-pub raw_next : (chain : List NamedLayer) (index from place : ℕ) (l : NamedLayer) (fields : List NamedField) (name : List ℕ) → slice_get chain index ≡ Some l → fields ≡ fields_in l → name ≡ (field_at fields place).name → NextRaw fields from (Some place) → parts_from chain index (stage.Raw from) ≡ raw_part (field_named name) ∷ parts_from chain index (stage.Raw (place + 1))
-raw_next chain index from place l fields name is fields_are named next =
+pub raw_next : (chain : List NamedLayer) (index from place : ℕ) (l : NamedLayer) (fields : List NamedField) (f : NamedField) → slice_get chain index ≡ Some l → fields ≡ fields_in l → f ≡ field_at fields place → NextRaw fields from (Some place) → parts_from chain index (stage.Raw from) ≡ raw_part f ∷ parts_from chain index (stage.Raw (place + 1))
+raw_next chain index from place l fields f is fields_are named next =
     let others = drop (index + 1) chain in
     first_parts chain index l (stage.Raw from) is
-    ∙ ap (λ fs. raw_parts (prim_names (drop from fs)) (behind_raw l others)) (sym fields_are)
+    ∙ ap (λ fs. raw_parts (prim_fields (drop from fs)) (behind_raw l others)) (sym fields_are)
     ∙ ap (λ names. raw_parts names (behind_raw l others)) next.1
-    ∙ ap (λ n. raw_part (field_named n) ∷ raw_parts (prim_names (drop (place + 1) fields)) (behind_raw l others)) (sym named)
-    ∙ ap (λ fs. raw_part (field_named name) ∷ raw_parts (prim_names (drop (place + 1) fs)) (behind_raw l others)) fields_are
-    ∙ ap (λ parts. raw_part (field_named name) ∷ parts) (sym (first_parts chain index l (stage.Raw (place + 1)) is))
+    ∙ ap (λ n. raw_part n ∷ raw_parts (prim_fields (drop (place + 1) fields)) (behind_raw l others)) (sym named)
+    ∙ ap (λ fs. raw_part f ∷ raw_parts (prim_fields (drop (place + 1) fs)) (behind_raw l others)) fields_are
+    ∙ ap (λ parts. raw_part f ∷ parts) (sym (first_parts chain index l (stage.Raw (place + 1)) is))
 
 raw_end : (chain : List NamedLayer) (index from : ℕ) (l : NamedLayer) (fields : List NamedField) → slice_get chain index ≡ Some l → fields ≡ fields_in l → NextRaw fields from None → parts_from chain index (stage.Raw from) ≡ parts_from chain index (stage.Value 0)
 raw_end chain index from l fields is fields_are next =
     let others = drop (index + 1) chain in
     first_parts chain index l (stage.Raw from) is
-    ∙ ap (λ fs. raw_parts (prim_names (drop from fs)) (behind_raw l others)) (sym fields_are)
+    ∙ ap (λ fs. raw_parts (prim_fields (drop from fs)) (behind_raw l others)) (sym fields_are)
     ∙ ap (λ names. raw_parts names (behind_raw l others)) next
     ∙ sym (first_parts chain index l (stage.Value 0) is)
 

@@ -1,6 +1,8 @@
 -- Steps that need no field, by the frame on top.
 use Rattle.std.proofs.Common.{◌≡◌, ℕ, suc, ◌+◌, Bool, true, false, List, [], ◌∷◌, ◌++◌, length, slice_set, zero, Option, Some, None, refl, ap, sym, ◌∙◌, subst, arith}
-use Rattle.jser_shown.specs.Known.{NamedField, NamedLayer, Known, known_class, classes_at, own_class_of, is_external_class, is_external_chain}
+use Rattle.jser_shown.specs.Words.{Epoch}
+use Rattle.jser_shown.specs.Known.{NamedField, NamedLayer, Known, known_class, classes_at, own_class_of, is_external_class, is_external_chain, elements_in, elements_of_chain}
+use Rattle.jser_grammar.specs.Codes.{PrimCode}
 use Rattle.jser_shown.specs.Shown.{field_named}
 use Rattle.jser_shown.specs.Owners.{OwnerNode}
 use Rattle.jser_shown.specs.Cues.{SectionPart, data_part, raw_part, value_part, note_part, note_cue, parts_cue, Teller, teller, object_parts}
@@ -42,29 +44,37 @@ serial_sections table level number chain own b is owns external fails =
 pub no_sections : (table : NamesView) (level number : ℕ) → IsChainOf table number None → cue_of table.layers table.chains (frame.End level) ≡ parts_cue level (object_parts (is_external_chain (classes_at table.known number)) (classes_at table.known number))
 no_sections table level number is = sym (ap (λ c. parts_cue level (object_parts (is_external_chain c) c)) is)
 
+-- the elements of an array
+
+pub elements_known : (table : NamesView) (number chain : ℕ) (own : NamedLayer) (elements : Option PrimCode) → IsChainOf table number (Some chain) → own_class_of (layers_in table.chains chain) ≡ own → elements ≡ elements_in own → elements ≡ elements_of_chain (classes_at table.known number)
+elements_known table number chain own elements is owns told = told ∙ ap elements_in (sym owns) ∙ sym (ap elements_of_chain is.1)
+
+pub no_elements : (table : NamesView) (number : ℕ) → IsChainOf table number None → None ≡ elements_of_chain (classes_at table.known number)
+no_elements table number is = sym (ap elements_of_chain is)
+
 -- a step by the frame on top
 
-pub pass_first : (layers : List NamedLayer) (chains : List (List NamedLayer)) (frames : List Frame) (f : Frame) (e : ℕ) (known : Known) (os : List OwnerNode) → frames ≡ f ∷ tail_of frames → pass_in (cues_of layers chains frames) e known os ≡ pass_at (cue_of layers chains f) e known os (cues_of layers chains (tail_of frames))
+pub pass_first : (layers : List NamedLayer) (chains : List (List NamedLayer)) (frames : List Frame) (f : Frame) (e : Epoch) (known : Known) (os : List OwnerNode) → frames ≡ f ∷ tail_of frames → pass_in (cues_of layers chains frames) e known os ≡ pass_at (cue_of layers chains f) e known os (cues_of layers chains (tail_of frames))
 pass_first layers chains frames f e known os is = ap (λ fs. pass_in (cues_of layers chains fs) e known os) is
 
-pub part_first : (layers : List NamedLayer) (chains : List (List NamedLayer)) (frames : List Frame) (at : Sections) (parts : List SectionPart) (e : ℕ) (known : Known) (os : List OwnerNode) → frames ≡ frame.Sections at ∷ tail_of frames → parts_of chains at ≡ parts → pass_in (cues_of layers chains frames) e known os ≡ pass_part at.level parts e known os (cues_of layers chains (tail_of frames))
+pub part_first : (layers : List NamedLayer) (chains : List (List NamedLayer)) (frames : List Frame) (at : Sections) (parts : List SectionPart) (e : Epoch) (known : Known) (os : List OwnerNode) → frames ≡ frame.Sections at ∷ tail_of frames → parts_of chains at ≡ parts → pass_in (cues_of layers chains frames) e known os ≡ pass_part at.level parts e known os (cues_of layers chains (tail_of frames))
 part_first layers chains frames at parts e known os top is =
     pass_first layers chains frames (frame.Sections at) e known os top
     ∙ ap (λ ps. pass_part at.level ps e known os (cues_of layers chains (tail_of frames))) is
 
-pub section_passed : (layers : List NamedLayer) (chains : List (List NamedLayer)) (old new : List Frame) (at : Sections) (index : ℕ) (s : Stage) (name : Option (List ℕ)) (e : ℕ) (known : Known) (os : List OwnerNode) → old ≡ frame.Sections at ∷ tail_of old → new ≡ frame.Sections (go_on at index s) ∷ tail_of old → BeginsSection (parts_of chains at) name (parts_of chains (go_on at index s)) → teller e known os (cues_of layers chains new) ≡ pass_in (cues_of layers chains old) e known os
+pub section_passed : (layers : List NamedLayer) (chains : List (List NamedLayer)) (old new : List Frame) (at : Sections) (index : ℕ) (s : Stage) (name : Option (List ℕ)) (e : Epoch) (known : Known) (os : List OwnerNode) → old ≡ frame.Sections at ∷ tail_of old → new ≡ frame.Sections (go_on at index s) ∷ tail_of old → BeginsSection (parts_of chains at) name (parts_of chains (go_on at index s)) → teller e known os (cues_of layers chains new) ≡ pass_in (cues_of layers chains old) e known os
 section_passed layers chains old new at index s name e known os top put begins =
     ap (λ fs. teller e known os (cues_of layers chains fs)) put
     ∙ sym (part_first layers chains old at _ e known os top begins.parts_are)
 
-pub notes_passed : (layers : List NamedLayer) (chains : List (List NamedLayer)) (old mid new : List Frame) (at : Sections) (inner index : ℕ) (s : Stage) (e : ℕ) (known : Known) (os : List OwnerNode) → old ≡ frame.Sections at ∷ tail_of old → mid ≡ frame.Sections (go_on at index s) ∷ tail_of old → new ≡ frame.Notes inner ∷ mid → inner ≡ at.level + 1 → parts_of chains at ≡ note_part ∷ parts_of chains (go_on at index s) → teller e known os (cues_of layers chains new) ≡ pass_in (cues_of layers chains old) e known os
+pub notes_passed : (layers : List NamedLayer) (chains : List (List NamedLayer)) (old mid new : List Frame) (at : Sections) (inner index : ℕ) (s : Stage) (e : Epoch) (known : Known) (os : List OwnerNode) → old ≡ frame.Sections at ∷ tail_of old → mid ≡ frame.Sections (go_on at index s) ∷ tail_of old → new ≡ frame.Notes inner ∷ mid → inner ≡ at.level + 1 → parts_of chains at ≡ note_part ∷ parts_of chains (go_on at index s) → teller e known os (cues_of layers chains new) ≡ pass_in (cues_of layers chains old) e known os
 notes_passed layers chains old mid new at inner index s e known os top put pushed deep is =
     let deep' : inner ≡ suc at.level = omega arith in
     ap (λ fs. teller e known os (cues_of layers chains fs)) (pushed ∙ ap (λ fs. frame.Notes inner ∷ fs) put)
     ∙ ap (λ n. teller e known os (note_cue n ∷ parts_cue at.level (parts_of chains (go_on at index s)) ∷ cues_of layers chains (tail_of old))) deep'
     ∙ sym (part_first layers chains old at _ e known os top is)
 
-pub sections_passed : (layers : List NamedLayer) (chains : List (List NamedLayer)) (old new : List Frame) (at : Sections) (e : ℕ) (known : Known) (os : List OwnerNode) → old ≡ frame.Sections at ∷ tail_of old → new ≡ tail_of old → parts_of chains at ≡ [] → teller e known os (cues_of layers chains new) ≡ pass_in (cues_of layers chains old) e known os
+pub sections_passed : (layers : List NamedLayer) (chains : List (List NamedLayer)) (old new : List Frame) (at : Sections) (e : Epoch) (known : Known) (os : List OwnerNode) → old ≡ frame.Sections at ∷ tail_of old → new ≡ tail_of old → parts_of chains at ≡ [] → teller e known os (cues_of layers chains new) ≡ pass_in (cues_of layers chains old) e known os
 sections_passed layers chains old new at e known os top put is =
     ap (λ fs. teller e known os (cues_of layers chains fs)) put
     ∙ sym (part_first layers chains old at [] e known os top is)
@@ -89,8 +99,8 @@ notes_due layers chains frames at others top is = part_due layers chains frames 
 pub end_due : (layers : List NamedLayer) (chains : List (List NamedLayer)) (frames : List Frame) (at : Sections) → frames ≡ frame.Sections at ∷ tail_of frames → parts_of chains at ≡ [] → due_in (cues_of layers chains frames) ≡ Some quiet_due
 end_due layers chains frames at top is = part_due layers chains frames at [] top is
 
-pub raw_waits : (layers : List NamedLayer) (chains : List (List NamedLayer)) (frames : List Frame) (at : Sections) (name : List ℕ) (others : List SectionPart) → frames ≡ frame.Sections at ∷ tail_of frames → parts_of chains at ≡ raw_part (field_named name) ∷ others → due_in (cues_of layers chains frames) ≡ None
-raw_waits layers chains frames at name others top is = part_due layers chains frames at (raw_part (field_named name) ∷ others) top is
+pub raw_waits : (layers : List NamedLayer) (chains : List (List NamedLayer)) (frames : List Frame) (at : Sections) (f : NamedField) (others : List SectionPart) → frames ≡ frame.Sections at ∷ tail_of frames → parts_of chains at ≡ raw_part f ∷ others → due_in (cues_of layers chains frames) ≡ None
+raw_waits layers chains frames at f others top is = part_due layers chains frames at (raw_part f ∷ others) top is
 
 pub value_waits : (layers : List NamedLayer) (chains : List (List NamedLayer)) (frames : List Frame) (at : Sections) (name : List ℕ) (others : List SectionPart) → frames ≡ frame.Sections at ∷ tail_of frames → parts_of chains at ≡ value_part (field_named name) ∷ others → due_in (cues_of layers chains frames) ≡ None
 value_waits layers chains frames at name others top is = part_due layers chains frames at (value_part (field_named name) ∷ others) top is
@@ -108,7 +118,7 @@ end_quiet zero k = refl
 end_quiet (suc n) k = refl
 
 -- nothing is said at this frame
-pub quiet_frame : (a : Outgoing) (d : SinkState) (s : Teller) (e : ℕ) (known : Known) (os : List OwnerNode) (layers : List NamedLayer) (chains : List (List NamedLayer)) (frames : List Frame) (f f' : Frame) → teller e known os (cues_of layers chains frames) ≡ s → frames ≡ f ∷ tail_of frames → f ≡ f' → ((k : List ℕ) → due_says (due_at (cue_of layers chains f')) k ≡ k) → Says a a d d (λ k. due_says (due s) k)
+pub quiet_frame : (a : Outgoing) (d : SinkState) (s : Teller) (e : Epoch) (known : Known) (os : List OwnerNode) (layers : List NamedLayer) (chains : List (List NamedLayer)) (frames : List Frame) (f f' : Frame) → teller e known os (cues_of layers chains frames) ≡ s → frames ≡ f ∷ tail_of frames → f ≡ f' → ((k : List ℕ) → due_says (due_at (cue_of layers chains f')) k ≡ k) → Says a a d d (λ k. due_says (due s) k)
 quiet_frame a d s e known os layers chains frames f f' here top is quiet =
     says_nothing a d (λ k. due_says (due s) k)
     (λ k. ap (λ t. due_says (due t) k) (sym here) ∙ ap (λ x. due_says x k) (due_first layers chains frames f top)
@@ -153,7 +163,7 @@ close_cues layers same old new c frames popped fits unchanged added put =
     ∙ ap (λ cs. cues_of layers cs (tail_of frames)) added
     ∙ cues_more_chains layers old c (tail_of frames) (tail_fits (length layers) (length old) frames fits)
 
-pub close_passed : (layers same : List NamedLayer) (old new : List (List NamedLayer)) (c : List NamedLayer) (frames popped : List Frame) (number parent layer e : ℕ) (known known' : Known) (os : List OwnerNode) → FramesFit (length layers) (length old) frames → same ≡ layers → new ≡ old ++ c ∷ [] → popped ≡ tail_of frames → frames ≡ frame.Close number parent layer ∷ tail_of frames → known' ≡ slice_set known number (known_class (classes_at known parent ++ layer_in layers layer ∷ [])) → teller e known' os (cues_of same new popped) ≡ pass_in (cues_of layers old frames) e known os
+pub close_passed : (layers same : List NamedLayer) (old new : List (List NamedLayer)) (c : List NamedLayer) (frames popped : List Frame) (number parent layer : ℕ) (e : Epoch) (known known' : Known) (os : List OwnerNode) → FramesFit (length layers) (length old) frames → same ≡ layers → new ≡ old ++ c ∷ [] → popped ≡ tail_of frames → frames ≡ frame.Close number parent layer ∷ tail_of frames → known' ≡ slice_set known number (known_class (classes_at known parent ++ layer_in layers layer ∷ [])) → teller e known' os (cues_of same new popped) ≡ pass_in (cues_of layers old frames) e known os
 close_passed layers same old new c frames popped number parent layer e known known' os fits unchanged added put top is =
     ap (λ cues. teller e known' os cues) (close_cues layers same old new c frames popped fits unchanged added put)
     ∙ ap (λ k. teller e k os (cues_of layers old (tail_of frames))) is

@@ -5,7 +5,7 @@ use Rattle.jser_reading.specs.Labels.{StreamField}
 use Rattle.jser_shown.specs.Cues.{Teller}
 use Rattle.jser_shown.specs.Telling.{SeenField, says, says_in, settle_says, settled, first_owner}
 use Rattle.jser_shown.specs.Telling.{seen as seen_of}
-use Rattle.jser_printer.specs.FieldWords.{field_words}
+use Rattle.jser_printer.specs.FieldWords.{epoch_in, field_words}
 use Rattle.jser_printer.specs.declared.words.tag.Marks.{Marks}
 use Rattle.jser_printer.specs.Steps.{Due, due, due_says, pass, steps_left}
 use Rattle.jser_printer.specs.Passing.{Passed, MarksAre, says_next}
@@ -105,6 +105,6 @@ pub says_told : (a b : Outgoing) (d e : SinkState) (marks : Marks) (seen : SeenF
 says_told a b d e marks seen s told h is here =
     says_same a b d e (λ k. field_words marks s.cues seen k) (λ k. says s told k)
     (λ k. ap (λ x. says_in x (length s.known) (first_owner s.owners) s.cues (seen_of told) k) (sym here.0)
-    ∙ ap (λ x. says_in marks.epoch x (first_owner s.owners) s.cues (seen_of told) k) (sym here.1)
-    ∙ ap (λ x. says_in marks.epoch marks.next x s.cues (seen_of told) k) (sym here.2)
+    ∙ ap (λ x. says_in (epoch_in marks) x (first_owner s.owners) s.cues (seen_of told) k) (sym here.1)
+    ∙ ap (λ x. says_in (epoch_in marks) marks.next x s.cues (seen_of told) k) (sym here.2)
     ∙ ap (λ x. field_words marks s.cues x k) (sym is)) h

@@ -1,7 +1,9 @@
 -- Fields by the frame on top.
 use Rattle.std.proofs.Common.{◌≡◌, ℕ, suc, List, [], ◌∷◌, ◌++◌, length, slice_set, Option, Some, None, refl, ap, sym, subst, ◌∙◌, arith}
 use Rattle.jser_reading.specs.Labels.{Tag, null_tag}
-use Rattle.jser_shown.specs.Known.{NamedLayer, Known, known_class}
+use Rattle.jser_shown.specs.Words.{Epoch}
+use Rattle.jser_shown.specs.Known.{NamedField, NamedLayer, Known, known_class}
+use Rattle.jser_grammar.specs.Codes.{PrimCode, prim_code_of}
 use Rattle.jser_shown.specs.Shown.{field_named}
 use Rattle.jser_shown.specs.Owners.{OwnerNode}
 use Rattle.jser_shown.specs.Cues.{SectionPart, data_part, raw_part, value_part, note_part, top_cue, note_cue, elements_cue, parts_cue, Cue, teller}
@@ -28,7 +30,7 @@ use Rattle.jser_printer.specs.Frames.{parts_of, go_on, cue_of, cues_of, others_o
 use Rattle.jser_printer.proofs.PassLemmas.{close_cues}
 use Rattle.jser_printer.proofs.SaysLemmas.{says_nothing}
 
-pub goes_first : (layers : List NamedLayer) (chains : List (List NamedLayer)) (frames : List Frame) (f : Frame) (e : ℕ) (known : Known) (os : List OwnerNode) (field : SeenField) → frames ≡ f ∷ tail_of frames → goes_in e known os (cues_of layers chains frames) field ≡ goes_at e known os (cue_of layers chains f) (cues_of layers chains (tail_of frames)) field
+pub goes_first : (layers : List NamedLayer) (chains : List (List NamedLayer)) (frames : List Frame) (f : Frame) (e : Epoch) (known : Known) (os : List OwnerNode) (field : SeenField) → frames ≡ f ∷ tail_of frames → goes_in e known os (cues_of layers chains frames) field ≡ goes_at e known os (cue_of layers chains f) (cues_of layers chains (tail_of frames)) field
 goes_first layers chains frames f e known os field is = ap (λ fs. goes_in e known os (cues_of layers chains fs) field) is
 
 -- what stands below a cue that is not the top of the stream
@@ -37,9 +39,9 @@ pub popped_note : (layers : List NamedLayer) (chains : List (List NamedLayer)) (
 popped_note layers chains [] L cues is = absurd cc
 popped_note layers chains (f ∷ frames) L cues is = ap others_of is
 
-pub popped_elements : (layers : List NamedLayer) (chains : List (List NamedLayer)) (frames : List Frame) (L i left : ℕ) (cues : List Cue) → cues_of layers chains frames ≡ elements_cue L i left ∷ cues → cues_of layers chains (tail_of frames) ≡ cues
-popped_elements layers chains [] L i left cues is = absurd cc
-popped_elements layers chains (f ∷ frames) L i left cues is = ap others_of is
+pub popped_elements : (layers : List NamedLayer) (chains : List (List NamedLayer)) (frames : List Frame) (L : ℕ) (c : Option PrimCode) (i left : ℕ) (cues : List Cue) → cues_of layers chains frames ≡ elements_cue L c i left ∷ cues → cues_of layers chains (tail_of frames) ≡ cues
+popped_elements layers chains [] L c i left cues is = absurd cc
+popped_elements layers chains (f ∷ frames) L c i left cues is = ap others_of is
 
 -- nothing stands over the top of the stream
 pub no_frames : (layers : List NamedLayer) (chains : List (List NamedLayer)) (frames : List Frame) → cues_of layers chains frames ≡ top_cue ∷ [] → frames ≡ []
@@ -54,18 +56,18 @@ at_top layers chains frames none = ap (cues_of layers chains) none
 
 -- at the sections of an object
 
-part_goes : (layers : List NamedLayer) (chains : List (List NamedLayer)) (frames : List Frame) (at : Sections) (parts : List SectionPart) (e : ℕ) (known : Known) (os : List OwnerNode) (field : SeenField) → frames ≡ frame.Sections at ∷ tail_of frames → parts_of chains at ≡ parts → goes_in e known os (cues_of layers chains frames) field ≡ parts_goes e known os (cues_of layers chains (tail_of frames)) at.level parts field
+part_goes : (layers : List NamedLayer) (chains : List (List NamedLayer)) (frames : List Frame) (at : Sections) (parts : List SectionPart) (e : Epoch) (known : Known) (os : List OwnerNode) (field : SeenField) → frames ≡ frame.Sections at ∷ tail_of frames → parts_of chains at ≡ parts → goes_in e known os (cues_of layers chains frames) field ≡ parts_goes e known os (cues_of layers chains (tail_of frames)) at.level parts field
 part_goes layers chains frames at parts e known os field top is =
     goes_first layers chains frames (frame.Sections at) e known os field top
     ∙ ap (λ ps. parts_goes e known os (cues_of layers chains (tail_of frames)) at.level ps field) is
 
-same_frames : (layers : List NamedLayer) (chains : List (List NamedLayer)) (frames : List Frame) (at : Sections) (parts : List SectionPart) (e : ℕ) (known : Known) (os : List OwnerNode) → frames ≡ frame.Sections at ∷ tail_of frames → parts_of chains at ≡ parts → teller e known os (cues_of layers chains frames) ≡ teller e known os (parts_cue at.level parts ∷ cues_of layers chains (tail_of frames))
+same_frames : (layers : List NamedLayer) (chains : List (List NamedLayer)) (frames : List Frame) (at : Sections) (parts : List SectionPart) (e : Epoch) (known : Known) (os : List OwnerNode) → frames ≡ frame.Sections at ∷ tail_of frames → parts_of chains at ≡ parts → teller e known os (cues_of layers chains frames) ≡ teller e known os (parts_cue at.level parts ∷ cues_of layers chains (tail_of frames))
 same_frames layers chains frames at parts e known os top is =
     ap (λ fs. teller e known os (cues_of layers chains fs)) top
     ∙ ap (λ ps. teller e known os (parts_cue at.level ps ∷ cues_of layers chains (tail_of frames))) is
 
 -- the field is not this part's
-left_there : (layers : List NamedLayer) (chains : List (List NamedLayer)) (frames : List Frame) (at : Sections) (parts : List SectionPart) (field : SeenField) → frames ≡ frame.Sections at ∷ tail_of frames → parts_of chains at ≡ parts → ((e : ℕ) (known : Known) (os : List OwnerNode) (cues : List Cue) → parts_goes e known os cues at.level parts field ≡ teller e known os (parts_cue at.level parts ∷ cues)) → TakesPart layers chains at.level frames frames field None
+left_there : (layers : List NamedLayer) (chains : List (List NamedLayer)) (frames : List Frame) (at : Sections) (parts : List SectionPart) (field : SeenField) → frames ≡ frame.Sections at ∷ tail_of frames → parts_of chains at ≡ parts → ((e : Epoch) (known : Known) (os : List OwnerNode) (cues : List Cue) → parts_goes e known os cues at.level parts field ≡ teller e known os (parts_cue at.level parts ∷ cues)) → TakesPart layers chains at.level frames frames field None
 left_there layers chains frames at parts field top is stays = λ e known os.
     part_goes layers chains frames at parts e known os field top is
     ∙ stays e known os (cues_of layers chains (tail_of frames))
@@ -85,7 +87,7 @@ end_left layers chains frames at field top is =
 
 -- the field is this part's
 
-pub raw_taken : (layers : List NamedLayer) (chains : List (List NamedLayer)) (old new : List Frame) (at : Sections) (index : ℕ) (s : Stage) (name bytes : List ℕ) → old ≡ frame.Sections at ∷ tail_of old → new ≡ frame.Sections (go_on at index s) ∷ tail_of old → parts_of chains at ≡ raw_part (field_named name) ∷ parts_of chains (go_on at index s) → TakesPart layers chains at.level old new (seen_bytes bytes) None
+pub raw_taken : (layers : List NamedLayer) (chains : List (List NamedLayer)) (old new : List Frame) (at : Sections) (index : ℕ) (s : Stage) (f : NamedField) (bytes : List ℕ) → old ≡ frame.Sections at ∷ tail_of old → new ≡ frame.Sections (go_on at index s) ∷ tail_of old → parts_of chains at ≡ raw_part f ∷ parts_of chains (go_on at index s) → TakesPart layers chains at.level old new (seen_bytes bytes) None
 raw_taken layers chains old new at index s name bytes top put is = λ e known os.
     part_goes layers chains old at _ e known os (seen_bytes bytes) top is
     ∙ sym (ap (λ fs. teller e known os (cues_of layers chains fs)) put)
@@ -110,10 +112,10 @@ part_says a b d e marks layers chains frames at parts field top is h =
     says_first a b d e marks layers chains frames (frame.Sections at) field top
     (subst (λ ps. Says a b d e (λ k. cue_words marks (parts_cue at.level ps) field k)) (sym is) h)
 
-pub raw_said : (a b : Outgoing) (d e : SinkState) (marks : Marks) (layers : List NamedLayer) (chains : List (List NamedLayer)) (frames : List Frame) (at : Sections) (name : List ℕ) (others : List SectionPart) (field : SeenField) (bytes : List ℕ) → frames ≡ frame.Sections at ∷ tail_of frames → parts_of chains at ≡ raw_part (field_named name) ∷ others → field ≡ seen_bytes bytes → Says a b d e (λ k. raw_line (suc at.level) (field_named name) bytes k) → Says a b d e (λ k. field_words marks (cues_of layers chains frames) field k)
-raw_said a b d e marks layers chains frames at name others field bytes top is same h =
-    part_says a b d e marks layers chains frames at (raw_part (field_named name) ∷ others) field top is
-    (subst (λ f. Says a b d e (λ k. cue_words marks (parts_cue at.level (raw_part (field_named name) ∷ others)) f k)) (sym same) h)
+pub raw_said : (a b : Outgoing) (d e : SinkState) (marks : Marks) (layers : List NamedLayer) (chains : List (List NamedLayer)) (frames : List Frame) (at : Sections) (f : NamedField) (others : List SectionPart) (field : SeenField) (bytes : List ℕ) → frames ≡ frame.Sections at ∷ tail_of frames → parts_of chains at ≡ raw_part f ∷ others → field ≡ seen_bytes bytes → Says a b d e (λ k. raw_line marks.values (prim_code_of f.code) (suc at.level) (field_named f.name) bytes k) → Says a b d e (λ k. field_words marks (cues_of layers chains frames) field k)
+raw_said a b d e marks layers chains frames at f others field bytes top is same h =
+    part_says a b d e marks layers chains frames at (raw_part f ∷ others) field top is
+    (subst (λ x. Says a b d e (λ k. cue_words marks (parts_cue at.level (raw_part f ∷ others)) x k)) (sym same) h)
 
 pub value_said : (a b : Outgoing) (d e : SinkState) (marks : Marks) (layers : List NamedLayer) (chains : List (List NamedLayer)) (frames : List Frame) (at : Sections) (name : List ℕ) (others : List SectionPart) (field : SeenField) (tag : Tag) → frames ≡ frame.Sections at ∷ tail_of frames → parts_of chains at ≡ value_part (field_named name) ∷ others → field ≡ seen_tag tag → Says a b d e (λ k. begin_line (suc at.level) (name_text (field_named name) (tag_words marks tag k))) → Says a b d e (λ k. field_words marks (cues_of layers chains frames) field k)
 value_said a b d e marks layers chains frames at name others field tag top is same h =
@@ -138,19 +140,19 @@ pub end_silent : (a : Outgoing) (d : SinkState) (marks : Marks) (layers : List N
 end_silent a d marks layers chains frames at field top is =
     part_silent a d marks layers chains frames at [] field top is (λ k. refl)
 
-raw-says_nothing : (marks : Marks) (level : ℕ) (name : ValueName) (parts : List SectionPart) (sight : Seen) (k : List ℕ) → ((x : Bor (List ℕ)) → sight ≡ seen.Bytes x → ⊥) → cue_words marks (parts_cue level (raw_part name ∷ parts)) (view_seen sight) k ≡ k
+raw-says_nothing : (marks : Marks) (level : ℕ) (name : NamedField) (parts : List SectionPart) (sight : Seen) (k : List ℕ) → ((x : Bor (List ℕ)) → sight ≡ seen.Bytes x → ⊥) → cue_words marks (parts_cue level (raw_part name ∷ parts)) (view_seen sight) k ≡ k
 raw-says_nothing marks level name parts (seen.Bytes x) k other = absurd (other x refl)
 raw-says_nothing marks level name parts sight k other = refl
 
-raw-stays : (level : ℕ) (name : ValueName) (parts : List SectionPart) (sight : Seen) → ((x : Bor (List ℕ)) → sight ≡ seen.Bytes x → ⊥) → (e : ℕ) (known : Known) (os : List OwnerNode) (cues : List Cue) → parts_goes e known os cues level (raw_part name ∷ parts) (view_seen sight) ≡ teller e known os (parts_cue level (raw_part name ∷ parts) ∷ cues)
+raw-stays : (level : ℕ) (name : NamedField) (parts : List SectionPart) (sight : Seen) → ((x : Bor (List ℕ)) → sight ≡ seen.Bytes x → ⊥) → (e : Epoch) (known : Known) (os : List OwnerNode) (cues : List Cue) → parts_goes e known os cues level (raw_part name ∷ parts) (view_seen sight) ≡ teller e known os (parts_cue level (raw_part name ∷ parts) ∷ cues)
 raw-stays level name parts (seen.Bytes x) other e known os cues = absurd (other x refl)
 raw-stays level name parts sight other e known os cues = refl
 
-pub raw_silent : (a : Outgoing) (d : SinkState) (marks : Marks) (layers : List NamedLayer) (chains : List (List NamedLayer)) (frames : List Frame) (at : Sections) (name : ValueName) (others : List SectionPart) (sight : Seen) → frames ≡ frame.Sections at ∷ tail_of frames → parts_of chains at ≡ raw_part name ∷ others → ((x : Bor (List ℕ)) → sight ≡ seen.Bytes x → ⊥) → Says a a d d (λ k. field_words marks (cues_of layers chains frames) (view_seen sight) k)
+pub raw_silent : (a : Outgoing) (d : SinkState) (marks : Marks) (layers : List NamedLayer) (chains : List (List NamedLayer)) (frames : List Frame) (at : Sections) (name : NamedField) (others : List SectionPart) (sight : Seen) → frames ≡ frame.Sections at ∷ tail_of frames → parts_of chains at ≡ raw_part name ∷ others → ((x : Bor (List ℕ)) → sight ≡ seen.Bytes x → ⊥) → Says a a d d (λ k. field_words marks (cues_of layers chains frames) (view_seen sight) k)
 raw_silent a d marks layers chains frames at name others sight top is other =
     part_silent a d marks layers chains frames at (raw_part name ∷ others) (view_seen sight) top is (λ k. raw-says_nothing marks at.level name others sight k other)
 
-pub raw_left : (layers : List NamedLayer) (chains : List (List NamedLayer)) (frames : List Frame) (at : Sections) (name : ValueName) (others : List SectionPart) (sight : Seen) → frames ≡ frame.Sections at ∷ tail_of frames → parts_of chains at ≡ raw_part name ∷ others → ((x : Bor (List ℕ)) → sight ≡ seen.Bytes x → ⊥) → TakesPart layers chains at.level frames frames (view_seen sight) None
+pub raw_left : (layers : List NamedLayer) (chains : List (List NamedLayer)) (frames : List Frame) (at : Sections) (name : NamedField) (others : List SectionPart) (sight : Seen) → frames ≡ frame.Sections at ∷ tail_of frames → parts_of chains at ≡ raw_part name ∷ others → ((x : Bor (List ℕ)) → sight ≡ seen.Bytes x → ⊥) → TakesPart layers chains at.level frames frames (view_seen sight) None
 raw_left layers chains frames at name others sight top is other =
     left_there layers chains frames at (raw_part name ∷ others) (view_seen sight) top is (raw-stays at.level name others sight other)
 
@@ -158,7 +160,7 @@ value-says_nothing : (marks : Marks) (level : ℕ) (name : ValueName) (parts : L
 value-says_nothing marks level name parts (seen.Tag x) k other = absurd (other x refl)
 value-says_nothing marks level name parts sight k other = refl
 
-value-stays : (level : ℕ) (name : ValueName) (parts : List SectionPart) (sight : Seen) → ((x : DeclaredTag) → sight ≡ seen.Tag x → ⊥) → (e : ℕ) (known : Known) (os : List OwnerNode) (cues : List Cue) → parts_goes e known os cues level (value_part name ∷ parts) (view_seen sight) ≡ teller e known os (parts_cue level (value_part name ∷ parts) ∷ cues)
+value-stays : (level : ℕ) (name : ValueName) (parts : List SectionPart) (sight : Seen) → ((x : DeclaredTag) → sight ≡ seen.Tag x → ⊥) → (e : Epoch) (known : Known) (os : List OwnerNode) (cues : List Cue) → parts_goes e known os cues level (value_part name ∷ parts) (view_seen sight) ≡ teller e known os (parts_cue level (value_part name ∷ parts) ∷ cues)
 value-stays level name parts (seen.Tag x) other e known os cues = absurd (other x refl)
 value-stays level name parts sight other e known os cues = refl
 
@@ -172,7 +174,7 @@ value_left layers chains frames at name others sight top is other =
 
 -- a class with no superclass ends
 
-pub null_taken : (layers same : List NamedLayer) (old new : List (List NamedLayer)) (c : List NamedLayer) (frames popped : List Frame) (at : SuperPlace) (e : ℕ) (known known' : Known) (os : List OwnerNode) → FramesFit (length layers) (length old) frames → same ≡ layers → new ≡ old ++ c ∷ [] → popped ≡ tail_of frames → frames ≡ frame.Super at ∷ tail_of frames → known' ≡ slice_set known at.number (known_class (layer_in layers at.layer ∷ [])) → teller e known' os (cues_of same new popped) ≡ goes_in e known os (cues_of layers old frames) (seen_tag null_tag)
+pub null_taken : (layers same : List NamedLayer) (old new : List (List NamedLayer)) (c : List NamedLayer) (frames popped : List Frame) (at : SuperPlace) (e : Epoch) (known known' : Known) (os : List OwnerNode) → FramesFit (length layers) (length old) frames → same ≡ layers → new ≡ old ++ c ∷ [] → popped ≡ tail_of frames → frames ≡ frame.Super at ∷ tail_of frames → known' ≡ slice_set known at.number (known_class (layer_in layers at.layer ∷ [])) → teller e known' os (cues_of same new popped) ≡ goes_in e known os (cues_of layers old frames) (seen_tag null_tag)
 null_taken layers same old new c frames popped at e known known' os fits unchanged added put top is =
     ap (λ cues. teller e known' os cues) (close_cues layers same old new c frames popped fits unchanged added put)
     ∙ ap (λ k. teller e k os (cues_of layers old (tail_of frames))) is

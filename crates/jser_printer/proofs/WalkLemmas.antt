@@ -23,10 +23,10 @@ goes_seen old new s told is same = is ∙ ap (λ f. goes_in old.epoch old.known 
 -- the handle of a reference that is a value: nothing is due before it
 
 pub says_handle : (a b : Outgoing) (d e : SinkState) (s : Teller) (p : Phase) (name : List ℕ) (done : List NamedField) (standing : Teller) (n : ℕ) (told : StreamField)
-    → in_phase p name done standing ≡ s → p ≡ phase.Handle → Says a b d e (λ k. mark standing.epoch n (end_line k)) → view_seen (sight.Handle n) ≡ seen told → Says a b d e (λ k. says_next s told k)
+    → in_phase p name done standing ≡ s → p ≡ phase.Handle → Says a b d e (λ k. mark standing.epoch.number n (end_line k)) → view_seen (sight.Handle n) ≡ seen told → Says a b d e (λ k. says_next s told k)
 says_handle a b d e s p name done standing n told here is h same =
     subst (λ t. Says a b d e (λ k. says_next t told k)) (ap (λ x. in_phase x name done standing) (sym is) ∙ here)
-    (subst (λ f. Says a b d e (λ k. handle_says standing.epoch f k)) same h)
+    (subst (λ f. Says a b d e (λ k. handle_says standing.epoch.number f k)) same h)
 
 pub goes_handle : (s : Teller) (p : Phase) (name : List ℕ) (done : List NamedField) (standing : Teller) (n : ℕ) (told : StreamField)
     → in_phase p name done standing ≡ s → p ≡ phase.Handle → view_seen (sight.Handle n) ≡ seen told → in_phase phase.Frames name done standing ≡ goes (settled s) told
@@ -37,10 +37,10 @@ goes_handle s p name done standing n told here is same =
 -- the handle of a reference that is the class of an owner
 
 pub says_class_handle : (a b : Outgoing) (d e : SinkState) (s : Teller) (p : Phase) (owner : Owner) (level : ℕ) (name : List ℕ) (done : List NamedField) (standing : Teller) (n : ℕ) (told : StreamField)
-    → in_phase p name done standing ≡ s → p ≡ phase.ClassHandle owner level → Says a b d e (λ k. mark standing.epoch n (end_line k)) → view_seen (sight.Handle n) ≡ seen told → Says a b d e (λ k. says_next s told k)
+    → in_phase p name done standing ≡ s → p ≡ phase.ClassHandle owner level → Says a b d e (λ k. mark standing.epoch.number n (end_line k)) → view_seen (sight.Handle n) ≡ seen told → Says a b d e (λ k. says_next s told k)
 says_class_handle a b d e s p owner level name done standing n told here is h same =
     subst (λ t. Says a b d e (λ k. says_next t told k)) (ap (λ x. in_phase x name done standing) (sym is) ∙ here)
-    (subst (λ f. Says a b d e (λ k. handle_says standing.epoch f k)) same h)
+    (subst (λ f. Says a b d e (λ k. handle_says standing.epoch.number f k)) same h)
 
 pub goes_class_handle : (s : Teller) (p : Phase) (owner : Owner) (level : ℕ) (name : List ℕ) (done : List NamedField) (old new : Teller) (n : ℕ) (told : StreamField)
     → in_phase p name done old ≡ s → p ≡ phase.ClassHandle owner level → new ≡ teller old.epoch old.known old.owners (made_cue (view_owner owner) level n ∷ old.cues) → view_seen (sight.Handle n) ≡ seen told → in_phase phase.Frames name done new ≡ goes (settled s) told

@@ -3,7 +3,8 @@ use Rattle.std.specs.Prelude.{ℕ, Bool, true, false, ◌≡◌, ◌<◌, suc, L
 use Rattle.jser_reading.specs.Labels.{Tag as ToldTag}
 use Rattle.jser_shown.specs.Owners.{OwnerNode}
 use Rattle.jser_shown.specs.Telling.{SeenField, begin, goes_in}
-use Rattle.jser_shown.specs.Known.{Known, NamedLayer, prim_names, object_names, fields_in, has_notes, own_class_of}
+use Rattle.jser_shown.specs.Known.{Known, NamedLayer, prim_fields, object_names, fields_in, has_notes, own_class_of}
+use Rattle.jser_shown.specs.Words.{Epoch}
 use Rattle.jser_shown.specs.Shown.{field_named}
 use Rattle.jser_shown.specs.Cues.{SectionPart, data_part, external_part, raw_part, value_part, note_part, Cue, top_cue, note_cue, elements_cue, parts_cue, made_cue, super_cue, super_handle_cue, close_cue, raw_parts, value_parts, note_if, section_parts, Teller, teller}
 use Rattle.jser_printer.specs.declared.frame.Frame.{Frame}
@@ -17,6 +18,8 @@ use Rattle.jser_printer.specs.declared.part.NextPart.{NextPart}
 use Rattle.jser_printer.specs.Steps.{Due, due_in, layer_name, pass_in}
 use Rattle.jser_printer.specs.Given.{view_owner}
 use Rattle.jser_printer.specs.Names.{view_name}
+use Rattle.jser_printer.specs.Layers.{view_field}
+use Rattle.jser_printer.specs.Primitives.{view_elements}
 use Rattle.jser_printer.specs.Tables.{layer_in, layers_in}
 
 -- the parts of the sections of these classes from a stage of the first one on
@@ -24,7 +27,7 @@ abbrev pub parts_at : Stage → List NamedLayer → List SectionPart
 parts_at stage.Start layers = section_parts layers
 parts_at (stage.Raw i) [] = []
 parts_at (stage.Raw i) (l ∷ layers) =
-    raw_parts (prim_names (drop i (fields_in l)))
+    raw_parts (prim_fields (drop i (fields_in l)))
     (value_parts (object_names (fields_in l)) (note_if (has_notes l) (section_parts layers)))
 parts_at (stage.Value i) [] = []
 parts_at (stage.Value i) (l ∷ layers) =
@@ -45,7 +48,7 @@ go_on at index stage = record { level = at.level; chain = at.chain; index = inde
 -- the cue of a frame, where these are the layers and the chains of the table
 abbrev pub cue_of : List NamedLayer → List (List NamedLayer) → Frame → Cue
 cue_of layers chains (frame.Notes level) = note_cue level
-cue_of layers chains (frame.Elements at) = elements_cue at.level at.index at.left
+cue_of layers chains (frame.Elements at) = elements_cue at.level (view_elements at.elements) at.index at.left
 cue_of layers chains (frame.Sections at) = parts_cue at.level (parts_of chains at)
 cue_of layers chains (frame.External level chain) =
     parts_cue level (external_part (own_class_of (layers_in chains chain)) ∷ note_part ∷ [])
@@ -86,7 +89,7 @@ pub record BeginsSection (parts : List SectionPart) (name : Option (List ℕ)) (
 -- these parts begin with this one, and then come the others
 abbrev pub BeginsWith : List SectionPart → Part → List SectionPart → Type 0
 BeginsWith parts (part.Section name) others = BeginsSection parts (view_name name) others
-BeginsWith parts (part.Raw name) others = parts ≡ raw_part (field_named name.now) ∷ others
+BeginsWith parts (part.Raw f) others = parts ≡ raw_part (view_field f.now) ∷ others
 BeginsWith parts (part.Value name) others = parts ≡ value_part (field_named name.now) ∷ others
 BeginsWith parts part.Notes others = parts ≡ note_part ∷ others
 BeginsWith parts part.End others = parts ≡ []
@@ -125,15 +128,15 @@ FirstIs cue s = s.cues ≡ cue ∷ others_of s.cues
 -- At the sections on top of a stack a field leads to these frames, and to the value with this tag, if it begins one.
 abbrev pub TakesPart : List NamedLayer → List (List NamedLayer) → (level : ℕ) → (old new : List Frame) → SeenField → Option ToldTag → Type 0
 TakesPart layers chains level old new field None =
-    (e : ℕ) (known : Known) (os : List OwnerNode)
+    (e : Epoch) (known : Known) (os : List OwnerNode)
     → goes_in e known os (cues_of layers chains old) field ≡ teller e known os (cues_of layers chains new)
 TakesPart layers chains level old new field (Some tag) =
-    (e : ℕ) (known : Known) (os : List OwnerNode)
+    (e : Epoch) (known : Known) (os : List OwnerNode)
     → goes_in e known os (cues_of layers chains old) field ≡ begin e (suc level) known os tag (cues_of layers chains new)
 
 -- What is due on top of a stack is done and leads to these frames, or nothing is due.
 abbrev pub PassesTop : List NamedLayer → List (List NamedLayer) → (more : Bool) → (old new : List Frame) → Type 0
 PassesTop layers chains true old new =
     ((d : Due) × (due_in (cues_of layers chains old) ≡ Some d))
-    × ((e : ℕ) (known : Known) (os : List OwnerNode) → teller e known os (cues_of layers chains new) ≡ pass_in (cues_of layers chains old) e known os)
+    × ((e : Epoch) (known : Known) (os : List OwnerNode) → teller e known os (cues_of layers chains new) ≡ pass_in (cues_of layers chains old) e known os)
 PassesTop layers chains false old new = (due_in (cues_of layers chains old) ≡ None) × (new ≡ old)

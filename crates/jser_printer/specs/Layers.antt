@@ -1,7 +1,7 @@
 -- The classes of chains, and the fields of a class by their places.
 use Rattle.std.specs.Prelude.{ℕ, ◌≡◌, ◌+◌, ◌<◌, Bool, List, [], ◌∷◌, length, map, drop, slice_index_or, Option, Some, None, is_some}
 use Rattle.jser_grammar.specs.Codes.{prim_code_of}
-use Rattle.jser_shown.specs.Known.{NamedLayer, class_layer, proxy_layer, prim_names, object_names}
+use Rattle.jser_shown.specs.Known.{NamedLayer, class_layer, proxy_layer, prim_fields, object_names}
 use Rattle.jser_shown.specs.Known.{NamedField as ToldField}
 use Rattle.jser_printer.specs.declared.layer.Layer.{Layer}
 use Rattle.jser_printer.specs.declared.layer.Layer.TheVariants as layer
@@ -32,9 +32,9 @@ is_raw_at fields i = is_some (prim_code_of (field_at fields i).code)
 
 -- the next field of a primitive type, at `from` or after it
 abbrev pub NextRaw : List ToldField → (from : ℕ) → Option ℕ → Type 0
-NextRaw fields from None = prim_names (drop from fields) ≡ []
+NextRaw fields from None = prim_fields (drop from fields) ≡ []
 NextRaw fields from (Some i) =
-    (i < length fields) × (prim_names (drop from fields) ≡ (field_at fields i).name ∷ prim_names (drop (i + 1) fields))
+    (i < length fields) × (prim_fields (drop from fields) ≡ field_at fields i ∷ prim_fields (drop (i + 1) fields))
 
 -- the next field of another type
 abbrev pub NextValue : List ToldField → (from : ℕ) → Option ℕ → Type 0

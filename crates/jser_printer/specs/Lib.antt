@@ -1,14 +1,15 @@
 pub mod Names
 pub mod Given
 pub mod Steps
+pub mod Primitives
 pub mod Layers
 pub mod Tables
 pub mod Frames
 pub mod Seen
 pub mod Phases
 pub mod Says
-pub mod TagWords
 pub mod FieldWords
+pub mod TagWords
 pub mod DueWords
 pub mod Passing
 pub mod Plain

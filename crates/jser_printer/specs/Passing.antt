@@ -4,6 +4,7 @@ use Rattle.jser_shown.specs.Cues.{Teller}
 use Rattle.jser_reading.specs.Labels.{StreamField}
 use Rattle.jser_shown.specs.Telling.{says, settle_says, settled, first_owner}
 use Rattle.jser_printer.specs.Given.{view_node}
+use Rattle.jser_printer.specs.FieldWords.{epoch_in}
 use Rattle.jser_printer.specs.Phases.{StandsIn}
 use Rattle.jser_printer.specs.Steps.{Due, due, pass}
 use Rattle.jser_printer.specs.declared.phase.Phase.{Phase}
@@ -12,7 +13,7 @@ use Rattle.jser_printer.specs.declared.words.tag.Marks.{Marks}
 -- what the words of a tag need of a teller
 abbrev pub MarksAre : Marks → Teller → Type 0
 MarksAre marks s =
-    (marks.epoch ≡ s.epoch) × (marks.next ≡ length s.known) × (view_node marks.owner ≡ first_owner s.owners)
+    (epoch_in marks ≡ s.epoch) × (marks.next ≡ length s.known) × (view_node marks.owner ≡ first_owner s.owners)
 
 abbrev pub IsDue : Teller → Type 0
 IsDue s = (d : Due) × (due s ≡ Some d)

@@ -1,6 +1,7 @@
 -- What comes before the frames of a printer.
 use Rattle.std.specs.Prelude.{ℕ, ◌≡◌, true, false, List, ◌∷◌, reverse}
 use Rattle.jser_shown.specs.Known.{Known, NamedField as ToldField}
+use Rattle.jser_shown.specs.Words.{Epoch}
 use Rattle.jser_shown.specs.Owners.{OwnerNode as ToldNode}
 use Rattle.jser_shown.specs.Cues.{Cue, header_cue, handle_cue, string_cue, text_place_cue, block_length_cue, block_cue, name_cue, length_cue, class_cue, class_handle_cue, class_name_cue, suid_cue, flags_cue, field_count_cue, fields_cue, field_name_cue, type_cue, interface_count_cue, interfaces_cue, Teller, teller}
 use Rattle.jser_shown.specs.Telling.{SeenField, goes_in}
@@ -11,6 +12,7 @@ use Rattle.jser_printer.specs.declared.phase.Phase.TheVariants as phase
 use Rattle.jser_printer.specs.declared.layer.NamedField.{NamedField}
 use Rattle.jser_printer.specs.Given.{view_owner}
 use Rattle.jser_printer.specs.Layers.{view_fields}
+use Rattle.jser_printer.specs.Primitives.{view_elements}
 
 abbrev pub over_fields : Over → List Cue → List Cue
 over_fields over.Nothing cues = cues
@@ -29,7 +31,7 @@ phase_cues phase.Handle name done cues = handle_cue ∷ cues
 phase_cues phase.Text name done cues = string_cue ∷ cues
 phase_cues phase.BlockLength name done cues = block_length_cue ∷ cues
 phase_cues phase.Block name done cues = block_cue ∷ cues
-phase_cues (phase.ArrayLength level) name done cues = length_cue level ∷ cues
+phase_cues (phase.ArrayLength level elements) name done cues = length_cue level (view_elements elements) ∷ cues
 phase_cues (phase.EnumName level) name done cues = name_cue level ∷ cues
 phase_cues (phase.Class owner level) name done cues = class_cue (view_owner owner) level ∷ cues
 phase_cues (phase.ClassHandle owner level) name done cues = class_handle_cue (view_owner owner) level ∷ cues
@@ -55,7 +57,7 @@ StandsIn phase now whole = (name : List ℕ) (done : List ToldField) → whole �
 -- From one phase a field leads to another, whatever is known and comes behind; it changes nothing else.
 abbrev pub Leads : (from to : Phase) → SeenField → Type 0
 Leads from to field =
-    (e : ℕ) (known : Known) (os : List ToldNode) (cues : List Cue) (name : List ℕ) (done : List ToldField)
+    (e : Epoch) (known : Known) (os : List ToldNode) (cues : List Cue) (name : List ℕ) (done : List ToldField)
     → teller e known os (phase_cues to name done cues) ≡ goes_in e known os (phase_cues from name done cues) field
 
 -- the fields of a descriptor, the last one first

@@ -3,6 +3,7 @@ ghost use Rattle.std.specs.Prelude.{◌≡◌};
 ghost use Rattle.jser_printer.specs.Frames.{go_on};
 
 use crate::owner::Owner;
+use crate::primitive::Primitive;
 
 /// How far the section of a class has come.
 #[derive(Clone, Copy)]
@@ -19,6 +20,8 @@ pub(crate) enum Stage {
 #[derive(Clone, Copy)]
 pub(crate) struct Elements {
     pub(crate) level: u64,
+    /// Their type, where it is primitive.
+    pub(crate) elements: Option<Primitive>,
     /// The index of the first of them.
     pub(crate) index: u32,
     /// How many they are.
@@ -37,7 +40,7 @@ pub(crate) struct Sections {
 }
 
 impl Sections {
-    /// The same sections from a stage of the layer at this index on.
+    /// The sections from a stage of the layer at this index on.
     #[inline(always)]
     pub(crate) fn go_on(self, index: usize, stage: Stage) -> Sections
         ensures { result ≡ go_on self index stage }

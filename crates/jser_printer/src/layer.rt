@@ -1,12 +1,14 @@
 //! The classes of chains, with their names.
 ghost use Rattle.std.specs.Prelude.{◌≡◌, ◌<◌, length, is_some, option_map};
 ghost use Rattle.jser_grammar.specs.Codes.{prim_code_of, is_object_code};
-ghost use Rattle.jser_shown.specs.Known.{fields_in, has_notes, is_external_class};
+ghost use Rattle.jser_shown.specs.Known.{fields_in, elements_in, has_notes, is_external_class};
 ghost use Rattle.jser_printer.specs.Steps.{layer_name};
-ghost use Rattle.jser_printer.specs.Layers.{view_layer, view_fields, field_at, is_raw_at, NextRaw, NextValue};
+ghost use Rattle.jser_printer.specs.Layers.{view_layer, view_field, view_fields, field_at, is_raw_at, NextRaw, NextValue};
 ghost use Rattle.jser_printer.specs.Names.{view_name};
+ghost use Rattle.jser_printer.specs.Primitives.{view_elements};
 
 use crate::name::Name;
+use crate::primitive::Primitive;
 use jser_table::flags::{SC_EXTERNALIZABLE, SC_WRITE_METHOD};
 
 /// A field of a class.
@@ -57,6 +59,16 @@ impl Layer {
         }
     }
 
+    /// The type of the elements of an array of this class, where it is primitive.
+    pub(crate) fn elements(&self) -> Option<Primitive>
+        ensures { view_elements result ≡ elements_in (view_layer self.now) }
+    {
+        match self {
+            Layer::Class { name, .. } => name.elements(),
+            Layer::Proxy => None,
+        }
+    }
+
     /// Whether an annotation stands behind the values of its section.
     #[inline(always)]
     pub(crate) fn has_notes(&self) -> bool
@@ -104,6 +116,16 @@ fn is_raw(fields: &[NamedField], place: usize) -> bool
     ensures { result ≡ is_raw_at (view_fields fields.now) place }
 {
     is_primitive(fields[place].code)
+}
+
+/// The field at this place.
+#[tactic(auto, using(crate::proofs::LayerLemmas::field_there))]
+#[inline(always)]
+pub(crate) fn field_of(fields: &[NamedField], place: usize) -> &NamedField
+    requires { place < length fields.now }
+    ensures { view_field result.now ≡ field_at (view_fields fields.now) place }
+{
+    &fields[place]
 }
 
 /// The name of the field at this place.

@@ -11,6 +11,7 @@ mod opened;
 mod owner;
 mod part;
 mod phase;
+mod primitive;
 mod printer;
 mod seen;
 mod silent;

@@ -4,8 +4,12 @@ ghost use Rattle.std.specs.List.{flat_map};
 ghost use Rattle.hex.specs.Hex.{encode_lower};
 ghost use Rattle.jser_prim.specs.Bytes.{big_bytes};
 ghost use Rattle.jser_shown.specs.Words.{quoted_unit};
+ghost use Rattle.jser_grammar.specs.Codes.{prim_code_of};
+ghost use Rattle.jser_shown.specs.Known.{named_elements};
 ghost use Rattle.jser_printer.specs.Names.{view_text};
+ghost use Rattle.jser_printer.specs.Primitives.{view_elements};
 
+use crate::primitive::{Primitive, primitive_of};
 use crate::text::{Text, is_plain};
 use arrayvec::ArrayVec;
 use byteorder::{BigEndian, ByteOrder};
@@ -82,6 +86,34 @@ impl Name {
     {
         self.quoted.as_slice()
     }
+
+    /// The type of the elements of an array class of this name, where it is primitive: the name is `[` and a type code.
+    pub(crate) fn elements(&self) -> Option<Primitive>
+        ensures { view_elements result ≡ named_elements self.now }
+    {
+        let quoted = &self.quoted;
+        if self.is_plain {
+            match quoted.as_slice() {
+                [b'[', code] => primitive_of(*code),
+                _ => None,
+            }
+        } else {
+            match self.units.as_slice() {
+                [0x5B, code] => letter_of(*code),
+                _ => None,
+            }
+        }
+    }
+}
+
+/// The primitive type with this type code, if it is one.
+fn letter_of(code: u16) -> Option<Primitive>
+    ensures { view_elements result ≡ prim_code_of code }
+{
+    if code > 0x7F {
+        return None;
+    }
+    primitive_of(code as u8)
 }
 
 /// What these units are in a quoted text, without the quotes.

@@ -4,7 +4,7 @@ ghost use Rattle.jser_printer.specs.Tables.{layers_in};
 ghost use Rattle.jser_printer.specs.Frames.{IsNextPart, LeadsToFields};
 
 use crate::frame::Stage;
-use crate::layer::{Layer, name_of, next_raw, next_value};
+use crate::layer::{Layer, NamedField, field_of, name_of, next_raw, next_value};
 use crate::name::Name;
 use crate::seen::Tag;
 use crate::table::NameTable;
@@ -14,8 +14,8 @@ use crate::table::NameTable;
 pub(crate) enum Part<'t> {
     /// The first line of the section of a class with this name; None for a proxy.
     Section(Option<&'t Name>),
-    /// The raw value of the field with this name.
-    Raw(&'t Name),
+    /// The raw value of this field.
+    Raw(&'t NamedField),
     /// The value of the field with this name.
     Value(&'t Name),
     /// The annotation of a section.
@@ -55,7 +55,7 @@ pub(crate) fn next_part(table: &NameTable, chain: u32, index: usize, stage: Stag
                 return value_part(table, chain, index, 0);
             };
             NextPart {
-                part: Part::Raw(name_of(fields, place)),
+                part: Part::Raw(field_of(fields, place)),
                 index,
                 stage: Stage::Raw(place + 1),
             }
@@ -64,7 +64,7 @@ pub(crate) fn next_part(table: &NameTable, chain: u32, index: usize, stage: Stag
     }
 }
 
-/// The same from the first line of a section on.
+/// The first part of the sections from the first line of the section at this index on.
 #[inline(always)]
 fn section_part(table: &NameTable, chain: u32, index: usize) -> NextPart<'_>
     requires { chain < length table.now.chains }
@@ -85,7 +85,7 @@ fn section_part(table: &NameTable, chain: u32, index: usize) -> NextPart<'_>
     }
 }
 
-/// The same from the values of a section on.
+/// The first part of the sections from the values of the section at this index on.
 #[inline(always)]
 fn value_part(table: &NameTable, chain: u32, index: usize, from: usize) -> NextPart<'_>
     requires chain_in { chain < length table.now.chains }

@@ -1,6 +1,7 @@
 //! Phases: what comes before all frames.
 
 use crate::owner::Owner;
+use crate::primitive::Primitive;
 
 /// A descriptor that has its handle.
 #[derive(Clone, Copy)]
@@ -42,6 +43,8 @@ pub(crate) enum Phase {
     Block,
     ArrayLength {
         level: u64,
+        /// The type of its elements, where it is primitive.
+        elements: Option<Primitive>,
     },
     EnumName {
         level: u64,

@@ -48,14 +48,15 @@ impl<'a> Model for Printer<'a> {
 impl<'a> Printer<'a> {
     /// A printer that has gone along no field. Takes no memory.
     ///
-    /// `owners` are the nodes of all owners of the stream in the order of their tags.
-    pub fn new(alloc: Global, owners: &'a [OwnerNode]) -> Printer<'a>
-        ensures { result ≡ begin_telling (view_nodes owners.now) }
+    /// `values` says whether raw values are followed by what they mean. `owners` are the nodes of all owners of the stream in
+    /// the order of their tags.
+    pub fn new(alloc: Global, values: bool, owners: &'a [OwnerNode]) -> Printer<'a>
+        ensures { result ≡ begin_telling values (view_nodes owners.now) }
     {
         Printer {
             phase: Phase::Header,
             draft: Draft::new(alloc),
-            standing: Standing::new(alloc, owners),
+            standing: Standing::new(alloc, values, owners),
         }
     }
 
@@ -205,6 +206,7 @@ impl<'a> Printer<'a> {
     {
         Marks {
             epoch: self.standing.epoch(),
+            values: self.standing.values(),
             next: self.standing.count() as u64,
             owner: self.standing.first_owner(),
         }

@@ -5,7 +5,9 @@ ghost use Rattle.jser_shown.specs.Cues.{top_cue, teller, made_cue, class_cue, el
 ghost use Rattle.jser_shown.specs.Known.{with_entry, known_pending, known_text};
 ghost use Rattle.jser_shown.specs.Telling.{first_owner, without_first, begin, class_tag_goes};
 ghost use Rattle.jser_printer.specs.Given.{view_owner, view_node, view_nodes};
+ghost use Rattle.jser_shown.specs.Words.{first_epoch};
 ghost use Rattle.jser_printer.specs.Layers.{view_layer};
+ghost use Rattle.jser_printer.specs.Primitives.{view_elements};
 ghost use Rattle.jser_printer.specs.Seen.{view_tag};
 ghost use Rattle.jser_printer.specs.Phases.{StandsIn};
 
@@ -17,6 +19,7 @@ use crate::frame::{Elements, Frame, SuperPlace};
 use crate::layer::Layer;
 use crate::owner::{Owner, OwnerNode};
 use crate::phase::{Head, Phase};
+use crate::primitive::Primitive;
 use crate::seen::Tag;
 use crate::stack::Stack;
 use crate::table::NameTable;
@@ -27,6 +30,8 @@ use std::marker::Model;
 #[derive(Drop)]
 pub(crate) struct Standing<'a> {
     pub(crate) epoch: u64,
+    /// Whether raw values are followed by what they mean.
+    pub(crate) values: bool,
     pub(crate) owners: &'a [OwnerNode],
     pub(crate) table: NameTable,
     pub(crate) frames: Stack,
@@ -40,7 +45,7 @@ impl<'a> Model for Standing<'a> {
 
     ghost Value = { Teller };
 
-    ghost view = { λ a. teller a.epoch a.table.known (view_nodes a.owners.now) (cues_of a.table.layers a.table.chains a.frames) };
+    ghost view = { λ a. teller (record { number = a.epoch; values = a.values }) a.table.known (view_nodes a.owners.now) (cues_of a.table.layers a.table.chains a.frames) };
 
     ghost invariant = { λ a. FramesFit (length a.table.layers) (length a.table.chains) a.frames };
 }
@@ -59,23 +64,32 @@ pub(crate) fn deeper(level: u64) -> Result<u64, AllocError>
 
 impl<'a> Standing<'a> {
     /// At the top of a stream. Takes no memory.
-    pub(crate) fn new(alloc: Global, owners: &'a [OwnerNode]) -> Standing<'a>
-        ensures { result ≡ teller 0 [] (view_nodes owners.now) (top_cue ∷ []) }
+    pub(crate) fn new(alloc: Global, values: bool, owners: &'a [OwnerNode]) -> Standing<'a>
+        ensures { result ≡ teller (first_epoch values) [] (view_nodes owners.now) (top_cue ∷ []) }
     {
         Standing {
             epoch: 0,
+            values,
             owners,
             table: NameTable::new(alloc),
             frames: Stack::new(alloc),
         }
     }
 
-    /// The epoch.
+    /// The number of the epoch.
     #[inline(always)]
     pub(crate) fn epoch(&self) -> u64
-        ensures { result ≡ self.now.epoch }
+        ensures { result ≡ self.now.epoch.number }
     {
         self.epoch
+    }
+
+    /// Whether raw values are followed by what they mean.
+    #[inline(always)]
+    pub(crate) fn values(&self) -> bool
+        ensures { result ≡ self.now.epoch.values }
+    {
+        self.values
     }
 
     /// How many handles of the epoch are assigned.
@@ -137,11 +151,17 @@ impl<'a> Standing<'a> {
     }
 
     /// The elements of an array come.
-    pub(crate) fn begin_elements(&mut self, level: u64, left: u32) -> Result<(), AllocError>
-        ensures { OnOk result (self.new ≡ teller self.old.epoch self.old.known self.old.owners (elements_cue level 0 left ∷ self.old.cues)) }
+    pub(crate) fn begin_elements(
+        &mut self,
+        level: u64,
+        elements: Option<Primitive>,
+        left: u32,
+    ) -> Result<(), AllocError>
+        ensures { OnOk result (self.new ≡ teller self.old.epoch self.old.known self.old.owners (elements_cue level (view_elements elements) 0 left ∷ self.old.cues)) }
     {
         self.frames.push(Frame::Elements(Elements {
             level,
+            elements,
             index: 0,
             left,
         }))

@@ -2,6 +2,7 @@
 
 pub(crate) mod descriptor;
 pub(crate) mod line;
+pub(crate) mod meaning;
 pub(crate) mod number;
 pub(crate) mod quote;
 pub(crate) mod section;

@@ -3,7 +3,9 @@ pub mod Devices
 pub mod Founds
 pub mod JsonTexts
 pub mod Json
+pub mod LastSeen
 pub mod Lines
+pub mod NamePlaces
 pub mod Paths
 pub mod Tallies
 pub mod Samples

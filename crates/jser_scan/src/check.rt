@@ -1,6 +1,8 @@
 //! The check of one file.
-ghost use Rattle.std.specs.Prelude.{◌≡◌, IfSome};
+ghost use Rattle.std.specs.Prelude.{◌≡◌, ◌<◌, ◌^◌, ℕ, List, [], length, IfSome};
 ghost use Rattle.jser_scan.specs.Founds.{FailsAs, IsFound, IsFoundAnywhere, IsFoundBy, IsHidden, IsRefusal};
+ghost use Rattle.jser_scan.specs.LastSeen.{AreLast};
+ghost use Rattle.jser_scan.specs.NamePlaces.{NameStands};
 
 use crate::class::{hidden_name, refused_name};
 use crate::found::Found;
@@ -26,10 +28,12 @@ pub struct Rules {
 
 /// Checks the bytes of a file, as `check_reader` of `jser_check` does, or `check_anywhere` of `jser_check_anywhere`.
 ///
-/// It keeps the last bytes that it read, at most some 250,000, to name the class of a refusal. It gives the input back.
+/// It keeps the last bytes that it read, at most some 250,000, and copies those of the refused class's name. It gives the input
+/// back.
 #[tactic(auto, using(crate::proofs::FoundLemmas::found_plainly, crate::proofs::FoundLemmas::found_anywhere))]
 pub fn check_file<R: Input + Drop>(alloc: Global, rules: &Rules, input: R) -> (Found, R)
     ensures found { IfSome (R.to_come input) (λ bytes. IsFound rules.now bytes result.0) }
+    ensures name { IfSome (R.to_come input) (λ bytes. NameStands bytes result.0) }
     ensures fails { FailsAs result.0 (R.has_failed input) (R.has_failed result.1) (R.why_failed result.1) }
 {
     let mut tail = Tail::new(alloc, input);
@@ -42,9 +46,11 @@ pub fn check_file<R: Input + Drop>(alloc: Global, rules: &Rules, input: R) -> (F
 }
 
 /// The check without names at any place.
-#[tactic(auto, using(crate::proofs::FoundLemmas::accepted, crate::proofs::FoundLemmas::refused, crate::proofs::FoundLemmas::undecided, crate::proofs::FoundLemmas::unread, crate::proofs::FoundLemmas::refusal_fails))]
+#[tactic(auto, using(crate::proofs::FoundLemmas::accepted, crate::proofs::FoundLemmas::refused, crate::proofs::FoundLemmas::undecided, crate::proofs::FoundLemmas::unread, crate::proofs::FoundLemmas::refusal_fails, crate::proofs::NameLemmas::no_name))]
 fn check<R: Input>(alloc: Global, rules: &Rules, tail: &mut Tail<R>) -> Found
+    requires { AreLast tail.old.last [] }
     ensures found { IfSome tail.old.bytes (λ bytes. IsFoundBy rules.now bytes result) }
+    ensures name { IfSome tail.old.bytes (λ bytes. NameStands bytes result) }
     ensures fails { FailsAs result tail.old.has_failed tail.new.has_failed tail.new.why }
 {
     let options = Options {
@@ -64,9 +70,11 @@ fn check<R: Input>(alloc: Global, rules: &Rules, tail: &mut Tail<R>) -> Found
 }
 
 /// The check with them.
-#[tactic(auto, using(crate::proofs::FoundLemmas::accepted_anywhere, crate::proofs::FoundLemmas::refused_anywhere, crate::proofs::FoundLemmas::hidden_anywhere, crate::proofs::FoundLemmas::undecided_anywhere, crate::proofs::FoundLemmas::unread_anywhere, crate::proofs::FoundLemmas::refusal_fails))]
+#[tactic(auto, using(crate::proofs::FoundLemmas::accepted_anywhere, crate::proofs::FoundLemmas::refused_anywhere, crate::proofs::FoundLemmas::hidden_anywhere, crate::proofs::FoundLemmas::undecided_anywhere, crate::proofs::FoundLemmas::unread_anywhere, crate::proofs::FoundLemmas::refusal_fails, crate::proofs::NameLemmas::no_name))]
 fn check_names<R: Input>(alloc: Global, rules: &Rules, tail: &mut Tail<R>) -> Found
+    requires { AreLast tail.old.last [] }
     ensures found { IfSome tail.old.bytes (λ bytes. IsFoundAnywhere rules.now bytes result) }
+    ensures name { IfSome tail.old.bytes (λ bytes. NameStands bytes result) }
     ensures fails { FailsAs result tail.old.has_failed tail.new.has_failed tail.new.why }
 {
     let options = Options {
@@ -90,7 +98,8 @@ fn check_names<R: Input>(alloc: Global, rules: &Rules, tail: &mut Tail<R>) -> Fo
 
 /// A refusal of a stream with these last bytes, with the class name where the filter refused one.
 pub fn refused(alloc: Global, rules: &Rules, last: &LastBytes, refusal: Refusal) -> Found
-    ensures { IsRefusal rules.now refusal result }
+    ensures is { IsRefusal rules.now refusal result }
+    ensures name { (bytes : List ℕ) → AreLast last.now bytes → length bytes < 2 ^ 64 → NameStands bytes result }
 {
     let class = match refusal.reason {
         Reason::ClassRejected | Reason::ClassUnmatched => {
@@ -106,7 +115,8 @@ pub fn refused(alloc: Global, rules: &Rules, last: &LastBytes, refusal: Refusal)
 
 /// A name in a stream with these last bytes that can be read at some place, and that does not pass.
 pub fn hidden(alloc: Global, rules: &Rules, last: &LastBytes, from_byte: u64, to_byte: u64) -> Found
-    ensures { IsHidden rules.now from_byte to_byte result }
+    ensures is { IsHidden rules.now from_byte to_byte result }
+    ensures name { (bytes : List ℕ) → AreLast last.now bytes → length bytes < 2 ^ 64 → NameStands bytes result }
 {
     match hidden_name(alloc, rules, last, from_byte, to_byte) {
         Ok(class) => Found::Hidden {

@@ -1,16 +1,21 @@
 //! The class name that a filter refused, from the last bytes of a stream.
-ghost use Rattle.std.specs.Prelude.{IfOk};
+ghost use Rattle.std.specs.Prelude.{◌≡◌, ◌+◌, ◌<◌, ◌^◌, ℕ, List, length, IfOk, IfSome};
+ghost use Rattle.jser_prim.specs.ModifiedUtf8.{modified_utf8};
+ghost use Rattle.jser_anywhere.specs.NamesIn.{class_in};
+ghost use Rattle.jser_anywhere.specs.Standing.{StandsAt};
 ghost use Rattle.jser_scan.specs.Founds.{IsRefusedName};
+ghost use Rattle.jser_scan.specs.LastSeen.{AreLast, StandsBetween};
 
 use crate::check::Rules;
 use crate::last::LastBytes;
-use jser_anywhere::named_class;
+use jser_anywhere::Names;
 use jser_check::Options;
 use jser_check_anywhere::passes;
-use jser_grammar::wire::TC_PROXYCLASSDESC;
+use jser_prim::read_units;
 use std::alloc::{AllocError, Global};
 
-/// The name that ends a field of a length and a text, if the bytes are still kept and the filter refuses it.
+/// The text of a token that has a length of two bytes before it, if its bytes are still kept and the filter refuses that name.
+#[tactic(auto, using(crate::proofs::NameLemmas::token_named))]
 pub(crate) fn refused_name(
     alloc: Global,
     rules: &Rules,
@@ -18,15 +23,27 @@ pub(crate) fn refused_name(
     from: u64,
     to: u64,
 ) -> Result<Option<Vec<u16>>, AllocError>
-    ensures { IfOk result (IsRefusedName rules.now) }
+    ensures refused { IfOk result (IsRefusedName rules.now) }
+    ensures stands { (bytes : List ℕ) → AreLast last.now bytes → length bytes < 2 ^ 64
+        → IfOk result (λ class. IfSome class (λ units. StandsBetween bytes (from + 2) to (modified_utf8 units.items))) }
 {
-    match from.checked_add(2) {
-        Some(start) => name_between(alloc, rules, last, start, to),
+    if last.ran_out() {
+        return Err(AllocError);
+    }
+    let Some(start) = from.checked_add(2) else {
+        return Ok(None);
+    };
+    let Some(text) = last.part(alloc, start, to)? else {
+        return Ok(None);
+    };
+    match text_units(alloc, text.as_slice())? {
+        Some(units) => Ok(if_refused(rules, units)),
         None => Ok(None),
     }
 }
 
-/// The class of the name that can be read at a place: behind `72`, or the last one of a row behind `7D`.
+/// The class of the name that can be read from one place to another, if these bytes are still kept and the filter refuses it.
+#[tactic(auto)]
 pub(crate) fn hidden_name(
     alloc: Global,
     rules: &Rules,
@@ -34,112 +51,70 @@ pub(crate) fn hidden_name(
     from: u64,
     to: u64,
 ) -> Result<Option<Vec<u16>>, AllocError>
-    ensures { IfOk result (IsRefusedName rules.now) }
+    ensures refused { IfOk result (IsRefusedName rules.now) }
+    ensures stands { (bytes : List ℕ) → AreLast last.now bytes → length bytes < 2 ^ 64
+        → IfOk result (λ class. IfSome class (λ units. StandsAt bytes from to units.items)) }
 {
-    match start_of_name(last, from, to) {
-        Some(start) => class_between(alloc, rules, last, start, to),
-        None if last.ran_out() => Err(AllocError),
+    if last.ran_out() {
+        return Err(AllocError);
+    }
+    let Some(part) = last.part(alloc, from, to)? else {
+        return Ok(None);
+    };
+    match whole_class(alloc, part.as_slice())? {
+        Some(class) => Ok(if_refused(rules, class)),
         None => Ok(None),
     }
 }
 
-/// Where the text begins that ends at `to`.
-fn start_of_name(last: &LastBytes, from: u64, to: u64) -> Option<u64> {
-    let is_row = last.byte_at(from)? == TC_PROXYCLASSDESC;
-    let mut at = from.checked_add(if is_row { 5 } else { 1 })?;
-    for _ in 0..0xFFFFu32 {
-        let start = at.checked_add(2)?;
-        let high = u64::from(last.byte_at(at)?);
-        let low = u64::from(last.byte_at(start - 1)?);
-        let end = start.checked_add(high * 256 + low)?;
-        if end == to {
-            return Some(start);
-        }
-        at = end;
-    }
-    None
-}
-
-/// The name whose text these bytes are, if they are still kept and the filter refuses it.
-fn name_between(
-    alloc: Global,
-    rules: &Rules,
-    last: &LastBytes,
-    start: u64,
-    end: u64,
-) -> Result<Option<Vec<u16>>, AllocError>
-    ensures { IfOk result (IsRefusedName rules.now) }
+/// The name, if the filter refuses it.
+fn if_refused(rules: &Rules, name: Vec<u16>) -> Option<Vec<u16>>
+    ensures refused { IsRefusedName rules.now result }
+    ensures same { IfSome result (λ told. told.items ≡ name.items) }
 {
-    if last.ran_out() {
-        return Err(AllocError);
-    }
-    let Some(units) = units_between(alloc, last, start, end)? else {
-        return Ok(None);
-    };
     let options = Options {
         strict: rules.strict,
     };
-    if passes(&rules.filter, options, units.as_slice()) {
-        Ok(None)
+    if passes(&rules.filter, options, name.as_slice()) {
+        None
     } else {
-        Ok(Some(units))
+        Some(name)
     }
 }
 
-/// The class that these bytes name, if they are still kept and the filter refuses it.
-fn class_between(
-    alloc: Global,
-    rules: &Rules,
-    last: &LastBytes,
-    start: u64,
-    end: u64,
-) -> Result<Option<Vec<u16>>, AllocError>
-    ensures { IfOk result (IsRefusedName rules.now) }
+/// The units that the bytes spell in modified UTF-8, if they spell any.
+fn text_units(alloc: Global, text: &[u8]) -> Result<Option<Vec<u16>>, AllocError>
+    ensures { IfOk result (λ found. IfSome found (λ units. modified_utf8 units.items ≡ text.now)) }
 {
-    if last.ran_out() {
-        return Err(AllocError);
-    }
-    let Some(units) = units_between(alloc, last, start, end)? else {
-        return Ok(None);
-    };
-    let Some(class) = named_class(units.as_slice()) else {
-        return Ok(None);
-    };
-    let class = class.to_vec(alloc)?;
-    let options = Options {
-        strict: rules.strict,
-    };
-    if passes(&rules.filter, options, class.as_slice()) {
-        Ok(None)
-    } else {
-        Ok(Some(class))
-    }
-}
-
-/// The units of a text in modified UTF-8, if its bytes are still kept. Longer spellings are read too, as names that can be
-/// read at some place may have them.
-fn units_between(
-    alloc: Global,
-    last: &LastBytes,
-    start: u64,
-    end: u64,
-) -> Result<Option<Vec<u16>>, AllocError> {
     let mut units = Vec::new(alloc);
-    let mut unit: u16 = 0;
-    let mut left: u8 = 0;
-    for at in start..end {
-        let Some(byte) = last.byte_at(at) else {
+    if read_units(text, &mut units)? {
+        Ok(Some(units))
+    } else {
+        Ok(None)
+    }
+}
+
+/// The class of the name that can be read at the first byte and ends with the last, if there is one.
+#[tactic(auto, using(crate::proofs::NameLemmas::names_open))]
+fn whole_class(alloc: Global, part: &[u8]) -> Result<Option<Vec<u16>>, AllocError>
+    ensures { IfOk result (λ found. IfSome found (λ class. StandsAt part.now 0 (length part.now) class.items)) }
+{
+    let mut names = Names::new(part);
+    'names: while let Some(stand) = names.next() {
+        if stand.from > 0 {
             return Ok(None);
-        };
-        (unit, left) = match byte {
-            0x80..=0xBF => (unit << 6 | u16::from(byte & 0x3F), left.saturating_sub(1)),
-            0xC0..=0xDF => (u16::from(byte & 0x1F), 1),
-            0xE0..=0xFF => (u16::from(byte & 0x0F), 2),
-            _ => (u16::from(byte), 0),
-        };
-        if left == 0 {
-            units.push(unit)?;
+        }
+        if stand.to == part.len() {
+            return class_told(alloc, &names);
         }
     }
-    Ok(Some(units))
+    Ok(None)
+}
+
+/// The class of the name that was told last.
+fn class_told(alloc: Global, names: &Names<'_>) -> Result<Option<Vec<u16>>, AllocError>
+    ensures { IfOk result (λ found. IfSome found (λ class. class.items ≡ class_in names.now.last)) }
+{
+    let class = names.units().to_vec(alloc)?;
+    Ok(Some(class))
 }

@@ -2,6 +2,7 @@
 ghost use Rattle.std.specs.Prelude.{◌≡◌, ◌⊎◌, [], ℕ, List, IfOk, OnOk, OnErr, string_bytes, true};
 ghost use Rattle.std.specs.Io.KnownBytes.{Appends};
 ghost use Rattle.jser_printer.specs.Says.{SaysTo};
+ghost use Rattle.jser_suggest.specs.Suggested.{widened};
 ghost use Rattle.jser_suggest.specs.Samples.{AreKnown};
 ghost use Rattle.jser_scan.specs.Samples.{LeavesSuggested, SaysSuggested, SpellsSuggested, TellsUnprinted, no_sample_status, no_sample_words, unwritable_words};
 
@@ -15,23 +16,24 @@ use jser_settings::{ACCEPTED, FAILED, REFUSED, tell_failure};
 use jser_suggest::{SampleFault, Samples};
 use std::alloc::{AllocError, Global};
 
-/// Prints the filter that is suggested, in a line, and returns the status: 0, or 3 where the output failed or memory ran out,
-/// which is told.
+/// Prints the filter that is suggested, with its limits `slack` times as high, in a line, and returns the status: 0, or 3 where
+/// the output failed or memory ran out, which is told.
 #[tactic(auto, using(crate::proofs::SampleLemmas::says_suggested, crate::proofs::SampleLemmas::leaves_some, crate::proofs::SampleLemmas::leaves_none))]
 pub fn print_suggested<W: Sink, E: Sink>(
     alloc: Global,
     samples: &Samples,
+    slack: u64,
     output: &mut W,
     faults: &mut E,
 ) -> u8
-    ensures printed { (streams : List (List ℕ)) → AreKnown streams samples.now → result ≡ 0 → SaysSuggested samples.now (W.gone_out output.old) (W.gone_out output.new) }
-    ensures failed { (streams : List (List ℕ)) → AreKnown streams samples.now → result ≡ 3 → LeavesSuggested samples.now (W.has_failed output.new) (W.gone_out output.old) (W.gone_out output.new) }
+    ensures printed { (streams : List (List ℕ)) → AreKnown streams samples.now → result ≡ 0 → SaysSuggested (widened slack samples.now) (W.gone_out output.old) (W.gone_out output.new) }
+    ensures failed { (streams : List (List ℕ)) → AreKnown streams samples.now → result ≡ 3 → LeavesSuggested (widened slack samples.now) (W.has_failed output.new) (W.gone_out output.old) (W.gone_out output.new) }
     ensures why { result ≡ 3 → TellsUnprinted (W.has_failed output.old) (W.has_failed output.new) (E.has_failed faults.new) (E.gone_out faults.old) (E.gone_out faults.new) }
     ensures unbroken { result ≡ 0 → W.has_failed output.new ≡ W.has_failed output.old }
     ensures quiet { result ≡ 0 → faults.new ≡ faults.old }
     ensures status { (result ≡ 0) ⊎ (result ≡ 3) }
 {
-    let Ok(text) = line_of(alloc, samples) else {
+    let Ok(text) = line_of(alloc, samples, slack) else {
         return tell_failure(faults, "out of memory\n");
     };
     match give_all(output, text.as_bytes()) {
@@ -42,10 +44,10 @@ pub fn print_suggested<W: Sink, E: Sink>(
 
 /// The line of the filter.
 #[tactic(auto, using(crate::proofs::SampleLemmas::line_says))]
-fn line_of(alloc: Global, samples: &Samples) -> Result<String, AllocError>
-    ensures { (streams : List (List ℕ)) → AreKnown streams samples.now → IfOk result (λ line. SpellsSuggested samples.now (string_bytes line)) }
+fn line_of(alloc: Global, samples: &Samples, slack: u64) -> Result<String, AllocError>
+    ensures { (streams : List (List ℕ)) → AreKnown streams samples.now → IfOk result (λ line. SpellsSuggested (widened slack samples.now) (string_bytes line)) }
 {
-    let mut text = samples.text(alloc)?;
+    let mut text = samples.text_with_slack(alloc, slack)?;
     text.push_str("\n")?;
     Ok(text)
 }

@@ -1,5 +1,7 @@
 //! An input that keeps the last bytes that it gave.
-ghost use Rattle.std.specs.Prelude.{◌≡◌};
+ghost use Rattle.std.specs.Prelude.{◌≡◌, []};
+ghost use Rattle.jser_scan.specs.Devices.{KeepsEnd};
+ghost use Rattle.jser_scan.specs.LastSeen.{AreLast};
 
 use crate::last::LastBytes;
 use jser_inputs::{Input, InputFault};
@@ -19,7 +21,7 @@ impl<R: Input> Model for Tail<R> {
 
     ghost Value = { ToldInput };
 
-    ghost view = { λ a. record { bytes = R.to_come a.source; has_failed = R.has_failed a.source; why = R.why_failed a.source } };
+    ghost view = { λ a. record { bytes = R.to_come a.source; has_failed = R.has_failed a.source; why = R.why_failed a.source; last = a.last } };
 }
 
 impl<R: Input> Tail<R> {
@@ -27,6 +29,7 @@ impl<R: Input> Tail<R> {
     pub(crate) fn new(alloc: Global, source: R) -> Tail<R>
         ensures bytes { result.bytes ≡ R.to_come source }
         ensures failed { result.has_failed ≡ R.has_failed source }
+        ensures last { AreLast result.last [] }
     {
         Tail {
             source,
@@ -43,15 +46,10 @@ impl<R: Input> Tail<R> {
     }
 
     /// The last bytes that it gave.
-    pub(crate) fn last(&self) -> &LastBytes {
-        &self.last
-    }
-
-    /// Keeps more bytes.
-    fn keep(&mut self, bytes: &[u8])
-        ensures { self.new ≡ self.old }
+    pub(crate) fn last(&self) -> &LastBytes
+        ensures { result.now ≡ self.now.last }
     {
-        self.last.keep(bytes);
+        &self.last
     }
 }
 
@@ -60,13 +58,16 @@ impl<R: Input> Source for Tail<R> {
 
     ghost has_failed = { λ s. s.has_failed };
 
+    ghost remembers = { λ s all. KeepsEnd s.bytes s.last all };
+
+    #[tactic(auto, using(crate::proofs::NameLemmas::gives_more, crate::proofs::NameLemmas::gives_none))]
     fn take(&mut self, buf: &mut [u8]) -> Result<usize, Failed> {
         let count = match self.source.take(buf) {
             Ok(count) => count,
             Err(failed) => return Err(failed),
         };
         let (front, _) = buf.split_at(count);
-        self.keep(front);
+        self.last.keep(front);
         Ok(count)
     }
 

@@ -40,7 +40,7 @@ dropped_is line front is = sym (ap without_return is ∙ return_dropped front)
 kept_is : (line : List ℕ) → ((front : List ℕ) → line ≢ front ++ 0x0D ∷ []) → line ≡ without_return line
 kept_is line none = sym (no_return line none)
 
--- the same in the words of `strip_suffix`
+-- a line without its return, in the words of `strip_suffix`
 
 abbrev Drops : List ℕ → Option (Bor (List ℕ)) → Type 0
 Drops line r = MatchOption r (FindsCharSuffix 0x0D line None) (λ x. (n : ℕ) × FindsCharSuffix 0x0D line (Some n) × (x.now ≡ take (length line - n) line) × (length x.now + n ≡ length line))

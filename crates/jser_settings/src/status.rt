@@ -38,7 +38,7 @@ pub fn tell_misuse<E: Sink>(faults: &mut E, text: &str) -> u8
     MISUSED
 }
 
-/// The same, of a text for which there may be no memory: then that is told, as a failure.
+/// Tells what is wrong with what was asked for, in a text for which there may be no memory: then that is told, as a failure.
 pub fn tell_misuse_of<E: Sink>(faults: &mut E, text: Result<String, AllocError>) -> u8
     ensures status { (result ≡ 2) ⊎ (result ≡ 3) }
     ensures told { result ≡ 2 → (E.has_failed faults.new ≡ true)

@@ -1,12 +1,16 @@
 -- What is known of handles stands for the table of handles.
-use Rattle.std.proofs.Common.{◌≡◌, ℕ, zero, suc, ◌<◌, List, [], ◌∷◌, ◌++◌, length, refl, sym, ap, ◌∙◌, arith, Option, Some, None, slice_get, slice_set}
+use Rattle.std.proofs.Common.{◌≡◌, ℕ, zero, suc, ◌<◌, ◌==◌, Bool, true, false, if◌then◌else◌, List, [], ◌∷◌, ◌++◌, length, refl, sym, ap, ◌∙◌, arith, Option, Some, None, slice_get, slice_set}
+use Rattle.std.proofs.lemmas.Bool.Decides.{nat_tests}
 use Rattle.jser_table.specs.Entries.{TableEntry, text_entry, other_entry, pending_entry, closed_entry, chain_at}
-use Rattle.jser_table.specs.Names.{name_kind, layer_kind}
+use Rattle.jser_table.specs.Names.{NameKind, plain_name, array_name, malformed_name, name_kind, array_kind, array_of_arrays, ends_in, layer_kind}
+use Rattle.jser_table.specs.declared.layer.BodyKind.TheVariants.{Values}
+use Rattle.jser_table.specs.Chains.{elements_of_kind, elements_of}
+use Rattle.jser_grammar.specs.Codes.{prim_code_of}
 use Rattle.jser_table.specs.declared.layer.Layer.{Layer}
 use Rattle.jser_reading.proofs.Vocabulary.{Entries, add, close, codes_of, plain_layer, after_text_place, after_type, after_fields, after_value, after_desc, after_class, after_body, after_values, after_sections, after_notes, after_contents, chain_of_class, chain_of_desc, is_external, TextPlaceTree, new_text, back_text, FieldTree, ValueTree, null, back, string, descriptor, class_object, array, enum_constant, object, DescTree, plain, proxy, ClassPlaceTree, no_class, back_class, new_class, BodyTree, raw_body, value_body, ValueTrees, no_values, value_and, section, SectionTrees, no_sections, section_and, NotesTree, no_notes, annotation, block, reset, content, ContentTrees, no_contents, content_and}
 use Rattle.jser_grammar.specs.TableAfter as value
 use Rattle.jser_grammar.proofs.TableLemmas.{length-add, grows_class, grows_contents, grows_fields}
-use Rattle.jser_shown.specs.Known.{NamedField, NamedLayer, class_layer, proxy_layer, KnownEntry, known_text, known_other, known_pending, known_class, Known, classes_in, classes_at, with_entry, named_fields, known_text_place, known_type, known_fields, known_value, known_desc, known_class_place, known_body, known_values, known_sections, known_notes, known_contents, classes_of, classes_of_desc, is_external_chain}
+use Rattle.jser_shown.specs.Known.{NamedField, NamedLayer, class_layer, proxy_layer, KnownEntry, known_text, known_other, known_pending, known_class, Known, classes_in, classes_at, with_entry, named_fields, known_text_place, known_type, known_fields, known_value, known_desc, known_class_place, known_body, known_values, known_sections, known_notes, known_contents, classes_of, classes_of_desc, named_elements, elements_of_chain, is_external_chain}
 
 abbrev pub codes_in : List NamedField → List ℕ
 codes_in [] = []
@@ -226,6 +230,47 @@ external-known [] = refl
 external-known (class_layer name flags fields ∷ []) = refl
 external-known (proxy_layer ∷ []) = refl
 external-known (a ∷ b ∷ chain) = external-known (b ∷ chain)
+
+-- the type of the elements of an array class, by its name
+
+elements-letter : (c : ℕ) → elements_of_kind (layer_kind (array_kind (c ∷ []))) ≡ prim_code_of c
+elements-letter c = grind (arith, nat_tests)
+
+elements-longer : (c d : ℕ) (units : List ℕ) → elements_of_kind (layer_kind (array_kind (c ∷ d ∷ units))) ≡ None
+elements-longer c d units = tested (c == 0x5B) (c == 0x4C) (ends_in 0x3B (d ∷ units)) (array_kind (d ∷ units))
+  where
+    tested : (outer letter last : Bool) (inner : NameKind)
+        → elements_of_kind (layer_kind (if outer then array_of_arrays inner else (if letter then (if last then array_name Values else malformed_name) else malformed_name))) ≡ None
+    tested true letter last plain_name = refl
+    tested true letter last (array_name body) = refl
+    tested true letter last malformed_name = refl
+    tested false true true inner = refl
+    tested false true false inner = refl
+    tested false false last inner = refl
+
+elements-named : (name : List ℕ) → elements_of_kind (layer_kind (name_kind name)) ≡ named_elements name
+elements-named [] = refl
+elements-named (b ∷ []) = opened (b == 0x5B)
+  where
+    opened : (t : Bool) → elements_of_kind (layer_kind (if t then array_kind [] else plain_name)) ≡ None
+    opened true = refl
+    opened false = refl
+elements-named (b ∷ c ∷ []) = opened (b == 0x5B)
+  where
+    opened : (t : Bool) → elements_of_kind (layer_kind (if t then array_kind (c ∷ []) else plain_name)) ≡ (if t then prim_code_of c else None)
+    opened true = elements-letter c
+    opened false = refl
+elements-named (b ∷ c ∷ d ∷ units) = opened (b == 0x5B)
+  where
+    opened : (t : Bool) → elements_of_kind (layer_kind (if t then array_kind (c ∷ d ∷ units) else plain_name)) ≡ None
+    opened true = elements-longer c d units
+    opened false = refl
+
+pub elements-known : (chain : List NamedLayer) → elements_of (layers_of chain) ≡ elements_of_chain chain
+elements-known [] = refl
+elements-known (class_layer name flags fields ∷ []) = elements-named name
+elements-known (proxy_layer ∷ []) = refl
+elements-known (a ∷ b ∷ chain) = elements-known (b ∷ chain)
 
 -- the same, after a tree, for a table that what is known stands for
 

@@ -5,39 +5,40 @@ use Rattle.std.specs.Fmt.{digits}
 use Rattle.hex.specs.Hex.{encode_with}
 use Rattle.std.specs.Prelude.{ℕ, if◌then◌else◌, false, true}
 use Rattle.std.specs.Str.{bytes_eq}
-use Rattle.jser_grammar.specs.Trees.{string, class_object, array, plain, ClassPlaceTree, no_class, new_class, value_body, value_and, no_values, back, null, block, content, ContentTrees, no_contents, content_and}
-use Rattle.jser_grammar.proofs.Rows.{linked_pair, array_list, reset_epochs, int_array, external_over_serial, enum_constant_row, proxy_row}
+use Rattle.jser_grammar.specs.Trees.{PrimTree, string, class_object, array, object, plain, ClassPlaceTree, no_class, new_class, value_body, value_and, no_values, section, section_and, no_sections, no_notes, back, null, block, content, ContentTrees, no_contents, content_and}
+use Rattle.jser_grammar.specs.Codes.{PrimCode, byte_code, char_code, double_code, float_code, int_code, long_code, short_code, boolean_code}
+use Rattle.jser_grammar.proofs.Rows.{field_of, linked_pair, array_list, reset_epochs, int_array, external_over_serial, enum_constant_row, proxy_row}
 use Rattle.jser_prim.specs.ModifiedUtf8.{unit_spelling}
 use Rattle.jser_shown.specs.Shown.{shown}
 use Rattle.jser_shown.specs.Listed.{listed}
 use Rattle.jser_shown.specs.Nodes.{text_node, plain_desc_node, object_node, nodes_of}
 use Rattle.jser_shown.specs.Owners.{owner_node, owners_of}
 
-linked_pair_shown : shown linked_pair ≡ codes "stream version 5\nobject #0.7e0002\n  class desc #0.7e0000 \"List\" suid 69c88a154016ae68 flags 02\n    field I \"value\"\n    field L \"next\" type text #0.7e0001 \"LList;\"\n    super null\n  data \"List\"\n    \"value\" = 00000011\n    \"next\" = object #0.7e0003\n      class ref #0.7e0000\n      data \"List\"\n        \"value\" = 00000013\n        \"next\" = null\nref #0.7e0003\n"
+linked_pair_shown : shown false linked_pair ≡ codes "stream version 5\nobject #0.7e0002\n  class desc #0.7e0000 \"List\" suid 69c88a154016ae68 flags 02\n    field I \"value\"\n    field L \"next\" type text #0.7e0001 \"LList;\"\n    super null\n  data \"List\"\n    \"value\" = 00000011\n    \"next\" = object #0.7e0003\n      class ref #0.7e0000\n      data \"List\"\n        \"value\" = 00000013\n        \"next\" = null\nref #0.7e0003\n"
 unfolding digits encode_with
 linked_pair_shown = refl
 
-array_list_shown : shown array_list ≡ codes "stream version 5\nobject #0.7e0001\n  class desc #0.7e0000 \"java.util.ArrayList\" suid 7881d21d99c7619d flags 03\n    field I \"size\"\n    super null\n  data \"java.util.ArrayList\"\n    \"size\" = 00000001\n    note block 4: 00000001\n    note text #0.7e0002 \"a\"\n"
+array_list_shown : shown false array_list ≡ codes "stream version 5\nobject #0.7e0001\n  class desc #0.7e0000 \"java.util.ArrayList\" suid 7881d21d99c7619d flags 03\n    field I \"size\"\n    super null\n  data \"java.util.ArrayList\"\n    \"size\" = 00000001\n    note block 4: 00000001\n    note text #0.7e0002 \"a\"\n"
 unfolding digits encode_with
 array_list_shown = refl
 
-int_array_shown : shown int_array ≡ codes "stream version 5\narray #0.7e0001 length 2\n  class desc #0.7e0000 \"[I\" suid 4dba602676eab2a5 flags 02\n    super null\n  [0] 00000001\n  [1] ffffffff\n"
+int_array_shown : shown false int_array ≡ codes "stream version 5\narray #0.7e0001 length 2\n  class desc #0.7e0000 \"[I\" suid 4dba602676eab2a5 flags 02\n    super null\n  [0] 00000001\n  [1] ffffffff\n"
 unfolding digits encode_with
 int_array_shown = refl
 
-reset_epochs_shown : shown reset_epochs ≡ codes "stream version 5\ntext #0.7e0000 \"a\"\nreset\ntext #1.7e0000 \"b\"\nref #1.7e0000\n"
+reset_epochs_shown : shown false reset_epochs ≡ codes "stream version 5\ntext #0.7e0000 \"a\"\nreset\ntext #1.7e0000 \"b\"\nref #1.7e0000\n"
 unfolding digits encode_with
 reset_epochs_shown = refl
 
-external_over_serial_shown : shown external_over_serial ≡ codes "stream version 5\nobject #0.7e0002\n  class desc #0.7e0000 \"A\" suid 0000000000000001 flags 0c\n    super desc #0.7e0001 \"B\" suid 0000000000000002 flags 02\n      field I \"n\"\n      super null\n  external \"A\"\n    note block 1: 05\n"
+external_over_serial_shown : shown false external_over_serial ≡ codes "stream version 5\nobject #0.7e0002\n  class desc #0.7e0000 \"A\" suid 0000000000000001 flags 0c\n    super desc #0.7e0001 \"B\" suid 0000000000000002 flags 02\n      field I \"n\"\n      super null\n  external \"A\"\n    note block 1: 05\n"
 unfolding digits encode_with
 external_over_serial_shown = refl
 
-enum_constant_shown : shown enum_constant_row ≡ codes "stream version 5\nenum #0.7e0002\n  class desc #0.7e0000 \"E\" suid 0000000000000000 flags 12\n    super desc #0.7e0001 \"java.lang.Enum\" suid 0000000000000000 flags 12\n      super null\n  name text #0.7e0003 \"A\"\n"
+enum_constant_shown : shown false enum_constant_row ≡ codes "stream version 5\nenum #0.7e0002\n  class desc #0.7e0000 \"E\" suid 0000000000000000 flags 12\n    super desc #0.7e0001 \"java.lang.Enum\" suid 0000000000000000 flags 12\n      super null\n  name text #0.7e0003 \"A\"\n"
 unfolding digits encode_with
 enum_constant_shown = refl
 
-proxy_shown : shown proxy_row ≡ codes "stream version 5\nobject #0.7e0003\n  class proxy #0.7e0000\n    interface \"I\"\n    super desc #0.7e0001 \"java.lang.reflect.Proxy\" suid e127da20cc1043cb flags 02\n      field L \"h\" type text #0.7e0002 \"Ljava/lang/reflect/InvocationHandler;\"\n      super null\n  data \"java.lang.reflect.Proxy\"\n    \"h\" = null\n  data proxy\n"
+proxy_shown : shown false proxy_row ≡ codes "stream version 5\nobject #0.7e0003\n  class proxy #0.7e0000\n    interface \"I\"\n    super desc #0.7e0001 \"java.lang.reflect.Proxy\" suid e127da20cc1043cb flags 02\n      field L \"h\" type text #0.7e0002 \"Ljava/lang/reflect/InvocationHandler;\"\n      super null\n  data \"java.lang.reflect.Proxy\"\n    \"h\" = null\n  data proxy\n"
 unfolding digits encode_with
 proxy_shown = refl
 
@@ -76,9 +77,40 @@ other_words =
     (content_and (content (array (bare_class (codes "[LA;") 2 no_contents) (value_body (value_and (back 2) (value_and null no_values)))))
     no_contents))))
 
-other_words_shown : shown other_words ≡ codes "stream version 5\nlongtext #0.7e0000 \"\\\"\\\\\\u000a ~\\u007f\\u00e9\\ud83d\"\nblock 0:\nlongblock 2: 0aff\nclassobject #0.7e0002\n  class desc #0.7e0001 \"A\" suid 0000000000000000 flags 00\n    note null\n    super null\narray #0.7e0004 length 2\n  class desc #0.7e0003 \"[LA;\" suid 0000000000000000 flags 02\n    super null\n  [0] ref #0.7e0002\n  [1] null\n"
+other_words_shown : shown false other_words ≡ codes "stream version 5\nlongtext #0.7e0000 \"\\\"\\\\\\u000a ~\\u007f\\u00e9\\ud83d\"\nblock 0:\nlongblock 2: 0aff\nclassobject #0.7e0002\n  class desc #0.7e0001 \"A\" suid 0000000000000000 flags 00\n    note null\n    super null\narray #0.7e0004 length 2\n  class desc #0.7e0003 \"[LA;\" suid 0000000000000000 flags 02\n    super null\n  [0] ref #0.7e0002\n  [1] null\n"
 unfolding digits encode_with
 other_words_shown = refl
+
+-- Raw values with what they mean: the least number of each type or the greatest, a unit beyond ASCII, a byte that is no
+-- boolean. A float and a double have no meaning yet.
+linked_pair_with_values : shown true linked_pair ≡ codes "stream version 5\nobject #0.7e0002\n  class desc #0.7e0000 \"List\" suid 69c88a154016ae68 flags 02\n    field I \"value\"\n    field L \"next\" type text #0.7e0001 \"LList;\"\n    super null\n  data \"List\"\n    \"value\" = 00000011 (17)\n    \"next\" = object #0.7e0003\n      class ref #0.7e0000\n      data \"List\"\n        \"value\" = 00000013 (19)\n        \"next\" = null\nref #0.7e0003\n"
+unfolding digits encode_with
+linked_pair_with_values = refl
+
+int_array_with_values : shown true int_array ≡ codes "stream version 5\narray #0.7e0001 length 2\n  class desc #0.7e0000 \"[I\" suid 4dba602676eab2a5 flags 02\n    super null\n  [0] 00000001 (1)\n  [1] ffffffff (-1)\n"
+unfolding digits encode_with
+int_array_with_values = refl
+
+abbrev value_of : PrimCode → ℕ → PrimTree
+value_of code bits = record { code = code; bits = bits }
+
+abbrev every_kind : ContentTrees
+every_kind =
+    content_and (content (object
+    (new_class (plain (codes "V") 1 2
+    (field_of 0x42 (codes "b") ∷ field_of 0x43 (codes "c") ∷ field_of 0x44 (codes "d") ∷ field_of 0x46 (codes "f")
+    ∷ field_of 0x49 (codes "i") ∷ field_of 0x4A (codes "j") ∷ field_of 0x53 (codes "s") ∷ field_of 0x5A (codes "y")
+    ∷ field_of 0x5A (codes "z") ∷ []) no_contents no_class))
+    (section_and (section
+    (value_of byte_code 0x80 ∷ value_of char_code 0xE9 ∷ value_of double_code 0x3FF0000000000000
+    ∷ value_of float_code 0x3F800000 ∷ value_of int_code 0x80000000 ∷ value_of long_code 0x7FFFFFFFFFFFFFFF
+    ∷ value_of short_code 0xFFFF ∷ value_of boolean_code 2 ∷ value_of boolean_code 1 ∷ [])
+    no_values no_notes) no_sections)))
+    no_contents
+
+every_kind_with_values : shown true every_kind ≡ codes "stream version 5\nobject #0.7e0001\n  class desc #0.7e0000 \"V\" suid 0000000000000001 flags 02\n    field B \"b\"\n    field C \"c\"\n    field D \"d\"\n    field F \"f\"\n    field I \"i\"\n    field J \"j\"\n    field S \"s\"\n    field Z \"y\"\n    field Z \"z\"\n    super null\n  data \"V\"\n    \"b\" = 80 (-128)\n    \"c\" = 00e9 (\"\\u00e9\")\n    \"d\" = 3ff0000000000000\n    \"f\" = 3f800000\n    \"i\" = 80000000 (-2147483648)\n    \"j\" = 7fffffffffffffff (9223372036854775807)\n    \"s\" = ffff (-1)\n    \"y\" = 02\n    \"z\" = 01 (true)\n"
+unfolding digits encode_with
+every_kind_with_values = refl
 
 linked_pair_listed : listed (λ name. codes "undecided") linked_pair ≡ codes "1 undecided \"List\"\n"
 unfolding digits

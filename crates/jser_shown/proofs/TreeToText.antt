@@ -9,7 +9,8 @@ use Rattle.jser_grammar.proofs.Bools.{both_ways, untrue}
 use Rattle.jser_reading.proofs.TreeToMachine.{not_object}
 use Rattle.jser_reading.proofs.Vocabulary.{TextPlaceTree, new_text, back_text, FieldTree, PrimTree, ValueTree, null, back, string, descriptor, class_object, array, enum_constant, object, DescTree, plain, proxy, ClassPlaceTree, no_class, back_class, new_class, BodyTree, raw_body, value_body, ValueTrees, no_values, value_and, section, SectionTrees, no_sections, section_and, NotesTree, no_notes, annotation, block, reset, content, ContentTrees, no_contents, content_and, value_count}
 use Rattle.jser_reading.proofs.Vocabulary.{has_write_method, text_entry, other_entry, pending_entry, PrimCode, prim_code_of, is_object_code, with_code, primitive_codes, chain_of_class, WellFormedType, WellFormedFields, ArePrims, ArePrimsOf, elements_of, is_external, WellFormedValue, WellFormedDesc, WellFormedClass, WellFormedSuperclass, WellFormedBody, WellFormedValues, WellFormedExternal, WellFormedSections, WellFormedNotesIf, WellFormedNotes, WellFormedContents, Owner, object_owner, array_owner, enum_owner, class_owner, ChainOwner, Role, own_class, superclass, owner_of, is_strict_above, Moment, beginning, tick, assign, emptied, past_type, past_fields, past_value, past_class, past_values, past_notes, past_contents, tag_field, text_field, array_length_field, block_length_field, class_place_at, superclass_place_at, text_place_at, string_at, array_length_at, block_length_at, Piece, piece, at, tag_of_string, tag_of_desc, tag_of, cut_text_place, cut_type, cut_fields, cut_interfaces, cut_bytes, cut_raw, cut_prims, cut_value, cut_desc, cut_class, cut_superclass, cut_body, cut_values, cut_external, cut_sections, cut_notes, cut_annotation, cut_top}
-use Rattle.jser_shown.specs.Known.{NamedField, NamedLayer, class_layer, proxy_layer, known_text, known_other, known_pending, known_class, Known, classes_at, with_entry, named_fields, known_text_place, known_type, known_fields, known_value, known_desc, known_class_place, known_body, known_values, known_sections, known_notes, known_contents, classes_of, prim_names, object_names, own_class_of, is_external_chain}
+use Rattle.jser_shown.specs.Known.{NamedField, NamedLayer, class_layer, proxy_layer, known_text, known_other, known_pending, known_class, Known, classes_at, with_entry, named_fields, known_text_place, known_type, known_fields, known_value, known_desc, known_class_place, known_body, known_values, known_sections, known_notes, known_contents, classes_of, prim_fields, object_names, own_class_of, is_external_chain, elements_of_chain}
+use Rattle.jser_shown.specs.Words.{Epoch, first_epoch, next_epoch}
 use Rattle.jser_shown.specs.Words.{end_line, begin_line, mark, quoted, block_bytes, block_word}
 use Rattle.jser_shown.specs.Shown.{reference_text, string_text, text_place_text, type_text, fields_text, interfaces_text, field_named, element_at, name_text, raw_text, prims_text, raw_elements_text, data_text, external_text, value_text, desc_text, class_text, super_text, body_text, elements_text, values_text, external_notes_text, sections_text, notes_text, annotation_text, top_text}
 use Rattle.jser_shown.specs.Owners.{OwnerNode, owners_in_value, owners_in_desc, owners_in_class, owners_in_body, owners_in_values, owners_in_sections, owners_in_notes, owners_in_annotation, owners_at_top}
@@ -18,63 +19,63 @@ use Rattle.jser_shown.specs.Telling.{first_owner, tag_says, begin, tell}
 use Rattle.jser_shown.specs.Laws.{Told}
 use Rattle.jser_shown.proofs.RawLemmas.{line_of_one, lines_of_elements}
 use Rattle.jser_shown.proofs.CueLemmas.{owner_cues, desc_begin, object_names_count}
-use Rattle.jser_shown.proofs.KnownLemmas.{codes_in, layers_of, entries, classes_at-known_desc, external-known, then_entry, then_fields, then_value, then_class, then_values, then_notes, then_contents, then_chain}
+use Rattle.jser_shown.proofs.KnownLemmas.{codes_in, layers_of, entries, classes_at-known_desc, external-known, elements-known, then_entry, then_fields, then_value, then_class, then_values, then_notes, then_contents, then_chain}
 
 -- cues that no field belongs to
 
-parts_done : (rest : List Piece) (e L : ℕ) (T : Known) (os : List OwnerNode) (gs : List Cue)
+parts_done : (rest : List Piece) (e : Epoch) (L : ℕ) (T : Known) (os : List OwnerNode) (gs : List Cue)
     → tell (teller e T os (parts_cue L [] ∷ gs)) rest ≡ tell (teller e T os gs) rest
 parts_done [] e L T os gs = refl
 parts_done (piece l f ∷ rest) e L T os gs = refl
 
-data_first : (rest : List Piece) (l : NamedLayer) (parts : List SectionPart) (e L : ℕ) (T : Known) (os : List OwnerNode) (gs : List Cue)
+data_first : (rest : List Piece) (l : NamedLayer) (parts : List SectionPart) (e : Epoch) (L : ℕ) (T : Known) (os : List OwnerNode) (gs : List Cue)
     → tell (teller e T os (parts_cue L (data_part l ∷ parts) ∷ gs)) rest ≡ begin_line L (data_text l (tell (teller e T os (parts_cue L parts ∷ gs)) rest))
 data_first [] l parts e L T os gs = refl
 data_first (piece a f ∷ rest) l parts e L T os gs = refl
 
-external_first : (rest : List Piece) (l : NamedLayer) (parts : List SectionPart) (e L : ℕ) (T : Known) (os : List OwnerNode) (gs : List Cue)
+external_first : (rest : List Piece) (l : NamedLayer) (parts : List SectionPart) (e : Epoch) (L : ℕ) (T : Known) (os : List OwnerNode) (gs : List Cue)
     → tell (teller e T os (parts_cue L (external_part l ∷ parts) ∷ gs)) rest ≡ begin_line L (external_text l (tell (teller e T os (parts_cue L parts ∷ gs)) rest))
 external_first [] l parts e L T os gs = refl
 external_first (piece a f ∷ rest) l parts e L T os gs = refl
 
-note_first : (rest : List Piece) (parts : List SectionPart) (e L : ℕ) (T : Known) (os : List OwnerNode) (gs : List Cue)
+note_first : (rest : List Piece) (parts : List SectionPart) (e : Epoch) (L : ℕ) (T : Known) (os : List OwnerNode) (gs : List Cue)
     → tell (teller e T os (parts_cue L (note_part ∷ parts) ∷ gs)) rest ≡ tell (teller e T os (note_cue (suc L) ∷ parts_cue L parts ∷ gs)) rest
 note_first [] parts e L T os gs = refl
 note_first (piece a f ∷ rest) parts e L T os gs = refl
 
-elements_done : (rest : List Piece) (e L i : ℕ) (T : Known) (os : List OwnerNode) (gs : List Cue)
-    → tell (teller e T os (elements_cue L i 0 ∷ gs)) rest ≡ tell (teller e T os gs) rest
-elements_done [] e L i T os gs = refl
-elements_done (piece l f ∷ rest) e L i T os gs = refl
+elements_done : (rest : List Piece) (e : Epoch) (L i : ℕ) (c : Option PrimCode) (T : Known) (os : List OwnerNode) (gs : List Cue)
+    → tell (teller e T os (elements_cue L c i 0 ∷ gs)) rest ≡ tell (teller e T os gs) rest
+elements_done [] e L i c T os gs = refl
+elements_done (piece l f ∷ rest) e L i c T os gs = refl
 
-closed : (rest : List Piece) (e number n : ℕ) (layer : NamedLayer) (T : Known) (os : List OwnerNode) (gs : List Cue)
+closed : (rest : List Piece) (e : Epoch) (number n : ℕ) (layer : NamedLayer) (T : Known) (os : List OwnerNode) (gs : List Cue)
     → tell (teller e T os (close_cue number n layer ∷ gs)) rest
     ≡ tell (teller e (slice_set T number (known_class (classes_at T n ++ (layer ∷ [])))) os gs) rest
 closed [] e number n layer T os gs = refl
 closed (piece l f ∷ rest) e number n layer T os gs = refl
 
-fields_end : (rest : List Piece) (e L number : ℕ) (name : List ℕ) (flags : ℕ) (done : List NamedField) (T : Known) (os : List OwnerNode) (gs : List Cue)
+fields_end : (rest : List Piece) (e : Epoch) (L number : ℕ) (name : List ℕ) (flags : ℕ) (done : List NamedField) (T : Known) (os : List OwnerNode) (gs : List Cue)
     → tell (teller e T os (fields_cue L number name flags done 0 ∷ gs)) rest
     ≡ tell (teller e T os (rest_of_desc L number (class_layer name flags (fields_done done [])) gs)) rest
 fields_end [] e L number name flags done T os gs = refl
 fields_end (piece l f ∷ rest) e L number name flags done T os gs = refl
 
-interfaces_end : (rest : List Piece) (e L number : ℕ) (T : Known) (os : List OwnerNode) (gs : List Cue)
+interfaces_end : (rest : List Piece) (e : Epoch) (L number : ℕ) (T : Known) (os : List OwnerNode) (gs : List Cue)
     → tell (teller e T os (interfaces_cue L number 0 ∷ gs)) rest ≡ tell (teller e T os (rest_of_desc L number proxy_layer gs)) rest
 interfaces_end [] e L number T os gs = refl
 interfaces_end (piece l f ∷ rest) e L number T os gs = refl
 
-type_some : (rest : List Piece) (e : ℕ) (T : Known) (os : List OwnerNode) (gs : List Cue)
+type_some : (rest : List Piece) (e : Epoch) (T : Known) (os : List OwnerNode) (gs : List Cue)
     → tell (teller e T os (type_cue true ∷ gs)) rest ≡ codes " type " ++ tell (teller e T os (text_place_cue ∷ gs)) rest
 type_some [] e T os gs = refl
 type_some (piece l f ∷ rest) e T os gs = refl
 
-type_none : (rest : List Piece) (e : ℕ) (T : Known) (os : List OwnerNode) (gs : List Cue)
+type_none : (rest : List Piece) (e : Epoch) (T : Known) (os : List OwnerNode) (gs : List Cue)
     → tell (teller e T os (type_cue false ∷ gs)) rest ≡ end_line (tell (teller e T os gs) rest)
 type_none [] e T os gs = refl
 type_none (piece l f ∷ rest) e T os gs = refl
 
-tells_made : (rest : List Piece) (owner : Owner) (e L n : ℕ) (T : Known) (os : List OwnerNode) (gs : List Cue)
+tells_made : (rest : List Piece) (owner : Owner) (e : Epoch) (L n : ℕ) (T : Known) (os : List OwnerNode) (gs : List Cue)
     → tell (teller e T os (made_cue owner L n ∷ gs)) rest ≡ tell (teller e (with_entry T known_other) os (owner_cues owner L (classes_at T n) gs)) rest
 tells_made [] object_owner e L n T os gs = refl
 tells_made [] array_owner e L n T os gs = refl
@@ -87,30 +88,30 @@ tells_made (piece l f ∷ rest) class_owner e L n T os gs = refl
 
 -- texts, fields and interfaces
 
-tells_new_text : (long : Bool) (units : List ℕ) (d : ℕ) (m n : Moment) (e : ℕ) (T : Known) (os : List OwnerNode) (gs : List Cue) (rest : List Piece)
+tells_new_text : (long : Bool) (units : List ℕ) (d : ℕ) (m n : Moment) (e : Epoch) (T : Known) (os : List OwnerNode) (gs : List Cue) (rest : List Piece)
     → tell (teller e T os (text_place_cue ∷ gs)) (at text_place_at d m (tag_field (tag_of_string long)) ∷ at (string_at long) d n (text_field long units) ∷ rest)
     ≡ string_text e (length T) (record { long = long; units = units }) (tell (teller e (with_entry T known_text) os gs) rest)
 tells_new_text true units d m n e T os gs rest = refl
 tells_new_text false units d m n e T os gs rest = refl
 
-tells_text : (t : TextPlaceTree) (d : ℕ) (m : Moment) (e : ℕ) (T : Known) (os : List OwnerNode) (gs : List Cue) (rest : List Piece)
+tells_text : (t : TextPlaceTree) (d : ℕ) (m : Moment) (e : Epoch) (T : Known) (os : List OwnerNode) (gs : List Cue) (rest : List Piece)
     → tell (teller e T os (text_place_cue ∷ gs)) (cut_text_place d m t rest) ≡ text_place_text e T t (tell (teller e (known_text_place T t) os gs) rest)
 tells_text (new_text t) d m e T os gs rest = tells_new_text t.long t.units d m (assign m text_entry) e T os gs rest
 tells_text (back_text n) d m e T os gs rest = refl
 
-tells_new_name : (long : Bool) (units : List ℕ) (d : ℕ) (m n : Moment) (e L : ℕ) (T : Known) (os : List OwnerNode) (gs : List Cue) (rest : List Piece)
+tells_new_name : (long : Bool) (units : List ℕ) (d : ℕ) (m n : Moment) (e : Epoch) (L : ℕ) (T : Known) (os : List OwnerNode) (gs : List Cue) (rest : List Piece)
     → tell (teller e T os (name_cue L ∷ gs)) (at text_place_at d m (tag_field (tag_of_string long)) ∷ at (string_at long) d n (text_field long units) ∷ rest)
     ≡ begin_line L (codes "name " ++ string_text e (length T) (record { long = long; units = units }) (tell (teller e (with_entry T known_text) os gs) rest))
 tells_new_name true units d m n e L T os gs rest = refl
 tells_new_name false units d m n e L T os gs rest = refl
 
-tells_name : (t : TextPlaceTree) (d : ℕ) (m : Moment) (e L : ℕ) (T : Known) (os : List OwnerNode) (gs : List Cue) (rest : List Piece)
+tells_name : (t : TextPlaceTree) (d : ℕ) (m : Moment) (e : Epoch) (L : ℕ) (T : Known) (os : List OwnerNode) (gs : List Cue) (rest : List Piece)
     → tell (teller e T os (name_cue L ∷ gs)) (cut_text_place d m t rest)
     ≡ begin_line L (codes "name " ++ text_place_text e T t (tell (teller e (known_text_place T t) os gs) rest))
 tells_name (new_text t) d m e L T os gs rest = tells_new_name t.long t.units d m (assign m text_entry) e L T os gs rest
 tells_name (back_text n) d m e L T os gs rest = refl
 
-tells_type : (t : Option TextPlaceTree) (object seen : Bool) (code d : ℕ) (m : Moment) (e : ℕ) (T : Known) (os : List OwnerNode) (gs : List Cue) (rest : List Piece)
+tells_type : (t : Option TextPlaceTree) (object seen : Bool) (code d : ℕ) (m : Moment) (e : Epoch) (T : Known) (os : List OwnerNode) (gs : List Cue) (rest : List Piece)
     → is_object_code code ≡ object → WellFormedType m.table seen code t
     → tell (teller e T os (type_cue object ∷ gs)) (cut_type d m t rest) ≡ type_text e T t (tell (teller e (known_type T t) os gs) rest)
 tells_type None false seen code d m e T os gs rest q h = type_none rest e T os gs
@@ -119,7 +120,7 @@ tells_type (Some t) true seen code d m e T os gs rest q h =
     type_some (cut_text_place d m t rest) e T os gs ∙ ap (λ x. codes " type " ++ x) (tells_text t d m e T os gs rest)
 tells_type (Some t) false seen code d m e T os gs rest q h = both_ways (is_object_code code) h.0 q
 
-tells_fields : (fs : List FieldTree) (d : ℕ) (seen : Bool) (m : Moment) (e L number : ℕ) (name : List ℕ) (flags : ℕ) (done : List NamedField)
+tells_fields : (fs : List FieldTree) (d : ℕ) (seen : Bool) (m : Moment) (e : Epoch) (L number : ℕ) (name : List ℕ) (flags : ℕ) (done : List NamedField)
     (T : Known) (os : List OwnerNode) (gs : List Cue) (rest : List Piece) → WellFormedFields m.table seen fs
     → tell (teller e T os (fields_cue L number name flags done (length fs) ∷ gs)) (cut_fields d seen m fs rest)
     ≡ fields_text e L T fs (tell (teller e (known_fields T fs) os (rest_of_desc L number (class_layer name flags (fields_done done (named_fields fs))) gs)) rest)
@@ -132,7 +133,7 @@ tells_fields (f ∷ fs) d seen m e L number name flags done T os gs rest h =
     ∙ ap (λ x. type_text e T f.text x)
     (tells_fields fs d later (past_type m f.text) e L number name flags (record { code = f.code; name = f.name } ∷ done) (known_type T f.text) os gs rest h.2))
 
-tells_interfaces : (names : List (List ℕ)) (d : ℕ) (m : Moment) (e L number : ℕ) (T : Known) (os : List OwnerNode) (gs : List Cue) (rest : List Piece)
+tells_interfaces : (names : List (List ℕ)) (d : ℕ) (m : Moment) (e : Epoch) (L number : ℕ) (T : Known) (os : List OwnerNode) (gs : List Cue) (rest : List Piece)
     → tell (teller e T os (interfaces_cue L number (length names) ∷ gs)) (cut_interfaces d m names rest)
     ≡ interfaces_text L names (tell (teller e T os (rest_of_desc L number proxy_layer gs)) rest)
 tells_interfaces [] d m e L number T os gs rest = interfaces_end rest e L number T os gs
@@ -141,68 +142,68 @@ tells_interfaces (name ∷ names) d m e L number T os gs rest =
 
 -- raw bytes and raw values
 
-tells_block : (bytes : List ℕ) (long : Bool) (d : ℕ) (m : Moment) (e : ℕ) (T : Known) (os : List OwnerNode) (gs : List Cue) (rest : List Piece)
+tells_block : (bytes : List ℕ) (long : Bool) (d : ℕ) (m : Moment) (e : Epoch) (T : Known) (os : List OwnerNode) (gs : List Cue) (rest : List Piece)
     → tell (teller e T os (block_length_cue ∷ gs)) (at (block_length_at long) d m (block_length_field long (length bytes)) ∷ cut_bytes d m bytes rest)
     ≡ decimal (length bytes) ++ (0x3A ∷ block_bytes bytes (tell (teller e T os gs) rest))
 tells_block [] long d m e T os gs rest = refl
 tells_block (b ∷ bytes) long d m e T os gs rest = refl
 
-tells_raw : (ps : List PrimTree) (c : PrimCode) (d : ℕ) (m : Moment) (e L : ℕ) (T : Known) (os : List OwnerNode) (gs : List Cue) (rest : List Piece)
+tells_raw : (ps : List PrimTree) (c : PrimCode) (d : ℕ) (m : Moment) (e : Epoch) (L : ℕ) (T : Known) (os : List OwnerNode) (gs : List Cue) (rest : List Piece)
     → ArePrimsOf c ps
-    → tell (teller e T os (elements_cue L 0 (length ps) ∷ gs)) (cut_raw d m (Some c) ps rest) ≡ raw_elements_text L 0 ps (tell (teller e T os gs) rest)
-tells_raw [] c d m e L T os gs rest h = elements_done rest e L 0 T os gs
-tells_raw (p ∷ ps) c d m e L T os gs rest h = lines_of_elements c p ps L 0 (tell (teller e T os gs) rest) h
+    → tell (teller e T os (elements_cue L (Some c) 0 (length ps) ∷ gs)) (cut_raw d m (Some c) ps rest) ≡ raw_elements_text e L 0 ps (tell (teller e T os gs) rest)
+tells_raw [] c d m e L T os gs rest h = elements_done rest e L 0 (Some c) T os gs
+tells_raw (p ∷ ps) c d m e L T os gs rest h = lines_of_elements e c p ps L 0 (tell (teller e T os gs) rest) h
 
 -- one field more: a raw value where it is primitive
-tells_prim : (o : Option PrimCode) (name : List ℕ) (fs : List NamedField) (parts : List SectionPart) (d : ℕ) (m : Moment) (e L : ℕ) (T : Known) (os : List OwnerNode)
+tells_prim : (o : Option PrimCode) (f : NamedField) (fs : List NamedField) (parts : List SectionPart) (d : ℕ) (m : Moment) (e : Epoch) (L : ℕ) (T : Known) (os : List OwnerNode)
     (gs : List Cue) (rest : List Piece)
     → ((ps : List PrimTree) → ArePrims (primitive_codes (codes_in fs)) ps
-    → tell (teller e T os (parts_cue L (raw_parts (prim_names fs) parts) ∷ gs)) (cut_prims d m (primitive_codes (codes_in fs)) ps rest)
-    ≡ prims_text (suc L) (prim_names fs) ps (tell (teller e T os (parts_cue L parts ∷ gs)) rest))
-    → (ps : List PrimTree) → ArePrims (with_code o (primitive_codes (codes_in fs))) ps
-    → tell (teller e T os (parts_cue L (raw_parts (if is_some o then name ∷ prim_names fs else prim_names fs) parts) ∷ gs)) (cut_prims d m (with_code o (primitive_codes (codes_in fs))) ps rest)
-    ≡ prims_text (suc L) (if is_some o then name ∷ prim_names fs else prim_names fs) ps (tell (teller e T os (parts_cue L parts ∷ gs)) rest)
-tells_prim None name fs parts d m e L T os gs rest others ps h = others ps h
-tells_prim (Some c) name fs parts d m e L T os gs rest others [] h = absurd h
-tells_prim (Some c) name fs parts d m e L T os gs rest others (p ∷ ps) h =
+    → tell (teller e T os (parts_cue L (raw_parts (prim_fields fs) parts) ∷ gs)) (cut_prims d m (primitive_codes (codes_in fs)) ps rest)
+    ≡ prims_text e (suc L) (prim_fields fs) ps (tell (teller e T os (parts_cue L parts ∷ gs)) rest))
+    → prim_code_of f.code ≡ o → (ps : List PrimTree) → ArePrims (with_code o (primitive_codes (codes_in fs))) ps
+    → tell (teller e T os (parts_cue L (raw_parts (if is_some o then f ∷ prim_fields fs else prim_fields fs) parts) ∷ gs)) (cut_prims d m (with_code o (primitive_codes (codes_in fs))) ps rest)
+    ≡ prims_text e (suc L) (if is_some o then f ∷ prim_fields fs else prim_fields fs) ps (tell (teller e T os (parts_cue L parts ∷ gs)) rest)
+tells_prim None f fs parts d m e L T os gs rest others is ps h = others ps h
+tells_prim (Some c) f fs parts d m e L T os gs rest others is [] h = absurd h
+tells_prim (Some c) f fs parts d m e L T os gs rest others is (p ∷ ps) h =
     let pieces = cut_prims d m (primitive_codes (codes_in fs)) ps rest in
-    line_of_one (suc L) (field_named name) p (tell (teller e T os (parts_cue L (raw_parts (prim_names fs) parts) ∷ gs)) pieces)
-    ∙ ap (λ x. raw_text (suc L) (field_named name) p x) (others ps h.1)
+    line_of_one e (prim_code_of f.code) c (suc L) (field_named f.name) p (tell (teller e T os (parts_cue L (raw_parts (prim_fields fs) parts) ∷ gs)) pieces) is h.0
+    ∙ ap (λ x. raw_text e (suc L) (field_named f.name) p x) (others ps h.1)
 
-tells_prims : (fs : List NamedField) (ps : List PrimTree) (parts : List SectionPart) (d : ℕ) (m : Moment) (e L : ℕ) (T : Known) (os : List OwnerNode)
+tells_prims : (fs : List NamedField) (ps : List PrimTree) (parts : List SectionPart) (d : ℕ) (m : Moment) (e : Epoch) (L : ℕ) (T : Known) (os : List OwnerNode)
     (gs : List Cue) (rest : List Piece) → ArePrims (primitive_codes (codes_in fs)) ps
-    → tell (teller e T os (parts_cue L (raw_parts (prim_names fs) parts) ∷ gs)) (cut_prims d m (primitive_codes (codes_in fs)) ps rest)
-    ≡ prims_text (suc L) (prim_names fs) ps (tell (teller e T os (parts_cue L parts ∷ gs)) rest)
+    → tell (teller e T os (parts_cue L (raw_parts (prim_fields fs) parts) ∷ gs)) (cut_prims d m (primitive_codes (codes_in fs)) ps rest)
+    ≡ prims_text e (suc L) (prim_fields fs) ps (tell (teller e T os (parts_cue L parts ∷ gs)) rest)
 tells_prims [] [] parts d m e L T os gs rest h = refl
 tells_prims [] (p ∷ ps) parts d m e L T os gs rest h = absurd h
 tells_prims (f ∷ fs) ps parts d m e L T os gs rest h =
-    tells_prim (prim_code_of f.code) f.name fs parts d m e L T os gs rest (λ qs g. tells_prims fs qs parts d m e L T os gs rest g) ps h
+    tells_prim (prim_code_of f.code) f fs parts d m e L T os gs rest (λ qs g. tells_prims fs qs parts d m e L T os gs rest g) refl ps h
 
 -- the tag of a descriptor
 
-abbrev desc_says : ℕ → Known → DescTree → List ℕ → List ℕ
-desc_says e T (plain name suid flags fields notes parent) k = codes "desc " ++ mark e (length T) (0x20 ∷ k)
-desc_says e T (proxy interfaces notes parent) k = codes "proxy " ++ mark e (length T) (end_line k)
+abbrev desc_says : Epoch → Known → DescTree → List ℕ → List ℕ
+desc_says e T (plain name suid flags fields notes parent) k = codes "desc " ++ mark e.number (length T) (0x20 ∷ k)
+desc_says e T (proxy interfaces notes parent) k = codes "proxy " ++ mark e.number (length T) (end_line k)
 
-enter_value : (x : DescTree) (e L : ℕ) (T : Known) (os : List OwnerNode) (gs : List Cue) (pieces : List Piece)
-    → tag_says e (length T) (first_owner os) (tag_of_desc x) (tell (begin e L T os (tag_of_desc x) gs) pieces) ≡ desc_says e T x (tell (desc_begin e L T os x gs) pieces)
+enter_value : (x : DescTree) (e : Epoch) (L : ℕ) (T : Known) (os : List OwnerNode) (gs : List Cue) (pieces : List Piece)
+    → tag_says e.number (length T) (first_owner os) (tag_of_desc x) (tell (begin e L T os (tag_of_desc x) gs) pieces) ≡ desc_says e T x (tell (desc_begin e L T os x gs) pieces)
 enter_value (plain name suid flags fields notes parent) e L T os gs pieces = refl
 enter_value (proxy interfaces notes parent) e L T os gs pieces = refl
 
-enter_class : (x : DescTree) (owner : Owner) (d : ℕ) (m : Moment) (e L : ℕ) (T : Known) (os : List OwnerNode) (gs : List Cue) (pieces : List Piece)
+enter_class : (x : DescTree) (owner : Owner) (d : ℕ) (m : Moment) (e : Epoch) (L : ℕ) (T : Known) (os : List OwnerNode) (gs : List Cue) (pieces : List Piece)
     → tell (teller e T os (class_cue owner L ∷ gs)) (at (class_place_at owner) d m (tag_field (tag_of_desc x)) ∷ pieces)
     ≡ begin_line L (codes "class " ++ desc_says e T x (tell (desc_begin e L T os x (made_cue owner L (length T) ∷ gs)) pieces))
 enter_class (plain name suid flags fields notes parent) owner d m e L T os gs pieces = refl
 enter_class (proxy interfaces notes parent) owner d m e L T os gs pieces = refl
 
-enter_super : (x : DescTree) (owner : ChainOwner) (strict : Bool) (d : ℕ) (m : Moment) (e L number : ℕ) (layer : NamedLayer) (T : Known) (os : List OwnerNode) (gs : List Cue) (pieces : List Piece)
+enter_super : (x : DescTree) (owner : ChainOwner) (strict : Bool) (d : ℕ) (m : Moment) (e : Epoch) (L number : ℕ) (layer : NamedLayer) (T : Known) (os : List OwnerNode) (gs : List Cue) (pieces : List Piece)
     → tell (teller e T os (super_cue L number layer ∷ gs)) (at (superclass_place_at owner strict) d m (tag_field (tag_of_desc x)) ∷ pieces)
     ≡ begin_line L (codes "super " ++ desc_says e T x (tell (desc_begin e L T os x (close_cue number (length T) layer ∷ gs)) pieces))
 enter_super (plain name suid flags fields notes parent) owner strict d m e L number layer T os gs pieces = refl
 enter_super (proxy interfaces notes parent) owner strict d m e L number layer T os gs pieces = refl
 
 -- an externalizable class has one section, of notes alone; any other one for each class of the chain
-by_class : (x y : Bool) (E S : Type 0) (chain : List NamedLayer) (e L : ℕ) (T : Known) (os : List OwnerNode) (gs : List Cue) (a b : List Piece) (A B : List ℕ)
+by_class : (x y : Bool) (E S : Type 0) (chain : List NamedLayer) (e : Epoch) (L : ℕ) (T : Known) (os : List OwnerNode) (gs : List Cue) (a b : List Piece) (A B : List ℕ)
     → x ≡ y → MatchBool x E S
     → (E → tell (teller e T os (parts_cue L (external_part (own_class_of chain) ∷ note_part ∷ []) ∷ gs)) a ≡ A)
     → (S → tell (teller e T os (parts_cue L (section_parts chain) ∷ gs)) b ≡ B)
@@ -213,34 +214,36 @@ by_class true false E S chain e L T os gs a b A B q h f g = absurd (true≢false
 by_class false true E S chain e L T os gs a b A B q h f g = absurd (true≢false (sym q))
 
 mutual
-  pub tells_value : (v : ValueTree) (d : ℕ) (m : Moment) (e L : ℕ) (T : Known) (os : List OwnerNode) (gs : List Cue) (rest : List Piece)
+  pub tells_value : (v : ValueTree) (d : ℕ) (m : Moment) (e : Epoch) (L : ℕ) (T : Known) (os : List OwnerNode) (gs : List Cue) (rest : List Piece)
       → m.table ≡ entries T → WellFormedValue m.table v
-      → tag_says e (length T) (first_owner (owners_in_value T v os)) (tag_of v) (tell (begin e L T (owners_in_value T v os) (tag_of v) gs) (cut_value d m v rest))
+      → tag_says e.number (length T) (first_owner (owners_in_value T v os)) (tag_of v) (tell (begin e L T (owners_in_value T v os) (tag_of v) gs) (cut_value d m v rest))
       ≡ value_text e L T v (tell (teller e (known_value T v) os gs) rest)
   tells_value null d m e L T os gs rest q h = refl
   tells_value (back n) d m e L T os gs rest q h = refl
   tells_value (string t) d m e L T os gs rest q h = go t.long t.units
     where
       go : (long : Bool) (units : List ℕ)
-          → tag_says e (length T) (first_owner os) (tag_of_string long) (tell (begin e L T os (tag_of_string long) gs) (at (string_at long) d (assign (tick m) text_entry) (text_field long units) ∷ rest))
+          → tag_says e.number (length T) (first_owner os) (tag_of_string long) (tell (begin e L T os (tag_of_string long) gs) (at (string_at long) d (assign (tick m) text_entry) (text_field long units) ∷ rest))
           ≡ string_text e (length T) (record { long = long; units = units }) (tell (teller e (with_entry T known_text) os gs) rest)
       go true units = refl
       go false units = refl
   tells_value (descriptor x) d m e L T os gs rest q h =
       enter_value x e L T (owners_in_desc T x os) gs (cut_desc (own_class None) d (tick m) x rest) ∙ tells_desc x (own_class None) d (tick m) e L T os gs rest q h
   tells_value (class_object c) d m e L T os gs rest q h =
-      ap (λ x. codes "classobject " ++ mark e (length (known_class_place T c)) (end_line x)) (tells_class c class_owner d (tick m) e (suc L) T os gs rest q h)
+      ap (λ x. codes "classobject " ++ mark e.number (length (known_class_place T c)) (end_line x)) (tells_class c class_owner d (tick m) e (suc L) T os gs rest q h)
   tells_value (array c b) d m e L T os gs rest q h =
       let made = assign (past_class (tick m) c) other_entry in
       let T1 = with_entry (known_class_place T c) known_other in
-      ap (λ x. codes "array " ++ mark e (length (known_class_place T c)) (codes " length " ++ (decimal (array_length b) ++ end_line x)))
+      let same = ap elements_of (then_chain c T m.table q) ∙ elements-known (classes_of T c) in
+      ap (λ x. codes "array " ++ mark e.number (length (known_class_place T c)) (codes " length " ++ (decimal (array_length b) ++ end_line x)))
       (tells_class c array_owner d (tick m) e (suc L) T (owners_in_body T1 b os) gs
       (at array_length_at d made (array_length_field (array_length b)) ∷ cut_body d made (elements_of (chain_of_class m.table c)) b rest) q h.0
       ∙ ap (λ x. class_text e (suc L) T c x)
-      (tells_body b (elements_of (chain_of_class m.table c)) d made e (suc L) T1 os gs rest (then_entry known_other (known_class_place T c) (past_class (tick m) c).table (then_class c T m.table q)) h.2))
+      (ap (λ o. tell (teller e T1 (owners_in_body T1 b os) (length_cue (suc L) o ∷ gs)) (at array_length_at d made (array_length_field (array_length b)) ∷ cut_body d made (elements_of (chain_of_class m.table c)) b rest)) (sym same)
+      ∙ tells_body b (elements_of (chain_of_class m.table c)) d made e (suc L) T1 os gs rest (then_entry known_other (known_class_place T c) (past_class (tick m) c).table (then_class c T m.table q)) h.2))
   tells_value (enum_constant c t) d m e L T os gs rest q h =
       let made = assign (past_class (tick m) c) other_entry in
-      ap (λ x. codes "enum " ++ mark e (length (known_class_place T c)) (end_line x))
+      ap (λ x. codes "enum " ++ mark e.number (length (known_class_place T c)) (end_line x))
       (tells_class c enum_owner d (tick m) e (suc L) T os gs (cut_text_place d made t rest) q h.0
       ∙ ap (λ x. class_text e (suc L) T c x) (tells_name t d made e (suc L) (with_entry (known_class_place T c) known_other) os gs rest))
   tells_value (object c ss) d m e L T os gs rest q h =
@@ -250,7 +253,7 @@ mutual
       let layers = chain_of_class m.table c in
       let chain = classes_of T c in
       let same = then_chain c T m.table q in
-      ap (λ x. codes "object " ++ mark e (length (known_class_place T c)) (end_line x))
+      ap (λ x. codes "object " ++ mark e.number (length (known_class_place T c)) (end_line x))
       (tells_class c object_owner d (tick m) e (suc L) T (owners_in_sections T1 ss os) gs
       (if is_external layers then cut_external d made ss rest else cut_sections d made layers ss rest) q h.0
       ∙ ap (λ x. class_text e (suc L) T c x)
@@ -264,7 +267,7 @@ mutual
       ≡ sections_text e (suc L) T1 chain ss (tell (teller e (known_sections T1 ss) os gs) rest)) (sym same)
       (λ w. tells_sections ss chain d made e (suc L) T1 os gs rest q1 w))))
 
-  tells_desc : (x : DescTree) (role : Role) (d : ℕ) (m : Moment) (e L : ℕ) (T : Known) (os : List OwnerNode) (gs : List Cue) (rest : List Piece)
+  tells_desc : (x : DescTree) (role : Role) (d : ℕ) (m : Moment) (e : Epoch) (L : ℕ) (T : Known) (os : List OwnerNode) (gs : List Cue) (rest : List Piece)
       → m.table ≡ entries T → WellFormedDesc m.table x
       → desc_says e T x (tell (desc_begin e L T (owners_in_desc T x os) x gs) (cut_desc role d m x rest)) ≡ desc_text e L T x (tell (teller e (known_desc T x) os gs) rest)
   tells_desc (plain name suid flags fields notes parent) role d m e L T os gs rest q h =
@@ -280,7 +283,7 @@ mutual
       let layer = class_layer name flags (named_fields fields) in
       let up : List Cue = super_cue (suc L) (length T) layer ∷ gs in
       let ends = cut_superclass (owner_of role) (is_strict_above role flags) (suc d) inside parent rest in
-      ap (λ x. codes "desc " ++ mark e (length T) (0x20 ∷ quoted name (codes " suid " ++ (encode_lower (big_bytes 8 suid) ++ (codes " flags " ++ (encode_lower (flags ∷ []) ++ end_line x))))))
+      ap (λ x. codes "desc " ++ mark e.number (length T) (0x20 ∷ quoted name (codes " suid " ++ (encode_lower (big_bytes 8 suid) ++ (codes " flags " ++ (encode_lower (flags ∷ []) ++ end_line x))))))
       (tells_fields fields d false opened e (suc L) (length T) name flags [] T1 (owners_in_annotation T2 notes (owners_in_class T3 parent os)) gs (cut_annotation d past notes ends) h.4
       ∙ ap (λ x. fields_text e (suc L) T1 fields x)
       (tells_annotation notes d past e (suc L) T2 (owners_in_class T3 parent os) up ends q2 h.5
@@ -295,14 +298,14 @@ mutual
       let q3 = then_contents notes T1 opened.table q1 in
       let up : List Cue = super_cue (suc L) (length T) proxy_layer ∷ gs in
       let ends = cut_superclass (owner_of role) (is_strict_above role 0) (suc d) inside parent rest in
-      ap (λ x. codes "proxy " ++ mark e (length T) (end_line x))
+      ap (λ x. codes "proxy " ++ mark e.number (length T) (end_line x))
       (tells_interfaces interfaces d opened e (suc L) (length T) T1 (owners_in_annotation T1 notes (owners_in_class T3 parent os)) gs (cut_annotation d opened notes ends)
       ∙ ap (λ x. interfaces_text (suc L) interfaces x)
       (tells_annotation notes d opened e (suc L) T1 (owners_in_class T3 parent os) up ends q1 h.2
       ∙ ap (λ x. annotation_text e (suc L) T1 notes x)
       (tells_super parent (owner_of role) (is_strict_above role 0) (suc d) inside e (suc L) (length T) proxy_layer T3 os gs rest q3 h.3)))
 
-  tells_class : (c : ClassPlaceTree) (owner : Owner) (d : ℕ) (m : Moment) (e L : ℕ) (T : Known) (os : List OwnerNode) (gs : List Cue) (rest : List Piece)
+  tells_class : (c : ClassPlaceTree) (owner : Owner) (d : ℕ) (m : Moment) (e : Epoch) (L : ℕ) (T : Known) (os : List OwnerNode) (gs : List Cue) (rest : List Piece)
       → m.table ≡ entries T → WellFormedClass m.table c
       → tell (teller e T (owners_in_class T c os) (class_cue owner L ∷ gs)) (cut_class owner d m c rest)
       ≡ class_text e L T c (tell (teller e (with_entry (known_class_place T c) known_other) os (owner_cues owner L (classes_of T c) gs)) rest)
@@ -317,7 +320,7 @@ mutual
       (tells_made rest owner e L (length T) (known_desc T x) os gs
       ∙ ap (λ chain. tell (teller e (with_entry (known_desc T x) known_other) os (owner_cues owner L chain gs)) rest) (classes_at-known_desc x T)))
 
-  tells_super : (c : ClassPlaceTree) (owner : ChainOwner) (strict : Bool) (d : ℕ) (m : Moment) (e L number : ℕ) (layer : NamedLayer) (T : Known) (os : List OwnerNode) (gs : List Cue) (rest : List Piece)
+  tells_super : (c : ClassPlaceTree) (owner : ChainOwner) (strict : Bool) (d : ℕ) (m : Moment) (e : Epoch) (L number : ℕ) (layer : NamedLayer) (T : Known) (os : List OwnerNode) (gs : List Cue) (rest : List Piece)
       → m.table ≡ entries T → WellFormedSuperclass m.table c
       → tell (teller e T (owners_in_class T c os) (super_cue L number layer ∷ gs)) (cut_superclass owner strict d m c rest)
       ≡ super_text e L T c (tell (teller e (slice_set (known_class_place T c) number (known_class (classes_of T c ++ (layer ∷ [])))) os gs) rest)
@@ -332,27 +335,27 @@ mutual
       (closed rest e number (length T) layer (known_desc T x) os gs
       ∙ ap (λ chain. tell (teller e (slice_set (known_desc T x) number (known_class (chain ++ (layer ∷ [])))) os gs) rest) (classes_at-known_desc x T)))
 
-  tells_body : (b : BodyTree) (elements : Option PrimCode) (d : ℕ) (m : Moment) (e L : ℕ) (T : Known) (os : List OwnerNode) (gs : List Cue) (rest : List Piece)
+  tells_body : (b : BodyTree) (elements : Option PrimCode) (d : ℕ) (m : Moment) (e : Epoch) (L : ℕ) (T : Known) (os : List OwnerNode) (gs : List Cue) (rest : List Piece)
       → m.table ≡ entries T → WellFormedBody m.table b elements
-      → tell (teller e T (owners_in_body T b os) (length_cue L ∷ gs)) (at array_length_at d m (array_length_field (array_length b)) ∷ cut_body d m elements b rest)
+      → tell (teller e T (owners_in_body T b os) (length_cue L elements ∷ gs)) (at array_length_at d m (array_length_field (array_length b)) ∷ cut_body d m elements b rest)
       ≡ body_text e L T b (tell (teller e (known_body T b) os gs) rest)
   tells_body (raw_body ps) None d m e L T os gs rest q h = absurd h
   tells_body (raw_body ps) (Some c) d m e L T os gs rest q h = tells_raw ps c d m e L T os gs rest h.1
-  tells_body (value_body vs) None d m e L T os gs rest q h = tells_elements vs 0 d m e L T os gs rest q h.1
+  tells_body (value_body vs) None d m e L T os gs rest q h = tells_elements vs None 0 d m e L T os gs rest q h.1
   tells_body (value_body vs) (Some c) d m e L T os gs rest q h = absurd h
 
-  tells_elements : (vs : ValueTrees) (i d : ℕ) (m : Moment) (e L : ℕ) (T : Known) (os : List OwnerNode) (gs : List Cue) (rest : List Piece)
+  tells_elements : (vs : ValueTrees) (c : Option PrimCode) (i d : ℕ) (m : Moment) (e : Epoch) (L : ℕ) (T : Known) (os : List OwnerNode) (gs : List Cue) (rest : List Piece)
       → m.table ≡ entries T → WellFormedValues m.table vs
-      → tell (teller e T (owners_in_values T vs os) (elements_cue L i (value_count vs) ∷ gs)) (cut_values d m vs rest)
+      → tell (teller e T (owners_in_values T vs os) (elements_cue L c i (value_count vs) ∷ gs)) (cut_values d m vs rest)
       ≡ elements_text e L T i vs (tell (teller e (known_values T vs) os gs) rest)
-  tells_elements no_values i d m e L T os gs rest q h = elements_done rest e L i T os gs
-  tells_elements (value_and v vs) i d m e L T os gs rest q h =
+  tells_elements no_values c i d m e L T os gs rest q h = elements_done rest e L i c T os gs
+  tells_elements (value_and v vs) c i d m e L T os gs rest q h =
       let T1 = known_value T v in
       ap (λ x. begin_line L (name_text (element_at i) x))
-      (tells_value v (suc d) m e L T (owners_in_values T1 vs os) (elements_cue L (suc i) (value_count vs) ∷ gs) (cut_values d (past_value m v) vs rest) q h.0
-      ∙ ap (λ x. value_text e L T v x) (tells_elements vs (suc i) d (past_value m v) e L T1 os gs rest (then_value v T m.table q) h.1))
+      (tells_value v (suc d) m e L T (owners_in_values T1 vs os) (elements_cue L c (suc i) (value_count vs) ∷ gs) (cut_values d (past_value m v) vs rest) q h.0
+      ∙ ap (λ x. value_text e L T v x) (tells_elements vs c (suc i) d (past_value m v) e L T1 os gs rest (then_value v T m.table q) h.1))
 
-  tells_values : (vs : ValueTrees) (names : List (List ℕ)) (parts : List SectionPart) (d : ℕ) (m : Moment) (e L : ℕ) (T : Known) (os : List OwnerNode) (gs : List Cue) (rest : List Piece)
+  tells_values : (vs : ValueTrees) (names : List (List ℕ)) (parts : List SectionPart) (d : ℕ) (m : Moment) (e : Epoch) (L : ℕ) (T : Known) (os : List OwnerNode) (gs : List Cue) (rest : List Piece)
       → m.table ≡ entries T → value_count vs ≡ length names → WellFormedValues m.table vs
       → tell (teller e T (owners_in_values T vs os) (parts_cue L (value_parts names parts) ∷ gs)) (cut_values d m vs rest)
       ≡ values_text e (suc L) T names vs (tell (teller e (known_values T vs) os (parts_cue L parts ∷ gs)) rest)
@@ -366,7 +369,7 @@ mutual
       ∙ ap (λ x. value_text e (suc L) T v x)
       (tells_values vs names parts d (past_value m v) e L T1 os gs rest (then_value v T m.table q) (omega (arith, n)) h.1))
 
-  tells_external : (ss : SectionTrees) (own : NamedLayer) (d : ℕ) (m : Moment) (e L : ℕ) (T : Known) (os : List OwnerNode) (gs : List Cue) (rest : List Piece)
+  tells_external : (ss : SectionTrees) (own : NamedLayer) (d : ℕ) (m : Moment) (e : Epoch) (L : ℕ) (T : Known) (os : List OwnerNode) (gs : List Cue) (rest : List Piece)
       → m.table ≡ entries T → WellFormedExternal m.table ss
       → tell (teller e T (owners_in_sections T ss os) (parts_cue L (external_part own ∷ note_part ∷ []) ∷ gs)) (cut_external d m ss rest)
       ≡ begin_line L (external_text own (external_notes_text e (suc L) T ss (tell (teller e (known_sections T ss) os gs) rest)))
@@ -379,7 +382,7 @@ mutual
       ∙ ap (λ x. annotation_text e (suc L) T notes x) (parts_done rest e L (known_contents T notes) os gs))
   tells_external _ own d m e L T os gs rest q h = absurd h
 
-  tells_sections : (ss : SectionTrees) (chain : List NamedLayer) (d : ℕ) (m : Moment) (e L : ℕ) (T : Known) (os : List OwnerNode) (gs : List Cue) (rest : List Piece)
+  tells_sections : (ss : SectionTrees) (chain : List NamedLayer) (d : ℕ) (m : Moment) (e : Epoch) (L : ℕ) (T : Known) (os : List OwnerNode) (gs : List Cue) (rest : List Piece)
       → m.table ≡ entries T → WellFormedSections m.table ss (layers_of chain)
       → tell (teller e T (owners_in_sections T ss os) (parts_cue L (section_parts chain) ∷ gs)) (cut_sections d m (layers_of chain) ss rest)
       ≡ sections_text e L T chain ss (tell (teller e (known_sections T ss) os gs) rest)
@@ -397,10 +400,10 @@ mutual
       let annotated_parts = note_if (has_write_method flags) (section_parts ls) in
       let valued_parts = value_parts (object_names fields) annotated_parts in
       let pieces = cut_values d m vs (cut_notes d (past_values m vs) n after) in
-      data_first (cut_prims d m (primitive_codes (codes_in fields)) ps pieces) (class_layer name flags fields) (raw_parts (prim_names fields) valued_parts) e L T (owners_in_values T vs os1) gs
+      data_first (cut_prims d m (primitive_codes (codes_in fields)) ps pieces) (class_layer name flags fields) (raw_parts (prim_fields fields) valued_parts) e L T (owners_in_values T vs os1) gs
       ∙ ap (λ x. begin_line L (data_text (class_layer name flags fields) x))
       (tells_prims fields ps valued_parts d m e L T (owners_in_values T vs os1) gs pieces h.0
-      ∙ ap (λ x. prims_text (suc L) (prim_names fields) ps x)
+      ∙ ap (λ x. prims_text e (suc L) (prim_fields fields) ps x)
       (tells_values vs (object_names fields) annotated_parts d m e L T os1 gs (cut_notes d (past_values m vs) n after) q (h.1 ∙ object_names_count fields) h.2
       ∙ ap (λ x. values_text e (suc L) T (object_names fields) vs x)
       (tells_notes n (has_write_method flags) (section_parts ls) d (past_values m vs) e L T1 os2 gs after q1 h.3
@@ -417,17 +420,17 @@ mutual
       let annotated_parts = note_if false (section_parts ls) in
       let valued_parts = value_parts (object_names []) annotated_parts in
       let pieces = cut_values d m vs (cut_notes d (past_values m vs) n after) in
-      data_first (cut_prims d m (primitive_codes []) ps pieces) proxy_layer (raw_parts (prim_names []) valued_parts) e L T (owners_in_values T vs os1) gs
+      data_first (cut_prims d m (primitive_codes []) ps pieces) proxy_layer (raw_parts (prim_fields []) valued_parts) e L T (owners_in_values T vs os1) gs
       ∙ ap (λ x. begin_line L (data_text proxy_layer x))
       (tells_prims [] ps valued_parts d m e L T (owners_in_values T vs os1) gs pieces h.0
-      ∙ ap (λ x. prims_text (suc L) (prim_names []) ps x)
+      ∙ ap (λ x. prims_text e (suc L) (prim_fields []) ps x)
       (tells_values vs (object_names []) annotated_parts d m e L T os1 gs (cut_notes d (past_values m vs) n after) q (h.1 ∙ object_names_count []) h.2
       ∙ ap (λ x. values_text e (suc L) T (object_names []) vs x)
       (tells_notes n false (section_parts ls) d (past_values m vs) e L T1 os2 gs after q1 h.3
       ∙ ap (λ x. notes_text e (suc L) T1 n x)
       (tells_sections ss ls d (past_notes (past_values m vs) n) e L T2 os gs rest q2 h.4))))
 
-  tells_notes : (n : NotesTree) (expected : Bool) (parts : List SectionPart) (d : ℕ) (m : Moment) (e L : ℕ) (T : Known) (os : List OwnerNode) (gs : List Cue) (rest : List Piece)
+  tells_notes : (n : NotesTree) (expected : Bool) (parts : List SectionPart) (d : ℕ) (m : Moment) (e : Epoch) (L : ℕ) (T : Known) (os : List OwnerNode) (gs : List Cue) (rest : List Piece)
       → m.table ≡ entries T → WellFormedNotesIf m.table n expected
       → tell (teller e T (owners_in_notes T n os) (parts_cue L (note_if expected parts) ∷ gs)) (cut_notes d m n rest)
       ≡ notes_text e (suc L) T n (tell (teller e (known_notes T n) os (parts_cue L parts ∷ gs)) rest)
@@ -437,7 +440,7 @@ mutual
       note_first (cut_annotation d m notes rest) parts e L T (owners_in_annotation T notes os) gs ∙ tells_annotation notes d m e (suc L) T os (parts_cue L parts ∷ gs) rest q h.1
   tells_notes (annotation notes) false parts d m e L T os gs rest q h = untrue h.0
 
-  tells_annotation : (cs : ContentTrees) (d : ℕ) (m : Moment) (e L : ℕ) (T : Known) (os : List OwnerNode) (gs : List Cue) (rest : List Piece)
+  tells_annotation : (cs : ContentTrees) (d : ℕ) (m : Moment) (e : Epoch) (L : ℕ) (T : Known) (os : List OwnerNode) (gs : List Cue) (rest : List Piece)
       → m.table ≡ entries T → WellFormedNotes m.table cs
       → tell (teller e T (owners_in_annotation T cs os) (note_cue L ∷ gs)) (cut_annotation d m cs rest) ≡ annotation_text e L T cs (tell (teller e (known_contents T cs) os gs) rest)
   tells_annotation no_contents d m e L T os gs rest q h = refl
@@ -452,18 +455,18 @@ mutual
       (tells_value v (suc d) m e L T (owners_in_annotation T1 cs os) (note_cue L ∷ gs) (cut_annotation d (past_value m v) cs rest) q h.0
       ∙ ap (λ x. value_text e L T v x) (tells_annotation cs d (past_value m v) e L T1 os gs rest (then_value v T m.table q) h.1))
 
-tells_top : (cs : ContentTrees) (m : Moment) (e : ℕ) (T : Known) → m.table ≡ entries T → WellFormedContents m.table cs
+tells_top : (cs : ContentTrees) (m : Moment) (e : Epoch) (T : Known) → m.table ≡ entries T → WellFormedContents m.table cs
     → tell (teller e T (owners_at_top T cs) (top_cue ∷ [])) (cut_top m cs []) ≡ top_text e T cs
 tells_top no_contents m e T q h = refl
 tells_top (content_and (block long bytes) cs) m e T q h =
     ap (λ x. block_word long x)
     (tells_block bytes long 0 m e T (owners_at_top T cs) (top_cue ∷ []) (cut_top m cs [])
     ∙ ap (λ x. decimal (length bytes) ++ (0x3A ∷ block_bytes bytes x)) (tells_top cs m e T q h.1))
-tells_top (content_and reset cs) m e T q h = ap (λ x. codes "reset" ++ end_line x) (tells_top cs (emptied m) (suc e) [] refl h)
+tells_top (content_and reset cs) m e T q h = ap (λ x. codes "reset" ++ end_line x) (tells_top cs (emptied m) (next_epoch e) [] refl h)
 tells_top (content_and (content v) cs) m e T q h =
     tells_value v 1 m e 0 T (owners_at_top (known_value T v) cs) (top_cue ∷ []) (cut_top (past_value m v) cs []) q h.0
     ∙ ap (λ x. value_text e 0 T v x) (tells_top cs (past_value m v) e (known_value T v) (then_value v T m.table q) h.1)
 
 -- what the teller says along the fields of a list that obeys the format is its text of show
 pub told_law : Told
-told_law list h = ap (λ x. codes "stream version 5" ++ end_line x) (tells_top list beginning 0 [] refl h)
+told_law values list h = ap (λ x. codes "stream version 5" ++ end_line x) (tells_top list beginning (first_epoch values) [] refl h)

@@ -1,16 +1,19 @@
 -- What a teller still has to tell: a stack of cues, the next one first. A cue is a goal of the reading machine with
--- what is needed to print, and without what a reader checks: no roles and no element types. `L` is the level of
+-- what is needed to print, and without what a reader checks: no roles. `L` is the level of
 -- the lines that the cue begins.
-use Rattle.std.specs.Prelude.{ℕ, Bool, true, false, List, [], ◌∷◌}
+use Rattle.std.specs.Prelude.{ℕ, Bool, true, false, List, [], ◌∷◌, Option}
+use Rattle.jser_grammar.specs.Codes.{PrimCode}
 use Rattle.jser_reading.specs.Roles.{Owner}
-use Rattle.jser_shown.specs.Known.{NamedField, NamedLayer, Known, prim_names, object_names, fields_in, has_notes, own_class_of}
+use Rattle.jser_shown.specs.Known.{NamedField, NamedLayer, Known, prim_fields, object_names, fields_in, has_notes, own_class_of}
+use Rattle.jser_shown.specs.Words.{Epoch}
 use Rattle.jser_shown.specs.Shown.{ValueName, field_named}
 use Rattle.jser_shown.specs.Owners.{OwnerNode}
 
 -- the parts of an object's sections: a section's first line, its raw values, values and notes
 pub data SectionPart : Type 0 where
   data_part external_part : NamedLayer → SectionPart
-  raw_part value_part : ValueName → SectionPart
+  raw_part : NamedField → SectionPart
+  value_part : ValueName → SectionPart
   note_part : SectionPart
 
 -- What is told next. The first ones are for the header, the contents at the top, the handle of a reference, the units
@@ -18,9 +21,11 @@ pub data SectionPart : Type 0 where
 pub data Cue : Type 0 where
   header_cue top_cue handle_cue string_cue text_place_cue : Cue
   block_length_cue block_cue : Cue
-  -- the contents of an annotation; the name of an enum constant; the length of an array, and its elements from `i` on
-  note_cue name_cue length_cue : (L : ℕ) → Cue
-  elements_cue : (L i left : ℕ) → Cue
+  -- the contents of an annotation; the name of an enum constant
+  note_cue name_cue : (L : ℕ) → Cue
+  -- the length of an array whose elements are of this type, if it is primitive, and its elements from `i` on
+  length_cue : (L : ℕ) → (elements : Option PrimCode) → Cue
+  elements_cue : (L : ℕ) → (elements : Option PrimCode) → (i left : ℕ) → Cue
   -- the sections of an object
   parts_cue : (L : ℕ) → List SectionPart → Cue
   -- the class place of an owner, the handle of a reference there, and its end: the class is the one with this number
@@ -42,19 +47,19 @@ pub data Cue : Type 0 where
 
 -- the epoch, what is known of its handles, the owners whose tags are still to come, and what is to be told
 pub record Teller : Type 0 where
-  pub epoch : ℕ
+  pub epoch : Epoch
   pub known : Known
   pub owners : List OwnerNode
   pub cues : List Cue
 
-abbrev pub teller : ℕ → Known → List OwnerNode → List Cue → Teller
+abbrev pub teller : Epoch → Known → List OwnerNode → List Cue → Teller
 teller e T os cues = record { epoch = e; known = T; owners = os; cues = cues }
 
 -- the parts of the sections of an object with these classes
 
-abbrev pub raw_parts : List (List ℕ) → List SectionPart → List SectionPart
+abbrev pub raw_parts : List NamedField → List SectionPart → List SectionPart
 raw_parts [] parts = parts
-raw_parts (name ∷ names) parts = raw_part (field_named name) ∷ raw_parts names parts
+raw_parts (f ∷ fs) parts = raw_part f ∷ raw_parts fs parts
 
 abbrev pub value_parts : List (List ℕ) → List SectionPart → List SectionPart
 value_parts [] parts = parts
@@ -67,7 +72,7 @@ note_if false parts = parts
 abbrev pub section_parts : List NamedLayer → List SectionPart
 section_parts [] = []
 section_parts (l ∷ ls) =
-    data_part l ∷ raw_parts (prim_names (fields_in l))
+    data_part l ∷ raw_parts (prim_fields (fields_in l))
     (value_parts (object_names (fields_in l)) (note_if (has_notes l) (section_parts ls)))
 
 abbrev pub object_parts : Bool → List NamedLayer → List SectionPart

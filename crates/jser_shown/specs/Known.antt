@@ -2,9 +2,10 @@
 -- newHandle): the table of handles of `jser_grammar`, with the names of classes and of their fields. An entry is a
 -- string, a class object, array, enum constant or object, a descriptor whose superclass place has not ended, or a
 -- class with its chain, the highest superclass first.
-use Rattle.std.specs.Prelude.{ℕ, suc, Bool, false, List, [], ◌∷◌, ◌++◌, length, slice_get, slice_set, if◌then◌else◌, Option, Some, None, is_some}
+use Rattle.std.specs.Prelude.{ℕ, ◌==◌, Bool, false, List, [], ◌∷◌, ◌++◌, length, slice_get, slice_set, if◌then◌else◌, Option, Some, None, is_some}
 use Rattle.jser_table.specs.Chains.{has_write_method, is_externalizable}
-use Rattle.jser_grammar.specs.Codes.{prim_code_of}
+use Rattle.jser_grammar.specs.Codes.{PrimCode, prim_code_of}
+use Rattle.jser_shown.specs.Words.{Epoch, next_epoch}
 use Rattle.jser_grammar.specs.Trees.{TextPlaceTree, new_text, back_text, FieldTree, ValueTree, null, back, string, descriptor, class_object, array, enum_constant, object, DescTree, plain, proxy, ClassPlaceTree, no_class, back_class, new_class, BodyTree, raw_body, value_body, ValueTrees, no_values, value_and, section, SectionTrees, no_sections, section_and, NotesTree, no_notes, annotation, block, reset, content, ContentTrees, no_contents, content_and}
 
 -- a field of a class
@@ -120,10 +121,10 @@ abbrev mutual
 
 -- at the end of a content list: the epoch, which each TC_RESET at the top ends, and what is known
 
-abbrev pub last_epoch : ℕ → ContentTrees → ℕ
+abbrev pub last_epoch : Epoch → ContentTrees → Epoch
 last_epoch e no_contents = e
 last_epoch e (content_and (block long bytes) cs) = last_epoch e cs
-last_epoch e (content_and reset cs) = last_epoch (suc e) cs
+last_epoch e (content_and reset cs) = last_epoch (next_epoch e) cs
 last_epoch e (content_and (content v) cs) = last_epoch e cs
 
 abbrev pub last_known : Known → ContentTrees → Known
@@ -132,11 +133,11 @@ last_known T (content_and (block long bytes) cs) = last_known T cs
 last_known T (content_and reset cs) = last_known [] cs
 last_known T (content_and (content v) cs) = last_known (known_value T v) cs
 
--- of a class: the names of its primitive fields, of its object fields, and whether it has SC_WRITE_METHOD
+-- of a class: its primitive fields, the names of its object fields, and whether it has SC_WRITE_METHOD
 
-abbrev pub prim_names : List NamedField → List (List ℕ)
-prim_names [] = []
-prim_names (f ∷ fs) = if is_some (prim_code_of f.code) then f.name ∷ prim_names fs else prim_names fs
+abbrev pub prim_fields : List NamedField → List NamedField
+prim_fields [] = []
+prim_fields (f ∷ fs) = if is_some (prim_code_of f.code) then f ∷ prim_fields fs else prim_fields fs
 
 abbrev pub object_names : List NamedField → List (List ℕ)
 object_names [] = []
@@ -145,6 +146,17 @@ object_names (f ∷ fs) = if is_some (prim_code_of f.code) then object_names fs 
 abbrev pub fields_in : NamedLayer → List NamedField
 fields_in (class_layer name flags fields) = fields
 fields_in proxy_layer = []
+
+-- The type of the elements of an array class of a primitive, by its name: `[` and a type code.
+abbrev pub named_elements : List ℕ → Option PrimCode
+named_elements [] = None
+named_elements (b ∷ []) = None
+named_elements (b ∷ c ∷ []) = if b == 0x5B then prim_code_of c else None
+named_elements (b ∷ c ∷ d ∷ units) = None
+
+abbrev pub elements_in : NamedLayer → Option PrimCode
+elements_in (class_layer name flags fields) = named_elements name
+elements_in proxy_layer = None
 
 abbrev pub has_notes : NamedLayer → Bool
 has_notes (class_layer name flags fields) = has_write_method flags
@@ -162,3 +174,7 @@ own_class_of (layer ∷ next ∷ layers) = own_class_of (next ∷ layers)
 
 abbrev pub is_external_chain : List NamedLayer → Bool
 is_external_chain chain = is_external_class (own_class_of chain)
+
+-- the type of the elements of an array of this class, where it is primitive
+abbrev pub elements_of_chain : List NamedLayer → Option PrimCode
+elements_of_chain chain = elements_in (own_class_of chain)

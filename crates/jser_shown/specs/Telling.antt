@@ -1,54 +1,56 @@
 -- The teller: it goes along the fields of a stream and says the text of show. The numbers of objects and the lengths of
 -- arrays stand in the text before their classes, so it is given them beforehand (`Owners`). It never asks whether a
 -- field is right: on other fields than those of a stream it says something else.
-use Rattle.std.specs.Prelude.{ℕ, zero, suc, ◌/◌, Bool, true, false, List, [], ◌∷◌, ◌++◌, length, take, drop, slice_set, codes}
+use Rattle.std.specs.Prelude.{ℕ, zero, suc, ◌/◌, Bool, true, false, List, [], ◌∷◌, ◌++◌, length, take, drop, slice_set, codes, Option}
 use Rattle.std.specs.Fmt.{decimal}
 use Rattle.hex.specs.Hex.{encode_lower}
 use Rattle.jser_prim.specs.Bytes.{big_bytes}
-use Rattle.jser_grammar.specs.Codes.{is_object_code}
+use Rattle.jser_grammar.specs.Codes.{PrimCode, prim_code_of, is_object_code}
 use Rattle.jser_grammar.specs.Spelling.{prims_spelling}
 use Rattle.jser_reading.specs.Roles.{Owner, object_owner, array_owner, enum_owner, class_owner}
 use Rattle.jser_reading.specs.Labels.{Tag, null_tag, reference_tag, class_desc_tag, object_tag, string_tag, array_tag, class_tag, long_string_tag, proxy_desc_tag, enum_tag, StreamField, header_field, tag_field, block_tag_field, end_tag_field, reset_tag_field, handle_field, suid_field, flags_field, field_count_field, interface_count_field, array_length_field, code_field, text_field, block_length_field, prims_field, bytes_field, Piece, piece}
-use Rattle.jser_shown.specs.Known.{NamedField, NamedLayer, class_layer, proxy_layer, known_text, known_other, known_pending, known_class, Known, classes_at, with_entry, is_external_chain}
-use Rattle.jser_shown.specs.Words.{end_line, begin_line, mark, quoted, block_word}
-use Rattle.jser_shown.specs.Shown.{ValueName, element_at, name_text, data_text, external_text}
+use Rattle.jser_shown.specs.Known.{NamedField, NamedLayer, class_layer, proxy_layer, known_text, known_other, known_pending, known_class, Known, classes_at, with_entry, is_external_chain, elements_of_chain}
+use Rattle.jser_shown.specs.Values.{bytes_word}
+use Rattle.jser_shown.specs.Words.{Epoch, first_epoch, next_epoch, end_line, begin_line, mark, quoted, block_word}
+use Rattle.jser_shown.specs.Shown.{ValueName, field_named, element_at, name_text, data_text, external_text}
 use Rattle.jser_shown.specs.Owners.{OwnerNode, owner_node}
 use Rattle.jser_shown.specs.Cues.{SectionPart, data_part, external_part, raw_part, value_part, note_part, Cue, header_cue, top_cue, handle_cue, string_cue, text_place_cue, block_length_cue, block_cue, note_cue, name_cue, length_cue, elements_cue, parts_cue, class_cue, class_handle_cue, made_cue, super_cue, super_handle_cue, close_cue, class_name_cue, suid_cue, flags_cue, field_count_cue, fields_cue, field_name_cue, type_cue, interface_count_cue, interfaces_cue, Teller, teller, object_parts, fields_done, rest_of_desc}
 
 -- the cues that no field belongs to and are next: what they do, and what they say
 
-abbrev pub settle_parts : ℕ → List SectionPart → ℕ → Known → List OwnerNode → List Cue → Teller → Teller
+abbrev pub settle_parts : ℕ → List SectionPart → Epoch → Known → List OwnerNode → List Cue → Teller → Teller
 settle_parts L [] e T os cues after = after
 settle_parts L (data_part l ∷ parts) e T os cues after = settle_parts L parts e T os cues after
 settle_parts L (external_part l ∷ parts) e T os cues after = settle_parts L parts e T os cues after
-settle_parts L (raw_part name ∷ parts) e T os cues after = teller e T os (parts_cue L (raw_part name ∷ parts) ∷ cues)
+settle_parts L (raw_part f ∷ parts) e T os cues after = teller e T os (parts_cue L (raw_part f ∷ parts) ∷ cues)
 settle_parts L (value_part name ∷ parts) e T os cues after =
     teller e T os (parts_cue L (value_part name ∷ parts) ∷ cues)
 settle_parts L (note_part ∷ parts) e T os cues after = teller e T os (note_cue (suc L) ∷ parts_cue L parts ∷ cues)
 
-abbrev pub settle_fields : ℕ → ℕ → List ℕ → ℕ → List NamedField → ℕ → ℕ → Known → List OwnerNode → List Cue → Teller
+abbrev pub settle_fields : ℕ → ℕ → List ℕ → ℕ → List NamedField → ℕ → Epoch → Known → List OwnerNode → List Cue → Teller
 settle_fields L number name flags done zero e T os cues =
     teller e T os (rest_of_desc L number (class_layer name flags (fields_done done [])) cues)
 settle_fields L number name flags done (suc n) e T os cues =
     teller e T os (fields_cue L number name flags done (suc n) ∷ cues)
 
-abbrev pub settle_interfaces : ℕ → ℕ → ℕ → ℕ → Known → List OwnerNode → List Cue → Teller
+abbrev pub settle_interfaces : ℕ → ℕ → ℕ → Epoch → Known → List OwnerNode → List Cue → Teller
 settle_interfaces L number zero e T os cues = teller e T os (rest_of_desc L number proxy_layer cues)
 settle_interfaces L number (suc n) e T os cues = teller e T os (interfaces_cue L number (suc n) ∷ cues)
 
-abbrev pub settle_elements : ℕ → ℕ → ℕ → ℕ → Known → List OwnerNode → List Cue → Teller → Teller
-settle_elements L i zero e T os cues after = after
-settle_elements L i (suc n) e T os cues after = teller e T os (elements_cue L i (suc n) ∷ cues)
+abbrev pub settle_elements : ℕ → Option PrimCode → ℕ → ℕ → Epoch → Known → List OwnerNode → List Cue → Teller → Teller
+settle_elements L c i zero e T os cues after = after
+settle_elements L c i (suc n) e T os cues after = teller e T os (elements_cue L c i (suc n) ∷ cues)
 
-abbrev pub settle : ℕ → Known → List OwnerNode → List Cue → Teller
+abbrev pub settle : Epoch → Known → List OwnerNode → List Cue → Teller
 settle e T os [] = teller e T os []
 settle e T os (parts_cue L parts ∷ cues) = settle_parts L parts e T os cues (settle e T os cues)
-settle e T os (elements_cue L i n ∷ cues) = settle_elements L i n e T os cues (settle e T os cues)
+settle e T os (elements_cue L c i n ∷ cues) = settle_elements L c i n e T os cues (settle e T os cues)
 settle e T os (made_cue object_owner L number ∷ cues) =
     let made = with_entry T known_other in
     let chain = classes_at T number in
     settle_parts L (object_parts (is_external_chain chain) chain) e made os cues (settle e made os cues)
-settle e T os (made_cue array_owner L number ∷ cues) = teller e (with_entry T known_other) os (length_cue L ∷ cues)
+settle e T os (made_cue array_owner L number ∷ cues) =
+    teller e (with_entry T known_other) os (length_cue L (elements_of_chain (classes_at T number)) ∷ cues)
 settle e T os (made_cue enum_owner L number ∷ cues) = teller e (with_entry T known_other) os (name_cue L ∷ cues)
 settle e T os (made_cue class_owner L number ∷ cues) = settle e (with_entry T known_other) os cues
 settle e T os (close_cue number parent layer ∷ cues) =
@@ -67,7 +69,7 @@ abbrev pub parts_say : ℕ → List SectionPart → (k after : List ℕ) → Lis
 parts_say L [] k after = after
 parts_say L (data_part l ∷ parts) k after = begin_line L (data_text l (parts_say L parts k after))
 parts_say L (external_part l ∷ parts) k after = begin_line L (external_text l (parts_say L parts k after))
-parts_say L (raw_part name ∷ parts) k after = k
+parts_say L (raw_part f ∷ parts) k after = k
 parts_say L (value_part name ∷ parts) k after = k
 parts_say L (note_part ∷ parts) k after = k
 
@@ -78,7 +80,7 @@ elements_say (suc n) k after = k
 abbrev pub settle_says : Known → List Cue → List ℕ → List ℕ
 settle_says T [] k = k
 settle_says T (parts_cue L parts ∷ cues) k = parts_say L parts k (settle_says T cues k)
-settle_says T (elements_cue L i n ∷ cues) k = elements_say n k (settle_says T cues k)
+settle_says T (elements_cue L c i n ∷ cues) k = elements_say n k (settle_says T cues k)
 settle_says T (made_cue object_owner L number ∷ cues) k =
     let chain = classes_at T number in
     parts_say L (object_parts (is_external_chain chain) chain) k (settle_says (with_entry T known_other) cues k)
@@ -116,7 +118,7 @@ tag_says e n o array_tag k =
 tag_says e n o class_tag k = codes "classobject " ++ mark e o.number (end_line k)
 tag_says e n o enum_tag k = codes "enum " ++ mark e o.number (end_line k)
 
-abbrev pub begin : ℕ → ℕ → Known → List OwnerNode → Tag → List Cue → Teller
+abbrev pub begin : Epoch → ℕ → Known → List OwnerNode → Tag → List Cue → Teller
 begin e L T os null_tag cues = teller e T os cues
 begin e L T os reference_tag cues = teller e T os (handle_cue ∷ cues)
 begin e L T os class_desc_tag cues = teller e T os (class_name_cue (suc L) ∷ cues)
@@ -158,21 +160,22 @@ seen (block_length_field long n) = seen_block_length n
 seen (prims_field ps) = seen_bytes (prims_spelling ps)
 seen (bytes_field bytes) = seen_bytes bytes
 
--- the line of a raw value
-abbrev pub raw_line : ℕ → ValueName → List ℕ → List ℕ → List ℕ
-raw_line L name bytes k = begin_line L (name_text name (encode_lower bytes ++ end_line k))
+-- the line of a raw value of this type, if it has one
+abbrev pub raw_line : (values : Bool) → Option PrimCode → ℕ → ValueName → List ℕ → List ℕ → List ℕ
+raw_line values c L name bytes k =
+    begin_line L (name_text name (encode_lower bytes ++ bytes_word values c bytes (end_line k)))
 
 -- the lines of so many raw elements of this size, from `i` on
-abbrev pub raw_lines : ℕ → (i size left : ℕ) → List ℕ → List ℕ → List ℕ
-raw_lines L i size zero bytes k = k
-raw_lines L i size (suc n) bytes k =
-    raw_line L (element_at i) (take size bytes) (raw_lines L (suc i) size n (drop size bytes) k)
+abbrev pub raw_lines : (values : Bool) → Option PrimCode → ℕ → (i size left : ℕ) → List ℕ → List ℕ → List ℕ
+raw_lines values c L i size zero bytes k = k
+raw_lines values c L i size (suc n) bytes k =
+    raw_line values c L (element_at i) (take size bytes) (raw_lines values c L (suc i) size n (drop size bytes) k)
 
 -- the lines of so many raw elements, all of one size
-abbrev pub raw_elements_lines : ℕ → (i left : ℕ) → List ℕ → List ℕ → List ℕ
-raw_elements_lines L i n bytes k = raw_lines L i (length bytes / n) n bytes k
+abbrev pub raw_elements_lines : (values : Bool) → Option PrimCode → ℕ → (i left : ℕ) → List ℕ → List ℕ → List ℕ
+raw_elements_lines values c L i n bytes k = raw_lines values c L i (length bytes / n) n bytes k
 
--- What is said of a field, for each cue of a settled teller. `n` is how many handles are known, `o` the owner whose
+-- What is said of a field, for each cue of a settled teller. `e` is the number of the epoch, `n` is how many handles are known, `o` the owner whose
 -- tag is the next.
 
 abbrev pub header_says : SeenField → List ℕ → List ℕ
@@ -221,14 +224,14 @@ abbrev pub named_says : ℕ → ℕ → OwnerNode → ℕ → ValueName → Seen
 named_says e n o L name (seen_tag tag) k = begin_line L (name_text name (tag_says e n o tag k))
 named_says e n o L name field k = k
 
-abbrev pub elements_says : ℕ → ℕ → OwnerNode → (L i left : ℕ) → SeenField → List ℕ → List ℕ
-elements_says e n o L i left (seen_bytes bytes) k = raw_elements_lines L i left bytes k
-elements_says e n o L i left (seen_tag tag) k = begin_line L (name_text (element_at i) (tag_says e n o tag k))
-elements_says e n o L i left field k = k
+abbrev pub elements_says : (values : Bool) → ℕ → ℕ → OwnerNode → ℕ → Option PrimCode → (i left : ℕ) → SeenField → List ℕ → List ℕ
+elements_says values e n o L c i left (seen_bytes bytes) k = raw_elements_lines values c L i left bytes k
+elements_says values e n o L c i left (seen_tag tag) k = begin_line L (name_text (element_at i) (tag_says e n o tag k))
+elements_says values e n o L c i left field k = k
 
-abbrev pub raw_says : ℕ → ValueName → SeenField → List ℕ → List ℕ
-raw_says L name (seen_bytes bytes) k = raw_line L name bytes k
-raw_says L name field k = k
+abbrev pub raw_says : (values : Bool) → ℕ → NamedField → SeenField → List ℕ → List ℕ
+raw_says values L f (seen_bytes bytes) k = raw_line values (prim_code_of f.code) L (field_named f.name) bytes k
+raw_says values L f field k = k
 
 abbrev pub name_says : SeenField → List ℕ → List ℕ
 name_says (seen_text units) k = quoted units k
@@ -250,27 +253,27 @@ abbrev pub interface_says : ℕ → SeenField → List ℕ → List ℕ
 interface_says L (seen_text units) k = begin_line L (codes "interface " ++ quoted units (end_line k))
 interface_says L field k = k
 
-abbrev pub parts_says : ℕ → ℕ → OwnerNode → ℕ → List SectionPart → SeenField → List ℕ → List ℕ
-parts_says e n o L (raw_part name ∷ parts) field k = raw_says (suc L) name field k
-parts_says e n o L (value_part name ∷ parts) field k = named_says e n o (suc L) name field k
-parts_says e n o L parts field k = k
+abbrev pub parts_says : (values : Bool) → ℕ → ℕ → OwnerNode → ℕ → List SectionPart → SeenField → List ℕ → List ℕ
+parts_says values e n o L (raw_part f ∷ parts) field k = raw_says values (suc L) f field k
+parts_says values e n o L (value_part name ∷ parts) field k = named_says e n o (suc L) name field k
+parts_says values e n o L parts field k = k
 
-abbrev pub says_at : ℕ → ℕ → OwnerNode → Cue → SeenField → List ℕ → List ℕ
+abbrev pub says_at : Epoch → ℕ → OwnerNode → Cue → SeenField → List ℕ → List ℕ
 says_at e n o header_cue field k = header_says field k
-says_at e n o top_cue field k = top_says e n o field k
-says_at e n o (note_cue L) field k = note_says e n o L field k
-says_at e n o handle_cue field k = handle_says e field k
+says_at e n o top_cue field k = top_says e.number n o field k
+says_at e n o (note_cue L) field k = note_says e.number n o L field k
+says_at e n o handle_cue field k = handle_says e.number field k
 says_at e n o string_cue field k = string_says field k
-says_at e n o text_place_cue field k = text_place_says e n o field k
-says_at e n o (name_cue L) field k = worded_says e n o L (codes "name ") field k
+says_at e n o text_place_cue field k = text_place_says e.number n o field k
+says_at e n o (name_cue L) field k = worded_says e.number n o L (codes "name ") field k
 says_at e n o block_length_cue field k = block_length_says field k
 says_at e n o block_cue field k = block_says field k
-says_at e n o (elements_cue L i left) field k = elements_says e n o L i left field k
-says_at e n o (parts_cue L parts) field k = parts_says e n o L parts field k
-says_at e n o (class_cue owner L) field k = worded_says e n o L (codes "class ") field k
-says_at e n o (class_handle_cue owner L) field k = handle_says e field k
-says_at e n o (super_cue L number layer) field k = worded_says e n o L (codes "super ") field k
-says_at e n o (super_handle_cue L number layer) field k = handle_says e field k
+says_at e n o (elements_cue L c i left) field k = elements_says e.values e.number n o L c i left field k
+says_at e n o (parts_cue L parts) field k = parts_says e.values e.number n o L parts field k
+says_at e n o (class_cue owner L) field k = worded_says e.number n o L (codes "class ") field k
+says_at e n o (class_handle_cue owner L) field k = handle_says e.number field k
+says_at e n o (super_cue L number layer) field k = worded_says e.number n o L (codes "super ") field k
+says_at e n o (super_handle_cue L number layer) field k = handle_says e.number field k
 says_at e n o (class_name_cue L) field k = name_says field k
 says_at e n o (suid_cue L name) field k = suid_says field k
 says_at e n o (flags_cue L number name) field k = flags_says field k
@@ -281,78 +284,79 @@ says_at e n o cue field k = k
 
 -- Where a field leads, for each cue; `cues` are the others.
 
-abbrev pub header_goes : ℕ → Known → List OwnerNode → List Cue → SeenField → Teller
+abbrev pub header_goes : Epoch → Known → List OwnerNode → List Cue → SeenField → Teller
 header_goes e T os cues seen_header = teller e T os cues
 header_goes e T os cues field = teller e T os (header_cue ∷ cues)
 
-abbrev pub top_goes : ℕ → Known → List OwnerNode → List Cue → SeenField → Teller
+abbrev pub top_goes : Epoch → Known → List OwnerNode → List Cue → SeenField → Teller
 top_goes e T os cues (seen_tag tag) = begin e 0 T os tag (top_cue ∷ cues)
 top_goes e T os cues (seen_block_tag long) = teller e T os (block_length_cue ∷ top_cue ∷ cues)
-top_goes e T os cues seen_reset_tag = teller (suc e) [] os (top_cue ∷ cues)
+top_goes e T os cues seen_reset_tag = teller (next_epoch e) [] os (top_cue ∷ cues)
 top_goes e T os cues field = teller e T os (top_cue ∷ cues)
 
-abbrev pub note_goes : ℕ → Known → List OwnerNode → List Cue → ℕ → SeenField → Teller
+abbrev pub note_goes : Epoch → Known → List OwnerNode → List Cue → ℕ → SeenField → Teller
 note_goes e T os cues L (seen_tag tag) = begin e L T os tag (note_cue L ∷ cues)
 note_goes e T os cues L (seen_block_tag long) = teller e T os (block_length_cue ∷ note_cue L ∷ cues)
 note_goes e T os cues L seen_end_tag = teller e T os cues
 note_goes e T os cues L field = teller e T os (note_cue L ∷ cues)
 
-abbrev pub handle_goes : ℕ → Known → List OwnerNode → List Cue → SeenField → Teller
+abbrev pub handle_goes : Epoch → Known → List OwnerNode → List Cue → SeenField → Teller
 handle_goes e T os cues (seen_handle n) = teller e T os cues
 handle_goes e T os cues field = teller e T os (handle_cue ∷ cues)
 
-abbrev pub string_goes : ℕ → Known → List OwnerNode → List Cue → SeenField → Teller
+abbrev pub string_goes : Epoch → Known → List OwnerNode → List Cue → SeenField → Teller
 string_goes e T os cues (seen_text units) = teller e T os cues
 string_goes e T os cues field = teller e T os (string_cue ∷ cues)
 
 -- In the place of a type text only strings and references begin, so nothing else ever stands over the fields of a
 -- descriptor.
-abbrev pub text_tag_goes : ℕ → Known → List OwnerNode → List Cue → Tag → Teller
+abbrev pub text_tag_goes : Epoch → Known → List OwnerNode → List Cue → Tag → Teller
 text_tag_goes e T os cues reference_tag = begin e 0 T os reference_tag cues
 text_tag_goes e T os cues string_tag = begin e 0 T os string_tag cues
 text_tag_goes e T os cues long_string_tag = begin e 0 T os long_string_tag cues
 text_tag_goes e T os cues tag = teller e T os (text_place_cue ∷ cues)
 
-abbrev pub text_place_goes : ℕ → Known → List OwnerNode → List Cue → SeenField → Teller
+abbrev pub text_place_goes : Epoch → Known → List OwnerNode → List Cue → SeenField → Teller
 text_place_goes e T os cues (seen_tag tag) = text_tag_goes e T os cues tag
 text_place_goes e T os cues field = teller e T os (text_place_cue ∷ cues)
 
-abbrev pub name_goes : ℕ → Known → List OwnerNode → List Cue → ℕ → SeenField → Teller
+abbrev pub name_goes : Epoch → Known → List OwnerNode → List Cue → ℕ → SeenField → Teller
 name_goes e T os cues L (seen_tag tag) = begin e L T os tag cues
 name_goes e T os cues L field = teller e T os (name_cue L ∷ cues)
 
-abbrev pub block_length_goes : ℕ → Known → List OwnerNode → List Cue → SeenField → Teller
+abbrev pub block_length_goes : Epoch → Known → List OwnerNode → List Cue → SeenField → Teller
 block_length_goes e T os cues (seen_block_length zero) = teller e T os cues
 block_length_goes e T os cues (seen_block_length (suc n)) = teller e T os (block_cue ∷ cues)
 block_length_goes e T os cues field = teller e T os (block_length_cue ∷ cues)
 
-abbrev pub block_goes : ℕ → Known → List OwnerNode → List Cue → SeenField → Teller
+abbrev pub block_goes : Epoch → Known → List OwnerNode → List Cue → SeenField → Teller
 block_goes e T os cues (seen_bytes bytes) = teller e T os cues
 block_goes e T os cues field = teller e T os (block_cue ∷ cues)
 
-abbrev pub length_goes : ℕ → Known → List OwnerNode → List Cue → ℕ → SeenField → Teller
-length_goes e T os cues L (seen_array_length n) = teller e T os (elements_cue L 0 n ∷ cues)
-length_goes e T os cues L field = teller e T os (length_cue L ∷ cues)
+abbrev pub length_goes : Epoch → Known → List OwnerNode → List Cue → ℕ → Option PrimCode → SeenField → Teller
+length_goes e T os cues L c (seen_array_length n) = teller e T os (elements_cue L c 0 n ∷ cues)
+length_goes e T os cues L c field = teller e T os (length_cue L c ∷ cues)
 
-abbrev pub elements_goes : ℕ → Known → List OwnerNode → List Cue → (L i left : ℕ) → SeenField → Teller
-elements_goes e T os cues L i left (seen_bytes bytes) = teller e T os cues
-elements_goes e T os cues L i (suc left) (seen_tag tag) = begin e L T os tag (elements_cue L (suc i) left ∷ cues)
-elements_goes e T os cues L i left field = teller e T os (elements_cue L i left ∷ cues)
+abbrev pub elements_goes : Epoch → Known → List OwnerNode → List Cue → ℕ → Option PrimCode → (i left : ℕ) → SeenField → Teller
+elements_goes e T os cues L c i left (seen_bytes bytes) = teller e T os cues
+elements_goes e T os cues L c i (suc left) (seen_tag tag) =
+    begin e L T os tag (elements_cue L c (suc i) left ∷ cues)
+elements_goes e T os cues L c i left field = teller e T os (elements_cue L c i left ∷ cues)
 
-abbrev pub raw_goes : ℕ → Known → List OwnerNode → List Cue → ℕ → ValueName → List SectionPart → SeenField → Teller
-raw_goes e T os cues L name parts (seen_bytes bytes) = teller e T os (parts_cue L parts ∷ cues)
-raw_goes e T os cues L name parts field = teller e T os (parts_cue L (raw_part name ∷ parts) ∷ cues)
+abbrev pub raw_goes : Epoch → Known → List OwnerNode → List Cue → ℕ → NamedField → List SectionPart → SeenField → Teller
+raw_goes e T os cues L f parts (seen_bytes bytes) = teller e T os (parts_cue L parts ∷ cues)
+raw_goes e T os cues L f parts field = teller e T os (parts_cue L (raw_part f ∷ parts) ∷ cues)
 
-abbrev pub value_goes : ℕ → Known → List OwnerNode → List Cue → ℕ → ValueName → List SectionPart → SeenField → Teller
+abbrev pub value_goes : Epoch → Known → List OwnerNode → List Cue → ℕ → ValueName → List SectionPart → SeenField → Teller
 value_goes e T os cues L name parts (seen_tag tag) = begin e (suc L) T os tag (parts_cue L parts ∷ cues)
 value_goes e T os cues L name parts field = teller e T os (parts_cue L (value_part name ∷ parts) ∷ cues)
 
-abbrev pub parts_goes : ℕ → Known → List OwnerNode → List Cue → ℕ → List SectionPart → SeenField → Teller
-parts_goes e T os cues L (raw_part name ∷ parts) field = raw_goes e T os cues L name parts field
+abbrev pub parts_goes : Epoch → Known → List OwnerNode → List Cue → ℕ → List SectionPart → SeenField → Teller
+parts_goes e T os cues L (raw_part f ∷ parts) field = raw_goes e T os cues L f parts field
 parts_goes e T os cues L (value_part name ∷ parts) field = value_goes e T os cues L name parts field
 parts_goes e T os cues L parts field = teller e T os (parts_cue L parts ∷ cues)
 
-abbrev pub class_tag_goes : ℕ → Known → List OwnerNode → List Cue → Owner → ℕ → Tag → Teller
+abbrev pub class_tag_goes : Epoch → Known → List OwnerNode → List Cue → Owner → ℕ → Tag → Teller
 class_tag_goes e T os cues owner L class_desc_tag =
     teller e T os (class_name_cue (suc L) ∷ made_cue owner L (length T) ∷ cues)
 class_tag_goes e T os cues owner L proxy_desc_tag =
@@ -360,15 +364,15 @@ class_tag_goes e T os cues owner L proxy_desc_tag =
     (interface_count_cue (suc L) (length T) ∷ made_cue owner L (length T) ∷ cues)
 class_tag_goes e T os cues owner L tag = teller e T os (class_handle_cue owner L ∷ cues)
 
-abbrev pub class_goes : ℕ → Known → List OwnerNode → List Cue → Owner → ℕ → SeenField → Teller
+abbrev pub class_goes : Epoch → Known → List OwnerNode → List Cue → Owner → ℕ → SeenField → Teller
 class_goes e T os cues owner L (seen_tag tag) = class_tag_goes e T os cues owner L tag
 class_goes e T os cues owner L field = teller e T os (class_cue owner L ∷ cues)
 
-abbrev pub class_handle_goes : ℕ → Known → List OwnerNode → List Cue → Owner → ℕ → SeenField → Teller
+abbrev pub class_handle_goes : Epoch → Known → List OwnerNode → List Cue → Owner → ℕ → SeenField → Teller
 class_handle_goes e T os cues owner L (seen_handle n) = teller e T os (made_cue owner L n ∷ cues)
 class_handle_goes e T os cues owner L field = teller e T os (class_handle_cue owner L ∷ cues)
 
-abbrev pub super_tag_goes : ℕ → Known → List OwnerNode → List Cue → ℕ → ℕ → NamedLayer → Tag → Teller
+abbrev pub super_tag_goes : Epoch → Known → List OwnerNode → List Cue → ℕ → ℕ → NamedLayer → Tag → Teller
 super_tag_goes e T os cues L number layer null_tag = teller e (slice_set T number (known_class (layer ∷ []))) os cues
 super_tag_goes e T os cues L number layer class_desc_tag =
     teller e T os (class_name_cue (suc L) ∷ close_cue number (length T) layer ∷ cues)
@@ -377,55 +381,55 @@ super_tag_goes e T os cues L number layer proxy_desc_tag =
     (interface_count_cue (suc L) (length T) ∷ close_cue number (length T) layer ∷ cues)
 super_tag_goes e T os cues L number layer tag = teller e T os (super_handle_cue L number layer ∷ cues)
 
-abbrev pub super_goes : ℕ → Known → List OwnerNode → List Cue → ℕ → ℕ → NamedLayer → SeenField → Teller
+abbrev pub super_goes : Epoch → Known → List OwnerNode → List Cue → ℕ → ℕ → NamedLayer → SeenField → Teller
 super_goes e T os cues L number layer (seen_tag tag) = super_tag_goes e T os cues L number layer tag
 super_goes e T os cues L number layer field = teller e T os (super_cue L number layer ∷ cues)
 
-abbrev pub super_handle_goes : ℕ → Known → List OwnerNode → List Cue → ℕ → ℕ → NamedLayer → SeenField → Teller
+abbrev pub super_handle_goes : Epoch → Known → List OwnerNode → List Cue → ℕ → ℕ → NamedLayer → SeenField → Teller
 super_handle_goes e T os cues L number layer (seen_handle n) = teller e T os (close_cue number n layer ∷ cues)
 super_handle_goes e T os cues L number layer field = teller e T os (super_handle_cue L number layer ∷ cues)
 
-abbrev pub class_name_goes : ℕ → Known → List OwnerNode → List Cue → ℕ → SeenField → Teller
+abbrev pub class_name_goes : Epoch → Known → List OwnerNode → List Cue → ℕ → SeenField → Teller
 class_name_goes e T os cues L (seen_text units) = teller e T os (suid_cue L units ∷ cues)
 class_name_goes e T os cues L field = teller e T os (class_name_cue L ∷ cues)
 
-abbrev pub suid_goes : ℕ → Known → List OwnerNode → List Cue → ℕ → List ℕ → SeenField → Teller
+abbrev pub suid_goes : Epoch → Known → List OwnerNode → List Cue → ℕ → List ℕ → SeenField → Teller
 suid_goes e T os cues L name (seen_suid n) =
     teller e (with_entry T known_pending) os (flags_cue L (length T) name ∷ cues)
 suid_goes e T os cues L name field = teller e T os (suid_cue L name ∷ cues)
 
-abbrev pub flags_goes : ℕ → Known → List OwnerNode → List Cue → ℕ → ℕ → List ℕ → SeenField → Teller
+abbrev pub flags_goes : Epoch → Known → List OwnerNode → List Cue → ℕ → ℕ → List ℕ → SeenField → Teller
 flags_goes e T os cues L number name (seen_flags n) = teller e T os (field_count_cue L number name n ∷ cues)
 flags_goes e T os cues L number name field = teller e T os (flags_cue L number name ∷ cues)
 
-abbrev pub field_count_goes : ℕ → Known → List OwnerNode → List Cue → ℕ → ℕ → List ℕ → ℕ → SeenField → Teller
+abbrev pub field_count_goes : Epoch → Known → List OwnerNode → List Cue → ℕ → ℕ → List ℕ → ℕ → SeenField → Teller
 field_count_goes e T os cues L number name flags (seen_field_count n) =
     teller e T os (fields_cue L number name flags [] n ∷ cues)
 field_count_goes e T os cues L number name flags field = teller e T os (field_count_cue L number name flags ∷ cues)
 
-abbrev pub code_goes : ℕ → Known → List OwnerNode → List Cue → ℕ → ℕ → List ℕ → ℕ → List NamedField → (left : ℕ) → SeenField → Teller
+abbrev pub code_goes : Epoch → Known → List OwnerNode → List Cue → ℕ → ℕ → List ℕ → ℕ → List NamedField → (left : ℕ) → SeenField → Teller
 code_goes e T os cues L number name flags done (suc n) (seen_code c) =
     teller e T os (field_name_cue L number name flags done c n ∷ cues)
 code_goes e T os cues L number name flags done n field =
     teller e T os (fields_cue L number name flags done n ∷ cues)
 
-abbrev pub field_name_goes : ℕ → Known → List OwnerNode → List Cue → ℕ → ℕ → List ℕ → ℕ → List NamedField → (code left : ℕ) → SeenField → Teller
+abbrev pub field_name_goes : Epoch → Known → List OwnerNode → List Cue → ℕ → ℕ → List ℕ → ℕ → List NamedField → (code left : ℕ) → SeenField → Teller
 field_name_goes e T os cues L number name flags done c n (seen_text units) =
     teller e T os
     (type_cue (is_object_code c) ∷ fields_cue L number name flags (record { code = c; name = units } ∷ done) n ∷ cues)
 field_name_goes e T os cues L number name flags done c n field =
     teller e T os (field_name_cue L number name flags done c n ∷ cues)
 
-abbrev pub interface_count_goes : ℕ → Known → List OwnerNode → List Cue → ℕ → ℕ → SeenField → Teller
+abbrev pub interface_count_goes : Epoch → Known → List OwnerNode → List Cue → ℕ → ℕ → SeenField → Teller
 interface_count_goes e T os cues L number (seen_interface_count n) =
     teller e T os (interfaces_cue L number n ∷ cues)
 interface_count_goes e T os cues L number field = teller e T os (interface_count_cue L number ∷ cues)
 
-abbrev pub interface_goes : ℕ → Known → List OwnerNode → List Cue → ℕ → ℕ → (left : ℕ) → SeenField → Teller
+abbrev pub interface_goes : Epoch → Known → List OwnerNode → List Cue → ℕ → ℕ → (left : ℕ) → SeenField → Teller
 interface_goes e T os cues L number (suc n) (seen_text units) = teller e T os (interfaces_cue L number n ∷ cues)
 interface_goes e T os cues L number n field = teller e T os (interfaces_cue L number n ∷ cues)
 
-abbrev pub goes_at : ℕ → Known → List OwnerNode → Cue → List Cue → SeenField → Teller
+abbrev pub goes_at : Epoch → Known → List OwnerNode → Cue → List Cue → SeenField → Teller
 goes_at e T os header_cue cues field = header_goes e T os cues field
 goes_at e T os top_cue cues field = top_goes e T os cues field
 goes_at e T os (note_cue L) cues field = note_goes e T os cues L field
@@ -435,8 +439,8 @@ goes_at e T os text_place_cue cues field = text_place_goes e T os cues field
 goes_at e T os (name_cue L) cues field = name_goes e T os cues L field
 goes_at e T os block_length_cue cues field = block_length_goes e T os cues field
 goes_at e T os block_cue cues field = block_goes e T os cues field
-goes_at e T os (length_cue L) cues field = length_goes e T os cues L field
-goes_at e T os (elements_cue L i n) cues field = elements_goes e T os cues L i n field
+goes_at e T os (length_cue L c) cues field = length_goes e T os cues L c field
+goes_at e T os (elements_cue L c i n) cues field = elements_goes e T os cues L c i n field
 goes_at e T os (parts_cue L parts) cues field = parts_goes e T os cues L parts field
 goes_at e T os (class_cue owner L) cues field = class_goes e T os cues owner L field
 goes_at e T os (class_handle_cue owner L) cues field = class_handle_goes e T os cues owner L field
@@ -453,14 +457,14 @@ goes_at e T os (interface_count_cue L number) cues field = interface_count_goes 
 goes_at e T os (interfaces_cue L number n) cues field = interface_goes e T os cues L number n field
 goes_at e T os cue cues field = teller e T os (cue ∷ cues)
 
-abbrev pub says_in : ℕ → ℕ → OwnerNode → List Cue → SeenField → List ℕ → List ℕ
+abbrev pub says_in : Epoch → ℕ → OwnerNode → List Cue → SeenField → List ℕ → List ℕ
 says_in e n o [] field k = k
 says_in e n o (cue ∷ cues) field k = says_at e n o cue field k
 
 abbrev pub says : Teller → StreamField → List ℕ → List ℕ
 says s field k = says_in s.epoch (length s.known) (first_owner s.owners) s.cues (seen field) k
 
-abbrev pub goes_in : ℕ → Known → List OwnerNode → List Cue → SeenField → Teller
+abbrev pub goes_in : Epoch → Known → List OwnerNode → List Cue → SeenField → Teller
 goes_in e T os [] field = teller e T os []
 goes_in e T os (cue ∷ cues) field = goes_at e T os cue cues field
 
@@ -473,8 +477,8 @@ tell s [] = settle_says s.known s.cues []
 tell s (piece label field ∷ rest) =
     settle_says s.known s.cues (says (settled s) field (tell (goes (settled s) field) rest))
 
-abbrev pub begin_telling : List OwnerNode → Teller
-begin_telling os = teller 0 [] os (header_cue ∷ top_cue ∷ [])
+abbrev pub begin_telling : (values : Bool) → List OwnerNode → Teller
+begin_telling values os = teller (first_epoch values) [] os (header_cue ∷ top_cue ∷ [])
 
 -- the settled teller after these fields
 abbrev pub teller_after : Teller → List Piece → Teller

@@ -20,6 +20,19 @@ abbrev pub without_zeros : List ℕ → List ℕ
 without_zeros [] = []
 without_zeros (c ∷ cs) = if c == 0x30 then without_zeros cs else c ∷ cs
 
+-- An epoch as it is shown: its number, and whether raw values are followed by what they mean.
+pub record Epoch : Type 0 where
+  pub number : ℕ
+  pub values : Bool
+
+-- the first epoch
+abbrev pub first_epoch : (values : Bool) → Epoch
+first_epoch values = record { number = 0; values = values }
+
+-- the epoch after it
+abbrev pub next_epoch : Epoch → Epoch
+next_epoch e = record { number = suc e.number; values = e.values }
+
 -- a mark: `#`, the epoch, `.`, the four bytes of the handle in hexadecimal without zeros at the beginning
 abbrev pub mark : ℕ → ℕ → List ℕ → List ℕ
 mark epoch n rest =

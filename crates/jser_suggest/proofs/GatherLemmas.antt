@@ -1,6 +1,6 @@
 -- Element names are gathered one by one.
 use denote.Bor.{Bor}
-use Rattle.std.specs.Prelude.{OnOk, string_bytes, String}
+use Rattle.std.specs.Prelude.{IfErr, OnOk, string_bytes, String}
 use Rattle.std.specs.BTreeSet.{BTreeSet, keys, insert_key}
 use Rattle.std.specs.Ordering.{is_eq, match_ordering}
 use Rattle.std.specs.String.{IsUtf16Of, string_cmp}
@@ -15,10 +15,13 @@ use Rattle.jser_table.specs.Names.{ElementOf, element, primitive_element, malfor
 use Rattle.jser_reading.specs.GateLimits.{Each}
 use Rattle.jser_suggest.specs.Suggested.{is_plain, is_writable}
 use Rattle.jser_suggest.specs.Samples.{Some_of, Among, ElementAmong}
-use Rattle.jser_index.specs.Listed.{IsList}
+use Rattle.jser_names.specs.Finds.{Finds}
+use Rattle.jser_names.specs.Lists.{IsName}
+use Rattle.jser_names.specs.declared.Found.{Found}
 use Rattle.jser_reader.specs.declared.Stop.TheVariants as stop
 use Rattle.jser_suggest.specs.declared.samples.SampleFault.{SampleFault}
 use Rattle.jser_suggest.specs.declared.samples.SampleFault.TheVariants as fault
+use Rattle.jser_suggest.specs.Answers.{IsNoSample, IsNoSampleFound}
 use Rattle.jser_suggest.specs.Gathering.{name_list, InsertsName, AddsName, IsElement, GainsAll, IsUnwritable, IfUnwritable}
 
 -- ---- the last unit
@@ -158,7 +161,7 @@ get_some (x ∷ xs) zero inside = λ e. absurd (cc)
 get_some (x ∷ xs) (suc n) inside = get_some xs n (omega (arith, inside))
 
 -- one checked name more
-pub gains_next : (names : List (List ℕ)) (number : ℕ) (old mid new : List (List ℕ)) (told : Option (List ℕ)) (name : Bor (List ℕ)) → told ≡ slice_get names number → IsList told (Some name)
+pub gains_next : (names : List (List ℕ)) (number : ℕ) (old mid new : List (List ℕ)) (told : Option (List ℕ)) (name : Bor (List ℕ)) → told ≡ slice_get names number → IsName told (Some name)
     → GainsAll (take number names) old mid → GainsAll (name.now ∷ []) mid new → GainsAll (take (number + 1) names) old new
 gains_next names number old mid new None name e l g h = absurd l
 gains_next names number old mid new (Some told) name e l g h =
@@ -180,7 +183,20 @@ unwritable_of names number name (fault.Stop stop.Spent) e u = u
 unwritable_of names number name (fault.Unwritable units) e (inl u) = some_at (IsUnwritable units.items) names number name e u
 unwritable_of names number name (fault.Unwritable units) e (inr u) = absurd u
 
-pub unwritable_at : (names : List (List ℕ)) (number : ℕ) (told : Option (List ℕ)) (name : Bor (List ℕ)) (why : SampleFault) → told ≡ slice_get names number → IsList told (Some name)
+pub unwritable_at : (names : List (List ℕ)) (number : ℕ) (told : Option (List ℕ)) (name : Bor (List ℕ)) (why : SampleFault) → told ≡ slice_get names number → IsName told (Some name)
     → IfUnwritable (name.now ∷ []) why → IfUnwritable names why
 unwritable_at names number None name why e l u = absurd l
 unwritable_at names number (Some told) name why e l u = unwritable_of names number told why (sym e) (subst (λ n. IfUnwritable (n ∷ []) why) l u)
+
+-- ---- what is no sample
+
+-- a name of a stream that cannot be written
+pub no_sample : (found : Found) (why : SampleFault) → IfUnwritable found.names why → IsNoSampleFound found why
+no_sample found (fault.Stop (stop.Refused refusal)) u = λ bytes h. absurd u
+no_sample found (fault.Stop stop.OutOfMemory) u = λ bytes h. tt
+no_sample found (fault.Stop stop.Spent) u = λ bytes h. u
+no_sample found (fault.Unwritable units) u = λ bytes h. (h.0, h.1.passes, subst (Some_of (IsUnwritable units.items)) h.1.names_are u)
+
+pub fault_so : (bytes : List ℕ) (found : Found) (result : Result (Unit {0}) SampleFault) → Finds bytes (Ok found) → IfErr result (IsNoSampleFound found) → IfErr result (IsNoSample bytes)
+fault_so bytes found (Ok done) f h = tt
+fault_so bytes found (Err why) f h = h bytes f

@@ -1,19 +1,21 @@
 -- What is known after one stream more, and what its limits are.
-use Rattle.std.proofs.Common.{◌≡◌, ◌⊎◌, ℕ, ◌≤◌, max, true, List, [], ◌∷◌, length, Result, Ok, Err, IfOk, String, string_bytes, inl, inr, refl, sym, ap, subst, ◌∙◌, arith}
+use Rattle.std.proofs.Common.{◌≡◌, ◌⊎◌, ℕ, ◌≤◌, max, true, List, [], ◌∷◌, length, Result, Ok, Err, IfOk, OnOk, String, string_bytes, inl, inr, refl, sym, ap, subst, ◌∙◌, arith}
 use Rattle.std.proofs.lemmas.Bool.{cases_lt}
 use Rattle.jser_table.specs.Names.{element_of}
 use Rattle.jser_grammar.specs.Trees.{ContentTrees}
 use Rattle.jser_grammar.specs.CheckedNames.{checked_names}
 use Rattle.jser_grammar.specs.Counts.{depth_of, refs_of, array_lengths}
 use Rattle.jser_reading.specs.GateLimits.{Each}
-use Rattle.jser_reading.proofs.OneReading.{one_reading_law}
 use Rattle.jser_reader.specs.Gates.{open_gate}
-use Rattle.jser_suggest.specs.declared.arrays.Measured.{Measured}
+use Rattle.jser_names.specs.Collecting.{greatest}
+use Rattle.jser_names.specs.Finds.{Finds}
+use Rattle.jser_names.specs.Found.{IsFound}
+use Rattle.jser_names.specs.declared.Found.{Found}
+use Rattle.jser_suggest.specs.declared.samples.SampleFault.{SampleFault}
 use Rattle.jser_suggest.specs.Suggested.{Known, suggested, suggested_text, is_one_line}
-use Rattle.jser_suggest.specs.Measures.{greatest, IsMeasured, IsRaised}
 use Rattle.jser_suggest.specs.Samples.{Some_of, Among, ElementAmong, Fits, OfStream, HasArray, AreKnown}
 use Rattle.jser_suggest.specs.Gathering.{GainsAll}
-use Rattle.jser_suggest.specs.Answers.{GainsNames, Learns}
+use Rattle.jser_suggest.specs.Answers.{IsRaised, Learns, LearnsFound}
 use Rattle.jser_suggest.proofs.LawLemmas.{each_of, some_of}
 use Rattle.jser_suggest.proofs.GatherLemmas.{element_kept}
 use Rattle.jser_suggest.proofs.PlainLemmas.{plain_line}
@@ -53,7 +55,7 @@ raised_from P bytes streams old own new is here before = elim (cases_lt old own)
 ]
 
 -- a stream that fitted fits where more is known
-fits_more : (old new : Known) (bytes : List ℕ) (list : ContentTrees) → old.bytes ≤ new.bytes → old.refs ≤ new.refs → old.depth ≤ new.depth → old.array ≤ new.array
+pub fits_more : (old new : Known) (bytes : List ℕ) (list : ContentTrees) → old.bytes ≤ new.bytes → old.refs ≤ new.refs → old.depth ≤ new.depth → old.array ≤ new.array
     → ((name : List ℕ) → Among old.names name → Among new.names name) → Fits old bytes list → Fits new bytes list
 fits_more old new bytes list b r d a names f = record {
   passes = f.passes;
@@ -69,22 +71,22 @@ fits_more old new bytes list b r d a names f = record {
 abbrev raised : Known → List (List ℕ) → Known
 raised known names = record { bytes = known.bytes; refs = known.refs; depth = known.depth; array = known.array; names = names }
 
-pub learns : (bytes : List ℕ) (list : ContentTrees) (measured : Measured) (old new : Known) (names : List (List ℕ)) → IsMeasured bytes list measured → GainsNames bytes old.names names
-    → IsRaised measured (raised old names) new → Learns bytes old new
-learns bytes list measured old new names m g r = λ streams are.
-    let same : g.0 ≡ list = one_reading_law bytes g.0 list g.1.0 m.passes.0 in
+pub learns : (found : Found) (old new : Known) (names : List (List ℕ)) → GainsAll found.names old.names names → IsRaised found (raised old names) new → LearnsFound found old new
+learns found old new names g r = λ bytes h streams are.
+    let list = h.0 in
+    let m : IsFound bytes list found = h.1 in
     let gained : GainsAll (checked_names list) old.names new.names =
-    subst (λ ns. GainsAll (checked_names list) old.names ns) (sym r.names) (subst (λ l. GainsAll (checked_names l) old.names names) same g.2) in
+    subst (λ ns. GainsAll (checked_names list) old.names ns) (sym r.names) (subst (λ ns. GainsAll ns old.names names) m.names_are g) in
     record {
       fit = (
         (
           list,
           record {
             passes = m.passes;
-            bytes_fit = omega (arith, r.bytes, m.totals.all_bytes);
-            refs_fit = omega (arith, r.refs, m.totals.refs);
-            depth_fits = omega (arith, r.depth, m.totals.depth);
-            arrays_fit = each_le (array_lengths list) new.array (omega (arith, r.array, m.longest));
+            bytes_fit = omega (arith, r.bytes, m.totals_are.all_bytes);
+            refs_fit = omega (arith, r.refs, m.totals_are.refs);
+            depth_fits = omega (arith, r.depth, m.totals_are.depth);
+            arrays_fit = each_le (array_lengths list) new.array (omega (arith, r.array, m.longest_is));
             names_fit = gained.there;
           },
         ),
@@ -94,18 +96,18 @@ learns bytes list measured old new names m g r = λ streams are.
       writable = λ name among. elim (gained.gains name among) [ inl was ↦ are.writable name was | inr own ↦ own.1.0 ];
       plain = λ name among. elim (gained.gains name among) [ inl was ↦ are.plain name was | inr own ↦ own.1.1 ];
       bytes_from =
-          raised_from (λ n. OfStream (λ b l. length b ≡ n)) bytes streams old.bytes measured.totals.bytes new.bytes r.bytes
-          (inr (list, m.passes, sym m.totals.all_bytes)) are.bytes_from;
+          raised_from (λ n. OfStream (λ b l. length b ≡ n)) bytes streams old.bytes found.totals.bytes new.bytes r.bytes
+          (inr (list, m.passes, sym m.totals_are.all_bytes)) are.bytes_from;
       refs_from =
-          raised_from (λ n. OfStream (λ b l. refs_of l ≡ n)) bytes streams old.refs measured.totals.refs new.refs r.refs (inr (list, m.passes, sym m.totals.refs)) are.refs_from;
+          raised_from (λ n. OfStream (λ b l. refs_of l ≡ n)) bytes streams old.refs found.totals.refs new.refs r.refs (inr (list, m.passes, sym m.totals_are.refs)) are.refs_from;
       depth_from =
-          raised_from (λ n. OfStream (λ b l. depth_of l ≡ n)) bytes streams old.depth measured.totals.depth new.depth r.depth
-          (inr (list, m.passes, sym m.totals.depth)) are.depth_from;
+          raised_from (λ n. OfStream (λ b l. depth_of l ≡ n)) bytes streams old.depth found.totals.depth new.depth r.depth
+          (inr (list, m.passes, sym m.totals_are.depth)) are.depth_from;
       array_from =
-          raised_from (λ n. OfStream (λ b l. HasArray n l)) bytes streams old.array measured.longest new.array r.array
+          raised_from (λ n. OfStream (λ b l. HasArray n l)) bytes streams old.array found.longest new.array r.array
           (elim (greatest_has (array_lengths list)) [
-            | inl none ↦ inl (m.longest ∙ none)
-            | inr has ↦ inr (list, m.passes, some_of (λ k. greatest (array_lengths list) ≡ k) (λ k. measured.longest ≡ k) (array_lengths list) (λ k e. m.longest ∙ e) has)
+            | inl none ↦ inl (m.longest_is ∙ none)
+            | inr has ↦ inr (list, m.passes, some_of (λ k. greatest (array_lengths list) ≡ k) (λ k. found.longest ≡ k) (array_lengths list) (λ k e. m.longest_is ∙ e) has)
           ]) are.array_from;
       names_from =
           λ name among.
@@ -114,6 +116,11 @@ learns bytes list measured old new names m g r = λ streams are.
             | inr own ↦ inl (list, m.passes, own.0)
           ];
     }
+
+pub learns_so : (bytes : List ℕ) (found : Found) (old new : Known) (result : Result (Unit {0}) SampleFault) → Finds bytes (Ok found) → OnOk result (LearnsFound found old new)
+    → OnOk result (Learns bytes old new)
+learns_so bytes found old new (Ok done) f h = h bytes f
+learns_so bytes found old new (Err why) f h = tt
 
 -- ---- none
 

@@ -34,7 +34,7 @@ limits_given known = record { depth = Some known.depth; refs = Some known.refs; 
 limits_has : (known : Known) (filter : FilterView) → Has filter known → limits_of filter.pieces ≡ limits_given known
 limits_has known filter has = ap limits_of has ∙ limits_are known
 
-admits_one : (known : Known) (filter : FilterView) (options : Options) (bytes : List ℕ) (list : ContentTrees) → Has filter known → Fits known bytes list → IsAdmitted filter options bytes list
+pub admits_one : (known : Known) (filter : FilterView) (options : Options) (bytes : List ℕ) (list : ContentTrees) → Has filter known → Fits known bytes list → IsAdmitted filter options bytes list
 admits_one known filter options bytes list has f =
     let l = sym (limits_has known filter has) in
     record {

@@ -3,8 +3,8 @@ pub mod TextLemmas
 pub mod VerdictLemmas
 pub mod LawLemmas
 pub mod WritableLemmas
-pub mod MeasureLemmas
 pub mod GatherLemmas
 pub mod UnitLemmas
 pub mod KnownLemmas
+pub mod SlackLemmas
 pub mod PlainLemmas

@@ -83,7 +83,7 @@ text_units none one two three four five six bytes refs depth array names z a b c
     ap utf16_units f ∙ units_append five (codes ";!*") ∙ ap (λ us. us ++ utf16_units (codes ";!*")) (e ∙ ap (λ us. us ++ names_text names) d')
     ∙ ap (λ us. (codes "maxbytes=" ++ decimal bytes ++ codes ";maxrefs=" ++ decimal refs ++ codes ";maxdepth=" ++ decimal depth ++ codes ";maxarray=" ++ decimal array ++ names_text names) ++ us) (word_units (codes ";!*") refl)
 
--- the same of the first of the names that are left
+-- the first of the names that are left is written
 pub name_pushed_on : {Y : Type 0} (now mid new : String Y) (name : Bor (String Y)) (lent : Bor (List ℕ)) (words : List ℕ) (start : List ℕ) (left after : List (String Y))
     → string_bytes mid ≡ string_bytes now ++ words → utf16_units words ≡ 0x3B ∷ [] → string_bytes new ≡ string_bytes mid ++ lent.now → lent.now ≡ string_bytes name.now
     → left ≡ name.now ∷ after → utf16_units (string_bytes now) ++ names_text (map (λ text. utf16_units (string_bytes text)) left) ≡ start

@@ -1,6 +1,6 @@
 -- What the suggested filter promises: it admits each of the streams, allows no other name, and no tighter one of its form
 -- admits them all.
-use Rattle.std.specs.Prelude.{◌≡◌, ◌↔◌, ℕ, ◌<◌, true, List}
+use Rattle.std.specs.Prelude.{◌≡◌, ◌↔◌, ℕ, ◌<◌, ◌≤◌, true, List}
 use Rattle.jser_table.specs.Names.{element}
 use Rattle.jser_reading.specs.GateLimits.{Each}
 use Rattle.jser_filter.specs.declared.Verdict.{Verdict}
@@ -9,7 +9,7 @@ use Rattle.jser_filter.specs.Filters.{FilterView, verdict_by}
 use Rattle.jser_filter.specs.Pieces.{pieces_of}
 use Rattle.jser_check.specs.declared.gate.Options.{Options}
 use Rattle.jser_check.specs.Admitted.{AreAdmitted}
-use Rattle.jser_suggest.specs.Suggested.{Known, only, suggested, is_writable}
+use Rattle.jser_suggest.specs.Suggested.{Known, only, suggested, widened, is_writable}
 use Rattle.jser_suggest.specs.Samples.{Some_of, Among, AreKnown}
 
 -- a filter with these pieces, and any table of modules
@@ -19,6 +19,11 @@ Has filter known = filter.pieces ≡ suggested known
 -- each of the streams is admitted, whether or not names that no pattern matches are refused
 abbrev pub Admits : Type 0
 Admits = (streams : List (List ℕ)) (known : Known) (filter : FilterView) (options : Options) → AreKnown streams known → Has filter known
+    → Each (AreAdmitted filter options) streams
+
+-- each of them is admitted with limits that are some times as high
+abbrev pub AdmitsWidened : Type 0
+AdmitsWidened = (n : ℕ) (streams : List (List ℕ)) (known : Known) (filter : FilterView) (options : Options) → 1 ≤ n → AreKnown streams known → Has filter (widened n known)
     → Each (AreAdmitted filter options) streams
 
 abbrev pub IsAllowed : Verdict → Type 0

@@ -1,5 +1,4 @@
 pub mod Suggested
-pub mod Measures
 pub mod Samples
 pub mod Gathering
 pub mod Laws

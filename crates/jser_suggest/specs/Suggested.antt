@@ -1,5 +1,5 @@
 -- The filter that is suggested for good streams: its pieces, its text, and which names can be written in it.
-use Rattle.std.specs.Prelude.{ℕ, Bool, true, false, not, ◌==◌, ◌||◌, List, [], ◌∷◌, ◌++◌, map, codes, Option, None, Some}
+use Rattle.std.specs.Prelude.{ℕ, ◌*◌, min, Bool, true, false, not, ◌==◌, ◌||◌, List, [], ◌∷◌, ◌++◌, map, codes, Option, None, Some}
 use Rattle.std.specs.List.{list_all, list_any}
 use Rattle.std.specs.Char.Unicode.Alphabetic.{is_alphabetic}
 use Rattle.std.specs.Char.Unicode.Numeric.{is_numeric}
@@ -30,6 +30,14 @@ abbrev pub suggested : Known → List Piece
 suggested known =
     limit_piece limit.Bytes known.bytes ∷ limit_piece limit.Refs known.refs ∷ limit_piece limit.Depth known.depth ∷ limit_piece limit.Array known.array
     ∷ (map only known.names ++ no_other ∷ [])
+
+-- so many times a count, as far as a filter can have such a limit
+abbrev pub times : (n count : ℕ) → ℕ
+times n count = min (n * count) 9223372036854775807
+
+-- each limit so many times as high
+abbrev pub widened : (n : ℕ) → Known → Known
+widened n known = record { bytes = times n known.bytes; refs = times n known.refs; depth = times n known.depth; array = times n known.array; names = known.names }
 
 abbrev pub names_text : List (List ℕ) → List ℕ
 names_text [] = []

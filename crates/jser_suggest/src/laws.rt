@@ -1,9 +1,14 @@
 //! Laws of the definitions alone: what the filter promises that `Samples::text` writes.
-ghost use Rattle.jser_suggest.specs.Laws.{Admits, AllowsOnly, IsLeast, OnlyWritable};
+ghost use Rattle.jser_suggest.specs.Laws.{Admits, AdmitsWidened, AllowsOnly, IsLeast, OnlyWritable};
 
 /// It admits each of the streams, whether or not the check is strict.
 pub fn admits()
     ensures { Admits }
+{}
+
+/// It admits each of them also where its limits are some times as high, as `Samples::text_with_slack` writes them.
+pub fn admits_widened()
+    ensures { AdmitsWidened }
 {}
 
 /// It allows the name of a class exactly if that is an element name of one of the streams.

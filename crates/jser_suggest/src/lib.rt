@@ -1,7 +1,6 @@
 //! A filter from good streams: it admits each of them, allows no other class, and is the least of its form that does.
 #![tactic(auto)]
 
-mod arrays;
 pub mod laws;
 mod names;
 mod samples;

@@ -2,12 +2,11 @@
 ghost use Rattle.std.specs.Prelude.{◌≡◌, [], ◌∷◌, IfErr, OnOk, string_bytes};
 ghost use Rattle.jser_prim.specs.ModifiedUtf8.{utf16_units};
 ghost use Rattle.jser_table.specs.Names.{ends_in};
-ghost use Rattle.jser_suggest.specs.Answers.{GainsNames, IsNoSample};
 ghost use Rattle.jser_suggest.specs.Suggested.{begins, has, is_plain, is_plain_unit, is_writable};
 ghost use Rattle.jser_suggest.specs.Gathering.{AddsName, GainsAll, IfUnwritable, InsertsName, IsFaultOf, IsNoMemory, IsTold, name_list};
 
 use crate::samples::SampleFault;
-use jser_index::Index;
+use jser_names::NameList;
 use jser_reader::Stop;
 use jser_table::{Element, element_of};
 use std::alloc::{AllocError, Global};
@@ -15,29 +14,18 @@ use std::collections::BTreeSet;
 use std::string::FromUtf16Error;
 
 /// Adds the element name of each checked name of a stream.
-pub(crate) fn gather_names(
+pub(crate) fn gather(
     alloc: Global,
-    bytes: &[u8],
+    checked: &NameList,
     names: &mut BTreeSet<String>,
 ) -> Result<(), SampleFault>
-    ensures gains { OnOk result (GainsNames bytes.now (name_list names.old) (name_list names.new)) }
-    ensures fault { IfErr result (IsNoSample bytes.now) }
+    ensures gains { OnOk result (GainsAll checked.now (name_list names.old) (name_list names.new)) }
+    ensures fault { IfErr result (IfUnwritable checked.now) }
 {
-    match Index::read(alloc, bytes) {
-        Ok(index) => gather(alloc, &index, names),
-        Err(stop) => Err(SampleFault::Stop(stop)),
-    }
-}
-
-/// Adds those of an index.
-fn gather(alloc: Global, index: &Index, names: &mut BTreeSet<String>) -> Result<(), SampleFault>
-    ensures gains { OnOk result (GainsAll index.now.names (name_list names.old) (name_list names.new)) }
-    ensures fault { IfErr result (IfUnwritable index.now.names) }
-{
-    let count = index.name_count();
+    let count = checked.count();
     let mut number: usize = 0;
     'names: while number < count {
-        let Some(name) = index.name_at(number) else {
+        let Some(name) = checked.get(number) else {
             unreachable!();
         };
         match gather_one(alloc, name, names) {

@@ -2,14 +2,13 @@
 ghost use Rattle.std.specs.Prelude.{◌≡◌, [], ℕ, List, true, IfErr, IfOk, OnOk, string_bytes};
 ghost use Rattle.jser_prim.specs.ModifiedUtf8.{utf16_units};
 ghost use Rattle.jser_filter.specs.Pieces.{pieces_of};
-ghost use Rattle.jser_suggest.specs.Answers.{IsNoSample, Learns};
+ghost use Rattle.jser_suggest.specs.Answers.{IsNoSample, IsNoSampleFound, IsRaised, Learns, LearnsFound};
 ghost use Rattle.jser_suggest.specs.Samples.{AreKnown};
-ghost use Rattle.jser_suggest.specs.Suggested.{suggested, suggested_text, is_one_line};
-ghost use Rattle.jser_suggest.specs.Measures.{IsRaised};
+ghost use Rattle.jser_suggest.specs.Suggested.{suggested, suggested_text, widened, is_one_line};
 
-use crate::arrays::{Measured, measure};
-use crate::names::gather_names;
-use crate::text::text_of;
+use crate::names::gather;
+use crate::text::{text_of, times};
+use jser_names::{Found, names_in};
 use jser_reader::Stop;
 use std::alloc::{AllocError, Global};
 use std::collections::BTreeSet;
@@ -32,7 +31,7 @@ pub struct Samples {
     bytes: u64,
     refs: u64,
     depth: u64,
-    longest: u32,
+    longest: u64,
     names: BTreeSet<String>,
 }
 
@@ -59,22 +58,36 @@ impl Samples {
         }
     }
 
-    /// Takes one good stream more. It holds the stream as long as the call takes, and keeps the names that are new.
+    /// Takes one good stream more. It goes once along the stream, and keeps the names that are new.
     ///
     /// # Errors
     ///
     /// `SampleFault`, with the reason. Then some of the stream's names may have been kept: begin anew.
+    #[tactic(auto, using(crate::proofs::KnownLemmas::learns_so, crate::proofs::GatherLemmas::fault_so))]
     pub fn add(&mut self, alloc: Global, bytes: &[u8]) -> Result<(), SampleFault>
         ensures learns { OnOk result (Learns bytes.now self.old self.new) }
         ensures fault { IfErr result (IsNoSample bytes.now) }
     {
-        let measured = match measure(alloc, bytes) {
-            Ok(measured) => measured,
-            Err(stop) => return Err(SampleFault::Stop(stop)),
-        };
-        match gather_names(alloc, bytes, &mut self.names) {
+        match names_in(alloc, bytes) {
+            Ok(found) => self.add_found(alloc, &found),
+            Err(stop) => Err(SampleFault::Stop(stop)),
+        }
+    }
+
+    /// Takes what was found along one good stream more, such as `found_of` of `jser_names` finds of a source. It keeps the names
+    /// that are new.
+    ///
+    /// # Errors
+    ///
+    /// `SampleFault`, with the reason. Then some of the stream's names may have been kept: begin anew.
+    #[tactic(auto, using(crate::proofs::GatherLemmas::no_sample))]
+    pub fn add_found(&mut self, alloc: Global, found: &Found) -> Result<(), SampleFault>
+        ensures learns { OnOk result (LearnsFound found.now self.old self.new) }
+        ensures fault { IfErr result (IsNoSampleFound found.now) }
+    {
+        match gather(alloc, &found.names, &mut self.names) {
             Ok(()) => {
-                self.raise(measured);
+                self.raise(found);
                 Ok(())
             }
             Err(fault) => Err(fault),
@@ -100,13 +113,32 @@ impl Samples {
         )
     }
 
-    /// Raises the counts to those of a stream.
-    fn raise(&mut self, measured: Measured)
-        ensures { IsRaised measured self.old self.new }
+    /// The text of that filter with each limit so many times as high, so that the next good stream is not refused for one
+    /// element more; at most 9,223,372,036,854,775,807, the greatest limit of a filter.
+    ///
+    /// `laws::admits_widened` says what it promises from one time on. Takes memory for the text.
+    pub fn text_with_slack(&self, alloc: Global, slack: u64) -> Result<String, AllocError>
+        ensures text { IfOk result (λ text. utf16_units (string_bytes text) ≡ suggested_text (widened slack self.now)) }
+        ensures one_line { (streams : List (List ℕ)) → AreKnown streams self.now → IfOk result (λ text. is_one_line (utf16_units (string_bytes text)) ≡ true) }
+        ensures pieces { (streams : List (List ℕ)) → AreKnown streams self.now → IfOk result (λ text. pieces_of (utf16_units (string_bytes text)) ≡ suggested (widened slack self.now)) }
     {
-        self.bytes = self.bytes.max(measured.totals.bytes);
-        self.refs = self.refs.max(measured.totals.refs);
-        self.depth = self.depth.max(measured.totals.depth);
-        self.longest = self.longest.max(measured.longest);
+        text_of(
+            alloc,
+            times(slack, self.bytes),
+            times(slack, self.refs),
+            times(slack, self.depth),
+            times(slack, self.longest),
+            &self.names,
+        )
+    }
+
+    /// Raises the counts to those of a stream.
+    fn raise(&mut self, found: &Found)
+        ensures { IsRaised found.now self.old self.new }
+    {
+        self.bytes = self.bytes.max(found.totals.bytes);
+        self.refs = self.refs.max(found.totals.refs);
+        self.depth = self.depth.max(found.totals.depth);
+        self.longest = self.longest.max(u64::from(found.longest));
     }
 }

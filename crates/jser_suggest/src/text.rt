@@ -3,7 +3,7 @@ ghost use Rattle.std.specs.Prelude.{◌≡◌, ◌++◌, IfOk, OnOk, string_byte
 ghost use Rattle.std.specs.Fmt.{decimal};
 ghost use Rattle.jser_prim.specs.ModifiedUtf8.{utf16_units};
 ghost use Rattle.jser_suggest.specs.Gathering.{name_list};
-ghost use Rattle.jser_suggest.specs.Suggested.{names_text, suggested_text};
+ghost use Rattle.jser_suggest.specs.Suggested.{names_text, suggested_text, times};
 
 use std::alloc::{AllocError, Global};
 use std::collections::BTreeSet;
@@ -15,7 +15,7 @@ pub(crate) fn text_of(
     bytes: u64,
     refs: u64,
     depth: u64,
-    longest: u32,
+    longest: u64,
     names: &BTreeSet<String>,
 ) -> Result<String, AllocError>
     ensures { IfOk result (λ text. utf16_units (string_bytes text) ≡ suggested_text (record { bytes = bytes; refs = refs; depth = depth; array = longest; names = name_list names.now })) }
@@ -24,10 +24,17 @@ pub(crate) fn text_of(
     push_limit(&mut text, "maxbytes=", bytes)?;
     push_limit(&mut text, ";maxrefs=", refs)?;
     push_limit(&mut text, ";maxdepth=", depth)?;
-    push_limit(&mut text, ";maxarray=", u64::from(longest))?;
+    push_limit(&mut text, ";maxarray=", longest)?;
     push_names(&mut text, names)?;
     text.push_str(";!*")?;
     Ok(text)
+}
+
+/// So many times a count, as far as a filter can have such a limit.
+pub(crate) fn times(slack: u64, count: u64) -> u64
+    ensures { result ≡ times slack count }
+{
+    slack.saturating_mul(count).min(i64::MAX as u64)
 }
 
 /// Appends the words of a limit and its value in decimal.

@@ -457,7 +457,8 @@ fn section_after(
     section_after_by_walk(descriptors, sections, last, section)
 }
 
-/// The same by a walk up the chain, where the two sections are on no path.
+/// The section that comes after this one in data that end with the section `last`, found by a walk up the chain, where the
+/// two are on no path.
 #[tactic(auto, using(crate::proofs::ChainLemmas::length_chains_of))]
 fn section_after_by_walk(
     descriptors: &[Descriptor],

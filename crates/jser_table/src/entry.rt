@@ -55,7 +55,7 @@ pub(crate) enum Kept {
     Closed(u32),
 }
 
-/// The same in four bytes: a number of four bytes, which this file alone reads.
+/// An entry in four bytes: a number of four bytes, which this file alone reads.
 #[derive(Drop)]
 pub(crate) struct Slot {
     code: u32,

@@ -137,7 +137,7 @@ impl Table {
         Ok(number as u32)
     }
 
-    /// The same of any entry, also where memory is asked for or the table is full.
+    /// Adds any entry and gives its number, also where memory is asked for or the table is full.
     fn assign_any(&mut self, kind: Kind) -> Result<u32, TableFault>
         ensures { Assigns kind result self.old self.new }
     {
@@ -157,7 +157,7 @@ impl Table {
         Ok(number as u32)
     }
 
-    /// The same, out of line: mostly there is room.
+    /// Adds an entry and gives its number, out of line: mostly there is room.
     #[inline(never)]
     fn assign_out_of_line(&mut self, kind: Kind) -> Result<u32, TableFault>
         ensures { Assigns kind result self.old self.new }
@@ -195,7 +195,7 @@ impl Table {
         self.close_kept(number, KeptLayer::new(layer), parent);
     }
 
-    /// The same as `close`, with a layer in the form in which it is kept. Takes no memory.
+    /// Closes a pending entry with a layer in the form in which it is kept. Takes no memory.
     pub fn close_kept(&mut self, number: u32, layer: KeptLayer, parent: Option<u32>)
         requires pending { IsTrue (is_pending (slice_get self.old.entries number)) }
         requires parent { ForSome parent (λ p. IsTrue (is_closed (slice_get self.old.entries p))) }

@@ -11,7 +11,7 @@ Finds view (Ok x) left built = built ≡ Some (view x, left)
 Finds view (Err fault.Lost) left built = built ≡ None
 Finds view (Err fault.OutOfMemory) left built = Unit {0}
 
--- the same of all the bytes
+-- what the definition finds in all the bytes, or that it finds nothing
 abbrev pub FindsAll : {X Y : Type 0} → (X → Y) → Result X Fault → Option Y → Type 0
 FindsAll view (Ok x) built = built ≡ Some (view x)
 FindsAll view (Err fault.Lost) built = built ≡ None

@@ -49,7 +49,7 @@ pub(crate) fn explain_file<W: Sink, E: Sink>(
     explain_under(rt, rules, text.as_str(), options.form, file, output, faults)
 }
 
-/// The same under these rules, whose filter has this text.
+/// Explains the answer for a file under these rules, whose filter has this text.
 fn explain_under<W: Sink, E: Sink>(
     rt: &HostRuntime,
     rules: Rules,

@@ -10,11 +10,16 @@ ghost use Rattle.jser_explain.specs.Explains.{check_of};
 ghost use Rattle.serialcheck.specs.Jobs.{list_of};
 
 mod explain;
+mod find;
+mod number;
+mod progress;
 mod records;
 mod scan;
 mod suggest;
 
 use crate::explain::{ExplainOptions, explain_file};
+use crate::find::find_in_files;
+use crate::number::number_from_one;
 use crate::records::check_records;
 use crate::scan::{Task, scan_paths};
 use crate::suggest::suggest_from;
@@ -132,12 +137,25 @@ fn on_line<W: Sink, E: Sink>(rt: &HostRuntime, line: &Line, output: &mut W, faul
             }
             Err(status) => status,
         },
-        Line::Show { forms, limit, file } => match show_job(limit, faults) {
+        Line::Show {
+            forms,
+            values,
+            limit,
+            file,
+        } => match show_job(*values, limit, faults) {
             Ok(job) => on_file(rt, &job, forms.form(), file.as_str(), output, faults),
             Err(status) => status,
         },
         Line::Records(words) => check_records(rt, words, output, faults),
-        Line::Suggest { forms, files } => suggest_from(rt, forms.form(), files, output, faults),
+        Line::Find(words) => find_in_files(rt, words, output, faults),
+        Line::Suggest {
+            forms,
+            slack,
+            files,
+        } => match number_from_one(slack, faults, "--slack is not a number from 1\n") {
+            Ok(slack) => suggest_from(rt, forms.form(), slack.unwrap_or(1), files, output, faults),
+            Err(status) => status,
+        },
         Line::List {
             filters,
             forms,
@@ -171,6 +189,7 @@ fn on_line<W: Sink, E: Sink>(rt: &HostRuntime, line: &Line, output: &mut W, faul
             anywhere,
             refused,
             json,
+            progress,
             paths,
         } => match filter_with(rt, filters, faults) {
             Ok(filter) => {
@@ -186,6 +205,7 @@ fn on_line<W: Sink, E: Sink>(rt: &HostRuntime, line: &Line, output: &mut W, faul
                         refused: *refused,
                         json: *json,
                     },
+                    progress: *progress,
                 };
                 scan_paths(rt, &task, paths, output, faults)
             }
@@ -216,15 +236,15 @@ fn check_job(filter: Filter, strict: bool, anywhere: bool) -> Job
     }
 }
 
-/// The job of a text, under the limit that is named, if one is.
-fn show_job<E: Sink>(limit: &Option<String>, faults: &mut E) -> Result<Job, u8>
+/// The job of a text, with what raw values mean where that is asked, under the limit that is named, if one is.
+fn show_job<E: Sink>(values: bool, limit: &Option<String>, faults: &mut E) -> Result<Job, u8>
     ensures { IfErr result (λ status. status ≡ 2) }
 {
     let Some(text) = limit else {
-        return Ok(Job::Show);
+        return Ok(Job::Show { values });
     };
     match limit_of(text.as_str(), faults) {
-        Ok(limit) => Ok(Job::ShowLimited { limit }),
+        Ok(limit) => Ok(Job::ShowLimited { values, limit }),
         Err(status) => Err(status),
     }
 }

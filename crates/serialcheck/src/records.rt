@@ -1,13 +1,14 @@
 //! `records`: opens the input, and hands it to the check of its records.
 ghost use Rattle.std.specs.Prelude.{◌≡◌, ◌≢◌, ◌⊎◌, ◌≤◌, IfErr};
 
+use crate::number::{number_from_one, number_in};
+use crate::progress::{Counted, Progress};
 use crate::{filter_with, tell_unopened};
 use jser_inputs::Form;
 use jser_line::Records;
 use jser_prim::{FromRead, Sink};
 use jser_records::{Asked, Layout, Lines, Shape, run_records};
 use jser_scan::{How, Rules};
-use jser_settings::tell_misuse;
 use std::fs::File;
 
 /// How many bytes of a record are read at most, where that is not said.
@@ -30,7 +31,7 @@ pub(crate) fn check_records<W: Sink, E: Sink>(
     }
 }
 
-/// The same, with what is asked.
+/// Checks the records as they are asked for.
 fn check_asked<W: Sink, E: Sink>(
     rt: &HostRuntime,
     words: &Records,
@@ -49,17 +50,24 @@ fn check_asked<W: Sink, E: Sink>(
                 strict: words.strict,
                 anywhere: words.anywhere,
             };
-            check_under(rt, &rules, asked, words.file.as_str(), output, faults)
+            let progress = if asked.pass {
+                Progress::in_lines(rt, words.progress, "bytes")
+            } else {
+                Progress::new(rt, words.progress, "bytes")
+            };
+            let file = words.file.as_str();
+            check_under(rt, &rules, asked, progress, file, output, faults)
         }
         Err(status) => status,
     }
 }
 
-/// The same, under these rules.
+/// Checks the records of a file under these rules.
 fn check_under<W: Sink, E: Sink>(
     rt: &HostRuntime,
     rules: &Rules,
     asked: Asked,
+    progress: Progress<'_>,
     file: &str,
     output: &mut W,
     faults: &mut E,
@@ -69,12 +77,12 @@ fn check_under<W: Sink, E: Sink>(
 {
     let alloc = rt.alloc();
     if file == "-" {
-        let source = FromRead::new(rt.stdin());
+        let source = FromRead::new(Counted::new(rt.stdin(), progress));
         return run_records(alloc, rules, asked, source, output, faults);
     }
     match File::open(rt, file) {
         Ok(opened) => {
-            let source = FromRead::new(opened);
+            let source = FromRead::new(Counted::new(opened, progress));
             run_records(alloc, rules, asked, source, output, faults)
         }
         Err(_) => tell_unopened(alloc, file, faults),
@@ -85,8 +93,7 @@ fn check_under<W: Sink, E: Sink>(
 fn asked_by<E: Sink>(words: &Records, faults: &mut E) -> Result<Asked, u8>
     ensures { IfErr result (λ status. status ≡ 2) }
 {
-    let field = match number_in(&words.field, faults, "--field is not a number from 1\n") {
-        Ok(Some(0)) => return Err(tell_misuse(faults, "--field is not a number from 1\n")),
+    let field = match number_from_one(&words.field, faults, "--field is not a number from 1\n") {
         Ok(field) => field,
         Err(status) => return Err(status),
     };
@@ -124,17 +131,4 @@ fn shape_of(words: &Records, field: Option<u64>) -> Shape {
         zero: words.zero,
         field,
     })
-}
-
-/// The number that a text says, if there is one. Where it says none, this line is told.
-fn number_in<E: Sink>(text: &Option<String>, faults: &mut E, line: &str) -> Result<Option<u64>, u8>
-    ensures { IfErr result (λ status. status ≡ 2) }
-{
-    let Some(text) = text else {
-        return Ok(None);
-    };
-    match text.as_str().parse::<u64>() {
-        Ok(number) => Ok(Some(number)),
-        Err(_) => Err(tell_misuse(faults, line)),
-    }
 }

@@ -1,6 +1,7 @@
 //! `scan`: goes through folders, and checks one file after another.
 ghost use Rattle.std.specs.Prelude.{◌≡◌, ◌≢◌, ◌≤◌, OnOk};
 
+use crate::progress::Progress;
 use jser_inputs::{Decoded, Form, InputFault};
 use jser_prim::{Failed, FromRead, Sink};
 use jser_scan::{FilePath, Found, How, Rules, Tally, check_file, print_found, print_summary};
@@ -17,6 +18,23 @@ pub(crate) struct Task<'t> {
     pub(crate) form: Form,
     /// How they are printed.
     pub(crate) how: How,
+    /// Whether standard error is told how far it is.
+    pub(crate) progress: bool,
+}
+
+/// What was found so far.
+#[derive(Drop)]
+struct Course<'r> {
+    tally: Tally,
+    progress: Progress<'r>,
+}
+
+impl Course<'_> {
+    /// One file more.
+    fn note(&mut self, found: &Found) {
+        self.tally.note(found);
+        self.progress.add(1);
+    }
 }
 
 /// What a path is, where links are not followed.
@@ -40,14 +58,19 @@ pub(crate) fn scan_paths<W: Sink, E: Sink>(
     ensures unbroken { result ≢ 3 → W.has_failed output.new ≡ W.has_failed output.old }
     ensures misuse { result ≡ 2 → output.new ≡ output.old }
 {
-    let mut tally = Tally::new();
+    let mut course = Course {
+        tally: Tally::new(),
+        progress: Progress::new(rt, task.progress, "files"),
+    };
     for path in paths {
-        if scan_given(rt, task, path.as_str(), &mut tally, output, faults).is_err() {
+        if scan_given(rt, task, path.as_str(), &mut course, output, faults).is_err() {
+            course.progress.clear();
             return tell_failure(faults, "write failed\n");
         }
     }
-    let _ = print_summary(tally, faults);
-    tally.status()
+    course.progress.clear();
+    let _ = print_summary(course.tally, faults);
+    course.tally.status()
 }
 
 /// Checks what a path names that was given: the files in a folder, or whatever else can be opened.
@@ -55,7 +78,7 @@ fn scan_given<W: Sink, E: Sink>(
     rt: &HostRuntime,
     task: &Task<'_>,
     path: &str,
-    tally: &mut Tally,
+    course: &mut Course<'_>,
     output: &mut W,
     faults: &mut E,
 ) -> Result<(), Failed>
@@ -66,9 +89,9 @@ fn scan_given<W: Sink, E: Sink>(
         Err(_) => false,
     };
     if path != "-" && is_folder {
-        scan_folder(rt, task, path, tally, output, faults)
+        scan_folder(rt, task, path, course, output, faults)
     } else {
-        scan_file(rt, task, path, tally, output, faults)
+        scan_file(rt, task, path, course, output, faults)
     }
 }
 
@@ -77,7 +100,7 @@ fn scan_folder<W: Sink, E: Sink>(
     rt: &HostRuntime,
     task: &Task<'_>,
     folder: &str,
-    tally: &mut Tally,
+    course: &mut Course<'_>,
     output: &mut W,
     faults: &mut E,
 ) -> Result<(), Failed>
@@ -85,17 +108,25 @@ fn scan_folder<W: Sink, E: Sink>(
 {
     // What is still to be looked at, the next one last.
     let mut waiting: Vec<String> = Vec::new(rt.alloc());
-    enter(rt, task, folder, &mut waiting, tally, output, faults)?;
+    enter(rt, task, folder, &mut waiting, course, output, faults)?;
     'paths: for _ in 0..u64::MAX {
         let Some(path) = waiting.pop() else {
             return Ok(());
         };
         match kind_of(rt, path.as_str()) {
-            Kind::File => scan_file(rt, task, path.as_str(), tally, output, faults)?,
-            Kind::Folder => enter(rt, task, path.as_str(), &mut waiting, tally, output, faults)?,
+            Kind::File => scan_file(rt, task, path.as_str(), course, output, faults)?,
+            Kind::Folder => enter(
+                rt,
+                task,
+                path.as_str(),
+                &mut waiting,
+                course,
+                output,
+                faults,
+            )?,
             Kind::Unknown => {
                 let found = Found::NotOpened;
-                print(rt, task, path.as_str(), &found, tally, output, faults)?;
+                print(rt, task, path.as_str(), &found, course, output, faults)?;
             }
             Kind::Other => {}
         }
@@ -119,7 +150,7 @@ fn enter<W: Sink, E: Sink>(
     task: &Task<'_>,
     folder: &str,
     waiting: &mut Vec<String>,
-    tally: &mut Tally,
+    course: &mut Course<'_>,
     output: &mut W,
     faults: &mut E,
 ) -> Result<(), Failed>
@@ -129,7 +160,7 @@ fn enter<W: Sink, E: Sink>(
         Ok(()) => return Ok(()),
         Err(found) => found,
     };
-    print(rt, task, folder, &found, tally, output, faults)
+    print(rt, task, folder, &found, course, output, faults)
 }
 
 /// Puts the paths of what is in a folder on top of what is waiting, the first one last. A name that is no UTF-8 names nothing
@@ -194,14 +225,14 @@ fn scan_file<W: Sink, E: Sink>(
     rt: &HostRuntime,
     task: &Task<'_>,
     path: &str,
-    tally: &mut Tally,
+    course: &mut Course<'_>,
     output: &mut W,
     faults: &mut E,
 ) -> Result<(), Failed>
     ensures kept { OnOk result (W.has_failed output.new ≡ W.has_failed output.old) }
 {
     let found = found_in(rt, task, path);
-    print(rt, task, path, &found, tally, output, faults)
+    print(rt, task, path, &found, course, output, faults)
 }
 
 /// What the check finds in a file.
@@ -228,7 +259,7 @@ fn print<W: Sink, E: Sink>(
     task: &Task<'_>,
     path: &str,
     found: &Found,
-    tally: &mut Tally,
+    course: &mut Course<'_>,
     output: &mut W,
     faults: &mut E,
 ) -> Result<(), Failed>
@@ -236,18 +267,30 @@ fn print<W: Sink, E: Sink>(
 {
     let alloc = rt.alloc();
     let Ok(text) = String::from_str(alloc, path) else {
-        return out_of_memory(tally, faults);
+        return out_of_memory(course, faults);
     };
     let Ok(path) = FilePath::new(alloc, text) else {
-        return out_of_memory(tally, faults);
+        return out_of_memory(course, faults);
     };
-    tally.note(found);
+    course.note(found);
+    if is_told_as_fault(found) {
+        course.progress.clear();
+    }
     print_found(task.how, &path, found, output, faults)
 }
 
+/// Whether standard error is told what was found.
+fn is_told_as_fault(found: &Found) -> bool {
+    matches!(
+        found,
+        Found::NotOpened | Found::NotRead(_) | Found::OutOfMemory
+    )
+}
+
 /// Counts a file of which nothing can be printed.
-fn out_of_memory<E: Sink>(tally: &mut Tally, faults: &mut E) -> Result<(), Failed> {
-    tally.note(&Found::OutOfMemory);
+fn out_of_memory<E: Sink>(course: &mut Course<'_>, faults: &mut E) -> Result<(), Failed> {
+    course.note(&Found::OutOfMemory);
+    course.progress.clear();
     tell_failure(faults, "out of memory\n");
     Ok(())
 }

@@ -3,7 +3,7 @@ ghost use Rattle.std.specs.Prelude.{◌≡◌, ◌≢◌, ◌⊎◌, ◌≤◌, 
 
 use crate::scan::unopened;
 use jser_inputs::{Decoded, Form, Input};
-use jser_names::{NamesFault, bytes_of};
+use jser_names::{NamesFault, found_of};
 use jser_prim::{FromRead, Sink};
 use jser_reader::Stop;
 use jser_scan::{FilePath, Found, print_suggested, tell_found, tell_no_sample};
@@ -20,10 +20,12 @@ enum NoSample {
     Read(SampleFault),
 }
 
-/// Prints the filter that is suggested for these files, or tells the first that is no good one.
+/// Prints the filter that is suggested for these files, with its limits `slack` times as high, or tells the first file that is
+/// no good one.
 pub(crate) fn suggest_from<W: Sink, E: Sink>(
     rt: &HostRuntime,
     form: Form,
+    slack: u64,
     files: &[String],
     output: &mut W,
     faults: &mut E,
@@ -34,7 +36,7 @@ pub(crate) fn suggest_from<W: Sink, E: Sink>(
 {
     let mut samples = Samples::new(rt.alloc());
     match learn_all(rt, form, files, &mut samples, faults) {
-        Ok(()) => print_suggested(rt.alloc(), &samples, output, faults),
+        Ok(()) => print_suggested(rt.alloc(), &samples, slack, output, faults),
         Err(status) => status,
     }
 }
@@ -76,14 +78,14 @@ fn learn(rt: &HostRuntime, form: Form, file: &str, samples: &mut Samples) -> Res
     }
 }
 
-/// Takes an opened input. Of one that is no stream nothing is kept.
+/// Takes an opened input, which is read once. Of one that is no stream nothing is kept.
 fn learn_input<R: Input>(
     rt: &HostRuntime,
     input: &mut R,
     samples: &mut Samples,
 ) -> Result<(), NoSample> {
-    match bytes_of(rt.alloc(), input) {
-        Ok(bytes) => match samples.add(rt.alloc(), &bytes) {
+    match found_of(rt.alloc(), input) {
+        Ok(found) => match samples.add_found(rt.alloc(), &found) {
             Ok(()) => Ok(()),
             Err(fault) => Err(NoSample::Read(fault)),
         },

@@ -51,7 +51,7 @@ pub fn check_one(
     }
 }
 
-/// The same under a filter of its own, with the check for the next messages.
+/// Checks a message that came whole under a filter of its own, and gives the check for the next messages too.
 #[tactic(auto, using(crate::proofs::ExactLemmas::reports_end))]
 pub fn check_first<'f>(
     alloc: Global,

@@ -29,8 +29,8 @@ pub yes_accepted : (the_job : Job) (told old new : Option (List ℕ)) → IfSome
 yes_accepted the_job None old new says = tt
 yes_accepted (job.Check filter strict) (Some bytes) old new says = (says.reported.0, says.reported.1)
 yes_accepted (job.CheckAnywhere filter strict) (Some bytes) old new says = (says.reported.0, says.reported.1)
-yes_accepted job.Show (Some bytes) old new says = (says.list, says.passes.0)
-yes_accepted (job.ShowLimited limit) (Some bytes) old new says = (says.list, says.passes.0)
+yes_accepted (job.Show values) (Some bytes) old new says = (says.list, says.passes.0)
+yes_accepted (job.ShowLimited values limit) (Some bytes) old new says = (says.list, says.passes.0)
 yes_accepted (job.List filter) (Some bytes) old new says = (says.list, says.passes.0)
 yes_accepted (job.ListAnywhere filter) (Some bytes) old new says = (says.list, says.passes.0)
 
@@ -38,8 +38,8 @@ yes_cut : (the_job : Job) (told old new : Option (List ℕ)) → IfSome told (λ
 yes_cut the_job None old new says = tt
 yes_cut (job.Check filter strict) (Some bytes) old new says = absurd says
 yes_cut (job.CheckAnywhere filter strict) (Some bytes) old new says = absurd says
-yes_cut job.Show (Some bytes) old new says = absurd says
-yes_cut (job.ShowLimited limit) (Some bytes) old new says = (says.list, says.passes.0)
+yes_cut (job.Show values) (Some bytes) old new says = absurd says
+yes_cut (job.ShowLimited values limit) (Some bytes) old new says = (says.list, says.passes.0)
 yes_cut (job.List filter) (Some bytes) old new says = absurd says
 yes_cut (job.ListAnywhere filter) (Some bytes) old new says = absurd says
 
@@ -57,8 +57,8 @@ pub said_no : (the_job : Job) (told : Option (List ℕ)) (Went : List ℕ → Ty
 said_no the_job None Went says = tt
 said_no (job.Check filter strict) (Some bytes) Went says = says.refused.none
 said_no (job.CheckAnywhere filter strict) (Some bytes) Went says = none_anywhere filter (options_of strict) bytes Went says
-said_no job.Show (Some bytes) Went says = tt
-said_no (job.ShowLimited limit) (Some bytes) Went says = tt
+said_no (job.Show values) (Some bytes) Went says = tt
+said_no (job.ShowLimited values limit) (Some bytes) Went says = tt
 said_no (job.List filter) (Some bytes) Went says = tt
 said_no (job.ListAnywhere filter) (Some bytes) Went says = tt
 
@@ -73,10 +73,10 @@ text_accepted one (job.CheckAnywhere filter strict) (Some bytes) old new says = 
     subst (Appends old new)
     (line_is bytes says.reported.0 says.report says.reported.2 ∙ ap (line_of_list bytes) (one bytes says.reported.0 list says.reported.1.admitted.stream is))
     says.printed
-text_accepted one job.Show (Some bytes) old new says = λ list is.
-    subst (Appends old new) (ap shown (one bytes says.list list says.passes.0 is)) says.printed
-text_accepted one (job.ShowLimited limit) (Some bytes) old new says = λ list is.
-    subst (λ text. PrintsLimited limit text (Appends old new)) (ap shown (one bytes says.list list says.passes.0 is)) (inl (says.fits, says.printed))
+text_accepted one (job.Show values) (Some bytes) old new says = λ list is.
+    subst (Appends old new) (ap (shown values) (one bytes says.list list says.passes.0 is)) says.printed
+text_accepted one (job.ShowLimited values limit) (Some bytes) old new says = λ list is.
+    subst (λ text. PrintsLimited limit text (Appends old new)) (ap (shown values) (one bytes says.list list says.passes.0 is)) (inl (says.fits, says.printed))
 text_accepted one (job.List filter) (Some bytes) old new says = λ list is.
     subst (Appends old new) (ap (listed (words_on filter)) (one bytes says.list list says.passes.0 is)) says.printed
 text_accepted one (job.ListAnywhere filter) (Some bytes) old new says = λ list is.
@@ -87,9 +87,9 @@ text_cut : OneReading → (the_job : Job) (told old new : Option (List ℕ)) →
 text_cut one the_job None old new says = tt
 text_cut one (job.Check filter strict) (Some bytes) old new says = absurd says
 text_cut one (job.CheckAnywhere filter strict) (Some bytes) old new says = absurd says
-text_cut one job.Show (Some bytes) old new says = absurd says
-text_cut one (job.ShowLimited limit) (Some bytes) old new says = λ list is.
-    subst (λ text. PrintsLimited limit text (Appends old new)) (ap shown (one bytes says.list list says.passes.0 is))
+text_cut one (job.Show values) (Some bytes) old new says = absurd says
+text_cut one (job.ShowLimited values limit) (Some bytes) old new says = λ list is.
+    subst (λ text. PrintsLimited limit text (Appends old new)) (ap (shown values) (one bytes says.list list says.passes.0 is))
     (inr (record { printed = says.text; cut = says.cut; went = says.printed }))
 text_cut one (job.List filter) (Some bytes) old new says = absurd says
 text_cut one (job.ListAnywhere filter) (Some bytes) old new says = absurd says
@@ -118,7 +118,7 @@ pub prints_nothing : (the_job : Job) (told : Option (List ℕ)) (failed : Bool) 
     → PrintsNothing the_job old new
 prints_nothing (job.Check filter strict) told failed old new says whole = kept failed old new _ says whole
 prints_nothing (job.CheckAnywhere filter strict) told failed old new says whole = kept failed old new _ says whole
-prints_nothing job.Show told failed old new says whole = tt
-prints_nothing (job.ShowLimited limit) told failed old new says whole = kept failed old new _ says whole
+prints_nothing (job.Show values) told failed old new says whole = tt
+prints_nothing (job.ShowLimited values limit) told failed old new says whole = kept failed old new _ says whole
 prints_nothing (job.List filter) told failed old new says whole = kept failed old new _ says whole
 prints_nothing (job.ListAnywhere filter) told failed old new says whole = kept failed old new _ says whole

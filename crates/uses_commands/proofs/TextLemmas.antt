@@ -27,8 +27,8 @@ no_of_text the_job form text bytes is holds = of_text (IsNo the_job) form text b
 yes_is_bytes : (the_job : Job) (bytes : List ℕ) → IsYes the_job bytes → IsBytes bytes
 yes_is_bytes (job.Check filter strict) bytes yes_is = stream_bytes bytes yes_is.0 yes_is.1.stream
 yes_is_bytes (job.CheckAnywhere filter strict) bytes yes_is = stream_bytes bytes yes_is.0 yes_is.1.admitted.stream
-yes_is_bytes job.Show bytes yes_is = stream_bytes bytes yes_is.0 yes_is.1
-yes_is_bytes (job.ShowLimited limit) bytes yes_is = stream_bytes bytes yes_is.0 yes_is.1
+yes_is_bytes (job.Show values) bytes yes_is = stream_bytes bytes yes_is.0 yes_is.1
+yes_is_bytes (job.ShowLimited values limit) bytes yes_is = stream_bytes bytes yes_is.0 yes_is.1
 yes_is_bytes (job.List filter) bytes yes_is = stream_bytes bytes yes_is.0 yes_is.1
 yes_is_bytes (job.ListAnywhere filter) bytes yes_is = stream_bytes bytes yes_is.0 yes_is.1
 

@@ -32,12 +32,12 @@ PrintsLimited limit text Went = ((length text ≤ limit) × Went text) ⊎ Print
 abbrev pub Prints : Job → List ℕ → ContentTrees → (Went : List ℕ → Type 0) → Type 0
 Prints (job.Check filter strict) bytes list Went = Went (line_of_list bytes list)
 Prints (job.CheckAnywhere filter strict) bytes list Went = Went (line_of_list bytes list)
-Prints job.Show bytes list Went = Went (shown list)
-Prints (job.ShowLimited limit) bytes list Went = PrintsLimited limit (shown list) Went
+Prints (job.Show values) bytes list Went = Went (shown values list)
+Prints (job.ShowLimited values limit) bytes list Went = PrintsLimited limit (shown values list) Went
 Prints (job.List filter) bytes list Went = Went (listed (words_on filter) list)
 Prints (job.ListAnywhere filter) bytes list Went = Went (listed_anywhere filter bytes list)
 
--- that of whatever list the bytes spell
+-- what is printed of whatever list the bytes spell
 abbrev pub EachListPrints : Job → (bytes : List ℕ) → (Went : List ℕ → Type 0) → Type 0
 EachListPrints asked bytes Went = (list : ContentTrees) → IsStreamOf bytes list → Prints asked bytes list Went
 
@@ -45,8 +45,8 @@ EachListPrints asked bytes Went = (list : ContentTrees) → IsStreamOf bytes lis
 abbrev pub IsYes : Job → List ℕ → Type 0
 IsYes (job.Check filter strict) bytes = AreAdmitted filter (options_of strict) bytes
 IsYes (job.CheckAnywhere filter strict) bytes = AreAdmittedAnywhere filter (options_of strict) bytes
-IsYes job.Show bytes = (list : ContentTrees) × IsStreamOf bytes list
-IsYes (job.ShowLimited limit) bytes = (list : ContentTrees) × IsStreamOf bytes list
+IsYes (job.Show values) bytes = (list : ContentTrees) × IsStreamOf bytes list
+IsYes (job.ShowLimited values limit) bytes = (list : ContentTrees) × IsStreamOf bytes list
 IsYes (job.List filter) bytes = (list : ContentTrees) × IsStreamOf bytes list
 IsYes (job.ListAnywhere filter) bytes = (list : ContentTrees) × IsStreamOf bytes list
 
@@ -54,8 +54,8 @@ IsYes (job.ListAnywhere filter) bytes = (list : ContentTrees) × IsStreamOf byte
 abbrev pub IsNo : Job → List ℕ → Type 0
 IsNo (job.Check filter strict) bytes = AreAdmitted filter (options_of strict) bytes → ⊥
 IsNo (job.CheckAnywhere filter strict) bytes = AreAdmittedAnywhere filter (options_of strict) bytes → ⊥
-IsNo job.Show bytes = Unit {0}
-IsNo (job.ShowLimited limit) bytes = Unit {0}
+IsNo (job.Show values) bytes = Unit {0}
+IsNo (job.ShowLimited values limit) bytes = Unit {0}
 IsNo (job.List filter) bytes = Unit {0}
 IsNo (job.ListAnywhere filter) bytes = Unit {0}
 
@@ -63,7 +63,7 @@ IsNo (job.ListAnywhere filter) bytes = Unit {0}
 abbrev pub PrintsNothing : Job → (old new : Option (List ℕ)) → Type 0
 PrintsNothing (job.Check filter strict) old new = Keeps old new
 PrintsNothing (job.CheckAnywhere filter strict) old new = Keeps old new
-PrintsNothing job.Show old new = Unit {0}
-PrintsNothing (job.ShowLimited limit) old new = Keeps old new
+PrintsNothing (job.Show values) old new = Unit {0}
+PrintsNothing (job.ShowLimited values limit) old new = Keeps old new
 PrintsNothing (job.List filter) old new = Keeps old new
 PrintsNothing (job.ListAnywhere filter) old new = Keeps old new

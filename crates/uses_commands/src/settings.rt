@@ -13,7 +13,7 @@ ghost use Rattle.uses_commands.specs.Settings.{all_files, files_of, form_asked, 
 
 use jser_filter::{Modules, Verdict};
 use jser_inputs::Form;
-use jser_line::{Line, LineFault, Records, line_of};
+use jser_line::{Find, Line, LineFault, Records, line_of};
 use jser_prim::{Sink, Source};
 use jser_settings::{filter_in, filter_of, modules_of};
 use std::alloc::{AllocError, Global};
@@ -142,6 +142,7 @@ fn files_in(alloc: Global, line: Line) -> Result<Vec<String>, AllocError>
         } => alone(alloc, file),
         Line::Show {
             forms: _,
+            values: _,
             limit: _limit,
             file,
         } => alone(alloc, file),
@@ -158,9 +159,14 @@ fn files_in(alloc: Global, line: Line) -> Result<Vec<String>, AllocError>
             anywhere: _,
             refused: _,
             json: _,
+            progress: _,
             paths,
         } => Ok(paths),
-        Line::Suggest { forms: _, files } => Ok(files),
+        Line::Suggest {
+            forms: _,
+            slack: _slack,
+            files,
+        } => Ok(files),
         Line::Explain {
             filters: _filters,
             strict: _,
@@ -181,10 +187,24 @@ fn files_in(alloc: Global, line: Line) -> Result<Vec<String>, AllocError>
                 anywhere: _,
                 refused: _,
                 json: _,
+                progress: _,
                 pass: _,
                 file,
             },
         ) => alone(alloc, file),
+        Line::Find(
+            Find {
+                filters: _filters,
+                strict: _,
+                text: _,
+                all: _,
+                most: _most,
+                json: _,
+                progress: _,
+                carve: _carve,
+                files,
+            },
+        ) => Ok(files),
     }
 }
 
@@ -212,5 +232,6 @@ pub fn form_named(line: &Line) -> Option<Form>
         | Line::Scan { forms, .. }
         | Line::Suggest { forms, .. } => Some(forms.form()),
         Line::Records(words) => Some(words.forms.form()),
+        Line::Find(_) => Some(Form::Binary),
     }
 }

@@ -6,27 +6,28 @@ ghost use Rattle.uses_commands.specs.Suggests.{PrintsFilterOf};
 
 use jser_prim::Sink;
 use jser_scan::{FilePath, print_suggested, tell_no_sample};
-use jser_suggest::laws::admits;
+use jser_suggest::laws::admits_widened;
 use jser_suggest::{SampleFault, Samples};
 use std::alloc::Global;
 
-/// Prints the filter that is suggested for one stream, and at 0 did; or tells why there is none. At 3 nothing was printed, where
-/// the output did not fail.
+/// Prints the filter that is suggested for one stream, with its limits `slack` times as high, and at 0 did; or tells why there is
+/// none. At 3 nothing was printed, where the output did not fail.
 pub fn suggest_one<W: Sink, E: Sink>(
     alloc: Global,
     path: &FilePath,
     bytes: &[u8],
+    slack: u64,
     output: &mut W,
     faults: &mut E,
 ) -> u8
-    ensures admits { result ≡ 0 → PrintsFilterOf bytes.now (W.gone_out output.old) (W.gone_out output.new) }
+    ensures admits { 1 ≤ slack → result ≡ 0 → PrintsFilterOf bytes.now (W.gone_out output.old) (W.gone_out output.new) }
     ensures nothing { result ≡ 3 → W.has_failed output.new ≢ true → Keeps (W.gone_out output.old) (W.gone_out output.new) }
     ensures quiet { result ≡ 0 → faults.new ≡ faults.old }
     ensures status { result ≤ 3 }
 {
-    admits();
+    admits_widened();
     match known_of(alloc, bytes) {
-        Ok(samples) => print_suggested(alloc, &samples, output, faults),
+        Ok(samples) => print_suggested(alloc, &samples, slack, output, faults),
         Err(fault) => tell_no_sample(path, &fault, faults),
     }
 }

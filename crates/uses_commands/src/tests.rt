@@ -52,7 +52,7 @@ fn list(rt: &(impl Abort + AllocGlobal), text: &str) -> Job {
     }
 }
 
-/// The same, with the names at any place.
+/// A list under the filter of a text, with the names at any place.
 fn list_anywhere(rt: &(impl Abort + AllocGlobal), text: &str) -> Job {
     Job::ListAnywhere {
         filter: filter(rt, text),

@@ -30,7 +30,7 @@ pub fn admits(filter: &Filter, name: &[u16]) -> bool
 ///
 /// # Errors
 ///
-/// That of the text.
+/// The fault of the text.
 pub fn judge_text(alloc: Global, text: &str, name: &[u16]) -> Result<Verdict, FilterFault>
     requires { element_of name.now ≢ malformed_element }
     ensures { IfOk result (λ verdict. verdict ≡ verdict_with (utf16_units text.now) [] name.now) }
@@ -39,12 +39,12 @@ pub fn judge_text(alloc: Global, text: &str, name: &[u16]) -> Result<Verdict, Fi
     Ok(filter.judge(name))
 }
 
-/// The same, for an operator who may add a table of modules later: where the text has no `/`, each table has
-/// this verdict.
+/// What a filter's text says of a name, for an operator who may add a table of modules later: where the text has no `/`,
+/// each table has this verdict.
 ///
 /// # Errors
 ///
-/// That of the text.
+/// The fault of the text.
 #[tactic(auto, using(crate::proofs::Laws::for_each_table))]
 pub fn judge_for_each_table(alloc: Global, text: &str, name: &[u16]) -> Result<Verdict, FilterFault>
     requires { element_of name.now ≢ malformed_element }
@@ -63,7 +63,7 @@ pub fn judge_for_each_table(alloc: Global, text: &str, name: &[u16]) -> Result<V
 ///
 /// # Errors
 ///
-/// That of the text.
+/// The fault of the text.
 #[tactic(auto, using(crate::proofs::Laws::for_good))]
 pub fn judge_for_good(alloc: Global, text: &str, name: &[u16]) -> Result<Verdict, FilterFault>
     requires { element_of name.now ≢ malformed_element }

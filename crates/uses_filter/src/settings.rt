@@ -40,7 +40,7 @@ pub fn load(alloc: Global, text: &str, table: &str) -> Result<Filter, SettingsFa
     }
 }
 
-/// The same filter without its table of modules.
+/// This filter, without its table of modules.
 pub fn forget_modules(alloc: Global, filter: Filter) -> Filter
     ensures pieces { result.pieces ≡ filter.pieces }
     ensures modules { result.modules ≡ [] }

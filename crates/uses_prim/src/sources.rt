@@ -1,5 +1,5 @@
 //! Bytes from a source, for a gateway that reads from a network.
-ghost use Rattle.std.specs.Prelude.{◌≡◌, ◌≤◌, ◌↔◌, length, false, true, IfOk, IfSome, IsSome, OnErr, IsTrue, Ok};
+ghost use Rattle.std.specs.Prelude.{◌≡◌, ◌≤◌, ◌↔◌, ℕ, List, length, false, true, IfOk, IfSome, IsSome, OnErr, IsTrue, Ok};
 ghost use Rattle.std.specs.Io.KnownBytes.{ReadConsumes};
 
 use jser_prim::{Failed, FromRead, Source};
@@ -14,6 +14,7 @@ pub fn take_again<R: Source>(source: &mut R, buf: &mut [u8]) -> Result<usize, Fa
     ensures within { IfOk result (λ count. count ≤ length buf.new) }
     ensures bytes { ReadConsumes (R.to_come source.old) (R.to_come source.new) result buf.new }
     ensures failed { OnErr result (R.has_failed source.new ≡ true) }
+    ensures remembers { (all : List ℕ) → R.remembers source.old all → R.remembers source.new all }
 {
     match source.take(buf) {
         Ok(count) => Ok(count),

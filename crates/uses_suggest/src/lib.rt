@@ -3,5 +3,6 @@
 
 pub mod least;
 pub mod limits;
+pub mod source;
 #[cfg(test)]
 mod tests;

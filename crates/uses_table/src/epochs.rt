@@ -10,7 +10,7 @@ use std::alloc::{AllocError, Global};
 ///
 /// # Errors
 ///
-/// That of the table: it may have no entries, or memory ran out.
+/// The fault of the table: it may have no entries, or memory ran out.
 pub fn with_class(alloc: Global, max: u32, layer: Layer) -> Result<Table, TableFault>
     ensures entries { IfOk result (λ table. table.entries ≡ closed_entry (layer ∷ []) ∷ []) }
     ensures chains { IfOk result (λ table. table.chains ≡ (layer ∷ []) ∷ []) }
@@ -26,7 +26,7 @@ pub fn with_class(alloc: Global, max: u32, layer: Layer) -> Result<Table, TableF
 ///
 /// # Errors
 ///
-/// That of the table, which is then as it was.
+/// The fault of the table, which is then as it was.
 pub fn assign_again(table: &mut Table, kind: Kind) -> Result<u32, TableFault>
     ensures number { IfOk result (λ number. number ≡ length table.old.entries) }
     ensures added { IfOk result (λ _. table.new.entries ≡ table.old.entries ++ new_entry kind ∷ []) }
@@ -66,7 +66,7 @@ pub fn assign_or_advise(table: &mut Table, kind: Kind) -> Advice
 ///
 /// # Errors
 ///
-/// That of the table, which has then no entries.
+/// The fault of the table, which has then no entries.
 pub fn next_epoch(table: &mut Table, kind: Kind) -> Result<u32, TableFault>
     ensures number { IfOk result (λ number. number ≡ 0) }
     ensures entries { IfOk result (λ _. table.new.entries ≡ new_entry kind ∷ []) }
@@ -82,7 +82,7 @@ pub fn next_epoch(table: &mut Table, kind: Kind) -> Result<u32, TableFault>
 ///
 /// # Errors
 ///
-/// That of the table, which has then no entries.
+/// The fault of the table, which has then no entries.
 pub fn next_stream(table: &mut Table, max: u32, kind: Kind) -> Result<u32, TableFault>
     ensures number { IfOk result (λ number. number ≡ 0) }
     ensures entries { IfOk result (λ _. table.new.entries ≡ new_entry kind ∷ []) }

@@ -12,7 +12,7 @@ pub fn first_code(codes: &Codes) -> Option<u8>
     codes.as_slice().first().copied()
 }
 
-/// The same type codes, in the vector in which they came: nothing is copied.
+/// These type codes, in the vector in which they came: nothing is copied.
 pub fn through_codes(codes: Vec<u8>) -> Vec<u8>
     requires { length codes.items < 2 ^ 15 }
     ensures { result.items ≡ codes.items }

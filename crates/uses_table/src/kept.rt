@@ -13,7 +13,7 @@ pub fn proxy_layer() -> KeptLayer
     KeptLayer::bare(LayerKind::Proxy, 0)
 }
 
-/// The same layer, with these flags, as a table keeps it.
+/// This layer, with these flags, as a table keeps it.
 pub fn kept_with_flags(layer: Layer, flags: u8) -> KeptLayer
     ensures { result ≡ record { kind = layer.kind; flags = flags; codes = layer.codes } }
 {

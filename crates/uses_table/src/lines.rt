@@ -20,7 +20,7 @@ pub fn close_next(table: &mut Table, number: u32, layer: KeptLayer, parent: Opti
     table.class_at(number)
 }
 
-/// The same with a layer that is not in the form in which it is kept.
+/// Closes a class with a layer that is not in the form in which it is kept, and gives the number that it has from now on.
 pub fn close_layer(table: &mut Table, number: u32, layer: Layer, parent: Option<u32>) -> Class
     requires pending { IsTrue (is_pending (slice_get table.old.entries number)) }
     requires parent { ForSome parent (λ p. IsTrue (is_closed (slice_get table.old.entries p))) }
@@ -36,7 +36,7 @@ pub fn close_layer(table: &mut Table, number: u32, layer: Layer, parent: Option<
 ///
 /// # Errors
 ///
-/// That of the table.
+/// The fault of the table.
 pub fn first_handle(alloc: Global, max: u32, kind: Kind) -> Result<Table, TableFault>
     ensures numbers { IfOk result (λ table. table.numbers ≡ None ∷ []) }
     ensures lines { IfOk result (λ table. table.lines ≡ []) }
@@ -56,7 +56,7 @@ pub fn forget_classes(table: &mut Table) -> u32
     table.classes()
 }
 
-/// The same for a table that is taken again for the next stream.
+/// Ends a stream, for a table that is taken again for the next one: no class has a number, and the next one has number 0.
 pub fn forget_stream(table: &mut Table, max: u32) -> u32
     ensures next { result ≡ 0 }
     ensures numbers { table.new.numbers ≡ [] }

@@ -53,7 +53,7 @@ pub fn advice_on(alloc: Global, list: Vec<Content>) -> Advice
 ///
 /// # Errors
 ///
-/// That of the last try, with the list as it was given.
+/// The fault of the last try, with the list as it was given.
 pub fn take_again(alloc: Global, list: Vec<Content>) -> Result<Contents, ValueFault>
     ensures accepted { IfOk result (λ contents. contents ≡ list.items) }
     ensures handed_back { IfErr result (λ fault. fault.list ≡ list) }

@@ -5,31 +5,16 @@ ghost use Rattle.jser_grammar.specs.Spelling.{spelling};
 ghost use Rattle.jser_value.specs.View.{view_contents};
 ghost use Rattle.uses_value.specs.Writing.{WroteSome};
 
-use jser_prim::{Failed, Sink};
+use jser_prim::Sink;
 use jser_value::{Content, Contents, EncodeFault, ValueFault, encode};
 use std::alloc::Global;
-
-/// A sink that keeps nothing and never fails.
-#[derive(Drop)]
-struct Nowhere;
-
-impl Sink for Nowhere {
-    ghost has_failed = { λ _. false };
-
-    fn give(&mut self, bytes: &[u8]) -> Result<usize, Failed> {
-        Ok(bytes.len())
-    }
-
-    fn failed(&self) -> bool {
-        false
-    }
-}
+use test_support::Compared;
 
 /// How many bytes the stream of these contents has.
 pub fn measured(contents: &Contents) -> u64
     ensures { result ≡ length (spelling (view_contents contents.now)) }
 {
-    match encode(contents, &mut Nowhere) {
+    match encode(contents, &mut Compared::new(&[])) {
         Ok(count) => count,
         Err(_) => unreachable!(),
     }

@@ -4,6 +4,7 @@ ghost use Rattle.jser_shown.specs.Known.{Known, NamedField};
 ghost use Rattle.jser_shown.specs.Owners.{OwnerNode as ToldNode};
 ghost use Rattle.jser_shown.specs.Cues.{Cue, teller};
 ghost use Rattle.jser_shown.specs.Telling.{goes_in, class_name_goes, suid_goes, field_count_goes, code_goes, field_name_goes, name_says, suid_says, flags_says, code_says, interface_says};
+ghost use Rattle.jser_shown.specs.Words.{Epoch};
 ghost use Rattle.jser_printer.specs.Seen.{view_seen};
 ghost use Rattle.jser_printer.specs.FieldWords.{field_words};
 ghost use Rattle.jser_printer.specs.Says.{SaysTo};
@@ -34,7 +35,7 @@ pub(crate) fn write_class_name<W: Sink>(
     seen: Seen<'_>,
 ) -> Result<Phase, AllocError>
     ensures said { SaysTo W.gone_out W.has_failed outbox.old outbox.new sink.old sink.new (λ k. name_says (view_seen seen.entry) k) }
-    ensures leads { IfOk result (λ phase. (e : ℕ) (known : Known) (os : List ToldNode) (cues : List Cue) → teller e known os (phase_cues phase draft.new.name draft.new.done cues) ≡ class_name_goes e known os cues level (view_seen seen.entry)) }
+    ensures leads { IfOk result (λ phase. (e : Epoch) (known : Known) (os : List ToldNode) (cues : List Cue) → teller e known os (phase_cues phase draft.new.name draft.new.done cues) ≡ class_name_goes e known os cues level (view_seen seen.entry)) }
 {
     let Seen::Text(name) = seen else {
         return Ok(Phase::ClassName { level });
@@ -91,7 +92,7 @@ pub(crate) fn write_flags<W: Sink>(
 /// The number of fields of a class.
 #[inline(always)]
 pub(crate) fn take_field_count(draft: &mut Draft, head: Head, flags: u8, seen: Seen<'_>) -> Phase
-    ensures { (e : ℕ) (known : Known) (os : List ToldNode) (cues : List Cue) → teller e known os (phase_cues result draft.new.name draft.new.done cues) ≡ field_count_goes e known os cues head.level head.number draft.old.name flags (view_seen seen.entry) }
+    ensures { (e : Epoch) (known : Known) (os : List ToldNode) (cues : List Cue) → teller e known os (phase_cues result draft.new.name draft.new.done cues) ≡ field_count_goes e known os cues head.level head.number draft.old.name flags (view_seen seen.entry) }
 {
     let Seen::FieldCount(left) = seen else {
         return Phase::FieldCount { head, flags };
@@ -116,7 +117,7 @@ fn write_code<W: Sink>(
     seen: Seen<'_>,
 ) -> Phase
     ensures said { SaysTo W.gone_out W.has_failed outbox.old outbox.new sink.old sink.new (λ k. code_says head.level (view_seen seen.entry) k) }
-    ensures leads { (e : ℕ) (known : Known) (os : List ToldNode) (cues : List Cue) (name : List ℕ) (done : List NamedField) → teller e known os (phase_cues result name done cues) ≡ code_goes e known os cues head.level head.number name flags done left (view_seen seen.entry) }
+    ensures leads { (e : Epoch) (known : Known) (os : List ToldNode) (cues : List Cue) (name : List ℕ) (done : List NamedField) → teller e known os (phase_cues result name done cues) ≡ code_goes e known os cues head.level head.number name flags done left (view_seen seen.entry) }
 {
     if let Seen::TypeCode(code) = seen {
         write_field_word(outbox, sink, head.level, code);
@@ -231,7 +232,7 @@ pub(crate) fn write_field_name<W: Sink>(
     seen: Seen<'_>,
 ) -> Result<Phase, AllocError>
     ensures said { SaysTo W.gone_out W.has_failed outbox.old outbox.new sink.old sink.new (λ k. name_says (view_seen seen.entry) k) }
-    ensures leads { IfOk result (λ phase. (e : ℕ) (known : Known) (os : List ToldNode) (cues : List Cue) → teller e known os (phase_cues phase draft.new.name draft.new.done cues) ≡ field_name_goes e known os cues head.level head.number draft.old.name flags draft.old.done code left (view_seen seen.entry)) }
+    ensures leads { IfOk result (λ phase. (e : Epoch) (known : Known) (os : List ToldNode) (cues : List Cue) → teller e known os (phase_cues phase draft.new.name draft.new.done cues) ≡ field_name_goes e known os cues head.level head.number draft.old.name flags draft.old.done code left (view_seen seen.entry)) }
 {
     let Seen::Text(name) = seen else {
         return Ok(Phase::FieldName {

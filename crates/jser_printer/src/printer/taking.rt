@@ -129,7 +129,9 @@ fn write_in_phase<W: Sink>(
         Phase::Text => *phase = write_string(outbox, sink, seen),
         Phase::BlockLength => *phase = write_length(outbox, sink, seen),
         Phase::Block => *phase = write_block(outbox, sink, seen),
-        Phase::ArrayLength { level } => *phase = standing.take_array_length(level, seen)?,
+        Phase::ArrayLength { level, elements } => {
+            *phase = standing.take_array_length(level, elements, seen)?;
+        }
         Phase::EnumName { level } => {
             *phase = standing.write_enum_name(outbox, sink, marks, level, seen)?;
         }

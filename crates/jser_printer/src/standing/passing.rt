@@ -1,6 +1,6 @@
 //! What is due on a stack where no field belongs to it.
 ghost use Rattle.std.specs.Prelude.{◌≡◌, ◌∷◌, ◌<◌, ℕ, List, length, OnOk, IfOk};
-ghost use Rattle.jser_shown.specs.Known.{Known, classes_at, is_external_chain};
+ghost use Rattle.jser_shown.specs.Known.{Known, classes_at, elements_of_chain, is_external_chain};
 ghost use Rattle.jser_shown.specs.Owners.{OwnerNode as ToldNode};
 ghost use Rattle.jser_shown.specs.Cues.{teller, parts_cue, made_cue, object_parts};
 ghost use Rattle.jser_printer.specs.Given.{view_owner};
@@ -8,12 +8,14 @@ ghost use Rattle.jser_printer.specs.Steps.{due, due_in, due_says, pass, pass_in}
 ghost use Rattle.jser_printer.specs.Frames.{cue_of, cues_of, tail_of, FrameFits, FramesFit, FirstIs, PassesTop};
 ghost use Rattle.jser_printer.specs.Phases.{StandsIn};
 ghost use Rattle.jser_printer.specs.Passing.{PassedTo};
+ghost use Rattle.jser_printer.specs.Primitives.{view_elements};
 ghost use Rattle.jser_printer.specs.Says.{SaysTo};
 
 use crate::frame::{Frame, Sections, Stage};
 use crate::owner::Owner;
 use crate::part::{Part, next_part};
 use crate::phase::Phase;
+use crate::primitive::Primitive;
 use crate::stack::Stack;
 use crate::standing::{Standing, deeper};
 use crate::table::NameTable;
@@ -42,6 +44,17 @@ fn sections(table: &NameTable, level: u64, number: usize) -> Frame
             }
         }
         None => Frame::End { level },
+    }
+}
+
+/// The type of the elements of an array whose class is the one with this number, where it is primitive.
+#[tactic(auto, using(crate::proofs::PassLemmas::elements_known, crate::proofs::PassLemmas::no_elements))]
+fn elements_of(table: &NameTable, number: usize) -> Option<Primitive>
+    ensures { view_elements result ≡ elements_of_chain (classes_at table.now.known number) }
+{
+    match table.chain(number) {
+        Some(chain) => table.own(chain).elements(),
+        None => None,
     }
 }
 
@@ -178,9 +191,10 @@ impl<'a> Standing<'a> {
                 Ok(Phase::Frames)
             }
             Owner::Array => {
+                let elements = elements_of(&self.table, number);
                 self.table.add_other()?;
                 self.frames.pop();
-                Ok(Phase::ArrayLength { level })
+                Ok(Phase::ArrayLength { level, elements })
             }
             Owner::EnumConst => {
                 self.table.add_other()?;

@@ -2,12 +2,14 @@
 ghost use Rattle.std.specs.Prelude.{IfOk, codes};
 ghost use Rattle.jser_shown.specs.Telling.{class_goes, class_handle_goes, handle_says, length_goes, name_goes, worded_says};
 ghost use Rattle.jser_printer.specs.Given.{view_node, view_owner};
+ghost use Rattle.jser_printer.specs.Primitives.{view_elements};
 ghost use Rattle.jser_printer.specs.Says.{SaysTo};
 ghost use Rattle.jser_printer.specs.Seen.{view_seen};
 ghost use Rattle.jser_printer.specs.Phases.{StandsIn};
 
 use crate::owner::Owner;
 use crate::phase::Phase;
+use crate::primitive::Primitive;
 use crate::seen::Seen;
 use crate::standing::Standing;
 use crate::words::number::write_mark_line;
@@ -22,14 +24,15 @@ impl<'a> Standing<'a> {
     pub(crate) fn take_array_length(
         &mut self,
         level: u64,
+        elements: Option<Primitive>,
         seen: Seen<'_>,
     ) -> Result<Phase, AllocError>
-        ensures { IfOk result (λ phase. StandsIn phase self.new (length_goes self.old.epoch self.old.known self.old.owners self.old.cues level (view_seen seen.entry))) }
+        ensures { IfOk result (λ phase. StandsIn phase self.new (length_goes self.old.epoch self.old.known self.old.owners self.old.cues level (view_elements elements) (view_seen seen.entry))) }
     {
         let Seen::ArrayLength(length) = seen else {
-            return Ok(Phase::ArrayLength { level });
+            return Ok(Phase::ArrayLength { level, elements });
         };
-        self.begin_elements(level, length)?;
+        self.begin_elements(level, elements, length)?;
         Ok(Phase::Frames)
     }
 

@@ -6,6 +6,8 @@ ghost use Rattle.jser_shown.specs.Telling.{elements_says, goes_in, handle_says, 
 ghost use Rattle.jser_printer.specs.Given.{view_node};
 ghost use Rattle.jser_printer.specs.Frames.{FramesFit, FirstIs, TakesPart, cues_of, tail_of};
 ghost use Rattle.jser_printer.specs.FieldWords.{cue_words, field_words};
+ghost use Rattle.jser_shown.specs.Words.{Epoch, next_epoch};
+ghost use Rattle.jser_printer.specs.Primitives.{view_elements};
 ghost use Rattle.jser_printer.specs.Says.{SaysTo};
 ghost use Rattle.jser_printer.specs.Seen.{view_seen, view_tag};
 ghost use Rattle.jser_printer.specs.Phases.{StandsIn};
@@ -50,9 +52,9 @@ fn write_part<W: Sink>(
     let next = next_part(table, at.chain, at.index, at.stage);
     let others = Frame::Sections(at.go_on(next.index, next.stage));
     match next.part {
-        Part::Raw(name) => {
+        Part::Raw(field) => {
             if let Seen::Bytes(bytes) = seen {
-                write_raw_field(outbox, sink, at.level, name, bytes);
+                write_raw_field(outbox, sink, marks.values, at.level, field, bytes);
                 frames.set_top(others);
             }
             None
@@ -88,7 +90,7 @@ fn write_superclass<W: Sink>(
     requires top { frames.old ≡ Frame.Super at ∷ tail_of frames.old }
     ensures fit { FramesFit (length table.new.layers) (length table.new.chains) frames.new }
     ensures said { SaysTo W.gone_out W.has_failed outbox.old outbox.new sink.old sink.new (λ k. worded_says marks.epoch marks.next (view_node marks.owner) at.level (codes "super ") (view_seen seen.entry) k) }
-    ensures takes { IfOk result (λ phase. (e : ℕ) (os : List ToldNode) → StandsIn phase (teller e table.new.known os (cues_of table.new.layers table.new.chains frames.new)) (goes_in e table.old.known os (cues_of table.old.layers table.old.chains frames.old) (view_seen seen.entry))) }
+    ensures takes { IfOk result (λ phase. (e : Epoch) (os : List ToldNode) → StandsIn phase (teller e table.new.known os (cues_of table.new.layers table.new.chains frames.new)) (goes_in e table.old.known os (cues_of table.old.layers table.old.chains frames.old) (view_seen seen.entry))) }
 {
     let Seen::Tag(tag) = seen else {
         return Ok(Phase::Frames);
@@ -252,7 +254,7 @@ impl<'a> Standing<'a> {
     #[tactic(auto, using(crate::proofs::TakeLemmas::no_frames))]
     fn reset(&mut self) -> Result<(), AllocError>
         requires { self.old.cues ≡ top_cue ∷ [] }
-        ensures { OnOk result (self.new ≡ teller (self.old.epoch + 1) [] self.old.owners self.old.cues) }
+        ensures { OnOk result (self.new ≡ teller (next_epoch self.old.epoch) [] self.old.owners self.old.cues) }
     {
         self.epoch = deeper(self.epoch)?;
         self.table.reset();
@@ -302,13 +304,13 @@ impl<'a> Standing<'a> {
         at: Elements,
         seen: Seen<'_>,
     ) -> Result<Phase, AllocError>
-        requires { FirstIs (elements_cue at.level at.index at.left) self.old }
-        ensures said { SaysTo W.gone_out W.has_failed outbox.old outbox.new sink.old sink.new (λ k. elements_says marks.epoch marks.next (view_node marks.owner) at.level at.index at.left (view_seen seen.entry) k) }
+        requires { FirstIs (elements_cue at.level (view_elements at.elements) at.index at.left) self.old }
+        ensures said { SaysTo W.gone_out W.has_failed outbox.old outbox.new sink.old sink.new (λ k. elements_says marks.values marks.epoch marks.next (view_node marks.owner) at.level (view_elements at.elements) at.index at.left (view_seen seen.entry) k) }
         ensures goes { IfOk result (λ phase. StandsIn phase self.new (goes_in self.old.epoch self.old.known self.old.owners self.old.cues (view_seen seen.entry))) }
     {
         match seen {
             Seen::Bytes(bytes) => {
-                write_raw_elements(outbox, sink, at.level, at.index, at.left, bytes);
+                write_raw_elements(outbox, sink, marks.values, at, bytes);
                 self.frames.pop();
                 Ok(Phase::Frames)
             }
@@ -320,6 +322,7 @@ impl<'a> Standing<'a> {
                 let index = at.index.checked_add(1).ok_or(AllocError)?;
                 self.frames.set_top(Frame::Elements(Elements {
                     level: at.level,
+                    elements: at.elements,
                     index,
                     left: at.left - 1,
                 }));

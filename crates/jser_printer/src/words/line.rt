@@ -44,7 +44,7 @@ pub(crate) fn write_deeper_quote<W: Sink>(outbox: &mut Outbox, sink: &mut W, lev
     }
 }
 
-/// The same, whatever the level is.
+/// Writes the beginning of a line at this level, whatever it is, and a quote.
 #[inline(never)]
 fn write_far_quote<W: Sink>(outbox: &mut Outbox, sink: &mut W, level: u64)
     ensures { SaysTo W.gone_out W.has_failed outbox.old outbox.new sink.old sink.new (λ k. begin_line (suc level) (0x22 ∷ k)) }

@@ -16,6 +16,8 @@ use jser_prim::{Outbox, Sink};
 pub(crate) struct Marks {
     /// Which epoch it is, from 0.
     pub epoch: u64,
+    /// Whether raw values are followed by what they mean.
+    pub values: bool,
     /// The number of the handle that is assigned next.
     pub next: u64,
     /// The owner that the tag begins, if it begins one.

@@ -17,7 +17,14 @@ fn a_write_that_fails_at_once(rt: HostRuntime) {
 fn a_write_that_fails_in_a_text(rt: HostRuntime) {
     let line = b"write failed\n";
     let shown = Pieces::new(LINKED_PAIR, 7);
-    fails(&rt, &Job::Show, shown, 17, b"stream version 5\n", line);
+    fails(
+        &rt,
+        &Job::Show { values: false },
+        shown,
+        17,
+        b"stream version 5\n",
+        line,
+    );
     let listed = Pieces::new(ENUM_CONSTANT, 7);
     fails(&rt, &list(&rt, ""), listed, 4, b"1 un", line);
 }
@@ -26,8 +33,11 @@ fn a_write_that_fails_in_a_text(rt: HostRuntime) {
 fn a_read_that_fails_anywhere(rt: HostRuntime) {
     let jobs = [
         check(&rt, ""),
-        Job::Show,
-        Job::ShowLimited { limit: 9 },
+        Job::Show { values: false },
+        Job::ShowLimited {
+            values: false,
+            limit: 9,
+        },
         list(&rt, ""),
     ];
     for job in &jobs {

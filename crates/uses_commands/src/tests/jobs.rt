@@ -53,15 +53,30 @@ fn checks_say_no(rt: HostRuntime) {
 
 #[test]
 fn show_prints_the_text(rt: HostRuntime) {
-    does(&rt, &Job::Show, RESET_EPOCHS, RESET_EPOCHS_TEXT, 0);
+    does(
+        &rt,
+        &Job::Show { values: false },
+        RESET_EPOCHS,
+        RESET_EPOCHS_TEXT,
+        0,
+    );
     let refusal = b"no at 5 to 6: NullClass\n";
-    does(&rt, &Job::Show, b"\xAC\xED\x00\x05\x73\x70", refusal, 1);
+    does(
+        &rt,
+        &Job::Show { values: false },
+        b"\xAC\xED\x00\x05\x73\x70",
+        refusal,
+        1,
+    );
 }
 
 #[test]
 fn a_limit_cuts_between_lines(rt: HostRuntime) {
     // The text has 75 bytes, its first line 17, and the second 19.
-    let job = Job::ShowLimited { limit: 75 };
+    let job = Job::ShowLimited {
+        values: false,
+        limit: 75,
+    };
     does(&rt, &job, RESET_EPOCHS, RESET_EPOCHS_TEXT, 0);
     let rows: [(u64, &[u8]); 4] = [
         (
@@ -73,7 +88,16 @@ fn a_limit_cuts_between_lines(rt: HostRuntime) {
         (16, b"cut at 16 bytes\n"),
     ];
     for (limit, text) in rows {
-        does(&rt, &Job::ShowLimited { limit }, RESET_EPOCHS, text, 4);
+        does(
+            &rt,
+            &Job::ShowLimited {
+                values: false,
+                limit,
+            },
+            RESET_EPOCHS,
+            text,
+            4,
+        );
     }
 }
 

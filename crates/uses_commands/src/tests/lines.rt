@@ -42,13 +42,27 @@ fn a_check_with_a_filter(rt: HostRuntime) {
 }
 
 #[test]
-fn a_show_with_a_limit(rt: HostRuntime) {
+fn a_show_with_values_and_a_limit(rt: HostRuntime) {
     match asked(
         &rt,
-        &["serialcheck", "show", "--hex", "--limit", "9", "a.ser"],
+        &[
+            "serialcheck",
+            "show",
+            "--hex",
+            "--values",
+            "--limit",
+            "9",
+            "a.ser",
+        ],
     ) {
-        Line::Show { forms, limit, file } => {
+        Line::Show {
+            forms,
+            values,
+            limit,
+            file,
+        } => {
             holds(&rt, forms.hex && !forms.base64, "hexadecimal");
+            holds(&rt, values, "values");
             same(&rt, &limit.as_deref(), &Some("9"), "the limit");
             same(&rt, &file.as_str(), &"a.ser", "the file");
         }

@@ -31,7 +31,7 @@ fn ends(rt: &(impl Abort + AllocGlobal), job: &Job, text: &[u8]) {
 
 #[test]
 fn ends_or_tells_want_of_memory(rt: HostRuntime) {
-    ends(&rt, &Job::Show, LINKED_PAIR_TEXT);
+    ends(&rt, &Job::Show { values: false }, LINKED_PAIR_TEXT);
     if let Ok(filter) = Filter::parse(rt.alloc(), "B;List") {
         let line = b"yes 69 bytes, 2 contents, 5 refs, depth 3\n";
         ends(

@@ -223,7 +223,7 @@ fn compare_first_layer(rt: &impl Abort, table: &Table, number: u32, fields: usiz
     same!(rt; flags_and_fields(table.layer(number, 0)), (0x02, fields));
 }
 
-/// The same for a class with so many fields of a byte.
+/// The table tells of so many fields of a byte in the first layer of a class.
 fn compare_bytes(rt: &impl Abort, alloc: Global, fields: u8) -> Result<(), Fail> {
     let mut table = Table::new(alloc, 1);
     let mut codes = vec![in alloc; b'B'; usize::from(fields)]?;

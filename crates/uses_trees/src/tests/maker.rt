@@ -37,7 +37,7 @@ pub struct Maker {
     state: u64,
     /// How many handles there are.
     handles: u32,
-    /// Those of strings.
+    /// The bytes of strings.
     texts: Vec<u32>,
     classes: Vec<Known>,
 }

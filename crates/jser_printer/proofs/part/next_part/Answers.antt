@@ -12,10 +12,10 @@ returns-in_default-clause-next c =
 pub returns-in-Some-clause-next : goal.returns-in-Some-clause-next
 returns-in-Some-clause-next c =
     rw c.in-Raw.is (raw_next (layers_in c.args.table.now.chains c.args.chain) c.args.index c.in-Raw.from c.in-Some.place _ _ _
-    c.layer.ensures c.fields-fields.ensures c.name_of.ensures c.in-Some.ensures)
+    c.layer.ensures c.fields-fields.ensures c.field_of.ensures c.in-Some.ensures)
 
-pub name_of-requires : goal.name_of-requires
-name_of-requires c = grind (arith, common_steps)
+pub field_of-requires : goal.field_of-requires
+field_of-requires c = grind (arith, common_steps)
 
 pub returns-then-index-layers-clause-next : goal.returns-then-index-layers-clause-next
 returns-then-index-layers-clause-next c = grind (arith, common_steps)

@@ -4,7 +4,7 @@ use Rattle.jser_suggest.proofs.names.gather.Given as goal
 
 abbrev pub invariant-names : goal.invariant-names
 invariant-names l = record {
-  gained : GainsAll (take l.number l.index.names) (name_list l.fn.names) (name_list l.names);
+  gained : GainsAll (take l.number l.checked) (name_list l.fn.names) (name_list l.names);
   inside : l.number ≤ l.count;
 }
 

@@ -39,7 +39,7 @@ fn out_of_memory_or_the_fault(rt: HostRuntime) {
     }
 }
 
-/// The same of a table of modules, at its lines.
+/// A refused allocation is reported at its line of a table of modules, before the faulty one; otherwise the right fault is.
 #[test]
 fn out_of_memory_or_the_faulty_line(rt: HostRuntime) {
     for (text, faulty) in &FAULTY_LINES {

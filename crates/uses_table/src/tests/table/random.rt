@@ -355,7 +355,7 @@ fn random_operations(rt: HostRuntime) -> Result<(), Fail> {
     operate_often(&rt, &mut table, &mut expected)
 }
 
-/// The same number of classes, all with nothing to read, under one another.
+/// A chain of so many classes, all with nothing to read, under one another.
 fn empty_chain(
     rt: &(impl Abort + AllocGlobal),
     table: &mut Table,
@@ -428,7 +428,7 @@ fn costs_of_chain(rt: &(impl Abort + Clock), table: &Table) -> io::Result<(u128,
     Ok((layer, next))
 }
 
-/// The same, in a new table with the long chain.
+/// The nanoseconds of a call of `layer` and of one of `next_filled`, in a new table with the long chain.
 fn costs_of_long_chain(rt: &(impl Abort + AllocGlobal + Clock)) -> Result<(u128, u128), Fail> {
     let mut table = Table::new(rt.alloc(), CLASSES);
     empty_chain(rt, &mut table, CLASSES)?;

@@ -59,7 +59,7 @@ returns-in_ok-close-in-Some-Close-clause-passed g c =
       λ name done. ap pass (sym c.self.view_is)
           ∙ sym (close_passed c.self.inside.table.layers c.close.new.self.layers c.self.inside.table.chains c.close.new.self.chains _
           c.self.inside.frames c.pop-in-Some-Close.new.self c.in-Some-Close.number c.in-Some-Close.parent c.in-Some-Close.layer
-          c.self.inside.epoch c.self.inside.table.known c.close.new.self.known _ c.self.invariant
+          (record { number = c.self.inside.epoch; values = c.self.inside.values }) c.self.inside.table.known c.close.new.self.known _ c.self.invariant
           c.in_ok-close-in-Some-Close.ensures.layers c.in_ok-close-in-Some-Close.ensures.chains c.pop-in-Some-Close.ensures
           top c.in_ok-close-in-Some-Close.ensures.known),
     )
@@ -79,6 +79,6 @@ returns-in-Some-External-clause-passed g c =
     let external = frame.External c.in-Some-External.level c.in-Some-External.chain in (
       (_, ap due (sym c.self.view_is) ∙ due_first layers chains c.self.inside.frames external top),
       λ name done. ap pass (sym c.self.view_is)
-          ∙ pass_first layers chains c.self.inside.frames external c.self.inside.epoch c.self.inside.table.known (view_nodes c.self.inside.owners.now) top
-          ∙ sym (ap (λ fs. teller c.self.inside.epoch c.self.inside.table.known (view_nodes c.self.inside.owners.now) (cues_of layers chains fs)) c.set_top.ensures),
+          ∙ pass_first layers chains c.self.inside.frames external (record { number = c.self.inside.epoch; values = c.self.inside.values }) c.self.inside.table.known (view_nodes c.self.inside.owners.now) top
+          ∙ sym (ap (λ fs. teller (record { number = c.self.inside.epoch; values = c.self.inside.values }) c.self.inside.table.known (view_nodes c.self.inside.owners.now) (cues_of layers chains fs)) c.set_top.ensures),
     )

@@ -1,0 +1,28 @@
+//! Streams inside other bytes: heap dumps, captures, logs, message stores.
+//!
+//! `Finds` gives one header after another and the longest stream that begins there, and `TextFinds` those that a text spells;
+//! `judge` the answer for that stream under a filter, and `print_find` prints it.
+#![tactic(auto)]
+
+mod answer;
+mod bytes;
+mod digit;
+mod finder;
+mod finds;
+mod form;
+mod longest;
+mod print;
+mod spelled;
+mod spot;
+mod start;
+mod texts;
+
+pub use answer::judge;
+pub use finder::Find;
+pub use finds::Finds;
+pub use form::Form;
+pub use print::{Place, print_find};
+pub use spelled::{Given, Reading};
+pub use spot::{Digit, Spot, Step};
+pub use start::Start;
+pub use texts::{TextFind, TextFinds};

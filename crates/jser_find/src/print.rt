@@ -1,0 +1,141 @@
+//! The line or the JSON object of a stream that was found.
+ghost use Rattle.std.specs.Prelude.{◌≡◌, [], OnOk, OnErr, true};
+ghost use Rattle.std.specs.Io.KnownBytes.{Appends};
+ghost use Rattle.jser_printer.specs.Says.{SaysTo};
+ghost use Rattle.jser_find.specs.Lines.{find_words, form_member, form_words, line_words, object_words, place_members, place_words};
+
+use crate::form::Form;
+use jser_prim::{Failed, Outbox, Sink};
+use jser_printer::{write, write_quoted};
+use jser_scan::{FilePath, Found, write_answer, write_count, write_members, write_path};
+
+/// Where a stream lies in a file.
+#[derive(Clone, Copy, PartialEq, Eq, Debug)]
+pub struct Place {
+    /// Where its header begins.
+    pub from: u64,
+    /// Where it ends.
+    pub to: u64,
+    /// How it is spelled there.
+    pub form: Form,
+}
+
+/// Prints what was found at a place: `PATH: FROM to TO: ANSWER`, or `FROM to TO as base64` where a text
+/// spells it, ANSWER as of scan; or a JSON object, on a line.
+///
+/// # Errors
+///
+/// `Failed` where the output failed.
+#[tactic(auto, using(jser_scan::proofs::ScanLemmas::went, jser_scan::proofs::ScanLemmas::broke, jser_scan::proofs::ScanLemmas::kept))]
+pub fn print_find<W: Sink>(
+    json: bool,
+    path: &FilePath,
+    place: Place,
+    found: &Found,
+    output: &mut W,
+) -> Result<(), Failed>
+    ensures printed { OnOk result (Appends (W.gone_out output.old) (W.gone_out output.new) (find_words json path.now place found.now [])) }
+    ensures kept { OnOk result (W.has_failed output.new ≡ W.has_failed output.old) }
+    ensures failed { OnErr result (W.has_failed output.new ≡ true) }
+{
+    let mut outbox = Outbox::new();
+    write_find(&mut outbox, output, json, path, place, found);
+    outbox.flush(output);
+    if outbox.has_failed() {
+        Err(Failed)
+    } else {
+        Ok(())
+    }
+}
+
+/// Writes it.
+fn write_find<W: Sink>(
+    outbox: &mut Outbox,
+    sink: &mut W,
+    json: bool,
+    path: &FilePath,
+    place: Place,
+    found: &Found,
+)
+    ensures { SaysTo W.gone_out W.has_failed outbox.old outbox.new sink.old sink.new (λ k. find_words json path.now place found.now k) }
+{
+    if json {
+        write_object(outbox, sink, path, place, found);
+    } else {
+        write_line(outbox, sink, path, place, found);
+    }
+}
+
+/// Writes the line.
+fn write_line<W: Sink>(
+    outbox: &mut Outbox,
+    sink: &mut W,
+    path: &FilePath,
+    place: Place,
+    found: &Found,
+)
+    ensures { SaysTo W.gone_out W.has_failed outbox.old outbox.new sink.old sink.new (λ k. line_words path.now place found.now k) }
+{
+    write_path(outbox, sink, path);
+    write_place(outbox, sink, place);
+    write(outbox, sink, b": ");
+    write_answer(outbox, sink, found);
+    write(outbox, sink, b"\n");
+}
+
+/// Writes where a stream lies.
+fn write_place<W: Sink>(outbox: &mut Outbox, sink: &mut W, place: Place)
+    ensures { SaysTo W.gone_out W.has_failed outbox.old outbox.new sink.old sink.new (λ k. place_words place k) }
+{
+    write_count(outbox, sink, b": ", place.from);
+    write_count(outbox, sink, b" to ", place.to);
+    write_form(outbox, sink, place.form);
+}
+
+/// Writes how a stream is spelled, if a text spells it.
+fn write_form<W: Sink>(outbox: &mut Outbox, sink: &mut W, form: Form)
+    ensures { SaysTo W.gone_out W.has_failed outbox.old outbox.new sink.old sink.new (λ k. form_words form k) }
+{
+    match form {
+        Form::Bytes => write(outbox, sink, b""),
+        Form::Base64 => write(outbox, sink, b" as base64"),
+        Form::Hexadecimal => write(outbox, sink, b" as hexadecimal"),
+    }
+}
+
+/// Writes the object.
+fn write_object<W: Sink>(
+    outbox: &mut Outbox,
+    sink: &mut W,
+    path: &FilePath,
+    place: Place,
+    found: &Found,
+)
+    ensures { SaysTo W.gone_out W.has_failed outbox.old outbox.new sink.old sink.new (λ k. object_words path.now place found.now k) }
+{
+    write(outbox, sink, b"{\"path\":");
+    write_quoted(outbox, sink, path.units.as_slice());
+    write_place_members(outbox, sink, place);
+    write_members(outbox, sink, found);
+    write(outbox, sink, b"}\n");
+}
+
+/// Writes the members of where a stream lies.
+fn write_place_members<W: Sink>(outbox: &mut Outbox, sink: &mut W, place: Place)
+    ensures { SaysTo W.gone_out W.has_failed outbox.old outbox.new sink.old sink.new (λ k. place_members place k) }
+{
+    write_count(outbox, sink, b",\"start\":", place.from);
+    write_count(outbox, sink, b",\"end\":", place.to);
+    write_form_member(outbox, sink, place.form);
+}
+
+/// Writes the member of how a stream is spelled, if a text spells it.
+fn write_form_member<W: Sink>(outbox: &mut Outbox, sink: &mut W, form: Form)
+    ensures { SaysTo W.gone_out W.has_failed outbox.old outbox.new sink.old sink.new (λ k. form_member form k) }
+{
+    match form {
+        Form::Bytes => write(outbox, sink, b""),
+        Form::Base64 => write(outbox, sink, b",\"form\":\"base64\""),
+        Form::Hexadecimal => write(outbox, sink, b",\"form\":\"hexadecimal\""),
+    }
+}

@@ -1,0 +1,93 @@
+//! The streams that a text spells, one after another.
+ghost use Rattle.std.specs.Prelude.{◌≡◌, ◌≤◌, IfOk, length};
+ghost use Rattle.jser_find.specs.Texts.{FindsText, form_of, place_next};
+
+use crate::bytes::place_behind;
+use crate::form::Form;
+use crate::longest::longest;
+use crate::spot::Digit;
+use crate::start::first_start;
+use std::alloc::{AllocError, Global};
+use std::marker::Model;
+
+/// A stream that a text spells.
+#[derive(Debug, Drop)]
+pub struct TextFind {
+    /// How it is spelled.
+    pub form: Form,
+    /// Where the first digit of its header stands.
+    pub from: usize,
+    /// The place behind the digit that completes its last byte.
+    pub to: usize,
+    /// The stream. The header alone, of 4 bytes, is a stream of no contents.
+    pub stream: Vec<u8>,
+}
+
+/// The streams that a text spells in base64 and in hexadecimal, one after another. Contracts see the text, and where the search
+/// goes on.
+#[derive(Drop)]
+pub struct TextFinds<'t> {
+    text: &'t [u8],
+    most: usize,
+    place: usize,
+}
+
+impl<'t> Model for TextFinds<'t> {
+    ghost use Rattle.std.specs.Prelude.{◌≤◌, length};
+    ghost use Rattle.jser_find.specs.Texts.{TextSearch};
+
+    ghost Value = { TextSearch };
+
+    ghost view = { λ a. record { text = a.text.now; most = a.most; place = a.place } };
+
+    ghost invariant = { λ a. a.place ≤ length a.text.now };
+}
+
+impl<'t> TextFinds<'t> {
+    /// Those in this text from a place on, of each of which at most `most` bytes are read.
+    pub fn new(text: &'t [u8], place: usize, most: usize) -> TextFinds<'t>
+        requires { place ≤ length text.now }
+        ensures { result ≡ record { text = text.now; most = most; place = place } }
+    {
+        TextFinds { text, most, place }
+    }
+
+    /// The next header outside of the streams before it, with the longest stream that the text spells there and that has at most
+    /// `most` bytes, whatever classes it names. `None` where there is no more.
+    ///
+    /// # Errors
+    ///
+    /// `AllocError` where memory ran out.
+    #[tactic(auto, using(crate::proofs::TextLemmas::text_found, crate::proofs::TextLemmas::no_text_found, crate::proofs::TextLemmas::longest_enough))]
+    pub fn next(&mut self, alloc: Global) -> Result<Option<TextFind>, AllocError>
+        ensures finds { IfOk result (FindsText self.old.most self.old.text self.old.place) }
+        ensures place { IfOk result (λ next. self.new ≡ record self.old { place = place_next self.old.place next }) }
+    {
+        let start = match first_start(self.text, self.place) {
+            Some(start) => start,
+            None => return Ok(None),
+        };
+        let stream = match longest(alloc, self.text, start.reading, self.most) {
+            Ok(stream) => stream,
+            Err(error) => return Err(error),
+        };
+        let to = place_behind(self.text, start.reading, stream.len());
+        self.place = to.max(start.from + 1);
+        Ok(Some(TextFind {
+            form: form_of(start.reading.spot.next),
+            from: start.from,
+            to,
+            stream,
+        }))
+    }
+}
+
+/// The form of a text of which this digit comes next.
+fn form_of(next: Digit) -> Form
+    ensures { result ≡ form_of next }
+{
+    match next {
+        Digit::High | Digit::Low(_) => Form::Hexadecimal,
+        Digit::First | Digit::Second(_) | Digit::Third(_) | Digit::Fourth(_) => Form::Base64,
+    }
+}

@@ -1,8 +1,0 @@
-use Rattle.jser_front.proofs.LineLemmas.{Back}
-use Rattle.jser_front.proofs.lines.whole_lines.Given as goal
-
-abbrev pub invariant-back : goal.invariant-back
-invariant-back l = Back l.bytes l.most l.end
-
-abbrev pub decreases-back : goal.decreases-back
-decreases-back l = l.end

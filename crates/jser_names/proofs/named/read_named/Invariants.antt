@@ -1,0 +1,14 @@
+use Rattle.std.proofs.Common.{◌≡◌, length}
+use Rattle.jser_names.specs.Named.{Naming}
+use Rattle.jser_names.proofs.named.read_named.Given as goal
+
+-- what was read came off the source, was taken and kept, and no read has failed
+abbrev pub invariant-reads : goal.invariant-reads
+invariant-reads g l = record {
+  reads : Naming (g.R.Source.to_come l.fn.source) (g.R.Source.to_come l.source) l.left l.reader.machine l.reader.tally l.names l.bytes.items;
+  failed : g.R.Source.has_failed l.source ≡ g.R.Source.has_failed l.fn.source;
+  room : length l.buffer ≡ length l.fn.buffer;
+}
+
+abbrev pub decreases-reads : goal.decreases-reads
+decreases-reads g l = l.left
