@@ -2,7 +2,7 @@
 _serialcheck() {
     local word=${COMP_WORDS[COMP_CWORD]} before=${COMP_WORDS[COMP_CWORD-1]} options
     local filter='--filter --filter-file --modules' form='--hex --base64 --base64url'
-    local commands='check explain show list scan records suggest'
+    local commands='check explain show list scan records find suggest'
     if ((COMP_CWORD == 1)); then
         mapfile -t COMPREPLY < <(compgen -W "$commands help --help --version" -- "$word")
         return
@@ -13,13 +13,14 @@ _serialcheck() {
     fi
     case ${COMP_WORDS[1]} in
     check | explain) options="$filter --strict $form --anywhere --help" ;;
-    show) options="$form --limit --help" ;;
-    suggest) options="$form --help" ;;
+    show) options="$form --values --limit --help" ;;
+    suggest) options="$form --slack --help" ;;
     list) options="$filter $form --anywhere --help" ;;
-    records) options="$filter --strict $form --frames --sized --zero --field --most --anywhere --refused --json --pass --help" ;;
-    scan) options="$filter --strict $form --anywhere --refused --json --help" ;;
+    records) options="$filter --strict $form --frames --sized --zero --field --most --anywhere --refused --json --progress --pass --help" ;;
+    find) options="$filter --strict --text --all --most --json --progress --carve --help" ;;
+    scan) options="$filter --strict $form --anywhere --refused --json --progress --help" ;;
     esac
-    if [[ $before == --filter || $before == --limit || $before == --field || $before == --most ]]; then
+    if [[ $before == --filter || $before == --limit || $before == --field || $before == --most || $before == --slack ]]; then
         COMPREPLY=()
     elif [[ $word == -* ]]; then
         mapfile -t COMPREPLY < <(compgen -W "$options" -- "$word")
