@@ -33,7 +33,7 @@ use Rattle.jser_reader.proofs.GoalCounts.{entries_after, Has, one_field, counted
 use Rattle.jser_reader.proofs.MarkLemmas.{moment_is, tells_is}
 use Rattle.jser_reader.proofs.StandLemmas.{field_read, took_stands, kept_stands}
 use Rattle.jser_reader.proofs.StreamWalks.{new_stands, ends_at_top}
-use Rattle.jser_reader.proofs.WholeContentLemmas.{whole_of_none, whole_inside, took_whole, kept_whole}
+use Rattle.jser_reader.proofs.WholeContentLemmas.{whole_of_none, whole_inside, whole_top, took_whole, kept_whole}
 
 -- ---- one piece more
 
@@ -155,6 +155,14 @@ kept_counts gate old new bytes taken tally h bt c = record {
   taken = kept_stands gate old new bytes taken h bt c.taken;
   tallied = c.tallied;
   whole = λ room. kept_whole gate old new bytes taken tally h bt c.taken room (c.whole (shorter bytes taken gate.bytes room));
+}
+
+-- at the top all bytes are whole contents, wherever the last one began
+unfoldable pub counts_at_top : (gate : Gate) (bytes : List ℕ) (r : Seen) (tally : Tally) (begun : ℕ) → r.phase ≡ phase.Top → HasCounted gate bytes r tally → HasCounted gate bytes r (record tally { begun = begun })
+counts_at_top gate bytes r tally begun top c = record {
+  taken = c.taken;
+  tallied = record { contents = c.tallied.contents; earlier = c.tallied.earlier; depth = c.tallied.depth };
+  whole = λ room. subst (IsWhole gate bytes) (whole_top r tally top ∙ sym (whole_top r (record tally { begun = begun }) top)) (c.whole room);
 }
 
 -- ---- no count is more than the number of the bytes

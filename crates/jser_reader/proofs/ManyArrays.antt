@@ -21,7 +21,7 @@ use Rattle.jser_reader.specs.declared.phase.Phase.TheVariants as phase
 use Rattle.jser_reader.specs.declared.tally.Tally.{Tally}
 use Rattle.jser_reader.specs.Classes.{fit_reason}
 use Rattle.jser_reader.specs.Handlers.{Comes, Tells, moved, with_entry, added, pushed, is_full, plain_gate}
-use Rattle.jser_reader.specs.Many.{phase_on, seen_at, tally_at, Holds, with_place, with_depth, LeadsTo, Ends, IsArrayClass, ArrayBegins, Turns}
+use Rattle.jser_reader.specs.Many.{phase_on, seen_at, tally_with, tally_at, HoldsNext, with_place, with_depth, LeadsTo, Ends, IsArrayClass, ArrayBegins, Turns}
 use Rattle.jser_reader.specs.Numbers.{after_length}
 use Rattle.jser_reader.specs.Passes.{Passes}
 use Rattle.jser_reader.specs.Readers.{Seen, Ready}
@@ -34,7 +34,7 @@ use Rattle.jser_reader.proofs.ClassLemmas.{right_class}
 use Rattle.jser_reader.proofs.CutLemmas.{four_taken}
 use Rattle.jser_reader.proofs.EndLemmas.{tells_next}
 use Rattle.jser_reader.proofs.WholeLemmas.{assigned_other}
-use Rattle.jser_reader.proofs.ManyLemmas.{same_start, same_room, place_on, rest_can, place_counted, place_holds, same_can}
+use Rattle.jser_reader.proofs.ManyLemmas.{place_on, rest_can, place_counted, place_holds, same_can}
 use Rattle.jser_reader.proofs.ManyPlain.{tag_there}
 use Rattle.jser_reader.proofs.OwnerLemmas.{array_owned}
 use Rattle.jser_reader.proofs.PartLemmas.{made}
@@ -67,7 +67,7 @@ class_told r n chain c full =
 length_passes : (gate : Gate) (piece : List ℕ) (n chain count : ℕ) (old : Seen) (k : Counts) (before : Tally) (next : Seen) → ArrayBegins piece n chain count old k → is_full old ≡ false → IsGate gate
     → (let r : Seen = farther (at_length (seen_at old k) chain) 4 in
     (elements : Option PrimCode) → r.elements ≡ option_map size_of elements → Tells (array_reason (plain_gate r) count) (after_length r elements count) true r next)
-    → Passes gate (drop k.used piece) (Some 10) (seen_at old k) (tally_at before k) next (tally_at before (with_place k 10))
+    → Passes gate (drop k.used piece) (Some 10) (seen_at old k) (tally_at old.meter.at before k) next (tally_at old.meter.at before (with_place k 10))
 length_passes gate piece n chain count old k before next b full g told =
     let room = b.room in
     let low = b.low in
@@ -78,14 +78,14 @@ length_passes gate piece n chain count old k before next b full g told =
     let last : List ℕ = drop 6 rest in
     let l = length-drop k.used piece in
     let n6 = length-drop 6 rest in
-    let can = rest_can piece old k b.holds (omega arith) in
+    let can = rest_can piece old k b.holds.holds (omega arith) in
     let at : m.meter.at ≡ r.meter.at + 6 = omega arith in
     let is : IsArrayClass r n chain = record { low = b.is.low; is_class = b.is.is_class; fits = b.is.fits } in
-    then_passes gate rest last 6 4 r m next (tally_at before k) (tally_at before (with_place k 10)) (tally_at before (with_place k 10))
-    (owner_passes gate owner.Array n true rest r mid m (mark_of r) (mark_of mid) (tally_at before k) (tally_at before (with_place k 10)) g
+    then_passes gate rest last 6 4 r m next (tally_at old.meter.at before k) (tally_at old.meter.at before (with_place k 10)) (tally_at old.meter.at before (with_place k 10))
+    (owner_passes gate owner.Array n true rest r mid m (mark_of r) (mark_of mid) (tally_at old.meter.at before k) (tally_at old.meter.at before (with_place k 10)) g
     can (place_on old.frames) (tag_there piece k.used 0x75 b.tag) b.class b.small b.place refl (class_told r n chain is full) refl refl
-    (λ _ _. place_counted before old mid k 10 b.holds.depth b.holds.start refl (λ none. none)))
-    (quiet_end gate 4 (taken.Ended 4) last m next (tally_at before (with_place k 10))
+    (λ _ _. place_counted piece before old mid k 10 b.holds refl (λ none. none)))
+    (quiet_end gate 4 (taken.Ended 4) last m next (tally_at old.meter.at before (with_place k 10))
     (four_taken count true (taken.Ended 4) last (take 4 last) m next
     (takes_array_length count 4 true m (farther m 4) next told refl refl (omega arith) (omega arith))
     refl tt (b.spelled ∙ ap (take 4) (sym (drop-drop 6 k.used piece))) refl (omega arith) gate)
@@ -109,7 +109,7 @@ empty_turn piece n chain count old new k j b none assigns ej =
             size = 10;
             some = omega arith;
             used = refl;
-            can = rest_can piece old k b.holds (omega arith);
+            can = rest_can piece old k b.holds.holds (omega arith);
             meter = refl;
             to = λ gate g before next comes kept.
                 let r : Seen = farther (at_length (seen_at old k) chain) 4 in
@@ -120,7 +120,7 @@ empty_turn piece n chain count old new k j b none assigns ej =
                 length_passes gate piece n chain count old k before next b assigns.0 g
                 (λ elements es. no_elements count elements true r next end refl none (λ over. let low = b.low in omega arith) (λ over. let short = b.short in omega arith));
           })),
-      place_holds piece old new k j 10 b.holds b.place (omega arith) (omega arith) (ap (λ r. r.meter) en) (ap (λ r. r.frames) en) ej,
+      place_holds piece old new k j 10 b.holds.holds b.place (omega arith) (omega arith) (ap (λ r. r.meter) en) (ap (λ r. r.frames) en) ej,
       omega arith,
     )
 
@@ -149,7 +149,7 @@ raw_turn piece n chain count size bytes old new k j b some elements eb any enoug
             size = 10 + bytes;
             some = omega arith;
             used = omega arith;
-            can = rest_can piece old k b.holds (omega arith);
+            can = rest_can piece old k b.holds.holds (omega arith);
             meter = refl;
             to = λ gate g before next comes kept.
                 let r : Seen = farther (at_length (seen_at old k) chain) 4 in
@@ -157,23 +157,23 @@ raw_turn piece n chain count size bytes old new k j b some elements eb any enoug
                 let rest : List ℕ = drop k.used piece in
                 let l = length-drop k.used piece in
                 let l10 = length-drop 10 rest in
-                let can = rest_can piece old k b.holds (omega arith) in
+                let can = rest_can piece old k b.holds.holds (omega arith) in
                 let at : old.meter.at + (k.used + (bytes + 10)) ≡ m.meter.at + bytes = omega arith in
                 let there : m.meter.at ≡ (seen_at old k).meter.at + 10 = omega arith in
                 let end : Comes (farther m bytes) next (after_value (farther m bytes)) =
                 same_end (seen_at a i) (farther m bytes) next comes
                 (ap (λ x. record { at = x; from = x; limits = old.meter.limits; stop = old.meter.stop; cut_phase = old.meter.cut_phase; kept = old.meter.kept }) (sym at)) refl refl refl refl in
-                then_passes gate rest (drop 10 rest) 10 bytes (seen_at old k) m next (tally_at before k) (tally_at before i) (tally_at before i)
+                then_passes gate rest (drop 10 rest) 10 bytes (seen_at old k) m next (tally_at old.meter.at before k) (tally_at old.meter.at before i) (tally_at old.meter.at before i)
                 (length_passes gate piece n chain count old k before m b assigns.0 g
                 (some_raw count size true r m
                 (λ codes es. raw_elements size count codes true r (with_left r bytes) m
                 (record { phase_is = refl; frames = refl; layers = refl; table = refl; refs = refl; owner_is = refl; chain_is = refl; header_is = refl; text_is = refl; left = refl; meter = refl })
                 refl eb some es refl refl refl refl refl)
                 elements (λ over. let low = b.low in omega arith) (λ over. let short = b.short in omega arith)))
-                (raw_passes gate bytes (drop 10 rest) m (farther m bytes) next (tally_at before i) (can_after rest 10 (seen_at old k) m can (omega arith) (omega arith) there refl) refl refl any (omega arith) refl end)
+                (raw_passes gate bytes (drop 10 rest) m (farther m bytes) next (tally_at old.meter.at before i) (can_after rest 10 (seen_at old k) m can (omega arith) (omega arith) there refl) refl refl any (omega arith) refl end)
                 refl;
           })),
-      place_holds piece old new k j (bytes + 10) b.holds b.place (omega arith) (omega arith) (ap (λ r. r.meter) en) (ap (λ r. r.frames) en) ej,
+      place_holds piece old new k j (bytes + 10) b.holds.holds b.place (omega arith) (omega arith) (ap (λ r. r.meter) en) (ap (λ r. r.frames) en) ej,
       omega arith,
     )
 
@@ -197,20 +197,22 @@ values_turn piece n chain count old new k i j b some elements assigns ei ej =
     let used : j.used ≡ k.used + 10 = ap (λ x. x.used) e in
     let deeper : j.depth ≡ k.depth + 1 = ap (λ x. x.depth) e in
     let frames : length new.frames ≡ suc (length old.frames) = ap (λ r. length r.frames) en in
-    let held = place_holds piece old (added old other_entry) k (with_place k 10) 10 b.holds b.place (omega arith) (omega arith) refl refl refl in
+    let held = place_holds piece old (added old other_entry) k (with_place k 10) 10 b.holds.holds b.place (omega arith) (omega arith) refl refl refl in
     let items : j.items ≡ (with_place k 10).items = ap (λ x. x.items) e in
     let counted : j.items.count ≡ (with_place k 10).items.count = ap (λ b. b.count) items in
+    let same_last : j.items.last ≡ k.items.last = ap (λ b. b.last) items in
     let deepest : j.deepest ≡ (with_place k 10).deepest = ap (λ x. x.deepest) e in
     let x = held.items in
     let y = held.deep in
-    let d = b.holds.depth in
+    let z = held.last in
+    let d = b.holds.holds.depth in
     let em : new.meter ≡ old.meter = ap (λ r. r.meter) en in
     let limit : new.meter.limits.depth ≡ old.meter.limits.depth = ap (λ m. m.limits.depth) em in
     let er : j.refs ≡ suc k.refs = ap (λ x. x.refs) e in (
       record {
         size = 10;
         used = used;
-        can = rest_can piece old k b.holds (omega arith);
+        can = rest_can piece old k b.holds.holds (omega arith);
         meter = em;
         passes = λ gate g before.
             let r : Seen = farther (at_length (seen_at old k) chain) 4 in
@@ -218,8 +220,8 @@ values_turn piece n chain count old new k i j b some elements assigns ei ej =
             let meter : (seen_at new j).meter ≡ moved r.meter =
             ap (λ m. record { at = m.at + j.used; from = m.at + j.used; limits = m.limits; stop = m.stop; cut_phase = m.cut_phase; kept = m.kept }) em
             ∙ ap (λ n. record { at = n; from = n; limits = old.meter.limits; stop = old.meter.stop; cut_phase = old.meter.cut_phase; kept = old.meter.kept }) (let same : new.meter.at ≡ old.meter.at = ap (λ m. m.at) em in let at' : old.meter.at + j.used ≡ r.meter.at = omega arith in at') in
-            subst (λ t. Passes gate (drop k.used piece) (Some 10) (seen_at old k) (tally_at before k) (seen_at new j) t)
-            (ap₂ (λ p q. record { contents = before.contents + p.count; earlier = before.earlier; depth = q; begun = p.last }) (sym items) (sym deepest))
+            subst (λ t. Passes gate (drop k.used piece) (Some 10) (seen_at old k) (tally_at old.meter.at before k) (seen_at new j) t)
+            (ap₂ (tally_with old.meter.at before) (sym items) (sym deepest))
             (length_passes gate piece n chain count old k before (seen_at new j) b assigns.0 g
             (some_values count true r (seen_at new j)
             (tells_next None (after_length r None count) true r (seen_at new j)
@@ -231,13 +233,16 @@ values_turn piece n chain count old new k i j b some elements assigns ei ej =
             elements (λ over. let low = b.low in omega arith) (λ over. let short = b.short in omega arith)));
         nothing = λ none. absurd (omega arith);
       },
-      record { can = same_can piece old new em b.holds.can; within = omega arith; depth = omega arith; deep = omega arith; items = omega arith; start = same_start old new (with_place k 10) j em items b.holds.start; room = same_room (length piece) (with_place k 10) j items b.holds.room },
+      record {
+        holds = record { can = same_can piece old new em b.holds.holds.can; within = omega arith; depth = omega arith; deep = omega arith; items = omega arith; last = omega arith };
+        top = λ none. absurd (omega arith);
+      },
       omega arith,
     )
 
 -- ---- what begins
 
-pub array_begins : (piece : List ℕ) (n chain count at : ℕ) (r : Seen) (k : Counts) → Holds piece r k → HasPlace (seen_at r k) → (length piece - k.used < 10 → ⊥) → k.used ≤ length piece
+pub array_begins : (piece : List ℕ) (n chain count at : ℕ) (r : Seen) (k : Counts) → HoldsNext piece r k → HasPlace (seen_at r k) → (length piece - k.used < 10 → ⊥) → k.used ≤ length piece
     → 0x75 ≡ get_or piece k.used 0 → HasReference (drop k.used piece) n → n < 2 ^ 32 → IsArrayClass r n chain → big_bytes 4 count ≡ take 4 (drop (k.used + 6) piece) → (2 ^ 31 ≤ count → ⊥)
     → (r.meter.limits.array < count → ⊥) → ArrayBegins piece n chain count r k
 array_begins piece n chain count at r k h p room le tag class small is spelled low short = record {

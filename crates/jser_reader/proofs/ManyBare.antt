@@ -16,7 +16,7 @@ use Rattle.jser_reader.specs.declared.machine.many.counts.Turn.TheVariants as tu
 use Rattle.jser_reader.specs.Classes.{fit_reason}
 use Rattle.jser_reader.specs.Many.{HasSections}
 use Rattle.jser_reader.specs.Handlers.{Pushes, BeginsObject, moved, added, pushed, is_full}
-use Rattle.jser_reader.specs.Many.{phase_on, seen_at, tally_at, Holds, with_place, with_depth, LeadsTo, Ends, IsObjectClass, ObjectBegins, Turns}
+use Rattle.jser_reader.specs.Many.{phase_on, seen_at, tally_with, tally_at, HoldsNext, with_place, with_depth, LeadsTo, Ends, IsObjectClass, ObjectBegins, Turns}
 use Rattle.jser_reader.specs.Passes.{Passes}
 use Rattle.jser_reader.specs.Readers.{Seen}
 use Rattle.jser_reader.specs.Steps.{after_value}
@@ -25,7 +25,7 @@ use Rattle.jser_reader.specs.Tallies.{mark_of}
 use Rattle.jser_reader.specs.Wholes.{HasPlace, HasReference}
 use Rattle.jser_reader.proofs.ClassLemmas.{right_class}
 use Rattle.jser_reader.proofs.WholeLemmas.{assigned_other}
-use Rattle.jser_reader.proofs.ManyLemmas.{same_start, same_room, place_on, rest_can, place_counted, place_holds, same_can}
+use Rattle.jser_reader.proofs.ManyLemmas.{place_on, rest_can, place_counted, place_holds, same_can}
 use Rattle.jser_reader.proofs.ManyPlain.{tag_there}
 use Rattle.jser_reader.proofs.OwnerLemmas.{bare_object, external_object, object_begins, object_owned}
 use Rattle.jser_reader.proofs.WholeLemmas.{with_class, TellsClass, owner_passes}
@@ -36,7 +36,7 @@ pub is_object_class : (r : Seen) (n chain : ℕ) → (n < 0x7E0000 → ⊥) → 
     → fit_of purpose.Object (chain_in r.table.chains chain) ≡ fit.Fits → IsObjectClass r n chain
 is_object_class r n chain low is_class fits = record { low = low; is_class = is_class; fits = fits }
 
-pub object_begins_here : (piece : List ℕ) (n chain : ℕ) (r : Seen) (k : Counts) → Holds piece r k → HasPlace (seen_at r k) → k.used + 6 ≤ length piece → 0x73 ≡ get_or piece k.used 0
+pub object_begins_here : (piece : List ℕ) (n chain : ℕ) (r : Seen) (k : Counts) → HoldsNext piece r k → HasPlace (seen_at r k) → k.used + 6 ≤ length piece → 0x73 ≡ get_or piece k.used 0
     → HasReference (drop k.used piece) n → n < 2 ^ 32 → IsObjectClass r n chain → ObjectBegins piece n chain r k
 object_begins_here piece n chain r k h p room tag class small is = record { holds = h; place = p; room = room; tag = tag; class = class; small = small; is = is }
 
@@ -81,15 +81,15 @@ bare_leads piece n chain old k b full plain none =
       size = 6;
       some = omega arith;
       used = refl;
-      can = rest_can piece old k b.holds more;
+      can = rest_can piece old k b.holds.holds more;
       meter = refl;
       to = λ gate g before next comes kept.
-          owner_passes gate owner.Object n true (drop k.used piece) r mid next (mark_of r) (mark_of mid) (tally_at before k) (tally_at before (with_place k 6)) g
-          (rest_can piece old k b.holds more) (place_on old.frames) (tag_there piece k.used 0x73 b.tag) b.class b.small b.place refl
+          owner_passes gate owner.Object n true (drop k.used piece) r mid next (mark_of r) (mark_of mid) (tally_at old.meter.at before k) (tally_at old.meter.at before (with_place k 6)) g
+          (rest_can piece old k b.holds.holds more) (place_on old.frames) (tag_there piece k.used 0x73 b.tag) b.class b.small b.place refl
           (class_told r next n chain is full
           (bare_object old.table.chains (chain_in old.table.chains chain) true (begins r) next none refl plain comes.ready (comes.meter ∙ same_meter old k)
           (record { table = kept.table; layers = kept.layers; refs = kept.refs })))
-          refl refl (λ _ _. place_counted before old mid k 6 b.holds.depth b.holds.start refl (λ none. none));
+          refl refl (λ _ _. place_counted piece before old mid k 6 b.holds refl (λ none. none));
     }
 
 pub bare_turn : (piece : List ℕ) (n chain : ℕ) (old new : Seen) (k j : Counts) → ObjectBegins piece n chain old k → is_external (chain_in old.table.chains chain) ≡ false
@@ -102,7 +102,7 @@ bare_turn piece n chain old new k j b plain none assigns ej =
     let i : Counts = with_place k 6 in (
       subst (λ x. LeadsTo piece old k new x (after_value (seen_at new x))) (sym ej)
           (subst (λ x. LeadsTo piece old k x i (after_value (seen_at x i))) (sym en) (bare_leads piece n chain old k b assigns.0 plain none)),
-      place_holds piece old new k j 6 b.holds b.place (omega arith) (omega arith) (ap (λ r. r.meter) en) (ap (λ r. r.frames) en) ej,
+      place_holds piece old new k j 6 b.holds.holds b.place (omega arith) (omega arith) (ap (λ r. r.meter) en) (ap (λ r. r.frames) en) ej,
       omega arith,
     )
 
@@ -126,13 +126,15 @@ external_turn piece n chain old new k i j b external assigns ei ej =
     let used : j.used ≡ k.used + 6 = ap (λ x. x.used) e in
     let deeper : j.depth ≡ k.depth + 1 = ap (λ x. x.depth) e in
     let frames : length new.frames ≡ suc (length old.frames) = ap (λ r. length r.frames) en in
-    let held = place_holds piece old (added old other_entry) k (with_place k 6) 6 b.holds b.place (omega arith) (omega arith) refl refl refl in
+    let held = place_holds piece old (added old other_entry) k (with_place k 6) 6 b.holds.holds b.place (omega arith) (omega arith) refl refl refl in
     let items : j.items ≡ (with_place k 6).items = ap (λ x. x.items) e in
     let counted : j.items.count ≡ (with_place k 6).items.count = ap (λ b. b.count) items in
+    let same_last : j.items.last ≡ k.items.last = ap (λ b. b.last) items in
     let deepest : j.deepest ≡ (with_place k 6).deepest = ap (λ x. x.deepest) e in
     let x = held.items in
     let y = held.deep in
-    let d = b.holds.depth in
+    let z = held.last in
+    let d = b.holds.holds.depth in
     let em : new.meter ≡ old.meter = ap (λ r. r.meter) en in
     let limit : new.meter.limits.depth ≡ old.meter.limits.depth = ap (λ m. m.limits.depth) em in
     let meter : (seen_at new j).meter ≡ moved (begins r).meter =
@@ -140,19 +142,22 @@ external_turn piece n chain old new k i j b external assigns ei ej =
       record {
         size = 6;
         used = used;
-        can = rest_can piece old k b.holds more;
+        can = rest_can piece old k b.holds.holds more;
         meter = em;
         passes = λ gate g before.
-            subst (λ t. Passes gate (drop k.used piece) (Some 6) (seen_at old k) (tally_at before k) (seen_at new j) t)
-            (ap₂ (λ p q. record { contents = before.contents + p.count; earlier = before.earlier; depth = q; begun = p.last }) (sym items) (sym deepest))
-            (owner_passes gate owner.Object n true (drop k.used piece) r mid (seen_at new j) (mark_of r) (mark_of mid) (tally_at before k) (tally_at before (with_place k 6)) g
-            (rest_can piece old k b.holds more) (place_on old.frames) (tag_there piece k.used 0x73 b.tag) b.class b.small b.place refl
+            subst (λ t. Passes gate (drop k.used piece) (Some 6) (seen_at old k) (tally_at old.meter.at before k) (seen_at new j) t)
+            (ap₂ (tally_with old.meter.at before) (sym items) (sym deepest))
+            (owner_passes gate owner.Object n true (drop k.used piece) r mid (seen_at new j) (mark_of r) (mark_of mid) (tally_at old.meter.at before k) (tally_at old.meter.at before (with_place k 6)) g
+            (rest_can piece old k b.holds.holds more) (place_on old.frames) (tag_there piece k.used 0x73 b.tag) b.class b.small b.place refl
             (class_told r (seen_at new j) n chain is assigns.0
             (external_object (chain_in old.table.chains chain) true true (begins r) (pushed (begins r) frame.ExternalNotes) (seen_at new j) (pushed_frame (begins r)) refl refl external
             (ap phase_on (ap (λ r. r.frames) en)) (ap (λ r. r.frames) en) (ap (λ r. r.layers) en) (ap (λ r. r.table) en) (ap (λ x. x.refs) e) meter))
-            refl refl (λ _ _. place_counted before old mid k 6 b.holds.depth b.holds.start refl (λ none. none)));
+            refl refl (λ _ _. place_counted piece before old mid k 6 b.holds refl (λ none. none)));
         nothing = λ none. absurd (omega arith);
       },
-      record { can = same_can piece old new em b.holds.can; within = omega arith; depth = omega arith; deep = omega arith; items = omega arith; start = same_start old new (with_place k 6) j em items b.holds.start; room = same_room (length piece) (with_place k 6) j items b.holds.room },
+      record {
+        holds = record { can = same_can piece old new em b.holds.holds.can; within = omega arith; depth = omega arith; deep = omega arith; items = omega arith; last = omega arith };
+        top = λ none. absurd (omega arith);
+      },
       omega arith,
     )

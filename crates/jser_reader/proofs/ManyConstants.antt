@@ -19,7 +19,7 @@ use Rattle.jser_reader.specs.declared.phase.TextFor.TheVariants as text
 use Rattle.jser_reader.specs.declared.tally.Tally.{Tally}
 use Rattle.jser_reader.specs.Classes.{fit_reason}
 use Rattle.jser_reader.specs.Handlers.{Comes, moved, with_entry, added, is_full}
-use Rattle.jser_reader.specs.Many.{seen_at, tally_at, Holds, with_place, LeadsTo, Ends, IsConstantClass, IsTextHandle, ConstantBegins, Turns}
+use Rattle.jser_reader.specs.Many.{seen_at, tally_at, HoldsNext, with_place, LeadsTo, Ends, IsConstantClass, IsTextHandle, ConstantBegins, Turns}
 use Rattle.jser_reader.specs.Readers.{Seen}
 use Rattle.jser_reader.specs.Steps.{after_value}
 use Rattle.jser_reader.specs.Takes.{counted_on, farther}
@@ -47,7 +47,7 @@ is_constant_class r n chain low is_class fits = record { chain = chain; low = lo
 pub is_text_handle : (r : Seen) (n : ℕ) → (n < 0x7E0000 → ⊥) → true ≡ is_text (slice_get r.table.entries (n - 0x7E0000)) → IsTextHandle r n
 is_text_handle r n low is = record { low = low; is = is }
 
-pub constant_begins : (piece : List ℕ) (n name : ℕ) (r : Seen) (k : Counts) → Holds piece r k → HasPlace (seen_at r k) → (length piece - k.used < 11 → ⊥) → k.used ≤ length piece
+pub constant_begins : (piece : List ℕ) (n name : ℕ) (r : Seen) (k : Counts) → HoldsNext piece r k → HasPlace (seen_at r k) → (length piece - k.used < 11 → ⊥) → k.used ≤ length piece
     → 0x7E ≡ get_or piece k.used 0 → HasReference (drop k.used piece) n → n < 2 ^ 32 → IsConstantClass r n → HasReference (drop (k.used + 5) piece) name → name < 2 ^ 32 → IsTextHandle r name
     → ConstantBegins piece n name r k
 constant_begins piece n name r k h p room le tag class small is name_is name_small text =
@@ -109,7 +109,7 @@ constant_leads piece n name old k b full =
     let l = length-drop k.used piece in
     let l6 = length-drop 6 rest in
     let l1 = length-drop 1 last in
-    let can = rest_can piece old k b.holds more in
+    let can = rest_can piece old k b.holds.holds more in
     let at_m : m.meter.at ≡ r.meter.at + 6 = omega arith in
     let can_m = can_after rest 6 r m can (omega arith) (omega arith) at_m refl in
     let can_q = can_after last 1 m q can_m (omega arith) (omega arith) refl refl in
@@ -121,15 +121,15 @@ constant_leads piece n name old k b full =
       can = can;
       meter = refl;
       to = λ gate g before next comes kept.
-          let told : Tally = tally_at before (with_place k 11) in
+          let told : Tally = tally_at old.meter.at before (with_place k 11) in
           let far : Seen = farther q 4 in
           let at : old.meter.at + (k.used + 11) ≡ far.meter.at = omega arith in
           let end : Comes far next (after_value far) =
           same_end (seen_at (added old other_entry) (with_place k 11)) far next comes
           (ap (λ x. record { at = x; from = x; limits = old.meter.limits; stop = old.meter.stop; cut_phase = old.meter.cut_phase; kept = old.meter.kept }) (sym at)) refl refl refl refl in
-          then_passes gate rest last 6 5 r m next (tally_at before k) told told
-          (owner_passes gate owner.EnumConst n true rest r mid m (mark_of r) (mark_of mid) (tally_at before k) told g can (place_on old.frames) (tag_there piece k.used 0x7E b.tag) b.class b.small b.place
-          refl (class_told r n is full) refl refl (λ _ _. place_counted before old mid k 11 b.holds.depth b.holds.start refl (λ none. none)))
+          then_passes gate rest last 6 5 r m next (tally_at old.meter.at before k) told told
+          (owner_passes gate owner.EnumConst n true rest r mid m (mark_of r) (mark_of mid) (tally_at old.meter.at before k) told g can (place_on old.frames) (tag_there piece k.used 0x7E b.tag) b.class b.small b.place
+          refl (class_told r n is full) refl refl (λ _ _. place_counted piece before old mid k 11 b.holds refl (λ none. none)))
           (then_passes gate last (drop 1 last) 1 4 m q next told told told
           (quiet_end gate 1 (taken.Ended 1) last m q told
           (one_taken 0x71 true (taken.Ended 1) last m q
@@ -159,6 +159,6 @@ constant_turn piece n name old new k j b assigns ej =
     let i : Counts = with_place k 11 in (
       subst (λ x. LeadsTo piece old k new x (after_value (seen_at new x))) (sym ej)
           (subst (λ x. LeadsTo piece old k x i (after_value (seen_at x i))) (sym en) (constant_leads piece n name old k b assigns.0)),
-      place_holds piece old new k j 11 b.holds b.place (omega arith) (omega arith) (ap (λ r. r.meter) en) (ap (λ r. r.frames) en) ej,
+      place_holds piece old new k j 11 b.holds.holds b.place (omega arith) (omega arith) (ap (λ r. r.meter) en) (ap (λ r. r.frames) en) ej,
       omega arith,
     )

@@ -15,14 +15,14 @@ use Rattle.jser_reader.specs.declared.phase.Phase.TheVariants as phase
 use Rattle.jser_reader.specs.Fitting.{FrameFits, FramesFit, IsBelow, bound_below, AllFit, IsPart}
 use Rattle.jser_reader.specs.Frames.{frame_goals}
 use Rattle.jser_reader.specs.Handlers.{moved}
-use Rattle.jser_reader.specs.Many.{phase_on, seen_at, tally_at, Holds, with_used, with_depth, with_top, LeadsTo, Ends, RawsOn, StandsOn, OpensAs, parts_behind, FrameEnds, GivesNext, Settles}
+use Rattle.jser_reader.specs.Many.{phase_on, seen_at, tally_with, tally_at, Holds, HoldsNext, content_ended, with_used, with_depth, with_top, LeadsTo, Goes, Ends, RawsOn, StandsOn, OpensAs, parts_behind, FrameEnds, GivesNext, Settles}
 use Rattle.jser_reader.specs.Passes.{Passes}
 use Rattle.jser_reader.specs.Readers.{Seen, Ready, HasNotes, moment_of}
 use Rattle.jser_reader.specs.Stacks.{tail_of, HasNoValue, IsOnTop, CountsValue}
 use Rattle.jser_reader.specs.Steps.{before_parts, after_value, GoesOn}
 use Rattle.jser_reader.specs.Takes.{counted_on}
 use Rattle.jser_reader.specs.Many.{without_top}
-use Rattle.jser_reader.proofs.ManyLemmas.{same_start, same_room, leads_there, same_can}
+use Rattle.jser_reader.proofs.ManyLemmas.{leads_there, leads_top, same_can, holds_inside}
 use Rattle.jser_reader.proofs.ManySections.{none_dropped}
 use Rattle.jser_reader.proofs.PartLemmas.{fits_without, leaves_elements, at_notes, at_top, value_comes, field_ready}
 
@@ -55,8 +55,8 @@ leads_same piece old mid new k i j s t h em ey et eu er ei ed es = record {
   can = h.can;
   meter = em ∙ h.meter;
   to = λ gate is_gate before next comes kept.
-      subst (λ n. Passes gate (drop k.used piece) (Some h.size) (seen_at old k) (tally_at before k) next n)
-      (ap₂ (λ x y. record { contents = before.contents + x.count; earlier = before.earlier; depth = y; begun = x.last }) (sym ei) (sym ed))
+      subst (λ n. Passes gate (drop k.used piece) (Some h.size) (seen_at old k) (tally_at old.meter.at before k) next n)
+      (ap₂ (tally_with old.meter.at before) (sym ei) (sym ed))
       (h.to gate is_gate before next
       (record {
         ready = subst (Ready next) (sym es) comes.ready;
@@ -87,7 +87,7 @@ leads_raws piece old mid k i fs bytes from to h raws enough =
       can = h.can;
       meter = meter;
       to = λ gate is_gate before next comes kept.
-          raws.on gate (drop k.used piece) h.size (seen_at old k) (seen_at mid i) (tally_at before k) (tally_at before i) fs h.can some (omega arith) refl (omega arith) (ap (λ m. m.limits) meter)
+          raws.on gate (drop k.used piece) h.size (seen_at old k) (seen_at mid i) (tally_at old.meter.at before k) (tally_at old.meter.at before i) fs h.can some (omega arith) refl (omega arith) (ap (λ m. m.limits) meter)
           (λ x c q. h.to gate is_gate before x c q) next
           (record { ready = comes.ready; meter = comes.meter ∙ sym same; max = comes.max }) (record { table = kept.table; layers = kept.layers; refs = kept.refs });
     }
@@ -100,9 +100,11 @@ pub used_holds : (piece : List ℕ) (old new : Seen) (i j : Counts) (size : ℕ)
 used_holds piece old new i j size h em enough eu ei ed en =
     let items = h.items in
     let count : j.items.count ≡ i.items.count = ap (λ b. b.count) ei in
+    let last = h.last in
+    let same_last : j.items.last ≡ i.items.last = ap (λ b. b.last) ei in
     let deep = h.deep in
     let limit : new.meter.limits.depth ≡ old.meter.limits.depth = ap (λ m. m.limits.depth) em in
-    record { can = same_can piece old new em h.can; within = omega arith; depth = en; deep = omega arith; items = omega arith; start = same_start old new i j em ei h.start; room = same_room (length piece) i j ei h.room }
+    record { can = same_can piece old new em h.can; within = omega arith; depth = en; deep = omega arith; items = omega arith; last = omega arith }
 
 no_element : (frames : List Frame) (left : ℕ) → frames ≡ frame.Elements left ∷ tail_of frames → IsOnTop HasNoValue frames → 0 < left → ⊥
 no_element frames left e none = let h : IsOnTop HasNoValue (frame.Elements left ∷ tail_of frames) = subst (IsOnTop HasNoValue) e none in h
@@ -211,7 +213,7 @@ section_opens piece m new i j last section pos prims values used f h e fits none
           (leads_raws piece old m k i (tail_of m.frames) used from opens.parts (subst (LeadsTo piece old k m i) state ends) opens.raws enough)
           (ap (λ r. r.meter) en) (ap (λ r. r.layers) en) (ap (λ r. r.table) en) more (ap (λ x. x.refs) ej) (ap (λ x. x.items) ej) (ap (λ x. x.deepest) ej) refl)
           (stands_there m new i j f opens.parts used (tail_of m.frames) opens.stands (ap (λ r. r.frames) en) (ap (λ r. r.layers) en) (ap (λ r. r.table) en) (ap (λ x. x.refs) ej)),
-      used_holds piece m new i j used h (ap (λ r. r.meter) en) enough more (ap (λ x. x.items) ej) (ap (λ x. x.deepest) ej) (omega arith),
+      holds_inside piece new j (used_holds piece m new i j used h (ap (λ r. r.meter) en) enough more (ap (λ x. x.items) ej) (ap (λ x. x.deepest) ej) (omega arith)) (omega arith),
       omega arith,
     )
 
@@ -231,7 +233,7 @@ unfolding FrameEnds Ends GoesOn
 notes_go_on piece m i f h e notes =
     let x = notes_on m.frames f e notes in (
       λ old k ends. leads_there piece old m k i (after_value (seen_at m i)) ends (at_notes (seen_at m i) (seen_at m i) x.0 x.1 refl refl refl refl).0,
-      h,
+      holds_inside piece m i h (let n = fewer m.frames f e in omega arith),
       omega arith,
     )
 
@@ -252,6 +254,10 @@ value_phase (frame.Descriptor number role ∷ fs) new h = absurd h.1
 value_length : (old new : List Frame) → CountsValue true old new → length new ≡ length old
 value_length [] new h = absurd h
 value_length (f ∷ fs) new h = ap length h.2
+
+value_some : (old new : List Frame) → CountsValue true old new → 0 < length new
+value_some [] new h = absurd h
+value_some (f ∷ fs) new h = let n : length new ≡ suc (length fs) = ap length h.2 in omega arith
 
 -- so far
 pub record EndsSo (piece : List ℕ) (m : Seen) (i : Counts) (new : Seen) (j : Counts) : Type 0 where
@@ -320,17 +326,24 @@ settles_value piece m mid new i j true h g e =
           leads_there piece old new k j (after_value (seen_at mid j))
           (leads_same piece old mid new k j j (after_value (seen_at mid j)) (after_value (seen_at mid j)) (h.ends old k x) em ey et refl refl refl refl refl)
           (field_ready (seen_at mid j) (seen_at new j) (value_comes (seen_at mid j) (seen_at new j) v g.1 (value_phase mid.frames new.frames v) ey et refl)),
-      used_holds piece mid new j j 0 holds em (omega arith) none refl refl (omega arith),
+      holds_inside piece new j (used_holds piece mid new j j 0 holds em (omega arith) none refl refl (omega arith)) (value_some mid.frames new.frames v),
       h.used,
     )
 
-pub settles_top : (piece : List ℕ) (m mid : Seen) (i j : Counts) (b : Bool) → EndsSo piece m i mid j → mid.frames ≡ [] → b ≡ true → Settles piece b m i mid j
+abbrev SettledTo : List ℕ → Seen → Counts → Seen → Counts → Type 0
+SettledTo piece m i r x = ((old : Seen) (k : Counts) → Ends piece old k m i → Goes piece old k r x) × HoldsNext piece r x × (i.used ≤ x.used)
+
+pub settles_top : (piece : List ℕ) (m mid : Seen) (i j l : Counts) (b : Bool) → EndsSo piece m i mid j → mid.frames ≡ [] → l ≡ content_ended j → b ≡ true → Settles piece b m i mid l
 unfolding Settles Ends
-settles_top piece m mid i j b h none eb =
-    rw eb (
+settles_top piece m mid i j l b h none el eb =
+    let holds = h.holds in
+    rw eb (subst (SettledTo piece m i mid) (sym el) (
       λ old k x.
-          leads_there piece old mid k j (after_value (seen_at mid j)) (h.ends old k x)
-          (at_top (seen_at mid j) (seen_at mid j) (seen_at mid j) none refl (ap phase_on none) refl refl refl refl),
-      h.holds,
+          leads_top piece old mid k j (after_value (seen_at mid j)) (h.ends old k x)
+          (at_top (seen_at mid j) (seen_at mid j) (seen_at mid j) none refl (ap phase_on none) refl refl refl refl) (ap phase_on none),
+      record {
+        holds = record { can = holds.can; within = holds.within; depth = holds.depth; deep = holds.deep; items = holds.items; last = omega arith };
+        top = λ _. refl;
+      },
       h.used,
-    )
+    ))

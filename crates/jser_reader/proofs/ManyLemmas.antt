@@ -1,21 +1,24 @@
 -- The loop over whole values: from one place in the piece to another.
-use Rattle.std.proofs.Common.{◌≡◌, ℕ, zero, suc, ◌+◌, ◌-◌, ◌^◌, ◌<◌, ◌≤◌, ◌==◌, Bool, true, false, nat_lt, max, ◌&&◌, if◌then◌else◌, List, [], ◌∷◌, length, drop, refl, sym, ◌∙◌, ap, subst, arith}
+use Rattle.std.proofs.Common.{◌≡◌, ℕ, zero, suc, ◌+◌, ◌-◌, ◌^◌, ◌<◌, ◌≤◌, ◌==◌, Bool, true, false, nat_lt, max, ◌&&◌, if◌then◌else◌, List, [], ◌∷◌, length, drop, Some, refl, sym, ◌∙◌, ap, subst, arith}
+use Rattle.std.proofs.lemmas.Bool.{eqb-true}
 use Rattle.std.proofs.lemmas.Bool.Decides.{nat_tests}
 use Rattle.std.proofs.lemmas.List.{drop-drop}
 use Rattle.jser_reading.specs.Goals.{State}
 use Rattle.jser_reading.specs.Totals.{one_more_if, number_if}
 use Rattle.jser_reader.specs.declared.frame.Frame.{Frame}
 use Rattle.jser_reader.specs.declared.frame.Frame.TheVariants as frame
+use Rattle.jser_reader.specs.declared.machine.many.counts.Begun.{Begun}
 use Rattle.jser_reader.specs.declared.machine.many.counts.Counts.{Counts}
+use Rattle.jser_reader.specs.declared.phase.Phase.TheVariants as phase
 use Rattle.jser_reader.specs.declared.tally.Tally.{Tally}
 use Rattle.jser_reader.specs.Handlers.{moved}
-use Rattle.jser_reader.specs.Many.{phase_on, seen_at, tally_at, Holds, with_place, LeadsTo, Goes}
-use Rattle.jser_reader.specs.Passes.{CanPass}
+use Rattle.jser_reader.specs.Many.{phase_on, seen_at, begun_at, tally_at, Holds, HoldsNext, with_content, with_place, content_ended, LeadsTo, Goes}
+use Rattle.jser_reader.specs.Passes.{Passes, CanPass}
 use Rattle.jser_reader.specs.Readers.{Seen, Ready}
 use Rattle.jser_reader.specs.Takes.{counted_on}
 use Rattle.jser_reader.specs.Tallies.{is_top, mark_of, tally_after}
 use Rattle.jser_reader.specs.Wholes.{IsPlace, HasPlace}
-use Rattle.jser_reader.proofs.PassLemmas.{then_passes}
+use Rattle.jser_reader.proofs.PassLemmas.{then_passes, passes_at_top}
 use Rattle.jser_reader.proofs.RawLemmas.{can_after}
 
 -- ---- where the loop is
@@ -69,17 +72,25 @@ tally_is c e d b c' e' d' b' ec ee ed eb =
     ap (λ n. record { contents = n; earlier = e; depth = d; begun = b }) ec ∙ ap (λ n. record { contents = c'; earlier = n; depth = d; begun = b }) ee
     ∙ ap (λ n. record { contents = c'; earlier = e'; depth = n; begun = b }) ed ∙ ap (λ n. record { contents = c'; earlier = e'; depth = d'; begun = n }) eb
 
--- where the last content begins
-pub last_begun : (old : Seen) (k : Counts) → k.items.start ≡ old.meter.at → is_top (phase_on old.frames) ≡ (k.depth == 0)
-    → (if k.depth == 0 then k.items.start + k.used else k.items.last) ≡ (if is_top (phase_on old.frames) then old.meter.at + k.used else k.items.last)
-last_begun old k es top =
-    ap (λ n. if k.depth == 0 then n + k.used else k.items.last) es ∙ ap (λ b. if b then old.meter.at + k.used else k.items.last) (sym top)
+-- where the last content begins: at the top it is where the piece has been taken to
+begun_here : (b : Bool) (at before used : ℕ) (items : Begun) → (b ≡ true → items.last ≡ used)
+    → begun_at at before (with_content items b) ≡ (if b then at + used else begun_at at before items)
+begun_here true at before used items h =
+    let some : (items.count + 1 == 0) ≡ false = grind (arith, nat_tests) in ap (λ x. if x then before else at + items.last) some ∙ ap (λ n. at + n) (h refl)
+begun_here false at before used items h = let none : items.count + 0 ≡ items.count = omega arith in ap (λ n. if n == 0 then before else at + items.last) none
+
+pub last_begun : (old : Seen) (k : Counts) (before : ℕ) → (k.depth ≡ 0 → k.items.last ≡ k.used) → is_top (phase_on old.frames) ≡ (k.depth == 0)
+    → begun_at old.meter.at before (with_content k.items (k.depth == 0)) ≡ (if is_top (phase_on old.frames) then old.meter.at + k.used else begun_at old.meter.at before k.items)
+last_begun old k before here top =
+    begun_here (k.depth == 0) old.meter.at before k.used k.items (λ e. here (eqb-true k.depth 0 e))
+    ∙ ap (λ b. if b then old.meter.at + k.used else begun_at old.meter.at before k.items) (sym top)
 
 -- those of a place
-pub place_counted : (before : Tally) (old far : Seen) (k : Counts) (size : ℕ) → k.depth ≡ length old.frames → k.items.start ≡ old.meter.at → far.refs ≡ suc k.refs
+pub place_counted : (piece : List ℕ) (before : Tally) (old far : Seen) (k : Counts) (size : ℕ) → HoldsNext piece old k → far.refs ≡ suc k.refs
     → (length far.table.entries ≡ 0 → length old.table.entries ≡ 0)
-    → tally_at before (with_place k size) ≡ tally_after (mark_of (seen_at old k)) (mark_of far) (tally_at before k)
-place_counted before old far k size ed es er none =
+    → tally_at old.meter.at before (with_place k size) ≡ tally_after (mark_of (seen_at old k)) (mark_of far) (tally_at old.meter.at before k)
+place_counted piece before old far k size h er none =
+    let ed = h.holds.depth in
     let top : is_top (phase_on old.frames) ≡ (k.depth == 0) = top_on old.frames ∙ ap (λ n. n == 0) (sym ed) in
     let zero_more = none_new (is_top (phase_on old.frames)) (length old.table.entries) (length far.table.entries) none in
     let same : before.earlier ≡ before.earlier + 0 = omega arith in
@@ -88,7 +99,7 @@ place_counted before old far k size ed es er none =
     (one_more (k.depth == 0) before.contents k.items.count ∙ ap (λ b. one_more_if b (before.contents + k.items.count)) (sym top))
     (same ∙ ap (λ n. before.earlier + n) (sym zero_more))
     (ap (λ n. max k.deepest (suc n)) ed ∙ ap (λ b. max k.deepest (number_if b (suc (length old.frames)))) (sym one))
-    (last_begun old k es top)
+    (last_begun old k before.begun h.top top)
 
 pub items_within : (b : Bool) (items used size : ℕ) → items ≤ used → 0 < size → items + number_if b 1 ≤ used + size
 items_within true items used size le some = omega arith
@@ -107,12 +118,9 @@ same_can piece old new em can = record {
   all_bytes = can.all_bytes;
 }
 
--- the piece begins at the same place
-pub same_start : (old new : Seen) (i j : Counts) → new.meter ≡ old.meter → j.items ≡ i.items → i.items.start ≡ old.meter.at → j.items.start ≡ new.meter.at
-same_start old new i j em ei h = ap (λ b. b.start) ei ∙ h ∙ ap (λ m. m.at) (sym em)
-
-pub same_room : (n : ℕ) (i j : Counts) → j.items ≡ i.items → i.items.start + n < 2 ^ 64 → j.items.start + n < 2 ^ 64
-same_room n i j ei h = subst (λ b. b.start + n < 2 ^ 64) (sym ei) h
+-- inside something no content begins
+pub holds_inside : (piece : List ℕ) (r : Seen) (k : Counts) → Holds piece r k → 0 < length r.frames → HoldsNext piece r k
+holds_inside piece r k h some = let depth = h.depth in record { holds = h; top = λ none. absurd (omega arith) }
 
 -- they are right after a place
 pub place_holds : (piece : List ℕ) (old new : Seen) (k j : Counts) (size : ℕ) → Holds piece old k → HasPlace (seen_at old k) → 0 < size → k.used + size ≤ length piece
@@ -121,6 +129,7 @@ place_holds piece old new k j size h p some enough em ef e =
     let deep = h.deep in
     let depth = h.depth in
     let shallow = p.shallow in
+    let last = h.last in
     let limit : new.meter.limits.depth ≡ old.meter.limits.depth = ap (λ m. m.limits.depth) em in
     subst (Holds piece new) (sym e)
     (record {
@@ -129,8 +138,7 @@ place_holds piece old new k j size h p some enough em ef e =
       depth = depth ∙ ap length (sym ef);
       deep = omega arith;
       items = items_within (k.depth == 0) k.items.count k.used size h.items some;
-      start = h.start ∙ ap (λ m. m.at) (sym em);
-      room = h.room;
+      last = omega arith;
     })
 
 -- ---- one after another
@@ -150,8 +158,12 @@ leads_on piece old mid new k i j s h g =
       can = h.can;
       meter = g.meter ∙ h.meter;
       to = λ gate is_gate before next comes kept.
-          then_passes gate (drop k.used piece) (drop i.used piece) h.size g.size (seen_at old k) (seen_at mid i) next (tally_at before k) (tally_at before i) (tally_at before j)
-          (h.passes gate is_gate before) (g.to gate is_gate before next comes kept) (sym (rest_on piece k.used h.size i.used u));
+          then_passes gate (drop k.used piece) (drop i.used piece) h.size g.size (seen_at old k) (seen_at mid i) next
+          (tally_at old.meter.at before k) (tally_at old.meter.at before i) (tally_at old.meter.at before j)
+          (h.passes gate is_gate before)
+          (subst (λ at. Passes gate (drop i.used piece) (Some g.size) (seen_at mid i) (tally_at at before i) next (tally_at at before j)) (ap (λ m. m.at) h.meter)
+          (g.to gate is_gate before next comes kept))
+          (sym (rest_on piece k.used h.size i.used u));
     }
 
 pub goes_on : (piece : List ℕ) (old mid new : Seen) (k i j : Counts) → Goes piece old k mid i → Goes piece mid i new j → Goes piece old k new j
@@ -164,8 +176,12 @@ goes_on piece old mid new k i j h g =
       can = h.can;
       meter = g.meter ∙ h.meter;
       passes = λ gate is_gate before.
-          then_passes gate (drop k.used piece) (drop i.used piece) h.size g.size (seen_at old k) (seen_at mid i) (seen_at new j) (tally_at before k) (tally_at before i) (tally_at before j)
-          (h.passes gate is_gate before) (g.passes gate is_gate before) (sym (rest_on piece k.used h.size i.used u));
+          then_passes gate (drop k.used piece) (drop i.used piece) h.size g.size (seen_at old k) (seen_at mid i) (seen_at new j)
+          (tally_at old.meter.at before k) (tally_at old.meter.at before i) (tally_at old.meter.at before j)
+          (h.passes gate is_gate before)
+          (subst (λ at. Passes gate (drop i.used piece) (Some g.size) (seen_at mid i) (tally_at at before i) (seen_at new j) (tally_at at before j)) (ap (λ m. m.at) h.meter)
+          (g.passes gate is_gate before))
+          (sym (rest_on piece k.used h.size i.used u));
       nothing = λ none.
           let a : h.size ≡ 0 = omega arith in
           let b : g.size ≡ 0 = omega arith in
@@ -184,5 +200,22 @@ leads_there piece old new k j s h ready =
       can = h.can;
       meter = h.meter;
       passes = λ gate is_gate before. h.to gate is_gate before (seen_at new j) (record { ready = ready; meter = refl; max = refl }) (record { table = refl; layers = refl; refs = refl });
+      nothing = λ none. absurd (omega arith);
+    }
+
+-- where that is at the top: the next content begins there
+pub leads_top : (piece : List ℕ) (old new : Seen) (k j : Counts) (s : State) → LeadsTo piece old k new j s → Ready (seen_at new j) s → phase_on new.frames ≡ phase.Top
+    → Goes piece old k new (content_ended j)
+leads_top piece old new k j s h ready top =
+    let some = h.some in
+    record {
+      size = h.size;
+      used = h.used;
+      can = h.can;
+      meter = h.meter;
+      passes = λ gate is_gate before.
+          passes_at_top gate (drop k.used piece) h.size (seen_at old k) (seen_at new j) (tally_at old.meter.at before k) (tally_at old.meter.at before j)
+          (begun_at old.meter.at before.begun (content_ended j).items) top
+          (h.to gate is_gate before (seen_at new j) (record { ready = ready; meter = refl; max = refl }) (record { table = refl; layers = refl; refs = refl }));
       nothing = λ none. absurd (omega arith);
     }

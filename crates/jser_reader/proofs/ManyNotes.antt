@@ -15,7 +15,7 @@ use Rattle.jser_reader.specs.declared.phase.Phase.TheVariants as phase
 use Rattle.jser_reader.specs.declared.tally.Tally.{Tally}
 use Rattle.jser_reader.specs.Frames.{frame_goals}
 use Rattle.jser_reader.specs.Handlers.{Comes, after_end, tail_goals}
-use Rattle.jser_reader.specs.Many.{phase_on, seen_at, tally_at, Holds, with_block, with_used, with_depth, with_top, LeadsTo, Ends, RawsOn, OpensAs, Turns}
+use Rattle.jser_reader.specs.Many.{phase_on, seen_at, tally_with, tally_at, Holds, HoldsNext, with_content, with_block, with_used, with_depth, with_top, LeadsTo, Ends, RawsOn, OpensAs, Turns}
 use Rattle.jser_reader.specs.Readers.{Seen, Ready, moment_of}
 use Rattle.jser_reader.specs.Stacks.{tail_of}
 use Rattle.jser_reader.specs.Steps.{before_parts, after_value}
@@ -23,7 +23,7 @@ use Rattle.jser_reader.specs.Takes.{farther, IsOne}
 use Rattle.jser_reader.specs.Tallies.{is_top, mark_of, tally_after}
 use Rattle.jser_reader.specs.Many.{without_top}
 use Rattle.jser_reader.proofs.ManyEnds.{leads_same, leads_raws, stands_there, used_holds}
-use Rattle.jser_reader.proofs.ManyLemmas.{last_begun, place_on, top_on, rest_can, tally_is, one_more, none_new, items_within, leads_there}
+use Rattle.jser_reader.proofs.ManyLemmas.{last_begun, place_on, top_on, rest_can, tally_is, one_more, none_new, items_within, leads_there, holds_inside}
 use Rattle.jser_reader.proofs.ManyPlain.{tag_there, ends_there}
 use Rattle.jser_reader.proofs.ManySections.{no_raws}
 use Rattle.jser_reader.proofs.PassLemmas.{passes_end}
@@ -37,9 +37,10 @@ not_less : (n m : ℕ) → m ≡ n → nat_lt n m ≡ false
 not_less n m e = grind (arith, nat_tests)
 
 -- the counts of a field where no place begins
-pub no_place_counted : (before : Tally) (old far : Seen) (k : Counts) (size : ℕ) → k.depth ≡ length old.frames → k.items.start ≡ old.meter.at → far.refs ≡ k.refs → far.table.entries ≡ old.table.entries
-    → tally_at before (with_block k size) ≡ tally_after (mark_of (seen_at old k)) (mark_of far) (tally_at before k)
-no_place_counted before old far k size ed es er et =
+pub no_place_counted : (piece : List ℕ) (before : Tally) (old far : Seen) (k : Counts) (size : ℕ) → HoldsNext piece old k → far.refs ≡ k.refs → far.table.entries ≡ old.table.entries
+    → tally_at old.meter.at before (with_block k size) ≡ tally_after (mark_of (seen_at old k)) (mark_of far) (tally_at old.meter.at before k)
+no_place_counted piece before old far k size h er et =
+    let ed = h.holds.depth in
     let top : is_top (phase_on old.frames) ≡ (k.depth == 0) = top_on old.frames ∙ ap (λ n. n == 0) (sym ed) in
     let zero_more = none_new (is_top (phase_on old.frames)) (length old.table.entries) (length far.table.entries) (λ none. ap length (sym et) ∙ none) in
     let same : before.earlier ≡ before.earlier + 0 = omega arith in
@@ -49,11 +50,11 @@ no_place_counted before old far k size ed es er et =
     (one_more (k.depth == 0) before.contents k.items.count ∙ ap (λ b. one_more_if b (before.contents + k.items.count)) (sym top))
     (same ∙ ap (λ n. before.earlier + n) (sym zero_more))
     (deep ∙ ap (λ b. max k.deepest (number_if b (suc (length old.frames)))) (sym none))
-    (last_begun old k es top)
+    (last_begun old k before.begun h.top top)
 
 -- ---- a block
 
-block_ends : (piece : List ℕ) (len : ℕ) (old : Seen) (k j : Counts) → Holds piece old k → k.used + 6 ≤ length piece → 0x77 ≡ get_or piece k.used 0 → len ≡ get_or piece (k.used + 1) 0
+block_ends : (piece : List ℕ) (len : ℕ) (old : Seen) (k j : Counts) → HoldsNext piece old k → k.used + 6 ≤ length piece → 0x77 ≡ get_or piece k.used 0 → len ≡ get_or piece (k.used + 1) 0
     → k.used + (len + 2) ≤ length piece → (phase_on old.frames ≡ phase.Value → ⊥) → j ≡ with_block k (len + 2) → Ends piece old k old j
 unfolding Ends
 block_ends piece len old k j h room tag second enough other ej =
@@ -64,23 +65,24 @@ block_ends piece len old k j h room tag second enough other ej =
       size = len + 2;
       some = omega arith;
       used = refl;
-      can = rest_can piece old k h more;
+      can = rest_can piece old k h.holds more;
       meter = refl;
       to = λ gate g before next comes kept.
-          block_passes gate len (drop k.used piece) r (farther r (len + 2)) next (mark_of r) (mark_of (farther r (len + 2))) (tally_at before k) (tally_at before (with_block k (len + 2))) g
-          (rest_can piece old k h more) (place_on old.frames) other (tag_there piece k.used 0x77 tag) (second ∙ sym (get_or-drop k.used piece 1 0)) (omega arith) refl
+          block_passes gate len (drop k.used piece) r (farther r (len + 2)) next (mark_of r) (mark_of (farther r (len + 2))) (tally_at old.meter.at before k) (tally_at old.meter.at before (with_block k (len + 2))) g
+          (rest_can piece old k h.holds more) (place_on old.frames) other (tag_there piece k.used 0x77 tag) (second ∙ sym (get_or-drop k.used piece 1 0)) (omega arith) refl
           (ends_there old (farther r (len + 2)) old next k (with_block k (len + 2)) (len + 2) refl refl refl refl refl refl refl comes) refl refl
-          (λ _ _. no_place_counted before old (farther r (len + 2)) k (len + 2) h.depth h.start refl refl);
+          (λ _ _. no_place_counted piece before old (farther r (len + 2)) k (len + 2) h refl refl);
     })
 
-pub block_turn : (piece : List ℕ) (len : ℕ) (old : Seen) (k j : Counts) → Holds piece old k → k.used + 6 ≤ length piece → 0x77 ≡ get_or piece k.used 0 → len ≡ get_or piece (k.used + 1) 0
+pub block_turn : (piece : List ℕ) (len : ℕ) (old : Seen) (k j : Counts) → HoldsNext piece old k → k.used + 6 ≤ length piece → 0x77 ≡ get_or piece k.used 0 → len ≡ get_or piece (k.used + 1) 0
     → k.used + (len + 2) ≤ length piece → (phase_on old.frames ≡ phase.Value → ⊥) → j ≡ with_block k (len + 2) → Turns piece turn.Ended old k old j
 unfolding Turns
 block_turn piece len old k j h room tag second enough other ej =
     let used : j.used ≡ k.used + (len + 2) = ap (λ x. x.used) ej in
-    let deep = h.deep in (
+    let deep = h.holds.deep in
+    let last = h.holds.last in (
       block_ends piece len old k j h room tag second enough other ej,
-      subst (Holds piece old) (sym ej) (record { can = h.can; within = enough; depth = h.depth; deep = deep; items = items_within (k.depth == 0) k.items.count k.used (len + 2) h.items (omega arith); start = h.start; room = h.room }),
+      subst (Holds piece old) (sym ej) (record { can = h.holds.can; within = enough; depth = h.holds.depth; deep = deep; items = items_within (k.depth == 0) k.items.count k.used (len + 2) h.holds.items (omega arith); last = omega arith }),
       omega arith,
     )
 
@@ -115,16 +117,16 @@ one_byte old next k parts left comes =
 inside_depth : (fs : List Frame) (f : Frame) → fs ≡ f ∷ tail_of fs → (length fs == 0) ≡ false
 inside_depth fs f e = let n : length fs ≡ suc (length (tail_of fs)) = ap length e in grind (arith, nat_tests)
 
-notes_counted : (before : Tally) (old next : Seen) (k : Counts) (f : Frame) → k.depth ≡ length old.frames → k.items.start ≡ old.meter.at → old.frames ≡ f ∷ tail_of old.frames → next.refs ≡ k.refs → next.table ≡ old.table
-    → tally_at before (with_used k 1) ≡ tally_after (mark_of (seen_at old k)) (mark_of next) (tally_at before k)
-notes_counted before old next k f ed es e er et =
-    let inside : (k.depth == 0) ≡ false = ap (λ n. n == 0) ed ∙ inside_depth old.frames f e in
+notes_counted : (piece : List ℕ) (before : Tally) (old next : Seen) (k : Counts) (f : Frame) → HoldsNext piece old k → old.frames ≡ f ∷ tail_of old.frames → next.refs ≡ k.refs → next.table ≡ old.table
+    → tally_at old.meter.at before (with_used k 1) ≡ tally_after (mark_of (seen_at old k)) (mark_of next) (tally_at old.meter.at before k)
+notes_counted piece before old next k f h e er et =
+    let inside : (k.depth == 0) ≡ false = ap (λ n. n == 0) h.holds.depth ∙ inside_depth old.frames f e in
     let none : k.items.count ≡ k.items.count + 0 = omega arith in
-    ap (λ n. record { contents = before.contents + n; earlier = before.earlier; depth = k.deepest; begun = k.items.last }) none
-    ∙ ap (λ b. record { contents = before.contents + (k.items.count + number_if b 1); earlier = before.earlier; depth = k.deepest; begun = if b then k.items.start + k.used else k.items.last }) (sym inside)
-    ∙ no_place_counted before old next k 1 ed es er (ap (λ t. t.entries) et)
+    ap (λ n. tally_with old.meter.at before (record { count = n; last = k.items.last }) k.deepest) none
+    ∙ ap (λ b. tally_with old.meter.at before (with_content k.items b) k.deepest) (sym inside)
+    ∙ no_place_counted piece before old next k 1 h er (ap (λ t. t.entries) et)
 
-notes_lead : (piece : List ℕ) (old : Seen) (k : Counts) (f : Frame) (parts : List Part) → Holds piece old k → k.used + 6 ≤ length piece → 0x78 ≡ get_or piece k.used 0
+notes_lead : (piece : List ℕ) (old : Seen) (k : Counts) (f : Frame) (parts : List Part) → HoldsNext piece old k → k.used + 6 ≤ length piece → 0x78 ≡ get_or piece k.used 0
     → old.frames ≡ f ∷ tail_of old.frames → phase_on old.frames ≡ phase.Note → IsLeft (farther (seen_at old k) 1) parts
     → LeadsTo piece old k old (with_used k 1) (before_parts (seen_at old (with_used k 1)) (tail_of old.frames) parts)
 notes_lead piece old k f parts h room tag e ep left =
@@ -135,14 +137,14 @@ notes_lead piece old k f parts h room tag e ep left =
       size = 1;
       some = omega arith;
       used = refl;
-      can = rest_can piece old k h more;
+      can = rest_can piece old k h.holds more;
       meter = refl;
       to = λ gate g before next comes kept.
-          passes_end gate 1 (taken.Ended 1) (drop k.used piece) r next (tally_at before k) (tally_at before (with_used k 1))
+          passes_end gate 1 (taken.Ended 1) (drop k.used piece) r next (tally_at old.meter.at before k) (tally_at old.meter.at before (with_used k 1))
           (one_taken 0x78 true (taken.Ended 1) (drop k.used piece) r next
           (takes_note 0x78 true r (farther r 1) next (λ _. note_end 0x78 true (farther r 1) next refl (one_byte old next k parts left comes) refl) refl ep)
           refl (tag_there piece k.used 0x78 tag) (omega arith) (subst IsOne (sym ep) tt) gate)
-          refl (λ _ _. notes_counted before old next k f h.depth h.start e kept.refs kept.table) g (rest_can piece old k h more);
+          refl (λ _ _. notes_counted piece before old next k f h e kept.refs kept.table) g (rest_can piece old k h.holds more);
     }
 
 none_state : (old new : Seen) (i j : Counts) → new ≡ without_top old → j.refs ≡ i.refs → before_parts (seen_at old i) (tail_of old.frames) [] ≡ after_value (seen_at new j)
@@ -151,14 +153,14 @@ none_state old new i j en er =
     ap (λ n. settle (record { table = old.table.entries; places = n }) (frame_goals old.table.chains old.layers (tail_of old.frames))) (sym er)
     ∙ ap (λ r. settle (record { table = r.table.entries; places = j.refs }) (frame_goals r.table.chains r.layers r.frames)) (sym en)
 
-notes_done : (piece : List ℕ) (old new : Seen) (k j : Counts) (f : Frame) (parts : List Part) (used : ℕ) → Holds piece old k
+notes_done : (piece : List ℕ) (old new : Seen) (k j : Counts) (f : Frame) (parts : List Part) (used : ℕ) → HoldsNext piece old k
     → LeadsTo piece old k old (with_used k 1) (before_parts (seen_at old (with_used k 1)) (tail_of old.frames) parts) → old.frames ≡ f ∷ tail_of old.frames
     → RawsOn old.table.chains used parts [] → k.used + 1 + used ≤ length piece → new ≡ without_top old → j ≡ with_depth (with_used k (used + 1)) (k.depth - 1) → Turns piece turn.Ended old k new j
 unfolding Turns Ends
 notes_done piece old new k j f parts used h leads e raws enough en ej =
     let i : Counts = with_used (with_used k 1) used in
     let n : length old.frames ≡ suc (length (tail_of old.frames)) = ap length e in
-    let depth = h.depth in
+    let depth = h.holds.depth in
     let frames : length new.frames ≡ length (tail_of old.frames) = ap (λ r. length r.frames) en in
     let there : j.used ≡ k.used + (used + 1) = ap (λ x. x.used) ej in
     let deep : j.depth ≡ k.depth - 1 = ap (λ x. x.depth) ej in (
@@ -166,18 +168,18 @@ notes_done piece old new k j f parts used h leads e raws enough en ej =
           (leads_raws piece old old k (with_used k 1) (tail_of old.frames) used parts [] leads raws (omega arith))
           (ap (λ r. r.meter) en) (ap (λ r. r.layers) en) (ap (λ r. r.table) en) (omega arith) (ap (λ x. x.refs) ej) (ap (λ x. x.items) ej) (ap (λ x. x.deepest) ej)
           (none_state old new i j en (ap (λ x. x.refs) ej)),
-      used_holds piece old new k j (used + 1) h (ap (λ r. r.meter) en) (omega arith) there (ap (λ x. x.items) ej) (ap (λ x. x.deepest) ej) (omega arith),
+      used_holds piece old new k j (used + 1) h.holds (ap (λ r. r.meter) en) (omega arith) there (ap (λ x. x.items) ej) (ap (λ x. x.deepest) ej) (omega arith),
       omega arith,
     )
 
-notes_open : (piece : List ℕ) (old new : Seen) (k j : Counts) (f g : Frame) (parts : List Part) (used : ℕ) → Holds piece old k
+notes_open : (piece : List ℕ) (old new : Seen) (k j : Counts) (f g : Frame) (parts : List Part) (used : ℕ) → HoldsNext piece old k
     → LeadsTo piece old k old (with_used k 1) (before_parts (seen_at old (with_used k 1)) (tail_of old.frames) parts) → old.frames ≡ f ∷ tail_of old.frames
     → OpensAs old.table.chains parts used g → k.used + 1 + used ≤ length piece → new ≡ with_top old g → j ≡ with_used k (used + 1) → Turns piece turn.Next old k new j
 unfolding Turns Ends
 notes_open piece old new k j f g parts used h leads e opens enough en ej =
     let i : Counts = with_used (with_used k 1) used in
     let n : length old.frames ≡ suc (length (tail_of old.frames)) = ap length e in
-    let depth = h.depth in
+    let depth = h.holds.depth in
     let frames : length new.frames ≡ suc (length (tail_of old.frames)) = ap (λ r. length r.frames) en in
     let there : j.used ≡ k.used + (used + 1) = ap (λ x. x.used) ej in
     let deep : j.depth ≡ k.depth = ap (λ x. x.depth) ej in
@@ -186,33 +188,33 @@ notes_open piece old new k j f g parts used h leads e opens enough en ej =
           (leads_same piece old old new k i j s s (leads_raws piece old old k (with_used k 1) (tail_of old.frames) used parts opens.parts leads opens.raws (omega arith))
           (ap (λ r. r.meter) en) (ap (λ r. r.layers) en) (ap (λ r. r.table) en) (omega arith) (ap (λ x. x.refs) ej) (ap (λ x. x.items) ej) (ap (λ x. x.deepest) ej) refl)
           (stands_there old new (with_used k 1) j g opens.parts used (tail_of old.frames) opens.stands (ap (λ r. r.frames) en) (ap (λ r. r.layers) en) (ap (λ r. r.table) en) (ap (λ x. x.refs) ej)),
-      used_holds piece old new k j (used + 1) h (ap (λ r. r.meter) en) (omega arith) there (ap (λ x. x.items) ej) (ap (λ x. x.deepest) ej) (omega arith),
+      holds_inside piece new j (used_holds piece old new k j (used + 1) h.holds (ap (λ r. r.meter) en) (omega arith) there (ap (λ x. x.items) ej) (ap (λ x. x.deepest) ej) (omega arith)) (omega arith),
       omega arith,
     )
 
 -- of a section
 
-section_leads : (piece : List ℕ) (old : Seen) (k : Counts) (last section : ℕ) → Holds piece old k → k.used + 6 ≤ length piece → 0x78 ≡ get_or piece k.used 0
+section_leads : (piece : List ℕ) (old : Seen) (k : Counts) (last section : ℕ) → HoldsNext piece old k → k.used + 6 ≤ length piece → 0x78 ≡ get_or piece k.used 0
     → old.frames ≡ frame.Notes last section ∷ tail_of old.frames
     → LeadsTo piece old k old (with_used k 1) (before_parts (seen_at old (with_used k 1)) (tail_of old.frames) (section_parts (under old.table.chains last section)))
 section_leads piece old k last section h room tag e =
     notes_lead piece old k (frame.Notes last section) (section_parts (under old.table.chains last section)) h room tag e (ap phase_on e)
     (section_left (farther (seen_at old k) 1) last section e)
 
-pub section_done : (piece : List ℕ) (old new : Seen) (k j : Counts) (last section used : ℕ) → Holds piece old k → k.used + 6 ≤ length piece → 0x78 ≡ get_or piece k.used 0
+pub section_done : (piece : List ℕ) (old new : Seen) (k j : Counts) (last section used : ℕ) → HoldsNext piece old k → k.used + 6 ≤ length piece → 0x78 ≡ get_or piece k.used 0
     → old.frames ≡ frame.Notes last section ∷ tail_of old.frames → RawsOn old.table.chains used (section_parts (under old.table.chains last section)) [] → k.used + 1 + used ≤ length piece
     → new ≡ without_top old → j ≡ with_depth (with_used k (used + 1)) (k.depth - 1) → Turns piece turn.Ended old k new j
 section_done piece old new k j last section used h room tag e raws enough en ej =
     notes_done piece old new k j (frame.Notes last section) (section_parts (under old.table.chains last section)) used h (section_leads piece old k last section h room tag e) e raws enough en ej
 
-pub section_open : (piece : List ℕ) (old new : Seen) (k j : Counts) (last section used : ℕ) (g : Frame) → Holds piece old k → k.used + 6 ≤ length piece → 0x78 ≡ get_or piece k.used 0
+pub section_open : (piece : List ℕ) (old new : Seen) (k j : Counts) (last section used : ℕ) (g : Frame) → HoldsNext piece old k → k.used + 6 ≤ length piece → 0x78 ≡ get_or piece k.used 0
     → old.frames ≡ frame.Notes last section ∷ tail_of old.frames → OpensAs old.table.chains (section_parts (under old.table.chains last section)) used g → k.used + 1 + used ≤ length piece
     → new ≡ with_top old g → j ≡ with_used k (used + 1) → Turns piece turn.Next old k new j
 section_open piece old new k j last section used g h room tag e opens enough en ej =
     notes_open piece old new k j (frame.Notes last section) g (section_parts (under old.table.chains last section)) used h (section_leads piece old k last section h room tag e) e opens enough en ej
 
 -- of an externalizable object
-pub external_done : (piece : List ℕ) (old new : Seen) (k j : Counts) → Holds piece old k → k.used + 6 ≤ length piece → 0x78 ≡ get_or piece k.used 0
+pub external_done : (piece : List ℕ) (old new : Seen) (k j : Counts) → HoldsNext piece old k → k.used + 6 ≤ length piece → 0x78 ≡ get_or piece k.used 0
     → old.frames ≡ frame.ExternalNotes ∷ tail_of old.frames → new ≡ without_top old → j ≡ with_depth (with_used k 1) (k.depth - 1) → Turns piece turn.Ended old k new j
 external_done piece old new k j h room tag e en ej =
     notes_done piece old new k j frame.ExternalNotes [] 0 h

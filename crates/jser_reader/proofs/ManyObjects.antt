@@ -20,7 +20,7 @@ use Rattle.jser_reader.specs.Many.{HasSections}
 use Rattle.jser_reader.specs.Wholes.{AssignsOther}
 use Rattle.jser_reader.specs.Frames.{frame_goals}
 use Rattle.jser_reader.specs.Handlers.{Pushes, BeginsObject, moved, added, pushed, is_full}
-use Rattle.jser_reader.specs.Many.{seen_at, tally_at, Holds, with_place, with_used, with_depth, LeadsTo, Ends, RawsOn, OpensAs, Puts, Opened, Turns}
+use Rattle.jser_reader.specs.Many.{seen_at, tally_at, HoldsNext, with_place, with_used, with_depth, LeadsTo, Ends, RawsOn, OpensAs, Puts, Opened, Turns}
 use Rattle.jser_reader.specs.Readers.{Seen, Ready}
 use Rattle.jser_reader.specs.Steps.{Kept, before_parts, after_value, PartGives}
 use Rattle.jser_reader.specs.Takes.{counted_on}
@@ -30,7 +30,7 @@ use Rattle.jser_reader.specs.Wholes.{HasPlace, HasReference}
 use Rattle.jser_reader.proofs.ClassLemmas.{right_class}
 use Rattle.jser_reader.proofs.WholeLemmas.{assigned_other}
 use Rattle.jser_reader.proofs.ManyEnds.{leads_same, leads_raws, stands_there}
-use Rattle.jser_reader.proofs.ManyLemmas.{same_start, same_room, place_on, rest_can, place_counted, place_holds, leads_there, same_can}
+use Rattle.jser_reader.proofs.ManyLemmas.{place_on, rest_can, place_counted, place_holds, leads_there, same_can}
 use Rattle.jser_reader.proofs.OwnerLemmas.{filled_object, object_begins, object_owned}
 use Rattle.jser_reader.proofs.WholeLemmas.{with_class, TellsClass, owner_passes}
 
@@ -128,7 +128,7 @@ class_told r next n meter_at sections c full ready kept meter =
 abbrev with_other : Seen → Seen
 with_other r = added r other_entry
 
-object_leads : (piece : List ℕ) (n : ℕ) (old : Seen) (k : Counts) (sections : Sections) → Holds piece old k → HasPlace (seen_at old k) → k.used + 6 ≤ length piece → 0x73 ≡ get_or piece k.used 0
+object_leads : (piece : List ℕ) (n : ℕ) (old : Seen) (k : Counts) (sections : Sections) → HoldsNext piece old k → HasPlace (seen_at old k) → k.used + 6 ≤ length piece → 0x73 ≡ get_or piece k.used 0
     → HasReference (drop k.used piece) n → n < 2 ^ 32 → HasSections old n sections → is_full old ≡ false
     → LeadsTo piece old k (with_other old) (with_place k 6) (before_parts (seen_at (with_other old) (with_place k 6)) old.frames (data_parts old sections))
 unfolding before_parts
@@ -143,15 +143,15 @@ object_leads piece n old k sections h p room tag class small c full =
       size = 6;
       some = omega arith;
       used = refl;
-      can = rest_can piece old k h more;
+      can = rest_can piece old k h.holds more;
       meter = refl;
       to = λ gate g before next comes kept.
-          owner_passes gate owner.Object n true (drop k.used piece) r mid next (mark_of r) (mark_of mid) (tally_at before k) (tally_at before (with_place k 6)) g
-          (rest_can piece old k h more) (place_on old.frames) (tag_there piece k.used 0x73 tag) class small p refl
+          owner_passes gate owner.Object n true (drop k.used piece) r mid next (mark_of r) (mark_of mid) (tally_at old.meter.at before k) (tally_at old.meter.at before (with_place k 6)) g
+          (rest_can piece old k h.holds more) (place_on old.frames) (tag_there piece k.used 0x73 tag) class small p refl
           (class_told r next n 0 sections
           (record { chain = c.chain; low = c.low; is_class = c.is_class; fits = c.fits; plain = c.plain; are = c.are }) full comes.ready
           (record { table = kept.table; layers = kept.layers; refs = kept.refs }) (comes.meter ∙ same))
-          refl refl (λ _ _. place_counted before old mid k 6 h.depth h.start refl (λ none. none));
+          refl refl (λ _ _. place_counted piece before old mid k 6 h refl (λ none. none));
     }
 
 -- ---- all of it, as far as its first value
@@ -162,7 +162,7 @@ none_left old new i j en er =
     ap (λ n. settle (record { table = (with_other old).table.entries; places = n }) (frame_goals old.table.chains old.layers old.frames)) (sym er)
     ∙ ap (λ r. settle (record { table = r.table.entries; places = j.refs }) (frame_goals r.table.chains r.layers r.frames)) (sym en)
 
-pub object_ended : (piece : List ℕ) (n used : ℕ) (old new : Seen) (k j : Counts) (sections : Sections) → Holds piece old k → k.used + 6 ≤ length piece → 0x73 ≡ get_or piece k.used 0
+pub object_ended : (piece : List ℕ) (n used : ℕ) (old new : Seen) (k j : Counts) (sections : Sections) → HoldsNext piece old k → k.used + 6 ≤ length piece → 0x73 ≡ get_or piece k.used 0
     → HasReference (drop k.used piece) n → n < 2 ^ 32 → HasSections old n sections → HasPlace (seen_at old k) → RawsOn old.table.chains used (data_parts old sections) []
     → k.used + 6 + used ≤ length piece → (is_full old ≡ false) × (new ≡ with_other old) → j ≡ with_place k (used + 6) → Turns piece turn.Ended old k new j
 unfolding Turns Ends
@@ -174,11 +174,11 @@ object_ended piece n used old new k j sections h room tag class small c p raws e
       leads_same piece old (with_other old) new k i j (before_parts (seen_at (with_other old) i) old.frames []) (after_value (seen_at new j)) leads
           (ap (λ r. r.meter) en) (ap (λ r. r.layers) en) (ap (λ r. r.table) en) (omega arith) (ap (λ x. x.refs) ej) (ap (λ x. x.items) ej) (ap (λ x. x.deepest) ej)
           (none_left old new i j en (ap (λ x. x.refs) ej)),
-      place_holds piece old new k j (used + 6) h p (omega arith) (omega arith) (ap (λ r. r.meter) en) (ap (λ r. r.frames) en) ej,
+      place_holds piece old new k j (used + 6) h.holds p (omega arith) (omega arith) (ap (λ r. r.meter) en) (ap (λ r. r.frames) en) ej,
       omega arith,
     )
 
-pub object_opened : (piece : List ℕ) (n used : ℕ) (f : Frame) (old new : Seen) (k i j : Counts) (sections : Sections) → Holds piece old k → k.used + 6 ≤ length piece → 0x73 ≡ get_or piece k.used 0
+pub object_opened : (piece : List ℕ) (n used : ℕ) (f : Frame) (old new : Seen) (k i j : Counts) (sections : Sections) → HoldsNext piece old k → k.used + 6 ≤ length piece → 0x73 ≡ get_or piece k.used 0
     → HasReference (drop k.used piece) n → n < 2 ^ 32 → HasSections old n sections → HasPlace (seen_at old k) → OpensAs old.table.chains (data_parts old sections) used f
     → k.used + 6 + used ≤ length piece → (is_full old ≡ false) × (new ≡ pushed (with_other old) f) → i ≡ with_place k (used + 6) → j ≡ with_depth i (i.depth + 1) → Turns piece turn.Next old k new j
 unfolding Turns Ends
@@ -191,17 +191,22 @@ object_opened piece n used f old new k i j sections h room tag class small c p o
     let frames : length new.frames ≡ suc (length old.frames) = ap (λ r. length r.frames) en in
     let leads = leads_raws piece old (with_other old) k (with_place k 6) old.frames used (data_parts old sections) opens.parts (object_leads piece n old k sections h p room tag class small c assigns.0) opens.raws (omega arith) in
     let s = before_parts (seen_at (with_other old) l) old.frames opens.parts in
-    let held = place_holds piece old (with_other old) k (with_place k (used + 6)) (used + 6) h p (omega arith) (omega arith) refl refl refl in
+    let held = place_holds piece old (with_other old) k (with_place k (used + 6)) (used + 6) h.holds p (omega arith) (omega arith) refl refl refl in
     let items : j.items ≡ (with_place k (used + 6)).items = ap (λ x. x.items) e in
     let counted : j.items.count ≡ (with_place k (used + 6)).items.count = ap (λ b. b.count) items in
+    let same_last : j.items.last ≡ k.items.last = ap (λ b. b.last) items in
     let deepest : j.deepest ≡ (with_place k (used + 6)).deepest = ap (λ x. x.deepest) e in
     let a = held.items in
     let b = held.deep in
-    let d = h.depth in
+    let z = held.last in
+    let d = h.holds.depth in
     let limit : new.meter.limits.depth ≡ old.meter.limits.depth = ap (λ r. r.meter.limits.depth) en in (
       leads_there piece old new k j s
           (leads_same piece old (with_other old) new k l j s s leads (ap (λ r. r.meter) en) (ap (λ r. r.layers) en) (ap (λ r. r.table) en) (omega arith) (ap (λ x. x.refs) e) items deepest refl)
           (stands_there (with_other old) new (with_place k 6) j f opens.parts used old.frames opens.stands (ap (λ r. r.frames) en) (ap (λ r. r.layers) en) (ap (λ r. r.table) en) (ap (λ x. x.refs) e)),
-      record { can = same_can piece old new (ap (λ r. r.meter) en) h.can; within = omega arith; depth = omega arith; deep = omega arith; items = omega arith; start = same_start old new (with_place k (used + 6)) j (ap (λ r. r.meter) en) items h.start; room = same_room (length piece) (with_place k (used + 6)) j items h.room },
+      record {
+        holds = record { can = same_can piece old new (ap (λ r. r.meter) en) h.holds.can; within = omega arith; depth = omega arith; deep = omega arith; items = omega arith; last = omega arith };
+        top = λ none. absurd (omega arith);
+      },
       omega arith,
     )

@@ -8,7 +8,7 @@ use Rattle.jser_reader.specs.declared.machine.many.counts.Turn.TheVariants as tu
 use Rattle.jser_reader.specs.declared.tally.Tally.{Tally}
 use Rattle.jser_reader.specs.Handlers.{moved}
 use Rattle.jser_reader.specs.ItemsTold.{StandsIn}
-use Rattle.jser_reader.specs.Many.{seen_at, tally_at, counts_of, IsAtRest, Holds, Ends, Goes, Turns, Settles}
+use Rattle.jser_reader.specs.Many.{seen_at, tally_at, counts_of, IsAtRest, Holds, HoldsNext, Ends, Goes, Turns, Settles}
 use Rattle.jser_reader.specs.Passes.{Passes, PassTells, PassInside, CanPass}
 use Rattle.jser_reader.specs.Readers.{Seen, Ready}
 use Rattle.jser_reader.specs.ReaderStates.{StandsFor}
@@ -51,21 +51,21 @@ turn_holds piece old new k j turn.Nothing h e = absurd (cc)
 
 pub record GoesSo (piece : List ℕ) (old : Seen) (before : Tally) (now : Seen) (k : Counts) : Type 0 where
   pub goes : Goes piece old (counts_of old before) now k
-  pub holds : Holds piece now k
+  pub holds : HoldsNext piece now k
 
 pub goes_first : (piece : List ℕ) (old : Seen) (before : Tally) (k : Counts) → CanPass old piece → 0 < length piece → before.depth ≤ old.meter.limits.depth → k ≡ counts_of old before
     → GoesSo piece old before old k
 goes_first piece old before k can some deep e =
     let c : Counts = counts_of old before in
-    let h : Holds piece old c = record { can = can; within = omega arith; depth = refl; deep = deep; items = omega arith; start = refl; room = can.within.room some } in
+    let h : HoldsNext piece old c = record { holds = record { can = can; within = omega arith; depth = refl; deep = deep; items = omega arith; last = omega arith }; top = λ _. refl } in
     subst (GoesSo piece old before old) (sym e)
     (record {
       goes = record {
         size = 0;
         used = refl;
-        can = rest_can piece old c h some;
+        can = rest_can piece old c h.holds some;
         meter = refl;
-        passes = λ gate is_gate told. pass_none gate (drop c.used piece) (seen_at old c) (tally_at told c);
+        passes = λ gate is_gate told. pass_none gate (drop c.used piece) (seen_at old c) (tally_at old.meter.at told c);
         nothing = λ none. (refl, refl);
       };
       holds = h;
@@ -118,12 +118,12 @@ first_machine old before h =
     ∙ ap (λ n. record { at = old.meter.at; from = n; limits = old.meter.limits; stop = old.meter.stop; cut_phase = old.meter.cut_phase; kept = old.meter.kept }) (sym h.from) in
     ap₂ (λ m p. record old { meter = m; phase = p }) meter (sym h.phase_is)
 
-first_tally : (old : Seen) (before : Tally) → tally_at before (counts_of old before) ≡ before
+first_tally : (old : Seen) (before : Tally) → tally_at old.meter.at before (counts_of old before) ≡ before
 first_tally old before =
     let same : before.contents + 0 ≡ before.contents = omega arith in ap (λ n. record before { contents = n }) same
 
 from_first : (gate : Gate) (piece : List ℕ) (old new : Seen) (before told : Tally) (size used : ℕ) → IsAtRest old → used ≡ 0 + size
-    → Passes gate (drop 0 piece) (Some size) (seen_at old (counts_of old before)) (tally_at before (counts_of old before)) new told → Passes gate piece (Some used) old before new told
+    → Passes gate (drop 0 piece) (Some size) (seen_at old (counts_of old before)) (tally_at old.meter.at before (counts_of old before)) new told → Passes gate piece (Some used) old before new told
 from_first gate piece old new before told size used rest e h =
     let same : size ≡ used = omega arith in
     subst (λ n. Passes gate piece (Some n) old before new told) same
@@ -153,25 +153,32 @@ counted gate piece used items old new before after told g can some few within co
         let room = can.within.room some in
         counts (omega arith)
 
+-- what was written back
+told_after : (old now : Seen) (before between after : Tally) (k : Counts) → between ≡ before → now.meter ≡ old.meter
+    → (between.contents + k.items.count < 2 ^ 64 → after ≡ tally_at now.meter.at between k) → before.contents + k.items.count < 2 ^ 64 → after ≡ tally_at old.meter.at before k
+told_after old now before between after k et em counts =
+    subst (λ m. before.contents + k.items.count < 2 ^ 64 → after ≡ tally_at m.at before k) em
+    (subst (λ t. t.contents + k.items.count < 2 ^ 64 → after ≡ tally_at now.meter.at t k) et counts)
+
 pub many_pass : (piece : List ℕ) (old now new : Seen) (before between after : Tally) (k : Counts) → GoesSo piece old before now k → CanPass old piece → 0 < length piece → IsAtRest old
-    → new ≡ seen_at now k → between ≡ before → (between.contents + k.items.count < 2 ^ 64 → after ≡ tally_at between k) → (gate : Gate) → IsGate gate → Passes gate piece (Some k.used) old before new after
+    → new ≡ seen_at now k → between ≡ before → (between.contents + k.items.count < 2 ^ 64 → after ≡ tally_at now.meter.at between k) → (gate : Gate) → IsGate gate → Passes gate piece (Some k.used) old before new after
 many_pass piece old now new before between after k h can some rest en et counts gate g =
-    counted gate piece k.used k.items.count old new before after (tally_at before k) g can some h.holds.items h.holds.within
-    (subst (λ t. t.contents + k.items.count < 2 ^ 64 → after ≡ tally_at t k) et counts)
-    (from_first gate piece old new before (tally_at before k) h.goes.size k.used rest h.goes.used
-    (subst (λ r. Passes gate (drop 0 piece) (Some h.goes.size) (seen_at old (counts_of old before)) (tally_at before (counts_of old before)) r (tally_at before k)) (sym en) (h.goes.passes gate g before)))
+    counted gate piece k.used k.items.count old new before after (tally_at old.meter.at before k) g can some h.holds.holds.items h.holds.holds.within
+    (told_after old now before between after k et h.goes.meter counts)
+    (from_first gate piece old new before (tally_at old.meter.at before k) h.goes.size k.used rest h.goes.used
+    (subst (λ r. Passes gate (drop 0 piece) (Some h.goes.size) (seen_at old (counts_of old before)) (tally_at old.meter.at before (counts_of old before)) r (tally_at old.meter.at before k)) (sym en) (h.goes.passes gate g before)))
 
 pub many_end : (piece : List ℕ) (old now mid new : Seen) (before between after : Tally) (k : Counts) → Ends piece old (counts_of old before) now k × Holds piece now k → CanPass old piece → 0 < length piece
     → IsAtRest old → mid ≡ seen_at now k → Ready new (after_value mid) → Kept mid new → new.meter ≡ mid.meter → between ≡ before
-    → (between.contents + k.items.count < 2 ^ 64 → after ≡ tally_at between k)
+    → (between.contents + k.items.count < 2 ^ 64 → after ≡ tally_at now.meter.at between k)
     → (gate : Gate) → IsGate gate → Passes gate piece (Some k.used) old before new after
 unfolding Ends
 many_end piece old now mid new before between after k h can some rest em ready kept meter et counts gate g =
     let leads = h.0 in
     let r : Seen = seen_at now k in
-    counted gate piece k.used k.items.count old new before after (tally_at before k) g can some h.1.items h.1.within
-    (subst (λ t. t.contents + k.items.count < 2 ^ 64 → after ≡ tally_at t k) et counts)
-    (from_first gate piece old new before (tally_at before k) leads.size k.used rest leads.used
+    counted gate piece k.used k.items.count old new before after (tally_at old.meter.at before k) g can some h.1.items h.1.within
+    (told_after old now before between after k et leads.meter counts)
+    (from_first gate piece old new before (tally_at old.meter.at before k) leads.size k.used rest leads.used
     (leads.to gate g before new
     (record {
       ready = subst (λ m. Ready new (after_value m)) em ready;

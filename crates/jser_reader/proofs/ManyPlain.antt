@@ -9,7 +9,7 @@ use Rattle.jser_reader.specs.declared.machine.many.counts.Counts.{Counts}
 use Rattle.jser_reader.specs.declared.machine.many.counts.Turn.TheVariants as turn
 use Rattle.jser_reader.specs.declared.tag.ValueTag.TheVariants as value
 use Rattle.jser_reader.specs.Handlers.{Comes, added, counted}
-use Rattle.jser_reader.specs.Many.{seen_at, tally_at, Holds, with_place, LeadsTo, Ends, Turns}
+use Rattle.jser_reader.specs.Many.{seen_at, tally_at, HoldsNext, with_place, LeadsTo, Ends, Turns}
 use Rattle.jser_reader.specs.Readers.{Seen}
 use Rattle.jser_reader.specs.Steps.{after_value}
 use Rattle.jser_reader.specs.Takes.{counted_on, farther}
@@ -34,9 +34,9 @@ tag_there piece at tag e =
     let same : at + 0 ≡ at = omega arith in
     e ∙ ap (λ n. get_or piece n 0) (sym same) ∙ sym (get_or-drop at piece 0 0)
 
-pub has_place_there : (piece : List ℕ) (r : Seen) (k : Counts) (depth : ℕ) → Holds piece r k → (r.meter.limits.refs ≤ k.refs → ⊥) → k.depth < depth → depth ≤ r.meter.limits.depth → HasPlace (seen_at r k)
+pub has_place_there : (piece : List ℕ) (r : Seen) (k : Counts) (depth : ℕ) → HoldsNext piece r k → (r.meter.limits.refs ≤ k.refs → ⊥) → k.depth < depth → depth ≤ r.meter.limits.depth → HasPlace (seen_at r k)
 has_place_there piece r k depth h few low high =
-    let d = h.depth in
+    let d = h.holds.depth in
     record { shallow = omega arith; few = omega arith }
 
 -- ---- after a value without a class
@@ -51,14 +51,14 @@ ends_there old far new next k j size eu er em enm ef ey et comes =
     ∙ ap (λ m. record { at = m.at + j.used; from = m.at + j.used; limits = m.limits; stop = m.stop; cut_phase = m.cut_phase; kept = m.kept }) (sym enm))
     (sym ef) (sym ey) (sym et) (sym er)
 
-pub null_ends : (piece : List ℕ) (old : Seen) (k j : Counts) → Holds piece old k → HasPlace (seen_at old k) → k.used < length piece → 0x70 ≡ get_or piece k.used 0
+pub null_ends : (piece : List ℕ) (old : Seen) (k j : Counts) → HoldsNext piece old k → HasPlace (seen_at old k) → k.used < length piece → 0x70 ≡ get_or piece k.used 0
     → j ≡ with_place k 1 → Ends piece old k old j
 unfolding Ends
 null_ends piece old k j h p more tag ej = subst (λ j. LeadsTo piece old k old j (after_value (seen_at old j))) (sym ej) (record {
   size = 1;
   some = omega arith;
   used = refl;
-  can = rest_can piece old k h more;
+  can = rest_can piece old k h.holds more;
   meter = refl;
   to = λ gate g before next comes kept.
       let r : Seen = seen_at old k in
@@ -66,28 +66,28 @@ null_ends piece old k j h p more tag ej = subst (λ j. LeadsTo piece old k old j
       let deep = p.shallow in
       let few = p.few in
       let l = length-drop k.used piece in
-      tag_passes gate value.Null (drop k.used piece) r next (tally_at before k) (tally_at before (with_place k 1)) g (rest_can piece old k h more) (place_on old.frames)
+      tag_passes gate value.Null (drop k.used piece) r next (tally_at old.meter.at before k) (tally_at old.meter.at before (with_place k 1)) g (rest_can piece old k h.holds more) (place_on old.frames)
       (omega arith) (tag_there piece k.used 0x70 tag)
       (counted_tag null_tag true (farther r 1) far next
       (null_begun true far next (ends_there old far old next k (with_place k 1) 1 refl refl refl refl refl refl refl comes) refl) refl (λ over. absurd (omega arith)) (λ over. absurd (omega arith)))
-      (λ _ _. place_counted before old next k 1 h.depth h.start kept.refs (λ none. sym (ap (λ t. length t.entries) kept.table) ∙ none));
+      (λ _ _. place_counted piece before old next k 1 h kept.refs (λ none. sym (ap (λ t. length t.entries) kept.table) ∙ none));
 })
 
-pub back_ends : (piece : List ℕ) (n : ℕ) (old : Seen) (k j : Counts) → Holds piece old k → HasPlace (seen_at old k) → k.used < length piece → 0x71 ≡ get_or piece k.used 0
+pub back_ends : (piece : List ℕ) (n : ℕ) (old : Seen) (k j : Counts) → HoldsNext piece old k → HasPlace (seen_at old k) → k.used < length piece → 0x71 ≡ get_or piece k.used 0
     → HasNumber (drop k.used piece) n → n < 2 ^ 32 → (n < 0x7E0000 → ⊥) → (length old.table.entries ≤ n - 0x7E0000 → ⊥) → j ≡ with_place k 5 → Ends piece old k old j
 unfolding Ends
 back_ends piece n old k j h p more tag is small low high ej = subst (λ j. LeadsTo piece old k old j (after_value (seen_at old j))) (sym ej) (record {
   size = 5;
   some = omega arith;
   used = refl;
-  can = rest_can piece old k h more;
+  can = rest_can piece old k h.holds more;
   meter = refl;
   to = λ gate g before next comes kept.
       let r : Seen = seen_at old k in
-      reference_passes gate n (drop k.used piece) r (placed r 5) next (mark_of r) (mark_of (placed r 5)) (tally_at before k) (tally_at before (with_place k 5)) g
-      (rest_can piece old k h more) (place_on old.frames) (tag_there piece k.used 0x71 tag) is small p low high refl
+      reference_passes gate n (drop k.used piece) r (placed r 5) next (mark_of r) (mark_of (placed r 5)) (tally_at old.meter.at before k) (tally_at old.meter.at before (with_place k 5)) g
+      (rest_can piece old k h.holds more) (place_on old.frames) (tag_there piece k.used 0x71 tag) is small p low high refl
       (ends_there old (placed r 5) old next k (with_place k 5) 5 refl refl refl refl refl refl refl comes) refl refl
-      (λ _ _. place_counted before old (placed r 5) k 5 h.depth h.start refl (λ none. none));
+      (λ _ _. place_counted piece before old (placed r 5) k 5 h refl (λ none. none));
 })
 
 no_entry_lost : (r : Seen) → length (added r text_entry).table.entries ≡ 0 → length r.table.entries ≡ 0
@@ -95,7 +95,7 @@ no_entry_lost r none =
     let b = length-append r.table.entries (text_entry ∷ []) in
     omega arith
 
-pub string_ends : (piece rest : List ℕ) (len : ℕ) (old new : Seen) (k j : Counts) → Holds piece old k → HasPlace (seen_at old k) → k.used < length piece → 0x74 ≡ get_or piece k.used 0
+pub string_ends : (piece rest : List ℕ) (len : ℕ) (old new : Seen) (k j : Counts) → HoldsNext piece old k → HasPlace (seen_at old k) → k.used < length piece → 0x74 ≡ get_or piece k.used 0
     → rest ≡ drop k.used piece → HasText rest len → AssignsText true old new → j ≡ with_place k (len + 3) → Ends piece old k new j
 unfolding Ends AssignsText
 string_ends piece rest len old new k j h p more tag er is assigns ej =
@@ -108,13 +108,13 @@ string_ends piece rest len old new k j h p more tag er is assigns ej =
       size = len + 3;
       some = omega arith;
       used = refl;
-      can = rest_can piece old k h more;
+      can = rest_can piece old k h.holds more;
       meter = refl;
       to = λ gate g before next comes kept.
-          string_passes gate len (drop k.used piece) r mid far next (mark_of r) (mark_of far) (tally_at before k) (tally_at before (with_place k (len + 3))) g
-          (rest_can piece old k h more) (place_on old.frames) (tag_there piece k.used 0x74 tag) (subst (λ xs. HasText xs len) er is) p (assigns.0, refl) refl
+          string_passes gate len (drop k.used piece) r mid far next (mark_of r) (mark_of far) (tally_at old.meter.at before k) (tally_at old.meter.at before (with_place k (len + 3))) g
+          (rest_can piece old k h.holds more) (place_on old.frames) (tag_there piece k.used 0x74 tag) (subst (λ xs. HasText xs len) er is) p (assigns.0, refl) refl
           (ends_there old far (added old text_entry) next k (with_place k (len + 3)) (len + 3) refl refl refl refl refl refl refl comes) refl refl
-          (λ _ _. place_counted before old far k (len + 3) h.depth h.start refl (no_entry_lost r));
+          (λ _ _. place_counted piece before old far k (len + 3) h refl (no_entry_lost r));
     }))
 
 -- ---- the turns
@@ -123,24 +123,24 @@ pub nothing_done : (piece : List ℕ) (old new : Seen) (k j : Counts) → new �
 unfolding Turns
 nothing_done piece old new k j e ek = (e, ek)
 
-value_ended : (piece : List ℕ) (old new : Seen) (k j : Counts) (size : ℕ) → Ends piece old k new j → Holds piece old k → HasPlace (seen_at old k) → 0 < size → k.used + size ≤ length piece
+value_ended : (piece : List ℕ) (old new : Seen) (k j : Counts) (size : ℕ) → Ends piece old k new j → HoldsNext piece old k → HasPlace (seen_at old k) → 0 < size → k.used + size ≤ length piece
     → new.meter ≡ old.meter → new.frames ≡ old.frames → j ≡ with_place k size → Turns piece turn.Ended old k new j
 unfolding Turns
 value_ended piece old new k j size ends h p some enough em ef e =
     let used : j.used ≡ k.used + size = ap (λ x. x.used) e in
-    (ends, place_holds piece old new k j size h p some enough em ef e, omega arith)
+    (ends, place_holds piece old new k j size h.holds p some enough em ef e, omega arith)
 
-pub null_turn : (piece : List ℕ) (old : Seen) (k j : Counts) → Holds piece old k → k.used + 6 ≤ length piece → 0x70 ≡ get_or piece k.used 0 → HasPlace (seen_at old k)
+pub null_turn : (piece : List ℕ) (old : Seen) (k j : Counts) → HoldsNext piece old k → k.used + 6 ≤ length piece → 0x70 ≡ get_or piece k.used 0 → HasPlace (seen_at old k)
     → j ≡ with_place k 1 → Turns piece turn.Ended old k old j
 null_turn piece old k j h room tag p e =
     value_ended piece old old k j 1 (null_ends piece old k j h p (omega arith) tag e) h p (omega arith) (omega arith) refl refl e
 
-pub back_turn : (piece : List ℕ) (n : ℕ) (old : Seen) (k j : Counts) → Holds piece old k → k.used + 6 ≤ length piece → 0x71 ≡ get_or piece k.used 0 → HasNumber (drop k.used piece) n
+pub back_turn : (piece : List ℕ) (n : ℕ) (old : Seen) (k j : Counts) → HoldsNext piece old k → k.used + 6 ≤ length piece → 0x71 ≡ get_or piece k.used 0 → HasNumber (drop k.used piece) n
     → n < 2 ^ 32 → (n < 0x7E0000 → ⊥) → (length old.table.entries ≤ n - 0x7E0000 → ⊥) → HasPlace (seen_at old k) → j ≡ with_place k 5 → Turns piece turn.Ended old k old j
 back_turn piece n old k j h room tag is small low high p e =
     value_ended piece old old k j 5 (back_ends piece n old k j h p (omega arith) tag is small low high e) h p (omega arith) (omega arith) refl refl e
 
-pub string_turn : (piece rest : List ℕ) (len : ℕ) (old new : Seen) (k j : Counts) → Holds piece old k → k.used + 6 ≤ length piece → 0x74 ≡ get_or piece k.used 0 → rest ≡ drop k.used piece
+pub string_turn : (piece rest : List ℕ) (len : ℕ) (old new : Seen) (k j : Counts) → HoldsNext piece old k → k.used + 6 ≤ length piece → 0x74 ≡ get_or piece k.used 0 → rest ≡ drop k.used piece
     → HasText rest len → HasPlace (seen_at old k) → AssignsText true old new → j ≡ with_place k (len + 3) → Turns piece turn.Ended old k new j
 unfolding AssignsText
 string_turn piece rest len old new k j h room tag er is p assigns e =

@@ -41,7 +41,7 @@ use Rattle.jser_reader.specs.Streams.{AreRefused}
 use Rattle.jser_reader.specs.Passes.{HaltCases, PassCases, PassTells, InsideCases, PassInside, Passes, passed_of, HasPassed, IsQuiet, CanPass}
 use Rattle.jser_reader.specs.WholeContents.{IsWhole, StaysWhole}
 use Rattle.jser_reader.proofs.StandLemmas.{took_stands}
-use Rattle.jser_reader.proofs.CountLemmas.{count_one_more, places_are}
+use Rattle.jser_reader.proofs.CountLemmas.{counts_at_top, count_one_more, places_are}
 use Rattle.jser_reader.proofs.TotalLemmas.{field_counts, goes_on_counts}
 use Rattle.jser_reader.proofs.ReaderLemmas.{take_whole, front_of_front, bytes_front, field_stops, never_spent, has_stopped}
 use Rattle.jser_reader.proofs.MemoryLemmas.{stands_in, label_next, not_inside}
@@ -222,6 +222,22 @@ quiet_refs gate old new bytes taken t hb st q =
     ∙ count_one_more begins_place st.fields (label_of s) x.field
     ∙ ap (λ b. one_more_if b (count_of begins_place st.fields)) (quiet_place old.phase old s st.cut x.field q st.stands.stands)
     ∙ sym (places_are gate bytes old st)
+
+-- where the last content began is not asked at the top
+pub passes_at_top : (gate : Gate) (piece : List ℕ) (used : ℕ) (old new : Seen) (before after : Tally) (begun : ℕ) → new.phase ≡ phase.Top → Passes gate piece (Some used) old before new after
+    → Passes gate piece (Some used) old before new (record after { begun = begun })
+unfolding PassTells PassInside StandsFor counts_at_top
+passes_at_top gate piece used old new before after begun top h = record {
+  tells = λ bytes st. let x = h.tells bytes st in (x.0, (counts_at_top gate (bytes ++ take used piece) new after begun top x.1.0, x.1.1));
+  inside = λ front cut label st comes inside.
+      let x = h.inside front cut label st comes inside in
+      record {
+        counted = counts_at_top gate (joined front ++ (cut ++ take used piece)) new after begun top x.counted;
+        fields_are = x.fields_are;
+        cut_is = x.cut_is;
+        within = x.within;
+      };
+}
 
 pub quiet_top : (p : Phase) → IsQuiet p → is_top p ≡ false
 quiet_top phase.Top q = absurd q

@@ -52,8 +52,15 @@ phase_on (frame.Descriptor number role ∷ fs) = phase.Note
 abbrev pub seen_at : Seen → Counts → Seen
 seen_at r k = record { meter = moved (counted_on r.meter k.used); phase = phase_on r.frames; frames = r.frames; layers = r.layers; table = r.table; refs = k.refs; owner = r.owner; elements = r.elements; header = r.header; text = r.text; left = r.left; scan = r.scan; name = r.name }
 
-abbrev pub tally_at : Tally → Counts → Tally
-tally_at before k = record { contents = before.contents + k.items.count; earlier = before.earlier; depth = k.deepest; begun = k.items.last }
+-- where the last content begins, if one has begun in the piece, which begins at this place
+abbrev pub begun_at : (at before : ℕ) → Begun → ℕ
+begun_at at before b = if b.count == 0 then before else at + b.last
+
+abbrev pub tally_with : (at : ℕ) → Tally → Begun → (deepest : ℕ) → Tally
+tally_with at before items deepest = record { contents = before.contents + items.count; earlier = before.earlier; depth = deepest; begun = begun_at at before.begun items }
+
+abbrev pub tally_at : (at : ℕ) → Tally → Counts → Tally
+tally_at at before k = tally_with at before k.items k.deepest
 
 -- a machine at which the loop may begin, and its counters there
 
@@ -62,7 +69,7 @@ pub record IsAtRest (r : Seen) : Type 0 where
   pub from : r.meter.from ≡ r.meter.at
 
 abbrev pub counts_of : Seen → Tally → Counts
-counts_of r tally = record { used = 0; refs = r.refs; items = record { count = 0; start = r.meter.at; last = tally.begun }; depth = length r.frames; deepest = tally.depth }
+counts_of r tally = record { used = 0; refs = r.refs; items = record { count = 0; last = 0 }; depth = length r.frames; deepest = tally.depth }
 
 -- the counters are right, and all of the piece may be taken
 pub record Holds (piece : List ℕ) (r : Seen) (k : Counts) : Type 0 where
@@ -71,20 +78,28 @@ pub record Holds (piece : List ℕ) (r : Seen) (k : Counts) : Type 0 where
   pub depth : k.depth ≡ length r.frames
   pub deep : k.deepest ≤ r.meter.limits.depth
   pub items : k.items.count ≤ k.used
-  pub start : k.items.start ≡ r.meter.at
-  pub room : k.items.start + length piece < 2 ^ 64
+  pub last : k.items.last ≤ k.used
 
--- a content has begun after so many bytes of the piece, if one has
-abbrev pub with_content : Begun → (begins : Bool) → (used : ℕ) → Begun
-with_content b begins used = record { count = b.count + number_if begins 1; start = b.start; last = if begins then b.start + used else b.last }
+-- and a content or a value comes next: it is known where a content begins
+pub record HoldsNext (piece : List ℕ) (r : Seen) (k : Counts) : Type 0 where
+  pub holds : Holds piece r k
+  pub top : k.depth ≡ 0 → k.items.last ≡ k.used
+
+-- a content has begun, if one has
+abbrev pub with_content : Begun → (begins : Bool) → Begun
+with_content b begins = record { count = b.count + number_if begins 1; last = b.last }
+
+-- a content has ended
+abbrev pub content_ended : Counts → Counts
+content_ended k = record { used = k.used; refs = k.refs; items = record { count = k.items.count; last = k.used }; depth = k.depth; deepest = k.deepest }
 
 -- a place and so many bytes were counted
 abbrev pub with_place : Counts → ℕ → Counts
-with_place k size = record { used = k.used + size; refs = suc k.refs; items = with_content k.items (k.depth == 0) k.used; depth = k.depth; deepest = max k.deepest (suc k.depth) }
+with_place k size = record { used = k.used + size; refs = suc k.refs; items = with_content k.items (k.depth == 0); depth = k.depth; deepest = max k.deepest (suc k.depth) }
 
 -- so many bytes were counted where no place begins
 abbrev pub with_block : Counts → ℕ → Counts
-with_block k size = record { used = k.used + size; refs = k.refs; items = with_content k.items (k.depth == 0) k.used; depth = k.depth; deepest = k.deepest }
+with_block k size = record { used = k.used + size; refs = k.refs; items = with_content k.items (k.depth == 0); depth = k.depth; deepest = k.deepest }
 
 -- ---- from one place in the piece to another
 
@@ -96,7 +111,7 @@ pub record LeadsTo (piece : List ℕ) (old : Seen) (k : Counts) (new : Seen) (j 
   pub can : CanPass (seen_at old k) (drop k.used piece)
   pub meter : new.meter ≡ old.meter
   pub to : (gate : Gate) → IsGate gate → (before : Tally) (next : Seen) → Comes (seen_at new j) next s → Kept (seen_at new j) next
-      → Passes gate (drop k.used piece) (Some size) (seen_at old k) (tally_at before k) next (tally_at before j)
+      → Passes gate (drop k.used piece) (Some size) (seen_at old k) (tally_at old.meter.at before k) next (tally_at old.meter.at before j)
 
 -- A value has ended.
 unfoldable pub Ends : List ℕ → Seen → Counts → Seen → Counts → Type 0
@@ -108,12 +123,12 @@ pub record Goes (piece : List ℕ) (old : Seen) (k : Counts) (new : Seen) (j : C
   pub used : j.used ≡ k.used + size
   pub can : CanPass (seen_at old k) (drop k.used piece)
   pub meter : new.meter ≡ old.meter
-  pub passes : (gate : Gate) → IsGate gate → (before : Tally) → Passes gate (drop k.used piece) (Some size) (seen_at old k) (tally_at before k) (seen_at new j) (tally_at before j)
+  pub passes : (gate : Gate) → IsGate gate → (before : Tally) → Passes gate (drop k.used piece) (Some size) (seen_at old k) (tally_at old.meter.at before k) (seen_at new j) (tally_at old.meter.at before j)
   pub nothing : size ≡ 0 → (new ≡ old) × (j ≡ k)
 
 -- a turn of the loop: a content or a value comes next; or a value has ended; or nothing was done
 abbrev pub TurnCases : List ℕ → Turn → Seen → Counts → Seen → Counts → Type 0
-TurnCases piece turn.Next old k new j = Goes piece old k new j × Holds piece new j × (k.used < j.used)
+TurnCases piece turn.Next old k new j = Goes piece old k new j × HoldsNext piece new j × (k.used < j.used)
 TurnCases piece turn.Ended old k new j = Ends piece old k new j × Holds piece new j × (k.used < j.used)
 TurnCases piece turn.Nothing old k new j = (new ≡ old) × (j ≡ k)
 
@@ -201,7 +216,7 @@ GivesNext b old new = NextCases b old new
 
 -- What is on top has no field left: what comes next is found; or it was taken off, and a value has ended; or nothing was done.
 abbrev pub FrameCases : List ℕ → Turn → Seen → Counts → Seen → Counts → Type 0
-FrameCases piece turn.Next m i new j = ((old : Seen) (k : Counts) → Ends piece old k m i → Goes piece old k new j) × Holds piece new j × (i.used ≤ j.used)
+FrameCases piece turn.Next m i new j = ((old : Seen) (k : Counts) → Ends piece old k m i → Goes piece old k new j) × HoldsNext piece new j × (i.used ≤ j.used)
 FrameCases piece turn.Ended m i new j =
     ((old : Seen) (k : Counts) → Ends piece old k m i → Ends piece old k new j) × Holds piece new j × (i.used ≤ j.used) × (length new.frames < length m.frames)
 FrameCases piece turn.Nothing m i new j = (new ≡ m) × (j ≡ i)
@@ -211,7 +226,7 @@ FrameEnds piece t m i new j = FrameCases piece t m i new j
 
 -- After a value: a content or a value comes next; or the end of a value is still to be found.
 abbrev pub SettleCases : List ℕ → Bool → Seen → Counts → Seen → Counts → Type 0
-SettleCases piece true m i new j = ((old : Seen) (k : Counts) → Ends piece old k m i → Goes piece old k new j) × Holds piece new j × (i.used ≤ j.used)
+SettleCases piece true m i new j = ((old : Seen) (k : Counts) → Ends piece old k m i → Goes piece old k new j) × HoldsNext piece new j × (i.used ≤ j.used)
 SettleCases piece false m i new j = ((old : Seen) (k : Counts) → Ends piece old k m i → Ends piece old k new j) × Holds piece new j × (i.used ≤ j.used)
 
 unfoldable pub Settles : List ℕ → Bool → Seen → Counts → Seen → Counts → Type 0
@@ -227,7 +242,7 @@ pub record IsArrayClass (r : Seen) (n chain : ℕ) : Type 0 where
 
 -- the tag of an array, the reference that is its class, and its length, at the place of the counters
 pub record ArrayBegins (piece : List ℕ) (n chain count : ℕ) (r : Seen) (k : Counts) : Type 0 where
-  pub holds : Holds piece r k
+  pub holds : HoldsNext piece r k
   pub place : HasPlace (seen_at r k)
   pub room : k.used + 10 ≤ length piece
   pub tag : TC_ARRAY ≡ get_or piece k.used 0
@@ -257,7 +272,7 @@ pub record HasSections (r : Seen) (n : ℕ) (sections : Sections) : Type 0 where
 
 -- the tag of an object and the reference that is its class, at the place of the counters
 pub record ObjectBegins (piece : List ℕ) (n chain : ℕ) (r : Seen) (k : Counts) : Type 0 where
-  pub holds : Holds piece r k
+  pub holds : HoldsNext piece r k
   pub place : HasPlace (seen_at r k)
   pub room : k.used + 6 ≤ length piece
   pub tag : TC_OBJECT ≡ get_or piece k.used 0
@@ -281,7 +296,7 @@ pub record IsTextHandle (r : Seen) (n : ℕ) : Type 0 where
 
 -- the tag of an enum constant, the reference that is its class, and the one that is its name, at the place of the counters
 pub record ConstantBegins (piece : List ℕ) (n name : ℕ) (r : Seen) (k : Counts) : Type 0 where
-  pub holds : Holds piece r k
+  pub holds : HoldsNext piece r k
   pub place : HasPlace (seen_at r k)
   pub room : k.used + 11 ≤ length piece
   pub tag : TC_ENUM ≡ get_or piece k.used 0

@@ -4,7 +4,7 @@
 ghost use Rattle.std.specs.Prelude.{◌≡◌, ◌+◌, ◌^◌, ◌<◌, ◌≤◌, true, length, Some};
 ghost use Rattle.jser_verdict.specs.Gates.{Gate as ToldGate, IsGate};
 ghost use Rattle.jser_reader.specs.Handlers.{Comes};
-ghost use Rattle.jser_reader.specs.Many.{phase_on, seen_at, tally_at, counts_of, IsAtRest, Holds, Turns, Ends};
+ghost use Rattle.jser_reader.specs.Many.{phase_on, seen_at, tally_at, counts_of, IsAtRest, HoldsNext, Turns, Ends};
 ghost use Rattle.jser_reader.specs.Passes.{Passes, CanPass};
 ghost use Rattle.jser_reader.specs.Steps.{Kept, after_value};
 
@@ -57,11 +57,7 @@ impl Machine {
         Counts {
             used: 0,
             refs: self.refs,
-            items: Begun {
-                count: 0,
-                start: self.at,
-                last: tally.begun,
-            },
+            items: Begun { count: 0, last: 0 },
             depth: self.frames.len() as u64,
             deepest: tally.depth,
         }
@@ -71,7 +67,7 @@ impl Machine {
     #[tactic(auto, using(crate::proofs::ManyPlain::nothing_done))]
     #[inline(always)]
     fn value_at(&mut self, counts: &mut Counts, piece: &[u8]) -> Turn
-        requires holds { Holds piece.now self.old counts.old }
+        requires holds { HoldsNext piece.now self.old counts.old }
         requires room { counts.old.used + 6 ≤ length piece.now }
         ensures { Turns piece.now result self.old counts.old self.new counts.new }
     {
@@ -91,7 +87,7 @@ impl Machine {
     /// A turn of the loop, with the end of what has ended.
     #[inline(always)]
     fn turn(&mut self, counts: &mut Counts, piece: &[u8]) -> Turn
-        requires holds { Holds piece.now self.old counts.old }
+        requires holds { HoldsNext piece.now self.old counts.old }
         requires room { counts.old.used + 6 ≤ length piece.now }
         ensures { Turns piece.now result self.old counts.old self.new counts.new }
     {
@@ -111,15 +107,21 @@ impl Machine {
     /// Writes back what was counted.
     #[inline(always)]
     fn write_back(&mut self, tally: &mut Tally, counts: Counts)
-        requires { self.old.meter.at + counts.used < 2 ^ 64 }
+        requires used { self.old.meter.at + counts.used < 2 ^ 64 }
+        requires last { counts.items.last ≤ counts.used }
         ensures machine { self.new ≡ seen_at self.old counts }
-        ensures tally { tally.old.contents + counts.items.count < 2 ^ 64 → tally.new ≡ tally_at tally.old counts }
+        ensures tally { tally.old.contents + counts.items.count < 2 ^ 64 → tally.new ≡ tally_at self.old.meter.at tally.old counts }
     {
+        let begun = if counts.items.count == 0 {
+            tally.begun
+        } else {
+            self.at + counts.items.last as u64
+        };
+        tally.count_all(counts.items.count, counts.deepest, begun);
         self.at += counts.used as u64;
         self.from = self.at;
         self.refs = counts.refs;
         self.phase = self.phase_on_top();
-        tally.count_all(counts.items.count, counts.deepest, counts.items.last);
     }
 
     /// Takes contents and values from the front of the piece, as many as are common and have all their bytes there, and returns

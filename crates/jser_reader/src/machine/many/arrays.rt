@@ -4,7 +4,7 @@ ghost use Rattle.jser_prim.specs.Bytes.{big_bytes};
 ghost use Rattle.jser_table.specs.Chains.{chain_in, elements_of};
 ghost use Rattle.jser_table.specs.Codes.{size_of};
 ghost use Rattle.jser_grammar.specs.Wire.{TC_ARRAY};
-ghost use Rattle.jser_reader.specs.Many.{Holds, Turns, IsArrayClass, ArrayBegins};
+ghost use Rattle.jser_reader.specs.Many.{HoldsNext, Turns, IsArrayClass, ArrayBegins};
 
 use crate::frame::Frame;
 use crate::machine::Machine;
@@ -134,7 +134,7 @@ impl Machine {
     #[tactic(auto, using(crate::proofs::ManyPlain::nothing_done))]
     #[inline(always)]
     pub(super) fn array_at(&mut self, counts: &mut Counts, piece: &[u8]) -> Turn
-        requires holds { Holds piece.now self.old counts.old }
+        requires holds { HoldsNext piece.now self.old counts.old }
         requires room { counts.old.used + 6 ≤ length piece.now }
         requires tag { TC_ARRAY ≡ get_or piece.now counts.old.used 0 }
         ensures { Turns piece.now result self.old counts.old self.new counts.new }

@@ -1,7 +1,7 @@
 //! Enum constants whose class and name are references.
 ghost use Rattle.std.specs.Prelude.{◌≡◌, ◌+◌, ◌≤◌, true, get_or, length};
 ghost use Rattle.jser_grammar.specs.Wire.{TC_ENUM};
-ghost use Rattle.jser_reader.specs.Many.{Holds, Turns, IsConstantClass, IsTextHandle};
+ghost use Rattle.jser_reader.specs.Many.{HoldsNext, Turns, IsConstantClass, IsTextHandle};
 
 use crate::machine::Machine;
 use crate::machine::many::counts::{Counts, Turn};
@@ -44,7 +44,7 @@ impl Machine {
     #[tactic(auto, using(crate::proofs::ManyPlain::nothing_done))]
     #[inline(always)]
     pub(super) fn constant_at(&mut self, counts: &mut Counts, piece: &[u8]) -> Turn
-        requires holds { Holds piece.now self.old counts.old }
+        requires holds { HoldsNext piece.now self.old counts.old }
         requires room { counts.old.used + 6 ≤ length piece.now }
         requires tag { TC_ENUM ≡ get_or piece.now counts.old.used 0 }
         ensures { Turns piece.now result self.old counts.old self.new counts.new }

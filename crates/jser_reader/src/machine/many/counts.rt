@@ -1,16 +1,14 @@
 //! What the loop over whole values counts while it runs. It is written back when the loop ends.
 ghost use Rattle.std.specs.Prelude.{◌≡◌, ◌+◌, ◌-◌, ◌<◌, ◌^◌};
-ghost use Rattle.jser_reader.specs.Many.{with_block, with_place, with_used, with_depth};
+ghost use Rattle.jser_reader.specs.Many.{with_block, with_place, with_used, with_depth, content_ended};
 
 /// The contents that have begun.
 #[derive(Clone, Copy)]
 pub(super) struct Begun {
     /// How many have begun in the piece.
     pub(super) count: u64,
-    /// Where the piece begins in the stream.
-    pub(super) start: u64,
-    /// Where the last one begins, in the stream.
-    pub(super) last: u64,
+    /// How many bytes of the piece came before the one that is open, or comes next, where it begins in the piece.
+    pub(super) last: usize,
 }
 
 /// The counters.
@@ -46,13 +44,11 @@ impl Counts {
         requires used { self.old.used + size < 2 ^ 64 }
         requires refs { self.old.refs + 1 < 2 ^ 64 }
         requires items { self.old.items.count + 1 < 2 ^ 64 }
-        requires start { self.old.items.start + self.old.used < 2 ^ 64 }
         requires depth { self.old.depth + 1 < 2 ^ 64 }
         ensures { self.new ≡ with_place self.old size }
     {
         if self.depth == 0 {
             self.items.count += 1;
-            self.items.last = self.items.start + self.used as u64;
         }
         self.deepest = self.deepest.max(self.depth + 1);
         self.refs += 1;
@@ -93,13 +89,19 @@ impl Counts {
     pub(super) fn block(&mut self, size: usize)
         requires used { self.old.used + size < 2 ^ 64 }
         requires items { self.old.items.count + 1 < 2 ^ 64 }
-        requires start { self.old.items.start + self.old.used < 2 ^ 64 }
         ensures { self.new ≡ with_block self.old size }
     {
         if self.depth == 0 {
             self.items.count += 1;
-            self.items.last = self.items.start + self.used as u64;
         }
         self.used += size;
+    }
+
+    /// A content has ended, so that the next one begins here.
+    #[inline(always)]
+    pub(super) fn reach_top(&mut self)
+        ensures { self.new ≡ content_ended self.old }
+    {
+        self.items.last = self.used;
     }
 }

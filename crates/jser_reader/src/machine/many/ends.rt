@@ -98,6 +98,7 @@ impl Machine {
                 return true;
             }
             let Some(frame) = self.frames.top() else {
+                counts.reach_top();
                 return true;
             };
             match self.end_frame(counts, piece, frame) {

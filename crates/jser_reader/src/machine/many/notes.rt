@@ -3,7 +3,7 @@ ghost use Rattle.std.specs.Prelude.{◌≡◌, ◌∷◌, ◌+◌, ◌≤◌, ge
 ghost use Rattle.jser_table.specs.Sections.{IsOn};
 ghost use Rattle.jser_grammar.specs.Wire.{TC_BLOCKDATA, TC_ENDBLOCKDATA};
 ghost use Rattle.jser_reader.specs.declared.frame.Frame.{Frame};
-ghost use Rattle.jser_reader.specs.Many.{Holds, Turns};
+ghost use Rattle.jser_reader.specs.Many.{HoldsNext, Turns};
 ghost use Rattle.jser_reader.specs.Stacks.{tail_of};
 
 use crate::frame::Frame;
@@ -18,7 +18,7 @@ impl Machine {
     #[tactic(auto, using(crate::proofs::ManyPlain::nothing_done))]
     #[inline(always)]
     pub(super) fn block_at(&mut self, counts: &mut Counts, piece: &[u8]) -> Turn
-        requires holds { Holds piece.now self.old counts.old }
+        requires holds { HoldsNext piece.now self.old counts.old }
         requires room { counts.old.used + 6 ≤ length piece.now }
         requires tag { TC_BLOCKDATA ≡ get_or piece.now counts.old.used 0 }
         ensures { Turns piece.now result self.old counts.old self.new counts.new }
@@ -44,7 +44,7 @@ impl Machine {
         last: SectionNumber,
         section: SectionNumber,
     ) -> Turn
-        requires holds { Holds piece.now self.old counts.old }
+        requires holds { HoldsNext piece.now self.old counts.old }
         requires room { counts.old.used + 6 ≤ length piece.now }
         requires tag { TC_ENDBLOCKDATA ≡ get_or piece.now counts.old.used 0 }
         requires top { self.old.frames ≡ Frame.Notes last section ∷ tail_of self.old.frames }
@@ -70,7 +70,7 @@ impl Machine {
     #[tactic(auto, using(crate::proofs::ManyPlain::nothing_done, crate::proofs::PartLemmas::fits_top))]
     #[inline(always)]
     pub(super) fn notes_end_at(&mut self, counts: &mut Counts, piece: &[u8]) -> Turn
-        requires holds { Holds piece.now self.old counts.old }
+        requires holds { HoldsNext piece.now self.old counts.old }
         requires room { counts.old.used + 6 ≤ length piece.now }
         requires tag { TC_ENDBLOCKDATA ≡ get_or piece.now counts.old.used 0 }
         ensures { Turns piece.now result self.old counts.old self.new counts.new }

@@ -4,7 +4,7 @@ ghost use Rattle.jser_table.specs.Chains.{chain_in, is_external};
 ghost use Rattle.jser_table.specs.Sections.{AreSections};
 ghost use Rattle.jser_grammar.specs.Wire.{TC_OBJECT};
 ghost use Rattle.jser_reader.specs.Fitting.{FrameFits, IsPart};
-ghost use Rattle.jser_reader.specs.Many.{seen_at, Holds, Turns, Puts, Opened, IsObjectClass, HasSections, ObjectBegins};
+ghost use Rattle.jser_reader.specs.Many.{seen_at, HoldsNext, Turns, Puts, Opened, IsObjectClass, HasSections, ObjectBegins};
 ghost use Rattle.jser_reader.specs.Wholes.{HasPlace, HasReference};
 
 use crate::frame::Frame;
@@ -137,7 +137,7 @@ impl Machine {
         n: u32,
         sections: Sections,
     ) -> Turn
-        requires holds { Holds piece.now self.old counts.old }
+        requires holds { HoldsNext piece.now self.old counts.old }
         requires place { HasPlace (seen_at self.old counts.old) }
         requires room { counts.old.used + 6 ≤ length piece.now }
         requires tag { TC_OBJECT ≡ get_or piece.now counts.old.used 0 }
@@ -173,7 +173,7 @@ impl Machine {
     #[tactic(auto, using(crate::proofs::ManyPlain::nothing_done, crate::proofs::ManyBare::sections_of))]
     #[inline(always)]
     pub(super) fn object_at(&mut self, counts: &mut Counts, piece: &[u8]) -> Turn
-        requires holds { Holds piece.now self.old counts.old }
+        requires holds { HoldsNext piece.now self.old counts.old }
         requires room { counts.old.used + 6 ≤ length piece.now }
         requires tag { TC_OBJECT ≡ get_or piece.now counts.old.used 0 }
         ensures { Turns piece.now result self.old counts.old self.new counts.new }

@@ -1,7 +1,7 @@
 //! Values without a class, of which all bytes are in the piece: nulls, references and strings.
 ghost use Rattle.std.specs.Prelude.{◌≡◌, ◌+◌, ◌^◌, ◌<◌, ◌≤◌, true, get_or, drop, length, IfSome};
 ghost use Rattle.jser_grammar.specs.Wire.{TC_NULL, TC_REFERENCE, TC_STRING};
-ghost use Rattle.jser_reader.specs.Many.{seen_at, Holds, Turns};
+ghost use Rattle.jser_reader.specs.Many.{seen_at, HoldsNext, Turns};
 ghost use Rattle.jser_reader.specs.Wholes.{HasPlace, HasNumber, HasText};
 
 use crate::machine::Machine;
@@ -51,7 +51,7 @@ impl Machine {
     #[tactic(auto, using(crate::proofs::ManyPlain::has_place_there))]
     #[inline(always)]
     pub(super) fn has_place_at(&self, counts: &Counts, piece: &[u8]) -> bool
-        requires { Holds piece.now self.now counts.now }
+        requires { HoldsNext piece.now self.now counts.now }
         ensures place { result ≡ true → HasPlace (seen_at self.now counts.now) }
         ensures small { result ≡ true → (counts.now.refs + 1 < 2 ^ 64) × (counts.now.depth + 1 < 2 ^ 64) }
     {
@@ -69,7 +69,7 @@ impl Machine {
     #[tactic(auto, using(crate::proofs::ManyPlain::nothing_done))]
     #[inline(always)]
     pub(super) fn null_at(&mut self, counts: &mut Counts, piece: &[u8]) -> Turn
-        requires holds { Holds piece.now self.old counts.old }
+        requires holds { HoldsNext piece.now self.old counts.old }
         requires room { counts.old.used + 6 ≤ length piece.now }
         requires tag { TC_NULL ≡ get_or piece.now counts.old.used 0 }
         ensures { Turns piece.now result self.old counts.old self.new counts.new }
@@ -85,7 +85,7 @@ impl Machine {
     #[tactic(auto, using(crate::proofs::ManyPlain::nothing_done))]
     #[inline(always)]
     pub(super) fn reference_at(&mut self, counts: &mut Counts, piece: &[u8]) -> Turn
-        requires holds { Holds piece.now self.old counts.old }
+        requires holds { HoldsNext piece.now self.old counts.old }
         requires room { counts.old.used + 6 ≤ length piece.now }
         requires tag { TC_REFERENCE ≡ get_or piece.now counts.old.used 0 }
         ensures { Turns piece.now result self.old counts.old self.new counts.new }
@@ -105,7 +105,7 @@ impl Machine {
     #[tactic(auto, using(crate::proofs::ManyPlain::nothing_done))]
     #[inline(always)]
     pub(super) fn string_at(&mut self, counts: &mut Counts, piece: &[u8]) -> Turn
-        requires holds { Holds piece.now self.old counts.old }
+        requires holds { HoldsNext piece.now self.old counts.old }
         requires room { counts.old.used + 6 ≤ length piece.now }
         requires tag { TC_STRING ≡ get_or piece.now counts.old.used 0 }
         ensures { Turns piece.now result self.old counts.old self.new counts.new }

@@ -10,7 +10,7 @@ returns-then-next_value_on c = settles_value c.args.piece.now _ _ _ _ _ c.next_v
 
 pub returns-in_default : goal.returns-in_default
 returns-in_default c =
-    settles_top c.args.piece.now _ _ _ _ true (ends_same c.args.piece.now _ _ _ _ _ c.frames.invariant (none_next c.next_value_on.result _ _ c.next_value_on.ensures (search rules)).0) (search rules) refl
+    settles_top c.args.piece.now _ _ _ _ _ true (ends_same c.args.piece.now _ _ _ _ _ c.frames.invariant (none_next c.next_value_on.result _ _ c.next_value_on.ensures (search rules)).0) (search rules) c.reach_top.ensures refl
 
 pub end_frame-requires-clause-holds : goal.end_frame-requires-clause-holds
 end_frame-requires-clause-holds c =

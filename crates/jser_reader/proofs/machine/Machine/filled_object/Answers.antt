@@ -13,26 +13,26 @@ returns-then-not-open_frame c = nothing_done c.args.piece.now _ _ _ _ (not_opene
 
 pub overflow_add-used : goal.overflow_add-used
 overflow_add-used c =
-    let within = c.requires.holds.within in
+    let within = c.requires.holds.holds.within in
     let room = (ended_of _ _ _ _ c.in-Ended.ensures).0 in
     omega arith
 
 pub place-requires-clause-used : goal.place-requires-clause-used
 place-requires-clause-used c =
-    let within = c.requires.holds.within in
+    let within = c.requires.holds.holds.within in
     let enough = c.requires.room in
     let room = (ended_of _ _ _ _ c.in-Ended.ensures).0 in
     omega arith
 
 pub overflow_add-used-in-Open : goal.overflow_add-used-in-Open
 overflow_add-used-in-Open c =
-    let within = c.requires.holds.within in
+    let within = c.requires.holds.holds.within in
     let room = (opens_of _ _ _ _ _ c.in-Open.ensures).0 in
     omega arith
 
 pub place-requires-in-Open-clause-used : goal.place-requires-in-Open-clause-used
 place-requires-in-Open-clause-used c =
-    let within = c.requires.holds.within in
+    let within = c.requires.holds.holds.within in
     let enough = c.requires.room in
     let room = (opens_of _ _ _ _ _ c.in-Open.ensures).0 in
     omega arith
@@ -45,7 +45,7 @@ open_frame-requires-clause-part c = (opens_of _ _ _ _ _ c.in-Open.ensures).1.par
 
 pub returns-else-not-assign_other : goal.returns-else-not-assign_other
 returns-else-not-assign_other c =
-    let within = c.requires.holds.within in
+    let within = c.requires.holds.holds.within in
     let enough = c.requires.room in
     let x = ended_of _ _ _ _ c.in-Ended.ensures in
     let room = x.0 in
@@ -54,7 +54,7 @@ returns-else-not-assign_other c =
 
 pub returns-else-not-open_frame : goal.returns-else-not-open_frame
 returns-else-not-open_frame c =
-    let within = c.requires.holds.within in
+    let within = c.requires.holds.holds.within in
     let enough = c.requires.room in
     let x = opens_of _ _ _ _ _ c.in-Open.ensures in
     let room = x.0 in

@@ -23,9 +23,12 @@ values-smaller c =
     let more = (goes_next c.args.piece.now _ _ _ _ _ _ c.turn.result c.values.invariant.so c.turn.ensures (search rules)).1 in
     omega arith
 
-pub write_back-requires : goal.write_back-requires
-write_back-requires c =
+pub write_back-requires-clause-used : goal.write_back-requires-clause-used
+write_back-requires-clause-used c =
     back_fits c.args.piece.now c.args.self.now _ _ (goes_ended c.args.piece.now _ _ _ _ _ _ c.turn.result c.values.invariant.so c.turn.ensures (search rules)).1 c.requires.some
+
+pub write_back-requires-clause-last : goal.write_back-requires-clause-last
+write_back-requires-clause-last c = (goes_ended c.args.piece.now _ _ _ _ _ _ c.turn.result c.values.invariant.so c.turn.ensures (search rules)).1.last
 
 pub returns-in-Ended-clause-passes : goal.returns-in-Ended-clause-passes
 returns-in-Ended-clause-passes c =
@@ -52,9 +55,12 @@ returns-then-counts-eq0-clause-nothing c = λ _. (
   c.values.invariant.tally,
 )
 
-pub write_back-requires-in-Nothing : goal.write_back-requires-in-Nothing
-write_back-requires-in-Nothing c =
-    back_fits c.args.piece.now c.args.self.now _ _ (goes_still c.args.piece.now _ _ _ _ _ _ c.turn.result c.values.invariant.so c.turn.ensures (search rules)).holds c.requires.some
+pub write_back-requires-in-Nothing-clause-used : goal.write_back-requires-in-Nothing-clause-used
+write_back-requires-in-Nothing-clause-used c =
+    back_fits c.args.piece.now c.args.self.now _ _ (goes_still c.args.piece.now _ _ _ _ _ _ c.turn.result c.values.invariant.so c.turn.ensures (search rules)).holds.holds c.requires.some
+
+pub write_back-requires-in-Nothing-clause-last : goal.write_back-requires-in-Nothing-clause-last
+write_back-requires-in-Nothing-clause-last c = (goes_still c.args.piece.now _ _ _ _ _ _ c.turn.result c.values.invariant.so c.turn.ensures (search rules)).holds.holds.last
 
 pub returns-in-Nothing-clause-passes : goal.returns-in-Nothing-clause-passes
 returns-in-Nothing-clause-passes c =
@@ -63,7 +69,7 @@ returns-in-Nothing-clause-passes c =
 
 pub returns-in-Nothing-clause-within : goal.returns-in-Nothing-clause-within
 returns-in-Nothing-clause-within c =
-    (goes_still c.args.piece.now _ _ _ _ _ _ c.turn.result c.values.invariant.so c.turn.ensures (search rules)).holds.within
+    (goes_still c.args.piece.now _ _ _ _ _ _ c.turn.result c.values.invariant.so c.turn.ensures (search rules)).holds.holds.within
 
 pub returns-then-counts-eq0-2-clause-passes : goal.returns-then-counts-eq0-2-clause-passes
 returns-then-counts-eq0-2-clause-passes c = none_passes c.args.piece.now _ _ _ _ _ c.values.invariant.so (search rules) c.values.invariant.tally
