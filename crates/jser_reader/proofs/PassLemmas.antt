@@ -17,6 +17,7 @@ use Rattle.jser_reading.specs.Totals.{one_more_if, count_of, number_if}
 use Rattle.jser_verdict.specs.Gates.{Gate, IsGate, pass}
 use Rattle.jser_reader.specs.declared.item.Item.TheVariants as item
 use Rattle.jser_reader.specs.declared.item.Step.TheVariants as step
+use Rattle.jser_reader.specs.declared.machine.pass.passed.Passed.{Passed}
 use Rattle.jser_reader.specs.declared.machine.take.taken.Taken.{Taken}
 use Rattle.jser_reader.specs.declared.machine.take.taken.Taken.TheVariants as taken
 use Rattle.jser_reader.specs.declared.phase.Phase.{Phase}
@@ -31,14 +32,14 @@ use Rattle.jser_reader.specs.Memory.{IsCheckedName, EndsInside, MayRunOut}
 use Rattle.jser_reader.specs.Readers.{Seen, moment_of, top_role, top_number, fields_goals, text_goal, text_rest}
 use Rattle.jser_reader.specs.Walks.{StandsAt, HasTaken, StopTold, Takes, Keeps}
 use Rattle.jser_reader.specs.Takes.{TakenCases, TakesFromFor}
-use Rattle.jser_reader.specs.Tallies.{is_top, mark_of, tally_after, tally_stopped, HasCounted}
+use Rattle.jser_reader.specs.Tallies.{is_top, mark_of, tally_after, tally_stopped, CountsTaken, HasCounted}
 use Rattle.jser_reader.specs.Handlers.{StopsWith}
 use Rattle.jser_reader.specs.States.{IsWithin, AnswersStop, stop_after, exceeded}
 use Rattle.jser_reader.specs.Bounds.{SkipMemoryFree}
 use Rattle.jser_reader.specs.ReaderStates.{StandsFor, HasRefused, IsSpent, NextCases, NextTells, SkipCases, SkipTells}
 use Rattle.jser_reader.specs.ItemsTold.{StandsIn}
 use Rattle.jser_reader.specs.Streams.{AreRefused}
-use Rattle.jser_reader.specs.Passes.{HaltCases, PassCases, PassTells, InsideCases, PassInside, Passes, passed_of, HasPassed, IsQuiet, CanPass}
+use Rattle.jser_reader.specs.Passes.{bytes_passed, HaltCases, PassCases, PassTells, InsideCases, PassInside, Passes, passed_of, HasPassed, IsQuiet, CanPass}
 use Rattle.jser_reader.specs.WholeContents.{IsWhole, StaysWhole}
 use Rattle.jser_reader.proofs.StandLemmas.{took_stands}
 use Rattle.jser_reader.proofs.CountLemmas.{counts_at_top, count_one_more, places_are}
@@ -342,7 +343,7 @@ passes_stop gate used took piece old new before after k e can ea =
 -- ---- any of these, of a quiet field
 
 pub quiet_passes : (gate : Gate) (took : Taken) (piece : List ℕ) (old new : Seen) (tally : Tally) → TakesFromFor gate took piece old new
-    → IsQuiet old.phase → CanPass old piece → Passes gate piece (passed_of took (length piece)) old tally new tally
+    → IsQuiet old.phase → CanPass old piece → Passes gate piece (bytes_passed (passed_of took (length piece))) old tally new tally
 quiet_passes gate (taken.Ended used) piece old new tally k q can = quiet_end gate used (taken.Ended used) piece old new tally k refl q can
 quiet_passes gate (taken.Part used) piece old new tally k q can = passes_part gate used (taken.Part used) piece old new tally k refl can
 quiet_passes gate taken.Open piece old new tally k q can = passes_open gate taken.Open piece old new tally k refl can
@@ -351,7 +352,7 @@ quiet_passes gate (taken.Stopped used) piece old new tally k q can = passes_stop
 -- ---- how much was taken
 
 pub some_passed : (gate : Gate) (took : Taken) (piece : List ℕ) (old new : Seen) → TakesFromFor gate took piece old new → 0 < length piece
-    → HasPassed piece (passed_of took (length piece))
+    → HasPassed piece (bytes_passed (passed_of took (length piece)))
 unfolding TakesFromFor
 some_passed gate (taken.Ended used) piece old new k some = (k.0, k.1)
 some_passed gate (taken.Part used) piece old new k some = (k.0, k.1)
@@ -482,16 +483,6 @@ can_pass piece r le most all = record {
   all_bytes = all;
 }
 
-pub end_passed : (gate : Gate) (used : ℕ) (took : Taken) (piece : List ℕ) (old new : Seen) → TakesFromFor gate took piece old new → took ≡ taken.Ended used
-    → HasPassed piece (Some used)
-unfolding TakesFromFor
-end_passed gate used took piece old new k e = let t = subst (λ x. TakenCases gate x piece old new) e k in (t.0, t.1)
-
-pub part_passed : (gate : Gate) (used : ℕ) (took : Taken) (piece : List ℕ) (old new : Seen) → TakesFromFor gate took piece old new → took ≡ taken.Part used
-    → HasPassed piece (Some used)
-unfolding TakesFromFor
-part_passed gate used took piece old new k e = let t = subst (λ x. TakenCases gate x piece old new) e k in (t.0, t.1)
-
 pub front_can_pass : (piece front : List ℕ) (r : Seen) → IsWithin r piece front → IsBytes front → CanPass r front
 front_can_pass piece front r w all = record {
   within = record {
@@ -506,13 +497,30 @@ front_can_pass piece front r w all = record {
 
 -- a step that answers how much was taken
 
-pub quiet_step : (gate : Gate) (took : Taken) (result : Option ℕ) (piece : List ℕ) (old new : Seen) (tally : Tally) → TakesFromFor gate took piece old new
-    → result ≡ passed_of took (length piece) → IsQuiet old.phase → CanPass old piece → Passes gate piece result old tally new tally
+pub quiet_step : (gate : Gate) (took : Taken) (result : Passed) (piece : List ℕ) (old new : Seen) (tally : Tally) → TakesFromFor gate took piece old new
+    → result ≡ passed_of took (length piece) → IsQuiet old.phase → CanPass old piece → Passes gate piece (bytes_passed result) old tally new tally
 quiet_step gate took result piece old new tally k e q can = rw e (quiet_passes gate took piece old new tally k q can)
 
-pub some_step : (gate : Gate) (took : Taken) (result : Option ℕ) (piece : List ℕ) (old new : Seen) → TakesFromFor gate took piece old new
-    → result ≡ passed_of took (length piece) → 0 < length piece → HasPassed piece result
+pub some_step : (gate : Gate) (took : Taken) (result : Passed) (piece : List ℕ) (old new : Seen) → TakesFromFor gate took piece old new
+    → result ≡ passed_of took (length piece) → 0 < length piece → HasPassed piece (bytes_passed result)
 some_step gate took result piece old new k e some = rw e (some_passed gate took piece old new k some)
+
+-- and counts
+
+counted_passes : (gate : Gate) (took : Taken) (piece : List ℕ) (old new : Seen) (before after : Tally) → TakesFromFor gate took piece old new → CountsTaken took (mark_of old) (mark_of new) before after
+    → IsGate gate → CanPass old piece → Passes gate piece (bytes_passed (passed_of took (length piece))) old before new after
+counted_passes gate (taken.Ended used) piece old new before after k c g can = passes_end gate used (taken.Ended used) piece old new before after k refl c g can
+counted_passes gate (taken.Stopped used) piece old new before after k c g can = passes_stop gate used (taken.Stopped used) piece old new before after k refl can c
+counted_passes gate (taken.Part used) piece old new before after k c g can =
+    subst (λ t. Passes gate piece (Some used) old before new t) (sym c) (passes_part gate used (taken.Part used) piece old new before k refl can)
+counted_passes gate taken.Open piece old new before after k c g can =
+    subst (λ t. Passes gate piece (Some (length piece)) old before new t) (sym c) (passes_open gate taken.Open piece old new before k refl can)
+
+pub counted_step : (gate : Gate) (took : Taken) (result : Passed) (piece : List ℕ) (old new : Seen) (before after : Tally) (m n : Mark) → TakesFromFor gate took piece old new
+    → m ≡ mark_of old → n ≡ mark_of new → CountsTaken took m n before after → result ≡ passed_of took (length piece) → IsGate gate → CanPass old piece
+    → Passes gate piece (bytes_passed result) old before new after
+counted_step gate took result piece old new before after m n k em en c e g can =
+    rw e (counted_passes gate took piece old new before after k (subst (λ x. CountsTaken took x (mark_of new) before after) em (subst (λ x. CountsTaken took m x before after) en c)) g can)
 
 pub quiet_in : (p : Phase) (r : Seen) → r.phase ≡ p → IsQuiet p → IsQuiet r.phase
 quiet_in p r e q = subst IsQuiet (sym e) q

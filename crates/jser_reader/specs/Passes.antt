@@ -4,6 +4,8 @@ use Rattle.jser_grammar.specs.Parts.{IsBytes}
 use Rattle.jser_reading.specs.Labels.{Label, Piece}
 use Rattle.jser_reading.specs.ComesNext.{ComesNext}
 use Rattle.jser_verdict.specs.Gates.{Gate, IsGate}
+use Rattle.jser_reader.specs.declared.machine.pass.passed.Passed.{Passed}
+use Rattle.jser_reader.specs.declared.machine.pass.passed.Passed.TheVariants as passed
 use Rattle.jser_reader.specs.declared.machine.take.taken.Taken.{Taken}
 use Rattle.jser_reader.specs.declared.machine.take.taken.Taken.TheVariants as taken
 use Rattle.jser_reader.specs.declared.phase.Phase.{Phase}
@@ -56,12 +58,17 @@ abbrev pub PassesOn : (piece : List ℕ) (used : ℕ) → Option ℕ → Seen �
 PassesOn piece used result mid between new after =
     (gate : Gate) → IsGate gate → (old : Seen) (before : Tally) → Passes gate piece (Some used) old before mid between → Passes gate piece result old before new after
 
--- how much of a piece of this length was taken
-abbrev pub passed_of : Taken → ℕ → Option ℕ
-passed_of (taken.Ended count) n = Some count
-passed_of (taken.Stopped count) n = None
-passed_of (taken.Part count) n = Some count
-passed_of taken.Open n = Some n
+-- what came of a piece of this length
+abbrev pub passed_of : Taken → ℕ → Passed
+passed_of (taken.Ended count) n = passed.Took count
+passed_of (taken.Stopped count) n = passed.Stopped
+passed_of (taken.Part count) n = passed.Took count
+passed_of taken.Open n = passed.Took n
+
+-- how many bytes were taken, where the machine goes on
+abbrev pub bytes_passed : Passed → Option ℕ
+bytes_passed (passed.Took used) = Some used
+bytes_passed passed.Stopped = None
 
 -- it is no more than the piece has, and something
 abbrev pub HasPassed : (piece : List ℕ) → Option ℕ → Type 0

@@ -1,6 +1,6 @@
 -- The counts of a stream, as they are kept while it is read: what is known of the machine before and after a field is
 -- enough to go on from one field to the next.
-use Rattle.std.specs.Prelude.{ℕ, ◌≡◌, suc, ◌+◌, max, ◌==◌, ◌&&◌, nat_lt, ◌≤◌, if◌then◌else◌, Bool, true, false, List, [], ◌∷◌, length}
+use Rattle.std.specs.Prelude.{ℕ, ◌≡◌, suc, ◌+◌, ◌^◌, ◌<◌, max, ◌==◌, ◌&&◌, nat_lt, ◌≤◌, if◌then◌else◌, Bool, true, false, List, [], ◌∷◌, length}
 use Rattle.jser_grammar.specs.Trees.{ContentTrees}
 use Rattle.jser_grammar.specs.TableAfter.{Entries}
 use Rattle.jser_grammar.specs.Counts.{content_count, refs_of, depth_of, handle_count}
@@ -8,6 +8,8 @@ use Rattle.jser_reading.specs.Labels.{StreamField, reset_tag_field, Piece, piece
 use Rattle.jser_reading.specs.Totals.{begins_content, one_more_if, count_of, number_if, deepest}
 use Rattle.jser_verdict.specs.Gates.{Gate}
 use Rattle.jser_reader.specs.declared.item.Totals.{Totals}
+use Rattle.jser_reader.specs.declared.machine.take.taken.Taken.{Taken}
+use Rattle.jser_reader.specs.declared.machine.take.taken.Taken.TheVariants as taken
 use Rattle.jser_reader.specs.declared.phase.Phase.{Phase}
 use Rattle.jser_reader.specs.declared.phase.Phase.TheVariants as phase
 use Rattle.jser_reader.specs.declared.tally.Tally.{Tally}
@@ -65,6 +67,14 @@ tally_after old new tally = record {
 -- Nothing more is taken: at the top no content begins any more.
 abbrev pub tally_stopped : (last : Mark) → Tally → Tally
 tally_stopped last tally = record { contents = tally.contents; earlier = tally.earlier; depth = tally.depth; begun = if last.at_top then last.at else tally.begun }
+
+-- Bytes of a field were taken: the field has ended, or the machine has stopped in it, or the field goes on.
+abbrev pub CountsTaken : Taken → (old new : Mark) → (before after : Tally) → Type 0
+CountsTaken (taken.Ended count) old new before after =
+    before.contents + 1 < 2 ^ 64 → before.earlier + old.entries < 2 ^ 64 → after ≡ tally_after old new before
+CountsTaken (taken.Stopped count) old new before after = after ≡ tally_stopped old before
+CountsTaken (taken.Part count) old new before after = after ≡ before
+CountsTaken taken.Open old new before after = after ≡ before
 
 -- So many contents have begun, no epoch has ended, this is the greatest depth, and there the last content begins.
 abbrev pub all_counted : Tally → (contents depth begun : ℕ) → Tally

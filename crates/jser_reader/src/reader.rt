@@ -13,6 +13,7 @@ ghost use Rattle.jser_reader.specs.WholesTold.{WholeCases};
 use crate::gate::Gate;
 use crate::item::{Step, Totals, Whole};
 use crate::machine::items::{Kept, item_of};
+use crate::machine::pass::passed::Passed;
 use crate::machine::take::taken::Taken;
 use crate::machine::wholes::lent::Lent;
 use crate::machine::{Limits, Machine};
@@ -221,8 +222,8 @@ impl<G: Gate> Reader<G> {
         'steps: while used < piece.len() {
             let (_, rest) = piece.split_at(used);
             match self.machine.pass(&self.gate, &mut self.tally, rest) {
-                None => return Err(self.machine.answer()),
-                Some(more) => used += more,
+                Passed::Stopped => return Err(self.machine.answer()),
+                Passed::Took(more) => used += more,
             }
         }
         Ok(())

@@ -1,6 +1,8 @@
 //! The counts of a stream that its fields tell, kept while it is read.
 ghost use Rattle.std.specs.Prelude.{◌≡◌, ◌+◌, ◌<◌, ◌^◌};
-ghost use Rattle.jser_reader.specs.Tallies.{tally_after, tally_stopped, all_counted, no_tally};
+ghost use Rattle.jser_reader.specs.Tallies.{tally_after, tally_stopped, CountsTaken, all_counted, no_tally};
+
+use crate::machine::take::taken::Taken;
 
 /// What a tally asks of the machine before and after a field.
 #[derive(Clone, Copy)]
@@ -61,6 +63,19 @@ impl Tally {
     {
         if last.at_top {
             self.begun = last.at;
+        }
+    }
+
+    /// Bytes of a field were taken: it has ended, or goes on, or the machine has stopped in it. What was known before them, and
+    /// what is known after them.
+    #[inline(always)]
+    pub(crate) fn count_taken(&mut self, taken: Taken, old: Mark, new: Mark)
+        ensures { CountsTaken taken old new self.old self.new }
+    {
+        match taken {
+            Taken::Ended(_) => self.count(old, new),
+            Taken::Stopped(_) => self.stop(old),
+            Taken::Part(_) | Taken::Open => {}
         }
     }
 

@@ -1,14 +1,14 @@
 //! Steps of a call that takes a whole piece: what comes next is taken from the front of the piece, and nothing is lent.
 //! Values that are common and whole in the piece are taken by one loop, without a look at each of their fields.
 ghost use Rattle.std.specs.Prelude.{◌≡◌, ◌<◌, length};
-ghost use Rattle.jser_reader.specs.Passes.{Passes, HasPassed, CanPass, IsQuiet};
+ghost use Rattle.jser_reader.specs.Passes.{bytes_passed, Passes, HasPassed, CanPass, IsQuiet};
 ghost use Rattle.jser_reader.specs.Takes.{IsOne};
 ghost use Rattle.jser_reader.specs.Wholes.{IsPlace};
 ghost use Rattle.jser_verdict.specs.Gates.{Gate as ToldGate, IsGate};
 
 use crate::gate::Gate;
 use crate::machine::Machine;
-use crate::machine::take::taken::Taken;
+use crate::machine::pass::passed::Passed;
 use crate::phase::Phase;
 use crate::tally::Tally;
 
@@ -16,6 +16,7 @@ mod class_names;
 mod classes;
 mod descriptors;
 mod members;
+pub(crate) mod passed;
 
 impl Machine {
     /// Takes bytes of the field that is open, whichever it is.
@@ -25,78 +26,60 @@ impl Machine {
         gate: &G,
         tally: &mut Tally,
         piece: &[u8],
-    ) -> Option<usize>
+    ) -> Passed
         requires can { CanPass self.old piece.now }
         requires some { 0 < length piece.now }
         requires goes_on { self.old.phase ≡ Phase.Stopped → ⊥ }
-        ensures passes { Passes (G.told gate.now) piece.now result self.old tally.old self.new tally.new }
-        ensures progress { HasPassed piece.now result }
+        ensures passes { Passes (G.told gate.now) piece.now (bytes_passed result) self.old tally.old self.new tally.new }
+        ensures progress { HasPassed piece.now (bytes_passed result) }
     {
         let before = self.mark();
-        match self.take(gate, piece) {
-            Taken::Ended(used) => {
-                tally.count(before, self.mark());
-                Some(used)
-            }
-            Taken::Part(used) => Some(used),
-            Taken::Stopped(_) => {
-                tally.stop(before);
-                None
-            }
-            Taken::Open => Some(piece.len()),
-        }
+        let taken = self.take(gate, piece);
+        tally.count_taken(taken, before, self.mark());
+        taken.passed(piece.len())
     }
 
     /// Takes some of a piece that reaches over the limit of bytes.
     #[inline(never)]
-    fn pass_to_limit<G: Gate>(&mut self, gate: &G, tally: &mut Tally, piece: &[u8]) -> Option<usize>
+    fn pass_to_limit<G: Gate>(&mut self, gate: &G, tally: &mut Tally, piece: &[u8]) -> Passed
         requires some { 0 < length piece.now }
         requires goes_on { self.old.phase ≡ Phase.Stopped → ⊥ }
-        ensures passes { Passes (G.told gate.now) piece.now result self.old tally.old self.new tally.new }
-        ensures progress { HasPassed piece.now result }
+        ensures passes { Passes (G.told gate.now) piece.now (bytes_passed result) self.old tally.old self.new tally.new }
+        ensures progress { HasPassed piece.now (bytes_passed result) }
     {
         let front = self.within(piece);
         if front.is_empty() {
             tally.stop(self.mark());
             let _ = self.exceed();
-            return None;
+            return Passed::Stopped;
         }
         self.pass_field(gate, tally, front)
     }
 
     /// Takes a tag, which comes next.
     #[inline(always)]
-    pub(crate) fn pass_tag(&mut self, tally: &mut Tally, piece: &[u8]) -> Option<usize>
+    pub(crate) fn pass_tag(&mut self, tally: &mut Tally, piece: &[u8]) -> Passed
         requires can { CanPass self.old piece.now }
         requires some { 0 < length piece.now }
         requires one { IsOne self.old.phase }
-        ensures passes { (gate : ToldGate) → IsGate gate → Passes gate piece.now result self.old tally.old self.new tally.new }
-        ensures progress { HasPassed piece.now result }
+        ensures passes { (gate : ToldGate) → IsGate gate → Passes gate piece.now (bytes_passed result) self.old tally.old self.new tally.new }
+        ensures progress { HasPassed piece.now (bytes_passed result) }
     {
-        let start = self.mark();
-        match self.take_one(piece) {
-            Taken::Ended(used) => {
-                tally.count(start, self.mark());
-                Some(used)
-            }
-            Taken::Part(used) => Some(used),
-            Taken::Stopped(_) => {
-                tally.stop(start);
-                None
-            }
-            Taken::Open => Some(piece.len()),
-        }
+        let before = self.mark();
+        let taken = self.take_one(piece);
+        tally.count_taken(taken, before, self.mark());
+        taken.passed(piece.len())
     }
 
     /// Takes contents and values, as many as are common and have all their bytes in the piece; and the tag of the one that comes
     /// next, with that of its class where it is new.
     #[inline(always)]
-    fn pass_values(&mut self, tally: &mut Tally, piece: &[u8]) -> Option<usize>
+    fn pass_values(&mut self, tally: &mut Tally, piece: &[u8]) -> Passed
         requires can { CanPass self.old piece.now }
         requires some { 0 < length piece.now }
         requires place { IsPlace self.old.phase }
-        ensures passes { (gate : ToldGate) → IsGate gate → Passes gate piece.now result self.old tally.old self.new tally.new }
-        ensures progress { HasPassed piece.now result }
+        ensures passes { (gate : ToldGate) → IsGate gate → Passes gate piece.now (bytes_passed result) self.old tally.old self.new tally.new }
+        ensures progress { HasPassed piece.now (bytes_passed result) }
     {
         let used = self.pass_many(tally, piece);
         if used == 0 {
@@ -105,53 +88,35 @@ impl Machine {
         self.then_owner(tally, piece, used)
     }
 
-    /// Takes bytes of a raw value.
-    #[inline(always)]
-    fn pass_prim(&mut self, piece: &[u8]) -> Option<usize>
-        requires can { CanPass self.old piece.now }
-        requires some { 0 < length piece.now }
-        requires phase { self.old.phase ≡ Phase.Prims }
-        ensures passes { (gate : ToldGate) (tally : Tally) → Passes gate piece.now result self.old tally self.new tally }
-        ensures progress { HasPassed piece.now result }
-    {
-        self.take_prims(piece).passed(piece.len())
-    }
-
     /// Takes bytes of the field that is open, whichever it is, where no count changes with it.
     #[inline(always)]
-    pub(crate) fn pass_quiet<G: Gate>(&mut self, gate: &G, piece: &[u8]) -> Option<usize>
+    pub(crate) fn pass_quiet<G: Gate>(&mut self, gate: &G, piece: &[u8]) -> Passed
         requires can { CanPass self.old piece.now }
         requires some { 0 < length piece.now }
         requires quiet { IsQuiet self.old.phase }
-        ensures passes { (tally : Tally) → Passes (G.told gate.now) piece.now result self.old tally self.new tally }
-        ensures progress { HasPassed piece.now result }
+        ensures passes { (tally : Tally) → Passes (G.told gate.now) piece.now (bytes_passed result) self.old tally self.new tally }
+        ensures progress { HasPassed piece.now (bytes_passed result) }
     {
         self.take(gate, piece).passed(piece.len())
     }
 
-    /// Takes some of the front of a piece that is not empty: a field or several, or all of the piece; None where the
-    /// machine has stopped within it.
+    /// Takes some of the front of a piece that is not empty: a field or several, or all of the piece.
     #[tactic(auto, using(crate::proofs::PassLemmas::pass_stopped))]
     #[inline(always)]
-    pub(crate) fn pass<G: Gate>(
-        &mut self,
-        gate: &G,
-        tally: &mut Tally,
-        piece: &[u8],
-    ) -> Option<usize>
+    pub(crate) fn pass<G: Gate>(&mut self, gate: &G, tally: &mut Tally, piece: &[u8]) -> Passed
         requires { 0 < length piece.now }
-        ensures passes { Passes (G.told gate.now) piece.now result self.old tally.old self.new tally.new }
-        ensures progress { HasPassed piece.now result }
+        ensures passes { Passes (G.told gate.now) piece.now (bytes_passed result) self.old tally.old self.new tally.new }
+        ensures progress { HasPassed piece.now (bytes_passed result) }
     {
         if self.is_stopped() {
-            return None;
+            return Passed::Stopped;
         }
         if !self.has_room(piece) {
             return self.pass_to_limit(gate, tally, piece);
         }
         match self.phase {
             Phase::Top | Phase::Value | Phase::Note => self.pass_values(tally, piece),
-            Phase::Prims => self.pass_prim(piece),
+            Phase::Prims => self.pass_known(gate, piece, Phase::Prims),
             Phase::TypeCode | Phase::Length2 | Phase::Text | Phase::Suid => {
                 self.pass_classes(gate, tally, piece)
             }

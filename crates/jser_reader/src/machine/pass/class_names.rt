@@ -1,10 +1,11 @@
 //! Names of classes of which all bytes are in the piece, each of them a unit: they are taken in one step with their length.
 ghost use Rattle.std.specs.Prelude.{◌≡◌, ◌<◌, IfSome, length};
-ghost use Rattle.jser_reader.specs.Passes.{Passes, CanPass, HasPassed};
+ghost use Rattle.jser_reader.specs.Passes.{bytes_passed, Passes, CanPass, HasPassed};
 ghost use Rattle.jser_reader.specs.ClassNames.{HasName, JudgesName};
 
 use crate::gate::Gate;
 use crate::machine::Machine;
+use crate::machine::pass::passed::Passed;
 use crate::machine::take::text_bytes::add_units;
 use crate::phase::{Phase, TextFor};
 use crate::tally::Tally;
@@ -50,12 +51,12 @@ impl Machine {
 
     /// Takes the length of a text and the text: in one step where it is such a name, and there is room for its units.
     #[inline(always)]
-    pub(crate) fn pass_name<G: Gate>(&mut self, gate: &G, piece: &[u8]) -> Option<usize>
+    pub(crate) fn pass_name<G: Gate>(&mut self, gate: &G, piece: &[u8]) -> Passed
         requires can { CanPass self.old piece.now }
         requires some { 0 < length piece.now }
         requires phase { self.old.phase ≡ Phase.Length2 }
-        ensures passes { (tally : Tally) → Passes (G.told gate.now) piece.now result self.old tally self.new tally }
-        ensures progress { HasPassed piece.now result }
+        ensures passes { (tally : Tally) → Passes (G.told gate.now) piece.now (bytes_passed result) self.old tally self.new tally }
+        ensures progress { HasPassed piece.now (bytes_passed result) }
     {
         let Some(len) = self.class_name_here(piece) else {
             return self.pass_length(gate, piece);
@@ -69,9 +70,9 @@ impl Machine {
         add_units(&mut self.name, part);
         self.at += 2 + len as u64;
         if self.judge_name(gate) {
-            Some(2 + len)
+            Passed::Took(2 + len)
         } else {
-            None
+            Passed::Stopped
         }
     }
 }

@@ -3,6 +3,8 @@ ghost use Rattle.std.specs.Prelude.{◌≡◌};
 ghost use Rattle.jser_reader.specs.Passes.{passed_of};
 ghost use Rattle.jser_reader.specs.Takes.{taken_by};
 
+use crate::machine::pass::passed::Passed;
+
 /// What came of the bytes of a piece that a field was handed.
 #[derive(Clone, Copy)]
 pub(crate) enum Taken {
@@ -29,15 +31,15 @@ impl Taken {
         Taken::Stopped(count)
     }
 
-    /// How much was taken of a piece of this length; None where the machine has stopped.
+    /// How much was taken of a piece of this length.
     #[inline(always)]
-    pub(crate) fn passed(self, len: usize) -> Option<usize>
+    pub(crate) fn passed(self, len: usize) -> Passed
         ensures { result ≡ passed_of self len }
     {
         match self {
-            Taken::Ended(count) | Taken::Part(count) => Some(count),
-            Taken::Open => Some(len),
-            Taken::Stopped(_) => None,
+            Taken::Ended(count) | Taken::Part(count) => Passed::Took(count),
+            Taken::Open => Passed::Took(len),
+            Taken::Stopped(_) => Passed::Stopped,
         }
     }
 }

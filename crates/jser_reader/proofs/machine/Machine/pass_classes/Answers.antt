@@ -11,17 +11,17 @@ classes-init g c = record {
   passes = pass_none _ c.args.piece.now c.args.self.now _;
 }
 
-pub returns-in-None-clause-passes : goal.returns-in-None-clause-passes
-returns-in-None-clause-passes g c =
-    then_halts _ c.args.piece.now c.split_at.result.1.now c.classes.used _ _ _ _ _ _ c.classes.invariant.passes c.in-None.ensures.passes c.split_at.ensures.back
+pub returns-in-Stopped-clause-passes : goal.returns-in-Stopped-clause-passes
+returns-in-Stopped-clause-passes g c =
+    then_halts _ c.args.piece.now c.split_at.result.1.now c.classes.used _ _ _ _ _ _ c.classes.invariant.passes c.in-Stopped.ensures.passes c.split_at.ensures.back
 
 pub returns-then-is_empty-clause-passes : goal.returns-then-is_empty-clause-passes
 returns-then-is_empty-clause-passes g c =
-    then_passes _ c.args.piece.now c.split_at.result.1.now c.classes.used c.in-Some.more _ _ _ _ _ _ c.classes.invariant.passes c.in-Some.ensures.passes c.split_at.ensures.back
+    then_passes _ c.args.piece.now c.split_at.result.1.now c.classes.used c.in-Took.more _ _ _ _ _ _ c.classes.invariant.passes c.in-Took.ensures.passes c.split_at.ensures.back
 
 pub classes-preserved : goal.classes-preserved
 classes-preserved g c =
-    let le = c.in-Some.ensures.progress.1 in
+    let le = c.in-Took.ensures.progress.1 in
     let left = c.split_at.ensures.back_len in
     let some : 0 < length c.split_at-in-classes.result.1.now = search rules in
     let others = c.split_at-in-classes.ensures.back_len in
@@ -30,6 +30,6 @@ classes-preserved g c =
       can = subst (CanPass _) c.split_at-in-classes.ensures.back (search rules);
       quiet = search rules;
       passes =
-          then_passes _ c.args.piece.now c.split_at.result.1.now c.classes.used c.in-Some.more _ _ _ _ _ _ c.classes.invariant.passes c.in-Some.ensures.passes
+          then_passes _ c.args.piece.now c.split_at.result.1.now c.classes.used c.in-Took.more _ _ _ _ _ _ c.classes.invariant.passes c.in-Took.ensures.passes
           c.split_at.ensures.back;
     }

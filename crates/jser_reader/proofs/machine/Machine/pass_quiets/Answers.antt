@@ -11,19 +11,19 @@ fields-init g c = record {
   passes = λ tally. pass_none _ c.args.piece.now c.args.self.now tally;
 }
 
-pub returns-in-None-clause-passes : goal.returns-in-None-clause-passes
-returns-in-None-clause-passes g c = λ tally.
-    then_halts _ c.args.piece.now c.split_at.result.1.now c.fields.used _ _ _ tally tally tally (c.fields.invariant.passes tally) (c.in-None.ensures.passes tally)
+pub returns-in-Stopped-clause-passes : goal.returns-in-Stopped-clause-passes
+returns-in-Stopped-clause-passes g c = λ tally.
+    then_halts _ c.args.piece.now c.split_at.result.1.now c.fields.used _ _ _ tally tally tally (c.fields.invariant.passes tally) (c.in-Stopped.ensures.passes tally)
     c.split_at.ensures.back
 
 pub returns-then-is_empty-clause-passes : goal.returns-then-is_empty-clause-passes
 returns-then-is_empty-clause-passes g c = λ tally.
-    then_passes _ c.args.piece.now c.split_at.result.1.now c.fields.used c.in-Some.more _ _ _ tally tally tally (c.fields.invariant.passes tally) (c.in-Some.ensures.passes tally)
+    then_passes _ c.args.piece.now c.split_at.result.1.now c.fields.used c.in-Took.more _ _ _ tally tally tally (c.fields.invariant.passes tally) (c.in-Took.ensures.passes tally)
     c.split_at.ensures.back
 
 pub fields-preserved : goal.fields-preserved
 fields-preserved g c =
-    let le = c.in-Some.ensures.progress.1 in
+    let le = c.in-Took.ensures.progress.1 in
     let left = c.split_at.ensures.back_len in
     let some : 0 < length c.split_at-in-fields.result.1.now = search rules in
     let others = c.split_at-in-fields.ensures.back_len in
@@ -32,6 +32,6 @@ fields-preserved g c =
       can = subst (CanPass _) c.split_at-in-fields.ensures.back (search rules);
       quiet = search rules;
       passes = λ tally.
-          then_passes _ c.args.piece.now c.split_at.result.1.now c.fields.used c.in-Some.more _ _ _ tally tally tally (c.fields.invariant.passes tally) (c.in-Some.ensures.passes tally)
+          then_passes _ c.args.piece.now c.split_at.result.1.now c.fields.used c.in-Took.more _ _ _ tally tally tally (c.fields.invariant.passes tally) (c.in-Took.ensures.passes tally)
           c.split_at.ensures.back;
     }

@@ -1,22 +1,10 @@
 use Rattle.std.proofs.Common.{rules}
-use Rattle.jser_reader.proofs.PassLemmas.{passes_end, passes_part, passes_open, passes_stop, end_passed, part_passed, any_gate}
+use Rattle.jser_reader.proofs.PassLemmas.{counted_step, some_step, any_gate}
 use Rattle.jser_reader.proofs.machine.Machine.pass_tag.Goals as goal
 
-pub returns-in-Ended-clause-passes : goal.returns-in-Ended-clause-passes
-returns-in-Ended-clause-passes c gate is_gate =
-    passes_end _ c.in-Ended.used _ c.args.piece.now _ _ _ _ (c.take_one.ensures gate) c.in-Ended.is (λ a b. search rules) (search rules) c.requires.can
+pub returns-clause-passes : goal.returns-clause-passes
+returns-clause-passes c = λ gate is_gate.
+    counted_step gate c.take_one-taken.result _ c.args.piece.now _ _ _ _ _ _ (c.take_one-taken.ensures gate) (search rules) (search rules) c.count_taken.ensures c.passed.ensures is_gate c.requires.can
 
-pub returns-in-Part-clause-passes : goal.returns-in-Part-clause-passes
-returns-in-Part-clause-passes c gate is_gate = passes_part _ c.in-Part.used _ c.args.piece.now _ _ _ (c.take_one.ensures gate) c.in-Part.is c.requires.can
-
-pub returns-in-Stopped-clause-passes : goal.returns-in-Stopped-clause-passes
-returns-in-Stopped-clause-passes c gate is_gate = passes_stop _ _ _ c.args.piece.now _ _ _ _ (c.take_one.ensures gate) c.in-Stopped.is c.requires.can (search rules)
-
-pub returns-in-Open-clause-passes : goal.returns-in-Open-clause-passes
-returns-in-Open-clause-passes c gate is_gate = passes_open _ _ c.args.piece.now _ _ _ (c.take_one.ensures gate) c.in-Open.is c.requires.can
-
-pub returns-in-Ended-clause-progress : goal.returns-in-Ended-clause-progress
-returns-in-Ended-clause-progress c = end_passed _ c.in-Ended.used _ c.args.piece.now _ _ (c.take_one.ensures any_gate) c.in-Ended.is
-
-pub returns-in-Part-clause-progress : goal.returns-in-Part-clause-progress
-returns-in-Part-clause-progress c = part_passed _ c.in-Part.used _ c.args.piece.now _ _ (c.take_one.ensures any_gate) c.in-Part.is
+pub returns-clause-progress : goal.returns-clause-progress
+returns-clause-progress c = some_step any_gate c.take_one-taken.result _ c.args.piece.now _ _ (c.take_one-taken.ensures any_gate) c.passed.ensures c.requires.some

@@ -27,36 +27,36 @@ steps-init g c = record {
   goes_on = search rules;
 }
 
-pub returns-in-None-clause-tells : goal.returns-in-None-clause-tells
-returns-in-None-clause-tells g c =
-    halts_skip _ c.args.piece.now c.answer-in-None.result _ _ _ _ _
+pub returns-in-Stopped-clause-tells : goal.returns-in-Stopped-clause-tells
+returns-in-Stopped-clause-tells g c =
+    halts_skip _ c.args.piece.now c.answer-in-Stopped.result _ _ _ _ _
     (then_halts _ c.args.piece.now c.split_at.result.1.now c.steps.used _ _ _ _ _ _ c.steps.invariant.passes
-    (subst (λ x. Passes (g.G.Gate.told x) c.split_at.result.1.now None c.steps.self-inside.machine c.steps.self-inside.tally c.pass.new.self c.pass.new.tally) c.steps.invariant.gate c.in-None.ensures.passes)
+    (subst (λ x. Passes (g.G.Gate.told x) c.split_at.result.1.now None c.steps.self-inside.machine c.steps.self-inside.tally c.pass.new.self c.pass.new.tally) c.steps.invariant.gate c.in-Stopped.ensures.passes)
     c.split_at.ensures.back)
-    c.answer-in-None.ensures
+    c.answer-in-Stopped.ensures
 
-pub returns-in-None-clause-memory : goal.returns-in-None-clause-memory
-returns-in-None-clause-memory g c =
-    halts_memory _ c.args.piece.now c.answer-in-None.result _ _ _ _ _
+pub returns-in-Stopped-clause-memory : goal.returns-in-Stopped-clause-memory
+returns-in-Stopped-clause-memory g c =
+    halts_memory _ c.args.piece.now c.answer-in-Stopped.result _ _ _ _ _
     (then_halts _ c.args.piece.now c.split_at.result.1.now c.steps.used _ _ _ _ _ _ c.steps.invariant.passes
-    (subst (λ x. Passes (g.G.Gate.told x) c.split_at.result.1.now None c.steps.self-inside.machine c.steps.self-inside.tally c.pass.new.self c.pass.new.tally) c.steps.invariant.gate c.in-None.ensures.passes)
+    (subst (λ x. Passes (g.G.Gate.told x) c.split_at.result.1.now None c.steps.self-inside.machine c.steps.self-inside.tally c.pass.new.self c.pass.new.tally) c.steps.invariant.gate c.in-Stopped.ensures.passes)
     c.split_at.ensures.back)
-    c.answer-in-None.ensures
+    c.answer-in-Stopped.ensures
 
-pub returns-in-None-clause-stays : goal.returns-in-None-clause-stays
-returns-in-None-clause-stays g c = not_stopped _ _ _ c.steps.invariant.goes_on
+pub returns-in-Stopped-clause-stays : goal.returns-in-Stopped-clause-stays
+returns-in-Stopped-clause-stays g c = not_stopped _ _ _ c.steps.invariant.goes_on
 
 pub steps-preserved : goal.steps-preserved
 steps-preserved g c =
-    let le = c.in-Some.ensures.progress.1 in
+    let le = c.in-Took.ensures.progress.1 in
     let left = c.split_at.ensures.back_len in
     let before = c.steps.invariant.within in
     record {
       gate = c.steps.invariant.gate;
       within = omega arith;
       passes =
-          then_passes _ c.args.piece.now c.split_at.result.1.now c.steps.used c.in-Some.more _ _ _ _ _ _ c.steps.invariant.passes
-          (subst (λ x. Passes (g.G.Gate.told x) c.split_at.result.1.now (Some c.in-Some.more) c.steps.self-inside.machine c.steps.self-inside.tally c.pass.new.self c.pass.new.tally) c.steps.invariant.gate c.in-Some.ensures.passes)
+          then_passes _ c.args.piece.now c.split_at.result.1.now c.steps.used c.in-Took.more _ _ _ _ _ _ c.steps.invariant.passes
+          (subst (λ x. Passes (g.G.Gate.told x) c.split_at.result.1.now (Some c.in-Took.more) c.steps.self-inside.machine c.steps.self-inside.tally c.pass.new.self c.pass.new.tally) c.steps.invariant.gate c.in-Took.ensures.passes)
           c.split_at.ensures.back;
       goes_on = c.steps.invariant.goes_on;
     }
@@ -74,8 +74,8 @@ pub returns-then-is_stopped-clause-keeps : goal.returns-then-is_stopped-clause-k
 returns-then-is_stopped-clause-keeps g c =
     keeps_stopped c.answer.result _ _ _ _ (search rules) (subst (λ r. AnswersStop c.answer.result r.machine c.answer.new.self) c.self.view_is c.answer.ensures) (search rules)
 
-pub returns-in-None-clause-keeps : goal.returns-in-None-clause-keeps
-returns-in-None-clause-keeps g c = keeps_going _ _ _ _ c.steps.invariant.goes_on
+pub returns-in-Stopped-clause-keeps : goal.returns-in-Stopped-clause-keeps
+returns-in-Stopped-clause-keeps g c = keeps_going _ _ _ _ c.steps.invariant.goes_on
 
 pub returns-clause-keeps : goal.returns-clause-keeps
 returns-clause-keeps g c = keeps_going _ _ _ _ c.steps.invariant.goes_on
