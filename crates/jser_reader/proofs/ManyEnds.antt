@@ -276,7 +276,7 @@ ends_next piece m mid new i l j turn.Ended h g e =
 ends_next piece m mid new i l j turn.Next h g e = absurd (cc)
 ends_next piece m mid new i l j turn.Nothing h g e = absurd (cc)
 
-pub settles_next : (piece : List ℕ) (m mid new : Seen) (i l j : Counts) (t : Turn) (b : Bool) → EndsSo piece m i mid l → FrameEnds piece t mid l new j → t ≡ turn.Next → b ≡ true → Settles piece b m i new j
+pub settles_next : (piece : List ℕ) (m mid new : Seen) (i l j : Counts) (t b : Turn) → EndsSo piece m i mid l → FrameEnds piece t mid l new j → t ≡ turn.Next → b ≡ turn.Next → Settles piece b m i new j
 unfolding FrameEnds Settles
 settles_next piece m mid new i l j turn.Next b h g e eb =
     let u = h.used in
@@ -288,7 +288,7 @@ settles_next piece m mid new i l j turn.Nothing b h g e eb = absurd (cc)
 abbrev SettlesTo : List ℕ → Seen → Counts → Seen → Counts → Type 0
 SettlesTo piece m i r x = ((old : Seen) (k : Counts) → Ends piece old k m i → Ends piece old k r x) × Holds piece r x × (i.used ≤ x.used)
 
-pub settles_not : (piece : List ℕ) (m mid new : Seen) (i l j : Counts) (t : Turn) (b : Bool) → EndsSo piece m i mid l → FrameEnds piece t mid l new j → t ≡ turn.Nothing → b ≡ false → Settles piece b m i new j
+pub settles_not : (piece : List ℕ) (m mid new : Seen) (i l j : Counts) (t b : Turn) → EndsSo piece m i mid l → FrameEnds piece t mid l new j → t ≡ turn.Nothing → b ≡ turn.Ended → Settles piece b m i new j
 unfolding FrameEnds Settles
 settles_not piece m mid new i l j turn.Nothing b h g e eb =
     rw eb (subst (λ r. SettlesTo piece m i r j) (sym g.0) (subst (λ x. SettlesTo piece m i mid x) (sym g.1) (h.ends, h.holds, h.used)))
@@ -309,7 +309,7 @@ none_next false old new h e = (h.0, subst (λ r. IsOnTop HasNoValue r.frames) (s
 pub ends_same : (piece : List ℕ) (m mid new : Seen) (i j : Counts) → EndsSo piece m i mid j → new ≡ mid → EndsSo piece m i new j
 ends_same piece m mid new i j h e = subst (λ r. EndsSo piece m i r j) (sym e) h
 
-pub settles_value : (piece : List ℕ) (m mid new : Seen) (i j : Counts) (b : Bool) → EndsSo piece m i mid j → GivesNext b mid new → b ≡ true → Settles piece true m i new j
+pub settles_value : (piece : List ℕ) (m mid new : Seen) (i j : Counts) (b : Bool) → EndsSo piece m i mid j → GivesNext b mid new → b ≡ true → Settles piece turn.Next m i new j
 unfolding Settles Ends GivesNext
 settles_value piece m mid new i j false h g e = absurd (cc)
 settles_value piece m mid new i j true h g e =
@@ -333,7 +333,7 @@ settles_value piece m mid new i j true h g e =
 abbrev SettledTo : List ℕ → Seen → Counts → Seen → Counts → Type 0
 SettledTo piece m i r x = ((old : Seen) (k : Counts) → Ends piece old k m i → Goes piece old k r x) × HoldsNext piece r x × (i.used ≤ x.used)
 
-pub settles_top : (piece : List ℕ) (m mid : Seen) (i j l : Counts) (b : Bool) → EndsSo piece m i mid j → mid.frames ≡ [] → l ≡ content_ended j → b ≡ true → Settles piece b m i mid l
+pub settles_top : (piece : List ℕ) (m mid : Seen) (i j l : Counts) (b : Turn) → EndsSo piece m i mid j → mid.frames ≡ [] → l ≡ content_ended j → b ≡ turn.Next → Settles piece b m i mid l
 unfolding Settles Ends
 settles_top piece m mid i j l b h none el eb =
     let holds = h.holds in

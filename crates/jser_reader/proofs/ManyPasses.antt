@@ -1,5 +1,5 @@
 -- The loop over whole values: its beginning and its end.
-use Rattle.std.proofs.Common.{◌≡◌, ℕ, ◌+◌, ◌^◌, ◌<◌, ◌≤◌, Bool, true, false, List, ◌++◌, length, take, drop, Some, refl, sym, ◌∙◌, ap, ap₂, subst, arith}
+use Rattle.std.proofs.Common.{◌≡◌, ℕ, ◌+◌, ◌^◌, ◌<◌, ◌≤◌, List, ◌++◌, length, take, drop, Some, refl, sym, ◌∙◌, ap, ap₂, subst, arith}
 use Rattle.jser_reading.specs.FieldBytes.{joined}
 use Rattle.jser_verdict.specs.Gates.{Gate, IsGate}
 use Rattle.jser_reader.specs.declared.machine.many.counts.Counts.{Counts}
@@ -21,25 +21,17 @@ use Rattle.jser_reader.proofs.PassLemmas.{pass_none, for_bytes}
 
 -- ---- a turn
 
-pub turn_settles : (piece : List ℕ) (old mid new : Seen) (k i j : Counts) (t : Turn) (b : Bool) → Turns piece t old k mid i → t ≡ turn.Ended → Settles piece b mid i new j → b ≡ true
-    → Turns piece turn.Next old k new j
+pub turn_settles : (piece : List ℕ) (old mid new : Seen) (k i j : Counts) (t u : Turn) → Turns piece t old k mid i → t ≡ turn.Ended → Settles piece u mid i new j → Turns piece u old k new j
 unfolding Turns Settles
-turn_settles piece old mid new k i j turn.Ended true h e g eb =
+turn_settles piece old mid new k i j turn.Ended turn.Next h e g =
     let a = h.2 in
     let b = g.2 in (g.0 old k h.0, g.1, omega arith)
-turn_settles piece old mid new k i j turn.Ended false h e g eb = absurd (cc)
-turn_settles piece old mid new k i j turn.Next b h e g eb = absurd (cc)
-turn_settles piece old mid new k i j turn.Nothing b h e g eb = absurd (cc)
-
-pub turn_ends : (piece : List ℕ) (old mid new : Seen) (k i j : Counts) (t : Turn) (b : Bool) → Turns piece t old k mid i → t ≡ turn.Ended → Settles piece b mid i new j → b ≡ false
-    → Turns piece turn.Ended old k new j
-unfolding Turns Settles
-turn_ends piece old mid new k i j turn.Ended false h e g eb =
+turn_settles piece old mid new k i j turn.Ended turn.Ended h e g =
     let a = h.2 in
     let b = g.2 in (g.0 old k h.0, g.1, omega arith)
-turn_ends piece old mid new k i j turn.Ended true h e g eb = absurd (cc)
-turn_ends piece old mid new k i j turn.Next b h e g eb = absurd (cc)
-turn_ends piece old mid new k i j turn.Nothing b h e g eb = absurd (cc)
+turn_settles piece old mid new k i j turn.Ended turn.Nothing h e g = absurd g
+turn_settles piece old mid new k i j turn.Next u h e g = absurd (cc)
+turn_settles piece old mid new k i j turn.Nothing u h e g = absurd (cc)
 
 pub turn_holds : (piece : List ℕ) (old new : Seen) (k j : Counts) (t : Turn) → Turns piece t old k new j → t ≡ turn.Ended → Holds piece new j
 unfolding Turns

@@ -225,12 +225,13 @@ unfoldable pub FrameEnds : List ℕ → Turn → Seen → Counts → Seen → Co
 FrameEnds piece t m i new j = FrameCases piece t m i new j
 
 -- After a value: a content or a value comes next; or the end of a value is still to be found.
-abbrev pub SettleCases : List ℕ → Bool → Seen → Counts → Seen → Counts → Type 0
-SettleCases piece true m i new j = ((old : Seen) (k : Counts) → Ends piece old k m i → Goes piece old k new j) × HoldsNext piece new j × (i.used ≤ j.used)
-SettleCases piece false m i new j = ((old : Seen) (k : Counts) → Ends piece old k m i → Ends piece old k new j) × Holds piece new j × (i.used ≤ j.used)
+abbrev pub SettleCases : List ℕ → Turn → Seen → Counts → Seen → Counts → Type 0
+SettleCases piece turn.Next m i new j = ((old : Seen) (k : Counts) → Ends piece old k m i → Goes piece old k new j) × HoldsNext piece new j × (i.used ≤ j.used)
+SettleCases piece turn.Ended m i new j = ((old : Seen) (k : Counts) → Ends piece old k m i → Ends piece old k new j) × Holds piece new j × (i.used ≤ j.used)
+SettleCases piece turn.Nothing m i new j = ⊥
 
-unfoldable pub Settles : List ℕ → Bool → Seen → Counts → Seen → Counts → Type 0
-Settles piece b m i new j = SettleCases piece b m i new j
+unfoldable pub Settles : List ℕ → Turn → Seen → Counts → Seen → Counts → Type 0
+Settles piece t m i new j = SettleCases piece t m i new j
 
 -- ---- arrays
 

@@ -94,13 +94,7 @@ impl Machine {
         match self.value_at(counts, piece) {
             Turn::Nothing => Turn::Nothing,
             Turn::Next => Turn::Next,
-            Turn::Ended => {
-                if self.end_value(counts, piece) {
-                    Turn::Next
-                } else {
-                    Turn::Ended
-                }
-            }
+            Turn::Ended => self.end_value(counts, piece),
         }
     }
 

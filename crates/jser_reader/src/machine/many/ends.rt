@@ -86,24 +86,24 @@ impl Machine {
         self.frames.next_value()
     }
 
-    /// A value has ended: what comes next is found, as long as it is a content or a value.
+    /// A value has ended: what comes next is found, as long as it is a content or a value. Else a value has ended still.
     #[tactic(auto, using(crate::proofs::PartLemmas::fits_top))]
     #[inline(always)]
-    pub(super) fn end_value(&mut self, counts: &mut Counts, piece: &[u8]) -> bool
+    pub(super) fn end_value(&mut self, counts: &mut Counts, piece: &[u8]) -> Turn
         requires { Holds piece.now self.old counts.old }
         ensures { Settles piece.now result self.old counts.old self.new counts.new }
     {
         'frames: loop {
             if self.next_value_on() {
-                return true;
+                return Turn::Next;
             }
             let Some(frame) = self.frames.top() else {
                 counts.reach_top();
-                return true;
+                return Turn::Next;
             };
             match self.end_frame(counts, piece, frame) {
-                Turn::Next => return true,
-                Turn::Nothing => return false,
+                Turn::Next => return Turn::Next,
+                Turn::Nothing => return Turn::Ended,
                 Turn::Ended => {}
             }
         }

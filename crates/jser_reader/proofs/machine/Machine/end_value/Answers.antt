@@ -1,4 +1,5 @@
-use Rattle.std.proofs.Common.{◌<◌, true, false, length, refl, ap, subst, rules}
+use Rattle.std.proofs.Common.{◌<◌, length, refl, ap, subst, rules}
+use Rattle.jser_reader.specs.declared.machine.many.counts.Turn.TheVariants as turn
 use Rattle.jser_reader.proofs.ManyEnds.{ends_first, ends_next, ends_same, none_next, settles_next, settles_not, settles_value, settles_top}
 use Rattle.jser_reader.proofs.machine.Machine.end_value.Goals as goal
 
@@ -10,7 +11,7 @@ returns-then-next_value_on c = settles_value c.args.piece.now _ _ _ _ _ c.next_v
 
 pub returns-in_default : goal.returns-in_default
 returns-in_default c =
-    settles_top c.args.piece.now _ _ _ _ _ true (ends_same c.args.piece.now _ _ _ _ _ c.frames.invariant (none_next c.next_value_on.result _ _ c.next_value_on.ensures (search rules)).0) (search rules) c.reach_top.ensures refl
+    settles_top c.args.piece.now _ _ _ _ _ turn.Next (ends_same c.args.piece.now _ _ _ _ _ c.frames.invariant (none_next c.next_value_on.result _ _ c.next_value_on.ensures (search rules)).0) (search rules) c.reach_top.ensures refl
 
 pub end_frame-requires-clause-holds : goal.end_frame-requires-clause-holds
 end_frame-requires-clause-holds c =
@@ -21,12 +22,12 @@ end_frame-requires-clause-none c = (none_next c.next_value_on.result _ _ c.next_
 
 pub returns-in-Next : goal.returns-in-Next
 returns-in-Next c =
-    settles_next c.args.piece.now _ _ _ _ _ _ c.end_frame.result true
+    settles_next c.args.piece.now _ _ _ _ _ _ c.end_frame.result turn.Next
     (ends_same c.args.piece.now _ _ _ _ _ c.frames.invariant (none_next c.next_value_on.result _ _ c.next_value_on.ensures (search rules)).0) c.end_frame.ensures (search rules) refl
 
 pub returns-in-Nothing : goal.returns-in-Nothing
 returns-in-Nothing c =
-    settles_not c.args.piece.now _ _ _ _ _ _ c.end_frame.result false
+    settles_not c.args.piece.now _ _ _ _ _ _ c.end_frame.result turn.Ended
     (ends_same c.args.piece.now _ _ _ _ _ c.frames.invariant (none_next c.next_value_on.result _ _ c.next_value_on.ensures (search rules)).0) c.end_frame.ensures (search rules) refl
 
 pub frames-preserved : goal.frames-preserved
