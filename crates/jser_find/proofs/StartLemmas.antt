@@ -1,45 +1,152 @@
 -- Where the header of a stream begins in a text.
-use Rattle.std.proofs.Common.{◌≡◌, ◌≢◌, ℕ, suc, ◌+◌, ◌-◌, ◌%◌, ◌<◌, ◌≤◌, ◌⊎◌, List, length, get_or, refl, sym, ap, subst, ◌∙◌, arith, inl, inr, ⊎_elim, eq-or-lt_of_le, Option, Some, None}
+use Rattle.std.proofs.Common.{◌≡◌, ℕ, ◌+◌, ◌%◌, ◌<◌, ◌≤◌, ◌⊎◌, ◌==◌, ◌||◌, Bool, true, false, if◌then◌else◌, List, [], ◌∷◌, length, take, drop, get_or, refl, sym, ap, subst, ◌∙◌, arith, inl, inr, ⊎_elim, eq-or-lt_of_le, Option, Some, None}
+use Rattle.std.proofs.lemmas.Bool.Decides.{nat_tests}
 use Rattle.memchr.specs.Find.{NoneBefore, Nowhere}
 use Rattle.jser_find.specs.declared.spot.Digit.TheVariants as digit
 use Rattle.jser_find.specs.declared.spelled.Reading.{Reading}
 use Rattle.jser_find.specs.declared.start.Start.{Start}
-use Rattle.jser_find.specs.Digits.{base64_value}
-use Rattle.jser_find.specs.Starts.{HasHeaderTextAt, IsFirstStart, IsHeaderAt, ReadsWith, SpellsHeader, StartsAt, reading_before}
+use Rattle.jser_grammar.specs.Wire.{stream_header}
+use Rattle.jser_find.specs.declared.spot.Digit.{Digit}
+use Rattle.jser_find.specs.declared.spot.Step.{Step}
+use Rattle.jser_find.specs.declared.spot.Step.TheVariants as step
+use Rattle.jser_find.specs.Digits.{base64_value, hexadecimal_value}
+use Rattle.jser_find.specs.Spelled.{follows, spelled}
+use Rattle.jser_find.specs.Spots.{before, digit_step, fourth_read, low_read, second_read, step_of, third_read}
+use Rattle.jser_find.specs.Starts.{HasHeaderTextAt, IsFirstStart, ReadsFrom, ReadsGroup, ReadsPair, SpellsHeader, StartsAt, StartsBy, leads, reading_before}
 
-no_way : (text : List ℕ) (at : ℕ) (reading : Reading) (value : Option ℕ) → ReadsWith at reading value → SpellsHeader text reading
-    → ((v : ℕ) → value ≡ Some v → (SpellsHeader text (reading_before (at + 1) (digit.Third (v % 16))) → ⊥) × (SpellsHeader text (reading_before (at + 1) (digit.Fourth (v % 4))) → ⊥)) → ⊥
-no_way text at reading None with_it spells none = with_it
-no_way text at reading (Some v) (inl is) spells none = (none v refl).0 (subst (SpellsHeader text) is spells)
-no_way text at reading (Some v) (inr is) spells none = (none v refl).1 (subst (SpellsHeader text) is spells)
+-- ---- a header's first byte
 
-no_read : (text : List ℕ) (at : ℕ) (reading : Reading) → (SpellsHeader text (reading_before at digit.High) → ⊥) → (SpellsHeader text (reading_before at digit.First) → ⊥)
-    → ((v : ℕ) → base64_value (get_or text at 0) ≡ Some v → (SpellsHeader text (reading_before (at + 1) (digit.Third (v % 16))) → ⊥) × (SpellsHeader text (reading_before (at + 1) (digit.Fourth (v % 4))) → ⊥))
-    → IsHeaderAt text at reading → ⊥
-no_read text at reading pair first more (inl is, spells) = pair (subst (SpellsHeader text) is spells)
-no_read text at reading pair first more (inr (inl is), spells) = first (subst (SpellsHeader text) is spells)
-no_read text at reading pair first more (inr (inr with_it), spells) = no_way text at reading (base64_value (get_or text at 0)) with_it spells more
+hexadecimal_small : (c value : ℕ) → hexadecimal_value c ≡ Some value → value < 16
+hexadecimal_small c value e = grind (arith, nat_tests, e)
 
-some_is : (v w : ℕ) → Some v ≡ Some w → v ≡ w
-some_is v w e = cc
+base64_small : (c value : ℕ) → base64_value c ≡ Some value → value < 64
+base64_small c value e = grind (arith, nat_tests, e)
 
-none_is : (v : ℕ) → None ≡ Some v → ⊥
-none_is v e = absurd (cc)
+is_equal : (m n : ℕ) → m ≡ n → (m == n) ≡ true
+is_equal m n e = grind (arith, nat_tests, e)
 
-pub no_digit : (text : List ℕ) (at : ℕ) → (SpellsHeader text (reading_before at digit.High) → ⊥) → (SpellsHeader text (reading_before at digit.First) → ⊥)
-    → None ≡ base64_value (get_or text at 0) → StartsAt text at None
-no_digit text at pair first none = λ has. no_read text at has.0 pair first (λ v e. absurd (none_is v (none ∙ e))) has.1
+-- a step leaves the bits as they are, or it gives the header's first byte only where they lead to it
+abbrev IsLed : Digit → Step → Type 0
+IsLed next (step.Goes spot) = spot.next ≡ next
+IsLed next (step.Gives byte spot) = byte ≡ 0xAC → leads next ≡ true
+IsLed next step.Ends = Unit {0}
 
-pub no_start : (text : List ℕ) (at value : ℕ) → (SpellsHeader text (reading_before at digit.High) → ⊥) → (SpellsHeader text (reading_before at digit.First) → ⊥)
-    → Some value ≡ base64_value (get_or text at 0) → (SpellsHeader text (reading_before (at + 1) (digit.Third (value % 16))) → ⊥)
-    → (SpellsHeader text (reading_before (at + 1) (digit.Fourth (value % 4))) → ⊥) → StartsAt text at None
-no_start text at value pair first is second third = λ has.
-    no_read text at has.0 pair first
-    (λ v e. let same : value ≡ v = some_is value v (is ∙ e) in (
-      λ s. second (subst (λ n. SpellsHeader text (reading_before (at + 1) (digit.Third (n % 16)))) (sym same) s),
-      λ s. third (subst (λ n. SpellsHeader text (reading_before (at + 1) (digit.Fourth (n % 4)))) (sym same) s),
-    ))
-    has.1
+led_digit : (next : Digit) (c : ℕ) → leads next ≡ false → IsLed next (digit_step next c)
+led_digit digit.High c e = absurd (let no : true ≡ false = e in cc)
+led_digit digit.First c e = absurd (let no : true ≡ false = e in cc)
+led_digit (digit.Low bits) c e = by (hexadecimal_value c) refl
+  where
+    by : (o : Option ℕ) → hexadecimal_value c ≡ o → IsLed (digit.Low bits) (low_read bits o)
+    by None is = tt
+    by (Some value) is = λ byte. is_equal bits 10 (omega (arith, byte, hexadecimal_small c value is))
+led_digit (digit.Second bits) c e = by (base64_value c) refl
+  where
+    by : (o : Option ℕ) → base64_value c ≡ o → IsLed (digit.Second bits) (second_read bits o)
+    by None is = tt
+    by (Some value) is = λ byte. is_equal bits 43 (omega (arith, byte, base64_small c value is))
+led_digit (digit.Third bits) c e = by (base64_value c) refl
+  where
+    by : (o : Option ℕ) → base64_value c ≡ o → IsLed (digit.Third bits) (third_read bits o)
+    by None is = tt
+    by (Some value) is = λ byte. is_equal bits 10 (omega (arith, byte, base64_small c value is))
+led_digit (digit.Fourth bits) c e = by (base64_value c) refl
+  where
+    by : (o : Option ℕ) → base64_value c ≡ o → IsLed (digit.Fourth bits) (fourth_read bits o)
+    by None is = tt
+    by (Some value) is = λ byte. is_equal bits 2 (omega (arith, byte, base64_small c value is))
+
+led_step : (next : Digit) (escaped : Bool) (c : ℕ) → leads next ≡ false → IsLed next (step_of (record { next = next; escaped = escaped }) c)
+led_step next true c e = by (c == 0x6E || c == 0x72) (c == 0x2F)
+  where
+    by : (line slash : Bool) → IsLed next (if line then step.Goes (before next) else (if slash then digit_step next c else step.Ends))
+    by true slash = refl
+    by false true = led_digit next c e
+    by false false = tt
+led_step next false c e = by (c == 0x0A || c == 0x0D) (c == 0x5C)
+  where
+    by : (line slash : Bool)
+        → IsLed next (if line then step.Goes (before next) else (if slash then step.Goes (record { next = next; escaped = true }) else digit_step next c))
+    by true slash = refl
+    by false true = refl
+    by false false = led_digit next c e
+
+first_is : (byte : ℕ) (rest : List ℕ) → take 4 (byte ∷ rest) ≡ stream_header → byte ≡ 0xAC
+first_is byte rest e = ap (λ xs. get_or xs 0 0) e
+
+not_spelled : (next : Digit) (escaped : Bool) (text : List ℕ) → leads next ≡ false → take 4 (spelled (record { next = next; escaped = escaped }) text) ≡ stream_header → ⊥
+unfolding spelled
+not_spelled next escaped [] e is = let no : [] ≡ stream_header = is in cc
+not_spelled next escaped (c ∷ text) e is =
+    by (λ again h. not_spelled next again text e h) (step_of (record { next = next; escaped = escaped }) c) (led_step next escaped c e) is
+  where
+    by : ((again : Bool) → take 4 (spelled (record { next = next; escaped = again }) text) ≡ stream_header → ⊥) → (s : Step) → IsLed next s
+        → take 4 (follows s (λ spot. spelled spot text)) ≡ stream_header → ⊥
+    by f (step.Goes spot) led h = f spot.escaped (subst (λ n. take 4 (spelled (record { next = n; escaped = spot.escaped }) text) ≡ stream_header) led h)
+    by f (step.Gives byte spot) led h = let no : true ≡ false = sym (led (first_is byte (spelled spot text) h)) ∙ e in cc
+    by f step.Ends led h = let no : [] ≡ stream_header = h in cc
+
+pub not_led : (text : List ℕ) (from : Reading) → leads from.spot.next ≡ false → SpellsHeader text from → ⊥
+not_led text from e = not_spelled from.spot.next from.spot.escaped (drop from.at text) e
+
+-- ---- the ways in which a text is read from a place on
+
+pub no_pair_digit : (text : List ℕ) (at : ℕ) (value : Option ℕ) → None ≡ value → StartsBy (ReadsPair at value) text None
+no_pair_digit text at value is = subst (λ v. StartsBy (ReadsPair at v) text None) is (λ reading reads spells. reads)
+
+pub no_pair : (text : List ℕ) (at value : ℕ) (found : Option ℕ) → Some value ≡ found → (SpellsHeader text (reading_before (at + 1) (digit.Low value)) → ⊥)
+    → StartsBy (ReadsPair at found) text None
+no_pair text at value found is none =
+    subst (λ v. StartsBy (ReadsPair at v) text None) is (λ reading reads spells. none (subst (SpellsHeader text) reads spells))
+
+pub pair_found : (text : List ℕ) (at value : ℕ) (found : Option ℕ) → Some value ≡ found → SpellsHeader text (reading_before (at + 1) (digit.Low value))
+    → StartsBy (ReadsPair at found) text (Some (reading_before (at + 1) (digit.Low value)))
+pair_found text at value found is spells =
+    subst (λ v. StartsBy (ReadsPair at v) text (Some (reading_before (at + 1) (digit.Low value)))) is (refl, spells)
+
+pub no_group_digit : (text : List ℕ) (at : ℕ) (value : Option ℕ) → None ≡ value → StartsBy (ReadsGroup at value) text None
+no_group_digit text at value is = subst (λ v. StartsBy (ReadsGroup at v) text None) is (λ reading reads spells. reads)
+
+pub no_group : (text : List ℕ) (at value : ℕ) (found : Option ℕ) → Some value ≡ found → (SpellsHeader text (reading_before (at + 1) (digit.Second value)) → ⊥)
+    → (SpellsHeader text (reading_before (at + 1) (digit.Third (value % 16))) → ⊥) → (SpellsHeader text (reading_before (at + 1) (digit.Fourth (value % 4))) → ⊥)
+    → StartsBy (ReadsGroup at found) text None
+no_group text at value found is first second third = subst (λ v. StartsBy (ReadsGroup at v) text None) is none
+  where
+    none : StartsBy (ReadsGroup at (Some value)) text None
+    none reading (inl same) spells = first (subst (SpellsHeader text) same spells)
+    none reading (inr (inl same)) spells = second (subst (SpellsHeader text) same spells)
+    none reading (inr (inr same)) spells = third (subst (SpellsHeader text) same spells)
+
+pub first_found : (text : List ℕ) (at value : ℕ) (found : Option ℕ) → Some value ≡ found → SpellsHeader text (reading_before (at + 1) (digit.Second value))
+    → StartsBy (ReadsGroup at found) text (Some (reading_before (at + 1) (digit.Second value)))
+first_found text at value found is spells =
+    subst (λ v. StartsBy (ReadsGroup at v) text (Some (reading_before (at + 1) (digit.Second value)))) is (inl refl, spells)
+
+pub second_found : (text : List ℕ) (at value : ℕ) (found : Option ℕ) → Some value ≡ found → SpellsHeader text (reading_before (at + 1) (digit.Third (value % 16)))
+    → StartsBy (ReadsGroup at found) text (Some (reading_before (at + 1) (digit.Third (value % 16))))
+second_found text at value found is spells =
+    subst (λ v. StartsBy (ReadsGroup at v) text (Some (reading_before (at + 1) (digit.Third (value % 16))))) is (inr (inl refl), spells)
+
+pub third_found : (text : List ℕ) (at value : ℕ) (found : Option ℕ) → Some value ≡ found → SpellsHeader text (reading_before (at + 1) (digit.Fourth (value % 4)))
+    → StartsBy (ReadsGroup at found) text (Some (reading_before (at + 1) (digit.Fourth (value % 4))))
+third_found text at value found is spells =
+    subst (λ v. StartsBy (ReadsGroup at v) text (Some (reading_before (at + 1) (digit.Fourth (value % 4))))) is (inr (inr refl), spells)
+
+-- of both
+pub no_start : (text : List ℕ) (at : ℕ) → StartsBy (ReadsPair at (hexadecimal_value (get_or text at 0))) text None
+    → StartsBy (ReadsGroup at (base64_value (get_or text at 0))) text None → StartsAt text at None
+no_start text at pair group = λ has. by has.0 has.1.0 has.1.1
+  where
+    by : (reading : Reading) → ReadsFrom text at reading → SpellsHeader text reading → ⊥
+    by reading (inl reads) spells = pair reading reads spells
+    by reading (inr reads) spells = group reading reads spells
+
+pub pair_starts : (text : List ℕ) (at : ℕ) (reading : Reading) → StartsBy (ReadsPair at (hexadecimal_value (get_or text at 0))) text (Some reading)
+    → StartsAt text at (Some reading)
+pair_starts text at reading h = (inl h.0, h.1)
+
+pub group_starts : (text : List ℕ) (at : ℕ) (reading : Reading) → StartsBy (ReadsGroup at (base64_value (get_or text at 0))) text (Some reading)
+    → StartsAt text at (Some reading)
+group_starts text at reading h = (inr h.0, h.1)
 
 -- ---- one place after another
 

@@ -69,7 +69,7 @@ pub(crate) fn whole_of(alloc: Global, bytes: &[u8]) -> Result<Whole, AllocError>
     whole_by(&mut reader, bytes)
 }
 
-/// The same, by a reader that has taken nothing.
+/// What `reader`, which has taken nothing, finds to be the longest stream that these bytes begin with.
 #[tactic(auto, using(crate::proofs::FindLemmas::all_taken, crate::proofs::FindLemmas::some_taken, crate::proofs::FindLemmas::sure_taken))]
 fn whole_by(reader: &mut Reader<OpenGate>, bytes: &[u8]) -> Result<Whole, AllocError>
     requires { StandsFor open_gate [] reader.old.machine reader.old.tally }

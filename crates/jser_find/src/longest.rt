@@ -35,7 +35,7 @@ pub(crate) fn longest(
     Err(AllocError)
 }
 
-/// The same, where the first `count` bytes decide.
+/// The longest stream at the first of these digits, where the first `count` bytes decide it.
 #[tactic(auto, using(crate::proofs::TextLemmas::longest_sure, crate::proofs::TextLemmas::longest_all, crate::proofs::TextLemmas::longest_most, crate::proofs::TextLemmas::are_bytes))]
 fn longest_in(
     alloc: Global,
