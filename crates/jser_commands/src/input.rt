@@ -27,27 +27,34 @@ pub(crate) enum Unread {
     OutOfMemory,
 }
 
-/// The stream of a source, which is read to its end, or until one byte more than a stream may have has come. Where it is
-/// refused nothing is kept of it.
+/// The stream of a source, which is read to its end, or until one byte more than a stream may have has come. Its bytes go to
+/// `bytes`; where it is refused nothing is kept of it.
 ///
 /// # Errors
 ///
 /// `Unread`, with the reason. A failed read is told whatever came before it.
 #[tactic(auto, using(crate::proofs::InputLemmas::unread_refuses, crate::proofs::InputLemmas::unread_fails))]
-pub(crate) fn read_stream<R: Source>(alloc: Global, input: &mut R) -> Result<Index, Unread>
+pub(crate) fn read_stream<'b, R: Source>(
+    alloc: Global,
+    input: &mut R,
+    bytes: &'b mut Vec<u8>,
+) -> Result<Index<'b>, Unread>
     ensures accepted { IfOk result (λ graph. IfSome (R.to_come input.old) (λ bytes. StandsForSome bytes graph)) }
     ensures refused { IfErr result (λ unread. IfSome (R.to_come input.old) (λ bytes. IfUnreadRefused (IsRefused bytes) unread)) }
     ensures unbroken { OnOk result (R.has_failed input.new ≡ R.has_failed input.old) }
     ensures fault { IfErr result (λ unread. IsReadFault unread (R.has_failed input.old) (R.has_failed input.new)) }
 {
     match bytes_of(alloc, input) {
-        Ok(bytes) => stream_of(alloc, &bytes),
+        Ok(read) => {
+            *bytes = read;
+            stream_of(alloc, bytes.as_slice())
+        }
         Err(fault) => Err(unread_of(fault)),
     }
 }
 
 /// The stream of these bytes.
-pub(crate) fn stream_of(alloc: Global, bytes: &[u8]) -> Result<Index, Unread>
+fn stream_of(alloc: Global, bytes: &[u8]) -> Result<Index<'_>, Unread>
     ensures accepted { IfOk result (StandsForSome bytes.now) }
     ensures refused { IfErr result (IfUnreadRefused (IsRefused bytes.now)) }
     ensures read { IfErr result (λ unread. unread ≢ Unread.Failed) }

@@ -32,7 +32,8 @@ pub(crate) fn show_limited<R: Input, W: Sink, E: Sink>(
     ensures unbroken { result ≢ 3 → (R.has_failed input.new ≡ R.has_failed input.old) × (W.has_failed output.new ≡ W.has_failed output.old) }
     ensures quiet { result ≢ 3 → faults.new ≡ faults.old }
 {
-    match read_stream(alloc, input) {
+    let mut bytes = Vec::new(alloc);
+    match read_stream(alloc, input, &mut bytes) {
         Ok(graph) => print_limited(alloc, values, limit, &graph, output, faults),
         Err(unread) => print_unread(alloc, unread, input.fault(), output, faults),
     }
@@ -43,7 +44,7 @@ fn print_limited<W: Sink, E: Sink>(
     alloc: Global,
     values: bool,
     limit: u64,
-    graph: &Index,
+    graph: &Index<'_>,
     output: &mut W,
     faults: &mut E,
 ) -> u8
@@ -75,7 +76,7 @@ pub(crate) enum Limited {
 fn limited_text(
     alloc: Global,
     values: bool,
-    graph: &Index,
+    graph: &Index<'_>,
     limit: u64,
 ) -> Result<Limited, AllocError>
     ensures { IfOk result (IsLimitedText values limit graph.now) }

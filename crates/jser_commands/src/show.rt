@@ -30,7 +30,8 @@ pub(crate) fn show<R: Input, W: Sink, E: Sink>(
     ensures unbroken { result ≢ 3 → (R.has_failed input.new ≡ R.has_failed input.old) × (W.has_failed output.new ≡ W.has_failed output.old) }
     ensures quiet { result ≢ 3 → faults.new ≡ faults.old }
 {
-    match read_stream(alloc, input) {
+    let mut bytes = Vec::new(alloc);
+    match read_stream(alloc, input, &mut bytes) {
         Ok(graph) => print_text(alloc, values, &graph, output, faults),
         Err(unread) => print_unread(alloc, unread, input.fault(), output, faults),
     }
@@ -40,7 +41,7 @@ pub(crate) fn show<R: Input, W: Sink, E: Sink>(
 fn print_text<W: Sink, E: Sink>(
     alloc: Global,
     values: bool,
-    graph: &Index,
+    graph: &Index<'_>,
     output: &mut W,
     faults: &mut E,
 ) -> u8

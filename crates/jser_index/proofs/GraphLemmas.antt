@@ -1,5 +1,5 @@
 -- What a first walk has found, as a graph.
-use Rattle.std.proofs.Common.{◌≡◌, ℕ, List, ◌∙◌, ap, sym, subst, Ok, Err}
+use Rattle.std.proofs.Common.{◌≡◌, ℕ, List, ◌∙◌, ap, refl, Ok, Err}
 use Rattle.jser_shown.specs.Finding.{Finding}
 use Rattle.jser_shown.specs.Nodes.{Node as ToldNode}
 use Rattle.jser_shown.specs.Owners.{OwnerNode as ToldOwner}
@@ -8,17 +8,17 @@ use Rattle.jser_reader.specs.declared.Stop.TheVariants as stop
 use Rattle.jser_reader.specs.declared.Totals.{Totals}
 use Rattle.jser_index.specs.Listed.{Listed, all_lists}
 use Rattle.jser_index.specs.Reading.{IsRefused, Surveys}
-use Rattle.jser_index.specs.Graphs.{IsGraph, StandsForSome, IfRefused}
+use Rattle.jser_index.specs.Graphs.{StandsForSome, IfRefused}
 
-pub stands_for : (bytes copy : List ℕ) (survey : Finding) (totals : Totals) (nodes : Listed ToldNode) (owners : List ToldOwner) (names : List (List ℕ))
-    → Surveys bytes (Ok (record { survey = survey; totals = totals })) → copy ≡ bytes → nodes ≡ record { ended = survey.ended; last = survey.nodes } → owners ≡ survey.owners
+pub stands_for : (bytes : List ℕ) (survey : Finding) (totals : Totals) (nodes : Listed ToldNode) (owners : List ToldOwner) (names : List (List ℕ))
+    → Surveys bytes (Ok (record { survey = survey; totals = totals })) → nodes ≡ record { ended = survey.ended; last = survey.nodes } → owners ≡ survey.owners
     → names ≡ survey.names
-    → StandsForSome bytes (record { bytes = copy; nodes = all_lists nodes; names = names; owners = owners; totals = totals })
+    → StandsForSome bytes (record { bytes = bytes; nodes = all_lists nodes; names = names; owners = owners; totals = totals })
 unfolding Surveys
-stands_for bytes copy survey totals nodes owners names h c n o m = (
+stands_for bytes survey totals nodes owners names h n o m = (
   h.0,
   record {
-    bytes_are = c;
+    bytes_are = refl;
     passes = h.1.passes;
     nodes_are = ap all_lists n ∙ h.1.nodes;
     names_are = m ∙ h.1.names;
@@ -26,13 +26,6 @@ stands_for bytes copy survey totals nodes owners names h c n o m = (
     totals_are = h.1.totals_are;
   },
 )
-
-pub is_graph : (bytes copy : List ℕ) (survey : Finding) (totals : Totals) (nodes : Listed ToldNode) (owners : List ToldOwner) (names : List (List ℕ))
-    → Surveys bytes (Ok (record { survey = survey; totals = totals })) → copy ≡ bytes → nodes ≡ record { ended = survey.ended; last = survey.nodes } → owners ≡ survey.owners
-    → names ≡ survey.names → IsGraph (record { bytes = copy; nodes = all_lists nodes; names = names; owners = owners; totals = totals })
-is_graph bytes copy survey totals nodes owners names h c n o m =
-    subst (λ xs. StandsForSome xs (record { bytes = copy; nodes = all_lists nodes; names = names; owners = owners; totals = totals })) (sym c)
-    (stands_for bytes copy survey totals nodes owners names h c n o m)
 
 pub is_refused : (bytes : List ℕ) (why : Stop) → Surveys bytes (Err why) → IfRefused (IsRefused bytes) why
 unfolding Surveys

@@ -11,26 +11,26 @@ use crate::texts::Texts;
 use jser_grammar::wire::BASE_WIRE_HANDLE;
 use jser_printer::OwnerNode;
 use jser_reader::{Stop, Totals};
-use std::alloc::{AllocError, Global};
+use std::alloc::Global;
 use std::marker::Model;
 
 /// A Java object serialization stream, by its handles: what each of them names, the units of every string, the checked
-/// names, and the bytes as they were read.
+/// names, and the bytes as they were read, which are lent to it.
 ///
-/// It holds the bytes, 12 bytes for each handle, 8 for each object, array, enum constant and class object, 8 for each
+/// It holds 12 bytes for each handle, 8 for each object, array, enum constant and class object, 8 for each
 /// checked name, each reset and each string that has a list of its own, and two for each unit of a string or a checked name;
 /// besides, room that is made ready for fewer than 163,840 units, and what each vector holds in reserve as it grows. It holds
 /// no tree, and nothing in it goes as deep as the stream.
 #[derive(Drop)]
-pub struct Index {
-    pub(crate) bytes: Vec<u8>,
+pub struct Index<'b> {
+    pub(crate) bytes: &'b [u8],
     nodes: Nodes,
     names: Texts,
     pub(crate) owners: Vec<OwnerNode>,
     pub(crate) totals: Totals,
 }
 
-impl Model for Index {
+impl<'b> Model for Index<'b> {
     ghost use Rattle.jser_printer.specs.Given.{view_nodes};
     ghost use Rattle.jser_index.specs.Graphs.{GraphView, IsGraph};
     ghost use Rattle.jser_index.specs.Listed.{all_lists};
@@ -38,7 +38,7 @@ impl Model for Index {
     ghost Value = { GraphView };
 
     ghost view = { λ a. record {
-      bytes = a.bytes.items;
+      bytes = a.bytes.now;
       nodes = all_lists a.nodes;
       names = a.names;
       owners = view_nodes a.owners.items;
@@ -46,7 +46,7 @@ impl Model for Index {
     } };
 
     ghost invariant = { λ a. IsGraph (record {
-      bytes = a.bytes.items;
+      bytes = a.bytes.now;
       nodes = all_lists a.nodes;
       names = a.names;
       owners = view_nodes a.owners.items;
@@ -54,16 +54,7 @@ impl Model for Index {
     }) };
 }
 
-/// A copy of the bytes.
-fn copied(alloc: Global, bytes: &[u8]) -> Result<Vec<u8>, AllocError>
-    ensures { IfOk result (λ copy. copy.items ≡ bytes.now) }
-{
-    let mut copy = Vec::new(alloc);
-    copy.extend_from_slice(bytes)?;
-    Ok(copy)
-}
-
-impl Index {
+impl<'b> Index<'b> {
     /// Reads bytes that are one stream within the greatest limits: at most 2^40 bytes, 65,535 levels, and 2,139,226,112
     /// handles in an epoch. No class names are refused.
     ///
@@ -71,18 +62,15 @@ impl Index {
     ///
     /// `Refused` where the bytes are no such stream, with the first fault. `OutOfMemory` where memory ran out. Never
     /// `Spent`.
-    #[tactic(auto, using(crate::proofs::GraphLemmas::stands_for, crate::proofs::GraphLemmas::is_graph, crate::proofs::GraphLemmas::is_refused))]
-    pub fn read(alloc: Global, bytes: &[u8]) -> Result<Index, Stop>
+    #[tactic(auto, using(crate::proofs::GraphLemmas::stands_for, crate::proofs::GraphLemmas::is_refused))]
+    pub fn read(alloc: Global, bytes: &'b [u8]) -> Result<Index<'b>, Stop>
         ensures accepted { IfOk result (StandsForSome bytes.now) }
         ensures refused { IfErr result (IfRefused (IsRefused bytes.now)) }
     {
         let Found { survey, totals } = survey(alloc, bytes)?;
-        let Ok(copy) = copied(alloc, bytes) else {
-            return Err(Stop::OutOfMemory);
-        };
         let found = survey.into_found();
         Ok(Index {
-            bytes: copy,
+            bytes,
             nodes: found.nodes,
             names: found.names,
             owners: found.owners,

@@ -27,12 +27,12 @@ pub enum GraphFault {
     },
 }
 
-impl Index {
+impl<'b> Index<'b> {
     /// The bytes of the stream, as they were read.
     pub fn bytes(&self) -> &[u8]
         ensures { result.now ≡ self.now.bytes }
     {
-        &self.bytes
+        self.bytes
     }
 
     /// The counts of the stream.
@@ -55,7 +55,7 @@ impl Index {
         ensures failed { OnErr result (W.has_failed sink.new ≡ true) }
         ensures stands { IsGraph self.now }
     {
-        match give_all(sink, &self.bytes) {
+        match give_all(sink, self.bytes) {
             Ok(()) => Ok(self.bytes.len() as u64),
             Err(fault) => Err(GraphFault::Write {
                 written: fault.given as u64,

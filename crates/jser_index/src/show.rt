@@ -20,7 +20,7 @@ use jser_reader::{Item, OpenGate, Reader, Step, Whole};
 use jser_shown::laws::{one_more, tells_fronts, told};
 use std::alloc::{AllocError, Global};
 
-impl Index {
+impl<'b> Index<'b> {
     /// Writes the text of `show`, and returns its length, which is exact up to 2^64 - 1 and stays there. With `values` a raw
     /// value is followed by what it means, in brackets.
     ///
@@ -82,7 +82,7 @@ impl Index {
             &mut reader,
             &mut printer,
             &mut units,
-            &self.bytes,
+            self.bytes,
         )
     }
 }
