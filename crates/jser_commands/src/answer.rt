@@ -10,8 +10,12 @@ use jser_settings::tell_failure;
 use std::alloc::{AllocError, Global};
 use std::fmt::Write;
 
-/// `yes B bytes, C contents, R refs, depth D`
-pub(crate) fn text_of_report(alloc: Global, report: Report) -> Result<String, AllocError>
+/// The line of a stream that was accepted: `yes B bytes, C contents, R refs, depth D`, and a line end. Takes memory for the line.
+///
+/// # Errors
+///
+/// Where memory ran out.
+pub fn text_of_report(alloc: Global, report: Report) -> Result<String, AllocError>
     ensures { IfOk result (λ text. string_bytes text ≡ yes_line report) }
 {
     let mut text = String::new(alloc);
@@ -23,8 +27,12 @@ pub(crate) fn text_of_report(alloc: Global, report: Report) -> Result<String, Al
     Ok(text)
 }
 
-/// `no at A to E: REASON`
-pub(crate) fn text_of_refusal(alloc: Global, refusal: Refusal) -> Result<String, AllocError>
+/// The line of a refusal: `no at A to E: REASON`, and a line end. Takes memory for the line.
+///
+/// # Errors
+///
+/// Where memory ran out.
+pub fn text_of_refusal(alloc: Global, refusal: Refusal) -> Result<String, AllocError>
     ensures { IfOk result (λ text. string_bytes text ≡ no_line refusal) }
 {
     let mut text = String::new(alloc);
@@ -36,12 +44,13 @@ pub(crate) fn text_of_refusal(alloc: Global, refusal: Refusal) -> Result<String,
     Ok(text)
 }
 
-/// `no at A to E: HiddenName`
-pub(crate) fn text_of_hidden(
-    alloc: Global,
-    from_byte: u64,
-    to_byte: u64,
-) -> Result<String, AllocError>
+/// The line of a class name that stands somewhere in the bytes and does not pass: `no at A to E: HiddenName`, and a line end.
+/// Takes memory for the line.
+///
+/// # Errors
+///
+/// Where memory ran out.
+pub fn text_of_hidden(alloc: Global, from_byte: u64, to_byte: u64) -> Result<String, AllocError>
     ensures { IfOk result (λ text. string_bytes text ≡ hidden_line from_byte to_byte) }
 {
     let mut text = String::new(alloc);

@@ -1,18 +1,16 @@
 //! The line that the program prints of an answer.
-ghost use Rattle.std.specs.Prelude.{◌≡◌, ◌⊎◌, ◌≢◌, ◌++◌, IfOk, OnOk, option_map, string_bytes};
-ghost use Rattle.std.specs.Fmt.{decimal};
-ghost use Rattle.jser_commands.specs.Lines.{hidden_line, no_line, yes_line};
+ghost use Rattle.std.specs.Prelude.{◌≡◌, ◌⊎◌, ◌≢◌, IfOk, option_map, string_bytes};
 ghost use Rattle.jser_ffi.specs.Lines.{PutsAny, file_line, line_of, misuse_line_of, module_line, no_line_of, pattern_line};
-ghost use Rattle.jser_ffi.specs.Told.{TextZeros, refusal_in, report_in};
+ghost use Rattle.jser_ffi.specs.Told.{TextZeros, report_in};
 
 use crate::answer::{Answer, HIDDEN_NAME, MISUSE, NO, NO_MEMORY, SPENT, YES, bare};
 use crate::named::reason_of;
 use crate::room::put;
+use jser_check::{Refusal, Report};
+use jser_commands::{text_of_hidden, text_of_refusal, text_of_report};
 use jser_filter::{FilterCause, FilterFault, ModulesCause, ModulesFault};
-use jser_reader::Reason;
 use jser_settings::{FileCause, FileFault};
 use std::alloc::{AllocError, Global};
-use std::fmt::Write;
 
 /// Puts the line of an answer into a room, if there is one.
 pub(crate) fn line_into(alloc: Global, answer: &Answer, room: &mut [u8]) -> Answer
@@ -33,7 +31,7 @@ fn line_of(alloc: Global, answer: &Answer) -> Result<Option<String>, AllocError>
     ensures { IfOk result (λ line. option_map (λ text. string_bytes text) line ≡ line_of answer.now) }
 {
     match answer.status {
-        YES => Ok(Some(line_of_yes(alloc, answer)?)),
+        YES => Ok(Some(text_of_report(alloc, report_in(answer))?)),
         NO => line_of_no(alloc, answer),
         MISUSE => line_of_misuse(alloc, answer),
         NO_MEMORY => Ok(Some(said(alloc, "out of memory\n")?)),
@@ -41,63 +39,36 @@ fn line_of(alloc: Global, answer: &Answer) -> Result<Option<String>, AllocError>
     }
 }
 
-/// `yes B bytes, C contents, R refs, depth D`
-fn line_of_yes(alloc: Global, answer: &Answer) -> Result<String, AllocError>
-    ensures { IfOk result (λ text. string_bytes text ≡ yes_line (report_in answer.now)) }
+/// The counts of an answer.
+fn report_in(answer: &Answer) -> Report
+    ensures { result ≡ report_in answer.now }
 {
-    let mut text = String::new(alloc);
-    push_count(&mut text, "yes ", answer.bytes)?;
-    push_count(&mut text, " bytes, ", answer.contents)?;
-    push_count(&mut text, " contents, ", answer.refs)?;
-    push_count(&mut text, " refs, depth ", answer.depth)?;
-    text.push_str("\n")?;
-    Ok(text)
-}
-
-/// Appends some words and a number in decimal.
-fn push_count(text: &mut String, words: &str, count: u64) -> Result<(), AllocError>
-    ensures { OnOk result (string_bytes text.new ≡ string_bytes text.old ++ words.now ++ decimal count) }
-{
-    text.push_str(words)?;
-    write!(text, "{count}")?;
-    Ok(())
+    Report {
+        bytes: answer.bytes,
+        contents: answer.contents,
+        refs: answer.refs,
+        depth: answer.depth,
+        handles: answer.handles,
+    }
 }
 
 /// `no at A to E: REASON`
 fn line_of_no(alloc: Global, answer: &Answer) -> Result<Option<String>, AllocError>
     ensures { IfOk result (λ line. option_map (λ text. string_bytes text) line ≡ no_line_of answer.now) }
 {
+    let (from_byte, to_byte) = (answer.from_byte, answer.to_byte);
     if answer.reason == HIDDEN_NAME {
-        return Ok(Some(line_of_hidden(alloc, answer)?));
+        return Ok(Some(text_of_hidden(alloc, from_byte, to_byte)?));
     }
-    match reason_of(answer.reason) {
-        Some(reason) => Ok(Some(line_of_refusal(alloc, answer, reason)?)),
-        None => Ok(None),
-    }
-}
-
-/// `no at A to E: HiddenName`
-fn line_of_hidden(alloc: Global, answer: &Answer) -> Result<String, AllocError>
-    ensures { IfOk result (λ text. string_bytes text ≡ hidden_line answer.now.from_byte answer.now.to_byte) }
-{
-    let mut text = String::new(alloc);
-    push_count(&mut text, "no at ", answer.from_byte)?;
-    push_count(&mut text, " to ", answer.to_byte)?;
-    text.push_str(": HiddenName\n")?;
-    Ok(text)
-}
-
-/// `no at A to E: REASON`, of a reason
-fn line_of_refusal(alloc: Global, answer: &Answer, reason: Reason) -> Result<String, AllocError>
-    ensures { IfOk result (λ text. string_bytes text ≡ no_line (refusal_in answer.now reason)) }
-{
-    let mut text = String::new(alloc);
-    push_count(&mut text, "no at ", answer.from_byte)?;
-    push_count(&mut text, " to ", answer.to_byte)?;
-    text.push_str(": ")?;
-    text.push_str(reason.name())?;
-    text.push_str("\n")?;
-    Ok(text)
+    let Some(reason) = reason_of(answer.reason) else {
+        return Ok(None);
+    };
+    let refusal = Refusal {
+        from_byte,
+        to_byte,
+        reason,
+    };
+    Ok(Some(text_of_refusal(alloc, refusal)?))
 }
 
 /// What is wrong with a filter, a table of modules or a flag.
