@@ -1,12 +1,12 @@
 -- Hidden names, and the places that were noted.
-use denote.Bor.{Bor}
-use Rattle.std.proofs.Common.{◌≡◌, ℕ, suc, ◌+◌, ◌<◌, Bool, true, false, cond, if◌then◌else◌, ◌==◌, List, [], ◌∷◌, ◌++◌, length, take, slice_get, get_or, set, Option, Some, None, refl, sym, ap, subst, ◌∙◌, arith, append_assoc, eqb-true}
-use Rattle.std.specs.Prelude.{not}
+use Rattle.std.proofs.Common.{◌≡◌, ℕ, suc, ◌+◌, ◌<◌, Bool, true, false, cond, if◌then◌else◌, ◌==◌, List, [], ◌∷◌, ◌++◌, length, take, slice_get, get_or, set, Option, Some, None, refl, sym, ap, subst, ◌∙◌, arith, eqb-true}
+use Rattle.std.specs.Prelude.{codes, not}
+use Rattle.std.specs.Option.{is_some, option_map}
+use Rattle.std.proofs.lemmas.Cmp.{nat_list_eq_equiv}
 use Rattle.std.proofs.lemmas.Bool.Decides.{nat_tests}
-use Rattle.std.proofs.lemmas.List.{append-nil, get_or-set_same, get_or-set_other, length-set}
+use Rattle.std.proofs.lemmas.List.{get_or-set_same, get_or-set_other, length-set}
 use Rattle.jser_anywhere.specs.NamesIn.{Named, names_in}
 use Rattle.std.specs.Str.{bytes_eq}
-use Rattle.std.specs.Map.{lookup}
 use Rattle.std.specs.Prelude.{IfSome}
 use Rattle.std.specs.Io.KnownBytes.{Appends}
 use Rattle.std.proofs.lemmas.Slice.Eq.{bytes_eq-Decides}
@@ -18,65 +18,65 @@ use Rattle.jser_names.specs.declared.NamedStream.{NamedStream}
 use Rattle.jser_shown.specs.Counting.{NameTally, name_tally, tally_one, tally_all, tally_lines}
 use Rattle.jser_shown.specs.Laws.{Counted}
 use Rattle.jser_shown.specs.Listed.{has_name}
-use Rattle.jser_commands.specs.Lines.{AppendsSome, KeptOrCut, KeptOrSaidSome, SaysListedAnywhere, SaysRefusal, hidden_lines, words_on}
+use Rattle.jser_commands.specs.Lines.{AppendsSome, KeptOrCut, KeptOrSaidSome, SaysListedAnywhere, SaysRefusal, hidden_lines, marked_words, words_on}
 use Rattle.jser_commands.proofs.Lines.{yes_cut}
-use Rattle.jser_commands.specs.Counts.{tallies_of}
 use Rattle.jser_commands.specs.Hidden.{has_place, hidden_in, hidden_of, is_class, is_hidden, is_unchecked, once_each}
-use Rattle.jser_commands.specs.Places.{KeepsPlaces, NotesPlace, lines_of_both, names_in_tallies}
+use Rattle.jser_commands.specs.Places.{KeepsPlaces, NotesPlace, lines_of_both}
+use Rattle.jser_names.specs.Counts.{names_counted, number_in}
 
--- whether a name was counted
-abbrev is_found : Option ℕ → Bool
-is_found None = false
-is_found (Some times) = true
-
-found_is : (name : List ℕ) (entries : List (Bor (List ℕ) × ℕ)) → is_found (lookup (λ key. bytes_eq name key.now) entries) ≡ has_name name (names_in_tallies (tallies_of entries))
+-- a name that has a number is among those counted
+found_is : (name : List ℕ) (tallies : List NameTally) → is_some (number_in name tallies) ≡ has_name name (names_counted tallies)
 found_is name [] = refl
-found_is name (e ∷ es) = by (bytes_eq name e.0.now) (found_is name es)
+found_is name (t ∷ ts) = by (bytes_eq t.name name) (bytes_eq name t.name) (nat_list_eq_equiv.symm t.name name) (found_is name ts)
   where
-    by : (b : Bool) → is_found (lookup (λ key. bytes_eq name key.now) es) ≡ has_name name (names_in_tallies (tallies_of es))
-        → is_found (cond b (Some e.1) (lookup (λ key. bytes_eq name key.now) es)) ≡ (if b then true else has_name name (names_in_tallies (tallies_of es)))
-    by true h = refl
-    by false h = h
+    later : (o : Option ℕ) → is_some (option_map suc o) ≡ is_some o
+    later None = refl
+    later (Some n) = refl
 
-pub counted_is : (name : List ℕ) (entries : List (Bor (List ℕ) × ℕ)) (times : ℕ) → lookup (λ key. bytes_eq name key.now) entries ≡ Some times
-    → false ≡ is_unchecked (names_in_tallies (tallies_of entries)) name
-counted_is name entries times e =
-    sym (ap (λ b. if b then false else is_class (element_of name)) (sym (found_is name entries) ∙ ap is_found e))
+    by : (b c : Bool) → b ≡ c → is_some (number_in name ts) ≡ has_name name (names_counted ts)
+        → is_some (cond b (Some 0) (option_map suc (number_in name ts))) ≡ (if c then true else has_name name (names_counted ts))
+    by true true same h = refl
+    by false false same h = later (number_in name ts) ∙ h
+    by true false same h = absurd (let no : true ≡ false = same in cc)
+    by false true same h = absurd (let no : false ≡ true = same in cc)
 
-pub uncounted_is : (name : List ℕ) (entries : List (Bor (List ℕ) × ℕ)) → lookup (λ key. bytes_eq name key.now) entries ≡ None
-    → is_class (element_of name) ≡ is_unchecked (names_in_tallies (tallies_of entries)) name
-uncounted_is name entries e =
-    sym (ap (λ b. if b then false else is_class (element_of name)) (sym (found_is name entries) ∙ ap is_found e))
+pub counted_is : (name : List ℕ) (tallies : List NameTally) → is_some (number_in name tallies) ≡ true → false ≡ is_unchecked (names_counted tallies) name
+counted_is name tallies e = sym (ap (λ b. if b then false else is_class (element_of name)) (sym (found_is name tallies) ∙ e))
 
-pub text_counted : (text class : List ℕ) (entries : List (Bor (List ℕ) × ℕ)) (times : ℕ) → lookup (λ key. bytes_eq text key.now) entries ≡ Some times
-    → false ≡ is_hidden (names_in_tallies (tallies_of entries)) text class
-text_counted text class entries times e =
-    sym (ap (λ b. if b then false else is_unchecked (names_in_tallies (tallies_of entries)) class) (sym (found_is text entries) ∙ ap is_found e))
+pub uncounted_is : (name : List ℕ) (tallies : List NameTally) → is_some (number_in name tallies) ≡ false
+    → is_class (element_of name) ≡ is_unchecked (names_counted tallies) name
+uncounted_is name tallies e = sym (ap (λ b. if b then false else is_class (element_of name)) (sym (found_is name tallies) ∙ e))
 
-pub text_uncounted : (text class : List ℕ) (entries : List (Bor (List ℕ) × ℕ)) → lookup (λ key. bytes_eq text key.now) entries ≡ None
-    → is_unchecked (names_in_tallies (tallies_of entries)) class ≡ is_hidden (names_in_tallies (tallies_of entries)) text class
-text_uncounted text class entries e =
-    sym (ap (λ b. if b then false else is_unchecked (names_in_tallies (tallies_of entries)) class) (sym (found_is text entries) ∙ ap is_found e))
+pub text_counted : (text class : List ℕ) (tallies : List NameTally) → is_some (number_in text tallies) ≡ true
+    → false ≡ is_hidden (names_counted tallies) text class
+text_counted text class tallies e =
+    sym (ap (λ b. if b then false else is_unchecked (names_counted tallies) class) (sym (found_is text tallies) ∙ e))
+
+pub text_uncounted : (text class : List ℕ) (tallies : List NameTally) → is_some (number_in text tallies) ≡ false
+    → is_unchecked (names_counted tallies) class ≡ is_hidden (names_counted tallies) text class
+text_uncounted text class tallies e =
+    sym (ap (λ b. if b then false else is_unchecked (names_counted tallies) class) (sym (found_is text tallies) ∙ e))
 
 -- ---- one name after another
 
 -- These names were gathered, and what is left leads to all of them.
-pub record Gathers (checked : List (List ℕ)) (all left : List Named) (noted : List Bool) (hidden : List (List ℕ)) : Type 0 where
+pub record Gathers (checked : List (List ℕ)) (all left : List Named) (noted : List Bool) (hidden : List NameTally) : Type 0 where
   pub seen : List ℕ
   pub keeps : KeepsPlaces noted seen
-  pub so : hidden ++ hidden_of checked (once_each seen left) ≡ hidden_of checked (once_each [] all)
+  pub so : tally_all hidden (hidden_of checked (once_each seen left)) ≡ tally_all [] (hidden_of checked (once_each [] all))
 
-pub gathers_none : (checked hidden : List (List ℕ)) (all left : List Named) (noted : List Bool) → left ≡ all → hidden ≡ [] → KeepsPlaces noted [] → Gathers checked all left noted hidden
+pub gathers_none : (checked : List (List ℕ)) (hidden : List NameTally) (all left : List Named) (noted : List Bool) → left ≡ all → hidden ≡ [] → KeepsPlaces noted []
+    → Gathers checked all left noted hidden
 gathers_none checked hidden all left noted is none keeps = record {
   seen = [];
   keeps = keeps;
-  so = ap (λ names. names ++ hidden_of checked (once_each [] left)) none ∙ ap (λ names. hidden_of checked (once_each [] names)) is;
+  so = ap (λ ts. tally_all ts (hidden_of checked (once_each [] left))) none ∙ ap (λ names. tally_all [] (hidden_of checked (once_each [] names))) is;
 }
 
-pub gathered_all : (checked : List (List ℕ)) (all left : List Named) (noted : List Bool) (hidden : List (List ℕ)) → Gathers checked all left noted hidden → left ≡ []
-    → hidden ≡ hidden_of checked (once_each [] all)
+pub gathered_all : (checked : List (List ℕ)) (all left : List Named) (noted : List Bool) (hidden : List NameTally) → Gathers checked all left noted hidden → left ≡ []
+    → hidden ≡ tally_all [] (hidden_of checked (once_each [] all))
 gathered_all checked all left noted hidden g none =
-    sym (append-nil hidden) ∙ sym (ap (λ names. hidden ++ hidden_of checked (once_each g.seen names)) none) ∙ g.so
+    sym (ap (λ names. tally_all hidden (hidden_of checked (once_each g.seen names))) none) ∙ g.so
 
 differs : (m n : ℕ) → (m == n) ≡ false → m ≡ n → ⊥
 differs m n e same = grind (arith, nat_tests, e, same)
@@ -107,7 +107,7 @@ keeps_same noted seen at inside has keeps = record {
     by other false e there = keeps.keeps other there
 
 -- a name whose place was noted before
-pub gathers_same : (checked : List (List ℕ)) (all left rest : List Named) (name : Named) (noted new : List Bool) (hidden : List (List ℕ)) (is_new : Bool)
+pub gathers_same : (checked : List (List ℕ)) (all left rest : List Named) (name : Named) (noted new : List Bool) (hidden : List NameTally) (is_new : Bool)
     → Gathers checked all left noted hidden → left ≡ name ∷ rest → name.at < length noted → NotesPlace name.at noted new is_new → is_new ≡ false
     → Gathers checked all rest new hidden
 gathers_same checked all left rest name noted new hidden is_new g next inside notes old =
@@ -115,8 +115,8 @@ gathers_same checked all left rest name noted new hidden is_new g next inside no
     record {
       seen = g.seen;
       keeps = subst (λ n. KeepsPlaces n g.seen) (sym notes.noted) (keeps_same noted g.seen name.at inside has g.keeps);
-      so = ap (λ b. hidden ++ hidden_of checked (if b then once_each g.seen rest else name ∷ once_each (name.at ∷ g.seen) rest)) (sym has)
-          ∙ sym (ap (λ names. hidden ++ hidden_of checked (once_each g.seen names)) next) ∙ g.so;
+      so = ap (λ b. tally_all hidden (hidden_of checked (if b then once_each g.seen rest else name ∷ once_each (name.at ∷ g.seen) rest))) (sym has)
+          ∙ sym (ap (λ names. tally_all hidden (hidden_of checked (once_each g.seen names))) next) ∙ g.so;
     }
   where
     not_false : (b : Bool) → not b ≡ false → b ≡ true
@@ -124,37 +124,36 @@ gathers_same checked all left rest name noted new hidden is_new g next inside no
     not_false false e = absurd (let no : true ≡ false = e in cc)
 
 -- one whose place was not
-new_step : (checked : List (List ℕ)) (all left rest : List Named) (name : Named) (noted new : List Bool) (hidden : List (List ℕ)) (is_new : Bool)
+new_step : (checked : List (List ℕ)) (all left rest : List Named) (name : Named) (noted new : List Bool) (hidden : List NameTally) (is_new : Bool)
     → (g : Gathers checked all left noted hidden) → left ≡ name ∷ rest → name.at < length noted → NotesPlace name.at noted new is_new → is_new ≡ true
-    → hidden ++ hidden_of checked (name ∷ once_each (name.at ∷ g.seen) rest) ≡ hidden_of checked (once_each [] all)
+    → tally_all hidden (hidden_of checked (name ∷ once_each (name.at ∷ g.seen) rest)) ≡ tally_all [] (hidden_of checked (once_each [] all))
 new_step checked all left rest name noted new hidden is_new g next inside notes is =
     let none : has_place name.at g.seen ≡ false = sym (g.keeps.keeps name.at inside) ∙ not_true (get_or noted name.at false) (sym notes.is ∙ is) in
-    ap (λ b. hidden ++ hidden_of checked (if b then once_each g.seen rest else name ∷ once_each (name.at ∷ g.seen) rest)) (sym none)
-    ∙ sym (ap (λ names. hidden ++ hidden_of checked (once_each g.seen names)) next) ∙ g.so
+    ap (λ b. tally_all hidden (hidden_of checked (if b then once_each g.seen rest else name ∷ once_each (name.at ∷ g.seen) rest))) (sym none)
+    ∙ sym (ap (λ names. tally_all hidden (hidden_of checked (once_each g.seen names))) next) ∙ g.so
   where
     not_true : (b : Bool) → not b ≡ true → b ≡ false
     not_true false e = refl
     not_true true e = absurd (let no : false ≡ true = e in cc)
 
-pub gathers_over : (checked : List (List ℕ)) (all left rest : List Named) (name : Named) (noted new : List Bool) (hidden : List (List ℕ)) (is_new : Bool)
+pub gathers_over : (checked : List (List ℕ)) (all left rest : List Named) (name : Named) (noted new : List Bool) (hidden : List NameTally) (is_new : Bool)
     → Gathers checked all left noted hidden → left ≡ name ∷ rest → name.at < length noted → NotesPlace name.at noted new is_new → is_new ≡ true
     → is_hidden checked name.text name.units ≡ false → Gathers checked all rest new hidden
 gathers_over checked all left rest name noted new hidden is_new g next inside notes is plain = record {
   seen = name.at ∷ g.seen;
   keeps = subst (λ n. KeepsPlaces n (name.at ∷ g.seen)) (sym notes.noted) (keeps_more noted g.seen name.at inside g.keeps);
-  so = ap (λ b. hidden ++ (if b then name.units ∷ hidden_of checked (once_each (name.at ∷ g.seen) rest) else hidden_of checked (once_each (name.at ∷ g.seen) rest))) (sym plain)
+  so = ap (λ b. tally_all hidden (if b then name.units ∷ hidden_of checked (once_each (name.at ∷ g.seen) rest) else hidden_of checked (once_each (name.at ∷ g.seen) rest))) (sym plain)
       ∙ new_step checked all left rest name noted new hidden is_new g next inside notes is;
 }
 
-pub gathers_more : (checked : List (List ℕ)) (all left rest : List Named) (name : Named) (noted new : List Bool) (hidden more : List (List ℕ)) (is_new : Bool)
+pub gathers_more : (checked : List (List ℕ)) (all left rest : List Named) (name : Named) (noted new : List Bool) (hidden more : List NameTally) (is_new : Bool)
     → Gathers checked all left noted hidden → left ≡ name ∷ rest → name.at < length noted → NotesPlace name.at noted new is_new → is_new ≡ true
-    → (text asked put : List ℕ) → text ≡ name.text → asked ≡ name.units → put ≡ name.units → is_hidden checked text asked ≡ true → more ≡ hidden ++ put ∷ [] → Gathers checked all rest new more
+    → (text asked put : List ℕ) → text ≡ name.text → asked ≡ name.units → put ≡ name.units → is_hidden checked text asked ≡ true → more ≡ tally_one put hidden → Gathers checked all rest new more
 gathers_more checked all left rest name noted new hidden more is_new g next inside notes is text asked put its_text its_units its_copy hides pushed = record {
   seen = name.at ∷ g.seen;
   keeps = subst (λ n. KeepsPlaces n (name.at ∷ g.seen)) (sym notes.noted) (keeps_more noted g.seen name.at inside g.keeps);
-  so = ap (λ names. names ++ hidden_of checked (once_each (name.at ∷ g.seen) rest)) (pushed ∙ ap (λ units. hidden ++ units ∷ []) its_copy)
-      ∙ append_assoc hidden (name.units ∷ []) (hidden_of checked (once_each (name.at ∷ g.seen) rest))
-      ∙ ap (λ b. hidden ++ (if b then name.units ∷ hidden_of checked (once_each (name.at ∷ g.seen) rest) else hidden_of checked (once_each (name.at ∷ g.seen) rest))) (sym (sym (ap (λ (x : List ℕ). is_hidden checked x asked) its_text ∙ ap (λ (x : List ℕ). is_hidden checked name.text x) its_units) ∙ hides))
+  so = ap (λ ts. tally_all ts (hidden_of checked (once_each (name.at ∷ g.seen) rest))) (pushed ∙ ap (λ units. tally_one units hidden) its_copy)
+      ∙ ap (λ b. tally_all hidden (if b then name.units ∷ hidden_of checked (once_each (name.at ∷ g.seen) rest) else hidden_of checked (once_each (name.at ∷ g.seen) rest))) (sym (sym (ap (λ (x : List ℕ). is_hidden checked x asked) its_text ∙ ap (λ (x : List ℕ). is_hidden checked name.text x) its_units) ∙ hides))
       ∙ new_step checked all left rest name noted new hidden is_new g next inside notes is;
 }
 
@@ -175,49 +174,49 @@ other_name : (m n o : List ℕ) → bytes_eq n o ≡ true → bytes_eq m n ≡ f
 other_name m n o same e = subst (λ (x : List ℕ). bytes_eq m x ≡ false) ((bytes_eq-Decides n o).0 same) e
 
 counted_one : (m n : List ℕ) (tallies : List NameTally)
-    → has_name m (names_in_tallies (tally_one n tallies)) ≡ (if has_name m (names_in_tallies tallies) then true else bytes_eq m n)
+    → has_name m (names_counted (tally_one n tallies)) ≡ (if has_name m (names_counted tallies) then true else bytes_eq m n)
 counted_one m n [] = or_none (bytes_eq m n)
 counted_one m n (t ∷ ts) = by (bytes_eq t.name n) refl (bytes_eq m t.name) refl (counted_one m n ts)
   where
     by : (same : Bool) → bytes_eq t.name n ≡ same → (here : Bool) → bytes_eq m t.name ≡ here
-        → has_name m (names_in_tallies (tally_one n ts)) ≡ (if has_name m (names_in_tallies ts) then true else bytes_eq m n)
-        → has_name m (names_in_tallies (if same then name_tally t.name (suc t.times) ∷ ts else t ∷ tally_one n ts))
-        ≡ (if (if here then true else has_name m (names_in_tallies ts)) then true else bytes_eq m n)
-    by true e true f h = ap (λ b. if b then true else has_name m (names_in_tallies ts)) f
+        → has_name m (names_counted (tally_one n ts)) ≡ (if has_name m (names_counted ts) then true else bytes_eq m n)
+        → has_name m (names_counted (if same then name_tally t.name (suc t.times) ∷ ts else t ∷ tally_one n ts))
+        ≡ (if (if here then true else has_name m (names_counted ts)) then true else bytes_eq m n)
+    by true e true f h = ap (λ b. if b then true else has_name m (names_counted ts)) f
     by true e false f h =
-        ap (λ b. if b then true else has_name m (names_in_tallies ts)) f
-        ∙ or_same (has_name m (names_in_tallies ts)) (bytes_eq m n) (other_name m t.name n e f)
-    by false e true f h = ap (λ b. if b then true else has_name m (names_in_tallies (tally_one n ts))) f
-    by false e false f h = ap (λ b. if b then true else has_name m (names_in_tallies (tally_one n ts))) f ∙ h
+        ap (λ b. if b then true else has_name m (names_counted ts)) f
+        ∙ or_same (has_name m (names_counted ts)) (bytes_eq m n) (other_name m t.name n e f)
+    by false e true f h = ap (λ b. if b then true else has_name m (names_counted (tally_one n ts))) f
+    by false e false f h = ap (λ b. if b then true else has_name m (names_counted (tally_one n ts))) f ∙ h
 
 or_more : (a b c : Bool) → (if (if a then true else b) then true else c) ≡ (if a then true else (if b then true else c))
 or_more true b c = refl
 or_more false b c = refl
 
 counted_all : (m : List ℕ) (tallies : List NameTally) (names : List (List ℕ))
-    → has_name m (names_in_tallies (tally_all tallies names)) ≡ (if has_name m (names_in_tallies tallies) then true else has_name m names)
-counted_all m tallies [] = sym (or_none (has_name m (names_in_tallies tallies)))
+    → has_name m (names_counted (tally_all tallies names)) ≡ (if has_name m (names_counted tallies) then true else has_name m names)
+counted_all m tallies [] = sym (or_none (has_name m (names_counted tallies)))
 counted_all m tallies (n ∷ ns) =
     counted_all m (tally_one n tallies) ns
     ∙ ap (λ b. if b then true else has_name m ns) (counted_one m n tallies)
-    ∙ or_more (has_name m (names_in_tallies tallies)) (bytes_eq m n) (has_name m ns)
+    ∙ or_more (has_name m (names_counted tallies)) (bytes_eq m n) (has_name m ns)
 
-same_hidden : (names : List (List ℕ)) (hidden : List Named) → hidden_of (names_in_tallies (tally_all [] names)) hidden ≡ hidden_of names hidden
+same_hidden : (names : List (List ℕ)) (hidden : List Named) → hidden_of (names_counted (tally_all [] names)) hidden ≡ hidden_of names hidden
 same_hidden names [] = refl
 same_hidden names (n ∷ ns) =
-    let tallied = names_in_tallies (tally_all [] names) in
+    let tallied = names_counted (tally_all [] names) in
     ap (λ b. if (if b then false else is_unchecked tallied n.units) then n.units ∷ hidden_of tallied ns else hidden_of tallied ns) (counted_all n.text [] names)
     ∙ ap (λ b. if (if has_name n.text names then false else (if b then false else is_class (element_of n.units))) then n.units ∷ hidden_of tallied ns else hidden_of tallied ns) (counted_all n.units [] names)
     ∙ ap (λ xs. if is_hidden names n.text n.units then n.units ∷ xs else xs) (same_hidden names ns)
 
 -- the lines of both, by what was counted
-pub both_lines : (filter : FilterView) (tallies : List NameTally) (names : List (List ℕ)) (bytes lent : List ℕ) → lent ≡ bytes → tallies ≡ tally_all [] names
-    → tally_lines (words_on filter) tallies ++ hidden_lines filter (hidden_of (names_in_tallies tallies) (once_each [] (names_in 0 lent)))
-    ≡ tally_lines (words_on filter) (tally_all [] names) ++ hidden_lines filter (hidden_in names bytes)
-both_lines filter tallies names bytes lent same is =
-    ap (λ xs. tally_lines (words_on filter) tallies ++ hidden_lines filter (hidden_of (names_in_tallies tallies) (once_each [] (names_in 0 xs)))) same
-    ∙ ap (λ ts. tally_lines (words_on filter) ts ++ hidden_lines filter (hidden_of (names_in_tallies ts) (once_each [] (names_in 0 bytes)))) is
-    ∙ ap (λ xs. tally_lines (words_on filter) (tally_all [] names) ++ hidden_lines filter xs) (same_hidden names (once_each [] (names_in 0 bytes)))
+pub both_lines : (filter : FilterView) (names hidden : List NameTally) (bytes lent : List ℕ) → lent ≡ bytes
+    → hidden ≡ tally_all [] (hidden_of (names_counted names) (once_each [] (names_in 0 lent)))
+    → tally_lines (words_on filter) names ++ tally_lines (marked_words (codes "hidden ") filter) hidden
+    ≡ tally_lines (words_on filter) names ++ hidden_lines filter (hidden_in (names_counted names) bytes)
+both_lines filter names hidden bytes lent same is =
+    ap (λ ts. tally_lines (words_on filter) names ++ tally_lines (marked_words (codes "hidden ") filter) ts) is
+    ∙ ap (λ xs. tally_lines (words_on filter) names ++ hidden_lines filter (hidden_of (names_counted names) (once_each [] (names_in 0 xs)))) same
 
 -- the text of the list that has these names
 pub says_anywhere : Counted → (told : Option (List ℕ)) (filter : FilterView) (whole : NamedStream) (Went : List ℕ → Type 0)
@@ -228,8 +227,10 @@ says_anywhere law (Some bytes) filter whole Went has wrote = record {
   list = has.1.list;
   passes = has.1.passes;
   printed = subst Went
-      (ap (λ b. tally_lines (words_on filter) (tally_all [] whole.names) ++ hidden_lines filter (hidden_in whole.names b)) has.0
-      ∙ ap (λ ns. tally_lines (words_on filter) (tally_all [] ns) ++ hidden_lines filter (hidden_in ns bytes)) has.1.names_are
+      (ap (λ b. tally_lines (words_on filter) whole.names ++ hidden_lines filter (hidden_in (names_counted whole.names) b)) has.0
+      ∙ ap (λ ts. tally_lines (words_on filter) ts ++ hidden_lines filter (hidden_in (names_counted ts) bytes)) has.1.names_are
+      ∙ ap (λ xs. tally_lines (words_on filter) (tally_all [] (checked_names has.1.list)) ++ hidden_lines filter xs)
+      (same_hidden (checked_names has.1.list) (once_each [] (names_in 0 bytes)))
       ∙ ap (λ xs. xs ++ hidden_lines filter (hidden_in (checked_names has.1.list) bytes)) (sym (law (words_on filter) has.1.list)))
       wrote;
 }

@@ -1,4 +1,3 @@
-pub mod CountLemmas
 pub mod HiddenLemmas
 pub mod InputLemmas
 pub mod LimitLemmas

@@ -1,9 +1,9 @@
 -- What `list` prints.
 use denote.Bor.{Bor}
-use Rattle.std.proofs.Common.{◌≡◌, ℕ, suc, ◌+◌, ◌<◌, ◌≤◌, Bool, true, false, List, [], ◌∷◌, ◌++◌, map, length, take, drop, slice_get, Option, Some, None, option_map, codes, refl, sym, ap, subst, ◌∙◌, arith, append_assoc, length-append}
+use Rattle.std.proofs.Common.{◌≡◌, ℕ, zero, suc, ◌+◌, ◌<◌, ◌≤◌, Bool, true, false, List, [], ◌∷◌, ◌++◌, length, take, drop, slice_get, Option, Some, None, codes, refl, sym, ap, subst, ◌∙◌, arith, append_assoc, length-append}
 use Rattle.std.proofs.Math.Seq.{drop-cons, take-append_seam}
 use Rattle.std.proofs.lemmas.List.{drop_all}
-use Rattle.std.proofs.lemmas.Option.{get_or_from_slice_get, slice_get_within, slice_get-map}
+use Rattle.std.proofs.lemmas.Option.{get_or_from_slice_get, slice_get_within}
 use Rattle.std.specs.Prelude.{IfSome, flat_map}
 use Rattle.std.specs.Fmt.{decimal}
 use Rattle.std.specs.Io.KnownBytes.{Appends}
@@ -12,39 +12,41 @@ use Rattle.jser_prim.proofs.OutgoingLemmas.{nothing, puts_both, went_out}
 use Rattle.jser_filter.specs.declared.Verdict.{Verdict}
 use Rattle.jser_filter.specs.declared.Verdict.TheVariants as verdict
 use Rattle.jser_filter.specs.Filters.{FilterView, verdict_of}
-use Rattle.jser_shown.specs.Counting.{NameTally, name_tally, tally_all, tally_lines}
+use Rattle.jser_shown.specs.Counting.{NameTally, name_tally, tally_lines}
 use Rattle.jser_shown.specs.Laws.{Counted}
 use Rattle.jser_shown.specs.Listed.{listed}
 use Rattle.jser_shown.specs.Words.{quoted, quoted_unit}
 use Rattle.jser_names.specs.Sources.{HasNames}
 use Rattle.jser_printer.specs.Says.{Says, Saying}
 use Rattle.jser_printer.proofs.SaysLemmas.{says_before, says_on, says_same, says_both, says_five}
-use Rattle.jser_commands.specs.Counts.{tallies_of, tally_line, lines_before}
+use Rattle.jser_names.specs.Counts.{IsCount, tally_of}
+use Rattle.jser_names.specs.declared.NameCount.{NameCount}
+use Rattle.jser_commands.specs.Counts.{tally_line, lines_before}
 use Rattle.jser_commands.specs.Lines.{AppendsSome, SaysText, SaysRefusal, KeptOrCut, KeptOrSaidSome, marked_words, verdict_words, words_on}
 use Rattle.jser_commands.proofs.Lines.{yes_cut}
 
 -- the text of the list that has these names
-pub says_listed : Counted → (told : Option (List ℕ)) (filter : FilterView) (names : List (List ℕ)) (Went : List ℕ → Type 0)
-    → IfSome told (λ bytes. HasNames bytes names) → Went (tally_lines (words_on filter) (tally_all [] names))
+pub says_listed : Counted → (told : Option (List ℕ)) (filter : FilterView) (names : List NameTally) (Went : List ℕ → Type 0)
+    → IfSome told (λ bytes. HasNames bytes names) → Went (tally_lines (words_on filter) names)
     → IfSome told (λ bytes. SaysText (listed (words_on filter)) bytes Went)
 says_listed law None filter names Went has wrote = tt
 says_listed law (Some bytes) filter names Went has wrote = record {
   list = has.list;
   passes = has.passes;
-  printed = subst Went (ap (λ ns. tally_lines (words_on filter) (tally_all [] ns)) has.names_are ∙ sym (law (words_on filter) has.list)) wrote;
+  printed = subst Went (ap (tally_lines (words_on filter)) has.names_are ∙ sym (law (words_on filter) has.list)) wrote;
 }
 
-pub listed_all : Counted → (told : Option (List ℕ)) (filter : FilterView) (names : List (List ℕ)) (old new : Option (List ℕ))
-    → IfSome told (λ bytes. HasNames bytes names) → Appends old new (tally_lines (words_on filter) (tally_all [] names))
+pub listed_all : Counted → (told : Option (List ℕ)) (filter : FilterView) (names : List NameTally) (old new : Option (List ℕ))
+    → IfSome told (λ bytes. HasNames bytes names) → Appends old new (tally_lines (words_on filter) names)
     → IfSome told (λ bytes. SaysText (listed (words_on filter)) bytes (Appends old new))
 listed_all law told filter names old new = says_listed law told filter names (Appends old new)
 
 -- its first bytes, where the output failed
-pub listed_cut : Counted → (told : Option (List ℕ)) (filter : FilterView) (names : List (List ℕ)) (failed : Bool) (old new : Option (List ℕ))
-    → IfSome told (λ bytes. HasNames bytes names) → KeptOrCut failed old new (tally_lines (words_on filter) (tally_all [] names))
+pub listed_cut : Counted → (told : Option (List ℕ)) (filter : FilterView) (names : List NameTally) (failed : Bool) (old new : Option (List ℕ))
+    → IfSome told (λ bytes. HasNames bytes names) → KeptOrCut failed old new (tally_lines (words_on filter) names)
     → KeptOrSaidSome failed old new told (SaysText (listed (words_on filter))) SaysRefusal
 listed_cut law told filter names failed old new has =
-    yes_cut failed old new told (tally_lines (words_on filter) (tally_all [] names)) (SaysText (listed (words_on filter))) SaysRefusal
+    yes_cut failed old new told (tally_lines (words_on filter) names) (SaysText (listed (words_on filter))) SaysRefusal
     (λ some. says_listed law told filter names (AppendsSome old new) has some)
 
 -- a word, and the index of a piece
@@ -72,66 +74,55 @@ says_marked a b c d e f filter mark name said is h g =
     (says_both a b c d e f (λ k. mark ++ k) (λ k. words_on filter name ++ k) h (subst (λ v. Says b c e f (λ k. verdict_words v ++ k)) is g))
 
 -- the line of a name
-pub says_line : (a b c d e f g : Outgoing) (p q r s t u v : SinkState) (filter : FilterView) (mark name : List ℕ) (times : ℕ)
-    → Says a b p q (λ k. decimal times ++ k) → Says b c q r (λ k. 0x20 ∷ k) → Says c d r s (λ k. (mark ++ words_on filter name) ++ k)
-    → Says d e s t (λ k. 0x20 ∷ k) → Says e f t u (λ k. quoted name k) → Says f g u v (λ k. 0x0A ∷ k)
+pub says_line : (a b c d e f g : Outgoing) (p q r s t u v : SinkState) (filter : FilterView) (mark name lent : List ℕ) (times : ℕ) → lent ≡ name
+    → Says a b p q (λ k. decimal times ++ k) → Says b c q r (λ k. 0x20 ∷ k) → Says c d r s (λ k. (mark ++ words_on filter lent) ++ k)
+    → Says d e s t (λ k. 0x20 ∷ k) → Says e f t u (λ k. quoted lent k) → Says f g u v (λ k. 0x0A ∷ k)
     → Says a g p v (λ k. tally_line (marked_words mark filter) (name_tally name times) k)
-says_line a b c d e f g p q r s t u v filter mark name times x1 x2 x3 x4 x5 x6 =
-    says_both a b g p q v (λ k. decimal times ++ k) (λ k. 0x20 ∷ ((mark ++ words_on filter name) ++ (0x20 ∷ quoted name (0x0A ∷ k)))) x1
-    (says_five b c d e f g q r s t u v (λ k. 0x20 ∷ k) (λ k. (mark ++ words_on filter name) ++ k) (λ k. 0x20 ∷ k) (λ k. quoted name k) (λ k. 0x0A ∷ k)
-    x2 x3 x4 x5 x6)
+says_line a b c d e f g p q r s t u v filter mark name lent times same x1 x2 x3 x4 x5 x6 =
+    subst (λ n. Says a g p v (λ k. tally_line (marked_words mark filter) (name_tally n times) k)) same
+    (says_both a b g p q v (λ k. decimal times ++ k) (λ k. 0x20 ∷ ((mark ++ words_on filter lent) ++ (0x20 ∷ quoted lent (0x0A ∷ k)))) x1
+    (says_five b c d e f g q r s t u v (λ k. 0x20 ∷ k) (λ k. (mark ++ words_on filter lent) ++ k) (λ k. 0x20 ∷ k) (λ k. quoted lent k) (λ k. 0x0A ∷ k)
+    x2 x3 x4 x5 x6))
 
 -- ---- all lines
-
-abbrev tally_of : Bor (List ℕ) × ℕ → NameTally
-tally_of entry = name_tally entry.0.now entry.1
-
-tallies_map : (entries : List (Bor (List ℕ) × ℕ)) → tallies_of entries ≡ map tally_of entries
-tallies_map [] = refl
-tallies_map (e ∷ es) = ap (λ ts. tally_of e ∷ ts) (tallies_map es)
 
 pub lines_are : (words : List ℕ → List ℕ) (tallies : List NameTally) → lines_before words tallies [] ≡ tally_lines words tallies
 lines_are words [] = refl
 lines_are words (t ∷ ts) = ap (tally_line words t) (lines_are words ts)
 
-tallies_length : (entries : List (Bor (List ℕ) × ℕ)) → length (tallies_of entries) ≡ length entries
-tallies_length [] = refl
-tallies_length (e ∷ es) = ap suc (tallies_length es)
+-- the tally at a number, as it is lent
+pub count_at : (found : Option NameTally) (lent : Bor NameCount) → IsCount found (Some lent) → found ≡ Some (tally_of lent.now)
+count_at None lent is = absurd is
+count_at (Some tally) lent is = ap Some (sym is)
 
-tally_at : (entries : List (Bor (List ℕ) × ℕ)) (number : ℕ) (name : Bor (List ℕ)) (times : ℕ) → slice_get entries number ≡ Some (name, times)
-    → (number < length (tallies_of entries)) × (slice_get (tallies_of entries) number ≡ Some (name_tally name.now times))
-tally_at entries number name times here =
-    let there : slice_get (map tally_of entries) number ≡ Some (name_tally name.now times) =
-    slice_get-map tally_of entries number ∙ ap (option_map tally_of) here in
-    let same = tallies_map entries in
-    let found : slice_get (tallies_of entries) number ≡ Some (name_tally name.now times) = ap (λ ts. slice_get ts number) same ∙ there in
-    (slice_get_within (tallies_of entries) number (name_tally name.now times) found, found)
+-- there is one
+pub count_is_there : (tallies : List NameTally) (number : ℕ) → number < length tallies → IsCount (slice_get tallies number) None → ⊥
+count_is_there [] number inside none = absurd (omega (arith, inside))
+count_is_there (t ∷ ts) zero inside none = none
+count_is_there (t ∷ ts) (suc number) inside none = count_is_there ts number (omega (arith, inside)) none
 
 -- one line more
-pub lines_on : (a b c : Outgoing) (d e f : SinkState) (words : List ℕ → List ℕ) (entries : List (Bor (List ℕ) × ℕ)) (number : ℕ) (name : Bor (List ℕ)) (times : ℕ)
-    (all : List ℕ → List ℕ) → slice_get entries number ≡ Some (name, times)
-    → Saying a b d e all (λ k. lines_before words (drop number (tallies_of entries)) k)
-    → Says b c e f (λ k. tally_line words (name_tally name.now times) k)
-    → Saying a c d f all (λ k. lines_before words (drop (number + 1) (tallies_of entries)) k)
-lines_on a b c d e f words entries number name times all here so line =
-    let at = tally_at entries number name times here in
-    let tally = name_tally name.now times in
-    let next : drop number (tallies_of entries) ≡ tally ∷ drop (suc number) (tallies_of entries) =
-    drop-cons (tallies_of entries) number tally at.0 ∙ ap (λ t. t ∷ drop (suc number) (tallies_of entries)) (get_or_from_slice_get (tallies_of entries) number tally tally at.1) in
+pub lines_on : (a b c : Outgoing) (d e f : SinkState) (words : List ℕ → List ℕ) (tallies : List NameTally) (number : ℕ) (tally : NameTally)
+    (all : List ℕ → List ℕ) → slice_get tallies number ≡ Some tally
+    → Saying a b d e all (λ k. lines_before words (drop number tallies) k)
+    → Says b c e f (λ k. tally_line words tally k)
+    → Saying a c d f all (λ k. lines_before words (drop (number + 1) tallies) k)
+lines_on a b c d e f words tallies number tally all here so line =
+    let next : drop number tallies ≡ tally ∷ drop (suc number) tallies =
+    drop-cons tallies number tally (slice_get_within tallies number tally here)
+    ∙ ap (λ t. t ∷ drop (suc number) tallies) (get_or_from_slice_get tallies number tally tally here) in
     let n : suc number ≡ number + 1 = omega arith in
     let left : List NameTally → List ℕ → List ℕ = λ ts k. lines_before words ts k in
-    subst (λ m. Saying a c d f all (left (drop m (tallies_of entries)))) n
-    (says_on a b c d e f all (left (tally ∷ drop (suc number) (tallies_of entries))) (left (drop (suc number) (tallies_of entries)))
+    subst (λ m. Saying a c d f all (left (drop m tallies))) n
+    (says_on a b c d e f all (left (tally ∷ drop (suc number) tallies)) (left (drop (suc number) tallies))
     (subst (λ ts. Saying a b d e all (left ts)) next so)
-    (says_before b c e f (λ k. tally_line words tally k) (left (drop (suc number) (tallies_of entries))) line))
+    (says_before b c e f (λ k. tally_line words tally k) (left (drop (suc number) tallies)) line))
 
 -- none is left
-pub lines_ended : (a b : Outgoing) (d e : SinkState) (words : List ℕ → List ℕ) (entries : List (Bor (List ℕ) × ℕ)) (number : ℕ) (all : List ℕ → List ℕ)
-    → length entries ≤ number → Saying a b d e all (λ k. lines_before words (drop number (tallies_of entries)) k) → Says a b d e all
-lines_ended a b d e words entries number all past so =
-    let none : drop number (tallies_of entries) ≡ [] =
-    drop_all number (tallies_of entries) (omega (arith, past, tallies_length entries)) in
-    subst (λ ts. Saying a b d e all (λ k. lines_before words ts k)) none so
+pub lines_ended : (a b : Outgoing) (d e : SinkState) (words : List ℕ → List ℕ) (tallies : List NameTally) (number : ℕ) (all : List ℕ → List ℕ)
+    → length tallies ≤ number → Saying a b d e all (λ k. lines_before words (drop number tallies) k) → Says a b d e all
+lines_ended a b d e words tallies number all past so =
+    subst (λ ts. Saying a b d e all (λ k. lines_before words ts k)) (drop_all number tallies past) so
 
 -- what was said went out
 pub text_went_out : (start mid now : Outgoing) (before middle after : SinkState) (text : List ℕ → List ℕ) (all : List ℕ) → text [] ≡ all

@@ -1,24 +1,8 @@
--- Names that are counted in a map, whose entries are a name and how often it was seen; and their lines.
-use denote.Bor.{Bor}
-use Rattle.std.specs.Prelude.{ℕ, ◌+◌, List, [], ◌∷◌, ◌++◌, Option, Some, None}
+-- The lines of names that were counted.
+use Rattle.std.specs.Prelude.{ℕ, List, [], ◌∷◌, ◌++◌}
 use Rattle.std.specs.Fmt.{decimal}
-use Rattle.jser_shown.specs.Counting.{NameTally, name_tally}
+use Rattle.jser_shown.specs.Counting.{NameTally}
 use Rattle.jser_shown.specs.Words.{end_line, quoted}
-
--- the entries as tallies
-abbrev pub tallies_of : List (Bor (List ℕ) × ℕ) → List NameTally
-tallies_of [] = []
-tallies_of (entry ∷ entries) = name_tally entry.0.now entry.1 ∷ tallies_of entries
-
--- how many names were counted
-abbrev pub times_in : List NameTally → ℕ
-times_in [] = 0
-times_in (tally ∷ tallies) = tally.times + times_in tallies
-
--- how often a name was seen that was looked up
-abbrev pub times_found : Option ℕ → ℕ
-times_found None = 0
-times_found (Some times) = times
 
 -- the line of a tally, before what follows
 abbrev pub tally_line : (List ℕ → List ℕ) → NameTally → List ℕ → List ℕ

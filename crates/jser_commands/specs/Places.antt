@@ -2,14 +2,10 @@
 use Rattle.std.specs.Prelude.{◌≡◌, ◌<◌, ℕ, Bool, true, false, not, List, [], ◌∷◌, ◌++◌, length, get_or, set}
 use Rattle.jser_filter.specs.Filters.{FilterView}
 use Rattle.jser_names.specs.declared.NamedStream.{NamedStream}
-use Rattle.jser_shown.specs.Counting.{NameTally, tally_all, tally_lines}
+use Rattle.jser_names.specs.Counts.{names_counted}
+use Rattle.jser_shown.specs.Counting.{tally_lines}
 use Rattle.jser_commands.specs.Hidden.{has_place, hidden_in}
 use Rattle.jser_commands.specs.Lines.{hidden_lines, words_on}
-
--- the names that were counted
-abbrev pub names_in_tallies : List NameTally → List (List ℕ)
-names_in_tallies [] = []
-names_in_tallies (tally ∷ tallies) = tally.name ∷ names_in_tallies tallies
 
 -- those that were noted are these
 pub record KeepsPlaces (noted : List Bool) (seen : List ℕ) : Type 0 where
@@ -23,4 +19,4 @@ pub record NotesPlace (at : ℕ) (old new : List Bool) (is_new : Bool) : Type 0 
 -- the lines of the checked names and of the hidden ones
 abbrev pub lines_of_both : FilterView → NamedStream → List ℕ
 lines_of_both filter whole =
-    tally_lines (words_on filter) (tally_all [] whole.names) ++ hidden_lines filter (hidden_in whole.names whole.bytes.items)
+    tally_lines (words_on filter) whole.names ++ hidden_lines filter (hidden_in (names_counted whole.names) whole.bytes.items)

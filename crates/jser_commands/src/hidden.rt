@@ -2,32 +2,32 @@
 ghost use Rattle.std.specs.Prelude.{◌≡◌, ◌<◌, [], ◌∷◌, IfOk, length, true};
 ghost use Rattle.jser_anywhere.specs.NamesIn.{names_in};
 ghost use Rattle.jser_table.specs.Names.{view_element};
-ghost use Rattle.jser_commands.specs.Counts.{tallies_of};
 ghost use Rattle.jser_commands.specs.Hidden.{hidden_of, is_class, is_hidden, is_unchecked, once_each};
-ghost use Rattle.jser_commands.specs.Places.{KeepsPlaces, NotesPlace, names_in_tallies};
+ghost use Rattle.jser_names.specs.Counts.{names_counted};
+ghost use Rattle.jser_shown.specs.Counting.{tally_all};
+ghost use Rattle.jser_commands.specs.Places.{KeepsPlaces, NotesPlace};
 
-use crate::counting::NameCounts;
 use jser_anywhere::Names;
-use jser_names::NameList;
+use jser_names::NameCounts;
 use jser_table::{Element, element_of};
 use std::alloc::{AllocError, Global};
 use std::marker::Model;
 
-/// The classes that those names name, in the order of the places where they can be read: each as often as there are places of a
-/// text of it.
+/// The classes that those names name, in the order of the places where they can first be read, each with how many places of a
+/// text of it there are.
 pub(crate) fn hidden_names(
     alloc: Global,
     bytes: &[u8],
-    checked: &NameCounts<'_>,
-) -> Result<NameList, AllocError>
-    ensures { IfOk result (λ hidden. hidden ≡ hidden_of (names_in_tallies (tallies_of checked.now.entries)) (once_each [] (names_in 0 bytes.now))) }
+    checked: &NameCounts,
+) -> Result<NameCounts, AllocError>
+    ensures { IfOk result (λ hidden. hidden ≡ tally_all [] (hidden_of (names_counted checked.now) (once_each [] (names_in 0 bytes.now)))) }
 {
     let mut places = Places::new(alloc, bytes.len())?;
-    let mut hidden = NameList::new(alloc);
+    let mut hidden = NameCounts::new(alloc);
     let mut names = Names::new(bytes);
     'names: while let Some(stand) = names.next() {
         if places.note(stand.at) && is_hidden(checked, names.text(), names.units()) {
-            hidden.push(alloc, names.units())?;
+            hidden.count(names.units())?;
         }
     }
     Ok(hidden)
@@ -35,24 +35,18 @@ pub(crate) fn hidden_names(
 
 /// Whether neither this name, as it stands, nor that of its class is one of those counted.
 #[tactic(auto, using(crate::proofs::HiddenLemmas::text_counted, crate::proofs::HiddenLemmas::text_uncounted))]
-fn is_hidden(checked: &NameCounts<'_>, text: &[u16], class: &[u16]) -> bool
-    ensures { result ≡ is_hidden (names_in_tallies (tallies_of checked.now.entries)) text.now class.now }
+fn is_hidden(checked: &NameCounts, text: &[u16], class: &[u16]) -> bool
+    ensures { result ≡ is_hidden (names_counted checked.now) text.now class.now }
 {
-    match checked.get(text) {
-        Some(_) => false,
-        None => is_unchecked(checked, class),
-    }
+    !checked.has(text) && is_unchecked(checked, class)
 }
 
 /// Whether this is the name of a class that is none of those counted.
 #[tactic(auto, using(crate::proofs::HiddenLemmas::counted_is, crate::proofs::HiddenLemmas::uncounted_is))]
-fn is_unchecked(checked: &NameCounts<'_>, name: &[u16]) -> bool
-    ensures { result ≡ is_unchecked (names_in_tallies (tallies_of checked.now.entries)) name.now }
+fn is_unchecked(checked: &NameCounts, name: &[u16]) -> bool
+    ensures { result ≡ is_unchecked (names_counted checked.now) name.now }
 {
-    match checked.get(name) {
-        Some(_) => false,
-        None => is_class(element_of(name)),
-    }
+    !checked.has(name) && is_class(element_of(name))
 }
 
 /// Whether this is a class, or an array of one.

@@ -1,22 +1,22 @@
 //! The job of `list`: the checked names of a stream, with how often each stands there and what a filter says of it. The stream
 //! is read in pieces, and its names alone are kept.
-ghost use Rattle.std.specs.Prelude.{◌≡◌, ◌≢◌, ◌⊎◌, ◌++◌, [], Err, IfErr, IfOk, IfSome, OnErr, OnOk, true};
+ghost use Rattle.std.specs.Prelude.{◌≡◌, ◌≢◌, ◌⊎◌, ◌++◌, IfErr, IfOk, IfSome, OnErr, OnOk, true};
 ghost use Rattle.std.specs.Io.KnownBytes.{Appends};
 ghost use Rattle.jser_filter.specs.Filters.{verdict_of};
-ghost use Rattle.jser_shown.specs.Counting.{name_tally, tally_all, tally_lines};
+ghost use Rattle.jser_shown.specs.Counting.{tally_lines};
+ghost use Rattle.jser_names.specs.Counts.{tally_of};
 ghost use Rattle.jser_shown.specs.Listed.{listed};
 ghost use Rattle.jser_index.specs.Reading.{IsRefused};
 ghost use Rattle.jser_names.specs.Sources.{HasNames};
 ghost use Rattle.jser_printer.specs.Says.{SaysTo};
-ghost use Rattle.jser_commands.specs.Counts.{tallies_of, tally_line, lines_before};
+ghost use Rattle.jser_commands.specs.Counts.{tally_line, lines_before};
 ghost use Rattle.jser_commands.specs.Inputs.{IfUnreadRefused, IsReadFault};
 ghost use Rattle.jser_commands.specs.Lines.{AppendsSome, SaysText, SaysRefusal, SaysWhy, SaysUnwritten, KeptOrCut, KeptOrSaidSome, marked_words, verdict_words, words_on};
 
-use crate::counting::{NameCounts, count_names};
 use crate::input::{Unread, print_unread, unread_of};
 use jser_filter::{Filter, Verdict};
 use jser_inputs::Input;
-use jser_names::{NameList, names_of};
+use jser_names::{NameCount, NameCounts, names_of};
 use jser_prim::{Failed, Outbox, Sink, Source};
 use jser_printer::{write, write_decimal, write_quoted};
 use jser_settings::{ACCEPTED, tell_failure};
@@ -43,7 +43,7 @@ pub(crate) fn list<R: Input, W: Sink, E: Sink>(
 {
     counted();
     match read_names(alloc, input) {
-        Ok(names) => print_names(alloc, filter, &names, output, faults),
+        Ok(names) => print_names(filter, &names, output, faults),
         Err(unread) => print_unread(alloc, unread, input.fault(), output, faults),
     }
 }
@@ -55,7 +55,7 @@ pub(crate) fn list<R: Input, W: Sink, E: Sink>(
 ///
 /// `Unread`, with the reason. A failed read is told whatever came before it.
 #[tactic(auto, using(crate::proofs::InputLemmas::unread_refuses, crate::proofs::InputLemmas::unread_fails))]
-fn read_names<R: Source>(alloc: Global, input: &mut R) -> Result<NameList, Unread>
+fn read_names<R: Source>(alloc: Global, input: &mut R) -> Result<NameCounts, Unread>
     ensures accepted { IfOk result (λ names. IfSome (R.to_come input.old) (λ bytes. HasNames bytes names)) }
     ensures refused { IfErr result (λ unread. IfSome (R.to_come input.old) (λ bytes. IfUnreadRefused (IsRefused bytes) unread)) }
     ensures unbroken { OnOk result (R.has_failed input.new ≡ R.has_failed input.old) }
@@ -70,74 +70,42 @@ fn read_names<R: Source>(alloc: Global, input: &mut R) -> Result<NameList, Unrea
 /// Prints the lines of the checked names of a stream.
 #[tactic(auto, using(crate::proofs::Lines::kept))]
 fn print_names<W: Sink, E: Sink>(
-    alloc: Global,
     filter: &Filter,
-    names: &NameList,
+    names: &NameCounts,
     output: &mut W,
     faults: &mut E,
 ) -> u8
-    ensures printed { result ≡ 0 → Appends (W.gone_out output.old) (W.gone_out output.new) (tally_lines (words_on filter.now) (tally_all [] names.now)) }
-    ensures failed { result ≡ 3 → KeptOrCut (W.has_failed output.new) (W.gone_out output.old) (W.gone_out output.new) (tally_lines (words_on filter.now) (tally_all [] names.now)) }
+    ensures printed { result ≡ 0 → Appends (W.gone_out output.old) (W.gone_out output.new) (tally_lines (words_on filter.now) names.now) }
+    ensures failed { result ≡ 3 → KeptOrCut (W.has_failed output.new) (W.gone_out output.old) (W.gone_out output.new) (tally_lines (words_on filter.now) names.now) }
     ensures status { (result ≡ 0) ⊎ (result ≡ 3) }
     ensures why { result ≡ 3 → SaysUnwritten (W.has_failed output.old) (W.has_failed output.new) (E.has_failed faults.new) (E.gone_out faults.old) (E.gone_out faults.new) }
     ensures unbroken { result ≡ 0 → W.has_failed output.new ≡ W.has_failed output.old }
     ensures quiet { result ≡ 0 → faults.new ≡ faults.old }
 {
-    match write_names(alloc, filter, names, output) {
+    match write_names(filter, names, output) {
         Ok(()) => ACCEPTED,
-        Err(TextFault::Write) => tell_failure(faults, "write failed\n"),
-        Err(TextFault::OutOfMemory) => tell_failure(faults, "out of memory\n"),
+        Err(_) => tell_failure(faults, "write failed\n"),
     }
 }
 
-/// Why a text did not go out whole.
-#[derive(Clone, Copy, PartialEq, Eq, Debug)]
-pub(crate) enum TextFault {
-    /// The sink failed.
-    Write,
-    /// Memory ran out.
-    OutOfMemory,
-}
-
-/// Writes the text of `list`: a line for each different name, with how often it is among these and what the filter says of it.
-/// They are counted first; that takes memory for each different name, and the writing none.
+/// Writes the text of `list`: a line for each different name, with how often it was counted and what the filter says of it.
+/// Takes no memory.
 ///
 /// # Errors
 ///
-/// `Write` where the sink failed, behind the first bytes of the text; `OutOfMemory` where memory ran out, before the first.
-pub(crate) fn write_names<W: Sink>(
-    alloc: Global,
-    filter: &Filter,
-    names: &NameList,
-    sink: &mut W,
-) -> Result<(), TextFault>
-    ensures written { OnOk result (Appends (W.gone_out sink.old) (W.gone_out sink.new) (tally_lines (words_on filter.now) (tally_all [] names.now))) }
-    ensures unbroken { OnOk result (W.has_failed sink.new ≡ W.has_failed sink.old) }
-    ensures cut { result ≡ Err TextFault.Write → (W.has_failed sink.new ≡ true) × AppendsSome (W.gone_out sink.old) (W.gone_out sink.new) (tally_lines (words_on filter.now) (tally_all [] names.now)) }
-    ensures kept { result ≡ Err TextFault.OutOfMemory → sink.new ≡ sink.old }
-{
-    match count_names(alloc, names) {
-        Ok(counts) => match write_counts(filter, &counts, sink) {
-            Ok(()) => Ok(()),
-            Err(_) => Err(TextFault::Write),
-        },
-        Err(_) => Err(TextFault::OutOfMemory),
-    }
-}
-
-/// Writes a line for each name that was counted. Takes no memory.
+/// Where the sink failed, behind the first bytes of the text.
 #[tactic(auto, using(crate::proofs::ListLemmas::text_kept))]
-fn write_counts<W: Sink>(
+pub(crate) fn write_names<W: Sink>(
     filter: &Filter,
-    counts: &NameCounts<'_>,
+    names: &NameCounts,
     sink: &mut W,
 ) -> Result<(), Failed>
-    ensures written { OnOk result (Appends (W.gone_out sink.old) (W.gone_out sink.new) (tally_lines (words_on filter.now) (tallies_of counts.now.entries))) }
+    ensures written { OnOk result (Appends (W.gone_out sink.old) (W.gone_out sink.new) (tally_lines (words_on filter.now) names.now)) }
     ensures unbroken { OnOk result (W.has_failed sink.new ≡ W.has_failed sink.old) }
-    ensures cut { OnErr result ((W.has_failed sink.new ≡ true) × AppendsSome (W.gone_out sink.old) (W.gone_out sink.new) (tally_lines (words_on filter.now) (tallies_of counts.now.entries))) }
+    ensures cut { OnErr result ((W.has_failed sink.new ≡ true) × AppendsSome (W.gone_out sink.old) (W.gone_out sink.new) (tally_lines (words_on filter.now) names.now)) }
 {
     let mut outbox = Outbox::new();
-    write_lines(&mut outbox, sink, filter, b"", counts);
+    write_lines(&mut outbox, sink, filter, b"", names);
     outbox.flush(sink);
     if outbox.has_failed() {
         return Err(Failed);
@@ -151,13 +119,13 @@ pub(crate) fn write_lines<W: Sink>(
     sink: &mut W,
     filter: &Filter,
     mark: &[u8],
-    counts: &NameCounts<'_>,
+    names: &NameCounts,
 )
-    ensures { SaysTo W.gone_out W.has_failed outbox.old outbox.new sink.old sink.new (λ k. lines_before (marked_words mark.now filter.now) (tallies_of counts.now.entries) k) }
+    ensures { SaysTo W.gone_out W.has_failed outbox.old outbox.new sink.old sink.new (λ k. lines_before (marked_words mark.now filter.now) names.now k) }
 {
-    'lines: for number in 0..counts.len() {
-        match counts.get_index(number) {
-            Some((name, times)) => write_line(outbox, sink, filter, mark, *name, *times),
+    'lines: for number in 0..names.len() {
+        match names.get(number) {
+            Some(count) => write_line(outbox, sink, filter, mark, count),
             None => unreachable!(),
         }
     }
@@ -169,12 +137,12 @@ fn write_line<W: Sink>(
     sink: &mut W,
     filter: &Filter,
     mark: &[u8],
-    name: &[u16],
-    times: u64,
+    count: &NameCount,
 )
-    ensures { SaysTo W.gone_out W.has_failed outbox.old outbox.new sink.old sink.new (λ k. tally_line (marked_words mark.now filter.now) (name_tally name.now times) k) }
+    ensures { SaysTo W.gone_out W.has_failed outbox.old outbox.new sink.old sink.new (λ k. tally_line (marked_words mark.now filter.now) (tally_of count.now) k) }
 {
-    write_decimal(outbox, sink, times);
+    let name = count.name.as_slice();
+    write_decimal(outbox, sink, count.times);
     write(outbox, sink, b" ");
     write_marked(outbox, sink, filter, mark, name);
     write(outbox, sink, b" ");

@@ -1,24 +1,20 @@
 //! The job of `list --anywhere`: the lines of `list`, and one for each name of a class that can be read at some place of the
 //! stream and is no checked name of it.
-ghost use Rattle.std.specs.Prelude.{◌≡◌, ◌≢◌, ◌⊎◌, ◌++◌, [], codes, IfErr, IfOk, IfSome, OnOk};
+ghost use Rattle.std.specs.Prelude.{◌≡◌, ◌≢◌, ◌⊎◌, ◌++◌, codes, IfErr, IfOk, IfSome, OnOk};
 ghost use Rattle.std.specs.Io.KnownBytes.{Appends};
-ghost use Rattle.jser_anywhere.specs.NamesIn.{names_in};
 ghost use Rattle.jser_index.specs.Reading.{IsRefused};
 ghost use Rattle.jser_names.specs.Named.{IsNamed};
-ghost use Rattle.jser_shown.specs.Counting.{tally_all, tally_lines};
-ghost use Rattle.jser_commands.specs.Counts.{tallies_of};
-ghost use Rattle.jser_commands.specs.Hidden.{hidden_of, once_each};
+ghost use Rattle.jser_shown.specs.Counting.{tally_lines};
 ghost use Rattle.jser_commands.specs.Inputs.{IfUnreadRefused, IsReadFault};
-ghost use Rattle.jser_commands.specs.Lines.{SaysListedAnywhere, SaysRefusal, SaysWhy, SaysUnwritten, KeptOrCut, KeptOrSaidSome, hidden_lines, marked_words, words_on};
-ghost use Rattle.jser_commands.specs.Places.{lines_of_both, names_in_tallies};
+ghost use Rattle.jser_commands.specs.Lines.{SaysListedAnywhere, SaysRefusal, SaysWhy, SaysUnwritten, KeptOrCut, KeptOrSaidSome, marked_words, words_on};
+ghost use Rattle.jser_commands.specs.Places.{lines_of_both};
 
-use crate::counting::{NameCounts, count_names};
 use crate::hidden::hidden_names;
 use crate::input::{Unread, print_unread, unread_of};
 use crate::list::write_lines;
 use jser_filter::Filter;
 use jser_inputs::Input;
-use jser_names::{NameList, NamedStream, bytes_and_names_of};
+use jser_names::{NameCounts, NamedStream, bytes_and_names_of};
 use jser_prim::{Outbox, Sink, Source};
 use jser_settings::{ACCEPTED, tell_failure};
 use jser_shown::laws::counted;
@@ -66,7 +62,7 @@ fn read_whole<R: Source>(alloc: Global, input: &mut R) -> Result<NamedStream, Un
     }
 }
 
-/// Prints the lines of the checked names and of the hidden ones. They are counted first.
+/// Prints the lines of the checked names and of the hidden ones, which are gathered first.
 #[tactic(auto, using(crate::proofs::Lines::kept))]
 fn print_whole<W: Sink, E: Sink>(
     alloc: Global,
@@ -82,54 +78,8 @@ fn print_whole<W: Sink, E: Sink>(
     ensures unbroken { result ≡ 0 → W.has_failed output.new ≡ W.has_failed output.old }
     ensures quiet { result ≡ 0 → faults.new ≡ faults.old }
 {
-    match count_names(alloc, &whole.names) {
-        Ok(checked) => print_checked(alloc, filter, &whole.bytes, &checked, output, faults),
-        Err(_) => tell_failure(faults, "out of memory\n"),
-    }
-}
-
-/// Prints the lines of the checked names, which are counted, and of the hidden ones, which are gathered first.
-#[tactic(auto, using(crate::proofs::Lines::kept))]
-fn print_checked<W: Sink, E: Sink>(
-    alloc: Global,
-    filter: &Filter,
-    bytes: &[u8],
-    checked: &NameCounts<'_>,
-    output: &mut W,
-    faults: &mut E,
-) -> u8
-    ensures printed { result ≡ 0 → Appends (W.gone_out output.old) (W.gone_out output.new) (tally_lines (words_on filter.now) (tallies_of checked.now.entries) ++ hidden_lines filter.now (hidden_of (names_in_tallies (tallies_of checked.now.entries)) (once_each [] (names_in 0 bytes.now)))) }
-    ensures failed { result ≡ 3 → KeptOrCut (W.has_failed output.new) (W.gone_out output.old) (W.gone_out output.new) (tally_lines (words_on filter.now) (tallies_of checked.now.entries) ++ hidden_lines filter.now (hidden_of (names_in_tallies (tallies_of checked.now.entries)) (once_each [] (names_in 0 bytes.now)))) }
-    ensures status { (result ≡ 0) ⊎ (result ≡ 3) }
-    ensures why { result ≡ 3 → SaysUnwritten (W.has_failed output.old) (W.has_failed output.new) (E.has_failed faults.new) (E.gone_out faults.old) (E.gone_out faults.new) }
-    ensures unbroken { result ≡ 0 → W.has_failed output.new ≡ W.has_failed output.old }
-    ensures quiet { result ≡ 0 → faults.new ≡ faults.old }
-{
-    match hidden_names(alloc, bytes, checked) {
-        Ok(hidden) => print_hidden(alloc, filter, checked, &hidden, output, faults),
-        Err(_) => tell_failure(faults, "out of memory\n"),
-    }
-}
-
-/// Prints the lines of the checked names, and of the hidden ones, which are counted first.
-#[tactic(auto, using(crate::proofs::Lines::kept))]
-fn print_hidden<W: Sink, E: Sink>(
-    alloc: Global,
-    filter: &Filter,
-    checked: &NameCounts<'_>,
-    hidden: &NameList,
-    output: &mut W,
-    faults: &mut E,
-) -> u8
-    ensures printed { result ≡ 0 → Appends (W.gone_out output.old) (W.gone_out output.new) (tally_lines (words_on filter.now) (tallies_of checked.now.entries) ++ hidden_lines filter.now hidden.now) }
-    ensures failed { result ≡ 3 → KeptOrCut (W.has_failed output.new) (W.gone_out output.old) (W.gone_out output.new) (tally_lines (words_on filter.now) (tallies_of checked.now.entries) ++ hidden_lines filter.now hidden.now) }
-    ensures status { (result ≡ 0) ⊎ (result ≡ 3) }
-    ensures why { result ≡ 3 → SaysUnwritten (W.has_failed output.old) (W.has_failed output.new) (E.has_failed faults.new) (E.gone_out faults.old) (E.gone_out faults.new) }
-    ensures unbroken { result ≡ 0 → W.has_failed output.new ≡ W.has_failed output.old }
-    ensures quiet { result ≡ 0 → faults.new ≡ faults.old }
-{
-    match count_names(alloc, hidden) {
-        Ok(counts) => print_both(filter, checked, &counts, output, faults),
+    match hidden_names(alloc, &whole.bytes, &whole.names) {
+        Ok(hidden) => print_both(filter, &whole.names, &hidden, output, faults),
         Err(_) => tell_failure(faults, "out of memory\n"),
     }
 }
@@ -138,13 +88,13 @@ fn print_hidden<W: Sink, E: Sink>(
 #[tactic(auto, using(crate::proofs::ListLemmas::text_kept))]
 fn print_both<W: Sink, E: Sink>(
     filter: &Filter,
-    checked: &NameCounts<'_>,
-    hidden: &NameCounts<'_>,
+    checked: &NameCounts,
+    hidden: &NameCounts,
     output: &mut W,
     faults: &mut E,
 ) -> u8
-    ensures printed { result ≡ 0 → Appends (W.gone_out output.old) (W.gone_out output.new) (tally_lines (words_on filter.now) (tallies_of checked.now.entries) ++ tally_lines (marked_words (codes "hidden ") filter.now) (tallies_of hidden.now.entries)) }
-    ensures failed { result ≡ 3 → KeptOrCut (W.has_failed output.new) (W.gone_out output.old) (W.gone_out output.new) (tally_lines (words_on filter.now) (tallies_of checked.now.entries) ++ tally_lines (marked_words (codes "hidden ") filter.now) (tallies_of hidden.now.entries)) }
+    ensures printed { result ≡ 0 → Appends (W.gone_out output.old) (W.gone_out output.new) (tally_lines (words_on filter.now) checked.now ++ tally_lines (marked_words (codes "hidden ") filter.now) hidden.now) }
+    ensures failed { result ≡ 3 → KeptOrCut (W.has_failed output.new) (W.gone_out output.old) (W.gone_out output.new) (tally_lines (words_on filter.now) checked.now ++ tally_lines (marked_words (codes "hidden ") filter.now) hidden.now) }
     ensures status { (result ≡ 0) ⊎ (result ≡ 3) }
     ensures why { result ≡ 3 → SaysUnwritten (W.has_failed output.old) (W.has_failed output.new) (E.has_failed faults.new) (E.gone_out faults.old) (E.gone_out faults.new) }
     ensures unbroken { result ≡ 0 → W.has_failed output.new ≡ W.has_failed output.old }

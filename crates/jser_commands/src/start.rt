@@ -1,13 +1,13 @@
 //! The first bytes of a text: all of them, or one more than a limit allows.
 ghost use Rattle.std.specs.Prelude.{◌≡◌, [], IfOk};
-ghost use Rattle.jser_shown.specs.Counting.{tally_all, tally_lines};
+ghost use Rattle.jser_shown.specs.Counting.{tally_lines};
 ghost use Rattle.jser_commands.specs.Limits.{BeginsText, IsFrontOf};
 ghost use Rattle.jser_commands.specs.Lines.{words_on};
 
-use crate::list::{TextFault, write_names};
+use crate::list::write_names;
 use jser_filter::Filter;
 use jser_index::{GraphFault, Index};
-use jser_names::NameList;
+use jser_names::NameCounts;
 use jser_prim::Front;
 use std::alloc::{AllocError, Global};
 
@@ -29,7 +29,7 @@ pub struct Start {
 pub fn start_of_show(
     alloc: Global,
     values: bool,
-    graph: &Index,
+    graph: &Index<'_>,
     limit: u64,
 ) -> Result<Start, AllocError>
     ensures { IfOk result (IsFrontOf values graph.now) }
@@ -49,30 +49,20 @@ pub fn start_of_show(
 }
 
 /// The first bytes of the text of `list` of these names, with what the filter says of each: one more than the limit allows, if
-/// it has so many. Takes memory for these bytes and for each different name.
-///
-/// # Errors
-///
-/// Where memory ran out.
-pub fn start_of_list(
-    alloc: Global,
-    filter: &Filter,
-    names: &NameList,
-    limit: u64,
-) -> Result<Start, AllocError>
-    ensures { IfOk result (λ start. BeginsText start (tally_lines (words_on filter.now) (tally_all [] names.now))) }
+/// it has so many. Takes memory for these bytes.
+pub fn start_of_list(alloc: Global, filter: &Filter, names: &NameCounts, limit: u64) -> Start
+    ensures { BeginsText result (tally_lines (words_on filter.now) names.now) }
 {
     let mut front = front_for(alloc, limit);
-    match write_names(alloc, filter, names, &mut front) {
-        Ok(()) => Ok(Start {
+    match write_names(filter, names, &mut front) {
+        Ok(()) => Start {
             bytes: front.into_bytes(),
             whole: true,
-        }),
-        Err(TextFault::Write) => Ok(Start {
+        },
+        Err(_) => Start {
             bytes: front.into_bytes(),
             whole: false,
-        }),
-        Err(TextFault::OutOfMemory) => Err(AllocError),
+        },
     }
 }
 

@@ -1,9 +1,9 @@
 -- From what was put into a room to what the answer says.
-use Rattle.std.proofs.Common.{◌≡◌, ℕ, List, [], sym, ap, ◌∙◌, subst, false}
+use Rattle.std.proofs.Common.{◌≡◌, ℕ, List, sym, ap, ◌∙◌, subst, false}
 use Rattle.std.specs.Prelude.{IfSome, Option, Some}
 use Rattle.jser_filter.specs.Filters.{FilterView}
 use Rattle.jser_index.specs.Graphs.{GraphView}
-use Rattle.jser_shown.specs.Counting.{tally_all, tally_lines}
+use Rattle.jser_shown.specs.Counting.{NameTally, tally_lines}
 use Rattle.jser_shown.specs.Laws.{Counted}
 use Rattle.jser_shown.specs.Listed.{listed}
 use Rattle.jser_shown.specs.Shown.{shown}
@@ -23,8 +23,8 @@ unfolding IsFrontOf
 puts_shown most graph start old new answer front puts bytes list stands has = puts (shown false list) (front bytes list stands) has
 
 -- the lines of the names of a stream are the text of its list
-pub lists_names : Counted → (told : Option (List ℕ)) (bytes : List ℕ) (filter : FilterView) (names : List (List ℕ)) (most : ℕ) (old new : List ℕ) (answer : Answer) → told ≡ Some bytes
-    → IfSome told (λ bytes. HasNames bytes names) → (HasText answer → PutsUpTo most (tally_lines (words_on filter) (tally_all [] names)) old new answer)
+pub lists_names : Counted → (told : Option (List ℕ)) (bytes : List ℕ) (filter : FilterView) (names : List NameTally) (most : ℕ) (old new : List ℕ) (answer : Answer) → told ≡ Some bytes
+    → IfSome told (λ bytes. HasNames bytes names) → (HasText answer → PutsUpTo most (tally_lines (words_on filter) names) old new answer)
     → TellsNames filter most bytes old new answer
 lists_names law told bytes filter names most old new answer is some puts text =
     let has : HasNames bytes names = subst (λ o. IfSome o (λ bytes. HasNames bytes names)) is some in
@@ -32,7 +32,7 @@ lists_names law told bytes filter names most old new answer is some puts text =
       list = has.list;
       passes = has.passes;
       puts = subst (λ t. PutsUpTo most t old new answer)
-          (ap (λ ns. tally_lines (words_on filter) (tally_all [] ns)) has.names_are ∙ sym (law (words_on filter) has.list)) (puts text);
+          (ap (tally_lines (words_on filter)) has.names_are ∙ sym (law (words_on filter) has.list)) (puts text);
     }
 
 -- under the filter of the texts

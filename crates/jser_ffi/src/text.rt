@@ -1,7 +1,7 @@
 //! The texts of `show` and of `list` in a room that C brings.
-ghost use Rattle.std.specs.Prelude.{◌≡◌, ◌⊎◌, []};
+ghost use Rattle.std.specs.Prelude.{◌≡◌, ◌⊎◌};
 ghost use Rattle.jser_index.specs.Reading.{IsRefused};
-ghost use Rattle.jser_shown.specs.Counting.{tally_all, tally_lines};
+ghost use Rattle.jser_shown.specs.Counting.{tally_lines};
 ghost use Rattle.jser_commands.specs.Lines.{words_on};
 ghost use Rattle.jser_ffi.specs.Compiling.{TextsAreFaulty};
 ghost use Rattle.jser_ffi.specs.Rooms.{PutsUpTo};
@@ -14,7 +14,7 @@ use crate::room::put_start;
 use jser_commands::{start_of_list, start_of_show};
 use jser_filter::Filter;
 use jser_index::Index;
-use jser_names::{NameList, NamesFault, names_of};
+use jser_names::{NameCounts, NamesFault, names_of};
 use jser_prim::FromRead;
 use jser_reader::Stop;
 use jser_shown::laws::counted;
@@ -37,7 +37,7 @@ pub(crate) fn show_text(alloc: Global, bytes: &[u8], most: usize, room: &mut [u8
 }
 
 /// Puts the text of `show` of a stream into a room.
-fn put_show(alloc: Global, index: &Index, most: usize, room: &mut [u8]) -> Answer
+fn put_show(alloc: Global, index: &Index<'_>, most: usize, room: &mut [u8]) -> Answer
     ensures shown { PutsShown most index.now room.old room.new result }
     ensures kept { result.status ≡ 3 → room.new ≡ room.old }
     ensures known { (result.status ≡ 0) ⊎ ((result.status ≡ 3) ⊎ (result.status ≡ 6)) }
@@ -94,17 +94,18 @@ fn list_under(alloc: Global, bytes: &[u8], filter: &Filter, most: usize, room: &
 fn put_list(
     alloc: Global,
     filter: &Filter,
-    names: &NameList,
+    names: &NameCounts,
     most: usize,
     room: &mut [u8],
 ) -> Answer
-    ensures listed { HasText result → PutsUpTo most (tally_lines (words_on filter.now) (tally_all [] names.now)) room.old room.new result }
+    ensures listed { HasText result → PutsUpTo most (tally_lines (words_on filter.now) names.now) room.old room.new result }
     ensures kept { result.status ≡ 3 → room.new ≡ room.old }
     ensures known { (result.status ≡ 0) ⊎ ((result.status ≡ 3) ⊎ (result.status ≡ 6)) }
     ensures zeros { TextZeros result }
 {
-    match start_of_list(alloc, filter, names, most as u64) {
-        Ok(start) => put_start(&start, most, room),
-        Err(_) => bare(NO_MEMORY),
-    }
+    put_start(
+        &start_of_list(alloc, filter, names, most as u64),
+        most,
+        room,
+    )
 }

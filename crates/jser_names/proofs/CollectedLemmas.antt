@@ -1,10 +1,11 @@
--- What is collected along the fields of a tree are its names, in its order.
+-- What is counted along the fields of a tree are its names, in its order.
 use Rattle.std.proofs.Common.{◌≡◌, ℕ, suc, Bool, true, false, ◌||◌, if◌then◌else◌, List, [], ◌∷◌, ◌++◌, length, refl, sym, ◌∙◌, ap, Option, Some, None, append_assoc, append-nil, MatchBool}
 use Rattle.jser_reading.proofs.Vocabulary.{has_write_method, other_entry, pending_entry, Layer, PrimCode, is_object_code, primitive_codes, TextPlaceTree, new_text, back_text, FieldTree, PrimTree, ValueTree, null, back, string, descriptor, class_object, array, enum_constant, object, DescTree, plain, proxy, ClassPlaceTree, no_class, back_class, new_class, BodyTree, raw_body, value_body, ValueTrees, no_values, value_and, section, SectionTrees, no_sections, section_and, NotesTree, no_notes, annotation, block, reset, content, ContentTrees, no_contents, content_and, chain_of_class, elements_of, is_external, WellFormedValue, WellFormedDesc, WellFormedClass, WellFormedSuperclass, WellFormedBody, WellFormedValues, WellFormedExternal, WellFormedSections, WellFormedNotesIf, WellFormedNotes, WellFormedContents, Owner, object_owner, array_owner, enum_owner, class_owner, ChainOwner, Role, own_class, superclass, owner_of, is_strict_above, Moment, beginning, tick, assign, emptied, past_type, past_fields, past_value, past_class, past_values, past_notes, past_contents, array_length_field, array_length_at, Piece, at, cut_text_place, cut_type, cut_fields, cut_interfaces, cut_bytes, cut_raw, cut_prims, cut_value, cut_desc, cut_class, cut_superclass, cut_body, cut_values, cut_external, cut_sections, cut_notes, cut_annotation, cut_top}
 use Rattle.jser_grammar.specs.Counts.{array_length}
 use Rattle.jser_grammar.specs.InOrder.{gathered_in_value, gathered_in_desc, gathered_in_class, gathered_in_body, gathered_in_values, gathered_in_sections, gathered_in_notes, gathered_in_contents}
 use Rattle.jser_reading.specs.Fields.{tag_of, tag_of_desc, tag_of_string}
 use Rattle.jser_reading.specs.Labels.{string_at, text_field}
+use Rattle.jser_shown.specs.Counting.{NameTally, tally_one, tally_all}
 use Rattle.jser_names.specs.Collecting.{Collected, NamesAreCollected, collected, names_begun}
 
 abbrev Names : Type 0
@@ -12,11 +13,20 @@ Names = List (List ℕ)
 
 -- with these names, where no text is one
 abbrev has : Names → Collected
-has names = record { names = names; left = 0 }
+has names = record { names = tally_all [] names; left = 0 }
 
 -- where so many texts are
 abbrev awaits : Names → ℕ → Collected
-awaits names left = record { names = names; left = left }
+awaits names left = record { names = tally_all [] names; left = left }
+
+counted_last : (tallies : List NameTally) (ns : Names) (name : List ℕ) → tally_one name (tally_all tallies ns) ≡ tally_all tallies (ns ++ name ∷ [])
+counted_last tallies [] name = refl
+counted_last tallies (n ∷ ns) name = counted_last (tally_one n tallies) ns name
+
+-- one name more, where so many come behind it
+one_counted : (ns : Names) (name : List ℕ) (left : ℕ) (rest : List Piece)
+    → collected (record { names = tally_one name (tally_all [] ns); left = left }) rest ≡ collected (awaits (ns ++ name ∷ []) left) rest
+one_counted ns name left rest = ap (λ ts. collected (record { names = ts; left = left }) rest) (counted_last [] ns name)
 
 abbrev in_value : ValueTree → Names
 in_value v = gathered_in_value (λ b. []) (λ names. names) v
@@ -78,7 +88,8 @@ passes_fields (f ∷ fs) d seen m ns rest =
 collects_interfaces : (names : Names) (d : ℕ) (m : Moment) (ns : Names) (rest : List Piece)
     → collected (awaits ns (length names)) (cut_interfaces d m names rest) ≡ collected (has (ns ++ names)) rest
 collects_interfaces [] d m ns rest = none_more ns rest
-collects_interfaces (name ∷ names) d m ns rest = collects_interfaces names d m (ns ++ (name ∷ [])) rest ∙ joins ns (name ∷ []) names rest
+collects_interfaces (name ∷ names) d m ns rest =
+    one_counted ns name (length names) (cut_interfaces d m names rest) ∙ collects_interfaces names d m (ns ++ (name ∷ [])) rest ∙ joins ns (name ∷ []) names rest
 
 passes_bytes : (b : List ℕ) (d : ℕ) (m : Moment) (ns : Names) (rest : List Piece) → collected (has ns) (cut_bytes d m b rest) ≡ collected (has ns) rest
 passes_bytes [] d m ns rest = refl
@@ -136,7 +147,7 @@ mutual
       let m3 = past_contents m2 notes in
       let up = cut_superclass (owner_of role) (is_strict_above role flags) (suc d) m3 parent rest in
       let named = ns ++ (name ∷ []) in
-      passes_fields fields d false m1 named (cut_annotation d m2 notes up) ∙ collects_annotation notes d m2 named up h.5
+      one_counted ns name 0 (cut_fields d false m1 fields (cut_annotation d m2 notes up)) ∙ passes_fields fields d false m1 named (cut_annotation d m2 notes up) ∙ collects_annotation notes d m2 named up h.5
       ∙ collects_superclass parent (owner_of role) (is_strict_above role flags) (suc d) m3 (named ++ in_contents notes) rest h.6
       ∙ joins_three ns (name ∷ []) (in_contents notes) (in_class parent) rest
   collects_desc (proxy interfaces notes parent) role d m ns rest h =

@@ -14,6 +14,7 @@ use Rattle.jser_reading.proofs.Decoding.{number_4, length-big_bytes}
 use Rattle.jser_reader.specs.declared.Item.{Item}
 use Rattle.jser_reader.specs.declared.Item.TheVariants as item
 use Rattle.jser_reader.specs.Items.{Items, text_items, items_at, IsOfText, IsRawPart, IsLent}
+use Rattle.jser_shown.specs.Counting.{tally_one}
 use Rattle.jser_names.specs.Collecting.{Collected, collect, collect_text, collected, measure, measured}
 use Rattle.jser_names.specs.Standing.{left_behind, longest_behind}
 
@@ -38,10 +39,10 @@ same_label front a b h i = ((next_law front a).0 h).1 ∙ sym ((next_law front b
 pub text_none : (units : List ℕ) (x : Collected) → x.left ≡ 0 → collect_text units x.left x ≡ x
 text_none units x none = ap (λ n. collect_text units n x) none
 
-pub less_one : (units : List ℕ) (x : Collected) (n : ℕ) → 0 < n → collect_text units n x ≡ record { names = x.names ++ (units ∷ []); left = n - 1 }
+pub less_one : (units : List ℕ) (x : Collected) (n : ℕ) → 0 < n → collect_text units n x ≡ record { names = tally_one units x.names; left = n - 1 }
 less_one units x zero some = absurd (omega arith)
 less_one units x (suc n) some =
-    let same : n ≡ suc n - 1 = omega arith in ap (λ k. record { names = x.names ++ (units ∷ []); left = k }) same
+    let same : n ≡ suc n - 1 = omega arith in ap (λ k. record { names = tally_one units x.names; left = k }) same
 
 -- ---- which items a field has
 

@@ -3,7 +3,7 @@ pub mod CollectorLemmas
 pub mod FoundLemmas
 pub mod ItemLemmas
 pub mod LentLemmas
-pub mod ListLemmas
+pub mod CountLemmas
 pub mod MeasureLemmas
 pub mod NamedLemmas
 pub mod PieceLemmas

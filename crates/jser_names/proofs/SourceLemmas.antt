@@ -13,6 +13,7 @@ use Rattle.jser_reader.specs.Gates.{open_gate}
 use Rattle.jser_reader.specs.ItemsTold.{StandsIn}
 use Rattle.jser_reader.specs.Readers.{Seen}
 use Rattle.jser_reader.specs.Streams.{AreRefused, AreTruncated}
+use Rattle.jser_shown.specs.Counting.{NameTally}
 use Rattle.jser_names.specs.Pieces.{PieceTells}
 use Rattle.jser_names.specs.Standing.{Names}
 use Rattle.jser_reader.proofs.RefusalLemmas.{front_refused}
@@ -27,7 +28,7 @@ use Rattle.jser_names.proofs.FoundLemmas.{nothing_taken}
 
 -- ---- what is found, and its names
 
-pub of_found : (told : Option (List ℕ)) (found : Found) (names : List (List ℕ)) → names ≡ found.names → IfSome told (λ bytes. HasFound bytes found)
+pub of_found : (told : Option (List ℕ)) (found : Found) (names : List NameTally) → names ≡ found.names → IfSome told (λ bytes. HasFound bytes found)
     → IfSome told (λ bytes. HasNames bytes names)
 of_found None found names is h = tt
 of_found (Some bytes) found names is h = record { list = h.0; passes = h.1.passes; names_are = is ∙ h.1.names_are }

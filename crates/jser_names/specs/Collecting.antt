@@ -1,16 +1,17 @@
--- The checked names of a stream, collected along its fields: the text behind the tag of a plain descriptor is one, and so are
+-- The checked names of a stream, counted along its fields: the text behind the tag of a plain descriptor is one, and so are
 -- as many texts behind the number of interfaces. And the length of its longest array.
-use Rattle.std.specs.Prelude.{ℕ, zero, suc, ◌≡◌, max, List, [], ◌∷◌, ◌++◌}
+use Rattle.std.specs.Prelude.{ℕ, zero, suc, ◌≡◌, max, List, [], ◌∷◌}
 use Rattle.jser_grammar.specs.Trees.{ContentTrees}
 use Rattle.jser_grammar.specs.WellFormed.{WellFormed}
 use Rattle.jser_grammar.specs.CheckedNames.{checked_names}
 use Rattle.jser_grammar.specs.Counts.{array_lengths}
 use Rattle.jser_reading.specs.Fields.{fields_of}
+use Rattle.jser_shown.specs.Counting.{NameTally, tally_one, tally_all}
 use Rattle.jser_reading.specs.Labels.{Tag, class_desc_tag, StreamField, tag_field, block_tag_field, end_tag_field, reset_tag_field, interface_count_field, array_length_field, text_field, Piece, piece}
 
--- the names so far, and how many of the next texts are names
+-- the names so far, counted, and how many of the next texts are names
 pub record Collected : Type 0 where
-  pub names : List (List ℕ)
+  pub names : List NameTally
   pub left : ℕ
 
 abbrev pub begin_collecting : Collected
@@ -22,7 +23,7 @@ names_begun tag = 0
 
 abbrev pub collect_text : List ℕ → (left : ℕ) → Collected → Collected
 collect_text units zero x = x
-collect_text units (suc left) x = record { names = x.names ++ (units ∷ []); left = left }
+collect_text units (suc left) x = record { names = tally_one units x.names; left = left }
 
 -- one field more
 abbrev pub collect : StreamField → Collected → Collected
@@ -57,9 +58,9 @@ measured longest (piece label field ∷ rest) = measured (measure field longest)
 
 -- ---- laws
 
--- Along the fields of a list that obeys the format its checked names are collected.
+-- Along the fields of a list that obeys the format its checked names are counted.
 abbrev pub NamesAreCollected : Type 0
-NamesAreCollected = (list : ContentTrees) → WellFormed list → (collected begin_collecting (fields_of list)).names ≡ checked_names list
+NamesAreCollected = (list : ContentTrees) → WellFormed list → (collected begin_collecting (fields_of list)).names ≡ tally_all [] (checked_names list)
 
 -- .. and the greatest of its array lengths.
 abbrev pub LengthsAreMeasured : Type 0

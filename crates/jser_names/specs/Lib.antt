@@ -1,7 +1,7 @@
 pub mod Collecting
 pub mod Finds
 pub mod Found
-pub mod Lists
+pub mod Counts
 pub mod Named
 pub mod Pieces
 pub mod Sources

@@ -1,5 +1,5 @@
 -- The names of the stream of a source, and why there are none.
-use Rattle.std.specs.Prelude.{ℕ, ◌≡◌, ◌≢◌, ◌+◌, ◌≤◌, ◌⊎◌, Bool, true, List, length, take, IfSome, Option, Result, Ok, Err}
+use Rattle.std.specs.Prelude.{ℕ, ◌≡◌, ◌≢◌, ◌+◌, ◌≤◌, ◌⊎◌, Bool, true, List, [], length, take, IfSome, Option, Result, Ok, Err}
 use Rattle.std.specs.Io.KnownBytes.{Consumes, IsAtEnd}
 use Rattle.jser_grammar.specs.Caps.{most_bytes}
 use Rattle.jser_grammar.specs.CheckedNames.{checked_names}
@@ -13,6 +13,7 @@ use Rattle.jser_reader.specs.Gates.{open_gate}
 use Rattle.jser_reader.specs.Readers.{Seen}
 use Rattle.jser_reader.specs.Streams.{AreTruncated}
 use Rattle.jser_reader.specs.Answers.{IsRightOf}
+use Rattle.jser_shown.specs.Counting.{NameTally, tally_all}
 use Rattle.jser_names.specs.Found.{HasFound}
 use Rattle.jser_names.specs.Standing.{Names, Stands}
 use Rattle.jser_names.specs.declared.found.Found.{Found}
@@ -20,11 +21,11 @@ use Rattle.jser_names.specs.declared.source.Halt.{Halt}
 use Rattle.jser_names.specs.declared.source.NamesFault.{NamesFault}
 use Rattle.jser_names.specs.declared.source.NamesFault.TheVariants as fault
 
--- the bytes are a stream within the greatest limits, and these are its checked names
-pub record HasNames (bytes : List ℕ) (names : List (List ℕ)) : Type 0 where
+-- the bytes are a stream within the greatest limits, and these are its checked names, counted
+pub record HasNames (bytes : List ℕ) (names : List NameTally) : Type 0 where
   pub list : ContentTrees
   pub passes : Passes open_gate bytes list
-  pub names_are : names ≡ checked_names list
+  pub names_are : names ≡ tally_all [] (checked_names list)
 
 -- the refusal is right of the bytes under the greatest limits, and names their first fault
 abbrev pub IsRefused : List ℕ → Refusal → Type 0

@@ -1,4 +1,4 @@
--- Where a reader stands in a stream, and what of the names was collected: the names of the fields that it took, but for the last
+-- Where a reader stands in a stream, and which names were counted: the names of the fields that it took, but for the last
 -- one, whose text may be there and not yet be a name.
 use Rattle.std.specs.Prelude.{ℕ, ◌≡◌, ◌<◌, ◌≤◌, ◌-◌, ◌⊎◌, max, Bool, true, false, if◌then◌else◌, nat_eq, List, [], ◌∷◌, ◌++◌, length}
 use Rattle.jser_prim.specs.ModifiedUtf8.{IsUnits, modified_utf8}
@@ -14,12 +14,13 @@ use Rattle.jser_reader.specs.Gates.{open_gate}
 use Rattle.jser_reader.specs.Items.{items_at, text_items}
 use Rattle.jser_reader.specs.ItemsTold.{StandsIn}
 use Rattle.jser_reader.specs.Readers.{Seen}
+use Rattle.jser_shown.specs.Counting.{NameTally, tally_one}
 use Rattle.jser_names.specs.Collecting.{Collected, begin_collecting, collected, measured}
 
--- the names; how many of the next texts are names; whether a name is being read, and its bytes so far; the length of the longest
+-- the names, counted; how many of the next texts are names; whether a name is being read, and its bytes so far; the length of the longest
 -- array
 pub record Names : Type 0 where
-  pub names : List (List ℕ)
+  pub names : List NameTally
   pub left : ℕ
   pub is_open : Bool
   pub text : List ℕ
@@ -30,12 +31,12 @@ view_of x = record { names = x.names; left = x.left }
 
 -- ---- what is done
 
--- the name that was read is one of the names
+-- the name that was read is counted
 pub record ClosesName (old new : Names) : Type 0 where
   pub is : new.is_open ≡ false
   pub left : new.left ≡ old.left - 1
   pub longest : new.longest ≡ old.longest
-  pub names : (units : List ℕ) → IsUnits units → modified_utf8 units ≡ old.text → new.names ≡ old.names ++ (units ∷ [])
+  pub names : (units : List ℕ) → IsUnits units → modified_utf8 units ≡ old.text → new.names ≡ tally_one units old.names
 
 abbrev pub Closes : (was_open : Bool) → (old new : Names) → Type 0
 Closes true old new = ClosesName old new

@@ -1,10 +1,10 @@
-//! The names that are collected along the items of a stream in pieces, and the length of its longest array.
+//! The names that are counted along the items of a stream in pieces, and the length of its longest array.
 ghost use Rattle.std.specs.Prelude.{◌≡◌, [], false, OnOk};
 ghost use Rattle.jser_names.specs.Standing.{Adds, Closes, ClosesThen, Takes, begun};
 
-use crate::list::NameList;
-use crate::units::units_of;
+use crate::counts::NameCounts;
 use jser_grammar::wire::TC_CLASSDESC;
+use jser_prim::read_units;
 use jser_reader::Item;
 use std::alloc::{AllocError, Global};
 use std::marker::Model;
@@ -12,24 +12,25 @@ use std::marker::Model;
 /// The names so far, and the bytes of one that is being read.
 #[derive(Drop)]
 pub(crate) struct Collector {
-    names: Vec<Vec<u16>>,
+    names: NameCounts,
     /// How many of the next texts are names.
     left: u32,
     /// Whether a name is being read.
     is_open: bool,
     text: Vec<u8>,
+    /// Room for the units of a name.
+    units: Vec<u16>,
     /// The length of the longest array so far; 0 where there was none.
     longest: u32,
 }
 
 impl Model for Collector {
-    ghost use Rattle.std.specs.Prelude.{map};
     ghost use Rattle.jser_names.specs.Standing.{Names};
 
     ghost Value = { Names };
 
     ghost view = { λ a. record {
-      names = map (λ name. name.items) a.names.items;
+      names = a.names;
       left = a.left;
       is_open = a.is_open;
       text = a.text.items;
@@ -43,57 +44,58 @@ impl Collector {
         ensures { result ≡ record { names = []; left = 0; is_open = false; text = []; longest = 0 } }
     {
         Collector {
-            names: Vec::new(alloc),
+            names: NameCounts::new(alloc),
             left: 0,
             is_open: false,
             text: Vec::new(alloc),
+            units: Vec::new(alloc),
             longest: 0,
         }
     }
 
     /// Goes past an item.
-    pub(crate) fn take(&mut self, alloc: Global, item: Item<'_>) -> Result<(), AllocError>
+    pub(crate) fn take(&mut self, item: Item<'_>) -> Result<(), AllocError>
         ensures { OnOk result (Takes item.entry self.old self.new) }
     {
         match item {
             Item::TextPart(part) => self.add(part),
             Item::TextLength(_) => {
-                self.close(alloc)?;
+                self.close()?;
                 self.begin();
                 Ok(())
             }
             Item::Tag(tag) => {
-                self.close(alloc)?;
+                self.close()?;
                 self.left = u32::from(tag == TC_CLASSDESC);
                 Ok(())
             }
             Item::InterfaceCount(count) => {
-                self.close(alloc)?;
+                self.close()?;
                 self.left = count;
                 Ok(())
             }
             Item::ArrayLength(length) => {
-                self.close(alloc)?;
+                self.close()?;
                 self.longest = self.longest.max(length);
                 Ok(())
             }
-            Item::Header => self.close(alloc),
-            Item::Handle(_) => self.close(alloc),
-            Item::Suid(_) => self.close(alloc),
-            Item::Flags(_) => self.close(alloc),
-            Item::FieldCount(_) => self.close(alloc),
-            Item::TypeCode(_) => self.close(alloc),
-            Item::BlockLength(_) => self.close(alloc),
-            Item::RawPart(_) => self.close(alloc),
+            Item::Header => self.close(),
+            Item::Handle(_) => self.close(),
+            Item::Suid(_) => self.close(),
+            Item::Flags(_) => self.close(),
+            Item::FieldCount(_) => self.close(),
+            Item::TypeCode(_) => self.close(),
+            Item::BlockLength(_) => self.close(),
+            Item::RawPart(_) => self.close(),
         }
     }
 
     /// Goes past a value that is lent at once: no name is in it.
     #[inline(always)]
-    pub(crate) fn pass(&mut self, alloc: Global) -> Result<(), AllocError>
+    pub(crate) fn pass(&mut self) -> Result<(), AllocError>
         ensures { OnOk result (ClosesThen self.old self.new (λ x. record x { left = 0 })) }
     {
-        self.close(alloc)?;
+        self.close()?;
         self.left = 0;
         Ok(())
     }
@@ -118,16 +120,16 @@ impl Collector {
         }
     }
 
-    /// Where a name was being read, it is one of the names: other items come.
+    /// Where a name was being read, it is counted: other items come.
     #[tactic(auto, using(crate::proofs::CollectorLemmas::closes_name))]
-    pub(crate) fn close(&mut self, alloc: Global) -> Result<(), AllocError>
+    pub(crate) fn close(&mut self) -> Result<(), AllocError>
         ensures { OnOk result (Closes self.old.is_open self.old self.new) }
     {
         if !self.is_open {
             return Ok(());
         }
-        let name = units_of(alloc, &self.text)?;
-        self.names.push(name)?;
+        let _ = read_units(&self.text, &mut self.units)?;
+        self.names.count(&self.units)?;
         self.left = self.left.saturating_sub(1);
         self.is_open = false;
         Ok(())
@@ -141,9 +143,9 @@ impl Collector {
     }
 
     /// The names.
-    pub(crate) fn into_list(self) -> NameList
+    pub(crate) fn into_names(self) -> NameCounts
         ensures { result ≡ self.names }
     {
-        NameList { names: self.names }
+        self.names
     }
 }

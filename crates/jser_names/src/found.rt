@@ -3,8 +3,8 @@ ghost use Rattle.std.specs.Prelude.{◌≡◌};
 ghost use Rattle.jser_names.specs.Finds.{EndsFound, Finds};
 
 use crate::collector::Collector;
+use crate::counts::NameCounts;
 use crate::laws::{lengths_are_measured, names_are_collected};
-use crate::list::NameList;
 use crate::piece::take_piece;
 use jser_reader::{OpenGate, Reader, Stop, Totals};
 use jser_reading::laws::one_reading;
@@ -14,7 +14,7 @@ use std::alloc::Global;
 #[derive(Drop)]
 pub struct Found {
     /// Its checked names.
-    pub names: NameList,
+    pub names: NameCounts,
     /// Its counts.
     pub totals: Totals,
     /// The length of its longest array; 0 where it has none.
@@ -24,7 +24,7 @@ pub struct Found {
 /// Goes once along bytes that are one stream within the greatest limits, and finds its checked names, its counts and the length
 /// of its longest array. No class names are refused.
 ///
-/// What it allocates is the names, what a reader does, and room for the bytes of one name.
+/// What it allocates is the different names, what a reader does, and room for the bytes of one name.
 ///
 /// # Errors
 ///
@@ -35,15 +35,15 @@ pub fn names_in(alloc: Global, bytes: &[u8]) -> Result<Found, Stop>
 {
     let mut reader = Reader::new(alloc, OpenGate);
     let mut names = Collector::new(alloc);
-    match take_piece(alloc, &mut reader, &mut names, bytes) {
-        Ok(()) => end(alloc, reader, names),
+    match take_piece(&mut reader, &mut names, bytes) {
+        Ok(()) => end(reader, names),
         Err(stop) => Err(stop),
     }
 }
 
 /// The end of the bytes: what was found, if they are a stream.
 #[tactic(auto, using(crate::proofs::FoundLemmas::ends_found, crate::proofs::FoundLemmas::ends_stopped, crate::proofs::FoundLemmas::ends_memory))]
-pub(crate) fn end(alloc: Global, reader: Reader<OpenGate>, names: Collector) -> Result<Found, Stop>
+pub(crate) fn end(reader: Reader<OpenGate>, names: Collector) -> Result<Found, Stop>
     ensures { EndsFound reader.machine reader.tally names result }
 {
     names_are_collected();
@@ -51,13 +51,13 @@ pub(crate) fn end(alloc: Global, reader: Reader<OpenGate>, names: Collector) -> 
     one_reading();
     let mut reader = reader;
     let mut names = names;
-    if names.close(alloc).is_err() {
+    if names.close().is_err() {
         return Err(Stop::OutOfMemory);
     }
     match reader.finish() {
         Ok(totals) => Ok(Found {
             longest: names.longest(),
-            names: names.into_list(),
+            names: names.into_names(),
             totals,
         }),
         Err(why) => Err(why),

@@ -3,17 +3,16 @@
 #![tactic(auto)]
 
 mod collector;
+mod counts;
 mod found;
 pub mod laws;
-mod list;
 mod named;
 mod piece;
 mod source;
-mod units;
 mod whole;
 
+pub use counts::{NameCount, NameCounts};
 pub use found::{Found, names_in};
-pub use list::NameList;
 pub use named::{NamedStream, bytes_and_names_of};
 pub use source::{NamesFault, found_of, names_of};
 pub use whole::bytes_of;

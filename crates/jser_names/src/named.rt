@@ -4,8 +4,8 @@ ghost use Rattle.jser_names.specs.Named.{IsNamed, KeepsWith};
 ghost use Rattle.jser_names.specs.Sources.{FailsWith, IfRefused, IsHalted, IsReadOn, IsRefused};
 
 use crate::collector::Collector;
+use crate::counts::NameCounts;
 use crate::found::Found;
-use crate::list::NameList;
 use crate::piece::take_piece;
 use crate::source::{Halt, NamesFault, finish, halted, new_buffer, read_some, told};
 use jser_grammar::caps::MOST_BYTES;
@@ -19,7 +19,7 @@ pub struct NamedStream {
     /// The bytes.
     pub bytes: Vec<u8>,
     /// The names.
-    pub names: NameList,
+    pub names: NameCounts,
 }
 
 /// All the bytes of a source with their checked names, if they are a stream within the greatest limits. The source is read to
@@ -49,7 +49,7 @@ pub fn bytes_and_names_of<R: Source>(
     }
 }
 
-/// Reads the source to its end, keeps its bytes and collects the names.
+/// Reads the source to its end, keeps its bytes and counts the names.
 #[tactic(auto, using(crate::proofs::NamedLemmas::naming_none, crate::proofs::SourceLemmas::stop_fails, crate::proofs::SourceLemmas::failed_refused, crate::proofs::SourceLemmas::none_refused, crate::proofs::ReadOnLemmas::halted_failed))]
 fn read_named<R: Source>(
     alloc: Global,
@@ -76,10 +76,10 @@ fn read_named<R: Source>(
                     left: 0,
                 });
             }
-            Ok(0) => return with_bytes(finish(alloc, reader, names), bytes),
+            Ok(0) => return with_bytes(finish(reader, names), bytes),
             Ok(count) => {
                 let (piece, _) = buffer.split_at(count);
-                match take_piece(alloc, &mut reader, &mut names, piece) {
+                match take_piece(&mut reader, &mut names, piece) {
                     Ok(()) => match bytes.extend_from_slice(piece) {
                         Ok(()) => left -= count as u64,
                         Err(_) => {

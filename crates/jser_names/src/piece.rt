@@ -1,11 +1,10 @@
-//! One piece of a stream after another, with the names collected.
+//! One piece of a stream after another, with the names counted.
 ghost use Rattle.std.specs.Prelude.{◌≡◌};
 ghost use Rattle.jser_names.specs.Wholes.{whole_size};
 ghost use Rattle.jser_names.specs.Pieces.{PieceTells};
 
 use crate::collector::Collector;
 use jser_reader::{OpenGate, Reader, Step, Stop, Whole};
-use std::alloc::Global;
 
 /// Takes the whole piece, item by item.
 ///
@@ -13,7 +12,6 @@ use std::alloc::Global;
 ///
 /// `Refused` where the bytes up to one of the piece are refused; `OutOfMemory`.
 pub(crate) fn take_piece(
-    alloc: Global,
     reader: &mut Reader<OpenGate>,
     names: &mut Collector,
     piece: &[u8],
@@ -26,7 +24,7 @@ pub(crate) fn take_piece(
             Err(stop) => return Err(stop),
             Ok(Some(whole)) => {
                 let (_, after) = rest.split_at(size_of(whole));
-                match names.pass(alloc) {
+                match names.pass() {
                     Ok(()) => rest = after,
                     Err(_) => return Err(Stop::OutOfMemory),
                 }
@@ -36,7 +34,7 @@ pub(crate) fn take_piece(
                 Ok(Step::More) => rest = &[],
                 Ok(Step::Item { item, used }) => {
                     let (_, after) = rest.split_at(used);
-                    match names.take(alloc, item) {
+                    match names.take(item) {
                         Ok(()) => rest = after,
                         Err(_) => return Err(Stop::OutOfMemory),
                     }

@@ -5,8 +5,8 @@ ghost use Rattle.jser_names.specs.Found.{HasFound};
 ghost use Rattle.jser_names.specs.Sources.{Ends, EndsWith, FailsWith, HasNames, IfRefused, IsHalted, IsReadOn, IsRefused, Passed, TakesSome};
 
 use crate::collector::Collector;
+use crate::counts::NameCounts;
 use crate::found::{Found, end};
-use crate::list::NameList;
 use crate::piece::take_piece;
 use jser_grammar::caps::MOST_BYTES;
 use jser_prim::{Failed, Source};
@@ -34,17 +34,17 @@ pub(crate) struct Halt {
     pub(crate) left: u64,
 }
 
-/// The checked names of the stream of a source, in the order of the stream, each as often as it stands there. The source is read
+/// The different checked names of the stream of a source, in the order of the stream, each with how often it stands there. The source is read
 /// to its end, or until one byte more than a stream may have has come, also where the bytes are refused; nothing is kept of
 /// what comes then.
 ///
-/// What it allocates is the names, what a reader does, and room for the bytes of a read and of one name.
+/// What it allocates is the different names, what a reader does, and room for the bytes of a read and of one name.
 ///
 /// # Errors
 ///
 /// `NamesFault`, with the reason. A failed read is told whatever came before it, unless memory ran out.
 #[tactic(auto, using(crate::proofs::SourceLemmas::of_found))]
-pub fn names_of<R: Source>(alloc: Global, source: &mut R) -> Result<NameList, NamesFault>
+pub fn names_of<R: Source>(alloc: Global, source: &mut R) -> Result<NameCounts, NamesFault>
     ensures accepted { IfOk result (λ names. IfSome (R.to_come source.old) (λ bytes. HasNames bytes names)) }
     ensures refused { IfErr result (λ why. IfSome (R.to_come source.old) (λ bytes. IfRefused (IsRefused bytes) why)) }
     ensures unbroken { OnOk result (R.has_failed source.new ≡ R.has_failed source.old) }
@@ -162,10 +162,10 @@ fn read_found<R: Source>(alloc: Global, source: &mut R, buffer: &mut [u8]) -> Re
                     left: 0,
                 });
             }
-            Ok(0) => return finish(alloc, reader, names),
+            Ok(0) => return finish(reader, names),
             Ok(count) => {
                 let (piece, _) = buffer.split_at(count);
-                match take_piece(alloc, &mut reader, &mut names, piece) {
+                match take_piece(&mut reader, &mut names, piece) {
                     Ok(()) => left -= count as u64,
                     Err(stop) => return Err(halted(stop, left - count as u64)),
                 }
@@ -189,14 +189,10 @@ pub(crate) fn halted(stop: Stop, left: u64) -> Halt
 
 /// The end of the source: what was found, if it is a stream.
 #[tactic(auto, using(crate::proofs::SourceLemmas::ends_so, crate::proofs::SourceLemmas::ends_refused))]
-pub(crate) fn finish(
-    alloc: Global,
-    reader: Reader<OpenGate>,
-    names: Collector,
-) -> Result<Found, Halt>
+pub(crate) fn finish(reader: Reader<OpenGate>, names: Collector) -> Result<Found, Halt>
     ensures { EndsWith reader.machine reader.tally names result }
 {
-    match end(alloc, reader, names) {
+    match end(reader, names) {
         Ok(found) => Ok(found),
         Err(stop) => Err(halted(stop, 0)),
     }

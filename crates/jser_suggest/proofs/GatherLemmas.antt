@@ -4,19 +4,23 @@ use Rattle.std.specs.Prelude.{IfErr, OnOk, string_bytes, String}
 use Rattle.std.specs.BTreeSet.{BTreeSet, keys, insert_key}
 use Rattle.std.specs.Ordering.{is_eq, match_ordering}
 use Rattle.std.specs.String.{IsUtf16Of, string_cmp}
-use Rattle.std.proofs.Common.{◌≡◌, ◌≢◌, ◌⊎◌, ◌==◌, ℕ, zero, suc, ◌+◌, ◌<◌, true, List, [], ◌∷◌, ◌++◌, length, take, map, slice_get, bytes_eq, Ordering, Less, Equal, Greater, Option, Some, None, Result, Ok, Err, inl, inr, refl, sym, ap, subst, ◌∙◌, arith}
+use Rattle.std.proofs.Common.{◌≡◌, ◌⊎◌, ◌==◌, ℕ, zero, suc, ◌+◌, ◌<◌, ◌≤◌, Bool, true, false, if◌then◌else◌, List, [], ◌∷◌, ◌++◌, length, take, map, slice_get, bytes_eq, Ordering, Less, Equal, Greater, Option, Some, None, Result, Ok, Err, inl, inr, refl, sym, ap, subst, ◌∙◌, arith}
 use Rattle.std.specs.List.{flat_map}
 use Rattle.std.specs.Char.Escape.{encode_utf16}
 use Rattle.std.proofs.lemmas.Str.{IsUtf8-string_bytes, chars_from_encodes}
 use Rattle.std.proofs.lemmas.Slice.Eq.{bytes_eq-Decides}
 use Rattle.std.proofs.lemmas.Map.Text.{is_eq-slice_cmp}
+use Rattle.std.proofs.lemmas.List.{take_all}
 use Rattle.jser_prim.specs.ModifiedUtf8.{utf16_units}
 use Rattle.jser_table.specs.Names.{ElementOf, element, primitive_element, malformed_element, element_of, ends_in}
 use Rattle.jser_reading.specs.GateLimits.{Each}
 use Rattle.jser_suggest.specs.Suggested.{is_plain, is_writable}
 use Rattle.jser_suggest.specs.Samples.{Some_of, Among, ElementAmong}
 use Rattle.jser_names.specs.Finds.{Finds}
-use Rattle.jser_names.specs.Lists.{IsName}
+use Rattle.jser_names.specs.Counts.{IsCount, names_counted}
+use Rattle.jser_names.specs.declared.NameCount.{NameCount}
+use Rattle.jser_grammar.specs.CheckedNames.{checked_names}
+use Rattle.jser_shown.specs.Counting.{NameTally, name_tally, tally_one, tally_all}
 use Rattle.jser_names.specs.declared.Found.{Found}
 use Rattle.jser_reader.specs.declared.Stop.TheVariants as stop
 use Rattle.jser_suggest.specs.declared.samples.SampleFault.{SampleFault}
@@ -155,18 +159,85 @@ take_next (y ∷ xs) (suc n) x e =
     let next : suc n + 1 ≡ suc (n + 1) = omega arith in
     ap (λ k. take k (y ∷ xs)) next ∙ ap (λ zs. y ∷ zs) (take_next xs n x e)
 
-pub get_some : {A : Type 0} (xs : List A) (n : ℕ) → n < length xs → slice_get xs n ≢ None
-get_some [] n inside = absurd (omega (arith, inside))
-get_some (x ∷ xs) zero inside = λ e. absurd (cc)
-get_some (x ∷ xs) (suc n) inside = get_some xs n (omega (arith, inside))
+-- ---- names that were counted
+
+counted_at : (tallies : List NameTally) (number : ℕ) (lent : Bor NameCount) → IsCount (slice_get tallies number) (Some lent)
+    → slice_get (names_counted tallies) number ≡ Some lent.now.name.items
+counted_at [] number lent is = absurd is
+counted_at (t ∷ ts) zero lent is = ap (λ x. Some x.name) (sym is)
+counted_at (t ∷ ts) (suc number) lent is = counted_at ts number lent is
+
+pub count_is_there : (tallies : List NameTally) (number : ℕ) → number < length tallies → IsCount (slice_get tallies number) None → ⊥
+count_is_there [] number inside none = absurd (omega (arith, inside))
+count_is_there (t ∷ ts) zero inside none = none
+count_is_there (t ∷ ts) (suc number) inside none = count_is_there ts number (omega (arith, inside)) none
+
+names_length : (tallies : List NameTally) → length (names_counted tallies) ≡ length tallies
+names_length [] = refl
+names_length (t ∷ ts) = ap suc (names_length ts)
+
+-- each that was counted, and each that is
+each_one : (P : List ℕ → Type 0) (name : List ℕ) (tallies : List NameTally) → Each P (names_counted (tally_one name tallies)) → Each P (names_counted tallies) × P name
+each_one P name [] e = (tt, e.0)
+each_one P name (t ∷ ts) e = by (λ h. each_one P name ts h) (bytes_eq t.name name) refl e
+  where
+    by : (Each P (names_counted (tally_one name ts)) → Each P (names_counted ts) × P name) → (b : Bool) → bytes_eq t.name name ≡ b
+        → Each P (names_counted (if b then name_tally t.name (suc t.times) ∷ ts else t ∷ tally_one name ts)) → Each P (names_counted (t ∷ ts)) × P name
+    by f true is e = (e, subst P ((bytes_eq-Decides t.name name).0 is) e.0)
+    by f false is e = ((e.0, (f e.1).0), (f e.1).1)
+
+each_counted : (P : List ℕ → Type 0) (tallies : List NameTally) (names : List (List ℕ)) → Each P (names_counted (tally_all tallies names))
+    → Each P (names_counted tallies) × Each P names
+each_counted P tallies [] e = (e, tt)
+each_counted P tallies (n ∷ ns) e =
+    let later = each_counted P (tally_one n tallies) ns e in
+    let here = each_one P n tallies later.0 in (here.0, (here.1, later.1))
+
+some_one : (P : List ℕ → Type 0) (name : List ℕ) (tallies : List NameTally) → Some_of P (names_counted (tally_one name tallies)) → Some_of P (names_counted tallies) ⊎ P name
+some_one P name [] (inl p) = inr p
+some_one P name [] (inr s) = absurd s
+some_one P name (t ∷ ts) s = by (λ h. some_one P name ts h) (bytes_eq t.name name) s
+  where
+    by : (Some_of P (names_counted (tally_one name ts)) → Some_of P (names_counted ts) ⊎ P name) → (b : Bool)
+        → Some_of P (names_counted (if b then name_tally t.name (suc t.times) ∷ ts else t ∷ tally_one name ts)) → Some_of P (names_counted (t ∷ ts)) ⊎ P name
+    by f true s = inl s
+    by f false (inl p) = inl (inl p)
+    by f false (inr s) = elim (f s) [ inl h ↦ inl (inr h) | inr p ↦ inr p ]
+
+some_counted : (P : List ℕ → Type 0) (tallies : List NameTally) (names : List (List ℕ)) → Some_of P (names_counted (tally_all tallies names))
+    → Some_of P (names_counted tallies) ⊎ Some_of P names
+some_counted P tallies [] s = inl s
+some_counted P tallies (n ∷ ns) s =
+    elim (some_counted P (tally_one n tallies) ns s) [
+      | inl was ↦ elim (some_one P n tallies was) [ inl h ↦ inl h | inr p ↦ inr (inl p) ]
+      | inr later ↦ inr (inr later)
+    ]
+
+some_of_all : (P : List ℕ → Type 0) (names : List (List ℕ)) → Some_of P (names_counted (tally_all [] names)) → Some_of P names
+some_of_all P names s = elim (some_counted P [] names s) [ inl none ↦ absurd none | inr some ↦ some ]
+
+-- the names of a stream that were counted are its names
+pub gains_counted : (names : List (List ℕ)) (old new : List (List ℕ)) → GainsAll (names_counted (tally_all [] names)) old new → GainsAll names old new
+gains_counted names old new g = record {
+  there = (each_counted (λ name. ElementAmong new (element_of name)) [] names g.there).1;
+  keeps = g.keeps;
+  gains = λ other among. elim (g.gains other among) [ inl was ↦ inl was | inr own ↦ inr (some_of_all (IsElement other) names own.0, own.1) ];
+}
 
 -- one checked name more
-pub gains_next : (names : List (List ℕ)) (number : ℕ) (old mid new : List (List ℕ)) (told : Option (List ℕ)) (name : Bor (List ℕ)) → told ≡ slice_get names number → IsName told (Some name)
-    → GainsAll (take number names) old mid → GainsAll (name.now ∷ []) mid new → GainsAll (take (number + 1) names) old new
-gains_next names number old mid new None name e l g h = absurd l
-gains_next names number old mid new (Some told) name e l g h =
-    subst (λ ns. GainsAll ns old new) (sym (take_next names number told (sym e)))
-    (gains_both (take number names) (told ∷ []) old mid new g (subst (λ n. GainsAll (n ∷ []) mid new) l h))
+pub gains_next : (tallies : List NameTally) (number : ℕ) (old mid new : List (List ℕ)) (lent : Bor NameCount) (name : List ℕ) → IsCount (slice_get tallies number) (Some lent)
+    → name ≡ lent.now.name.items → GainsAll (take number (names_counted tallies)) old mid → GainsAll (name ∷ []) mid new
+    → GainsAll (take (number + 1) (names_counted tallies)) old new
+gains_next tallies number old mid new lent name is same g h =
+    let at : slice_get (names_counted tallies) number ≡ Some name = counted_at tallies number lent is ∙ ap Some (sym same) in
+    subst (λ ns. GainsAll ns old new) (sym (take_next (names_counted tallies) number name at))
+    (gains_both (take number (names_counted tallies)) (name ∷ []) old mid new g h)
+
+-- none is left
+pub gained_all : (tallies : List NameTally) (number : ℕ) (old new : List (List ℕ)) → length tallies ≤ number → GainsAll (take number (names_counted tallies)) old new
+    → GainsAll (names_counted tallies) old new
+gained_all tallies number old new past g =
+    subst (λ ns. GainsAll ns old new) (take_all number (names_counted tallies) (omega (arith, past, names_length tallies))) g
 
 some_at : {A : Type 0} (P : A → Type 0) (xs : List A) (n : ℕ) (x : A) → slice_get xs n ≡ Some x → P x → Some_of P xs
 some_at P [] n x e p = absurd (cc)
@@ -183,19 +254,20 @@ unwritable_of names number name (fault.Stop stop.Spent) e u = u
 unwritable_of names number name (fault.Unwritable units) e (inl u) = some_at (IsUnwritable units.items) names number name e u
 unwritable_of names number name (fault.Unwritable units) e (inr u) = absurd u
 
-pub unwritable_at : (names : List (List ℕ)) (number : ℕ) (told : Option (List ℕ)) (name : Bor (List ℕ)) (why : SampleFault) → told ≡ slice_get names number → IsName told (Some name)
-    → IfUnwritable (name.now ∷ []) why → IfUnwritable names why
-unwritable_at names number None name why e l u = absurd l
-unwritable_at names number (Some told) name why e l u = unwritable_of names number told why (sym e) (subst (λ n. IfUnwritable (n ∷ []) why) l u)
+pub unwritable_at : (tallies : List NameTally) (number : ℕ) (lent : Bor NameCount) (name : List ℕ) (why : SampleFault) → IsCount (slice_get tallies number) (Some lent)
+    → name ≡ lent.now.name.items → IfUnwritable (name ∷ []) why → IfUnwritable (names_counted tallies) why
+unwritable_at tallies number lent name why is same u =
+    unwritable_of (names_counted tallies) number name why (counted_at tallies number lent is ∙ ap Some (sym same)) u
 
 -- ---- what is no sample
 
 -- a name of a stream that cannot be written
-pub no_sample : (found : Found) (why : SampleFault) → IfUnwritable found.names why → IsNoSampleFound found why
+pub no_sample : (found : Found) (why : SampleFault) → IfUnwritable (names_counted found.names) why → IsNoSampleFound found why
 no_sample found (fault.Stop (stop.Refused refusal)) u = λ bytes h. absurd u
 no_sample found (fault.Stop stop.OutOfMemory) u = λ bytes h. tt
 no_sample found (fault.Stop stop.Spent) u = λ bytes h. u
-no_sample found (fault.Unwritable units) u = λ bytes h. (h.0, h.1.passes, subst (Some_of (IsUnwritable units.items)) h.1.names_are u)
+no_sample found (fault.Unwritable units) u = λ bytes h.
+    (h.0, h.1.passes, some_of_all (IsUnwritable units.items) (checked_names h.0) (subst (λ ts. Some_of (IsUnwritable units.items) (names_counted ts)) h.1.names_are u))
 
 pub fault_so : (bytes : List ℕ) (found : Found) (result : Result (Unit {0}) SampleFault) → Finds bytes (Ok found) → IfErr result (IsNoSampleFound found) → IfErr result (IsNoSample bytes)
 fault_so bytes found (Ok done) f h = tt

@@ -17,7 +17,8 @@ use Rattle.jser_suggest.specs.Samples.{Some_of, Among, ElementAmong, Fits, OfStr
 use Rattle.jser_suggest.specs.Gathering.{GainsAll}
 use Rattle.jser_suggest.specs.Answers.{IsRaised, Learns, LearnsFound}
 use Rattle.jser_suggest.proofs.LawLemmas.{each_of, some_of}
-use Rattle.jser_suggest.proofs.GatherLemmas.{element_kept}
+use Rattle.jser_names.specs.Counts.{names_counted}
+use Rattle.jser_suggest.proofs.GatherLemmas.{element_kept, gains_counted}
 use Rattle.jser_suggest.proofs.PlainLemmas.{plain_line}
 use Rattle.jser_suggest.proofs.TextLemmas.{AreLimits, reads_suggested, suggested_line}
 use Rattle.jser_prim.specs.ModifiedUtf8.{utf16_units}
@@ -71,12 +72,13 @@ fits_more old new bytes list b r d a names f = record {
 abbrev raised : Known → List (List ℕ) → Known
 raised known names = record { bytes = known.bytes; refs = known.refs; depth = known.depth; array = known.array; names = names }
 
-pub learns : (found : Found) (old new : Known) (names : List (List ℕ)) → GainsAll found.names old.names names → IsRaised found (raised old names) new → LearnsFound found old new
+pub learns : (found : Found) (old new : Known) (names : List (List ℕ)) → GainsAll (names_counted found.names) old.names names → IsRaised found (raised old names) new → LearnsFound found old new
 learns found old new names g r = λ bytes h streams are.
     let list = h.0 in
     let m : IsFound bytes list found = h.1 in
     let gained : GainsAll (checked_names list) old.names new.names =
-    subst (λ ns. GainsAll (checked_names list) old.names ns) (sym r.names) (subst (λ ns. GainsAll ns old.names names) m.names_are g) in
+    subst (λ ns. GainsAll (checked_names list) old.names ns) (sym r.names)
+    (gains_counted (checked_names list) old.names names (subst (λ ts. GainsAll (names_counted ts) old.names names) m.names_are g)) in
     record {
       fit = (
         (

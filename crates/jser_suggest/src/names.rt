@@ -3,10 +3,11 @@ ghost use Rattle.std.specs.Prelude.{◌≡◌, [], ◌∷◌, IfErr, OnOk, strin
 ghost use Rattle.jser_prim.specs.ModifiedUtf8.{utf16_units};
 ghost use Rattle.jser_table.specs.Names.{ends_in};
 ghost use Rattle.jser_suggest.specs.Suggested.{begins, has, is_plain, is_plain_unit, is_writable};
+ghost use Rattle.jser_names.specs.Counts.{names_counted};
 ghost use Rattle.jser_suggest.specs.Gathering.{AddsName, GainsAll, IfUnwritable, InsertsName, IsFaultOf, IsNoMemory, IsTold, name_list};
 
 use crate::samples::SampleFault;
-use jser_names::NameList;
+use jser_names::NameCounts;
 use jser_reader::Stop;
 use jser_table::{Element, element_of};
 use std::alloc::{AllocError, Global};
@@ -16,19 +17,19 @@ use std::string::FromUtf16Error;
 /// Adds the element name of each checked name of a stream.
 pub(crate) fn gather(
     alloc: Global,
-    checked: &NameList,
+    checked: &NameCounts,
     names: &mut BTreeSet<String>,
 ) -> Result<(), SampleFault>
-    ensures gains { OnOk result (GainsAll checked.now (name_list names.old) (name_list names.new)) }
-    ensures fault { IfErr result (IfUnwritable checked.now) }
+    ensures gains { OnOk result (GainsAll (names_counted checked.now) (name_list names.old) (name_list names.new)) }
+    ensures fault { IfErr result (IfUnwritable (names_counted checked.now)) }
 {
-    let count = checked.count();
+    let count = checked.len();
     let mut number: usize = 0;
     'names: while number < count {
-        let Some(name) = checked.get(number) else {
+        let Some(counted) = checked.get(number) else {
             unreachable!();
         };
-        match gather_one(alloc, name, names) {
+        match gather_one(alloc, counted.name.as_slice(), names) {
             Ok(()) => number += 1,
             Err(fault) => return Err(fault),
         }
