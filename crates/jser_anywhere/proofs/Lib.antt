@@ -13,6 +13,7 @@ pub mod FitsLemmas
 pub mod TrackLemmas
 pub mod ScanLemmas
 pub mod StepLemmas
+pub mod TextLemmas
 pub mod FollowLemmas
 pub mod TakeLemmas
 pub mod QuietLemmas
