@@ -7,8 +7,7 @@ ghost use Rattle.jser_check.specs.Checks.{gate_in, HasTaken, Repeats, IsOver, De
 ghost use Rattle.jser_check.specs.Fronts.{IsFront, StaysFront, whole_in};
 
 use crate::check::Check;
-use crate::gate::Options;
-use crate::owned::OwnedGate;
+use crate::gate::{FilterGate, Options};
 use jser_filter::Filter;
 use jser_reader::{Stop, Totals};
 use std::alloc::Global;
@@ -29,7 +28,7 @@ use std::marker::Model;
 /// ```
 #[derive(Drop)]
 pub struct Checker {
-    check: Check<OwnedGate>,
+    check: Check<FilterGate<Filter>>,
 }
 
 impl Model for Checker {
@@ -48,7 +47,7 @@ impl Checker {
         ensures begins { HasTaken result [] }
     {
         Checker {
-            check: Check::new(alloc, OwnedGate::new(filter, options)),
+            check: Check::new(alloc, FilterGate::new(filter, options)),
         }
     }
 

@@ -5,9 +5,10 @@ ghost use Rattle.jser_reader.specs.Gates.{view_answer};
 ghost use Rattle.jser_verdict.specs.Passing.{Passes};
 ghost use Rattle.jser_check.specs.Admitted.{lesser, answer_at, gate_of_filter, IsAdmitted};
 
-use jser_filter::{Filter, Verdict};
+use crate::holds::Holds;
+use jser_filter::Verdict;
 use jser_grammar::caps::{MOST_ARRAY, MOST_BYTES, MOST_DEPTH, MOST_HANDLES, MOST_REFS};
-use jser_reader::{Answer, Gate};
+use jser_reader::{Answer, Gate, Limits};
 use std::marker::Model;
 
 /// How a filter is applied.
@@ -17,62 +18,67 @@ pub struct Options {
     pub strict: bool,
 }
 
-/// The gate of a filter: it lets pass what the filter admits. None of its calls takes memory.
+/// The gate of a filter, from whatever holds it: it lets pass what the filter admits. None of its calls takes memory.
 ///
 /// Each limit is the lesser of the filter's and the greatest one. A name that the filter allows passes, and so does
 /// one that names no class; one that no pattern matches passes unless the options are strict.
 #[derive(Debug, Drop)]
-pub struct FilterGate<'f> {
-    filter: &'f Filter,
+pub struct FilterGate<F: Holds> {
+    holder: F,
     options: Options,
 }
 
-impl<'f> Model for FilterGate<'f> {
+impl<F: Holds> Model for FilterGate<F> {
     ghost use Rattle.jser_check.specs.Admitted.{FilterWith};
 
     ghost Value = { FilterWith };
 
-    ghost view = { λ a. record { filter = a.filter.now; options = a.options } };
+    ghost view = { λ a. record { filter = F.held a.holder; options = a.options } };
 }
 
-impl<'f> FilterGate<'f> {
-    /// The gate of this filter.
-    pub fn new(filter: &'f Filter, options: Options) -> FilterGate<'f>
-        ensures filter { result.filter ≡ filter.now }
+impl<F: Holds> FilterGate<F> {
+    /// The gate of the filter that this holds: of `&filter`, say.
+    pub fn new(holder: F, options: Options) -> FilterGate<F>
+        ensures filter { result.filter ≡ F.held holder }
         ensures options { result.options ≡ options }
-        ensures exact { (bytes : List ℕ) (list : ContentTrees) → IsAdmitted filter.now options bytes list
-            ↔ Passes (gate_of_filter filter.now options) bytes list }
+        ensures exact { (bytes : List ℕ) (list : ContentTrees) → IsAdmitted (F.held holder) options bytes list
+            ↔ Passes (gate_of_filter (F.held holder) options) bytes list }
     {
-        FilterGate { filter, options }
+        FilterGate { holder, options }
+    }
+
+    /// What holds the filter.
+    pub fn holder(&self) -> &F
+        ensures { F.held result.now ≡ self.now.filter }
+    {
+        &self.holder
+    }
+
+    /// How the filter is applied.
+    pub fn options(&self) -> Options
+        ensures { result ≡ self.now.options }
+    {
+        self.options
     }
 }
 
-impl<'f> Gate for FilterGate<'f> {
+impl<F: Holds> Gate for FilterGate<F> {
     ghost told = { λ gate. gate_of_filter gate.filter gate.options };
 
     #[tactic(auto, using(crate::proofs::AdmittedLemmas::judges))]
     fn name(&self, name: &[u16]) -> Answer {
-        answer_at(self.options, self.filter.judge(name))
+        answer_at(self.options, self.holder.filter().judge(name))
     }
 
-    fn max_bytes(&self) -> u64 {
-        lesser(self.filter.limits().bytes, MOST_BYTES)
-    }
-
-    fn max_depth(&self) -> u32 {
-        lesser(self.filter.limits().depth, u64::from(MOST_DEPTH)) as u32
-    }
-
-    fn max_refs(&self) -> u64 {
-        lesser(self.filter.limits().refs, MOST_REFS)
-    }
-
-    fn max_array(&self) -> u32 {
-        lesser(self.filter.limits().array, u64::from(MOST_ARRAY)) as u32
-    }
-
-    fn max_handles(&self) -> u32 {
-        MOST_HANDLES
+    fn limits(&self) -> Limits {
+        let limits = self.holder.filter().limits();
+        Limits {
+            bytes: lesser(limits.bytes, MOST_BYTES),
+            depth: lesser(limits.depth, u64::from(MOST_DEPTH)) as u32,
+            refs: lesser(limits.refs, MOST_REFS),
+            array: lesser(limits.array, u64::from(MOST_ARRAY)) as u32,
+            handles: MOST_HANDLES,
+        }
     }
 
     ghost use Rattle.jser_check.specs.Caps.{keeps_caps};

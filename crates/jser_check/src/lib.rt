@@ -7,12 +7,13 @@ mod bytes;
 mod check;
 mod checker;
 mod gate;
-mod owned;
+mod holds;
 mod reader;
 
 pub use answer::CheckFault;
 pub use bytes::{Judged, check_bytes, judge_bytes};
 pub use checker::Checker;
 pub use gate::{FilterGate, Options};
+pub use holds::Holds;
 pub use jser_reader::{Reason, Refusal, Stop, Totals as Report};
 pub use reader::check_reader;

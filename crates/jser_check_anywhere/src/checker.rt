@@ -6,9 +6,9 @@ ghost use Rattle.jser_check_anywhere.specs.Joins.{over, repeated};
 ghost use Rattle.jser_check_anywhere.specs.Answers.{AreUndecided, EndTells, FeedTells, HasTaken, IfDecided, PieceTells};
 
 use crate::fault::{AnywhereFault, first_of};
-use crate::gate::{Held, HeldGate};
+use crate::gate::{Held, NameJudge};
 use jser_anywhere::Scan;
-use jser_check::Options;
+use jser_check::{FilterGate, Options};
 use jser_filter::Filter;
 use jser_reader::{Reader, Stop, Totals};
 use std::alloc::Global;
@@ -29,7 +29,7 @@ use std::marker::Model;
 /// ```
 #[derive(Drop)]
 pub struct AnywhereChecker<'f> {
-    reader: Reader<HeldGate<'f>>,
+    reader: Reader<FilterGate<Held<'f>>>,
     scan: Scan,
     stopped: Option<AnywhereFault>,
 }
@@ -49,7 +49,7 @@ impl<'f> AnywhereChecker<'f> {
         ensures options { result.reader.gate.options ≡ options }
         ensures begins { HasTaken result [] }
     {
-        AnywhereChecker::under(alloc, HeldGate::new(Held::Owned(filter), options))
+        AnywhereChecker::under(alloc, FilterGate::new(Held::Owned(filter), options))
     }
 
     /// A check that has taken nothing, under this filter, which is lent. Takes no memory.
@@ -58,10 +58,10 @@ impl<'f> AnywhereChecker<'f> {
         ensures options { result.reader.gate.options ≡ options }
         ensures begins { HasTaken result [] }
     {
-        AnywhereChecker::under(alloc, HeldGate::new(Held::Lent(filter), options))
+        AnywhereChecker::under(alloc, FilterGate::new(Held::Lent(filter), options))
     }
 
-    fn under(alloc: Global, gate: HeldGate<'f>) -> AnywhereChecker<'f>
+    fn under(alloc: Global, gate: FilterGate<Held<'f>>) -> AnywhereChecker<'f>
         ensures gate { result.reader.gate ≡ gate.entry }
         ensures begins { HasTaken result [] }
     {
@@ -109,7 +109,8 @@ impl<'f> AnywhereChecker<'f> {
         ensures stopped { self.new.stopped ≡ self.old.stopped }
     {
         let checked = self.reader.skip(piece);
-        let hidden = self.scan.feed(self.reader.gate(), piece);
+        let judge = NameJudge::of(self.reader.gate());
+        let hidden = self.scan.feed(&judge, piece);
         first_of(checked, hidden)
     }
 

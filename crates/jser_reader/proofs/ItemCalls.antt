@@ -16,7 +16,8 @@ use Rattle.jser_reader.specs.declared.item.Item.{Item}
 use Rattle.jser_reader.specs.declared.item.Step.{Step}
 use Rattle.jser_reader.specs.declared.item.Step.TheVariants as step
 use Rattle.jser_reader.specs.declared.item.Totals.{Totals}
-use Rattle.jser_reader.specs.declared.machine.Limits.{Limits as MachineLimits}
+use Rattle.jser_reader.specs.declared.gate.Limits.{Limits}
+use Rattle.jser_reader.specs.Gates.{AreLimitsOf}
 use Rattle.jser_reader.specs.declared.machine.take.taken.Taken.{Taken}
 use Rattle.jser_reader.specs.declared.machine.take.taken.Taken.TheVariants as taken
 use Rattle.jser_reader.specs.declared.phase.Phase.{Phase}
@@ -24,7 +25,7 @@ use Rattle.jser_reader.specs.declared.phase.Phase.TheVariants as phase
 use Rattle.jser_reader.specs.declared.refusal.Stop.{Stop}
 use Rattle.jser_reader.specs.declared.tally.Tally.{Tally}
 use Rattle.jser_reader.specs.Readers.{Seen}
-use Rattle.jser_reader.specs.States.{HasLimits, AreLimitsOf, IsWithin}
+use Rattle.jser_reader.specs.States.{HasLimits, IsWithin}
 use Rattle.jser_reader.specs.Walks.{size_of_phase, open_phase, cut_of, Stands, Takes, Keeps, IsNew}
 use Rattle.jser_reader.specs.Tallies.{no_tally, mark_of, tally_after, HasCounted}
 use Rattle.jser_reader.specs.Takes.{IsWholeLength, TakenCases, TakesFromFor}
@@ -269,11 +270,11 @@ tells_stop given why gate old new before after = λ fields cut st. tt
 
 -- ---- the beginning and the end
 
-pub fields_begin : (gate : Gate) (limits : MachineLimits) (handles : ℕ) (r : Seen) → IsNew r → HasLimits limits handles r
-    → AreLimitsOf gate limits → handles ≡ gate.handles → StandsIn gate [] [] r no_tally
+pub fields_begin : (gate : Gate) (limits : Limits) (r : Seen) → IsNew r → HasLimits limits r
+    → AreLimitsOf gate limits → StandsIn gate [] [] r no_tally
 unfolding new_counts new_stands
-fields_begin gate limits handles r n l e eh =
-    let c = new_counts gate r n (limits_are gate limits handles r l e eh) in
+fields_begin gate limits r n l e =
+    let c = new_counts gate r n (limits_are gate limits r l e) in
     record { counted = c; fields_are = refl; cut_is = refl; within = omega arith }
 
 pub tells_fields : (totals : Totals) (gate : Gate) (r : Seen) (tally : Tally) → r.phase ≡ phase.Top → TellsFields gate (Ok totals) r tally

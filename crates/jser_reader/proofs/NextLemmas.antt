@@ -14,14 +14,15 @@ use Rattle.jser_reader.specs.declared.refusal.Stop.{Stop}
 use Rattle.jser_reader.specs.declared.refusal.Stop.TheVariants as stop
 use Rattle.jser_reader.specs.Readers.{Seen}
 use Rattle.jser_reader.specs.Handlers.{StopsWith, refusal}
-use Rattle.jser_reader.specs.declared.machine.Limits.{Limits as MachineLimits}
+use Rattle.jser_reader.specs.declared.gate.Limits.{Limits}
+use Rattle.jser_reader.specs.Gates.{AreLimitsOf}
 use Rattle.jser_reader.specs.Walks.{IsNew, gate_with, HasTaken, Takes, Keeps, StandsAt}
 use Rattle.jser_reader.specs.declared.tally.Tally.{Tally}
 use Rattle.jser_reader.specs.Tallies.{no_tally, mark_of, tally_after, tally_stopped, whole_of, HasCounted, totals_of, AreTotals}
 use Rattle.jser_reader.specs.Takes.{TakenCases, TakesFromFor}
 use Rattle.jser_reader.specs.declared.machine.take.taken.Taken.{Taken}
 use Rattle.jser_reader.specs.declared.machine.take.taken.Taken.TheVariants as taken
-use Rattle.jser_reader.specs.States.{HasLimits, AreLimitsOf, IsWithin, AnswersStop, stop_after, exceeded}
+use Rattle.jser_reader.specs.States.{HasLimits, IsWithin, AnswersStop, stop_after, exceeded}
 use Rattle.jser_reader.specs.ReaderStates.{IsItem, HasProgress, StandsFor, HasRefused, IsSpent, NextCases, NextTells, StaysStopped, FinishCases, FinishTells, WholeTold, WholeAtEnd, KeepsWhole}
 use Rattle.jser_reader.specs.WholeContents.{IsWhole, StaysWhole}
 use Rattle.jser_reader.proofs.JoinLemmas.{kept_none}
@@ -305,12 +306,12 @@ stopped_finishes why gate old new tally e = λ bytes st. absurd (no_bytes gate b
 
 -- ---- a new reader
 
-pub limits_are : (gate : Gate) (limits : MachineLimits) (handles : ℕ) (r : Seen) → HasLimits limits handles r
-    → AreLimitsOf gate limits → handles ≡ gate.handles → gate_with r gate.answer ≡ gate
-limits_are gate limits handles r l e eh =
-    rw (l.bytes) (rw (l.depth) (rw (l.refs) (rw (l.array) (rw (l.handles_are) (rw (e.bytes) (rw (e.depth) (rw (e.refs) (rw (e.array) (rw eh refl)))))))))
+pub limits_are : (gate : Gate) (limits : Limits) (r : Seen) → HasLimits limits r
+    → AreLimitsOf gate limits → gate_with r gate.answer ≡ gate
+limits_are gate limits r l e =
+    rw (l.bytes) (rw (l.depth) (rw (l.refs) (rw (l.array) (rw (l.handles_are) (rw (e.bytes) (rw (e.depth) (rw (e.refs) (rw (e.array) (rw (e.handles) refl)))))))))
 
-pub reader_begins : (gate : Gate) (limits : MachineLimits) (handles : ℕ) (r : Seen) → IsNew r → HasLimits limits handles r
-    → AreLimitsOf gate limits → handles ≡ gate.handles → StandsFor gate [] r no_tally
+pub reader_begins : (gate : Gate) (limits : Limits) (r : Seen) → IsNew r → HasLimits limits r
+    → AreLimitsOf gate limits → StandsFor gate [] r no_tally
 unfolding StandsFor
-reader_begins gate limits handles r n l e eh = (new_counts gate r n (limits_are gate limits handles r l e eh), omega arith)
+reader_begins gate limits r n l e = (new_counts gate r n (limits_are gate limits r l e), omega arith)

@@ -1,26 +1,18 @@
 -- A machine that has stopped, or may take no more bytes.
 use Rattle.std.specs.Prelude.{◌≡◌, ℕ, ◌+◌, ◌-◌, ◌≤◌, ◌<◌, ◌^◌, List, length, take}
-use Rattle.jser_verdict.specs.Gates.{Gate}
-use Rattle.jser_reader.specs.declared.machine.Limits.{Limits as MachineLimits}
+use Rattle.jser_reader.specs.declared.gate.Limits.{Limits}
 use Rattle.jser_reader.specs.declared.refusal.Reason.TheVariants as reason
 use Rattle.jser_reader.specs.declared.refusal.Stop.{Stop}
 use Rattle.jser_reader.specs.declared.refusal.Stop.TheVariants as stop
 use Rattle.jser_reader.specs.Readers.{Seen, Meter}
 
 -- the limits that it was made with
-pub record HasLimits (limits : MachineLimits) (handles : ℕ) (r : Seen) : Type 0 where
+pub record HasLimits (limits : Limits) (r : Seen) : Type 0 where
   pub bytes : r.meter.limits.bytes ≡ limits.bytes
   pub depth : r.meter.limits.depth ≡ limits.depth
   pub refs : r.meter.limits.refs ≡ limits.refs
   pub array : r.meter.limits.array ≡ limits.array
-  pub handles_are : r.table.max ≡ handles
-
--- those of a gate
-pub record AreLimitsOf (gate : Gate) (limits : MachineLimits) : Type 0 where
-  pub bytes : limits.bytes ≡ gate.bytes
-  pub depth : limits.depth ≡ gate.depth
-  pub refs : limits.refs ≡ gate.refs
-  pub array : limits.array ≡ gate.array
+  pub handles_are : r.table.max ≡ limits.handles
 
 -- that memory ran out is answered once
 abbrev pub stop_after : Stop → Stop

@@ -3,7 +3,7 @@
 ghost use Rattle.std.specs.Prelude.{◌≡◌, ℕ, ◌≢◌};
 ghost use Rattle.jser_table.specs.Names.{name_kind, malformed_name};
 ghost use Rattle.jser_verdict.specs.Gates.{Gate as ToldGate, IsGate, pass};
-ghost use Rattle.jser_reader.specs.Gates.{view_answer, open_gate};
+ghost use Rattle.jser_reader.specs.Gates.{view_answer, open_gate, AreLimitsOf};
 
 use jser_grammar::caps::{MOST_ARRAY, MOST_BYTES, MOST_DEPTH, MOST_HANDLES, MOST_REFS};
 
@@ -18,10 +18,25 @@ pub enum Answer {
     Unmatched,
 }
 
+/// The limits of a gate: the greatest numbers that it lets pass.
+#[derive(Clone, Copy, PartialEq, Eq, Hash, Debug)]
+pub struct Limits {
+    /// Bytes of the stream: at most 2^40.
+    pub bytes: u64,
+    /// Depth of a place: at most 65,535.
+    pub depth: u32,
+    /// Places: at most 2^63 - 1.
+    pub refs: u64,
+    /// Elements of an array: at most 2^31 - 1.
+    pub array: u32,
+    /// Handles in an epoch: at most 2,139,226,112.
+    pub handles: u32,
+}
+
 /// Limits, and an answer to each checked name: that of each plain descriptor, and each interface of a proxy.
 ///
-/// Each answer depends on the gate and the question alone, and the limits are at most the caps: 2^40 bytes, depth
-/// 65,535, 2^63 - 1 places, arrays of 2^31 - 1 elements, and 2,139,226,112 handles in an epoch.
+/// Each answer depends on the gate and the question alone. A gate says `limits` and `name`; the other calls are one limit
+/// each.
 pub trait Gate {
     /// What the gate is, as the definitions of refusals see it.
     ghost told: { Self → ToldGate };
@@ -31,25 +46,44 @@ pub trait Gate {
         requires { name_kind name.now ≢ malformed_name }
         ensures { view_answer result ≡ (told self.now).answer name.now };
 
+    /// Its limits.
+    fn limits(&self) -> Limits
+        ensures { AreLimitsOf (told self.now) result };
+
     /// The greatest number of bytes.
     fn max_bytes(&self) -> u64
-        ensures { result ≡ (told self.now).bytes };
+        ensures { result ≡ (told self.now).bytes }
+    {
+        self.limits().bytes
+    }
 
     /// The greatest depth of a place.
     fn max_depth(&self) -> u32
-        ensures { result ≡ (told self.now).depth };
+        ensures { result ≡ (told self.now).depth }
+    {
+        self.limits().depth
+    }
 
     /// The greatest number of places.
     fn max_refs(&self) -> u64
-        ensures { result ≡ (told self.now).refs };
+        ensures { result ≡ (told self.now).refs }
+    {
+        self.limits().refs
+    }
 
     /// The greatest length of an array.
     fn max_array(&self) -> u32
-        ensures { result ≡ (told self.now).array };
+        ensures { result ≡ (told self.now).array }
+    {
+        self.limits().array
+    }
 
     /// The greatest number of handles in an epoch.
     fn max_handles(&self) -> u32
-        ensures { result ≡ (told self.now).handles };
+        ensures { result ≡ (told self.now).handles }
+    {
+        self.limits().handles
+    }
 
     /// The limits are at most the caps.
     ghost within: { (gate : Self) → IsGate (told gate) };
@@ -66,24 +100,14 @@ impl Gate for OpenGate {
         Answer::Pass
     }
 
-    fn max_bytes(&self) -> u64 {
-        MOST_BYTES
-    }
-
-    fn max_depth(&self) -> u32 {
-        MOST_DEPTH
-    }
-
-    fn max_refs(&self) -> u64 {
-        MOST_REFS
-    }
-
-    fn max_array(&self) -> u32 {
-        MOST_ARRAY
-    }
-
-    fn max_handles(&self) -> u32 {
-        MOST_HANDLES
+    fn limits(&self) -> Limits {
+        Limits {
+            bytes: MOST_BYTES,
+            depth: MOST_DEPTH,
+            refs: MOST_REFS,
+            array: MOST_ARRAY,
+            handles: MOST_HANDLES,
+        }
     }
 
     ghost use Rattle.std.proofs.Common.{rules};

@@ -18,7 +18,7 @@ mod stack;
 mod tag;
 mod tally;
 
-pub use gate::{Answer, Gate, OpenGate};
+pub use gate::{Answer, Gate, Limits, OpenGate};
 pub use item::{Item, Step, Totals, Whole};
 pub use place::Place;
 pub use reader::Reader;

@@ -6,6 +6,7 @@
 use crate::cut::Cut;
 use crate::field_list::FieldList;
 use crate::frame::{Frame, Owner, Role};
+use crate::gate::Limits;
 use crate::phase::{Phase, TextFor};
 use crate::refusal::Stop;
 use crate::stack::Stack;
@@ -35,15 +36,6 @@ pub(crate) mod take;
 mod texts;
 mod values;
 pub(crate) mod wholes;
-
-/// The limits that a gate sets, but for the handles of an epoch, which the table keeps.
-#[derive(Clone, Copy)]
-pub(crate) struct Limits {
-    pub(crate) bytes: u64,
-    pub(crate) depth: u32,
-    pub(crate) refs: u64,
-    pub(crate) array: u32,
-}
 
 /// What the reader holds but for its gate.
 #[derive(Drop)]

@@ -5,18 +5,18 @@ ghost use Rattle.jser_reader.specs.Tallies.{whole_of};
 ghost use Rattle.jser_reader.specs.Bounds.{FramesAreBounded, AreAssigned, MemoryFree, SkipMemoryFree};
 ghost use Rattle.jser_reader.specs.ItemsMade.{MakesStep};
 ghost use Rattle.jser_reader.specs.ItemsTold.{StandsIn, TellsItems, TellsFields};
-ghost use Rattle.jser_reader.specs.States.{AreLimitsOf, IsWithin};
+ghost use Rattle.jser_reader.specs.States.{IsWithin};
 ghost use Rattle.jser_reader.specs.Places.{PlaceTold};
 ghost use Rattle.jser_reader.specs.RawsTold.{RawsCases};
 ghost use Rattle.jser_reader.specs.WholesTold.{WholeCases};
 
 use crate::gate::Gate;
 use crate::item::{Step, Totals, Whole};
+use crate::machine::Machine;
 use crate::machine::items::{Kept, item_of};
 use crate::machine::pass::passed::Passed;
 use crate::machine::take::taken::Taken;
 use crate::machine::wholes::lent::Lent;
-use crate::machine::{Limits, Machine};
 use crate::phase::Phase;
 use crate::place::Place;
 use crate::refusal::Stop;
@@ -37,18 +37,6 @@ fn lend<'p>(field: Phase, kept: Kept, front: &'p [u8], used: usize) -> Step<'p>
     Step::Item {
         item: item_of(field, kept, part),
         used,
-    }
-}
-
-/// The limits that a gate sets.
-fn limits_of<G: Gate>(gate: &G) -> Limits
-    ensures { AreLimitsOf (G.told gate.now) result }
-{
-    Limits {
-        bytes: gate.max_bytes(),
-        depth: gate.max_depth(),
-        refs: gate.max_refs(),
-        array: gate.max_array(),
     }
 }
 
@@ -78,7 +66,7 @@ impl<G: Gate> Reader<G> {
         ensures stands { StandsFor (G.told gate) [] result.machine result.tally }
         ensures begins { StandsIn (G.told gate) [] [] result.machine result.tally }
     {
-        let machine = Machine::new(alloc, limits_of(&gate), gate.max_handles());
+        let machine = Machine::new(alloc, gate.limits());
         Reader {
             gate,
             machine,
@@ -93,9 +81,7 @@ impl<G: Gate> Reader<G> {
         ensures stands { StandsFor (G.told self.old.gate) [] self.new.machine self.new.tally }
         ensures begins { StandsIn (G.told self.old.gate) [] [] self.new.machine self.new.tally }
     {
-        let limits = limits_of(&self.gate);
-        let handles = self.gate.max_handles();
-        self.machine.restart(limits, handles);
+        self.machine.restart(self.gate.limits());
         self.tally = Tally::new();
     }
 

@@ -2,6 +2,7 @@
 
 use jser_check::{FilterGate, Options, Stop};
 use jser_check_anywhere::{AnywhereChecker, AnywhereFault};
+use jser_filter::Filter;
 use jser_reader::Reader;
 use jser_scan::{Found, LastBytes, Rules, hidden, refused};
 use std::alloc::Global;
@@ -18,7 +19,7 @@ pub(crate) struct Judge<'f> {
 /// The check under the filter alone, or with names at any place.
 #[derive(Drop)]
 enum Check<'f> {
-    Plain(Reader<FilterGate<'f>>),
+    Plain(Reader<FilterGate<&'f Filter>>),
     Anywhere(AnywhereChecker<'f>),
 }
 

@@ -75,7 +75,7 @@ impl SharedFilter {
     }
 
     /// Its gate.
-    pub(crate) fn gate(&self) -> FilterGate<'_>
+    pub(crate) fn gate(&self) -> FilterGate<&Filter>
         ensures { result ≡ self.now }
     {
         FilterGate::new(self.filter(), self.options())

@@ -1,7 +1,7 @@
 //! A shared filter as the gate of a reader.
 
 use crate::filter::SharedFilter;
-use jser_reader::{Answer, Gate};
+use jser_reader::{Answer, Gate, Limits};
 
 impl Gate for SharedFilter {
     ghost use Rattle.jser_check.specs.Admitted.{gate_of_filter};
@@ -13,24 +13,8 @@ impl Gate for SharedFilter {
         self.gate().name(name)
     }
 
-    fn max_bytes(&self) -> u64 {
-        self.gate().max_bytes()
-    }
-
-    fn max_depth(&self) -> u32 {
-        self.gate().max_depth()
-    }
-
-    fn max_refs(&self) -> u64 {
-        self.gate().max_refs()
-    }
-
-    fn max_array(&self) -> u32 {
-        self.gate().max_array()
-    }
-
-    fn max_handles(&self) -> u32 {
-        self.gate().max_handles()
+    fn limits(&self) -> Limits {
+        self.gate().limits()
     }
 
     ghost within = { λ gate. keeps_caps gate.filter gate.options };

@@ -4,7 +4,9 @@
 //! a stream that comes in pieces, under any `Gate`.
 #![tactic(auto)]
 
-pub use jser_check::{CheckFault, Checker, FilterGate, Options, Report, check_bytes, check_reader};
+pub use jser_check::{
+    CheckFault, Checker, FilterGate, Holds, Options, Report, check_bytes, check_reader,
+};
 pub use jser_filter::{
     Filter, FilterCause, FilterFault, Limits, Modules, ModulesCause, ModulesFault, Verdict,
 };
@@ -13,5 +15,6 @@ pub use jser_grammar::wire::{
 };
 pub use jser_prim::{Failed, FromRead, Source};
 pub use jser_reader::{
-    Answer, Gate, Item, OpenGate, Place, Reader, Reason, Refusal, Step, Stop, Totals, Whole,
+    Answer, Gate, Item, Limits as GateLimits, OpenGate, Place, Reader, Reason, Refusal, Step, Stop,
+    Totals, Whole,
 };

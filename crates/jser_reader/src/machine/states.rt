@@ -10,8 +10,9 @@ ghost use Rattle.jser_reader.specs.States.{HasLimits, AnswersStop, IsWithin, exc
 use crate::cut::Cut;
 use crate::field_list::FieldList;
 use crate::frame::{Owner, Role};
+use crate::gate::Limits;
 use crate::item::Totals;
-use crate::machine::{Limits, Machine};
+use crate::machine::Machine;
 use crate::phase::{Phase, TextFor};
 use crate::refusal::{Reason, Refusal, Stop};
 use crate::stack::Stack;
@@ -21,11 +22,11 @@ use jser_table::{KeptLayer, LayerKind, Table};
 use std::alloc::Global;
 
 impl Machine {
-    /// A machine that has taken nothing, with these limits, and so many handles in an epoch. Takes no memory.
+    /// A machine that has taken nothing, with these limits. Takes no memory.
     #[tactic(auto, using(crate::proofs::LayerLemmas::no_layers))]
-    pub(crate) fn new(alloc: Global, limits: Limits, handles: u32) -> Machine
+    pub(crate) fn new(alloc: Global, limits: Limits) -> Machine
         ensures new { IsNew result }
-        ensures limits { HasLimits limits handles result }
+        ensures limits { HasLimits limits result }
     {
         Machine {
             alloc,
@@ -36,7 +37,7 @@ impl Machine {
             refs: 0,
             limits,
             frames: Stack::new(alloc),
-            table: Table::new(alloc, handles),
+            table: Table::new(alloc, limits.handles),
             owner: Owner::Object,
             elements: None,
             role: Role::Value,
@@ -53,12 +54,12 @@ impl Machine {
         }
     }
 
-    /// The machine as `new` makes it, whatever it was, with these limits and so many handles in an epoch. It keeps its memory;
+    /// The machine as `new` makes it, whatever it was, with these limits. It keeps its memory;
     /// what it holds besides is set again before it is asked.
     #[tactic(auto, using(crate::proofs::LayerLemmas::no_layers))]
-    pub(crate) fn restart(&mut self, limits: Limits, handles: u32)
+    pub(crate) fn restart(&mut self, limits: Limits)
         ensures new { IsNew self.new }
-        ensures limits { HasLimits limits handles self.new }
+        ensures limits { HasLimits limits self.new }
     {
         self.phase = Phase::Header;
         self.at = 0;
@@ -67,7 +68,7 @@ impl Machine {
         self.limits = limits;
         self.frames.clear();
         self.outer.clear();
-        self.table.restart(handles);
+        self.table.restart(limits.handles);
     }
 
     /// Whether it has stopped.

@@ -17,7 +17,7 @@ returns-clause-tells c =
     (λ taken h. piece_tells old new taken c.args.piece.now c.skip-checked.result c.feed-hidden.result c.first_of.result c.first_of.ensures
     (both_tell old new taken c.args.piece.now c.skip-checked.result c.feed-hidden.result h (all_bytes c.args.piece.now (λ k. (c.type_inv.piece k).fits)) (omega arith)
     c.skip-checked.ensures.tells
-    (subst (λ g. TakesBytes (passes_name g.filter g.options) c.self.inside.scan c.feed-hidden.new.self c.args.piece.now c.feed-hidden.result) (c.gate.ensures ∙ c.skip-checked.ensures.gate) c.feed-hidden.ensures)
+    (subst (λ g. TakesBytes (passes_name g.filter g.options) c.self.inside.scan c.feed-hidden.new.self c.args.piece.now c.feed-hidden.result) (c.of-judge.ensures ∙ c.gate.ensures ∙ c.skip-checked.ensures.gate) c.feed-hidden.ensures)
     c.skip-checked.ensures.gate refl))
 
 pub returns-clause-whole : goal.returns-clause-whole

@@ -8,9 +8,9 @@ use Rattle.jser_reader.proofs.reader.Reader.new.Goals as goal
 pub returns-clause-stands : goal.returns-clause-stands
 returns-clause-stands g c =
     subst (λ t. StandsFor (g.G.Gate.told c.args.gate) [] c.new-machine.result t) (sym c.new.ensures)
-    (reader_begins _ _ _ _ c.new-machine.ensures.new c.new-machine.ensures.limits c.limits_of.ensures (search rules))
+    (reader_begins _ _ _ c.new-machine.ensures.new c.new-machine.ensures.limits c.limits.ensures)
 
 pub returns-clause-begins : goal.returns-clause-begins
 returns-clause-begins g c =
     subst (λ t. StandsIn (g.G.Gate.told c.args.gate) [] [] c.new-machine.result t) (sym c.new.ensures)
-    (fields_begin _ _ _ _ c.new-machine.ensures.new c.new-machine.ensures.limits c.limits_of.ensures (search rules))
+    (fields_begin _ _ _ c.new-machine.ensures.new c.new-machine.ensures.limits c.limits.ensures)
