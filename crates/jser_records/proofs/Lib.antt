@@ -1,1 +1,3 @@
+pub mod RoomLemmas
 pub mod WordLemmas
+pub mod ToldLemmas

@@ -1,2 +1,4 @@
+pub mod Arriving
 pub mod Fields
 pub mod Words
+pub mod Told

@@ -28,8 +28,13 @@ pub enum Answer {
 }
 
 impl Answer {
+    ghost use Rattle.std.specs.Prelude.{◌≡◌};
+    ghost use Rattle.jser_records.specs.Told.{passes};
+
     /// Whether it lets the record pass: it is accepted, or has no value.
-    pub(crate) fn passes(&self) -> bool {
+    pub(crate) fn passes(&self) -> bool
+        ensures { result ≡ passes self.now }
+    {
         match self {
             Answer::Checked(Found::Accepted(_)) | Answer::Null => true,
             _ => false,

@@ -1,23 +1,25 @@
 //! What is done with a record that has ended: its answer is written, or the record itself, and it counts.
+ghost use Rattle.std.specs.Prelude.{◌≡◌, [], false, IfOk, OnOk, OnErr, true};
+ghost use Rattle.jser_printer.specs.Says.{SaysTo};
+ghost use Rattle.jser_scan.specs.Tallies.{no_files};
+ghost use Rattle.jser_records.specs.Told.{ClosesTo, GoesTo, counted, entry_words, put_of, told_of};
 
 use crate::answer::Answer;
-use crate::key::units_of_key;
-use crate::reading::Reading;
+use crate::current::{Ended, Record};
+use crate::key::Key;
 use crate::words::{write_line, write_object};
-use jser_inputs::Form;
 use jser_prim::{Failed, Outbox, Sink};
-use jser_scan::{Found, How, Rules, Tally, is_plain};
+use jser_printer::write;
+use jser_scan::{How, Rules, Tally};
 use std::alloc::{AllocError, Global};
 
 /// What is done with records.
 #[derive(Drop)]
 pub(crate) struct Clerk<'f> {
-    alloc: Global,
     how: How,
     passes: bool,
     /// The record that is read.
-    pub(crate) reading: Reading<'f>,
-    held: Vec<u8>,
+    pub(crate) current: Record<'f>,
     number: u64,
     tally: Tally,
     output: Outbox,
@@ -32,120 +34,79 @@ impl<'f> Clerk<'f> {
         how: How,
         passes: bool,
         most: u64,
-    ) -> Result<Clerk<'f>, AllocError> {
-        let reading = Reading::new(alloc, rules, most)?;
-        Ok(Clerk {
-            alloc,
-            how,
-            passes,
-            reading,
-            held: Vec::new(alloc),
-            number: 0,
-            tally: Tally::new(),
-            output: Outbox::new(),
-            faults: Outbox::new(),
-        })
-    }
-
-    /// Begins the next record.
-    pub(crate) fn begin(&mut self, form: Form) {
-        self.held.clear();
-        self.reading.begin(form);
-    }
-
-    /// Keeps bytes of the record, as they came, as long as it may be passed on.
-    pub(crate) fn hold(&mut self, bytes: &[u8]) {
-        if !self.passes {
-            return;
-        }
-        if self.reading.is_answered() {
-            self.held.clear();
-        } else if self.held.extend_from_slice(bytes).is_err() {
-            self.held.clear();
-            self.reading.decide(Answer::Checked(Found::OutOfMemory));
+    ) -> Result<Clerk<'f>, AllocError>
+        ensures how { IfOk result (λ clerk. clerk.how ≡ how) }
+        ensures passes { IfOk result (λ clerk. clerk.passes ≡ passes) }
+        ensures number { IfOk result (λ clerk. clerk.number ≡ 0) }
+        ensures tally { IfOk result (λ clerk. clerk.tally ≡ no_files) }
+        ensures output { IfOk result (λ clerk. clerk.output ≡ record { waiting = []; written = 0; failed = false }) }
+    {
+        match Record::new(alloc, rules, passes, most) {
+            Ok(current) => Ok(Clerk {
+                how,
+                passes,
+                current,
+                number: 0,
+                tally: Tally::new(),
+                output: Outbox::new(),
+                faults: Outbox::new(),
+            }),
+            Err(failed) => Err(failed),
         }
     }
 
     /// The record has ended: it is counted, and its answer is written, or the record itself. What is returned says whether it is
     /// accepted.
-    pub(crate) fn close<W: Sink, E: Sink>(&mut self, output: &mut W, faults: &mut E) -> bool {
-        let mut answer = self.reading.finish();
-        let units = match self.units() {
-            Ok(units) => units,
-            Err(_) => {
-                self.reading.key.clear();
-                answer = Answer::Checked(Found::OutOfMemory);
-                Vec::new(self.alloc)
-            }
-        };
-        self.note(&answer);
-        let passes = answer.passes();
-        if !self.passes {
-            self.print(output, units.as_slice(), &answer);
-        } else if passes {
-            self.output.put(output, self.held.as_slice());
-        } else {
-            self.tell(faults, units.as_slice(), &answer);
-        }
+    pub(crate) fn close<W: Sink, E: Sink>(&mut self, output: &mut W, faults: &mut E) -> bool
+        ensures closes { ClosesTo W.gone_out W.has_failed E.gone_out E.has_failed self.old self.new output.old output.new faults.old faults.new result }
+        ensures goes { GoesTo W.gone_out W.has_failed E.gone_out E.has_failed self.old self.new output.old output.new faults.old faults.new }
+    {
+        let ended = self.current.finish(self.how.json);
+        put_record(
+            &mut self.output,
+            output,
+            self.how,
+            self.passes,
+            self.number,
+            &self.current,
+            &ended,
+        );
+        tell_record(
+            &mut self.faults,
+            faults,
+            self.how,
+            self.passes,
+            self.number,
+            &self.current,
+            &ended,
+        );
+        self.tally = counted(self.tally, &ended.answer);
         self.number = self.number.saturating_add(1);
-        passes
-    }
-
-    /// The units of the KEY, if they are printed.
-    fn units(&self) -> Result<Vec<u16>, AllocError> {
-        let bytes = self.reading.key.bytes();
-        if self.how.json || !is_plain(bytes) {
-            units_of_key(self.alloc, bytes)
-        } else {
-            Ok(Vec::new(self.alloc))
-        }
-    }
-
-    /// Prints the answer, unless it is left out.
-    fn print<W: Sink>(&mut self, output: &mut W, units: &[u16], answer: &Answer) {
-        if self.how.refused && answer.passes() {
-            return;
-        }
-        let key = &self.reading.key;
-        if self.how.json {
-            write_object(&mut self.output, output, self.number, key, units, answer);
-        } else {
-            write_line(&mut self.output, output, self.number, key, units, answer);
-        }
-    }
-
-    /// Tells the answer of a record that is not handed on.
-    fn tell<E: Sink>(&mut self, faults: &mut E, units: &[u16], answer: &Answer) {
-        let key = &self.reading.key;
-        if self.how.json {
-            write_object(&mut self.faults, faults, self.number, key, units, answer);
-        } else {
-            write_line(&mut self.faults, faults, self.number, key, units, answer);
-        }
+        ended.answer.passes()
     }
 
     /// Hands on bytes behind a record that was passed on.
-    pub(crate) fn pass_on<W: Sink>(&mut self, output: &mut W, bytes: &[u8]) {
+    #[tactic(auto, using(crate::proofs::ToldLemmas::goes_none))]
+    pub(crate) fn pass_on<W: Sink, E: Sink>(&mut self, output: &mut W, faults: &mut E, bytes: &[u8])
+        ensures { GoesTo W.gone_out W.has_failed E.gone_out E.has_failed self.old self.new output.old output.new faults.old faults.new }
+    {
         if self.passes {
-            self.output.put(output, bytes);
-        }
-    }
-
-    /// Counts the record.
-    fn note(&mut self, answer: &Answer) {
-        match answer {
-            Answer::Checked(found) => self.tally.note(found),
-            Answer::Null => self.tally.note_accepted(),
-            _ => self.tally.note_unread(),
+            write(&mut self.output, output, bytes);
         }
     }
 
     /// Hands all that waits to the devices.
+    #[tactic(auto, using(crate::proofs::ToldLemmas::goes_flushed))]
     pub(crate) fn flush<W: Sink, E: Sink>(
         &mut self,
         output: &mut W,
         faults: &mut E,
-    ) -> Result<(), Failed> {
+    ) -> Result<(), Failed>
+        ensures goes { GoesTo W.gone_out W.has_failed E.gone_out E.has_failed self.old self.new output.old output.new faults.old faults.new }
+        ensures empty { self.new.output.failed ≡ false → self.new.output.waiting ≡ [] }
+        ensures ok { OnOk result (self.new.output.failed ≡ false) }
+        ensures err { OnErr result (self.new.output.failed ≡ true) }
+    {
         self.faults.flush(faults);
         self.output.flush(output);
         if self.output.has_failed() {
@@ -156,7 +117,100 @@ impl<'f> Clerk<'f> {
     }
 
     /// The counts of all records.
-    pub(crate) fn tally(&self) -> Tally {
+    pub(crate) fn tally(&self) -> Tally
+        ensures { result ≡ self.now.tally }
+    {
         self.tally
     }
+}
+
+/// Writes what goes to standard output of a record.
+fn put_record<W: Sink>(
+    outbox: &mut Outbox,
+    sink: &mut W,
+    how: How,
+    passes: bool,
+    number: u64,
+    current: &Record<'_>,
+    ended: &Ended,
+)
+    ensures { SaysTo W.gone_out W.has_failed outbox.old outbox.new sink.old sink.new (λ k. put_of how passes number current.now.reading.key ended.now.units.items ended.now.answer current.now.held.items k) }
+{
+    if passes {
+        if ended.answer.passes() {
+            write(outbox, sink, current.held());
+        } else {
+            write(outbox, sink, b"");
+        }
+    } else if how.refused && ended.answer.passes() {
+        write(outbox, sink, b"");
+    } else {
+        write_entry(outbox, sink, how.json, number, &current.reading.key, ended);
+    }
+}
+
+/// Writes what goes to standard error of a record.
+fn tell_record<W: Sink>(
+    outbox: &mut Outbox,
+    sink: &mut W,
+    how: How,
+    passes: bool,
+    number: u64,
+    current: &Record<'_>,
+    ended: &Ended,
+)
+    ensures { SaysTo W.gone_out W.has_failed outbox.old outbox.new sink.old sink.new (λ k. told_of how passes number current.now.reading.key ended.now.units.items ended.now.answer k) }
+{
+    if passes && !ended.answer.passes() {
+        write_entry(outbox, sink, how.json, number, &current.reading.key, ended);
+    } else {
+        write(outbox, sink, b"");
+    }
+}
+
+/// Writes the line of a record, or its object.
+fn write_entry<W: Sink>(
+    outbox: &mut Outbox,
+    sink: &mut W,
+    json: bool,
+    number: u64,
+    key: &Key,
+    ended: &Ended,
+)
+    ensures { SaysTo W.gone_out W.has_failed outbox.old outbox.new sink.old sink.new (λ k. entry_words json number key.now ended.now.units.items ended.now.answer k) }
+{
+    if json {
+        write_object(
+            outbox,
+            sink,
+            number,
+            key,
+            ended.units.as_slice(),
+            &ended.answer,
+        );
+    } else {
+        write_line(
+            outbox,
+            sink,
+            number,
+            key,
+            ended.units.as_slice(),
+            &ended.answer,
+        );
+    }
+}
+
+/// The counts with one record more.
+fn counted(tally: Tally, answer: &Answer) -> Tally
+    ensures { result ≡ counted tally answer.now }
+{
+    let mut tally = tally;
+    match answer {
+        Answer::Checked(found) => tally.note(found),
+        Answer::Null => tally.note_accepted(),
+        Answer::Longer { .. } | Answer::LongKey | Answer::Cut { .. } | Answer::NoLength => {
+            tally.note_unread()
+        }
+    }
+    tally
 }

@@ -1,5 +1,7 @@
 //! Records that are frames: a length in 4 bytes, highest first, and so many bytes.
 
+ghost use Rattle.jser_records.specs.Told.{GoesTo};
+
 use crate::answer::Answer;
 use crate::clerk::Clerk;
 use crate::inbox::Inbox;
@@ -14,39 +16,70 @@ const HEAD: usize = 4;
 const NULL: u32 = u32::MAX;
 
 /// Reads frames, to the end of the input.
+#[tactic(auto, using(crate::proofs::ToldLemmas::goes_none, crate::proofs::ToldLemmas::goes_both, crate::proofs::ToldLemmas::goes_from, crate::proofs::ToldLemmas::goes_on, crate::proofs::ToldLemmas::goes_kept, crate::proofs::ToldLemmas::goes_changed))]
 pub(crate) fn read_frames<R: Source, W: Sink, E: Sink>(
     inbox: &mut Inbox<R>,
     clerk: &mut Clerk<'_>,
     most: u64,
     output: &mut W,
     faults: &mut E,
-) -> Result<(), Trouble> {
+) -> Result<(), Trouble>
+    ensures goes { GoesTo W.gone_out W.has_failed E.gone_out E.has_failed clerk.old clerk.new output.old output.new faults.old faults.new }
+{
     'frames: for _ in 0..u64::MAX {
-        match inbox.waiting() {
-            [a, b, c, d, ..] => {
-                let length = u32::from_be_bytes([*a, *b, *c, *d]);
-                read_frame(inbox, clerk, most, length, output, faults)?;
-            }
-            head => {
-                let at = head.len() as u64;
-                if !read_more(inbox, clerk, output, faults)? {
-                    if at > 0 {
-                        clerk.begin(Form::Binary);
-                        clerk.reading.decide(Answer::Cut {
-                            at,
-                            of: HEAD as u64,
-                        });
-                        clerk.close(output, faults);
-                    }
-                    return Ok(());
-                }
-            }
+        if !next_frame(inbox, clerk, most, output, faults)? {
+            return Ok(());
         }
     }
     Ok(())
 }
 
+/// Reads the next frame, or more of the input where its length is not whole. `false` at the end of the input.
+#[tactic(auto, using(crate::proofs::ToldLemmas::goes_none, crate::proofs::ToldLemmas::goes_both, crate::proofs::ToldLemmas::goes_from, crate::proofs::ToldLemmas::goes_on, crate::proofs::ToldLemmas::goes_kept, crate::proofs::ToldLemmas::goes_changed))]
+fn next_frame<R: Source, W: Sink, E: Sink>(
+    inbox: &mut Inbox<R>,
+    clerk: &mut Clerk<'_>,
+    most: u64,
+    output: &mut W,
+    faults: &mut E,
+) -> Result<bool, Trouble>
+    ensures goes { GoesTo W.gone_out W.has_failed E.gone_out E.has_failed clerk.old clerk.new output.old output.new faults.old faults.new }
+{
+    match inbox.waiting() {
+        [a, b, c, d, ..] => {
+            let length = u32::from_be_bytes([*a, *b, *c, *d]);
+            read_frame(inbox, clerk, most, length, output, faults)?;
+            Ok(true)
+        }
+        head => {
+            let at = head.len() as u64;
+            if read_more(inbox, clerk, output, faults)? {
+                return Ok(true);
+            }
+            tell_cut_length(clerk, at, output, faults);
+            Ok(false)
+        }
+    }
+}
+
+/// Tells of a frame whose length has so many bytes, if it has any.
+#[tactic(auto, using(crate::proofs::ToldLemmas::goes_none, crate::proofs::ToldLemmas::goes_both, crate::proofs::ToldLemmas::goes_from, crate::proofs::ToldLemmas::goes_on, crate::proofs::ToldLemmas::goes_kept, crate::proofs::ToldLemmas::goes_changed))]
+fn tell_cut_length<W: Sink, E: Sink>(clerk: &mut Clerk<'_>, at: u64, output: &mut W, faults: &mut E)
+    ensures goes { GoesTo W.gone_out W.has_failed E.gone_out E.has_failed clerk.old clerk.new output.old output.new faults.old faults.new }
+{
+    if at == 0 {
+        return;
+    }
+    clerk.current.begin(Form::Binary);
+    clerk.current.reading.decide(Answer::Cut {
+        at,
+        of: HEAD as u64,
+    });
+    clerk.close(output, faults);
+}
+
 /// Reads a frame of this length.
+#[tactic(auto, using(crate::proofs::ToldLemmas::goes_none, crate::proofs::ToldLemmas::goes_both, crate::proofs::ToldLemmas::goes_from, crate::proofs::ToldLemmas::goes_on, crate::proofs::ToldLemmas::goes_kept, crate::proofs::ToldLemmas::goes_changed))]
 fn read_frame<R: Source, W: Sink, E: Sink>(
     inbox: &mut Inbox<R>,
     clerk: &mut Clerk<'_>,
@@ -54,20 +87,38 @@ fn read_frame<R: Source, W: Sink, E: Sink>(
     length: u32,
     output: &mut W,
     faults: &mut E,
-) -> Result<(), Trouble> {
-    clerk.begin(Form::Binary);
-    clerk.hold(inbox.front(HEAD));
+) -> Result<(), Trouble>
+    ensures goes { GoesTo W.gone_out W.has_failed E.gone_out E.has_failed clerk.old clerk.new output.old output.new faults.old faults.new }
+{
+    clerk.current.begin(Form::Binary);
+    clerk.current.hold(inbox.front(HEAD));
     inbox.pass(HEAD);
-    if length == NULL {
-        clerk.reading.decide(Answer::Null);
-    } else {
-        take_bytes(inbox, clerk, most, u64::from(length), output, faults)?;
-    }
+    take_value(inbox, clerk, most, length, output, faults)?;
     clerk.close(output, faults);
     Ok(())
 }
 
+/// Takes the value of a frame of this length, which may be that of a null.
+#[tactic(auto, using(crate::proofs::ToldLemmas::goes_none, crate::proofs::ToldLemmas::goes_both, crate::proofs::ToldLemmas::goes_from, crate::proofs::ToldLemmas::goes_on, crate::proofs::ToldLemmas::goes_kept, crate::proofs::ToldLemmas::goes_changed))]
+fn take_value<R: Source, W: Sink, E: Sink>(
+    inbox: &mut Inbox<R>,
+    clerk: &mut Clerk<'_>,
+    most: u64,
+    length: u32,
+    output: &mut W,
+    faults: &mut E,
+) -> Result<(), Trouble>
+    ensures goes { GoesTo W.gone_out W.has_failed E.gone_out E.has_failed clerk.old clerk.new output.old output.new faults.old faults.new }
+{
+    if length == NULL {
+        clerk.current.reading.decide(Answer::Null);
+        return Ok(());
+    }
+    take_bytes(inbox, clerk, most, u64::from(length), output, faults)
+}
+
 /// Takes the bytes of a record, so many. Where there are more than are read at most, it goes over them.
+#[tactic(auto, using(crate::proofs::ToldLemmas::goes_none, crate::proofs::ToldLemmas::goes_both, crate::proofs::ToldLemmas::goes_from, crate::proofs::ToldLemmas::goes_on, crate::proofs::ToldLemmas::goes_kept, crate::proofs::ToldLemmas::goes_changed))]
 pub(crate) fn take_bytes<R: Source, W: Sink, E: Sink>(
     inbox: &mut Inbox<R>,
     clerk: &mut Clerk<'_>,
@@ -75,9 +126,11 @@ pub(crate) fn take_bytes<R: Source, W: Sink, E: Sink>(
     count: u64,
     output: &mut W,
     faults: &mut E,
-) -> Result<(), Trouble> {
+) -> Result<(), Trouble>
+    ensures goes { GoesTo W.gone_out W.has_failed E.gone_out E.has_failed clerk.old clerk.new output.old output.new faults.old faults.new }
+{
     if count > most {
-        clerk.reading.decide(Answer::Longer { most });
+        clerk.current.reading.decide(Answer::Longer { most });
     }
     let mut taken: u64 = 0;
     'pieces: for _ in 0..u64::MAX {
@@ -88,7 +141,7 @@ pub(crate) fn take_bytes<R: Source, W: Sink, E: Sink>(
         let size = piece.len();
         if size == 0 {
             if !read_more(inbox, clerk, output, faults)? {
-                clerk.reading.decide(Answer::Cut {
+                clerk.current.reading.decide(Answer::Cut {
                     at: taken,
                     of: count,
                 });
@@ -96,8 +149,8 @@ pub(crate) fn take_bytes<R: Source, W: Sink, E: Sink>(
             }
             continue;
         }
-        clerk.hold(piece);
-        clerk.reading.take(piece);
+        clerk.current.hold(piece);
+        clerk.current.reading.take(piece);
         inbox.pass(size);
         taken = taken.saturating_add(size as u64);
     }

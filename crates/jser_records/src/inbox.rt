@@ -1,12 +1,15 @@
 //! What came from a source and waits to be taken, in room that does not grow.
-ghost use Rattle.std.specs.Prelude.{◌≡◌, ◌≤◌, ◌<◌, ◌+◌, length, IfSome, IfOk, true, false};
+ghost use Rattle.std.specs.Prelude.{◌≡◌, ◌≤◌, ◌<◌, ◌+◌, ◌-◌, ◌++◌, [], length, min, take, drop, IfSome, IfOk, OnOk, OnErr, Ok, None, true, false};
+ghost use Rattle.std.specs.Io.KnownBytes.{ReadConsumes};
+ghost use Rattle.jser_records.specs.Arriving.{ComesMore, HasNone, IsBefore, Stays, room_size};
 
 use jser_prim::{Failed, Source};
 use memchr::memchr;
 use std::alloc::{AllocError, Global};
+use std::marker::Model;
 
 /// How many bytes wait at most. A KEY of 65,535 bytes and the beginning of its value fit.
-const ROOM: usize = 131_072;
+pub(crate) const ROOM: usize = 131_072;
 
 /// What came from a source and waits to be taken.
 #[derive(Drop)]
@@ -15,15 +18,29 @@ pub(crate) struct Inbox<R: Source> {
     room: Vec<u8>,
     start: usize,
     end: usize,
+    /// The byte that is looked for.
+    sought: u8,
+    /// How many of the bytes that wait are known to be other ones.
     searched: usize,
     is_over: bool,
 }
 
+impl<R: Source> Model for Inbox<R> {
+    ghost use Rattle.jser_records.specs.Arriving.{Arriving, Fits, view_of};
+
+    ghost Value = { Arriving };
+
+    ghost view = { λ a. view_of (R.to_come a.source) a.room.items a.start a.end a.sought a.is_over };
+
+    ghost invariant = { λ a. Fits a.room.items a.start a.end a.sought a.searched };
+}
+
 impl<R: Source> Inbox<R> {
-    /// Nothing waits so far.
-    pub(crate) fn new(alloc: Global, source: R) -> Result<Inbox<R>, AllocError>
+    /// Nothing waits so far. This byte is looked for.
+    pub(crate) fn new(alloc: Global, source: R, sought: u8) -> Result<Inbox<R>, AllocError>
     where
         R: Drop,
+        ensures begins { IfOk result (λ inbox. inbox ≡ record { waiting = []; to_come = R.to_come source; sought = sought; is_over = false }) }
     {
         let room = vec![in alloc; 0u8; ROOM]?;
         Ok(Inbox {
@@ -31,88 +48,126 @@ impl<R: Source> Inbox<R> {
             room,
             start: 0,
             end: 0,
+            sought,
             searched: 0,
             is_over: false,
         })
     }
 
     /// What waits.
-    pub(crate) fn waiting(&self) -> &[u8] {
-        match self.room.get(self.start..self.end) {
-            Some(waiting) => waiting,
-            None => &[],
-        }
+    pub(crate) fn waiting(&self) -> &[u8]
+        ensures { result.now ≡ self.now.waiting }
+    {
+        let (front, _) = self.room.split_at(self.end);
+        let (_, waiting) = front.split_at(self.start);
+        waiting
     }
 
-    /// The first bytes of what waits, as many as are asked for if so many wait. They may be written over.
-    pub(crate) fn front(&mut self, count: usize) -> &mut [u8] {
-        let end = self.end.min(self.start.saturating_add(count));
-        part_of(self.room.as_mut_slice(), self.start, end)
+    /// The first bytes of what waits, as many as are asked for if so many wait.
+    pub(crate) fn front(&self, count: usize) -> &[u8]
+        ensures { result.now ≡ take count self.now.waiting }
+    {
+        let waiting = self.waiting();
+        let (front, _) = waiting.split_at(count.min(waiting.len()));
+        front
     }
 
     /// Goes past the first bytes of what waits.
-    pub(crate) fn pass(&mut self, count: usize) {
-        self.start = self.end.min(self.start.saturating_add(count));
-        self.searched = self.start;
+    pub(crate) fn pass(&mut self, count: usize)
+        ensures { self.new ≡ record self.old { waiting = drop count self.old.waiting } }
+    {
+        self.start += count.min(self.end - self.start);
+        self.searched = 0;
     }
 
-    /// How many bytes wait before the first of this value. It looks at each byte once: ask for the same value until something is
-    /// passed.
-    pub(crate) fn find(&mut self, byte: u8) -> Option<usize> {
-        let found = match self.room.get(self.searched..self.end) {
-            Some(rest) => memchr(byte, rest),
-            None => None,
-        };
-        match found {
-            Some(at) => Some(self.searched.saturating_add(at).saturating_sub(self.start)),
+    /// How many bytes wait before the first that is looked for. It looks at each byte once.
+    #[tactic(auto, using(crate::proofs::RoomLemmas::found_first, crate::proofs::RoomLemmas::found_none))]
+    pub(crate) fn find(&mut self) -> Option<usize>
+        ensures kept { self.new ≡ self.old }
+        ensures found { IfSome result (λ count. IsBefore self.old.sought self.old.waiting count) }
+        ensures none { result ≡ None → HasNone self.old.sought self.old.waiting }
+    {
+        let searched = self.searched;
+        let (_, rest) = self.waiting().split_at(searched);
+        match memchr(self.sought, rest) {
+            Some(at) => Some(searched + at),
             None => {
-                self.searched = self.end;
+                self.searched = self.end - self.start;
                 None
             }
         }
     }
 
     /// Whether there is no room for more.
-    pub(crate) fn is_full(&self) -> bool {
+    pub(crate) fn is_full(&self) -> bool
+        ensures { result ≡ true → length self.now.waiting ≡ room_size }
+    {
         self.start == 0 && self.end >= self.room.len()
     }
 
     /// Whether nothing comes any more.
-    pub(crate) fn is_over(&self) -> bool {
+    pub(crate) fn is_over(&self) -> bool
+        ensures { result ≡ self.now.is_over }
+    {
         self.is_over
     }
 
     /// Reads once, behind what waits. `false` where the source has ended; so too where there is no room.
-    pub(crate) fn read(&mut self) -> Result<bool, Failed> {
+    pub(crate) fn read(&mut self) -> Result<bool, Failed>
+        ensures comes { OnOk result (ComesMore self.old self.new) }
+        ensures over { result ≡ Ok false → self.new.is_over ≡ true }
+        ensures kept { OnErr result (Stays self.old self.new) }
+    {
         if self.is_over {
             return Ok(false);
         }
         self.move_to_front();
-        let len = self.room.len();
-        let count = self
-            .source
-            .take(part_of(self.room.as_mut_slice(), self.end, len))?;
-        self.end = self.room.len().min(self.end.saturating_add(count));
-        self.is_over = count == 0;
-        Ok(count > 0)
+        match self.fill() {
+            Ok(count) => {
+                self.is_over = count == 0;
+                Ok(count > 0)
+            }
+            Err(failed) => Err(failed),
+        }
+    }
+
+    /// Reads once, into the room behind what waits.
+    #[tactic(auto, using(crate::proofs::RoomLemmas::filled_comes, crate::proofs::RoomLemmas::filled_fits, crate::proofs::RoomLemmas::same_fits, crate::proofs::RoomLemmas::same_part))]
+    fn fill(&mut self) -> Result<usize, Failed>
+        ensures comes { OnOk result (ComesMore self.old self.new) }
+        ensures kept { OnErr result (Stays self.old self.new) }
+        ensures over { self.new.is_over ≡ self.old.is_over }
+    {
+        let end = self.end;
+        let count = match take_behind(&mut self.source, self.room.as_mut_slice(), end) {
+            Ok(count) => count,
+            Err(failed) => return Err(failed),
+        };
+        self.end += count;
+        Ok(count)
     }
 
     /// Moves what waits to the front of the room.
-    fn move_to_front(&mut self) {
-        let count = self.end.saturating_sub(self.start);
-        if self.start > 0 && self.start <= self.end && self.end <= self.room.len() {
+    #[tactic(auto, using(crate::proofs::RoomLemmas::moved, crate::proofs::RoomLemmas::moved_fits))]
+    fn move_to_front(&mut self)
+        ensures { self.new ≡ self.old }
+    {
+        if self.start > 0 {
             self.room.copy_within(self.start..self.end, 0);
-            self.searched = self.searched.saturating_sub(self.start);
+            self.end -= self.start;
             self.start = 0;
-            self.end = count;
         }
     }
 }
 
-/// The bytes of the room from one place to another.
-fn part_of(room: &mut [u8], from: usize, to: usize) -> &mut [u8] {
-    let to = to.min(room.len());
-    let (front, _) = room.split_at_mut(to);
-    let (_, part) = front.split_at_mut(from.min(to));
-    part
+/// One read of a source, into the room behind so many bytes.
+fn take_behind<R: Source>(source: &mut R, room: &mut [u8], end: usize) -> Result<usize, Failed>
+    requires { end ≤ length room.old }
+    ensures front { take end room.new ≡ take end room.old }
+    ensures size { length room.new ≡ length room.old }
+    ensures within { IfOk result (λ count. count ≤ length (drop end room.new)) }
+    ensures bytes { ReadConsumes (R.to_come source.old) (R.to_come source.new) result (drop end room.new) }
+{
+    let (_, free) = room.split_at_mut(end);
+    source.take(free)
 }

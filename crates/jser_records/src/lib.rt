@@ -6,6 +6,7 @@
 
 mod answer;
 mod clerk;
+mod current;
 mod frames;
 mod header;
 mod inbox;

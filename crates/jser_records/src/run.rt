@@ -1,5 +1,7 @@
 //! All records of an input, from the first to the counts.
-ghost use Rattle.std.specs.Prelude.{◌≡◌, ◌≢◌, ◌⊎◌};
+ghost use Rattle.std.specs.Prelude.{◌≡◌, ◌≢◌, ◌⊎◌, [], false, IfOk, MatchResult};
+ghost use Rattle.jser_scan.specs.Tallies.{status_of};
+ghost use Rattle.jser_records.specs.Told.{GoesTo, WrittenTo, WroteTo};
 
 use crate::clerk::Clerk;
 use crate::frames::read_frames;
@@ -39,6 +41,7 @@ pub(crate) enum Trouble {
 /// What it allocates is what a check does, and room that does not grow: 128 KB for what was read and a KEY of at most 65,535 bytes.
 /// With `pass` it also keeps one record. The status is that of `scan`: 3 where a record could not be read, or a device failed, else 1
 /// where one was refused, else 0.
+#[tactic(auto, using(crate::proofs::ToldLemmas::written_none, crate::proofs::ToldLemmas::written_failed, crate::proofs::ToldLemmas::written_by))]
 pub fn run_records<R: Source + Drop, W: Sink, E: Sink>(
     alloc: Global,
     rules: &Rules,
@@ -49,6 +52,7 @@ pub fn run_records<R: Source + Drop, W: Sink, E: Sink>(
 ) -> u8
     ensures status { (result ≡ 0) ⊎ ((result ≡ 1) ⊎ (result ≡ 3)) }
     ensures unbroken { result ≢ 3 → W.has_failed output.new ≡ W.has_failed output.old }
+    ensures written { WrittenTo W.gone_out W.has_failed asked.how asked.pass output.old output.new result }
 {
     if output.failed() {
         return tell_failure(faults, "write failed\n");
@@ -63,7 +67,8 @@ pub fn run_records<R: Source + Drop, W: Sink, E: Sink>(
 
 /// Prints the counts, or what went wrong, and returns the status.
 fn status_of<E: Sink>(read: Result<Tally, Trouble>, faults: &mut E) -> u8
-    ensures { (result ≡ 0) ⊎ ((result ≡ 1) ⊎ (result ≡ 3)) }
+    ensures by { MatchResult read (λ tally. result ≡ status_of tally) (λ trouble. result ≡ 3) }
+    ensures status { (result ≡ 0) ⊎ ((result ≡ 1) ⊎ (result ≡ 3)) }
 {
     match read {
         Ok(tally) => {
@@ -77,6 +82,7 @@ fn status_of<E: Sink>(read: Result<Tally, Trouble>, faults: &mut E) -> u8
 }
 
 /// Reads all records, and writes their answers. The counts are returned.
+#[tactic(auto, using(crate::proofs::ToldLemmas::wrote_none))]
 fn read_all<R: Source + Drop, W: Sink, E: Sink>(
     alloc: Global,
     rules: &Rules,
@@ -84,14 +90,25 @@ fn read_all<R: Source + Drop, W: Sink, E: Sink>(
     source: R,
     output: &mut W,
     faults: &mut E,
-) -> Result<Tally, Trouble> {
-    match Inbox::new(alloc, source) {
+) -> Result<Tally, Trouble>
+    ensures { WroteTo W.gone_out W.has_failed asked.how asked.pass output.old output.new result }
+{
+    match Inbox::new(alloc, source, sought_in(asked.layout.shape)) {
         Ok(mut inbox) => read_from(alloc, rules, asked, &mut inbox, output, faults),
         Err(_) => Err(Trouble::Memory),
     }
 }
 
+/// The byte that ends a line of this shape.
+fn sought_in(shape: Shape) -> u8 {
+    match shape {
+        Shape::Lines(lines) => lines.end(),
+        Shape::Frames | Shape::Sized => b'\n',
+    }
+}
+
 /// Reads all records that come there.
+#[tactic(auto, using(crate::proofs::ToldLemmas::wrote, crate::proofs::ToldLemmas::wrote_none))]
 fn read_from<R: Source, W: Sink, E: Sink>(
     alloc: Global,
     rules: &Rules,
@@ -99,7 +116,9 @@ fn read_from<R: Source, W: Sink, E: Sink>(
     inbox: &mut Inbox<R>,
     output: &mut W,
     faults: &mut E,
-) -> Result<Tally, Trouble> {
+) -> Result<Tally, Trouble>
+    ensures { WroteTo W.gone_out W.has_failed asked.how asked.pass output.old output.new result }
+{
     match Clerk::new(alloc, rules, asked.how, asked.pass, asked.layout.most) {
         Ok(mut clerk) => read_by(inbox, &mut clerk, asked.layout, output, faults),
         Err(_) => Err(Trouble::Memory),
@@ -107,13 +126,18 @@ fn read_from<R: Source, W: Sink, E: Sink>(
 }
 
 /// Reads all records by this clerk, and writes all that waits.
+#[tactic(auto, using(crate::proofs::ToldLemmas::goes_both))]
 fn read_by<R: Source, W: Sink, E: Sink>(
     inbox: &mut Inbox<R>,
     clerk: &mut Clerk<'_>,
     layout: Layout,
     output: &mut W,
     faults: &mut E,
-) -> Result<Tally, Trouble> {
+) -> Result<Tally, Trouble>
+    ensures goes { GoesTo W.gone_out W.has_failed E.gone_out E.has_failed clerk.old clerk.new output.old output.new faults.old faults.new }
+    ensures empty { clerk.new.output.failed ≡ false → clerk.new.output.waiting ≡ [] }
+    ensures tally { IfOk result (λ tally. tally ≡ clerk.new.tally) }
+{
     let read = read_shape(inbox, clerk, layout, output, faults);
     if clerk.flush(output, faults).is_err() {
         return Err(Trouble::Write);
@@ -131,7 +155,9 @@ fn read_shape<R: Source, W: Sink, E: Sink>(
     layout: Layout,
     output: &mut W,
     faults: &mut E,
-) -> Result<(), Trouble> {
+) -> Result<(), Trouble>
+    ensures goes { GoesTo W.gone_out W.has_failed E.gone_out E.has_failed clerk.old clerk.new output.old output.new faults.old faults.new }
+{
     match layout.shape {
         Shape::Lines(lines) => read_lines(inbox, clerk, lines, output, faults),
         Shape::Frames => read_frames(inbox, clerk, layout.most, output, faults),
@@ -145,7 +171,9 @@ pub(crate) fn read_more<R: Source, W: Sink, E: Sink>(
     clerk: &mut Clerk<'_>,
     output: &mut W,
     faults: &mut E,
-) -> Result<bool, Trouble> {
+) -> Result<bool, Trouble>
+    ensures goes { GoesTo W.gone_out W.has_failed E.gone_out E.has_failed clerk.old clerk.new output.old output.new faults.old faults.new }
+{
     if clerk.flush(output, faults).is_err() {
         return Err(Trouble::Write);
     }

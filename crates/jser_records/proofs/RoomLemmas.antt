@@ -1,0 +1,124 @@
+-- The room in which bytes wait.
+use Rattle.std.proofs.Common.{◌≡◌, ◌≢◌, ℕ, zero, suc, ◌+◌, ◌-◌, ◌≤◌, ◌<◌, min, Bool, true, false, List, [], ◌∷◌, ◌++◌, length, take, drop, get_or, Option, Some, None, inl, inr, refl, sym, ap, subst, ◌∙◌, arith}
+use Rattle.std.proofs.lemmas.Bool.{cases_lt, eqb-true, eq-eqb}
+use Rattle.std.proofs.lemmas.List.{take-append-drop, append_assoc, append-nil, take_at, drop_at, drop-take, drop-append-le, take-append-le, length-append, length-take-le, length-drop, length-take, drop_more, take_all, drop-drop, get_or-drop, get_or-take, get_or_default}
+use Rattle.std.specs.List.{All, copy_within}
+use Rattle.std.specs.Prelude.{slice_index, slice_index_or}
+use Rattle.memchr.specs.Find.{IsFirstByte, is_byte}
+use Rattle.std.specs.Io.KnownBytes.{Consumes}
+use Rattle.jser_records.specs.Arriving.{ComesMore, view_of, Fits, HasNone, IsBefore, part_from, room_size}
+
+part_is : (room : List ℕ) (s e : ℕ) → s ≤ e → part_from room s e ≡ take (e - s) (drop s room)
+part_is room s e le = let n : s + (e - s) ≡ e = omega (arith, le) in ap (λ k. drop s (take k room)) (sym n) ∙ drop-take s (e - s) room
+
+-- the part stands at the front of the room
+pub moved : (room new : List ℕ) (s e : ℕ) → new ≡ copy_within room s e 0 → s ≤ e → e ≤ length room → part_from new 0 (e - s) ≡ part_from room s e
+moved room new s e is le in_room =
+    let long : length (take (e - s) (drop s room)) ≡ e - s = length-take-le (e - s) (drop s room) (subst (λ k. e - s ≤ k) (sym (length-drop s room)) (omega (arith, le, in_room))) in
+    ap (λ r. take (e - s) r) is ∙ take_at (take (e - s) (drop s room)) (drop (0 + (e - s)) room) (e - s) long ∙ sym (part_is room s e le)
+
+pub moved_fits : (room new : List ℕ) (s e sought searched : ℕ) → new ≡ copy_within room s e 0 → length new ≡ length room → Fits room s e sought searched
+    → Fits new 0 (e - s) sought searched
+moved_fits room new s e sought searched is same fits = record {
+  size = same ∙ fits.size;
+  ordered = omega arith;
+  inside = let a = fits.inside in let b = fits.ordered in omega (arith, a, b, same);
+  known = let a = fits.known in omega (arith, a);
+  none = subst (λ xs. HasNone sought (take searched xs)) (sym (moved room new s e is fits.ordered fits.inside)) fits.none;
+}
+
+-- so many bytes were written behind the part
+filled : (room new : List ℕ) (s e n : ℕ) → take e new ≡ take e room → e ≤ length room → length new ≡ length room → s ≤ e → n ≤ length (drop e new)
+    → part_from new s (e + n) ≡ part_from room s e ++ take n (drop e new)
+filled room new s e n front in_room same le few =
+    let long : length (take e new) ≡ e = length-take-le e new (omega (arith, in_room, same)) in
+    let within : take (e + n) new ≡ take e new ++ take n (drop e new) =
+    ap (λ xs. take (e + n) xs) (sym (take-append-drop e new) ∙ ap (λ f. take e new ++ f) (sym (take-append-drop n (drop e new)))
+    ∙ sym (append_assoc (take e new) (take n (drop e new)) (drop n (drop e new))))
+    ∙ take_at (take e new ++ take n (drop e new)) (drop n (drop e new)) (e + n)
+    (length-append (take e new) (take n (drop e new)) ∙ ap (λ k. length (take e new) + k) (length-take-le n (drop e new) few) ∙ ap (λ k. k + n) long) in
+    ap (λ xs. drop s xs) within ∙ drop-append-le s (take e new) (take n (drop e new)) (subst (λ k. s ≤ k) (sym long) le) ∙ ap (λ xs. drop s xs ++ take n (drop e new)) front
+
+pub same_part : (room new : List ℕ) (s e : ℕ) → take e new ≡ take e room → part_from new s e ≡ part_from room s e
+same_part room new s e front = ap (λ xs. drop s xs) front
+
+pub same_fits : (room new : List ℕ) (s e sought searched : ℕ) → take e new ≡ take e room → length new ≡ length room → Fits room s e sought searched → Fits new s e sought searched
+same_fits room new s e sought searched front same fits = record {
+  size = same ∙ fits.size;
+  ordered = fits.ordered;
+  inside = subst (λ k. e ≤ k) (sym same) fits.inside;
+  known = fits.known;
+  none = subst (λ xs. HasNone sought (take searched xs)) (sym (same_part room new s e front)) fits.none;
+}
+
+searched_more : (xs ys : List ℕ) (n sought : ℕ) → n ≤ length xs → HasNone sought (take n xs) → HasNone sought (take n (xs ++ ys))
+searched_more xs ys n sought le none = subst (λ zs. HasNone sought zs) (sym (take-append-le n xs ys le)) none
+
+part_size : (room : List ℕ) (s e : ℕ) → e ≤ length room → length (part_from room s e) ≡ e - s
+part_size room s e in_room = length-drop s (take e room) ∙ ap (λ k. k - s) (length-take-le e room in_room)
+
+pub filled_fits : (room new : List ℕ) (s e n sought searched : ℕ) → take e new ≡ take e room → length new ≡ length room → n ≤ length (drop e new)
+    → Fits room s e sought searched → Fits new s (e + n) sought searched
+filled_fits room new s e n sought searched front same few fits = record {
+  size = same ∙ fits.size;
+  ordered = let a = fits.ordered in omega (arith, a);
+  inside = let a = fits.inside in let rest = length-drop e new in omega (arith, a, same, rest, few);
+  known = let a = fits.known in omega (arith, a);
+  none =
+      subst (λ xs. HasNone sought (take searched xs)) (sym (filled room new s e n front fits.inside same fits.ordered few))
+      (searched_more (part_from room s e) (take n (drop e new)) searched sought (subst (λ k. searched ≤ k) (sym (part_size room s e fits.inside)) fits.known) fits.none);
+}
+
+pub filled_comes : (room new : List ℕ) (had has : Option (List ℕ)) (s e n sought searched : ℕ) (over : Bool) → take e new ≡ take e room → length new ≡ length room
+    → n ≤ length (drop e new) → Consumes had has (take n (drop e new)) → Fits room s e sought searched
+    → ComesMore (view_of had room s e sought over) (view_of has new s (e + n) sought over)
+filled_comes room new had has s e n sought searched over front same few off fits = record {
+  bytes = take n (drop e new);
+  waits = filled room new s e n front fits.inside same fits.ordered few;
+  off = off;
+  sought = refl;
+}
+
+-- ---- the search
+
+-- none so far, and none in the rest up to some place
+none_both : (xs : List ℕ) (sought searched n : ℕ) → searched ≤ length xs → searched + n ≤ length xs → HasNone sought (take searched xs)
+    → ((k : ℕ) → k < n → is_byte sought (slice_index (drop searched xs) k) ≡ true → ⊥) → HasNone sought (take (searched + n) xs)
+none_both xs sought searched n le in_xs front rest = λ k d inside same.
+    let size : length (take (searched + n) xs) ≡ searched + n = length-take-le (searched + n) xs in_xs in
+    let below : k < searched + n = subst (λ m. k < m) size inside in
+    let is : get_or xs k d ≡ sought = sym (get_or-take (searched + n) xs k d below) ∙ same in
+    elim (cases_lt k searched) [
+      | inl less ↦ front k d (subst (λ m. k < m) (sym (length-take-le searched xs le)) less) (get_or-take searched xs k d less ∙ is)
+      | inr more ↦
+          let there : searched + (k - searched) ≡ k = omega (arith, more) in
+          rest (k - searched) (omega (arith, more, below))
+          (eq-eqb (slice_index (drop searched xs) (k - searched)) sought
+          (get_or-drop searched xs (k - searched) 0 ∙ ap (λ m. get_or xs m 0) there ∙ get_or_default xs k 0 d (omega (arith, below, in_xs)) ∙ is))
+    ]
+
+pub found_first : (xs rest : List ℕ) (sought searched at : ℕ) → rest ≡ drop searched xs → searched ≤ length xs → HasNone sought (take searched xs)
+    → IsFirstByte (is_byte sought) rest (Some at) → IsBefore sought xs (searched + at)
+found_first xs rest sought searched at is le front h =
+    let long : length rest ≡ length xs - searched = ap length is ∙ length-drop searched xs in
+    let high : at < length rest = h.0.high in
+    let inside : searched + at < length xs = omega (arith, long, high, le) in
+    let there : get_or xs (searched + at) 0 ≡ sought =
+    sym (get_or-drop searched xs at 0) ∙ ap (λ r. get_or r at 0) (sym is) ∙ eqb-true (slice_index rest at) sought h.1 in
+    record {
+      rest = drop (searched + at + 1) xs;
+      split = sym (take-append-drop (searched + at) xs) ∙ ap (λ ys. take (searched + at) xs ++ ys) (drop_more xs (searched + at) 0 inside ∙ ap (λ b. b ∷ drop (searched + at + 1) xs) there);
+      none =
+          none_both xs sought searched at le (omega (arith, inside)) front
+          (λ k less passes. h.0.before k (omega arith) less (subst (λ r. is_byte sought (slice_index r k) ≡ true) (sym is) passes));
+      inside = inside;
+    }
+
+pub found_none : (xs rest : List ℕ) (sought searched : ℕ) → rest ≡ drop searched xs → searched ≤ length xs → HasNone sought (take searched xs)
+    → IsFirstByte (is_byte sought) rest None → HasNone sought xs
+found_none xs rest sought searched is le front h =
+    let long : length rest ≡ length xs - searched = ap length is ∙ length-drop searched xs in
+    let all : searched + length rest ≡ length xs = omega (arith, long, le) in
+    subst (λ zs. HasNone sought zs) (ap (λ n. take n xs) all ∙ take_all (length xs) xs (omega arith))
+    (none_both xs sought searched (length rest) le (omega (arith, all)) front
+    (λ k less passes. h k (omega arith) less (subst (λ r. is_byte sought (slice_index r k) ≡ true) (sym is) passes)))

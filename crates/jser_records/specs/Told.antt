@@ -1,0 +1,147 @@
+-- What is told of records, one after another: on standard output, and on standard error.
+use Rattle.std.specs.Prelude.{ℕ, ◌≡◌, ◌⊎◌, ◌+◌, ◌-◌, ◌^◌, min, Bool, true, false, ◌&&◌, not, if◌then◌else◌, List, [], ◌∷◌, ◌++◌, Option, Result, IfOk}
+use Rattle.std.specs.Io.KnownBytes.{Appends}
+use Rattle.jser_prim.specs.Outgoing.{SinkState, sink_state}
+use Rattle.jser_printer.specs.Says.{Says}
+use Rattle.jser_scan.specs.declared.How.{How}
+use Rattle.jser_scan.specs.declared.Tally.{Tally}
+use Rattle.jser_scan.specs.Lines.{is_accepted}
+use Rattle.jser_scan.specs.Tallies.{no_files, noted, one_accepted, one_unread, one_more, status_of}
+use Rattle.jser_records.specs.declared.answer.Answer.{Answer}
+use Rattle.jser_records.specs.declared.answer.Answer.TheVariants as answer
+use Rattle.jser_records.specs.declared.clerk.Clerk.{Clerk}
+use Rattle.jser_records.specs.declared.key.Key.{Key}
+use Rattle.jser_records.specs.declared.run.Trouble.{Trouble}
+use Rattle.jser_records.specs.Words.{line_words, object_words}
+
+-- it lets a record pass: it is accepted, or has no value
+abbrev pub passes : Answer → Bool
+passes (answer.Checked result) = is_accepted result
+passes answer.Null = true
+passes (answer.Longer most) = false
+passes answer.LongKey = false
+passes (answer.Cut at total) = false
+passes answer.NoLength = false
+
+-- the counts with one record more
+abbrev pub counted : Tally → Answer → Tally
+counted tally (answer.Checked result) = noted tally result
+counted tally answer.Null = one_accepted tally
+counted tally (answer.Longer most) = one_unread tally
+counted tally answer.LongKey = one_unread tally
+counted tally (answer.Cut at total) = one_unread tally
+counted tally answer.NoLength = one_unread tally
+
+-- a record that has ended: its KEY with the units of it, its answer, and the bytes of it that were kept
+pub record Entry : Type 0 where
+  pub key : Key
+  pub units : List ℕ
+  pub answer : Answer
+  pub held : List ℕ
+
+-- its line, or its object
+abbrev pub entry_words : (json : Bool) → (number : ℕ) → Key → (units : List ℕ) → Answer → List ℕ → List ℕ
+entry_words json number key units result k = if json then object_words number key units result k else line_words number key units result k
+
+-- What goes to standard output of a record. Where records are handed on, the bytes of one that passes, and nothing of another
+-- one; else its line or its object, unless it passes and only the others are asked for.
+abbrev pub put_of : How → (hands_on : Bool) → (number : ℕ) → Key → (units : List ℕ) → Answer → (held : List ℕ) → List ℕ → List ℕ
+put_of how hands_on number key units result held k =
+    if hands_on then (if passes result then held ++ k else k)
+    else (if how.refused && passes result then k else entry_words how.json number key units result k)
+
+-- and to standard error: where records are handed on, the line or the object of one that does not pass
+abbrev pub told_of : How → (hands_on : Bool) → (number : ℕ) → Key → (units : List ℕ) → Answer → List ℕ → List ℕ
+told_of how hands_on number key units result k = if hands_on && not (passes result) then entry_words how.json number key units result k else k
+
+-- A record ended; or bytes behind one that passes were handed on with it.
+pub data Event : Type 0 where
+  ended : Entry → Event
+  behind : List ℕ → Event
+
+-- ---- of one event after another, where so many records ended before
+
+abbrev pub number_after : ℕ → Event → ℕ
+number_after number (ended e) = one_more number
+number_after number (behind bytes) = number
+
+abbrev pub put_event : How → Bool → ℕ → Event → List ℕ → List ℕ
+put_event how hands_on number (ended e) k = put_of how hands_on number e.key e.units e.answer e.held k
+put_event how hands_on number (behind bytes) k = if hands_on then bytes ++ k else k
+
+abbrev pub told_event : How → Bool → ℕ → Event → List ℕ → List ℕ
+told_event how hands_on number (ended e) k = told_of how hands_on number e.key e.units e.answer k
+told_event how hands_on number (behind bytes) k = k
+
+abbrev pub counted_event : Tally → Event → Tally
+counted_event tally (ended e) = counted tally e.answer
+counted_event tally (behind bytes) = tally
+
+abbrev pub number_at_end : ℕ → List Event → ℕ
+number_at_end number [] = number
+number_at_end number (e ∷ es) = number_at_end (number_after number e) es
+
+abbrev pub all_put : How → Bool → ℕ → List Event → List ℕ → List ℕ
+all_put how hands_on number [] k = k
+all_put how hands_on number (e ∷ es) k = put_event how hands_on number e (all_put how hands_on (number_after number e) es k)
+
+abbrev pub all_told : How → Bool → ℕ → List Event → List ℕ → List ℕ
+all_told how hands_on number [] k = k
+all_told how hands_on number (e ∷ es) k = told_event how hands_on number e (all_told how hands_on (number_after number e) es k)
+
+abbrev pub all_counted : Tally → List Event → Tally
+all_counted tally [] = tally
+all_counted tally (e ∷ es) = all_counted (counted_event tally e) es
+
+-- these events came to a clerk, and it said all of them, and nothing else
+pub record SaysAll (old new : Clerk) (before after : SinkState) (told_before told_after : SinkState) (events : List Event) : Type 0 where
+  pub output : Says old.output new.output before after (λ k. all_put old.how old.passes old.number events k)
+  pub faults : Says old.faults new.faults told_before told_after (λ k. all_told old.how old.passes old.number events k)
+  pub number : new.number ≡ number_at_end old.number events
+  pub tally : new.tally ≡ all_counted old.tally events
+  pub how : new.how ≡ old.how
+  pub passes : new.passes ≡ old.passes
+
+-- some events came
+pub record Goes (old new : Clerk) (before after : SinkState) (told_before told_after : SinkState) : Type 0 where
+  pub events : List Event
+  pub says : SaysAll old new before after told_before told_after events
+
+-- the same of devices, by what they tell
+abbrev pub GoesTo : {S T : Type 0} → (S → Option (List ℕ)) → (S → Bool) → (T → Option (List ℕ)) → (T → Bool) → (old new : Clerk) → (before after : S) → (told_before told_after : T) → Type 0
+GoesTo gone_out has_failed told_out told_failed old new before after told_before told_after =
+    Goes old new (sink_state (gone_out before) (has_failed before)) (sink_state (gone_out after) (has_failed after))
+    (sink_state (told_out told_before) (told_failed told_before)) (sink_state (told_out told_after) (told_failed told_after))
+
+-- one record ended
+pub record Closes (old new : Clerk) (before after : SinkState) (told_before told_after : SinkState) (result : Bool) : Type 0 where
+  pub entry : Entry
+  pub says : SaysAll old new before after told_before told_after (ended entry ∷ [])
+  pub held : entry.held ≡ old.current.held.items
+  pub passed : result ≡ passes entry.answer
+
+abbrev pub ClosesTo : {S T : Type 0} → (S → Option (List ℕ)) → (S → Bool) → (T → Option (List ℕ)) → (T → Bool) → (old new : Clerk) → (before after : S) → (told_before told_after : T) → (passed : Bool) → Type 0
+ClosesTo gone_out has_failed told_out told_failed old new before after told_before told_after passed =
+    Closes old new (sink_state (gone_out before) (has_failed before)) (sink_state (gone_out after) (has_failed after))
+    (sink_state (told_out told_before) (told_failed told_before)) (sink_state (told_out told_after) (told_failed told_after)) passed
+
+-- What is written of all records of an input: as long as the output has not failed, what is put of the records in their order,
+-- from number 0, and nothing else. The status is that of their counts, or 3.
+pub record Written (how : How) (hands_on : Bool) (before after : SinkState) (result : ℕ) : Type 0 where
+  pub events : List Event
+  pub put : after.failed ≡ false → Appends before.gone_out after.gone_out (all_put how hands_on 0 events [])
+  pub status : (result ≡ 3) ⊎ (result ≡ status_of (all_counted no_files events))
+
+abbrev pub WrittenTo : {S : Type 0} → (S → Option (List ℕ)) → (S → Bool) → How → Bool → (before after : S) → (status : ℕ) → Type 0
+WrittenTo gone_out has_failed how hands_on before after status =
+    Written how hands_on (sink_state (gone_out before) (has_failed before)) (sink_state (gone_out after) (has_failed after)) status
+
+-- the same where the counts are known, unless there is a trouble
+pub record Wrote (how : How) (hands_on : Bool) (before after : SinkState) (result : Result Tally Trouble) : Type 0 where
+  pub events : List Event
+  pub put : after.failed ≡ false → Appends before.gone_out after.gone_out (all_put how hands_on 0 events [])
+  pub tally : IfOk result (λ tally. tally ≡ all_counted no_files events)
+
+abbrev pub WroteTo : {S : Type 0} → (S → Option (List ℕ)) → (S → Bool) → How → Bool → (before after : S) → Result Tally Trouble → Type 0
+WroteTo gone_out has_failed how hands_on before after result =
+    Wrote how hands_on (sink_state (gone_out before) (has_failed before)) (sink_state (gone_out after) (has_failed after)) result
