@@ -58,7 +58,7 @@ enum {
 typedef struct {
     uint32_t status;
     uint32_t reason;   /* of NO the reason, of MISUSE the cause */
-    uint64_t from;     /* of NO the offset of the faulty field, of MISUSE the faulty piece or line, from 0 */
+    uint64_t from;     /* of NO the offset of the faulty token, of MISUSE the faulty piece or line, from 0 */
     uint64_t to;       /* of NO how many bytes decide: no admitted stream begins with these (of Truncated: all, which are none) */
     uint64_t bytes;    /* of YES the counts of the stream: its bytes, */
     uint64_t contents; /* its top-level contents, */

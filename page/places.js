@@ -1,7 +1,7 @@
 // The bytes round the place of a refusal, and the class name that is there.
 
 const ROUND = 32; // how many bytes are shown before and behind
-const FIELD = 96; // how many of the field's own, at its front and at its end
+const TOKEN = 96; // how many of the token's own, at its front and at its end
 
 const inHex = (number, digits) => number.toString(16).toUpperCase().padStart(digits, "0");
 
@@ -11,7 +11,7 @@ function rowsOf(bytes, from, to, width) {
     const end = Math.min(bytes.length, to + ROUND);
     const rows = [];
     for (let at = start - (start % width); at < end; at += width) {
-        if (at - from >= FIELD && to - at >= FIELD) {
+        if (at - from >= TOKEN && to - at >= TOKEN) {
             if (rows.at(-1) !== null) {
                 rows.push(null);
             }
@@ -22,7 +22,7 @@ function rowsOf(bytes, from, to, width) {
     return rows;
 }
 
-/** The dump as elements: each row has its offset, its bytes and their signs; the field is marked. */
+/** The dump as elements: each row has its offset, its bytes and their signs; the token is marked. */
 function dumped(bytes, from, to, width) {
     const box = element("div", "dump");
     const digits = Math.max(4, inHex(bytes.length, 1).length);
@@ -53,7 +53,7 @@ function dumped(bytes, from, to, width) {
     return box;
 }
 
-/** The class name that a refusal is about, quoted, or null: its text is the field, or it stands where HiddenName says. */
+/** The class name that a refusal is about, quoted, or null: its text is the token, or it stands where HiddenName says. */
 function nameAt(bytes, reason, from, to) {
     if (reason === "ClassRejected" || reason === "ClassUnmatched") {
         return quoted(loose(bytes.subarray(from + 2, to)));

@@ -37,7 +37,7 @@ class Answer(ctypes.Structure):
         depth     its depth, as the filter's `maxdepth` counts it
         handles   how many handles it assigns
     Of a refusal, and 0 of a yes:
-        start     the offset of the faulty field, in bytes
+        start     the offset of the faulty token, in bytes
         end       how many bytes decide: no admitted stream begins with these (of Truncated: all, which are no stream)
     Of both:
         whole     the length of the longest front of the bytes that is a stream which the filter admits, or 0: where to cut

@@ -83,7 +83,7 @@ stopped_prompt told gate old had has total stop.Spent same st s = tt
 pub stands_undecided : (gate : Gate) (bytes : List ℕ) (r : Seen) (tally : Tally) → StandsFor gate bytes r tally → DecideNothing gate bytes
 unfolding StandsFor
 stands_undecided gate bytes r tally s =
-    let k = s.0.taken in refuses_promptly gate bytes k.cut (left begin_state k.fields) k.all_bytes s.1 k.walked
+    let k = s.0.taken in refuses_promptly gate bytes k.cut (left begin_state k.tokens) k.all_bytes s.1 k.walked
 
 failed_tells : {G : Type 0} (told : G → Gate) (gate : G) (old new : Reading G) (had has : Option (List ℕ)) → old.gate ≡ gate
     → StandsFor (told gate) [] old.machine old.tally → TakenAll told old new had has → Undecided (told gate) had has

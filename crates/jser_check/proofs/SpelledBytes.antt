@@ -12,13 +12,13 @@ use Rattle.jser_grammar.specs.Parts.{IsBytes}
 use Rattle.jser_grammar.specs.Spelling.{utf, long_utf, prims_spelling}
 use Rattle.jser_grammar.specs.Streams.{IsStreamOf}
 use Rattle.jser_reading.specs.Moments.{Moment}
-use Rattle.jser_reading.specs.Labels.{Tag, null_tag, reference_tag, class_desc_tag, object_tag, string_tag, array_tag, class_tag, long_string_tag, proxy_desc_tag, enum_tag, StreamField, header_field, tag_field, block_tag_field, end_tag_field, reset_tag_field, handle_field, suid_field, flags_field, field_count_field, interface_count_field, array_length_field, code_field, text_field, block_length_field, prims_field, bytes_field, Piece, piece, Position, nowhere, header_at, top_at, annotation_at, value_at, text_place_at, class_place_at, superclass_place_at, back_handle_at, text_handle_at, class_handle_at, superclass_handle_at, string_at, class_name_at, field_name_at, interface_name_at, suid_at, field_count_at, interface_count_at, array_length_at, flags_at, type_code_at, block_length_at, raw_at, bytes_at}
-use Rattle.jser_reading.specs.FieldBytes.{tag_byte, bytes_of, joined}
-use Rattle.jser_reading.specs.Fields.{fields_of}
+use Rattle.jser_reading.specs.Labels.{Tag, null_tag, reference_tag, class_desc_tag, object_tag, string_tag, array_tag, class_tag, long_string_tag, proxy_desc_tag, enum_tag, StreamToken, header_token, tag_token, block_tag_token, end_tag_token, reset_tag_token, handle_token, suid_token, flags_token, field_count_token, interface_count_token, array_length_token, code_token, text_token, block_length_token, prims_token, bytes_token, Piece, piece, Position, nowhere, header_at, top_at, annotation_at, value_at, text_place_at, class_place_at, superclass_place_at, back_handle_at, text_handle_at, class_handle_at, superclass_handle_at, string_at, class_name_at, field_name_at, interface_name_at, suid_at, field_count_at, interface_count_at, array_length_at, flags_at, type_code_at, block_length_at, raw_at, bytes_at}
+use Rattle.jser_reading.specs.TokenBytes.{tag_byte, bytes_of, joined}
+use Rattle.jser_reading.specs.Tokens.{tokens_of}
 use Rattle.jser_reading.specs.Goals.{State, settled}
 use Rattle.jser_reading.specs.Accepts.{may_follow, AcceptsAt, label_of}
 use Rattle.jser_reading.specs.Machine.{begin_state, advance, Reads}
-use Rattle.jser_reading.proofs.SpelledFields.{spelled_law}
+use Rattle.jser_reading.proofs.SpelledTokens.{spelled_law}
 use Rattle.jser_reading.proofs.Exact.{exact_law}
 use Rattle.jser_verdict.proofs.ByteLists.{bytes_both}
 
@@ -46,12 +46,12 @@ prim_bytes : (ps : List PrimTree) → IsBytes (prims_spelling ps)
 prim_bytes [] = refl
 prim_bytes (p ∷ ps) = bytes_both (big_bytes (size_of p.code) p.bits) (prims_spelling ps) (number_bytes (size_of p.code) p.bits) (prim_bytes ps)
 
--- ---- fields
+-- ---- tokens
 
 code_fits : (seen : Bool) (n : ℕ) → IsTrue (may_follow seen n) → n < 256
 code_fits seen n h = grind (arith, nat_tests)
 
-flags_fit : (p : Position) (m : Moment) (n : ℕ) → AcceptsAt p m (flags_field n) → n < 256
+flags_fit : (p : Position) (m : Moment) (n : ℕ) → AcceptsAt p m (flags_token n) → n < 256
 flags_fit nowhere m n h = absurd h
 flags_fit header_at m n h = absurd h
 flags_fit top_at m n h = absurd h
@@ -82,7 +82,7 @@ flags_fit (raw_at c (suc k)) m n h = absurd h
 flags_fit (bytes_at zero) m n h = absurd h
 flags_fit (bytes_at (suc k)) m n h = absurd h
 
-code_fits_at : (p : Position) (m : Moment) (n : ℕ) → AcceptsAt p m (code_field n) → n < 256
+code_fits_at : (p : Position) (m : Moment) (n : ℕ) → AcceptsAt p m (code_token n) → n < 256
 code_fits_at nowhere m n h = absurd h
 code_fits_at header_at m n h = absurd h
 code_fits_at top_at m n h = absurd h
@@ -113,7 +113,7 @@ code_fits_at (raw_at c (suc k)) m n h = absurd h
 code_fits_at (bytes_at zero) m n h = absurd h
 code_fits_at (bytes_at (suc k)) m n h = absurd h
 
-text_units : (p : Position) (m : Moment) (long : Bool) (units : List ℕ) → AcceptsAt p m (text_field long units) → IsUnits units
+text_units : (p : Position) (m : Moment) (long : Bool) (units : List ℕ) → AcceptsAt p m (text_token long units) → IsUnits units
 text_units nowhere m long units h = absurd h
 text_units header_at m long units h = absurd h
 text_units top_at m long units h = absurd h
@@ -149,7 +149,7 @@ text_units (raw_at c (suc k)) m long units h = absurd h
 text_units (bytes_at zero) m long units h = absurd h
 text_units (bytes_at (suc k)) m long units h = absurd h
 
-block_bytes : (p : Position) (m : Moment) (bytes : List ℕ) → AcceptsAt p m (bytes_field bytes) → IsBytes bytes
+block_bytes : (p : Position) (m : Moment) (bytes : List ℕ) → AcceptsAt p m (bytes_token bytes) → IsBytes bytes
 block_bytes nowhere m bytes h = absurd h
 block_bytes header_at m bytes h = absurd h
 block_bytes top_at m bytes h = absurd h
@@ -192,35 +192,35 @@ tag_bytes long_string_tag = refl
 tag_bytes proxy_desc_tag = refl
 tag_bytes enum_tag = refl
 
-field_bytes : (p : Position) (m : Moment) (field : StreamField) → AcceptsAt p m field → IsBytes (bytes_of field)
-field_bytes p m header_field h = refl
-field_bytes p m (tag_field tag) h = tag_bytes tag
-field_bytes p m (block_tag_field false) h = refl
-field_bytes p m (block_tag_field true) h = refl
-field_bytes p m end_tag_field h = refl
-field_bytes p m reset_tag_field h = refl
-field_bytes p m (handle_field n) h = number_bytes 4 (0x7E0000 + n)
-field_bytes p m (suid_field n) h = number_bytes 8 n
-field_bytes p m (flags_field n) h = one_byte n (flags_fit p m n h)
-field_bytes p m (field_count_field n) h = number_bytes 2 n
-field_bytes p m (interface_count_field n) h = number_bytes 4 n
-field_bytes p m (array_length_field n) h = number_bytes 4 n
-field_bytes p m (code_field n) h = one_byte n (code_fits_at p m n h)
-field_bytes p m (text_field false units) h = text_bytes 2 units (text_units p m false units h)
-field_bytes p m (text_field true units) h = text_bytes 8 units (text_units p m true units h)
-field_bytes p m (block_length_field false n) h = number_bytes 1 n
-field_bytes p m (block_length_field true n) h = number_bytes 4 n
-field_bytes p m (prims_field ps) h = prim_bytes ps
-field_bytes p m (bytes_field bytes) h = block_bytes p m bytes h
+token_bytes : (p : Position) (m : Moment) (token : StreamToken) → AcceptsAt p m token → IsBytes (bytes_of token)
+token_bytes p m header_token h = refl
+token_bytes p m (tag_token tag) h = tag_bytes tag
+token_bytes p m (block_tag_token false) h = refl
+token_bytes p m (block_tag_token true) h = refl
+token_bytes p m end_tag_token h = refl
+token_bytes p m reset_tag_token h = refl
+token_bytes p m (handle_token n) h = number_bytes 4 (0x7E0000 + n)
+token_bytes p m (suid_token n) h = number_bytes 8 n
+token_bytes p m (flags_token n) h = one_byte n (flags_fit p m n h)
+token_bytes p m (field_count_token n) h = number_bytes 2 n
+token_bytes p m (interface_count_token n) h = number_bytes 4 n
+token_bytes p m (array_length_token n) h = number_bytes 4 n
+token_bytes p m (code_token n) h = one_byte n (code_fits_at p m n h)
+token_bytes p m (text_token false units) h = text_bytes 2 units (text_units p m false units h)
+token_bytes p m (text_token true units) h = text_bytes 8 units (text_units p m true units h)
+token_bytes p m (block_length_token false n) h = number_bytes 1 n
+token_bytes p m (block_length_token true n) h = number_bytes 4 n
+token_bytes p m (prims_token ps) h = prim_bytes ps
+token_bytes p m (bytes_token bytes) h = block_bytes p m bytes h
 
 -- ---- streams
 
 read_bytes : (pieces : List Piece) (s : State) → Reads s pieces → IsBytes (joined pieces)
 read_bytes [] s h = refl
-read_bytes (piece label field ∷ pieces) s h =
-    bytes_both (bytes_of field) (joined pieces) (field_bytes (label_of (settled s)).position (label_of (settled s)).moment field h.1)
-    (read_bytes pieces (advance (settled s) field) h.2)
+read_bytes (piece label token ∷ pieces) s h =
+    bytes_both (bytes_of token) (joined pieces) (token_bytes (label_of (settled s)).position (label_of (settled s)).moment token h.1)
+    (read_bytes pieces (advance (settled s) token) h.2)
 
 pub stream_bytes : (bytes : List ℕ) (list : ContentTrees) → IsStreamOf bytes list → IsBytes bytes
 stream_bytes bytes list s =
-    subst IsBytes (spelled_law list s.1 ∙ sym s.0) (read_bytes (fields_of list) begin_state ((exact_law (fields_of list)).1 (list, s.1, refl)))
+    subst IsBytes (spelled_law list s.1 ∙ sym s.0) (read_bytes (tokens_of list) begin_state ((exact_law (tokens_of list)).1 (list, s.1, refl)))

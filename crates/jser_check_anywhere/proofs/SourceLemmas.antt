@@ -6,7 +6,7 @@ use Rattle.std.proofs.Common.{◌≡◌, ◌≢◌, ◌⊎◌, Bool, ℕ, ◌+�
 use Rattle.std.proofs.lemmas.Bool.{cases_lt}
 use Rattle.jser_grammar.specs.Caps.{most_bytes}
 use Rattle.jser_reading.specs.Labels.{Label}
-use Rattle.jser_reading.specs.FieldBytes.{joined}
+use Rattle.jser_reading.specs.TokenBytes.{joined}
 use Rattle.jser_verdict.specs.Reasons.{truncated}
 use Rattle.jser_verdict.specs.Reasons.{Reason as ToldReason}
 use Rattle.jser_verdict.specs.Gates.{Gate}
@@ -116,13 +116,13 @@ stopped_at_start filter options check had = record { before = []; last = []; few
 
 -- ---- of all bytes
 
--- a field that is open in all bytes, and ends in a front of them, is open in the front
+-- a token that is open in all bytes, and ends in a front of them, is open in the front
 open_shorter : (front rest bytes : List ℕ) (at : ℕ) (label : Label) (some after : List ℕ) → bytes ≡ front ++ rest → (o : OpenAt bytes at label some after)
     → length (joined o.front) + length some ≤ length front → (left : List ℕ) × OpenAt front at label some left
 open_shorter front rest bytes at label some after split o within =
-    let fields = joined o.front in
-    let f = front_of (fields ++ some) after front rest (sym split ∙ o.split ∙ sym (append_assoc fields some after)) (omega (arith, within, length-append fields some)) in
-    (f.0, record { front = o.front; next = o.next; split = f.1 ∙ append_assoc fields some f.0; begins = o.begins; no_field = o.no_field })
+    let tokens = joined o.front in
+    let f = front_of (tokens ++ some) after front rest (sym split ∙ o.split ∙ sym (append_assoc tokens some after)) (omega (arith, within, length-append tokens some)) in
+    (f.0, record { front = o.front; next = o.next; split = f.1 ∙ append_assoc tokens some f.0; begins = o.begins; no_token = o.no_token })
 
 -- a fault of all bytes that ends in a front of them is one of the front, save that the bytes end
 fault_shorter : (gate : Gate) (front rest bytes : List ℕ) (at end : ℕ) (reason : ToldReason) → bytes ≡ front ++ rest → end ≤ length front → IsFault gate bytes at end reason

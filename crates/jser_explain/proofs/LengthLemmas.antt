@@ -9,9 +9,9 @@ use Rattle.jser_shown.specs.Words.{quoted_unit}
 use Rattle.jser_printer.specs.Names.{view_name}
 use Rattle.jser_printer.specs.declared.opened.Open.{Open}
 use Rattle.jser_printer.specs.declared.opened.Open.TheVariants as part
-use Rattle.jser_explain.specs.declared.field.Spot.{Spot}
+use Rattle.jser_explain.specs.declared.token.Spot.{Spot}
 use Rattle.jser_explain.specs.Short.{cut_words, short_name}
-use Rattle.jser_explain.specs.Heads.{class_line, field_line, first_bytes, hex_end, head_words}
+use Rattle.jser_explain.specs.Heads.{class_line, token_line, first_bytes, hex_end, head_words}
 use Rattle.jser_explain.specs.Opened.{class_words, inner_words, left_out_words, name_words, open_words, opened_words, places_words, writer_words}
 use Rattle.jser_explain.specs.Rest.{More, rest_words, without_piece}
 use Rattle.jser_explain.proofs.ShortLemmas.{of_if, unit_short}
@@ -111,8 +111,8 @@ hex_end_short [] k = omega (arith, length-append (codes ":\n") k)
 hex_end_short (b ∷ bytes) k =
     omega (arith, length-append (encode_lower (b ∷ bytes)) (codes "\n" ++ k), length-encode_with lower_digits (b ∷ bytes), length-append (codes "\n") k)
 
-field_short : (spot : Spot) (bytes k : List ℕ) → length (field_line spot (first_bytes bytes spot) k) ≤ 207 + length k
-field_short spot bytes k =
+token_short : (spot : Spot) (bytes k : List ℕ) → length (token_line spot (first_bytes bytes spot) k) ≤ 207 + length k
+token_short spot bytes k =
     let shown = first_bytes bytes spot in
     omega (
       arith,
@@ -127,13 +127,13 @@ pub all_short : (sentence bytes : List ℕ) (spot : Spot) (class : Option (List 
 all_short sentence bytes spot class more words hint =
     let rest = rest_words (without_piece more) [] in
     let tail = class_line class rest in
-    let line = field_line spot (first_bytes bytes spot) tail in
+    let line = token_line spot (first_bytes bytes spot) tail in
     omega (
       arith,
       length-append sentence (codes "\n" ++ line),
       length-append (codes "\n") line,
       words,
-      field_short spot bytes tail,
+      token_short spot bytes tail,
       class_line_short class rest,
       rest_short more [] hint,
     )

@@ -8,8 +8,8 @@ use Rattle.jser_printer.specs.Names.{view_name}
 use Rattle.jser_printer.proofs.SaysLemmas.{says_none, says_both}
 use Rattle.jser_scan.proofs.ScanLemmas.{went, broke, kept}
 use Rattle.jser_scan.specs.declared.found.Found.{Found}
-use Rattle.jser_explain.specs.declared.field.Spot.{Spot}
-use Rattle.jser_explain.specs.Heads.{field_of, field_line, digits_end, hex_end, known_class_line, class_in, class_line, head_words}
+use Rattle.jser_explain.specs.declared.token.Spot.{Spot}
+use Rattle.jser_explain.specs.Heads.{token_of, token_line, digits_end, hex_end, known_class_line, class_in, class_line, head_words}
 use Rattle.jser_explain.specs.Rest.{More, rest_words, without_piece}
 use Rattle.jser_explain.specs.Whys.{why_at, why_words, SaysSomeWhy, SaysWhy, SaysWhyTo}
 
@@ -18,7 +18,7 @@ use Rattle.jser_explain.specs.Whys.{why_at, why_words, SaysSomeWhy, SaysWhy, Say
 no_more : More
 no_more = record { class = None; piece = None; opened = []; writer = None; hint = [] }
 
-pub why_nothing : {S : Type 0} (gone_out : S → Option (List ℕ)) (has_failed : S → Bool) (bytes : List ℕ) (result : Found) (a : Outgoing) (s : S) → field_of result ≡ None
+pub why_nothing : {S : Type 0} (gone_out : S → Option (List ℕ)) (has_failed : S → Bool) (bytes : List ℕ) (result : Found) (a : Outgoing) (s : S) → token_of result ≡ None
     → SaysWhyTo gone_out has_failed bytes result a a s s
 unfolding no_more
 why_nothing gone_out has_failed bytes result a s none = record {
@@ -30,7 +30,7 @@ why_nothing gone_out has_failed bytes result a s none = record {
 }
 
 pub why_all : {S : Type 0} (gone_out : S → Option (List ℕ)) (has_failed : S → Bool) (sentence bytes : List ℕ) (result : Found) (spot : Spot) (class : Option (List ℕ)) (more : More)
-    (a b c : Outgoing) (s t u : S) → field_of result ≡ Some spot → class ≡ class_in result → length (head_words sentence bytes spot class (rest_words (without_piece more) [])) ≤ 102400
+    (a b c : Outgoing) (s t u : S) → token_of result ≡ Some spot → class ≡ class_in result → length (head_words sentence bytes spot class (rest_words (without_piece more) [])) ≤ 102400
     → Says a b (sink_state (gone_out s) (has_failed s)) (sink_state (gone_out t) (has_failed t)) (λ k. head_words sentence bytes spot class k)
     → Says b c (sink_state (gone_out t) (has_failed t)) (sink_state (gone_out u) (has_failed u)) (λ k. rest_words more k)
     → SaysWhyTo gone_out has_failed bytes result a c s u
@@ -93,8 +93,8 @@ why_some gone_out has_failed bytes result start mid now before middle after new 
 
 -- ---- the bytes
 
-pub shown_said : (a b : Outgoing) (d e : SinkState) (spot : Spot) (shown first : List ℕ) → shown ≡ first → Says a b d e (λ k. field_line spot shown k) → Says a b d e (λ k. field_line spot first k)
-shown_said a b d e spot shown first is says = subst (λ bs. Says a b d e (λ k. field_line spot bs k)) is says
+pub shown_said : (a b : Outgoing) (d e : SinkState) (spot : Spot) (shown first : List ℕ) → shown ≡ first → Says a b d e (λ k. token_line spot shown k) → Says a b d e (λ k. token_line spot first k)
+shown_said a b d e spot shown first is says = subst (λ bs. Says a b d e (λ k. token_line spot bs k)) is says
 
 pub hex_some : (a b : Outgoing) (d e : SinkState) (bytes : List ℕ) → (length bytes ≡ 0 → ⊥) → Says a b d e (λ k. digits_end bytes k) → Says a b d e (λ k. hex_end bytes k)
 hex_some a b d e [] some says = absurd (some refl)

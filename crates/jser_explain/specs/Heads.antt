@@ -5,17 +5,17 @@ use Rattle.std.specs.Fmt.{decimal}
 use Rattle.hex.specs.Hex.{encode_lower}
 use Rattle.jser_scan.specs.declared.found.Found.{Found}
 use Rattle.jser_scan.specs.declared.found.Found.TheVariants as found
-use Rattle.jser_explain.specs.declared.field.Spot.{Spot}
+use Rattle.jser_explain.specs.declared.token.Spot.{Spot}
 use Rattle.jser_explain.specs.Short.{short_name}
 
 -- the place of what was found, where it is a refusal
-abbrev pub field_of : Found → Option Spot
-field_of (found.Refused refusal class) = Some (record { from = refusal.from_byte; to = refusal.to_byte })
-field_of (found.Hidden from to class) = Some (record { from = from; to = to })
-field_of (found.Accepted totals) = None
-field_of found.NotOpened = None
-field_of (found.NotRead fault) = None
-field_of found.OutOfMemory = None
+abbrev pub token_of : Found → Option Spot
+token_of (found.Refused refusal class) = Some (record { from = refusal.from_byte; to = refusal.to_byte })
+token_of (found.Hidden from to class) = Some (record { from = from; to = to })
+token_of (found.Accepted totals) = None
+token_of found.NotOpened = None
+token_of (found.NotRead fault) = None
+token_of found.OutOfMemory = None
 
 -- the class name that the filter refused
 abbrev pub units_of : Option (Vec ℕ Global) → Option (List ℕ)
@@ -42,8 +42,8 @@ hex_end [] k = codes ":\n" ++ k
 hex_end (b ∷ bs) k = digits_end (b ∷ bs) k
 
 -- bytes A to E: and the first of them
-abbrev pub field_line : Spot → List ℕ → List ℕ → List ℕ
-field_line spot shown k = codes "  bytes " ++ (decimal spot.from ++ (codes " to " ++ (decimal spot.to ++ hex_end shown k)))
+abbrev pub token_line : Spot → List ℕ → List ℕ → List ℕ
+token_line spot shown k = codes "  bytes " ++ (decimal spot.from ++ (codes " to " ++ (decimal spot.to ++ hex_end shown k)))
 
 -- class NAME, where it is known
 abbrev pub known_class_line : List ℕ → List ℕ → List ℕ
@@ -59,4 +59,4 @@ sentence_line sentence k = codes "  " ++ (sentence ++ (codes "\n" ++ k))
 -- a sentence, the bytes, and the class
 abbrev pub head_words : (sentence bytes : List ℕ) → Spot → Option (List ℕ) → List ℕ → List ℕ
 head_words sentence bytes spot class k =
-    sentence_line sentence (field_line spot (first_bytes bytes spot) (class_line class k))
+    sentence_line sentence (token_line spot (first_bytes bytes spot) (class_line class k))

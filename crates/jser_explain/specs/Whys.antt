@@ -4,8 +4,8 @@ use Rattle.std.specs.Io.KnownBytes.{Appends}
 use Rattle.jser_prim.specs.Outgoing.{Outgoing}
 use Rattle.jser_printer.specs.Says.{SaysTo}
 use Rattle.jser_scan.specs.declared.found.Found.{Found}
-use Rattle.jser_explain.specs.declared.field.Spot.{Spot}
-use Rattle.jser_explain.specs.Heads.{class_in, field_of, head_words}
+use Rattle.jser_explain.specs.declared.token.Spot.{Spot}
+use Rattle.jser_explain.specs.Heads.{class_in, token_of, head_words}
 use Rattle.jser_explain.specs.Rest.{More, rest_words, without_piece}
 
 -- how many bytes it has at most, without the piece of the filter
@@ -18,7 +18,7 @@ why_at None sentence bytes class more k = k
 why_at (Some spot) sentence bytes class more k = head_words sentence bytes spot class (rest_words more k)
 
 abbrev pub why_words : (sentence bytes : List ℕ) → Found → More → List ℕ → List ℕ
-why_words sentence bytes result more k = why_at (field_of result) sentence bytes (class_in result) more k
+why_words sentence bytes result more k = why_at (token_of result) sentence bytes (class_in result) more k
 
 abbrev pub IsShort : (sentence bytes : List ℕ) → Found → More → Type 0
 IsShort sentence bytes result more = length (why_words sentence bytes result (without_piece more) []) ≤ MOST_TEXT

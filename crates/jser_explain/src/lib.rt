@@ -5,13 +5,13 @@
 #![tactic(auto)]
 
 mod answer;
-mod field;
 mod hint;
 mod kept;
 mod opened;
 mod piece;
 mod sentence;
 mod short;
+mod token;
 mod why;
 
 pub use answer::explain;

@@ -5,7 +5,7 @@ ghost use Rattle.jser_printer.specs.Says.{SaysTo};
 ghost use Rattle.jser_shown.specs.Words.{quoted_unit};
 ghost use Rattle.jser_explain.specs.Short.{cut_words, short_name, unit_end};
 
-use crate::field::behind;
+use crate::token::behind;
 use jser_prim::{Outbox, Sink};
 use jser_printer::{Name, write, write_quoted};
 

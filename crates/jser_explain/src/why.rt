@@ -1,16 +1,16 @@
 //! The lines behind that of a refusal.
 ghost use Rattle.std.specs.Prelude.{◌≡◌, ◌≤◌, ◌++◌, OnOk, OnErr, IfErr, Some, length, true};
 ghost use Rattle.jser_printer.specs.Says.{SaysTo};
-ghost use Rattle.jser_explain.specs.Heads.{field_of, head_words, sentence_line};
+ghost use Rattle.jser_explain.specs.Heads.{token_of, head_words, sentence_line};
 ghost use Rattle.jser_explain.specs.Rest.{rest_words, view_rest};
 ghost use Rattle.jser_explain.specs.Whys.{SaysSomeWhy, SaysWhy, SaysWhyTo};
 ghost use Rattle.jser_printer.specs.Names.{view_name};
 
-use crate::field::{Spot, bytes_at, class_in, spot_of, write_class, write_field};
 use crate::hint::hint_of;
 use crate::opened::{write_places, write_writer, writer_in};
 use crate::piece::{Piece, deciding_piece, write_piece};
 use crate::sentence::sentence_of;
+use crate::token::{Spot, bytes_at, class_in, spot_of, write_class, write_token};
 use jser_grammar::wire::TC_CLASSDESC;
 use jser_index::{text_units, walk_along};
 use jser_prim::{Outbox, Sink};
@@ -106,7 +106,7 @@ fn write_lines<W: Sink>(
     spot: Spot,
     rest: &Rest<'_>,
 )
-    requires place { field_of found.now ≡ Some spot }
+    requires place { token_of found.now ≡ Some spot }
     requires hint { length rest.now.hint.now ≤ 64 }
     ensures { SaysWhyTo W.gone_out W.has_failed bytes.now found.now outbox.old outbox.new sink.old sink.new }
 {
@@ -127,7 +127,7 @@ fn write_head<W: Sink>(
     ensures { SaysTo W.gone_out W.has_failed outbox.old outbox.new sink.old sink.new (λ k. head_words sentence.now bytes.now spot (view_name class.entry) k) }
 {
     write_sentence(outbox, sink, sentence);
-    write_field(outbox, sink, bytes, spot);
+    write_token(outbox, sink, bytes, spot);
     write_class(outbox, sink, class);
 }
 
@@ -185,7 +185,7 @@ fn unasked_name(
     }
 }
 
-/// Whether a field stands behind the tag of a class descriptor, and so is the name of a class where it has two bytes or more.
+/// Whether a token stands behind the tag of a class descriptor, and so is the name of a class where it has two bytes or more.
 fn is_behind_tag(bytes: &[u8], spot: Spot) -> bool {
     match spot.from.checked_sub(1) {
         Some(from) => matches!(
@@ -202,7 +202,7 @@ fn is_behind_tag(bytes: &[u8], spot: Spot) -> bool {
     }
 }
 
-/// What is open, but for the element of an array of primitives: all its elements are one field.
+/// What is open, but for the element of an array of primitives: all its elements are one token.
 fn without_raw_element<'o, 'w>(opened: &'o [Open<'w>], place: Place) -> &'o [Open<'w>] {
     match opened {
         [others @ .., Open::Element { .. }] if place == Place::Raw => others,
@@ -210,7 +210,7 @@ fn without_raw_element<'o, 'w>(opened: &'o [Open<'w>], place: Place) -> &'o [Ope
     }
 }
 
-/// What the field is for that begins at a place, or has it inside.
+/// What the token is for that begins at a place, or has it inside.
 fn place_at(alloc: Global, bytes: &[u8], at: u64) -> Result<Place, AllocError> {
     let mut reader = Reader::new(alloc, OpenGate);
     match reader.skip(bytes_at(bytes, Spot { from: 0, to: at })) {

@@ -32,7 +32,7 @@ pub struct Answer {
     pub status: u32,
     /// The number of the reason of a refusal, or of the cause of a misuse.
     pub reason: u32,
-    /// Where the faulty field of a refusal starts, or the number of the faulty piece or line.
+    /// Where the faulty token of a refusal starts, or the number of the faulty piece or line.
     pub from_byte: u64,
     /// How many bytes decide a refusal.
     pub to_byte: u64,

@@ -1,4 +1,4 @@
--- From the item that a reader lends to the field that it ends, or to where the field goes on.
+-- From the item that a reader lends to the token that it ends, or to where the token goes on.
 use denote.Bor.{Bor}
 use Rattle.std.proofs.Common.{◌≡◌, ◌⊎◌, inl, inr, ℕ, suc, ◌+◌, ◌<◌, ◌^◌, Bool, true, false, List, [], ◌∷◌, ◌++◌, length, take, refl, sym, ◌∙◌, ap, subst, arith, append-nil, length-append}
 use Rattle.jser_prim.specs.Bytes.{big_bytes}
@@ -7,9 +7,9 @@ use Rattle.jser_prim.proofs.TextLemmas.{one_text}
 use Rattle.jser_grammar.specs.Parts.{IsText}
 use Rattle.jser_grammar.specs.Spelling.{prims_spelling}
 use Rattle.jser_reading.specs.Moments.{Moment}
-use Rattle.jser_reading.specs.Labels.{StreamField, header_field, tag_field, block_tag_field, end_tag_field, reset_tag_field, handle_field, suid_field, flags_field, field_count_field, interface_count_field, array_length_field, code_field, text_field, block_length_field, prims_field, bytes_field, Position, nowhere, header_at, top_at, annotation_at, value_at, text_place_at, class_place_at, superclass_place_at, back_handle_at, text_handle_at, class_handle_at, superclass_handle_at, string_at, class_name_at, field_name_at, interface_name_at, suid_at, field_count_at, interface_count_at, array_length_at, flags_at, type_code_at, block_length_at, raw_at, bytes_at, Label, Piece}
-use Rattle.jser_reading.specs.FieldBytes.{tag_byte, bytes_of}
-use Rattle.jser_reading.specs.FieldsFromBytes.{number_of, head_size}
+use Rattle.jser_reading.specs.Labels.{StreamToken, header_token, tag_token, block_tag_token, end_tag_token, reset_tag_token, handle_token, suid_token, flags_token, field_count_token, interface_count_token, array_length_token, code_token, text_token, block_length_token, prims_token, bytes_token, Position, nowhere, header_at, top_at, annotation_at, value_at, text_place_at, class_place_at, superclass_place_at, back_handle_at, text_handle_at, class_handle_at, superclass_handle_at, string_at, class_name_at, field_name_at, interface_name_at, suid_at, field_count_at, interface_count_at, array_length_at, flags_at, type_code_at, block_length_at, raw_at, bytes_at, Label, Piece}
+use Rattle.jser_reading.specs.TokenBytes.{tag_byte, bytes_of}
+use Rattle.jser_reading.specs.TokensFromBytes.{number_of, head_size}
 use Rattle.jser_reading.specs.Accepts.{AcceptsAt, Accepts}
 use Rattle.jser_reading.specs.ComesNext.{ComesNext}
 use Rattle.jser_reading.proofs.Next.{next_law}
@@ -20,23 +20,23 @@ use Rattle.jser_reader.specs.declared.Item.TheVariants as item
 use Rattle.jser_reader.specs.declared.tally.Tally.{Tally}
 use Rattle.jser_reader.specs.Readers.{Seen}
 use Rattle.jser_reader.specs.Items.{Items, text_items, items_at, IsOfText, IsRawPart, IsLent}
-use Rattle.jser_reader.specs.ItemsTold.{StandsIn, FieldEnds, IsFull, MayGoOn, FieldGoesOn, Lends}
+use Rattle.jser_reader.specs.ItemsTold.{StandsIn, TokenEnds, IsFull, MayGoOn, TokenGoesOn, Lends}
 use Rattle.jser_index.specs.Along.{Ends, IsLength, InText, Between, IsStuck, Moves}
 
--- ---- a field that one item is, from its beginning
+-- ---- a token that one item is, from its beginning
 
 one_byte : (b : ℕ) → number_of (b ∷ []) ≡ b
 one_byte b = omega arith
 
-tag_is : (told : StreamField) (b : ℕ) (lent : Item) → lent ≡ item.Tag (number_of (b ∷ [])) → Ends (item.Tag b) told → Ends lent told
+tag_is : (told : StreamToken) (b : ℕ) (lent : Item) → lent ≡ item.Tag (number_of (b ∷ [])) → Ends (item.Tag b) told → Ends lent told
 tag_is told b lent e h = subst (λ i. Ends i told) (ap item.Tag (sym (one_byte b)) ∙ sym e) h
 
-handle_is : (n : ℕ) (lent : Item) → 0x7E0000 + n < 2 ^ 32 → lent ≡ item.Handle (number_of (big_bytes 4 (0x7E0000 + n))) → Ends lent (handle_field n)
-handle_is n lent fits e = subst (λ i. Ends i (handle_field n)) (ap item.Handle (sym (number_4 (0x7E0000 + n) fits)) ∙ sym e) refl
+handle_is : (n : ℕ) (lent : Item) → 0x7E0000 + n < 2 ^ 32 → lent ≡ item.Handle (number_of (big_bytes 4 (0x7E0000 + n))) → Ends lent (handle_token n)
+handle_is n lent fits e = subst (λ i. Ends i (handle_token n)) (ap item.Handle (sym (number_4 (0x7E0000 + n) fits)) ∙ sym e) refl
 
 -- a text of no bytes
 no_bytes : (long : Bool) (units : List ℕ) (lent : Item) → IsText long units → (bytes : List ℕ)
-    → bytes ≡ big_bytes (head_size long) (length (modified_utf8 units)) ++ modified_utf8 units → IsOfText long [] bytes lent → Ends lent (text_field long units)
+    → bytes ≡ big_bytes (head_size long) (length (modified_utf8 units)) ++ modified_utf8 units → IsOfText long [] bytes lent → Ends lent (text_token long units)
 no_bytes long units (item.TextLength n) t bytes is h =
     let a = ap length is in
     let b = length-append (big_bytes (head_size long) (length (modified_utf8 units))) (modified_utf8 units) in
@@ -57,50 +57,50 @@ no_bytes true units (item.TextPart part) t bytes is h = let a = h.0 in absurd (o
 no_bytes false units (item.TextPart part) t bytes is h = let a = h.0 in absurd (omega arith)
 no_bytes long units _ t bytes is h = absurd h
 
-raw_is : (told : StreamField) (bytes : List ℕ) (lent : Item) → ((part : Bor (List ℕ)) → part.now ≡ bytes → Ends (item.RawPart part) told)
+raw_is : (told : StreamToken) (bytes : List ℕ) (lent : Item) → ((part : Bor (List ℕ)) → part.now ≡ bytes → Ends (item.RawPart part) told)
     → IsRawPart bytes lent → Ends lent told
 raw_is told bytes (item.RawPart part) f h = f part h
 raw_is told bytes _ f h = absurd h
 
-whole_field : (p : Position) (m : Moment) (told : StreamField) (lent : Item) → AcceptsAt p m told → IsLent (items_at p) [] (bytes_of told) lent → Ends lent told
-whole_field header_at m header_field lent a h = subst (λ i. Ends i header_field) (sym h.1) tt
-whole_field top_at m (tag_field tag) lent a h = tag_is (tag_field tag) (tag_byte tag) lent h.1 refl
-whole_field top_at m (block_tag_field false) lent a h = tag_is (block_tag_field false) 0x77 lent h.1 refl
-whole_field top_at m (block_tag_field true) lent a h = tag_is (block_tag_field true) 0x7A lent h.1 refl
-whole_field top_at m reset_tag_field lent a h = tag_is reset_tag_field 0x79 lent h.1 refl
-whole_field annotation_at m (tag_field tag) lent a h = tag_is (tag_field tag) (tag_byte tag) lent h.1 refl
-whole_field annotation_at m (block_tag_field false) lent a h = tag_is (block_tag_field false) 0x77 lent h.1 refl
-whole_field annotation_at m (block_tag_field true) lent a h = tag_is (block_tag_field true) 0x7A lent h.1 refl
-whole_field annotation_at m end_tag_field lent a h = tag_is end_tag_field 0x78 lent h.1 refl
-whole_field value_at m (tag_field tag) lent a h = tag_is (tag_field tag) (tag_byte tag) lent h.1 refl
-whole_field (class_place_at owner) m (tag_field tag) lent a h = tag_is (tag_field tag) (tag_byte tag) lent h.1 refl
-whole_field (superclass_place_at owner strict) m (tag_field tag) lent a h = tag_is (tag_field tag) (tag_byte tag) lent h.1 refl
-whole_field text_place_at m (tag_field tag) lent a h = tag_is (tag_field tag) (tag_byte tag) lent h.1 refl
-whole_field back_handle_at m (handle_field n) lent a h = handle_is n lent a.1 h.1
-whole_field text_handle_at m (handle_field n) lent a h = handle_is n lent a.1 h.1
-whole_field (class_handle_at owner) m (handle_field n) lent a h = handle_is n lent a.0.1 h.1
-whole_field (superclass_handle_at owner strict) m (handle_field n) lent a h = handle_is n lent a.0.1 h.1
-whole_field (string_at false) m (text_field false units) lent a h = no_bytes false units lent a (bytes_of (text_field false units)) refl h
-whole_field (string_at true) m (text_field true units) lent a h = no_bytes true units lent a (bytes_of (text_field true units)) refl h
-whole_field (class_name_at role) m (text_field false units) lent a h = no_bytes false units lent a.0.0 (bytes_of (text_field false units)) refl h
-whole_field field_name_at m (text_field false units) lent a h = no_bytes false units lent a (bytes_of (text_field false units)) refl h
-whole_field interface_name_at m (text_field false units) lent a h = no_bytes false units lent a.0 (bytes_of (text_field false units)) refl h
-whole_field suid_at m (suid_field n) lent a h = subst (λ i. Ends i (suid_field n)) (ap item.Suid (sym (number_8 n a)) ∙ sym h.1) refl
-whole_field (flags_at role) m (flags_field n) lent a h = subst (λ i. Ends i (flags_field n)) (ap item.Flags (sym (one_byte n)) ∙ sym h.1) refl
-whole_field field_count_at m (field_count_field n) lent a h =
-    subst (λ i. Ends i (field_count_field n)) (ap item.FieldCount (sym (number_2 n (omega arith))) ∙ sym h.1) refl
-whole_field interface_count_at m (interface_count_field n) lent a h =
-    subst (λ i. Ends i (interface_count_field n)) (ap item.InterfaceCount (sym (number_4 n (omega arith))) ∙ sym h.1) refl
-whole_field array_length_at m (array_length_field n) lent a h =
-    subst (λ i. Ends i (array_length_field n)) (ap item.ArrayLength (sym (number_4 n (omega arith))) ∙ sym h.1) refl
-whole_field (type_code_at seen) m (code_field n) lent a h = subst (λ i. Ends i (code_field n)) (ap item.TypeCode (sym (one_byte n)) ∙ sym h.1) refl
-whole_field (block_length_at false) m (block_length_field false n) lent a h =
-    subst (λ i. Ends i (block_length_field false n)) (ap item.BlockLength (sym (number_1 n (omega arith))) ∙ sym h.1) refl
-whole_field (block_length_at true) m (block_length_field true n) lent a h =
-    subst (λ i. Ends i (block_length_field true n)) (ap item.BlockLength (sym (number_4 n (omega arith))) ∙ sym h.1) refl
-whole_field (raw_at c (suc n)) m (prims_field ps) lent a h = raw_is (prims_field ps) (prims_spelling ps) lent (λ part e. e) h
-whole_field (bytes_at (suc n)) m (bytes_field bytes) lent a h = raw_is (bytes_field bytes) bytes lent (λ part e. e) h
-whole_field _ m told lent a h = absurd a
+whole_token : (p : Position) (m : Moment) (told : StreamToken) (lent : Item) → AcceptsAt p m told → IsLent (items_at p) [] (bytes_of told) lent → Ends lent told
+whole_token header_at m header_token lent a h = subst (λ i. Ends i header_token) (sym h.1) tt
+whole_token top_at m (tag_token tag) lent a h = tag_is (tag_token tag) (tag_byte tag) lent h.1 refl
+whole_token top_at m (block_tag_token false) lent a h = tag_is (block_tag_token false) 0x77 lent h.1 refl
+whole_token top_at m (block_tag_token true) lent a h = tag_is (block_tag_token true) 0x7A lent h.1 refl
+whole_token top_at m reset_tag_token lent a h = tag_is reset_tag_token 0x79 lent h.1 refl
+whole_token annotation_at m (tag_token tag) lent a h = tag_is (tag_token tag) (tag_byte tag) lent h.1 refl
+whole_token annotation_at m (block_tag_token false) lent a h = tag_is (block_tag_token false) 0x77 lent h.1 refl
+whole_token annotation_at m (block_tag_token true) lent a h = tag_is (block_tag_token true) 0x7A lent h.1 refl
+whole_token annotation_at m end_tag_token lent a h = tag_is end_tag_token 0x78 lent h.1 refl
+whole_token value_at m (tag_token tag) lent a h = tag_is (tag_token tag) (tag_byte tag) lent h.1 refl
+whole_token (class_place_at owner) m (tag_token tag) lent a h = tag_is (tag_token tag) (tag_byte tag) lent h.1 refl
+whole_token (superclass_place_at owner strict) m (tag_token tag) lent a h = tag_is (tag_token tag) (tag_byte tag) lent h.1 refl
+whole_token text_place_at m (tag_token tag) lent a h = tag_is (tag_token tag) (tag_byte tag) lent h.1 refl
+whole_token back_handle_at m (handle_token n) lent a h = handle_is n lent a.1 h.1
+whole_token text_handle_at m (handle_token n) lent a h = handle_is n lent a.1 h.1
+whole_token (class_handle_at owner) m (handle_token n) lent a h = handle_is n lent a.0.1 h.1
+whole_token (superclass_handle_at owner strict) m (handle_token n) lent a h = handle_is n lent a.0.1 h.1
+whole_token (string_at false) m (text_token false units) lent a h = no_bytes false units lent a (bytes_of (text_token false units)) refl h
+whole_token (string_at true) m (text_token true units) lent a h = no_bytes true units lent a (bytes_of (text_token true units)) refl h
+whole_token (class_name_at role) m (text_token false units) lent a h = no_bytes false units lent a.0.0 (bytes_of (text_token false units)) refl h
+whole_token field_name_at m (text_token false units) lent a h = no_bytes false units lent a (bytes_of (text_token false units)) refl h
+whole_token interface_name_at m (text_token false units) lent a h = no_bytes false units lent a.0 (bytes_of (text_token false units)) refl h
+whole_token suid_at m (suid_token n) lent a h = subst (λ i. Ends i (suid_token n)) (ap item.Suid (sym (number_8 n a)) ∙ sym h.1) refl
+whole_token (flags_at role) m (flags_token n) lent a h = subst (λ i. Ends i (flags_token n)) (ap item.Flags (sym (one_byte n)) ∙ sym h.1) refl
+whole_token field_count_at m (field_count_token n) lent a h =
+    subst (λ i. Ends i (field_count_token n)) (ap item.FieldCount (sym (number_2 n (omega arith))) ∙ sym h.1) refl
+whole_token interface_count_at m (interface_count_token n) lent a h =
+    subst (λ i. Ends i (interface_count_token n)) (ap item.InterfaceCount (sym (number_4 n (omega arith))) ∙ sym h.1) refl
+whole_token array_length_at m (array_length_token n) lent a h =
+    subst (λ i. Ends i (array_length_token n)) (ap item.ArrayLength (sym (number_4 n (omega arith))) ∙ sym h.1) refl
+whole_token (type_code_at seen) m (code_token n) lent a h = subst (λ i. Ends i (code_token n)) (ap item.TypeCode (sym (one_byte n)) ∙ sym h.1) refl
+whole_token (block_length_at false) m (block_length_token false n) lent a h =
+    subst (λ i. Ends i (block_length_token false n)) (ap item.BlockLength (sym (number_1 n (omega arith))) ∙ sym h.1) refl
+whole_token (block_length_at true) m (block_length_token true n) lent a h =
+    subst (λ i. Ends i (block_length_token true n)) (ap item.BlockLength (sym (number_4 n (omega arith))) ∙ sym h.1) refl
+whole_token (raw_at c (suc n)) m (prims_token ps) lent a h = raw_is (prims_token ps) (prims_spelling ps) lent (λ part e. e) h
+whole_token (bytes_at (suc n)) m (bytes_token bytes) lent a h = raw_is (bytes_token bytes) bytes lent (λ part e. e) h
+whole_token _ m told lent a h = absurd a
 
 -- ---- the bytes of a text, after its length
 
@@ -113,22 +113,22 @@ long_in (text_items long) = long
 long_in _ = false
 
 -- a text of this form, which obeys the format
-pub record TextTold (told : StreamField) (long : Bool) : Type 0 where
+pub record TextTold (told : StreamToken) (long : Bool) : Type 0 where
   units : List ℕ
   is_text : IsText long units
-  is : told ≡ text_field long units
+  is : told ≡ text_token long units
 
-text_of : (at long : Bool) (units : List ℕ) → text_items at ≡ text_items long → IsText at units → TextTold (text_field at units) long
+text_of : (at long : Bool) (units : List ℕ) → text_items at ≡ text_items long → IsText at units → TextTold (text_token at units) long
 text_of at long units e t =
     let same = ap long_in e in
-    record { units = units; is_text = subst (λ l. IsText l units) same t; is = ap (λ l. text_field l units) same }
+    record { units = units; is_text = subst (λ l. IsText l units) same t; is = ap (λ l. text_token l units) same }
 
-pub text_told : (p : Position) (m : Moment) (told : StreamField) (long : Bool) → AcceptsAt p m told → items_at p ≡ text_items long → TextTold told long
-text_told (string_at false) m (text_field false units) long a e = text_of false long units e a
-text_told (string_at true) m (text_field true units) long a e = text_of true long units e a
-text_told (class_name_at role) m (text_field false units) long a e = text_of false long units e a.0.0
-text_told field_name_at m (text_field false units) long a e = text_of false long units e a
-text_told interface_name_at m (text_field false units) long a e = text_of false long units e a.0
+pub text_told : (p : Position) (m : Moment) (told : StreamToken) (long : Bool) → AcceptsAt p m told → items_at p ≡ text_items long → TextTold told long
+text_told (string_at false) m (text_token false units) long a e = text_of false long units e a
+text_told (string_at true) m (text_token true units) long a e = text_of true long units e a
+text_told (class_name_at role) m (text_token false units) long a e = text_of false long units e a.0.0
+text_told field_name_at m (text_token false units) long a e = text_of false long units e a
+text_told interface_name_at m (text_token false units) long a e = text_of false long units e a.0
 text_told nowhere m told long a e = absurd (subst IsTexts (sym e) tt)
 text_told header_at m told long a e = absurd (subst IsTexts (sym e) tt)
 text_told top_at m told long a e = absurd (subst IsTexts (sym e) tt)
@@ -162,13 +162,13 @@ same_rest (x ∷ xs) (z ∷ zs) ys ws e n = same_rest xs zs ys ws (tails e) (ome
     tails : {x y : ℕ} {xs ys : List ℕ} → x ∷ xs ≡ y ∷ ys → xs ≡ ys
     tails e = cc
 
-pub text_bytes : (told : StreamField) (long : Bool) → TextTold told long
-    → (units : List ℕ) × IsText long units × (told ≡ text_field long units)
+pub text_bytes : (told : StreamToken) (long : Bool) → TextTold told long
+    → (units : List ℕ) × IsText long units × (told ≡ text_token long units)
     × (bytes_of told ≡ big_bytes (head_size long) (length (modified_utf8 units)) ++ modified_utf8 units)
 text_bytes told false t = (t.units, t.is_text, t.is, ap bytes_of t.is)
 text_bytes told true t = (t.units, t.is_text, t.is, ap bytes_of t.is)
 
-text_part : (long : Bool) (cut taken : List ℕ) (lent : Item) (told : StreamField) → TextTold told long → length cut ≡ head_size long → 0 < length taken
+text_part : (long : Bool) (cut taken : List ℕ) (lent : Item) (told : StreamToken) → TextTold told long → length cut ≡ head_size long → 0 < length taken
     → bytes_of told ≡ cut ++ taken → IsOfText long cut taken lent → Ends lent told
 text_part long cut taken (item.TextPart part) told t size some b h =
     let x = text_bytes told long t in
@@ -187,12 +187,12 @@ text_part long cut taken _ told t size some b h = absurd h
 same_label : (front : List Piece) (a b : Label) → ComesNext front a → ComesNext front b → a ≡ b
 same_label front a b h i = ((next_law front a).0 h).1 ∙ sym ((next_law front b).0 i).1
 
-field_ends : (front : List Piece) (cut taken : List ℕ) (lent : Item) (label : Label) (told : StreamField) → Between front cut → ComesNext front label
+token_ends : (front : List Piece) (cut taken : List ℕ) (lent : Item) (label : Label) (told : StreamToken) → Between front cut → ComesNext front label
     → Accepts label told → bytes_of told ≡ cut ++ taken → 0 < length taken → IsLent (items_at label.position) cut taken lent → Ends lent told
-field_ends front cut taken lent label told (inl none) comes a b some h =
-    whole_field label.position label.moment told lent a
+token_ends front cut taken lent label told (inl none) comes a b some h =
+    whole_token label.position label.moment told lent a
     (subst (λ t. IsLent (items_at label.position) [] t lent) (sym (b ∙ ap (λ c. c ++ taken) none)) (subst (λ c. IsLent (items_at label.position) c taken lent) none h))
-field_ends front cut taken lent label told (inr t) comes a b some h =
+token_ends front cut taken lent label told (inr t) comes a b some h =
     let same : items_at label.position ≡ text_items t.long = ap (λ l. items_at l.position) (same_label front label t.label comes t.comes) ∙ t.is_text in
     text_part t.long cut taken lent told (text_told label.position label.moment told t.long a same) t.size some b
     (subst (λ i. IsLent i cut taken lent) same h)
@@ -274,15 +274,15 @@ moves gate front cut given taken rest lent used r tally b some is size split h =
     let lent_now = subst (λ t. IsLent (items_at h.label.position) cut t lent) (sym is) h.is in
     cases h.after lent_now
   where
-    cases : FieldEnds gate front h.label (cut ++ take used given) r tally ⊎ FieldGoesOn gate front (cut ++ take used given) given used lent r tally
+    cases : TokenEnds gate front h.label (cut ++ take used given) r tally ⊎ TokenGoesOn gate front (cut ++ take used given) given used lent r tally
         → IsLent (items_at h.label.position) cut taken lent → Moves gate front cut taken rest lent r tally
     cases (inl e) l =
-        let bytes : bytes_of e.field ≡ cut ++ taken = e.spelled ∙ ap (λ t. cut ++ t) (sym is) in
+        let bytes : bytes_of e.token ≡ cut ++ taken = e.spelled ∙ ap (λ t. cut ++ t) (sym is) in
         inl (record {
           label = h.label;
           comes = h.comes;
-          told = e.field;
-          ends = field_ends front cut taken lent h.label e.field b h.comes e.accepted bytes (subst (λ n. 0 < n) (sym size) some) l;
+          told = e.token;
+          ends = token_ends front cut taken lent h.label e.token b h.comes e.accepted bytes (subst (λ n. 0 < n) (sym size) some) l;
           bytes = bytes;
           stands = e.stands;
         })

@@ -2,8 +2,8 @@
 -- none before the others.
 use Rattle.std.proofs.Common.{◌≡◌, ◌⊎◌, inl, inr, ℕ, zero, suc, ◌+◌, ◌-◌, ◌<◌, ◌≤◌, List, [], ◌∷◌, ◌++◌, length, take, drop, Option, Some, None, refl, sym, ◌∙◌, ap, subst, arith, append_assoc, append-nil, length-append}
 use Rattle.std.proofs.lemmas.List.{length-take-le, take-append-drop}
-use Rattle.jser_reading.specs.Labels.{StreamField, prims_field, Piece, piece}
-use Rattle.jser_reading.specs.FieldBytes.{bytes_of, joined}
+use Rattle.jser_reading.specs.Labels.{StreamToken, prims_token, Piece, piece}
+use Rattle.jser_reading.specs.TokenBytes.{bytes_of, joined}
 use Rattle.jser_reading.proofs.Walking.{joined-append}
 use Rattle.jser_shown.specs.Nodes.{place_after}
 use Rattle.jser_shown.specs.Finding.{Finding, begin_finding, node_made, make_begun, find, found}
@@ -38,20 +38,20 @@ MakesNone assigned x = (assigned ≤ length x.nodes) ⊎ (x.begun ≡ [])
 find_raw : (assigned : ℕ) (raws : List Piece) (x : Finding) → AreRaws assigned raws → MakesNone assigned x
     → found x raws ≡ record x { place = place_after x.place (joined raws) }
 find_raw assigned [] x are none = refl
-find_raw assigned (piece label (prims_field ps) ∷ raws) x are none =
-    ap (λ z. found z raws) (ap (λ n. find n (prims_field ps) x) are.0 ∙ one none)
+find_raw assigned (piece label (prims_token ps) ∷ raws) x are none =
+    ap (λ z. found z raws) (ap (λ n. find n (prims_token ps) x) are.0 ∙ one none)
     ∙ find_raw assigned raws next are.1 none
-    ∙ ap (λ p. record x { place = p }) (sym (place_both x.place (bytes_of (prims_field ps)) (joined raws)))
+    ∙ ap (λ p. record x { place = p }) (sym (place_both x.place (bytes_of (prims_token ps)) (joined raws)))
   where
     next : Finding
-    next = record x { place = place_after x.place (bytes_of (prims_field ps)) }
+    next = record x { place = place_after x.place (bytes_of (prims_token ps)) }
 
-    one : MakesNone assigned x → find assigned (prims_field ps) x ≡ next
-    one (inl le) = sym (passes_unmade (prims_field ps) assigned (place_after x.place (bytes_of (prims_field ps))) x next tt le refl refl)
+    one : MakesNone assigned x → find assigned (prims_token ps) x ≡ next
+    one (inl le) = sym (passes_unmade (prims_token ps) assigned (place_after x.place (bytes_of (prims_token ps))) x next tt le refl refl)
     one (inr e) = elim (at_most_or_more assigned (length x.nodes)) [
-      | inl le ↦ sym (passes_unmade (prims_field ps) assigned (place_after x.place (bytes_of (prims_field ps))) x next tt le refl refl)
-      | inr less ↦ sym (passes_made (prims_field ps) assigned (place_after x.place (bytes_of (prims_field ps))) x x next tt less
-          (sym (ap (λ b. make_begun (prims_field ps) b x) e)) refl refl)
+      | inl le ↦ sym (passes_unmade (prims_token ps) assigned (place_after x.place (bytes_of (prims_token ps))) x next tt le refl refl)
+      | inr less ↦ sym (passes_made (prims_token ps) assigned (place_after x.place (bytes_of (prims_token ps))) x x next tt less
+          (sym (ap (λ b. make_begun (prims_token ps) b x) e)) refl refl)
     ]
 find_raw assigned (piece label _ ∷ raws) x are none = absurd are.0
 
@@ -63,7 +63,7 @@ raws_unmade assigned end old new le is few = record {
 }
 
 -- after one node was made
-made_last : (assigned : ℕ) (told : StreamField) (begun : List ToldBegun) (old made : Finding) → assigned ≤ length old.nodes + 1
+made_last : (assigned : ℕ) (told : StreamToken) (begun : List ToldBegun) (old made : Finding) → assigned ≤ length old.nodes + 1
     → old.begun ≡ begun → made ≡ make_begun told begun old → MakesNone assigned made
 made_last assigned told [] old made few e is = inr (ap (λ x. x.begun) is ∙ e)
 made_last assigned told (b ∷ begun) old made few e is =
@@ -71,21 +71,21 @@ made_last assigned told (b ∷ begun) old made few e is =
     let m = ap (λ x. length x.nodes) is in
     inl (omega arith)
 
-pub raws_made : (assigned end : ℕ) (old made new : Finding) → length old.nodes < assigned → ((told : StreamField) → IsPlain told → made ≡ make_begun told old.begun old)
+pub raws_made : (assigned end : ℕ) (old made new : Finding) → length old.nodes < assigned → ((told : StreamToken) → IsPlain told → made ≡ make_begun told old.begun old)
     → new ≡ record made { place = end } → assigned ≤ length old.nodes + 1 → GoesPastRaws assigned end old new
 raws_made assigned end old made new less is_made is few =
     record { finds = finds; place = ap (λ x. x.place) is }
   where
     finds : (raws : List Piece) → AreRaws assigned raws → 0 < length raws → place_after old.place (joined raws) ≡ end → new ≡ found old raws
     finds [] are some at = absurd (omega arith)
-    finds (piece label (prims_field ps) ∷ raws) are some at =
-        let middle : ℕ = place_after old.place (bytes_of (prims_field ps)) in
+    finds (piece label (prims_token ps) ∷ raws) are some at =
+        let middle : ℕ = place_after old.place (bytes_of (prims_token ps)) in
         let next : Finding = record made { place = middle } in
-        let first : find (length label.moment.table) (prims_field ps) old ≡ next =
-        ap (λ n. find n (prims_field ps) old) are.0
-        ∙ sym (passes_made (prims_field ps) assigned middle old made next tt less (is_made (prims_field ps) tt) refl refl) in
-        is ∙ ap (λ p. record made { place = p }) (sym at ∙ place_both old.place (bytes_of (prims_field ps)) (joined raws))
-        ∙ sym (find_raw assigned raws next are.1 (made_last assigned (prims_field ps) old.begun old made few refl (is_made (prims_field ps) tt)))
+        let first : find (length label.moment.table) (prims_token ps) old ≡ next =
+        ap (λ n. find n (prims_token ps) old) are.0
+        ∙ sym (passes_made (prims_token ps) assigned middle old made next tt less (is_made (prims_token ps) tt) refl refl) in
+        is ∙ ap (λ p. record made { place = p }) (sym at ∙ place_both old.place (bytes_of (prims_token ps)) (joined raws))
+        ∙ sym (find_raw assigned raws next are.1 (made_last assigned (prims_token ps) old.begun old made few refl (is_made (prims_token ps) tt)))
         ∙ sym (ap (λ z. found z raws) first)
     finds (piece label _ ∷ raws) are some at = absurd are.0
 

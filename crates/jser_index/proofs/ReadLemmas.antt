@@ -2,9 +2,9 @@
 use Rattle.std.proofs.Common.{◌≡◌, inl, inr, ℕ, ◌+◌, ◌-◌, List, [], ◌∷◌, ◌++◌, length, take, drop, Result, Ok, Err, refl, sym, ◌∙◌, ap, ap₂, subst, arith, append_assoc, append-nil, length-append}
 use Rattle.std.proofs.lemmas.List.{take-append-drop}
 use Rattle.jser_grammar.specs.Trees.{ContentTrees}
-use Rattle.jser_reading.specs.Labels.{StreamField, Label, Piece, piece}
-use Rattle.jser_reading.specs.FieldBytes.{bytes_of, joined}
-use Rattle.jser_reading.specs.Fields.{fields_of}
+use Rattle.jser_reading.specs.Labels.{StreamToken, Label, Piece, piece}
+use Rattle.jser_reading.specs.TokenBytes.{bytes_of, joined}
+use Rattle.jser_reading.specs.Tokens.{tokens_of}
 use Rattle.jser_reading.specs.ComesNext.{ComesNext}
 use Rattle.jser_reading.specs.ByteLaws.{OneReading}
 use Rattle.jser_shown.specs.Nodes.{place_after}
@@ -24,7 +24,7 @@ use Rattle.jser_reader.specs.ReaderStates.{NextTells, FinishTells, IsSpent}
 use Rattle.jser_reader.specs.Tallies.{AreTotals}
 use Rattle.jser_reader.specs.Bounds.{AreAssigned}
 use Rattle.jser_reader.specs.Streams.{AreRefused, AreTruncated}
-use Rattle.jser_reader.specs.ItemsTold.{StandsIn, TellsFields}
+use Rattle.jser_reader.specs.ItemsTold.{StandsIn, TellsTokens}
 use Rattle.jser_index.specs.Surveying.{IsAt}
 use Rattle.jser_index.specs.Along.{Ends, IsLength, Where, GoesAlong}
 use Rattle.jser_reader.proofs.RefusalLemmas.{front_refused}
@@ -59,7 +59,7 @@ finish_stops bytes rest stop.Spent r tally new survey h n t last = t (joined h.f
 
 -- ---- an item
 
-is_after : (front : List Piece) (label : Label) (told : StreamField) (assigned : ℕ) (old new : Finding) → FindsFronts → length label.moment.table ≡ assigned
+is_after : (front : List Piece) (label : Label) (told : StreamToken) (assigned : ℕ) (old new : Finding) → FindsFronts → length label.moment.table ≡ assigned
     → IsAt front old → new ≡ find assigned told old → new.place ≡ length (joined front) + length (bytes_of told) → IsAt (front ++ (piece label told ∷ [])) new
 is_after front label told assigned old new fronts handles at is place = record {
   found_are =
@@ -69,7 +69,7 @@ is_after front label told assigned old new fronts handles at is place = record {
       place ∙ sym (length-append (joined front) (bytes_of told)) ∙ ap length (sym (joined_one front label told));
 }
 
--- so many handles of the epoch are assigned before the field that comes next
+-- so many handles of the epoch are assigned before the token that comes next
 abbrev pub Assigned : (front : List Piece) (handles : ℕ) → Type 0
 Assigned front handles = (label : Label) → ComesNext front label → length label.moment.table ≡ handles
 
@@ -87,9 +87,9 @@ meets bytes rest r tally old assigned h handles =
 
 -- what the walk did with an item
 pub record Took (lent : Item) (assigned end : ℕ) (old new : Finding) : Type 0 where
-  pub finds : (told : StreamField) → Ends lent told → place_after old.place (bytes_of told) ≡ end → new ≡ find assigned told old
+  pub finds : (told : StreamToken) → Ends lent told → place_after old.place (bytes_of told) ≡ end → new ≡ find assigned told old
   pub same : IsLength lent → new ≡ old
-  pub place : (told : StreamField) → Ends lent told → new.place ≡ end
+  pub place : (told : StreamToken) → Ends lent told → new.place ≡ end
 
 pub does : (bytes rest : List ℕ) (lent : Item) (assigned end : ℕ) (old new : Finding) → FindsFronts → PlacesAreCounted → end ≡ length bytes - length rest
     → Took lent assigned end old new → Does bytes rest lent (Meets old assigned) (λ front. IsAt front new)
@@ -110,10 +110,10 @@ pub record Laws : Type 0 where
   pub found : Found
 
 found_of : (bytes : List ℕ) (list other : ContentTrees) (front : List Piece) (old new : Finding) (totals : Totals) → Laws → IsAt front old → new ≡ finished old
-    → Passes open_gate bytes list → front ≡ fields_of list → Passes open_gate bytes other → AreTotals bytes other totals
+    → Passes open_gate bytes list → front ≡ tokens_of list → Passes open_gate bytes other → AreTotals bytes other totals
     → IsOfList bytes new totals list
 found_of bytes list other front old new totals laws at ended passes fields p are =
-    let is : new ≡ finished (found begin_finding (fields_of list)) =
+    let is : new ≡ finished (found begin_finding (tokens_of list)) =
     ended ∙ ap finished (at.found_are ∙ ap (found begin_finding) fields) in
     let law = laws.found list passes.0.1 in
     record {
@@ -126,16 +126,16 @@ found_of bytes list other front old new totals laws at ended passes fields p are
 
 pub finishes : (bytes rest : List ℕ) (totals : Totals) (r : Seen) (tally : Tally) (after : Seen) (old new : Finding) → Laws
     → SurveysAlong bytes rest r tally old → length rest ≡ 0 → new ≡ finished old → FinishTells open_gate (Ok totals) r tally after
-    → TellsFields open_gate (Ok totals) r tally → Walks bytes new (Ok totals)
-unfolding FinishTells TellsFields Walks
+    → TellsTokens open_gate (Ok totals) r tally → Walks bytes new (Ok totals)
+unfolding FinishTells TellsTokens Walks
 finishes bytes rest totals r tally after old new laws h n ended t f =
     let x = f h.front h.cut h.stands in
     let y = t (joined h.front ++ h.cut) (stands_for open_gate h.front h.cut r tally h.stands) in
     let is = whole bytes rest h.front h.cut h.split n in
-    let fields_are : joined h.front ≡ bytes = sym (append-nil (joined h.front)) ∙ ap (λ c. joined h.front ++ c) (sym x.0) ∙ sym is in
-    goes x.0 x.1 y is fields_are h.where_it_is
+    let tokens_are : joined h.front ≡ bytes = sym (append-nil (joined h.front)) ∙ ap (λ c. joined h.front ++ c) (sym x.0) ∙ sym is in
+    goes x.0 x.1 y is tokens_are h.where_it_is
   where
-    goes : h.cut ≡ [] → ((list : ContentTrees) × Passes open_gate (joined h.front) list × (h.front ≡ fields_of list))
+    goes : h.cut ≡ [] → ((list : ContentTrees) × Passes open_gate (joined h.front) list × (h.front ≡ tokens_of list))
         → (((list : ContentTrees) × Passes open_gate (joined h.front ++ h.cut) list × AreTotals (joined h.front ++ h.cut) list totals) × IsSpent after)
         → bytes ≡ joined h.front ++ h.cut → joined h.front ≡ bytes → Where open_gate (λ front. IsAt front old) h.front h.cut rest
         → (list : ContentTrees) × IsOfList bytes new totals list
@@ -169,11 +169,11 @@ found_err bytes survey stop.Spent h = h
 
 pub finish_walks : (bytes rest : List ℕ) (result : Result Totals Stop) (r : Seen) (tally : Tally) (after : Seen) (old new : Finding) → Laws
     → SurveysAlong bytes rest r tally old → length rest ≡ 0 → new ≡ finished old → FinishTells open_gate result r tally after
-    → TellsFields open_gate result r tally → Walks bytes new result
+    → TellsTokens open_gate result r tally → Walks bytes new result
 finish_walks bytes rest (Ok totals) r tally after old new laws h n ended t f = finishes bytes rest totals r tally after old new laws h n ended t f
 finish_walks bytes rest (Err why) r tally after old new laws h n ended t f = finish_stops bytes rest why r tally after old h n t new
 
 pub took : (lent : Item) (assigned end : ℕ) (old new : Finding)
-    → ((told : StreamField) → Ends lent told → place_after old.place (bytes_of told) ≡ end → new ≡ find assigned told old)
-    → (IsLength lent → new ≡ old) → ((told : StreamField) → Ends lent told → new.place ≡ end) → Took lent assigned end old new
+    → ((told : StreamToken) → Ends lent told → place_after old.place (bytes_of told) ≡ end → new ≡ find assigned told old)
+    → (IsLength lent → new ≡ old) → ((told : StreamToken) → Ends lent told → new.place ≡ end) → Took lent assigned end old new
 took lent assigned end old new finds same place = record { finds = finds; same = same; place = place }

@@ -1,9 +1,9 @@
 -- A reference that is lent at once, before which no node is due: nothing is found but that the next text is a name.
 use Rattle.std.proofs.Common.{◌≡◌, ℕ, ◌-◌, ◌≤◌, true, false, length, None, refl, sym, ap, arith}
-use Rattle.jser_reading.specs.FieldBytes.{tag_byte}
-use Rattle.jser_reading.specs.Labels.{Tag, null_tag, reference_tag, class_desc_tag, object_tag, string_tag, array_tag, class_tag, long_string_tag, proxy_desc_tag, enum_tag, StreamField, tag_field, block_tag_field, end_tag_field, reset_tag_field}
-use Rattle.jser_shown.specs.Finding.{Finding, begin_kind, kind_begun, take_field}
-use Rattle.jser_printer.specs.declared.Field.TheVariants as lent
+use Rattle.jser_reading.specs.TokenBytes.{tag_byte}
+use Rattle.jser_reading.specs.Labels.{Tag, null_tag, reference_tag, class_desc_tag, object_tag, string_tag, array_tag, class_tag, long_string_tag, proxy_desc_tag, enum_tag, StreamToken, tag_token, block_tag_token, end_tag_token, reset_tag_token}
+use Rattle.jser_shown.specs.Finding.{Finding, begin_kind, kind_begun, take_token}
+use Rattle.jser_printer.specs.declared.Token.TheVariants as lent
 use Rattle.jser_printer.specs.Given.{IsOf}
 use Rattle.jser_index.specs.Surveying.{GoesPastBoth}
 use Rattle.jser_index.proofs.SurveyLemmas.{finds_unmade, passes_unmade, tag_no_name, handle_quiet}
@@ -20,12 +20,12 @@ none_begins long_string_tag is = absurd (omega arith)
 none_begins proxy_desc_tag is = absurd (omega arith)
 none_begins enum_tag is = absurd (omega arith)
 
-reference_taken : (told : StreamField) (now : Finding) → IsOf (lent.Tag 0x71) told → record now { is_name = true } ≡ take_field told now
-reference_taken (tag_field tag) now is = ap (λ k. record (begin_kind k now) { is_name = true }) (sym (none_begins tag is))
-reference_taken (block_tag_field false) now is = absurd (omega arith)
-reference_taken (block_tag_field true) now is = absurd (omega arith)
-reference_taken end_tag_field now is = absurd (omega arith)
-reference_taken reset_tag_field now is = absurd (omega arith)
+reference_taken : (told : StreamToken) (now : Finding) → IsOf (lent.Tag 0x71) told → record now { is_name = true } ≡ take_token told now
+reference_taken (tag_token tag) now is = ap (λ k. record (begin_kind k now) { is_name = true }) (sym (none_begins tag is))
+reference_taken (block_tag_token false) now is = absurd (omega arith)
+reference_taken (block_tag_token true) now is = absurd (omega arith)
+reference_taken end_tag_token now is = absurd (omega arith)
+reference_taken reset_tag_token now is = absurd (omega arith)
 reference_taken _ now is = absurd is
 
 pub reference_unmade : (handle assigned end : ℕ) (old new : Finding) → assigned ≤ length old.nodes → new ≡ record old { is_name = true; place = end }

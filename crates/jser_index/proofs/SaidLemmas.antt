@@ -3,7 +3,7 @@ use denote.Bor.{Bor}
 use Rattle.std.proofs.Common.{◌≡◌, inl, inr, ℕ, suc, ◌+◌, ◌<◌, ◌≤◌, List, ◌∷◌, ◌++◌, length, take, drop, Ok, refl, sym, ◌∙◌, ap, arith}
 use Rattle.std.proofs.lemmas.List.{length-drop, take-append-drop}
 use Rattle.jser_prim.specs.Outgoing.{Outgoing, SinkState}
-use Rattle.jser_reading.specs.Labels.{StreamField, text_field}
+use Rattle.jser_reading.specs.Labels.{StreamToken, text_token}
 use Rattle.jser_shown.specs.Cues.{Teller}
 use Rattle.jser_shown.specs.FrontLaws.{OneMore}
 use Rattle.jser_shown.specs.Telling.{goes, settled}
@@ -20,7 +20,7 @@ use Rattle.jser_reader.specs.WholesTold.{TellsWhole}
 use Rattle.jser_printer.specs.Passing.{says_next}
 use Rattle.jser_printer.specs.Says.{Says}
 use Rattle.jser_index.specs.Along.{Ends, IsLength, IsTextOf, items_of, whole_size}
-use Rattle.jser_index.specs.SaidItems.{SaysField, SaysItems, BeginsItems}
+use Rattle.jser_index.specs.SaidItems.{SaysToken, SaysItems, BeginsItems}
 use Rattle.jser_index.specs.Showing.{PutsFront}
 use Rattle.jser_index.proofs.TurnLemmas.{Turn, turns, takes_item}
 use Rattle.jser_index.proofs.WholeLemmas.{text_turns, drop_on}
@@ -29,25 +29,25 @@ use Rattle.jser_index.proofs.ShowLemmas.{HasSaid, SaysAlong, ShowLaws, does_say,
 -- ---- items, one after another
 
 pub said_first : (one other : Item) (items : List Item) (a b c : Outgoing) (d e f : SinkState) (w x y : Teller)
-    → ((told : StreamField) → Ends one told → Says a b d e (λ k. says_next w told k)) → ((told : StreamField) → Ends one told → x ≡ goes (settled w) told)
+    → ((told : StreamToken) → Ends one told → Says a b d e (λ k. says_next w told k)) → ((told : StreamToken) → Ends one told → x ≡ goes (settled w) told)
     → SaysItems (other ∷ items) b c e f x y → SaysItems (one ∷ (other ∷ items)) a c d f w y
 said_first one other items a b c d e f w x y says_it goes_on others =
     record { out = b; sink = e; next = x; first = record { said = says_it; goes_on = goes_on }; others = others }
 
 pub begun_first : (one other : Item) (items : List Item) (a b c : Outgoing) (d e f : SinkState) (w x : Teller)
-    → ((told : StreamField) → Ends one told → Says a b d e (λ k. says_next w told k)) → ((told : StreamField) → Ends one told → x ≡ goes (settled w) told)
+    → ((told : StreamToken) → Ends one told → Says a b d e (λ k. says_next w told k)) → ((told : StreamToken) → Ends one told → x ≡ goes (settled w) told)
     → BeginsItems (other ∷ items) b c e f x → BeginsItems (one ∷ (other ∷ items)) a c d f w
 begun_first one other items a b c d e f w x says_it goes_on others =
     inr (record { out = b; sink = e; next = x; first = record { said = says_it; goes_on = goes_on }; others = others })
 
 -- all bytes of a text
-pub as_text : (part : Bor (List ℕ)) (told : StreamField) → Ends (item.TextPart part) told → IsTextOf part.now told
-as_text part (text_field long units) e = e
+pub as_text : (part : Bor (List ℕ)) (told : StreamToken) → Ends (item.TextPart part) told → IsTextOf part.now told
+as_text part (text_token long units) e = e
 as_text part _ e = absurd e
 
 -- ---- one item along the bytes
 
--- a turn of an item that ends a field
+-- a turn of an item that ends a token
 turn_of : (bytes given rest : List ℕ) (lent : Item) (used : ℕ) (r : Seen) (tally : Tally) (new : Seen) (after : Tally) (start walk : Teller) (a b : Outgoing) (d e : SinkState)
     → SaysAlong bytes given r tally start a b d e walk → TellsItems open_gate given (Ok (step.Item lent used)) r tally new after → 0 < used → used ≤ length given → rest ≡ drop used given
     → Turn bytes rest lent new after (HasSaid start a b d e walk)
@@ -56,7 +56,7 @@ turn_of bytes given rest lent used r tally new after start walk a b d e h t some
     (sym (take-append-drop used given) ∙ ap (λ xs. take used given ++ xs) (sym is))
 
 said_on : (bytes rest : List ℕ) (lent : Item) (new : Seen) (after : Tally) (start walk next : Teller) (a b c : Outgoing) (d e f : SinkState) → OneMore → (IsLength lent → ⊥)
-    → Turn bytes rest lent new after (HasSaid start a b d e walk) → SaysField (Ends lent) b c e f walk next → SaysAlong bytes rest new after start a c d f next
+    → Turn bytes rest lent new after (HasSaid start a b d e walk) → SaysToken (Ends lent) b c e f walk next → SaysAlong bytes rest new after start a c d f next
 said_on bytes rest lent new after start walk next a b c d e f more whole turn says_it =
     takes_item bytes rest lent new after (HasSaid start a b d e walk) (HasSaid start a c d f next) turn
     (does_say bytes rest lent start walk next a b c d e f more says_it.said says_it.goes_on (λ l. absurd (whole l)))

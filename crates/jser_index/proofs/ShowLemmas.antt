@@ -1,10 +1,10 @@
--- The text of show, said field by field along the bytes.
+-- The text of show, said token by token along the bytes.
 use Rattle.std.proofs.Common.{◌≡◌, ◌⊎◌, inl, inr, ℕ, Bool, true, Option, List, [], ◌∷◌, ◌++◌, length, Result, Ok, Err, OnOk, OnErr, refl, sym, ◌∙◌, ap, subst, append_assoc, append-nil}
 use Rattle.jser_prim.specs.Outgoing.{Outgoing, SinkState, Puts, sink_state}
 use Rattle.jser_prim.proofs.OutgoingLemmas.{puts_both, puts_stopped}
 use Rattle.jser_grammar.specs.Trees.{ContentTrees}
-use Rattle.jser_reading.specs.Labels.{StreamField, Label, Piece, piece}
-use Rattle.jser_reading.specs.Fields.{fields_of}
+use Rattle.jser_reading.specs.Labels.{StreamToken, Label, Piece, piece}
+use Rattle.jser_reading.specs.Tokens.{tokens_of}
 use Rattle.jser_shown.specs.Cues.{Teller}
 use Rattle.jser_shown.specs.Fronts.{teller_at, said}
 use Rattle.jser_shown.specs.FrontLaws.{TellsFronts, OneMore}
@@ -25,7 +25,7 @@ use Rattle.jser_index.specs.Showing.{PutsText, PutsSome, PutsFront}
 use Rattle.jser_index.proofs.TurnLemmas.{Turn, Does}
 use Rattle.jser_index.proofs.PassLemmas.{begins_list, not_stuck, reached, reached_all}
 
--- these fields were said, and the walk is where the teller is after them
+-- these tokens were said, and the walk is where the teller is after them
 pub record HasSaid (start : Teller) (old now : Outgoing) (before after : SinkState) (walk : Teller) (front : List Piece) : Type 0 where
   pub walk_is : walk ≡ teller_at start front
   pub text : Says old now before after (λ k. said start front k)
@@ -61,7 +61,7 @@ err_any (Err e) q = q
 
 -- ---- a turn
 
-says_one : (start walk next : Teller) (front : List Piece) (label : Label) (told : StreamField) (a b c : Outgoing) (d e f : SinkState) → OneMore
+says_one : (start walk next : Teller) (front : List Piece) (label : Label) (told : StreamToken) (a b c : Outgoing) (d e f : SinkState) → OneMore
     → HasSaid start a b d e walk front → Says b c e f (λ k. says_next walk told k) → next ≡ goes (settled walk) told
     → HasSaid start a c d f next (front ++ (piece label told ∷ []))
 says_one start walk next front label told a b c d e f more h says_it goes_on =
@@ -75,7 +75,7 @@ says_one start walk next front label told a b c d e f more h says_it goes_on =
     }
 
 pub does_say : (bytes rest : List ℕ) (lent : Item) (start walk next : Teller) (a b c : Outgoing) (d e f : SinkState) → OneMore
-    → ((told : StreamField) → Ends lent told → Says b c e f (λ k. says_next walk told k)) → ((told : StreamField) → Ends lent told → next ≡ goes (settled walk) told)
+    → ((told : StreamToken) → Ends lent told → Says b c e f (λ k. says_next walk told k)) → ((told : StreamToken) → Ends lent told → next ≡ goes (settled walk) told)
     → (IsLength lent → Says b c e f (λ k. k) × (next ≡ walk)) → Does bytes rest lent (HasSaid start a b d e walk) (HasSaid start a c d f next)
 does_say bytes rest lent start walk next a b c d e f more says_it goes_on same = record {
   ended = λ front label told comes ends size h.
@@ -100,11 +100,11 @@ pub record ShowLaws : Type 0 where
 pub show_laws : Told → TellsFronts → ShowLaws
 show_laws t f = record { told = t; fronts = f }
 
--- what is left of the text after some first fields
+-- what is left of the text after some first tokens
 text_after : (values : Bool) (start : Teller) (list : ContentTrees) (bytes : List ℕ) (front later : List Piece) → ShowLaws → Passes open_gate bytes list → start ≡ begin_telling values (owners_of list)
-    → fields_of list ≡ front ++ later → shown values list ≡ said start front (tell (teller_at start front) later)
+    → tokens_of list ≡ front ++ later → shown values list ≡ said start front (tell (teller_at start front) later)
 text_after values start list bytes front later laws p begin is =
-    sym (laws.told values list p.0.1) ∙ ap (λ s. tell s (fields_of list)) (sym begin) ∙ ap (tell start) is ∙ laws.fronts start front later
+    sym (laws.told values list p.0.1) ∙ ap (λ s. tell s (tokens_of list)) (sym begin) ∙ ap (tell start) is ∙ laws.fronts start front later
 
 -- the sink has failed
 pub says_stopped : (bytes rest : List ℕ) (r : Seen) (tally : Tally) (start walk : Teller) (a b : Outgoing) (d e : SinkState) → ShowLaws
@@ -132,7 +132,7 @@ says_front bytes rest r tally start walk a b d e laws h = λ values list p begin
 
 -- memory ran out within an item
 pub item_front : (bytes rest : List ℕ) (lent : Item) (r : Seen) (tally : Tally) (start walk : Teller) (a b c : Outgoing) (d e f : SinkState) → OneMore → ShowLaws
-    → Turn bytes rest lent r tally (HasSaid start a b d e walk) → ((told : StreamField) → Ends lent told → Begins b c e f (λ k. says_next walk told k))
+    → Turn bytes rest lent r tally (HasSaid start a b d e walk) → ((told : StreamToken) → Ends lent told → Begins b c e f (λ k. says_next walk told k))
     → (IsLength lent → ⊥) → PutsFront bytes start a c d f
 unfolding PutsFront
 item_front bytes rest lent r tally start walk a b c d e f more laws (inl x) part none = λ values list p begin.
@@ -162,8 +162,8 @@ item_front bytes rest lent r tally start walk a b c d e f more laws (inr x) part
 -- ---- the end
 
 last_text : (values : Bool) (start : Teller) (list : ContentTrees) (bytes : List ℕ) → ShowLaws → Passes open_gate bytes list → start ≡ begin_telling values (owners_of list)
-    → let now = teller_at start (fields_of list) in shown values list ≡ said start (fields_of list) (settle_says now.known now.cues [])
-last_text values start list bytes laws p begin = text_after values start list bytes (fields_of list) [] laws p begin (sym (append-nil (fields_of list)))
+    → let now = teller_at start (tokens_of list) in shown values list ≡ said start (tokens_of list) (settle_says now.known now.cues [])
+last_text values start list bytes laws p begin = text_after values start list bytes (tokens_of list) [] laws p begin (sym (append-nil (tokens_of list)))
 
 pub says_all : (bytes rest : List ℕ) (r : Seen) (tally : Tally) (start walk : Teller) (a b c : Outgoing) (d e f : SinkState) → ShowLaws
     → SaysAlong bytes rest r tally start a b d e walk → length rest ≡ 0 → Says b c e f (λ k. settle_says walk.known walk.cues k) → PutsText bytes start a c d f
@@ -171,7 +171,7 @@ unfolding PutsText
 says_all bytes rest r tally start walk a b c d e f laws h n due = λ values list p begin.
     let x = reached_all bytes rest r tally (HasSaid start a b d e walk) list h p n in
     let is : shown values list ≡ x.text.bytes ++ due.bytes =
-    last_text values start list bytes laws p begin ∙ ap (λ w. said start (fields_of list) (settle_says w.known w.cues [])) (sym x.walk_is)
+    last_text values start list bytes laws p begin ∙ ap (λ w. said start (tokens_of list) (settle_says w.known w.cues [])) (sym x.walk_is)
     ∙ x.text.is (settle_says walk.known walk.cues []) ∙ ap (λ xs. x.text.bytes ++ xs) (due.is [] ∙ append-nil due.bytes) in
     subst (Puts a c d f) (sym is) (puts_both a b c d e f x.text.bytes due.bytes x.text.puts due.puts)
 
@@ -184,7 +184,7 @@ due_front bytes rest r tally start walk a b c d e f laws h n due = λ values lis
       front = x.text.bytes ++ due.said.bytes;
       left = due.left [];
       split =
-          last_text values start list bytes laws p begin ∙ ap (λ w. said start (fields_of list) (settle_says w.known w.cues [])) (sym x.walk_is)
+          last_text values start list bytes laws p begin ∙ ap (λ w. said start (tokens_of list) (settle_says w.known w.cues [])) (sym x.walk_is)
           ∙ x.text.is (settle_says walk.known walk.cues []) ∙ ap (λ xs. x.text.bytes ++ xs) (due.said.is [])
           ∙ sym (append_assoc x.text.bytes due.said.bytes (due.left []));
       puts = puts_both a b c d e f x.text.bytes due.said.bytes x.text.puts due.said.puts;

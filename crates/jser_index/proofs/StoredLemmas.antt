@@ -4,7 +4,7 @@ use Rattle.std.specs.List.{All}
 use Rattle.std.proofs.lemmas.List.{map_push}
 use Rattle.std.proofs.lemmas.List.Elements.{All-weaker, All-push, All-head, All-tail}
 use Rattle.std.specs.declared.alloc.AllocError.{AllocError}
-use Rattle.jser_reading.specs.Labels.{StreamField}
+use Rattle.jser_reading.specs.Labels.{StreamToken}
 use Rattle.jser_shown.specs.Nodes.{text_node}
 use Rattle.jser_shown.specs.Nodes.{NodeKind as ToldKind}
 use Rattle.jser_shown.specs.Nodes.{Node as ToldNode}
@@ -132,7 +132,7 @@ pub view_end : (kept : Kept) (ended : List (List StoredNode)) (nodes : List Stor
 view_end kept ended nodes = map_push (map (view_node kept)) ended nodes
 
 -- a node that is no string has no units
-pub no_units : (k : NodeKind) (told : StreamField) → (k ≡ kind.Text → ⊥) → units_made (view_kind k) told ≡ None
+pub no_units : (k : NodeKind) (told : StreamToken) → (k ≡ kind.Text → ⊥) → units_made (view_kind k) told ≡ None
 no_units kind.Text told other = absurd (other refl)
 no_units kind.PlainDesc told other = refl
 no_units kind.ProxyDesc told other = refl

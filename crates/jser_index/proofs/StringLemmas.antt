@@ -1,12 +1,12 @@
 -- A string that is lent at once: its tag begins a node, which is made at its text.
 use Rattle.std.proofs.Common.{◌≡◌, ℕ, ◌+◌, ◌-◌, ◌<◌, ◌≤◌, true, false, List, [], ◌∷◌, ◌++◌, length, Some, refl, ◌∙◌, ap, subst, arith, length-append}
 use Rattle.jser_prim.specs.ModifiedUtf8.{IsUnits, modified_utf8}
-use Rattle.jser_reading.specs.FieldBytes.{bytes_of, tag_byte}
-use Rattle.jser_reading.specs.Labels.{Tag, null_tag, reference_tag, class_desc_tag, object_tag, string_tag, array_tag, class_tag, long_string_tag, proxy_desc_tag, enum_tag, StreamField, tag_field, block_tag_field, end_tag_field, reset_tag_field, text_field}
+use Rattle.jser_reading.specs.TokenBytes.{bytes_of, tag_byte}
+use Rattle.jser_reading.specs.Labels.{Tag, null_tag, reference_tag, class_desc_tag, object_tag, string_tag, array_tag, class_tag, long_string_tag, proxy_desc_tag, enum_tag, StreamToken, tag_token, block_tag_token, end_tag_token, reset_tag_token, text_token}
 use Rattle.jser_shown.specs.Nodes.{Node, place_after, text_node}
-use Rattle.jser_shown.specs.Finding.{Finding, node_made, make_begun, begin_kind, kind_begun, take_field, find}
+use Rattle.jser_shown.specs.Finding.{Finding, node_made, make_begun, begin_kind, kind_begun, take_token, find}
 use Rattle.jser_shown.specs.Finding.{Begun as ToldBegun}
-use Rattle.jser_printer.specs.declared.Field.TheVariants as lent
+use Rattle.jser_printer.specs.declared.Token.TheVariants as lent
 use Rattle.jser_printer.specs.Given.{IsOf}
 use Rattle.jser_index.specs.Along.{IsTextOf}
 use Rattle.jser_index.specs.Listed.{Listed}
@@ -26,29 +26,29 @@ string_begins long_string_tag is = absurd (omega arith)
 string_begins proxy_desc_tag is = absurd (omega arith)
 string_begins enum_tag is = absurd (omega arith)
 
-tag_taken : (told : StreamField) (now : Finding) → IsOf (lent.Tag 0x74) told
-    → record (begin_kind (Some text_node) now) { is_name = true } ≡ take_field told now
-tag_taken (tag_field tag) now is = ap (λ k. record (begin_kind k now) { is_name = true }) (string_begins tag is)
-tag_taken (block_tag_field false) now is = absurd (omega arith)
-tag_taken (block_tag_field true) now is = absurd (omega arith)
-tag_taken end_tag_field now is = absurd (omega arith)
-tag_taken reset_tag_field now is = absurd (omega arith)
+tag_taken : (told : StreamToken) (now : Finding) → IsOf (lent.Tag 0x74) told
+    → record (begin_kind (Some text_node) now) { is_name = true } ≡ take_token told now
+tag_taken (tag_token tag) now is = ap (λ k. record (begin_kind k now) { is_name = true }) (string_begins tag is)
+tag_taken (block_tag_token false) now is = absurd (omega arith)
+tag_taken (block_tag_token true) now is = absurd (omega arith)
+tag_taken end_tag_token now is = absurd (omega arith)
+tag_taken reset_tag_token now is = absurd (omega arith)
 tag_taken _ now is = absurd is
 
 -- the text of a node that is made at it
-text_made : (text units : List ℕ) (assigned middle end : ℕ) (now new : Finding) (told : StreamField) → length now.nodes ≤ assigned
+text_made : (text units : List ℕ) (assigned middle end : ℕ) (now new : Finding) (told : StreamToken) → length now.nodes ≤ assigned
     → ((us : List ℕ) → IsUnits us → modified_utf8 us ≡ text → units ≡ us)
     → new ≡ record now { nodes = now.nodes ++ (record { kind = text_node; place = now.place; units = Some units } ∷ []); is_name = true; place = end }
     → IsTextOf text told → place_after middle (bytes_of told) ≡ end
     → new ≡ find (assigned + 1) told (record (begin_kind (Some text_node) now) { is_name = true; place = middle })
-text_made text units assigned middle end now new (text_field long us) le spelled is of at =
+text_made text units assigned middle end now new (text_token long us) le spelled is of at =
     let between : Finding = record (begin_kind (Some text_node) now) { is_name = true; place = middle } in
-    let made : Finding = make_begun (text_field long us) between.begun between in
-    finds_made (text_field long us) (assigned + 1) end between made made new (omega arith) refl refl
+    let made : Finding = make_begun (text_token long us) between.begun between in
+    finds_made (text_token long us) (assigned + 1) end between made made new (omega arith) refl refl
     (is ∙ ap (λ u. record now { nodes = now.nodes ++ (record { kind = text_node; place = now.place; units = Some u } ∷ []); is_name = true; place = end }) (spelled us of.0 of.1)) at
 text_made text units assigned middle end now new _ le spelled is of at = absurd of
 
-nodes_made : (told : StreamField) (begun : List ToldBegun) (now : Finding) → length (make_begun told begun now).nodes ≤ length now.nodes + 1
+nodes_made : (told : StreamToken) (begun : List ToldBegun) (now : Finding) → length (make_begun told begun now).nodes ≤ length now.nodes + 1
 nodes_made told [] now = omega arith
 nodes_made told (b ∷ begun) now = let n = length-append now.nodes (node_made b told ∷ []) in omega arith
 
@@ -67,11 +67,11 @@ string_added text end old new seen nodes same adds is =
 
 -- where a node was made before the tag
 pub string_made : (text : List ℕ) (assigned end : ℕ) (old made new : Finding) → length old.nodes < assigned
-    → ((told : StreamField) → IsPlain told → made ≡ make_begun told old.begun old) → AddsString text end made new
+    → ((told : StreamToken) → IsPlain told → made ≡ make_begun told old.begun old) → AddsString text end made new
     → GoesPastBoth (IsOf (lent.Tag 0x74)) (IsTextOf text) assigned (assigned + 1) (end - (2 + length text)) end old new
 string_made text assigned end old made new less is_made adds =
     let middle : ℕ = end - (2 + length text) in
-    let tag : StreamField = tag_field string_tag in
+    let tag : StreamToken = tag_token string_tag in
     let some = nodes_made tag old.begun old in
     let count = ap (λ x. length x.nodes) (is_made tag tt) in
     record {

@@ -1,8 +1,8 @@
--- One item further along the bytes of a stream, whatever is said of the fields that went by.
+-- One item further along the bytes of a stream, whatever is said of the tokens that went by.
 use Rattle.std.proofs.Common.{◌≡◌, ◌⊎◌, inl, inr, ℕ, ◌+◌, ◌<◌, ◌≤◌, List, [], ◌∷◌, ◌++◌, length, take, Ok, refl, sym, ◌∙◌, ap, arith, append_assoc, append-nil, length-append}
 use Rattle.std.proofs.lemmas.List.{length-take-le}
-use Rattle.jser_reading.specs.Labels.{StreamField, Label, Piece, piece}
-use Rattle.jser_reading.specs.FieldBytes.{bytes_of, joined}
+use Rattle.jser_reading.specs.Labels.{StreamToken, Label, Piece, piece}
+use Rattle.jser_reading.specs.TokenBytes.{bytes_of, joined}
 use Rattle.jser_reading.specs.ComesNext.{ComesNext}
 use Rattle.jser_verdict.specs.Gates.{Gate}
 use Rattle.jser_reader.specs.Gates.{open_gate}
@@ -11,8 +11,8 @@ use Rattle.jser_reader.specs.declared.Step.TheVariants as step
 use Rattle.jser_reader.specs.declared.tally.Tally.{Tally}
 use Rattle.jser_reader.specs.Readers.{Seen}
 use Rattle.jser_reader.specs.ReaderStates.{StandsFor}
-use Rattle.jser_reader.specs.ItemsTold.{StandsIn, FieldEnds, FieldGoesOn, Lends, TellsItems}
-use Rattle.jser_index.specs.Along.{Ends, IsLength, InText, IsStuck, FieldTaken, FieldOpen, Where, GoesAlong}
+use Rattle.jser_reader.specs.ItemsTold.{StandsIn, TokenEnds, TokenGoesOn, Lends, TellsItems}
+use Rattle.jser_index.specs.Along.{Ends, IsLength, InText, IsStuck, TokenTaken, TokenOpen, Where, GoesAlong}
 use Rattle.jser_index.proofs.AlongLemmas.{moves}
 
 pub stands_for : (gate : Gate) (front : List Piece) (cut : List ℕ) (r : Seen) (tally : Tally) → StandsIn gate front cut r tally
@@ -30,7 +30,7 @@ pub begins : (bytes : List ℕ) (r : Seen) (tally : Tally) (P : List Piece → T
 begins bytes r tally P st h =
     record { front = []; cut = []; split = refl; stands = st; where_it_is = inl (inl refl, h) }
 
--- what holds of the fields so far, and besides it
+-- what holds of the tokens so far, and besides it
 pub along_with : (bytes rest : List ℕ) (r : Seen) (tally : Tally) (P Q : List Piece → Type 0) → GoesAlong open_gate bytes rest r tally P
     → ((front : List Piece) (cut : List ℕ) → StandsIn open_gate front cut r tally → P front → Q front) → GoesAlong open_gate bytes rest r tally Q
 along_with bytes rest r tally P Q h f =
@@ -61,24 +61,24 @@ wants_more bytes rest none r tally new after P h t some e =
 
 -- ---- an item
 
-pub joined_one : (front : List Piece) (label : Label) (told : StreamField) → joined (front ++ (piece label told ∷ [])) ≡ joined front ++ bytes_of told
+pub joined_one : (front : List Piece) (label : Label) (told : StreamToken) → joined (front ++ (piece label told ∷ [])) ≡ joined front ++ bytes_of told
 joined_one [] label told = append-nil (bytes_of told)
 joined_one (piece l f ∷ front) label told =
     ap (λ xs. bytes_of f ++ xs) (joined_one front label told) ∙ sym (append_assoc (bytes_of f) (joined front) (bytes_of told))
 
--- a field has ended with the item, after those of which this holds
-pub record EndsField (bytes rest : List ℕ) (lent : Item) (r : Seen) (tally : Tally) (P : List Piece → Type 0) : Type 0 where
+-- a token has ended with the item, after those of which this holds
+pub record EndsToken (bytes rest : List ℕ) (lent : Item) (r : Seen) (tally : Tally) (P : List Piece → Type 0) : Type 0 where
   pub front : List Piece
   pub label : Label
   pub comes : ComesNext front label
-  pub told : StreamField
+  pub told : StreamToken
   pub ends : Ends lent told
   pub size : length (joined front) + length (bytes_of told) + length rest ≡ length bytes
   pub before : P front
   pub split : bytes ≡ (joined (front ++ (piece label told ∷ [])) ++ []) ++ rest
   pub stands : StandsIn open_gate (front ++ (piece label told ∷ [])) [] r tally
 
--- the field goes on
+-- the token goes on
 pub record LeavesOpen (bytes rest : List ℕ) (lent : Item) (r : Seen) (tally : Tally) (P : List Piece → Type 0) : Type 0 where
   pub front : List Piece
   pub cut : List ℕ
@@ -87,11 +87,11 @@ pub record LeavesOpen (bytes rest : List ℕ) (lent : Item) (r : Seen) (tally : 
   pub goes_on : (IsLength lent × InText front cut × P front) ⊎ IsStuck open_gate front cut rest
 
 abbrev pub Turn : (bytes rest : List ℕ) → Item → Seen → Tally → (P : List Piece → Type 0) → Type 0
-Turn bytes rest lent r tally P = EndsField bytes rest lent r tally P ⊎ LeavesOpen bytes rest lent r tally P
+Turn bytes rest lent r tally P = EndsToken bytes rest lent r tally P ⊎ LeavesOpen bytes rest lent r tally P
 
-pub field_taken : (bytes rest taken cut : List ℕ) (front : List Piece) (lent : Item) (r : Seen) (tally : Tally) (P : List Piece → Type 0)
-    → bytes ≡ (joined front ++ cut) ++ (taken ++ rest) → P front → FieldTaken open_gate front cut taken lent r tally → EndsField bytes rest lent r tally P
-field_taken bytes rest taken cut front lent r tally P split before f =
+pub token_taken : (bytes rest taken cut : List ℕ) (front : List Piece) (lent : Item) (r : Seen) (tally : Tally) (P : List Piece → Type 0)
+    → bytes ≡ (joined front ++ cut) ++ (taken ++ rest) → P front → TokenTaken open_gate front cut taken lent r tally → EndsToken bytes rest lent r tally P
+token_taken bytes rest taken cut front lent r tally P split before f =
     let joins : joined (front ++ (piece f.label f.told ∷ [])) ≡ joined front ++ (cut ++ taken) =
     joined_one front f.label f.told ∙ ap (λ xs. joined front ++ xs) f.bytes in
     let parts : bytes ≡ (joined front ++ (cut ++ taken)) ++ rest =
@@ -111,9 +111,9 @@ field_taken bytes rest taken cut front lent r tally P split before f =
       stands = f.stands;
     }
 
-field_open : (bytes rest taken cut : List ℕ) (front : List Piece) (lent : Item) (r : Seen) (tally : Tally) (P : List Piece → Type 0)
-    → bytes ≡ (joined front ++ cut) ++ (taken ++ rest) → P front → FieldOpen open_gate front cut taken rest lent r tally → LeavesOpen bytes rest lent r tally P
-field_open bytes rest taken cut front lent r tally P split before o = record {
+token_open : (bytes rest taken cut : List ℕ) (front : List Piece) (lent : Item) (r : Seen) (tally : Tally) (P : List Piece → Type 0)
+    → bytes ≡ (joined front ++ cut) ++ (taken ++ rest) → P front → TokenOpen open_gate front cut taken rest lent r tally → LeavesOpen bytes rest lent r tally P
+token_open bytes rest taken cut front lent r tally P split before o = record {
   front = front;
   cut = cut ++ taken;
   split = split ∙ sym (append_assoc (joined front ++ cut) taken rest) ∙ ap (λ xs. xs ++ rest) (append_assoc (joined front) cut taken);
@@ -137,16 +137,16 @@ no_more front cut given lent used r tally some le s l =
     over s.at_end l.after n m k j
   where
     over : {A : Type 0} → (given ≡ []) ⊎ (length (joined front ++ cut) ≡ open_gate.bytes)
-        → FieldEnds open_gate front l.label (cut ++ take used given) r tally ⊎ FieldGoesOn open_gate front (cut ++ take used given) given used lent r tally
+        → TokenEnds open_gate front l.label (cut ++ take used given) r tally ⊎ TokenGoesOn open_gate front (cut ++ take used given) given used lent r tally
         → length (take used given) ≡ used → length (cut ++ take used given) ≡ length cut + length (take used given)
         → length (joined front ++ cut) ≡ length (joined front) + length cut
         → length (joined front ++ (cut ++ take used given)) ≡ length (joined front) + length (cut ++ take used given) → A
     over (inl e) x n m k j = let z = ap length e in absurd (omega arith)
     over (inr e) (inl f) n m k j =
         let w = f.stands.within in
-        let a = ap length (append-nil (joined (front ++ (piece l.label f.field ∷ []))) ∙ joined_one front l.label f.field) in
+        let a = ap length (append-nil (joined (front ++ (piece l.label f.token ∷ []))) ∙ joined_one front l.label f.token) in
         let b = ap length f.spelled in
-        let c = length-append (joined front) (bytes_of f.field) in
+        let c = length-append (joined front) (bytes_of f.token) in
         absurd (omega arith)
     over (inr e) (inr o) n m k j = let w = o.stands.within in absurd (omega arith)
 
@@ -164,14 +164,14 @@ turns bytes given taken rest lent used r tally new after P h t some le is split 
         let parts : bytes ≡ (joined h.front ++ h.cut) ++ (taken ++ rest) = h.split ∙ ap (λ xs. (joined h.front ++ h.cut) ++ xs) split in
         let size : length taken ≡ used = ap length is ∙ length-take-le used given le in
         elim (moves open_gate h.front h.cut given taken rest lent used new after b some is size split l) [
-          | inl f ↦ inl (field_taken bytes rest taken h.cut h.front lent new after P parts before f)
-          | inr o ↦ inr (field_open bytes rest taken h.cut h.front lent new after P parts before o)
+          | inl f ↦ inl (token_taken bytes rest taken h.cut h.front lent new after P parts before f)
+          | inr o ↦ inr (token_open bytes rest taken h.cut h.front lent new after P parts before o)
         ]
     goes (inr s) l = no_more h.front h.cut given lent used new after some le s l
 
--- What is done with an item: what held of the fields before it, and what holds of those after it.
+-- What is done with an item: what held of the tokens before it, and what holds of those after it.
 pub record Does (bytes rest : List ℕ) (lent : Item) (P Q : List Piece → Type 0) : Type 0 where
-  pub ended : (front : List Piece) (label : Label) (told : StreamField) → ComesNext front label → Ends lent told
+  pub ended : (front : List Piece) (label : Label) (told : StreamToken) → ComesNext front label → Ends lent told
       → length (joined front) + length (bytes_of told) + length rest ≡ length bytes → P front → Q (front ++ (piece label told ∷ []))
   pub same : IsLength lent → (front : List Piece) → P front → Q front
 

@@ -4,8 +4,8 @@ use Rattle.std.proofs.Common.{◌≡◌, inl, inr, ℕ, zero, suc, ◌+◌, ◌-
 use Rattle.std.proofs.lemmas.List.{length-drop, length-take-le, take-append-drop}
 use Rattle.jser_prim.specs.Bytes.{big_bytes}
 use Rattle.jser_prim.specs.ModifiedUtf8.{modified_utf8}
-use Rattle.jser_reading.specs.Labels.{StreamField, text_field, Piece}
-use Rattle.jser_reading.specs.FieldBytes.{bytes_of, joined}
+use Rattle.jser_reading.specs.Labels.{StreamToken, text_token, Piece}
+use Rattle.jser_reading.specs.TokenBytes.{bytes_of, joined}
 use Rattle.jser_reading.proofs.Decoding.{length-big_bytes}
 use Rattle.jser_shown.specs.Nodes.{place_after}
 use Rattle.jser_shown.specs.Finding.{Finding, find}
@@ -22,20 +22,20 @@ use Rattle.jser_reader.specs.Bounds.{AreAssigned}
 use Rattle.jser_reader.specs.ItemsTold.{TellsItems}
 use Rattle.jser_reader.specs.Readers.{Seen}
 use Rattle.jser_reader.specs.WholesTold.{TextEnds, TellsText, TellsWhole}
-use Rattle.jser_printer.specs.declared.Field.TheVariants as lent
+use Rattle.jser_printer.specs.declared.Token.TheVariants as lent
 use Rattle.jser_printer.specs.Given.{IsOf}
 use Rattle.jser_index.specs.Along.{Ends, IsLength, IsTextOf, Where, GoesAlong, whole_size}
 use Rattle.jser_index.specs.Reading.{SurveysAlong}
 use Rattle.jser_index.specs.Surveying.{IsAt, IsQuiet, GoesPast, GoesPastBoth, GoesPastOwner, GoesPastWhole}
 use Rattle.jser_index.proofs.AlongLemmas.{text_told, text_bytes, same_rest}
 use Rattle.jser_index.proofs.SurveyLemmas.{handle_quiet}
-use Rattle.jser_index.proofs.TurnLemmas.{Turn, field_taken, turns, takes_item}
+use Rattle.jser_index.proofs.TurnLemmas.{Turn, token_taken, turns, takes_item}
 use Rattle.jser_index.proofs.ReadLemmas.{Meets, meets, took, does}
 
 -- ---- a text with its length
 
 -- the units of the text are those that its bytes spell
-text_ends : (part : Bor (List ℕ)) (given text taken : List ℕ) (told : StreamField) (units : List ℕ) → taken ≡ take (2 + length text) given → 2 + length text ≤ length given
+text_ends : (part : Bor (List ℕ)) (given text taken : List ℕ) (told : StreamToken) (units : List ℕ) → taken ≡ take (2 + length text) given → 2 + length text ≤ length given
     → bytes_of told ≡ big_bytes 2 (length (modified_utf8 units)) ++ modified_utf8 units → bytes_of told ≡ taken → text ≡ drop 2 taken → modified_utf8 units ≡ text
 text_ends part given text taken told units et enough spelled all is =
     let n = ap length et ∙ length-take-le (2 + length text) given enough in
@@ -56,15 +56,15 @@ text_turns bytes given rest part r tally new after P h t enough is =
     goes (inl (b, before)) x =
         let taken : List ℕ = take (2 + length part.now) given in
         let split : given ≡ taken ++ rest = sym (take-append-drop (2 + length part.now) given) ∙ ap (λ xs. taken ++ xs) (sym is) in
-        let y = text_bytes x.ends.field false (text_told x.label.position x.label.moment x.ends.field false x.ends.accepted x.is_text) in
-        inl (field_taken bytes rest taken h.cut h.front (item.TextPart part) new after P (h.split ∙ ap (λ xs. (joined h.front ++ h.cut) ++ xs) split) before
+        let y = text_bytes x.ends.token false (text_told x.label.position x.label.moment x.ends.token false x.ends.accepted x.is_text) in
+        inl (token_taken bytes rest taken h.cut h.front (item.TextPart part) new after P (h.split ∙ ap (λ xs. (joined h.front ++ h.cut) ++ xs) split) before
         (record {
           label = x.label;
           comes = x.comes;
-          told = x.ends.field;
+          told = x.ends.token;
           ends =
               subst (λ f. Ends (item.TextPart part) f) (sym y.2)
-              (y.1.0, text_ends part given part.now taken x.ends.field y.0 refl enough y.3 x.ends.spelled x.bytes);
+              (y.1.0, text_ends part given part.now taken x.ends.token y.0 refl enough y.3 x.ends.spelled x.bytes);
           bytes = x.ends.spelled ∙ ap (λ c. c ++ taken) (sym x.none);
           stands = x.ends.stands;
         }))
@@ -77,7 +77,7 @@ nothing_done bytes rest r tally new after P e h =
 
 -- ---- a first walk goes past them
 
--- an item that ends a field
+-- an item that ends a token
 past_item : (bytes given rest : List ℕ) (lent : Item) (used assigned end : ℕ) (r : Seen) (tally : Tally) (new : Seen) (after : Tally) (old now : Finding) → FindsFronts → PlacesAreCounted
     → (IsLength lent → ⊥) → SurveysAlong bytes given r tally old → AreAssigned open_gate assigned r tally → TellsItems open_gate given (Ok (step.Item lent used)) r tally new after
     → 0 < used → used ≤ length given → rest ≡ drop used given → end ≡ length bytes - length rest → GoesPast (Ends lent) assigned end old now
@@ -100,8 +100,8 @@ past_text bytes given rest part assigned end r tally new after old now fronts co
     (does bytes rest (item.TextPart part) assigned end old now fronts counted at
     (took (item.TextPart part) assigned end old now (λ told e. past.finds told (of_text told e)) (λ l. absurd l) (λ told e. past.place)))
   where
-    of_text : (told : StreamField) → Ends (item.TextPart part) told → IsTextOf part.now told
-    of_text (text_field long units) e = e
+    of_text : (told : StreamToken) → Ends (item.TextPart part) told → IsTextOf part.now told
+    of_text (text_token long units) e = e
     of_text _ e = absurd e
 
 pub drop_on : (n : ℕ) (xs : List ℕ) → drop n (drop 1 xs) ≡ drop (suc n) xs
@@ -159,7 +159,7 @@ past_whole bytes given rest (whole.Owner tag class) assigned end r tally new aft
 -- ---- a first walk, where the code goes past them
 
 pub past_owner : (tag class assigned end middle : ℕ) (old within new : Finding) → middle ≡ end - 5
-    → ((told : StreamField) → IsOf (lent.Tag tag) told → place_after old.place (bytes_of told) ≡ middle → within ≡ find assigned told old) → within.place ≡ middle
+    → ((told : StreamToken) → IsOf (lent.Tag tag) told → place_after old.place (bytes_of told) ≡ middle → within ≡ find assigned told old) → within.place ≡ middle
     → GoesPastBoth (IsOf (lent.Tag 0x71)) (IsOf (lent.Handle class)) assigned assigned (end - 4) end within new → GoesPastOwner tag class assigned end old new
 past_owner tag class assigned end middle old within new e finds place then = record {
   within = within;
@@ -168,8 +168,8 @@ past_owner tag class assigned end middle old within new e finds place then = rec
 }
 
 pub past_reference : (handle assigned end middle : ℕ) (old between new : Finding) → middle ≡ end - 4
-    → ((told : StreamField) → IsOf (lent.Tag 0x71) told → place_after old.place (bytes_of told) ≡ middle → between ≡ find assigned told old) → between.place ≡ middle
-    → ((told : StreamField) → IsQuiet told → place_after between.place (bytes_of told) ≡ end → new ≡ find assigned told between) → new.place ≡ end
+    → ((told : StreamToken) → IsOf (lent.Tag 0x71) told → place_after old.place (bytes_of told) ≡ middle → between ≡ find assigned told old) → between.place ≡ middle
+    → ((told : StreamToken) → IsQuiet told → place_after between.place (bytes_of told) ≡ end → new ≡ find assigned told between) → new.place ≡ end
     → GoesPastBoth (IsOf (lent.Tag 0x71)) (IsOf (lent.Handle handle)) assigned assigned (end - 4) end old new
 past_reference handle assigned end middle old between new e finds place then_finds then_place = record {
   between = between;
@@ -178,8 +178,8 @@ past_reference handle assigned end middle old between new e finds place then_fin
 }
 
 pub past_string : (text : List ℕ) (assigned end middle : ℕ) (old between new : Finding) → middle ≡ end - (2 + length text)
-    → ((told : StreamField) → IsOf (lent.Tag 0x74) told → place_after old.place (bytes_of told) ≡ middle → between ≡ find assigned told old) → between.place ≡ middle
-    → ((told : StreamField) → IsTextOf text told → place_after between.place (bytes_of told) ≡ end → new ≡ find (assigned + 1) told between) → new.place ≡ end
+    → ((told : StreamToken) → IsOf (lent.Tag 0x74) told → place_after old.place (bytes_of told) ≡ middle → between ≡ find assigned told old) → between.place ≡ middle
+    → ((told : StreamToken) → IsTextOf text told → place_after between.place (bytes_of told) ≡ end → new ≡ find (assigned + 1) told between) → new.place ≡ end
     → GoesPastBoth (IsOf (lent.Tag 0x74)) (IsTextOf text) assigned (assigned + 1) (end - (2 + length text)) end old new
 past_string text assigned end middle old between new e finds place then_finds then_place = record {
   between = between;

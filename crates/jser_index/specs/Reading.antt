@@ -19,7 +19,7 @@ use Rattle.jser_index.specs.declared.read.Found.{Found}
 use Rattle.jser_index.specs.Along.{GoesAlong}
 use Rattle.jser_index.specs.Surveying.{IsAt}
 
--- so far along the bytes, with a survey of the fields
+-- so far along the bytes, with a survey of the tokens
 abbrev pub SurveysAlong : (bytes rest : List ℕ) → Seen → Tally → Finding → Type 0
 SurveysAlong bytes rest r tally survey = GoesAlong open_gate bytes rest r tally (λ front. IsAt front survey)
 

@@ -1,9 +1,9 @@
--- A first walk along the fields of a stream, as code makes it.
+-- A first walk along the tokens of a stream, as code makes it.
 use Rattle.std.specs.Prelude.{ℕ, ◌≡◌, ◌+◌, ◌-◌, ◌<◌, List, [], ◌∷◌, ◌++◌, Some, true, length}
 use Rattle.jser_prim.specs.ModifiedUtf8.{IsUnits, modified_utf8}
 use Rattle.jser_grammar.specs.Wire.{TC_REFERENCE, TC_STRING}
-use Rattle.jser_reading.specs.FieldBytes.{bytes_of, joined}
-use Rattle.jser_reading.specs.Labels.{StreamField, handle_field, array_length_field, text_field, prims_field, bytes_field, Piece}
+use Rattle.jser_reading.specs.TokenBytes.{bytes_of, joined}
+use Rattle.jser_reading.specs.Labels.{StreamToken, handle_token, array_length_token, text_token, prims_token, bytes_token, Piece}
 use Rattle.jser_shown.specs.Nodes.{place_after, text_node}
 use Rattle.jser_shown.specs.Finding.{Finding, begin_finding, find, found}
 use Rattle.jser_shown.specs.Finding.{Begun as ToldBegun}
@@ -11,7 +11,7 @@ use Rattle.jser_index.specs.declared.begun.Begun.{Begun}
 use Rattle.jser_reader.specs.declared.Whole.{Whole}
 use Rattle.jser_reader.specs.declared.Whole.TheVariants as whole
 use Rattle.jser_reader.specs.RawsTold.{AreRaws}
-use Rattle.jser_printer.specs.declared.Field.TheVariants as lent
+use Rattle.jser_printer.specs.declared.Token.TheVariants as lent
 use Rattle.jser_printer.specs.Given.{IsOf}
 use Rattle.jser_index.specs.Along.{IsTextOf}
 use Rattle.jser_index.specs.StoredNodes.{view_kind}
@@ -20,27 +20,27 @@ use Rattle.jser_index.specs.StoredNodes.{view_kind}
 abbrev pub view_begun : Begun → ToldBegun
 view_begun b = record { kind = view_kind b.kind; place = b.tag_byte; position = b.position }
 
--- a node that is made at this field gets nothing of it: it is neither a text nor the length of an array
-abbrev pub IsPlain : StreamField → Type 0
-IsPlain (text_field long units) = ⊥
-IsPlain (array_length_field n) = ⊥
-IsPlain field = Unit {0}
+-- a node that is made at this token gets nothing of it: it is neither a text nor the length of an array
+abbrev pub IsPlain : StreamToken → Type 0
+IsPlain (text_token long units) = ⊥
+IsPlain (array_length_token n) = ⊥
+IsPlain token = Unit {0}
 
--- nothing begins with this field, and nothing is kept of it
-abbrev pub IsQuiet : StreamField → Type 0
-IsQuiet (handle_field n) = Unit {0}
-IsQuiet (prims_field ps) = Unit {0}
-IsQuiet (bytes_field bytes) = Unit {0}
-IsQuiet field = ⊥
+-- nothing begins with this token, and nothing is kept of it
+abbrev pub IsQuiet : StreamToken → Type 0
+IsQuiet (handle_token n) = Unit {0}
+IsQuiet (prims_token ps) = Unit {0}
+IsQuiet (bytes_token bytes) = Unit {0}
+IsQuiet token = ⊥
 
--- it has gone along these fields
+-- it has gone along these tokens
 pub record IsAt (front : List Piece) (now : Finding) : Type 0 where
   pub found_are : now ≡ found begin_finding front
   pub place : now.place ≡ length (joined front)
 
--- it went past a field of this kind, which ends at this place, and before which so many handles of the epoch were assigned
-pub record GoesPast (is : StreamField → Type 0) (assigned end : ℕ) (old new : Finding) : Type 0 where
-  pub finds : (told : StreamField) → is told → place_after old.place (bytes_of told) ≡ end → new ≡ find assigned told old
+-- it went past a token of this kind, which ends at this place, and before which so many handles of the epoch were assigned
+pub record GoesPast (is : StreamToken → Type 0) (assigned end : ℕ) (old new : Finding) : Type 0 where
+  pub finds : (told : StreamToken) → is told → place_after old.place (bytes_of told) ≡ end → new ≡ find assigned told old
   pub place : new.place ≡ end
 
 -- it went past raw values, which end at this place, and before which so many handles of the epoch were assigned
@@ -48,8 +48,8 @@ pub record GoesPastRaws (assigned end : ℕ) (old new : Finding) : Type 0 where
   pub finds : (raws : List Piece) → AreRaws assigned raws → 0 < length raws → place_after old.place (joined raws) ≡ end → new ≡ found old raws
   pub place : new.place ≡ end
 
--- it went past two fields, one after another
-pub record GoesPastBoth (one other : StreamField → Type 0) (assigned next middle end : ℕ) (old new : Finding) : Type 0 where
+-- it went past two tokens, one after another
+pub record GoesPastBoth (one other : StreamToken → Type 0) (assigned next middle end : ℕ) (old new : Finding) : Type 0 where
   pub between : Finding
   pub first : GoesPast one assigned middle old between
   pub second : GoesPast other next end between new
@@ -66,7 +66,7 @@ pub record GoesPastOwner (tag class assigned end : ℕ) (old new : Finding) : Ty
   pub own : GoesPast (IsOf (lent.Tag tag)) assigned (end - 5) old within
   pub class_is : GoesPastBoth (IsOf (lent.Tag TC_REFERENCE)) (IsOf (lent.Handle class)) assigned assigned (end - 4) end within new
 
--- it went past the fields of a value that is lent at once
+-- it went past the tokens of a value that is lent at once
 abbrev pub GoesPastWhole : Whole → (assigned end : ℕ) → (old new : Finding) → Type 0
 GoesPastWhole (whole.Reference handle) assigned end old new =
     GoesPastBoth (IsOf (lent.Tag TC_REFERENCE)) (IsOf (lent.Handle handle)) assigned assigned (end - 4) end old new

@@ -1,7 +1,7 @@
 //! Tags whose nodes are not made yet.
 ghost use Rattle.std.specs.Prelude.{◌≡◌, option_map};
-ghost use Rattle.jser_reading.specs.FieldBytes.{tag_byte};
-ghost use Rattle.jser_reading.specs.Labels.{StreamField, Tag};
+ghost use Rattle.jser_reading.specs.TokenBytes.{tag_byte};
+ghost use Rattle.jser_reading.specs.Labels.{StreamToken, Tag};
 ghost use Rattle.jser_shown.specs.Finding.{elements_made, is_owner_kind, kind_begun};
 ghost use Rattle.jser_printer.specs.Given.{IsOf};
 ghost use Rattle.jser_index.specs.StoredNodes.{view_kind};
@@ -11,7 +11,7 @@ use jser_grammar::wire::{
     TC_ARRAY, TC_CLASS, TC_CLASSDESC, TC_ENUM, TC_LONGSTRING, TC_OBJECT, TC_PROXYCLASSDESC,
     TC_STRING,
 };
-use jser_printer::Field;
+use jser_printer::Token;
 
 /// A tag whose node is not made yet.
 #[derive(Clone, Copy)]
@@ -57,14 +57,14 @@ pub(crate) fn is_owner(kind: NodeKind) -> bool
     }
 }
 
-/// How many elements a node has that is made at this field; 0 where it is no array.
+/// How many elements a node has that is made at this token; 0 where it is no array.
 #[inline(always)]
-pub(crate) fn elements_made(kind: NodeKind, field: Field<'_>) -> u32
-    ensures { (told : StreamField) → IsOf field.entry told → result ≡ elements_made (view_kind kind) told }
+pub(crate) fn elements_made(kind: NodeKind, token: Token<'_>) -> u32
+    ensures { (told : StreamToken) → IsOf token.entry told → result ≡ elements_made (view_kind kind) told }
 {
     match kind {
-        NodeKind::Array => match field {
-            Field::ArrayLength(elements) => elements,
+        NodeKind::Array => match token {
+            Token::ArrayLength(elements) => elements,
             _ => 0,
         },
         NodeKind::Object => 0,

@@ -1,6 +1,6 @@
 //! The nodes of a stream, by their handles.
 ghost use Rattle.std.specs.Prelude.{◌≡◌, [], None, Some, length, OnOk};
-ghost use Rattle.jser_reading.specs.Labels.{StreamField};
+ghost use Rattle.jser_reading.specs.Labels.{StreamToken};
 ghost use Rattle.jser_shown.specs.Finding.{node_made};
 ghost use Rattle.jser_shown.specs.Nodes.{text_node};
 ghost use Rattle.jser_printer.specs.Given.{IsOf};
@@ -13,7 +13,7 @@ use crate::begun::Begun;
 use crate::lists::Lists;
 use crate::node::{Node, NodeKind, StoredNode};
 use crate::strings::Strings;
-use jser_printer::Field;
+use jser_printer::Token;
 use std::alloc::{AllocError, Global};
 use std::marker::Model;
 
@@ -59,15 +59,15 @@ impl Nodes {
         self.nodes.last_count()
     }
 
-    /// Adds the node of a tag, which is made at this field.
+    /// Adds the node of a tag, which is made at this token.
     #[tactic(auto, using(crate::proofs::StoredLemmas::no_units))]
     #[inline(always)]
-    pub(crate) fn make(&mut self, begun: Begun, field: Field<'_>) -> Result<(), AllocError>
-        ensures { OnOk result ((told : StreamField) → IsOf field.entry told → self.new ≡ with_last self.old (node_made (view_begun begun) told)) }
+    pub(crate) fn make(&mut self, begun: Begun, token: Token<'_>) -> Result<(), AllocError>
+        ensures { OnOk result ((told : StreamToken) → IsOf token.entry told → self.new ≡ with_last self.old (node_made (view_begun begun) told)) }
     {
         match begun.kind {
-            NodeKind::Text => match field {
-                Field::Text(units) => self.push_text(units, begun.tag_byte),
+            NodeKind::Text => match token {
+                Token::Text(units) => self.push_text(units, begun.tag_byte),
                 _ => self.push(begun),
             },
             _ => self.push(begun),

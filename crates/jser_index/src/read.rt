@@ -80,7 +80,7 @@ fn pass_behind<'b>(
     }
 }
 
-/// Goes along the bytes with a new reader, and lets the survey go along their fields.
+/// Goes along the bytes with a new reader, and lets the survey go along their tokens.
 fn survey_along(
     reader: &mut Reader<OpenGate>,
     survey: &mut Survey,

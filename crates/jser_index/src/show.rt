@@ -1,6 +1,6 @@
 //! The text of `show`, told along the bytes of a graph.
 ghost use Rattle.std.specs.Prelude.{◌≡◌, OnOk, OnErr, IfOk, IfErr};
-ghost use Rattle.jser_reading.specs.Labels.{StreamField};
+ghost use Rattle.jser_reading.specs.Labels.{StreamToken};
 ghost use Rattle.jser_shown.specs.Telling.{begin_telling, goes, settled};
 ghost use Rattle.jser_printer.specs.Given.{IsOf};
 ghost use Rattle.jser_printer.specs.Passing.{says_next};
@@ -15,7 +15,7 @@ use crate::output::GraphFault;
 use crate::part::{Part, part_of, size_of};
 use jser_grammar::wire::{TC_REFERENCE, TC_STRING};
 use jser_prim::{Outbox, Sink};
-use jser_printer::{Field, Plain, Printer};
+use jser_printer::{Plain, Printer, Token};
 use jser_reader::{Item, OpenGate, Reader, Step, Whole};
 use jser_shown::laws::{one_more, tells_fronts, told};
 use std::alloc::{AllocError, Global};
@@ -130,7 +130,7 @@ fn write_along<W: Sink>(
     printer.write_all_due(outbox, sink)
 }
 
-/// Writes the field that an item ends, with all that is due before it.
+/// Writes the token that an item ends, with all that is due before it.
 ///
 /// # Errors
 ///
@@ -142,23 +142,23 @@ fn write_item<W: Sink>(
     units: &mut Vec<u16>,
     item: Item<'_>,
 ) -> Result<(), AllocError>
-    ensures said { OnOk result ((told : StreamField) → Ends item.entry told
+    ensures said { OnOk result ((told : StreamToken) → Ends item.entry told
         → SaysTo W.gone_out W.has_failed outbox.old outbox.new sink.old sink.new (λ k. says_next printer.old told k)) }
-    ensures goes { OnOk result ((told : StreamField) → Ends item.entry told → printer.new ≡ goes (settled printer.old) told) }
+    ensures goes { OnOk result ((told : StreamToken) → Ends item.entry told → printer.new ≡ goes (settled printer.old) told) }
     ensures same { OnOk result (IsLength item.entry
         → SaysTo W.gone_out W.has_failed outbox.old outbox.new sink.old sink.new (λ k. k) × (printer.new ≡ printer.old)) }
-    ensures front { OnErr result ((told : StreamField) → Ends item.entry told
+    ensures front { OnErr result ((told : StreamToken) → Ends item.entry told
         → BeginsTo W.gone_out W.has_failed outbox.old outbox.new sink.old sink.new (λ k. says_next printer.old told k)) }
     ensures length { OnErr result (IsLength item.entry → ⊥) }
 {
     match part_of(item) {
-        Part::Field(field) => printer.write_next(outbox, sink, field),
+        Part::Token(token) => printer.write_next(outbox, sink, token),
         Part::Text(bytes) => write_text(outbox, sink, printer, units, bytes),
         Part::Length => Ok(()),
     }
 }
 
-/// Writes the fields of a value that is lent at once, each with all that is due before it.
+/// Writes the tokens of a value that is lent at once, each with all that is due before it.
 ///
 /// # Errors
 ///
@@ -191,8 +191,8 @@ fn write_reference<W: Sink>(
     ensures said { OnOk result (SaysItemsTo W.gone_out W.has_failed (items_of (Whole.Reference handle)) outbox.old outbox.new sink.old sink.new printer.old printer.new) }
     ensures front { OnErr result (BeginsItemsTo W.gone_out W.has_failed (items_of (Whole.Reference handle)) outbox.old outbox.new sink.old sink.new printer.old) }
 {
-    printer.write_next(outbox, sink, Field::Tag(TC_REFERENCE))?;
-    printer.write_next(outbox, sink, Field::Handle(handle))
+    printer.write_next(outbox, sink, Token::Tag(TC_REFERENCE))?;
+    printer.write_next(outbox, sink, Token::Handle(handle))
 }
 
 /// Writes a string.
@@ -206,7 +206,7 @@ fn write_string<W: Sink>(
     ensures said { OnOk result (SaysItemsTo W.gone_out W.has_failed (items_of (Whole.String text.entry)) outbox.old outbox.new sink.old sink.new printer.old printer.new) }
     ensures front { OnErr result (BeginsItemsTo W.gone_out W.has_failed (items_of (Whole.String text.entry)) outbox.old outbox.new sink.old sink.new printer.old) }
 {
-    printer.write_next(outbox, sink, Field::Tag(TC_STRING))?;
+    printer.write_next(outbox, sink, Token::Tag(TC_STRING))?;
     write_text(outbox, sink, printer, units, text)
 }
 
@@ -221,7 +221,7 @@ fn write_owner<W: Sink>(
     ensures said { OnOk result (SaysItemsTo W.gone_out W.has_failed (items_of (Whole.Owner tag class)) outbox.old outbox.new sink.old sink.new printer.old printer.new) }
     ensures front { OnErr result (BeginsItemsTo W.gone_out W.has_failed (items_of (Whole.Owner tag class)) outbox.old outbox.new sink.old sink.new printer.old) }
 {
-    printer.write_next(outbox, sink, Field::Tag(tag))?;
+    printer.write_next(outbox, sink, Token::Tag(tag))?;
     write_reference(outbox, sink, printer, class)
 }
 
@@ -237,10 +237,10 @@ fn write_text<W: Sink>(
     units: &mut Vec<u16>,
     bytes: &[u8],
 ) -> Result<(), AllocError>
-    ensures said { OnOk result ((told : StreamField) → IsTextOf bytes.now told
+    ensures said { OnOk result ((told : StreamToken) → IsTextOf bytes.now told
         → SaysTo W.gone_out W.has_failed outbox.old outbox.new sink.old sink.new (λ k. says_next printer.old told k)) }
-    ensures goes { OnOk result ((told : StreamField) → IsTextOf bytes.now told → printer.new ≡ goes (settled printer.old) told) }
-    ensures front { OnErr result ((told : StreamField) → IsTextOf bytes.now told
+    ensures goes { OnOk result ((told : StreamToken) → IsTextOf bytes.now told → printer.new ≡ goes (settled printer.old) told) }
+    ensures front { OnErr result ((told : StreamToken) → IsTextOf bytes.now told
         → BeginsTo W.gone_out W.has_failed outbox.old outbox.new sink.old sink.new (λ k. says_next printer.old told k)) }
 {
     match Plain::of(bytes) {
@@ -261,12 +261,12 @@ fn write_units<W: Sink>(
     units: &mut Vec<u16>,
     bytes: &[u8],
 ) -> Result<(), AllocError>
-    ensures said { OnOk result ((told : StreamField) → IsTextOf bytes.now told
+    ensures said { OnOk result ((told : StreamToken) → IsTextOf bytes.now told
         → SaysTo W.gone_out W.has_failed outbox.old outbox.new sink.old sink.new (λ k. says_next printer.old told k)) }
-    ensures goes { OnOk result ((told : StreamField) → IsTextOf bytes.now told → printer.new ≡ goes (settled printer.old) told) }
-    ensures front { OnErr result ((told : StreamField) → IsTextOf bytes.now told
+    ensures goes { OnOk result ((told : StreamToken) → IsTextOf bytes.now told → printer.new ≡ goes (settled printer.old) told) }
+    ensures front { OnErr result ((told : StreamToken) → IsTextOf bytes.now told
         → BeginsTo W.gone_out W.has_failed outbox.old outbox.new sink.old sink.new (λ k. says_next printer.old told k)) }
 {
     let text = decode(bytes, units)?;
-    printer.write_next(outbox, sink, Field::Text(text))
+    printer.write_next(outbox, sink, Token::Text(text))
 }

@@ -1,8 +1,8 @@
-//! Finds the nodes, owners and checked names of a stream, field by field.
+//! Finds the nodes, owners and checked names of a stream, token by token.
 ghost use Rattle.std.specs.Prelude.{◌≡◌, ◌+◌, ◌<◌, ◌≤◌, ◌^◌, true, false, length, OnOk};
-ghost use Rattle.jser_reading.specs.FieldBytes.{bytes_of, tag_byte};
-ghost use Rattle.jser_reading.specs.Labels.{StreamField, Tag};
-ghost use Rattle.jser_shown.specs.Finding.{begin_finding, begun_by, find, finished, make_begun, take_field, take_name};
+ghost use Rattle.jser_reading.specs.TokenBytes.{bytes_of, tag_byte};
+ghost use Rattle.jser_reading.specs.Labels.{StreamToken, Tag};
+ghost use Rattle.jser_shown.specs.Finding.{begin_finding, begun_by, find, finished, make_begun, take_token, take_name};
 ghost use Rattle.jser_shown.specs.Nodes.{place_after};
 ghost use Rattle.jser_printer.specs.Given.{IsOf, view_nodes};
 ghost use Rattle.jser_index.specs.Along.{Ends, IsLength, PartIs};
@@ -19,18 +19,18 @@ use crate::texts::Texts;
 use jser_grammar::wire::{
     TC_BLOCKDATA, TC_BLOCKDATALONG, TC_ENDBLOCKDATA, TC_REFERENCE, TC_RESET, TC_STRING,
 };
-use jser_printer::{Field, OwnerNode};
+use jser_printer::{OwnerNode, Token};
 use jser_reader::{Item, Whole};
 use std::alloc::{AllocError, Global};
 use std::marker::Model;
 
 /// What was found so far.
 ///
-/// It is told of each field how many handles of the epoch were assigned before it, which the reader knows: so it needs
-/// no stack of what is open. A tag's node is made at the first field before which its handle is assigned.
+/// It is told of each token how many handles of the epoch were assigned before it, which the reader knows: so it needs
+/// no stack of what is open. A tag's node is made at the first token before which its handle is assigned.
 #[derive(Drop)]
 pub(crate) struct Survey {
-    /// The place of the next field.
+    /// The place of the next token.
     place: u64,
     /// The tags whose nodes are not made yet, the last one last.
     begun: Vec<Begun>,
@@ -61,7 +61,7 @@ impl Model for Survey {
 }
 
 impl Survey {
-    /// Before the first field. Takes no memory.
+    /// Before the first token. Takes no memory.
     pub(crate) fn new(alloc: Global) -> Survey
         ensures { result ≡ begin_finding }
     {
@@ -75,19 +75,19 @@ impl Survey {
         }
     }
 
-    /// Makes the node of the last tag that has none yet, at this field.
+    /// Makes the node of the last tag that has none yet, at this token.
     #[tactic(auto, using(crate::proofs::SurveyLemmas::begun_none, crate::proofs::SurveyLemmas::made_owner, crate::proofs::SurveyLemmas::made_other))]
     #[inline(always)]
-    fn make(&mut self, field: Field<'_>) -> Result<(), AllocError>
-        ensures { OnOk result ((told : StreamField) → IsOf field.entry told → self.new ≡ make_begun told self.old.begun self.old) }
+    fn make(&mut self, token: Token<'_>) -> Result<(), AllocError>
+        ensures { OnOk result ((told : StreamToken) → IsOf token.entry told → self.new ≡ make_begun told self.old.begun self.old) }
     {
         let Some(begun) = self.begun.pop() else {
             return Ok(());
         };
         let number = small_number(self.nodes.count())?;
-        self.nodes.make(begun, field)?;
+        self.nodes.make(begun, token)?;
         if is_owner(begun.kind) {
-            let elements = elements_made(begun.kind, field);
+            let elements = elements_made(begun.kind, token);
             self.owners
                 .fill(begun.position, OwnerNode { number, elements });
         }
@@ -118,35 +118,35 @@ impl Survey {
         Ok(())
     }
 
-    /// Goes past a field by itself, but for its place.
+    /// Goes past a token by itself, but for its place.
     #[inline(always)]
-    fn take(&mut self, field: Field<'_>) -> Result<(), AllocError>
-        ensures { OnOk result ((told : StreamField) → IsOf field.entry told → self.new ≡ take_field told self.old) }
+    fn take(&mut self, token: Token<'_>) -> Result<(), AllocError>
+        ensures { OnOk result ((told : StreamToken) → IsOf token.entry told → self.new ≡ take_token told self.old) }
     {
-        match field {
-            Field::Tag(TC_RESET) => self.nodes.end()?,
-            Field::Tag(TC_BLOCKDATA | TC_BLOCKDATALONG | TC_ENDBLOCKDATA) => (),
-            Field::Tag(tag) => self.begin(tag)?,
-            Field::InterfaceCount(_) => self.is_name = true,
-            Field::TypeCode(_) => self.is_name = false,
+        match token {
+            Token::Tag(TC_RESET) => self.nodes.end()?,
+            Token::Tag(TC_BLOCKDATA | TC_BLOCKDATALONG | TC_ENDBLOCKDATA) => (),
+            Token::Tag(tag) => self.begin(tag)?,
+            Token::InterfaceCount(_) => self.is_name = true,
+            Token::TypeCode(_) => self.is_name = false,
             _ => (),
         }
         Ok(())
     }
 
-    /// Adds a checked name, where the field is one. It is no string.
+    /// Adds a checked name, where the token is one. It is no string.
     #[inline(always)]
-    fn take_name(&mut self, field: Field<'_>) -> Result<(), AllocError>
-        ensures { OnOk result ((told : StreamField) → IsOf field.entry told → self.new ≡ take_name false told self.old) }
+    fn take_name(&mut self, token: Token<'_>) -> Result<(), AllocError>
+        ensures { OnOk result ((told : StreamToken) → IsOf token.entry told → self.new ≡ take_name false told self.old) }
     {
-        match field {
-            Field::Text(units) if self.is_name => self.names.add(units)?,
+        match token {
+            Token::Text(units) if self.is_name => self.names.add(units)?,
             _ => (),
         }
         Ok(())
     }
 
-    /// Whether a node is to be made before the next field, since so many handles are assigned.
+    /// Whether a node is to be made before the next token, since so many handles are assigned.
     #[inline(always)]
     fn is_due(&self, assigned: usize) -> bool
         ensures due { result ≡ true → length self.now.nodes < assigned }
@@ -155,31 +155,31 @@ impl Survey {
         self.nodes.count() < assigned
     }
 
-    /// Makes the node of the last tag that has none yet, at a field that is neither a text nor the length of an array.
+    /// Makes the node of the last tag that has none yet, at a token that is neither a text nor the length of an array.
     #[inline(never)]
     fn make_plain(&mut self) -> Result<(), AllocError>
-        ensures { OnOk result ((told : StreamField) → IsPlain told → self.new ≡ make_begun told self.old.begun self.old) }
+        ensures { OnOk result ((told : StreamToken) → IsPlain told → self.new ≡ make_begun told self.old.begun self.old) }
     {
-        self.make(Field::ArrayLength(0))
+        self.make(Token::ArrayLength(0))
     }
 
     /// Goes past a tag.
     #[tactic(auto, using(crate::proofs::SurveyLemmas::finds_made, crate::proofs::SurveyLemmas::finds_unmade, crate::proofs::SurveyLemmas::tag_plain, crate::proofs::SurveyLemmas::tag_no_name))]
     #[inline(always)]
     fn tag(&mut self, tag: u8, assigned: usize, end: u64) -> Result<(), AllocError>
-        ensures finds { OnOk result ((told : StreamField) → IsOf (Field.Tag tag) told → place_after self.old.place (bytes_of told) ≡ end
+        ensures finds { OnOk result ((told : StreamToken) → IsOf (Token.Tag tag) told → place_after self.old.place (bytes_of told) ≡ end
             → self.new ≡ find assigned told self.old) }
         ensures place { OnOk result (self.new.place ≡ end) }
     {
         if self.is_due(assigned) {
             self.make_plain()?;
         }
-        self.take(Field::Tag(tag))?;
+        self.take(Token::Tag(tag))?;
         self.place = end;
         Ok(())
     }
 
-    /// Whether at most one node is to be made before the next field, since so many handles are assigned.
+    /// Whether at most one node is to be made before the next token, since so many handles are assigned.
     #[inline(always)]
     pub(crate) fn is_close(&self, assigned: usize) -> bool
         ensures { result ≡ true → assigned ≤ length self.now.nodes + 1 }
@@ -187,12 +187,12 @@ impl Survey {
         assigned.saturating_sub(1) <= self.nodes.count()
     }
 
-    /// Goes past a field with which nothing begins, and of which nothing is kept but where it ends: a handle, raw values or
-    /// the bytes of a block. Where at most one node is to be made, raw values may be several fields.
+    /// Goes past a token with which nothing begins, and of which nothing is kept but where it ends: a handle, raw values or
+    /// the bytes of a block. Where at most one node is to be made, raw values may be several tokens.
     #[tactic(auto, using(crate::proofs::SurveyLemmas::passes_made, crate::proofs::SurveyLemmas::passes_unmade, crate::proofs::SurveyLemmas::quiet_plain, crate::proofs::RawsLemmas::raws_made, crate::proofs::RawsLemmas::raws_unmade))]
     #[inline(always)]
     pub(crate) fn pass(&mut self, assigned: usize, end: u64) -> Result<(), AllocError>
-        ensures finds { OnOk result ((told : StreamField) → IsQuiet told → place_after self.old.place (bytes_of told) ≡ end
+        ensures finds { OnOk result ((told : StreamToken) → IsQuiet told → place_after self.old.place (bytes_of told) ≡ end
             → self.new ≡ find assigned told self.old) }
         ensures raws { OnOk result (assigned ≤ length self.old.nodes + 1 → GoesPastRaws assigned end self.old self.new) }
         ensures place { OnOk result (self.new.place ≡ end) }
@@ -204,20 +204,20 @@ impl Survey {
         Ok(())
     }
 
-    /// Goes past a field, which ends at this place of the stream; before it so many handles of the epoch were assigned.
+    /// Goes past a token, which ends at this place of the stream; before it so many handles of the epoch were assigned.
     #[tactic(auto, using(crate::proofs::SurveyLemmas::finds_made, crate::proofs::SurveyLemmas::finds_unmade))]
     #[inline(always)]
-    fn field(&mut self, field: Field<'_>, assigned: usize, end: u64) -> Result<(), AllocError>
-        ensures finds { OnOk result ((told : StreamField) → IsOf field.entry told → place_after self.old.place (bytes_of told) ≡ end
+    fn token(&mut self, token: Token<'_>, assigned: usize, end: u64) -> Result<(), AllocError>
+        ensures finds { OnOk result ((told : StreamToken) → IsOf token.entry told → place_after self.old.place (bytes_of told) ≡ end
             → self.new ≡ find assigned told self.old) }
         ensures place { OnOk result (self.new.place ≡ end) }
     {
         if self.is_due(assigned) {
-            self.make(field)?;
+            self.make(token)?;
         } else {
-            self.take_name(field)?;
+            self.take_name(token)?;
         }
-        self.take(field)?;
+        self.take(token)?;
         self.place = end;
         Ok(())
     }
@@ -231,13 +231,13 @@ impl Survey {
         assigned: usize,
         end: u64,
     ) -> Result<(), AllocError>
-        ensures finds { OnOk result ((told : StreamField) → Ends item.entry told → place_after self.old.place (bytes_of told) ≡ end
+        ensures finds { OnOk result ((told : StreamToken) → Ends item.entry told → place_after self.old.place (bytes_of told) ≡ end
             → self.new ≡ find assigned told self.old) }
         ensures same { OnOk result (IsLength item.entry → self.new ≡ self.old) }
-        ensures place { OnOk result ((told : StreamField) → Ends item.entry told → self.new.place ≡ end) }
+        ensures place { OnOk result ((told : StreamToken) → Ends item.entry told → self.new.place ≡ end) }
     {
         match part_of(item) {
-            Part::Field(field) => self.field(field, assigned, end),
+            Part::Token(token) => self.token(token, assigned, end),
             Part::Text(bytes) => self.text(bytes, units, assigned, end),
             Part::Length => Ok(()),
         }
@@ -253,12 +253,12 @@ impl Survey {
         assigned: usize,
         end: u64,
     ) -> Result<(), AllocError>
-        ensures finds { OnOk result ((told : StreamField) → PartIs (Part.Text bytes.entry) told → place_after self.old.place (bytes_of told) ≡ end
+        ensures finds { OnOk result ((told : StreamToken) → PartIs (Part.Text bytes.entry) told → place_after self.old.place (bytes_of told) ≡ end
             → self.new ≡ find assigned told self.old) }
         ensures place { OnOk result (self.new.place ≡ end) }
     {
         let text = decode(bytes, units)?;
-        self.field(Field::Text(text), assigned, end)?;
+        self.token(Token::Text(text), assigned, end)?;
         Ok(())
     }
 
@@ -272,10 +272,10 @@ impl Survey {
         assigned: usize,
         end: u64,
     ) -> Result<(), AllocError>
-        ensures finds { OnOk result ((told : StreamField) → Ends item.entry told → place_after self.old.place (bytes_of told) ≡ end
+        ensures finds { OnOk result ((told : StreamToken) → Ends item.entry told → place_after self.old.place (bytes_of told) ≡ end
             → self.new ≡ find assigned told self.old) }
         ensures same { OnOk result (IsLength item.entry → self.new ≡ self.old) }
-        ensures place { OnOk result ((told : StreamField) → Ends item.entry told → self.new.place ≡ end) }
+        ensures place { OnOk result ((told : StreamToken) → Ends item.entry told → self.new.place ≡ end) }
     {
         match item {
             Item::Tag(tag) => self.tag(tag, assigned, end),
@@ -399,7 +399,7 @@ impl Survey {
     pub(crate) fn finish(&mut self) -> Result<(), AllocError>
         ensures { OnOk result (self.new ≡ finished self.old) }
     {
-        self.make(Field::Header)
+        self.make(Token::Header)
     }
 }
 

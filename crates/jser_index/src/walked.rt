@@ -1,14 +1,14 @@
-//! A printer that went along the first fields of some bytes, for one who asks what is open at a place.
+//! A printer that went along the first tokens of some bytes, for one who asks what is open at a place.
 ghost use Rattle.std.specs.Prelude.{ℕ, List, ◌≡◌, IfOk};
 ghost use Rattle.jser_prim.specs.ModifiedUtf8.{IsUnits, modified_utf8};
 
 use crate::decode::decode;
 use crate::part::{Part, part_of};
-use jser_printer::{Field, Printer};
+use jser_printer::{Printer, Token};
 use jser_reader::{OpenGate, Reader, Step, Stop};
 use std::alloc::{AllocError, Global};
 
-/// A printer past all fields of the bytes that end at `to` or before it. It has settled, so it waits for the field that begins
+/// A printer past all tokens of the bytes that end at `to` or before it. It has settled, so it waits for the token that begins
 /// there or has that place in it. Where bytes before are refused by every filter, it stops in front of them.
 ///
 /// It takes memory for the names of classes and fields, and for what is open.
@@ -54,7 +54,7 @@ fn pass_item<'b>(
     }
 }
 
-/// Goes past a field, with all that is due before it.
+/// Goes past a token, with all that is due before it.
 fn take_part(
     printer: &mut Printer<'static>,
     room: &mut Vec<u16>,
@@ -62,10 +62,10 @@ fn take_part(
 ) -> Result<(), AllocError> {
     match part {
         Part::Length => Ok(()),
-        Part::Field(field) => { printer.pass(field) }
+        Part::Token(token) => { printer.pass(token) }
         Part::Text(bytes) => {
             let units = decode(bytes, room)?;
-            printer.pass(Field::Text(units))
+            printer.pass(Token::Text(units))
         }
     }
 }

@@ -1,10 +1,10 @@
--- What is counted along the fields of a tree are its names, in its order.
+-- What is counted along the tokens of a tree are its names, in its order.
 use Rattle.std.proofs.Common.{◌≡◌, ℕ, suc, Bool, true, false, ◌||◌, if◌then◌else◌, List, [], ◌∷◌, ◌++◌, length, refl, sym, ◌∙◌, ap, Option, Some, None, append_assoc, append-nil, MatchBool}
-use Rattle.jser_reading.proofs.Vocabulary.{has_write_method, other_entry, pending_entry, Layer, PrimCode, is_object_code, primitive_codes, TextPlaceTree, new_text, back_text, FieldTree, PrimTree, ValueTree, null, back, string, descriptor, class_object, array, enum_constant, object, DescTree, plain, proxy, ClassPlaceTree, no_class, back_class, new_class, BodyTree, raw_body, value_body, ValueTrees, no_values, value_and, section, SectionTrees, no_sections, section_and, NotesTree, no_notes, annotation, block, reset, content, ContentTrees, no_contents, content_and, chain_of_class, elements_of, is_external, WellFormedValue, WellFormedDesc, WellFormedClass, WellFormedSuperclass, WellFormedBody, WellFormedValues, WellFormedExternal, WellFormedSections, WellFormedNotesIf, WellFormedNotes, WellFormedContents, Owner, object_owner, array_owner, enum_owner, class_owner, ChainOwner, Role, own_class, superclass, owner_of, is_strict_above, Moment, beginning, tick, assign, emptied, past_type, past_fields, past_value, past_class, past_values, past_notes, past_contents, array_length_field, array_length_at, Piece, at, cut_text_place, cut_type, cut_fields, cut_interfaces, cut_bytes, cut_raw, cut_prims, cut_value, cut_desc, cut_class, cut_superclass, cut_body, cut_values, cut_external, cut_sections, cut_notes, cut_annotation, cut_top}
+use Rattle.jser_reading.proofs.Vocabulary.{has_write_method, other_entry, pending_entry, Layer, PrimCode, is_object_code, primitive_codes, TextPlaceTree, new_text, back_text, FieldTree, PrimTree, ValueTree, null, back, string, descriptor, class_object, array, enum_constant, object, DescTree, plain, proxy, ClassPlaceTree, no_class, back_class, new_class, BodyTree, raw_body, value_body, ValueTrees, no_values, value_and, section, SectionTrees, no_sections, section_and, NotesTree, no_notes, annotation, block, reset, content, ContentTrees, no_contents, content_and, chain_of_class, elements_of, is_external, WellFormedValue, WellFormedDesc, WellFormedClass, WellFormedSuperclass, WellFormedBody, WellFormedValues, WellFormedExternal, WellFormedSections, WellFormedNotesIf, WellFormedNotes, WellFormedContents, Owner, object_owner, array_owner, enum_owner, class_owner, ChainOwner, Role, own_class, superclass, owner_of, is_strict_above, Moment, beginning, tick, assign, emptied, past_type, past_fields, past_value, past_class, past_values, past_notes, past_contents, array_length_token, array_length_at, Piece, at, cut_text_place, cut_type, cut_fields, cut_interfaces, cut_bytes, cut_raw, cut_prims, cut_value, cut_desc, cut_class, cut_superclass, cut_body, cut_values, cut_external, cut_sections, cut_notes, cut_annotation, cut_top}
 use Rattle.jser_grammar.specs.Counts.{array_length}
 use Rattle.jser_grammar.specs.InOrder.{gathered_in_value, gathered_in_desc, gathered_in_class, gathered_in_body, gathered_in_values, gathered_in_sections, gathered_in_notes, gathered_in_contents}
-use Rattle.jser_reading.specs.Fields.{tag_of, tag_of_desc, tag_of_string}
-use Rattle.jser_reading.specs.Labels.{string_at, text_field}
+use Rattle.jser_reading.specs.Tokens.{tag_of, tag_of_desc, tag_of_string}
+use Rattle.jser_reading.specs.Labels.{string_at, text_token}
 use Rattle.jser_shown.specs.Counting.{NameTally, tally_one, tally_all}
 use Rattle.jser_names.specs.Collecting.{Collected, NamesAreCollected, collected, names_begun}
 
@@ -66,12 +66,12 @@ no_string_name false = refl
 no_string_name true = refl
 
 passes_string : (long : Bool) (units : List ℕ) (d : ℕ) (m : Moment) (ns : Names) (rest : List Piece)
-    → collected (awaits ns (names_begun (tag_of_string long))) (at (string_at long) d m (text_field long units) ∷ rest) ≡ collected (has ns) rest
+    → collected (awaits ns (names_begun (tag_of_string long))) (at (string_at long) d m (text_token long units) ∷ rest) ≡ collected (has ns) rest
 passes_string long units d m ns rest =
-    ap (λ n. collected (awaits ns n) (at (string_at long) d m (text_field long units) ∷ rest)) (no_string_name long)
+    ap (λ n. collected (awaits ns n) (at (string_at long) d m (text_token long units) ∷ rest)) (no_string_name long)
 
 passes_text : (t : TextPlaceTree) (d : ℕ) (m : Moment) (ns : Names) (rest : List Piece) → collected (has ns) (cut_text_place d m t rest) ≡ collected (has ns) rest
-passes_text (new_text t) d m ns rest = ap (λ n. collected (awaits ns n) (at (string_at t.long) d m (text_field t.long t.units) ∷ rest)) (no_string_name t.long)
+passes_text (new_text t) d m ns rest = ap (λ n. collected (awaits ns n) (at (string_at t.long) d m (text_token t.long t.units) ∷ rest)) (no_string_name t.long)
 passes_text (back_text n) d m ns rest = refl
 
 passes_type : (t : Option TextPlaceTree) (d : ℕ) (m : Moment) (ns : Names) (rest : List Piece) → collected (has ns) (cut_type d m t rest) ≡ collected (has ns) rest
@@ -124,7 +124,7 @@ mutual
   collects_value (array c b) d m ns rest h =
       let made = assign (past_class (tick m) c) other_entry in
       let elements = elements_of (chain_of_class m.table c) in
-      collects_class c array_owner d (tick m) ns (at array_length_at d made (array_length_field (array_length b)) ∷ cut_body d made elements b rest) h.0
+      collects_class c array_owner d (tick m) ns (at array_length_at d made (array_length_token (array_length b)) ∷ cut_body d made elements b rest) h.0
       ∙ collects_body b elements d made (ns ++ in_class c) rest h.2
       ∙ joins ns (in_class c) (in_body b) rest
   collects_value (enum_constant c t) d m ns rest h =

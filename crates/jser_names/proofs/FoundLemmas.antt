@@ -3,7 +3,7 @@ use Rattle.std.proofs.Common.{◌≡◌, ◌⊎◌, inl, inr, ℕ, ◌+◌, ◌<
 use Rattle.std.proofs.lemmas.List.{take-append-drop}
 use Rattle.jser_grammar.specs.Trees.{ContentTrees}
 use Rattle.jser_reading.specs.ByteLaws.{OneReading}
-use Rattle.jser_reading.specs.FieldBytes.{joined}
+use Rattle.jser_reading.specs.TokenBytes.{joined}
 use Rattle.jser_reading.specs.Labels.{Piece}
 use Rattle.jser_verdict.specs.Passing.{Passes}
 use Rattle.jser_reader.specs.declared.Stop.{Stop}
@@ -11,7 +11,7 @@ use Rattle.jser_reader.specs.declared.Stop.TheVariants as stop
 use Rattle.jser_reader.specs.declared.Totals.{Totals}
 use Rattle.jser_reader.specs.declared.tally.Tally.{Tally}
 use Rattle.jser_reader.specs.Gates.{open_gate}
-use Rattle.jser_reader.specs.ItemsTold.{StandsIn, TellsFields}
+use Rattle.jser_reader.specs.ItemsTold.{StandsIn, TellsTokens}
 use Rattle.jser_reader.specs.Readers.{Seen}
 use Rattle.jser_reader.specs.ReaderStates.{FinishTells}
 use Rattle.jser_reader.specs.Tallies.{AreTotals}
@@ -36,11 +36,11 @@ at_end front cut old mid (inr (inr g)) none closes =
     absurd (omega arith)
 
 pub ends_found : NamesAreCollected → LengthsAreMeasured → OneReading → (r : Seen) (tally : Tally) (after : Seen) (totals : Totals) (old new : Names) (found : Found)
-    → Closes old.is_open old new → FinishTells open_gate (Ok totals) r tally after → TellsFields open_gate (Ok totals) r tally → found.names ≡ new.names
+    → Closes old.is_open old new → FinishTells open_gate (Ok totals) r tally after → TellsTokens open_gate (Ok totals) r tally → found.names ≡ new.names
     → found.totals ≡ totals → found.longest ≡ new.longest → EndsFound r tally old (Ok found)
-unfolding EndsFound FinishTells TellsFields
-ends_found names lengths one r tally after totals old new found closes tells fields names_are totals_are longest_is = λ taken h.
-    let f = fields h.front h.cut h.reads in
+unfolding EndsFound FinishTells TellsTokens
+ends_found names lengths one r tally after totals old new found closes tells tokens names_are totals_are longest_is = λ taken h.
+    let f = tokens h.front h.cut h.reads in
     let t = tells taken (stands_for taken r tally old h) in
     let c = at_end h.front h.cut old new h.at f.0 closes in
     let all : joined h.front ≡ taken = sym (append-nil (joined h.front)) ∙ ap (λ xs. joined h.front ++ xs) (sym f.0) ∙ sym h.split in

@@ -2,8 +2,8 @@
 use Rattle.std.proofs.Common.{◌≡◌, inl, inr, ℕ, zero, suc, ◌+◌, ◌<◌, ◌≤◌, Bool, true, false, Some, List, [], ◌∷◌, ◌++◌, length, take, drop, Ok, refl, sym, ◌∙◌, ap, subst, arith, append_assoc, append-nil}
 use Rattle.std.proofs.lemmas.List.{take-append-drop, length-drop}
 use Rattle.jser_grammar.specs.Wire.{TC_REFERENCE, TC_STRING}
-use Rattle.jser_reading.specs.Labels.{text_field, piece}
-use Rattle.jser_reading.specs.FieldBytes.{joined}
+use Rattle.jser_reading.specs.Labels.{text_token, piece}
+use Rattle.jser_reading.specs.TokenBytes.{joined}
 use Rattle.jser_reader.specs.declared.Item.TheVariants as item
 use Rattle.jser_reader.specs.declared.Whole.{Whole}
 use Rattle.jser_reader.specs.declared.Whole.TheVariants as whole
@@ -15,7 +15,7 @@ use Rattle.jser_names.specs.Collecting.{begin_collecting, collect, collected, me
 use Rattle.jser_names.specs.Pieces.{Taking}
 use Rattle.jser_names.specs.Standing.{Names, view_of, Closes, ClosesThen, left_behind, IsAt, Stands}
 use Rattle.jser_names.specs.Wholes.{whole_size}
-use Rattle.jser_names.proofs.ItemLemmas.{collected_one, measured_one, joined_one, text_none, IsTextField, text_told}
+use Rattle.jser_names.proofs.ItemLemmas.{collected_one, measured_one, joined_one, text_none, IsTextToken, text_told}
 use Rattle.jser_names.proofs.StepLemmas.{no_text, takes_item}
 
 -- ---- what is done
@@ -53,24 +53,24 @@ unfolding TellsText
 past_text taken given text r tally next after y h closed none t =
     let x = t h.front h.cut h.reads in
     let n = take (2 + length text) given in
-    let told : IsTextField false x.ends.field = text_told x.label.position x.label.moment x.ends.field false x.ends.accepted x.is_text in
+    let told : IsTextToken false x.ends.token = text_told x.label.position x.label.moment x.ends.token false x.ends.accepted x.is_text in
     record {
-      front = h.front ++ (piece x.label x.ends.field ∷ []);
+      front = h.front ++ (piece x.label x.ends.token ∷ []);
       cut = [];
       split =
           ap (λ xs. xs ++ take (2 + length text) given) (h.split ∙ ap (λ c. joined h.front ++ c) x.none ∙ append-nil (joined h.front))
-          ∙ ap (λ xs. joined h.front ++ xs) (sym x.ends.spelled) ∙ sym (joined_one h.front x.label x.ends.field)
-          ∙ sym (append-nil (joined (h.front ++ (piece x.label x.ends.field ∷ []))));
+          ∙ ap (λ xs. joined h.front ++ xs) (sym x.ends.spelled) ∙ sym (joined_one h.front x.label x.ends.token)
+          ∙ sym (append-nil (joined (h.front ++ (piece x.label x.ends.token ∷ []))));
       reads = x.ends.stands;
       at = inl (record {
         is = closed;
         so_far =
-            collected_one begin_collecting h.front x.label x.ends.field ∙ ap (λ f. collect f (collected begin_collecting h.front)) told.2
-            ∙ ap (collect (text_field false told.0)) (so_far h.at) ∙ text_none told.0 (view_of y) none;
-        plain = λ i. absurd (no_text (h.front ++ (piece x.label x.ends.field ∷ [])) i);
+            collected_one begin_collecting h.front x.label x.ends.token ∙ ap (λ f. collect f (collected begin_collecting h.front)) told.2
+            ∙ ap (collect (text_token false told.0)) (so_far h.at) ∙ text_none told.0 (view_of y) none;
+        plain = λ i. absurd (no_text (h.front ++ (piece x.label x.ends.token ∷ [])) i);
       });
       measures =
-          measured_one 0 h.front x.label x.ends.field ∙ ap (measure x.ends.field) h.measures ∙ ap (λ f. measure f y.longest) told.2;
+          measured_one 0 h.front x.label x.ends.token ∙ ap (measure x.ends.token) h.measures ∙ ap (λ f. measure f y.longest) told.2;
     }
   where
     so_far : IsAt h.front h.cut y → collected begin_collecting h.front ≡ view_of y

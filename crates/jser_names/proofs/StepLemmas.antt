@@ -3,9 +3,9 @@ use Rattle.std.proofs.Common.{◌≡◌, ◌⊎◌, inl, inr, ℕ, zero, suc, �
 use Rattle.std.proofs.lemmas.List.{length-take-le}
 use Rattle.std.proofs.lemmas.Bool.Decides.{nat_tests}
 use Rattle.std.specs.Prelude.{if◌then◌else◌, nat_eq}
-use Rattle.jser_reading.specs.Labels.{StreamField, text_field, Label, Piece, piece}
-use Rattle.jser_reading.specs.FieldBytes.{bytes_of, joined}
-use Rattle.jser_reading.specs.FieldsFromBytes.{head_size}
+use Rattle.jser_reading.specs.Labels.{StreamToken, text_token, Label, Piece, piece}
+use Rattle.jser_reading.specs.TokenBytes.{bytes_of, joined}
+use Rattle.jser_reading.specs.TokensFromBytes.{head_size}
 use Rattle.jser_reading.specs.ComesNext.{ComesNext}
 use Rattle.jser_reader.specs.declared.Item.{Item}
 use Rattle.jser_reader.specs.declared.Item.TheVariants as item
@@ -13,11 +13,11 @@ use Rattle.jser_reader.specs.declared.Step.TheVariants as step
 use Rattle.jser_reader.specs.declared.tally.Tally.{Tally}
 use Rattle.jser_reader.specs.Gates.{open_gate}
 use Rattle.jser_reader.specs.Items.{text_items, items_at, first_size, IsOfText, IsLent}
-use Rattle.jser_reader.specs.ItemsTold.{StandsIn, FieldEnds, IsFull, MayGoOn, FieldGoesOn, Lends, WantsMore, TellsItems}
+use Rattle.jser_reader.specs.ItemsTold.{StandsIn, TokenEnds, IsFull, MayGoOn, TokenGoesOn, Lends, WantsMore, TellsItems}
 use Rattle.jser_reader.specs.Readers.{Seen}
 use Rattle.jser_names.specs.Collecting.{begin_collecting, collect, collected, measure, measured}
 use Rattle.jser_names.specs.Standing.{Names, view_of, ClosesName, Closes, Adds, begun, behind, ClosesThen, Takes, InText, Closed, Ended, GoesOn, IsAt, Stands}
-use Rattle.jser_names.proofs.ItemLemmas.{collected_one, measured_one, joined_one, same_label, text_none, less_one, IsTextField, text_told, behind_head, IsTextItem, text_at, ends_plain, ends_measured}
+use Rattle.jser_names.proofs.ItemLemmas.{collected_one, measured_one, joined_one, same_label, text_none, less_one, IsTextToken, text_told, behind_head, IsTextItem, text_at, ends_plain, ends_measured}
 
 -- ---- no text, and the end of a name
 
@@ -38,41 +38,41 @@ close_ended front cut old mid e closes =
     record {
       is = c.is;
       so_far =
-          ap (collected begin_collecting) e.front_is ∙ collected_one begin_collecting e.before e.label (text_field e.long e.units)
-          ∙ ap (collect (text_field e.long e.units)) e.so_far ∙ less_one e.units (view_of old) old.left e.some
+          ap (collected begin_collecting) e.front_is ∙ collected_one begin_collecting e.before e.label (text_token e.long e.units)
+          ∙ ap (collect (text_token e.long e.units)) e.so_far ∙ less_one e.units (view_of old) old.left e.some
           ∙ ap (λ names. record { names = names; left = old.left - 1 }) (sym (c.names e.units e.are_units e.spelled))
           ∙ ap (λ n. record { names = mid.names; left = n }) (sym c.left);
       plain = λ t. absurd (e.plain t);
     }
 
--- ---- after a field, and within one
+-- ---- after a token, and within one
 
 -- an item further; before it the longest array had this length
 pub record Further (front : List Piece) (cut taken : List ℕ) (longest : ℕ) (r : Seen) (tally : Tally) (new : Names) : Type 0 where
-  pub fields : List Piece
+  pub tokens : List Piece
   pub over : List ℕ
-  pub joins : joined fields ++ over ≡ (joined front ++ cut) ++ taken
-  pub reads : StandsIn open_gate fields over r tally
-  pub at : IsAt fields over new
-  pub measures : measured 0 front ≡ longest → measured 0 fields ≡ new.longest
+  pub joins : joined tokens ++ over ≡ (joined front ++ cut) ++ taken
+  pub reads : StandsIn open_gate tokens over r tally
+  pub at : IsAt tokens over new
+  pub measures : measured 0 front ≡ longest → measured 0 tokens ≡ new.longest
 
-past_field : (front : List Piece) (cut taken : List ℕ) (label : Label) (longest : ℕ) (r : Seen) (tally : Tally) (new : Names) (e : FieldEnds open_gate front label (cut ++ taken) r tally)
-    → IsAt (front ++ (piece label e.field ∷ [])) [] new → measure e.field longest ≡ new.longest → Further front cut taken longest r tally new
-past_field front cut taken label longest r tally new e at measures = record {
-  fields = front ++ (piece label e.field ∷ []);
+past_token : (front : List Piece) (cut taken : List ℕ) (label : Label) (longest : ℕ) (r : Seen) (tally : Tally) (new : Names) (e : TokenEnds open_gate front label (cut ++ taken) r tally)
+    → IsAt (front ++ (piece label e.token ∷ [])) [] new → measure e.token longest ≡ new.longest → Further front cut taken longest r tally new
+past_token front cut taken label longest r tally new e at measures = record {
+  tokens = front ++ (piece label e.token ∷ []);
   over = [];
   joins =
-      append-nil (joined (front ++ (piece label e.field ∷ []))) ∙ joined_one front label e.field ∙ ap (λ xs. joined front ++ xs) e.spelled
+      append-nil (joined (front ++ (piece label e.token ∷ []))) ∙ joined_one front label e.token ∙ ap (λ xs. joined front ++ xs) e.spelled
       ∙ sym (append_assoc (joined front) cut taken);
   reads = e.stands;
   at = at;
-  measures = λ before. measured_one 0 front label e.field ∙ ap (measure e.field) before ∙ measures;
+  measures = λ before. measured_one 0 front label e.token ∙ ap (measure e.token) before ∙ measures;
 }
 
-in_field : (front : List Piece) (cut taken : List ℕ) (longest : ℕ) (r : Seen) (tally : Tally) (new : Names) → StandsIn open_gate front (cut ++ taken) r tally
+in_token : (front : List Piece) (cut taken : List ℕ) (longest : ℕ) (r : Seen) (tally : Tally) (new : Names) → StandsIn open_gate front (cut ++ taken) r tally
     → IsAt front (cut ++ taken) new → longest ≡ new.longest → Further front cut taken longest r tally new
-in_field front cut taken longest r tally new st at same = record {
-  fields = front;
+in_token front cut taken longest r tally new st at same = record {
+  tokens = front;
   over = cut ++ taken;
   joins = sym (append_assoc (joined front) cut taken);
   reads = st;
@@ -81,43 +81,43 @@ in_field front cut taken longest r tally new st at same = record {
 }
 
 -- a text has no length of an array
-text_measures : (told : StreamField) (long : Bool) (units : List ℕ) (longest : ℕ) → told ≡ text_field long units → measure told longest ≡ longest
+text_measures : (told : StreamToken) (long : Bool) (units : List ℕ) (longest : ℕ) → told ≡ text_token long units → measure told longest ≡ longest
 text_measures told long units longest is = ap (λ f. measure f longest) is
 
 -- ---- bytes of a text
 
 part_closed : (front : List Piece) (cut taken : List ℕ) (label : Label) (long : Bool) (r : Seen) (tally : Tally) (old new : Names) → Closed front cut old
     → ComesNext front label → items_at label.position ≡ text_items long → head_size long ≤ length cut → new ≡ old
-    → (e : FieldEnds open_gate front label (cut ++ taken) r tally) → Further front cut taken old.longest r tally new
+    → (e : TokenEnds open_gate front label (cut ++ taken) r tally) → Further front cut taken old.longest r tally new
 part_closed front cut taken label long r tally old new c comes texts past same e =
     let none : old.left ≡ 0 = c.plain (record { label = label; comes = comes; long = long; is_text = texts; past = past }) in
-    let t : IsTextField long e.field = text_told label.position label.moment e.field long e.accepted texts in
-    past_field front cut taken label old.longest r tally new e
+    let t : IsTextToken long e.token = text_told label.position label.moment e.token long e.accepted texts in
+    past_token front cut taken label old.longest r tally new e
     (inl (record {
       is = ap (λ y. y.is_open) same ∙ c.is;
       so_far =
-          collected_one begin_collecting front label e.field ∙ ap (λ f. collect f (collected begin_collecting front)) t.2
-          ∙ ap (collect (text_field long t.0)) c.so_far ∙ text_none t.0 (view_of old) none ∙ ap view_of (sym same);
-      plain = λ i. absurd (no_text (front ++ (piece label e.field ∷ [])) i);
-    })) (text_measures e.field long t.0 old.longest t.2 ∙ sym (ap (λ y. y.longest) same))
+          collected_one begin_collecting front label e.token ∙ ap (λ f. collect f (collected begin_collecting front)) t.2
+          ∙ ap (collect (text_token long t.0)) c.so_far ∙ text_none t.0 (view_of old) none ∙ ap view_of (sym same);
+      plain = λ i. absurd (no_text (front ++ (piece label e.token ∷ [])) i);
+    })) (text_measures e.token long t.0 old.longest t.2 ∙ sym (ap (λ y. y.longest) same))
 
 part_closed_on : (front : List Piece) (cut taken : List ℕ) (label : Label) (long : Bool) (r : Seen) (tally : Tally) (old new : Names) → Closed front cut old
     → ComesNext front label → items_at label.position ≡ text_items long → head_size long ≤ length cut → new ≡ old
     → StandsIn open_gate front (cut ++ taken) r tally → Further front cut taken old.longest r tally new
 part_closed_on front cut taken label long r tally old new c comes texts past same st =
     let none : old.left ≡ 0 = c.plain (record { label = label; comes = comes; long = long; is_text = texts; past = past }) in
-    in_field front cut taken old.longest r tally new st
+    in_token front cut taken old.longest r tally new st
     (inl (record { is = ap (λ y. y.is_open) same ∙ c.is; so_far = c.so_far ∙ ap view_of (sym same); plain = λ i. ap (λ y. y.left) same ∙ none }))
     (sym (ap (λ y. y.longest) same))
 
 part_goes : (front : List Piece) (cut taken : List ℕ) (label : Label) (long : Bool) (r : Seen) (tally : Tally) (old new : Names) (g : GoesOn front cut old)
     → items_at label.position ≡ text_items g.long → new ≡ record old { text = old.text ++ taken }
-    → (e : FieldEnds open_gate front label (cut ++ taken) r tally) → Further front cut taken old.longest r tally new
+    → (e : TokenEnds open_gate front label (cut ++ taken) r tally) → Further front cut taken old.longest r tally new
 part_goes front cut taken label long r tally old new g texts is e =
-    let t : IsTextField g.long e.field = text_told label.position label.moment e.field g.long e.accepted texts in
-    let bytes : bytes_of e.field ≡ g.head ++ (old.text ++ taken) =
+    let t : IsTextToken g.long e.token = text_told label.position label.moment e.token g.long e.accepted texts in
+    let bytes : bytes_of e.token ≡ g.head ++ (old.text ++ taken) =
     e.spelled ∙ ap (λ c. c ++ taken) g.cut_is ∙ append_assoc g.head old.text taken in
-    past_field front cut taken label old.longest r tally new e
+    past_token front cut taken label old.longest r tally new e
     (inr (inl (record {
       is = ap (λ y. y.is_open) is ∙ g.is;
       some = subst (λ n. 0 < n) (sym (ap (λ y. y.left) is)) g.some;
@@ -128,14 +128,14 @@ part_goes front cut taken label long r tally old new g texts is e =
       front_is = ap (λ f. front ++ (piece label f ∷ [])) t.2;
       so_far = g.so_far ∙ ap view_of (sym is);
       are_units = t.1.0;
-      spelled = behind_head g.long t.0 g.head (old.text ++ taken) e.field t.2 g.size bytes ∙ ap (λ y. y.text) (sym is);
-      plain = λ i. no_text (front ++ (piece label e.field ∷ [])) i;
-    }))) (text_measures e.field g.long t.0 old.longest t.2 ∙ sym (ap (λ y. y.longest) is))
+      spelled = behind_head g.long t.0 g.head (old.text ++ taken) e.token t.2 g.size bytes ∙ ap (λ y. y.text) (sym is);
+      plain = λ i. no_text (front ++ (piece label e.token ∷ [])) i;
+    }))) (text_measures e.token g.long t.0 old.longest t.2 ∙ sym (ap (λ y. y.longest) is))
 
 part_goes_on : (front : List Piece) (cut taken : List ℕ) (r : Seen) (tally : Tally) (old new : Names) (g : GoesOn front cut old)
     → new ≡ record old { text = old.text ++ taken } → StandsIn open_gate front (cut ++ taken) r tally → Further front cut taken old.longest r tally new
 part_goes_on front cut taken r tally old new g is st =
-    in_field front cut taken old.longest r tally new st
+    in_token front cut taken old.longest r tally new st
     (inr (inr (record {
       is = ap (λ y. y.is_open) is ∙ g.is;
       some = subst (λ n. 0 < n) (sym (ap (λ y. y.left) is)) g.some;
@@ -176,22 +176,22 @@ empty_text (x ∷ xs) e = absurd (omega arith)
 
 length_ends : (front : List Piece) (cut taken : List ℕ) (label : Label) (long : Bool) (r : Seen) (tally : Tally) (mid new : Names) → Closed front cut mid
     → ComesNext front label → items_at label.position ≡ text_items long → length (cut ++ taken) ≡ head_size long → new ≡ begun mid → Many mid.left
-    → (e : FieldEnds open_gate front label (cut ++ taken) r tally) → Further front cut taken mid.longest r tally new
+    → (e : TokenEnds open_gate front label (cut ++ taken) r tally) → Further front cut taken mid.longest r tally new
 length_ends front cut taken label long r tally mid new c comes texts size is (none_left none) e =
-    let t : IsTextField long e.field = text_told label.position label.moment e.field long e.accepted texts in
+    let t : IsTextToken long e.token = text_told label.position label.moment e.token long e.accepted texts in
     let same : new ≡ mid = is ∙ begun_none mid none in
-    past_field front cut taken label mid.longest r tally new e
+    past_token front cut taken label mid.longest r tally new e
     (inl (record {
       is = ap (λ y. y.is_open) same ∙ c.is;
       so_far =
-          collected_one begin_collecting front label e.field ∙ ap (λ f. collect f (collected begin_collecting front)) t.2
-          ∙ ap (collect (text_field long t.0)) c.so_far ∙ text_none t.0 (view_of mid) none ∙ ap view_of (sym same);
-      plain = λ i. absurd (no_text (front ++ (piece label e.field ∷ [])) i);
-    })) (text_measures e.field long t.0 mid.longest t.2 ∙ sym (ap (λ y. y.longest) same))
+          collected_one begin_collecting front label e.token ∙ ap (λ f. collect f (collected begin_collecting front)) t.2
+          ∙ ap (collect (text_token long t.0)) c.so_far ∙ text_none t.0 (view_of mid) none ∙ ap view_of (sym same);
+      plain = λ i. absurd (no_text (front ++ (piece label e.token ∷ [])) i);
+    })) (text_measures e.token long t.0 mid.longest t.2 ∙ sym (ap (λ y. y.longest) same))
 length_ends front cut taken label long r tally mid new c comes texts size is (some_left some) e =
-    let t : IsTextField long e.field = text_told label.position label.moment e.field long e.accepted texts in
+    let t : IsTextToken long e.token = text_told label.position label.moment e.token long e.accepted texts in
     let same : new ≡ record mid { is_open = true; text = [] } = is ∙ begun_some mid.left mid some in
-    past_field front cut taken label mid.longest r tally new e
+    past_token front cut taken label mid.longest r tally new e
     (inr (inl (record {
       is = ap (λ y. y.is_open) same;
       some = subst (λ n. 0 < n) (sym (ap (λ y. y.left) same)) some;
@@ -203,21 +203,21 @@ length_ends front cut taken label long r tally mid new c comes texts size is (so
       so_far = c.so_far ∙ ap view_of (sym same);
       are_units = t.1.0;
       spelled =
-          behind_head long t.0 (cut ++ taken) [] e.field t.2 size (e.spelled ∙ sym (append-nil (cut ++ taken))) ∙ ap (λ y. y.text) (sym same);
-      plain = λ i. no_text (front ++ (piece label e.field ∷ [])) i;
-    }))) (text_measures e.field long t.0 mid.longest t.2 ∙ sym (ap (λ y. y.longest) same))
+          behind_head long t.0 (cut ++ taken) [] e.token t.2 size (e.spelled ∙ sym (append-nil (cut ++ taken))) ∙ ap (λ y. y.text) (sym same);
+      plain = λ i. no_text (front ++ (piece label e.token ∷ [])) i;
+    }))) (text_measures e.token long t.0 mid.longest t.2 ∙ sym (ap (λ y. y.longest) same))
 
 length_goes_on : (front : List Piece) (cut taken : List ℕ) (label : Label) (long : Bool) (r : Seen) (tally : Tally) (mid new : Names) → Closed front cut mid
     → ComesNext front label → items_at label.position ≡ text_items long → length (cut ++ taken) ≡ head_size long → new ≡ begun mid → Many mid.left
     → StandsIn open_gate front (cut ++ taken) r tally → Further front cut taken mid.longest r tally new
 length_goes_on front cut taken label long r tally mid new c comes texts size is (none_left none) st =
     let same : new ≡ mid = is ∙ begun_none mid none in
-    in_field front cut taken mid.longest r tally new st
+    in_token front cut taken mid.longest r tally new st
     (inl (record { is = ap (λ y. y.is_open) same ∙ c.is; so_far = c.so_far ∙ ap view_of (sym same); plain = λ i. ap (λ y. y.left) same ∙ none }))
     (sym (ap (λ y. y.longest) same))
 length_goes_on front cut taken label long r tally mid new c comes texts size is (some_left some) st =
     let same : new ≡ record mid { is_open = true; text = [] } = is ∙ begun_some mid.left mid some in
-    in_field front cut taken mid.longest r tally new st
+    in_token front cut taken mid.longest r tally new st
     (inr (inr (record {
       is = ap (λ y. y.is_open) same;
       some = subst (λ n. 0 < n) (sym (ap (λ y. y.left) same)) some;
@@ -235,16 +235,16 @@ length_goes_on front cut taken label long r tally mid new c comes texts size is 
 
 plain_ends : (front : List Piece) (cut taken : List ℕ) (lent : Item) (label : Label) (r : Seen) (tally : Tally) (mid new : Names) → Closed front cut mid
     → (IsTextItem lent → ⊥) → IsLent (items_at label.position) cut taken lent → new ≡ behind lent mid
-    → (e : FieldEnds open_gate front label (cut ++ taken) r tally) → Further front cut taken mid.longest r tally new
+    → (e : TokenEnds open_gate front label (cut ++ taken) r tally) → Further front cut taken mid.longest r tally new
 plain_ends front cut taken lent label r tally mid new c plain h is e =
-    past_field front cut taken label mid.longest r tally new e
+    past_token front cut taken label mid.longest r tally new e
     (inl (record {
       is = ap (λ y. y.is_open) is ∙ c.is;
       so_far =
-          collected_one begin_collecting front label e.field ∙ ap (collect e.field) c.so_far
-          ∙ ends_plain label.position label.moment e.field cut taken lent (view_of mid) e.accepted plain e.spelled h ∙ ap view_of (sym is);
-      plain = λ i. absurd (no_text (front ++ (piece label e.field ∷ [])) i);
-    })) (ends_measured label.position label.moment e.field cut taken lent mid.longest e.accepted plain e.spelled h ∙ sym (ap (λ y. y.longest) is))
+          collected_one begin_collecting front label e.token ∙ ap (collect e.token) c.so_far
+          ∙ ends_plain label.position label.moment e.token cut taken lent (view_of mid) e.accepted plain e.spelled h ∙ ap view_of (sym is);
+      plain = λ i. absurd (no_text (front ++ (piece label e.token ∷ [])) i);
+    })) (ends_measured label.position label.moment e.token cut taken lent mid.longest e.accepted plain e.spelled h ∙ sym (ap (λ y. y.longest) is))
 
 is_raw : (lent : Item) (full : Type 0) → (IsTextItem lent → ⊥) → MayGoOn lent full → (x : Names) → behind lent x ≡ x
 is_raw (item.TextLength n) full plain may x = absurd (plain tt)
@@ -259,11 +259,11 @@ no_text_lent long cut taken _ plain h = h
 
 plain_goes_on : (front : List Piece) (cut given : List ℕ) (used : ℕ) (lent : Item) (label : Label) (r : Seen) (tally : Tally) (mid new : Names)
     → Closed front cut mid → ComesNext front label → (IsTextItem lent → ⊥) → IsLent (items_at label.position) cut (take used given) lent
-    → new ≡ behind lent mid → FieldGoesOn open_gate front (cut ++ take used given) given used lent r tally
+    → new ≡ behind lent mid → TokenGoesOn open_gate front (cut ++ take used given) given used lent r tally
     → Further front cut (take used given) mid.longest r tally new
 plain_goes_on front cut given used lent label r tally mid new c comes plain h is o =
     let same : new ≡ mid = is ∙ is_raw lent (IsFull open_gate front (cut ++ take used given) given used) plain o.full mid in
-    in_field front cut (take used given) mid.longest r tally new o.stands
+    in_token front cut (take used given) mid.longest r tally new o.stands
     (inl (record {
       is = ap (λ y. y.is_open) same ∙ c.is;
       so_far = c.so_far ∙ ap view_of (sym same);
@@ -321,7 +321,7 @@ after_length front cut given n used r tally old new at some l did =
     taken = take used given
 
     cases : (t : (long : Bool) × (items_at l.label.position ≡ text_items long)) → length (cut ++ taken) ≡ head_size t.0 → Closed front cut did.mid
-        → FieldEnds open_gate front l.label (cut ++ take used given) r tally ⊎ FieldGoesOn open_gate front (cut ++ take used given) given used (item.TextLength n) r tally
+        → TokenEnds open_gate front l.label (cut ++ take used given) r tally ⊎ TokenGoesOn open_gate front (cut ++ take used given) given used (item.TextLength n) r tally
         → Further front cut (take used given) did.mid.longest r tally new
     cases t size c (inl e) = length_ends front cut taken l.label t.0 r tally did.mid new c l.comes t.1 size did.is (many did.mid.left) e
     cases t size c (inr o) = length_goes_on front cut taken l.label t.0 r tally did.mid new c l.comes t.1 size did.is (many did.mid.left) o.stands
@@ -334,7 +334,7 @@ after_plain front cut given lent used r tally old new at some plain other l did 
     subst (λ k. Further front cut (take used given) k r tally new) (closes_longest old.is_open old did.mid did.closes) (cases c l.after)
   where
     cases : Closed front cut did.mid
-        → FieldEnds open_gate front l.label (cut ++ take used given) r tally ⊎ FieldGoesOn open_gate front (cut ++ take used given) given used lent r tally
+        → TokenEnds open_gate front l.label (cut ++ take used given) r tally ⊎ TokenGoesOn open_gate front (cut ++ take used given) given used lent r tally
         → Further front cut (take used given) did.mid.longest r tally new
     cases c (inl e) = plain_ends front cut (take used given) lent l.label r tally did.mid new c plain l.is did.is e
     cases c (inr o) = plain_goes_on front cut given used lent l.label r tally did.mid new c l.comes plain l.is did.is o
@@ -344,7 +344,7 @@ adds_part part taken old new adds is = adds ∙ ap (λ bs. record old { text = o
 
 after_part : (front : List Piece) (cut given part : List ℕ) (used : ℕ) (label : Label) (long : Bool) (r : Seen) (tally : Tally) (old new : Names)
     → (is_lent : items_at label.position ≡ text_items long) → head_size long ≤ length cut → part ≡ take used given → ComesNext front label → IsAt front cut old → Adds old.is_open part old new
-    → FieldEnds open_gate front label (cut ++ take used given) r tally ⊎ StandsIn open_gate front (cut ++ take used given) r tally
+    → TokenEnds open_gate front label (cut ++ take used given) r tally ⊎ StandsIn open_gate front (cut ++ take used given) r tally
     → Further front cut (take used given) old.longest r tally new
 after_part front cut given part used label long r tally old new texts past is comes (inl c) adds (inl e) =
     part_closed front cut (take used given) label long r tally old new c comes texts past (subst (λ b. Adds b part old new) c.is adds) e
@@ -361,8 +361,8 @@ after_part front cut given part used label long r tally old new texts past is co
     (adds_part part (take used given) old new (subst (λ b. Adds b part old new) g.is adds) is) st
 
 stands_after : (front : List Piece) (label : Label) (cut given : List ℕ) (lent : Item) (used : ℕ) (r : Seen) (tally : Tally)
-    → FieldEnds open_gate front label (cut ++ take used given) r tally ⊎ FieldGoesOn open_gate front (cut ++ take used given) given used lent r tally
-    → FieldEnds open_gate front label (cut ++ take used given) r tally ⊎ StandsIn open_gate front (cut ++ take used given) r tally
+    → TokenEnds open_gate front label (cut ++ take used given) r tally ⊎ TokenGoesOn open_gate front (cut ++ take used given) given used lent r tally
+    → TokenEnds open_gate front label (cut ++ take used given) r tally ⊎ StandsIn open_gate front (cut ++ take used given) r tally
 stands_after front label cut given lent used r tally (inl e) = inl e
 stands_after front label cut given lent used r tally (inr o) = inr o.stands
 
@@ -399,7 +399,7 @@ takes_item taken given lent used r tally next after old new h t some le did =
     let size = length-take-le used given le in
     let f = further h.front h.cut given lent used next after old new h.at (omega arith) (t h.front h.cut h.reads) did in
     record {
-      front = f.fields;
+      front = f.tokens;
       cut = f.over;
       split = ap (λ xs. xs ++ take used given) h.split ∙ sym f.joins;
       reads = f.reads;

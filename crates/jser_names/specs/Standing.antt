@@ -1,11 +1,11 @@
--- Where a reader stands in a stream, and which names were counted: the names of the fields that it took, but for the last
+-- Where a reader stands in a stream, and which names were counted: the names of the tokens that it took, but for the last
 -- one, whose text may be there and not yet be a name.
 use Rattle.std.specs.Prelude.{ℕ, ◌≡◌, ◌<◌, ◌≤◌, ◌-◌, ◌⊎◌, max, Bool, true, false, if◌then◌else◌, nat_eq, List, [], ◌∷◌, ◌++◌, length}
 use Rattle.jser_prim.specs.ModifiedUtf8.{IsUnits, modified_utf8}
 use Rattle.jser_grammar.specs.Wire.{TC_CLASSDESC}
-use Rattle.jser_reading.specs.Labels.{text_field, Label, Piece, piece}
-use Rattle.jser_reading.specs.FieldBytes.{joined}
-use Rattle.jser_reading.specs.FieldsFromBytes.{head_size}
+use Rattle.jser_reading.specs.Labels.{text_token, Label, Piece, piece}
+use Rattle.jser_reading.specs.TokenBytes.{joined}
+use Rattle.jser_reading.specs.TokensFromBytes.{head_size}
 use Rattle.jser_reading.specs.ComesNext.{ComesNext}
 use Rattle.jser_reader.specs.declared.Item.{Item}
 use Rattle.jser_reader.specs.declared.Item.TheVariants as item
@@ -100,7 +100,7 @@ pub record Ended (front : List Piece) (cut : List ℕ) (x : Names) : Type 0 wher
   pub label : Label
   pub long : Bool
   pub units : List ℕ
-  pub front_is : front ≡ before ++ (piece label (text_field long units) ∷ [])
+  pub front_is : front ≡ before ++ (piece label (text_token long units) ∷ [])
   pub so_far : collected begin_collecting before ≡ view_of x
   pub are_units : IsUnits units
   pub spelled : modified_utf8 units ≡ x.text
@@ -122,7 +122,7 @@ pub record GoesOn (front : List Piece) (cut : List ℕ) (x : Names) : Type 0 whe
 abbrev pub IsAt : (front : List Piece) → (cut : List ℕ) → Names → Type 0
 IsAt front cut x = Closed front cut x ⊎ (Ended front cut x ⊎ GoesOn front cut x)
 
--- the reader took these bytes, and the names and the longest array are those of the fields in them
+-- the reader took these bytes, and the names and the longest array are those of the tokens in them
 pub record Stands (taken : List ℕ) (r : Seen) (tally : Tally) (x : Names) : Type 0 where
   pub front : List Piece
   pub cut : List ℕ

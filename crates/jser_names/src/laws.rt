@@ -2,7 +2,7 @@
 
 ghost use Rattle.jser_names.specs.Collecting.{LengthsAreMeasured, NamesAreCollected};
 
-/// What is collected along the fields of a list are its checked names.
+/// What is collected along the tokens of a list are its checked names.
 #[tactic(auto, using(crate::proofs::CollectedLemmas::collected_law))]
 pub fn names_are_collected()
     ensures { NamesAreCollected }

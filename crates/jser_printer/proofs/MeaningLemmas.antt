@@ -7,7 +7,7 @@ use Rattle.std.specs.List.{flat_map}
 use Rattle.jser_prim.specs.Bytes.{big_bytes}
 use Rattle.jser_prim.specs.Outgoing.{Outgoing, SinkState}
 use Rattle.jser_grammar.specs.Codes.{PrimCode, byte_code, char_code, double_code, float_code, int_code, long_code, short_code, boolean_code, size_of}
-use Rattle.jser_reading.specs.FieldsFromBytes.{number_of}
+use Rattle.jser_reading.specs.TokensFromBytes.{number_of}
 use Rattle.jser_reading.proofs.Decoding.{number_1, number_2, number_4, number_8}
 use Rattle.jser_shown.specs.Words.{quoted, quoted_unit}
 use Rattle.jser_shown.specs.Values.{signed_text, boolean_text, meaning, in_brackets, value_word, bytes_word}

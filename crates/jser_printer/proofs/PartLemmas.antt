@@ -43,43 +43,43 @@ abbrev behind_values : NamedLayer → List NamedLayer → List SectionPart
 behind_values l others = note_if (has_notes l) (section_parts others)
 
 pub raw_next : (chain : List NamedLayer) (index from place : ℕ) (l : NamedLayer) (fields : List NamedField) (f : NamedField) → slice_get chain index ≡ Some l → fields ≡ fields_in l → f ≡ field_at fields place → NextRaw fields from (Some place) → parts_from chain index (stage.Raw from) ≡ raw_part f ∷ parts_from chain index (stage.Raw (place + 1))
-raw_next chain index from place l fields f is fields_are named next =
+raw_next chain index from place l fields f is tokens_are named next =
     let others = drop (index + 1) chain in
     first_parts chain index l (stage.Raw from) is
-    ∙ ap (λ fs. raw_parts (prim_fields (drop from fs)) (behind_raw l others)) (sym fields_are)
+    ∙ ap (λ fs. raw_parts (prim_fields (drop from fs)) (behind_raw l others)) (sym tokens_are)
     ∙ ap (λ names. raw_parts names (behind_raw l others)) next.1
     ∙ ap (λ n. raw_part n ∷ raw_parts (prim_fields (drop (place + 1) fields)) (behind_raw l others)) (sym named)
-    ∙ ap (λ fs. raw_part f ∷ raw_parts (prim_fields (drop (place + 1) fs)) (behind_raw l others)) fields_are
+    ∙ ap (λ fs. raw_part f ∷ raw_parts (prim_fields (drop (place + 1) fs)) (behind_raw l others)) tokens_are
     ∙ ap (λ parts. raw_part f ∷ parts) (sym (first_parts chain index l (stage.Raw (place + 1)) is))
 
 raw_end : (chain : List NamedLayer) (index from : ℕ) (l : NamedLayer) (fields : List NamedField) → slice_get chain index ≡ Some l → fields ≡ fields_in l → NextRaw fields from None → parts_from chain index (stage.Raw from) ≡ parts_from chain index (stage.Value 0)
-raw_end chain index from l fields is fields_are next =
+raw_end chain index from l fields is tokens_are next =
     let others = drop (index + 1) chain in
     first_parts chain index l (stage.Raw from) is
-    ∙ ap (λ fs. raw_parts (prim_fields (drop from fs)) (behind_raw l others)) (sym fields_are)
+    ∙ ap (λ fs. raw_parts (prim_fields (drop from fs)) (behind_raw l others)) (sym tokens_are)
     ∙ ap (λ names. raw_parts names (behind_raw l others)) next
     ∙ sym (first_parts chain index l (stage.Value 0) is)
 
 pub value_next : (chain : List NamedLayer) (index from place : ℕ) (l : NamedLayer) (fields : List NamedField) (name : List ℕ) → slice_get chain index ≡ Some l → fields ≡ fields_in l → name ≡ (field_at fields place).name → NextValue fields from (Some place) → parts_from chain index (stage.Value from) ≡ value_part (field_named name) ∷ parts_from chain index (stage.Value (place + 1))
-value_next chain index from place l fields name is fields_are named next =
+value_next chain index from place l fields name is tokens_are named next =
     let others = drop (index + 1) chain in
     first_parts chain index l (stage.Value from) is
-    ∙ ap (λ fs. value_parts (object_names (drop from fs)) (behind_values l others)) (sym fields_are)
+    ∙ ap (λ fs. value_parts (object_names (drop from fs)) (behind_values l others)) (sym tokens_are)
     ∙ ap (λ names. value_parts names (behind_values l others)) next.1
     ∙ ap (λ n. value_part (field_named n) ∷ value_parts (object_names (drop (place + 1) fields)) (behind_values l others)) (sym named)
-    ∙ ap (λ fs. value_part (field_named name) ∷ value_parts (object_names (drop (place + 1) fs)) (behind_values l others)) fields_are
+    ∙ ap (λ fs. value_part (field_named name) ∷ value_parts (object_names (drop (place + 1) fs)) (behind_values l others)) tokens_are
     ∙ ap (λ parts. value_part (field_named name) ∷ parts) (sym (first_parts chain index l (stage.Value (place + 1)) is))
 
 values_end : (chain : List NamedLayer) (index from : ℕ) (l : NamedLayer) (fields : List NamedField) → slice_get chain index ≡ Some l → fields ≡ fields_in l → NextValue fields from None → parts_from chain index (stage.Value from) ≡ note_if (has_notes l) (parts_from chain (index + 1) stage.Start)
-values_end chain index from l fields is fields_are next =
+values_end chain index from l fields is tokens_are next =
     let others = drop (index + 1) chain in
     first_parts chain index l (stage.Value from) is
-    ∙ ap (λ fs. value_parts (object_names (drop from fs)) (behind_values l others)) (sym fields_are)
+    ∙ ap (λ fs. value_parts (object_names (drop from fs)) (behind_values l others)) (sym tokens_are)
     ∙ ap (λ names. value_parts names (behind_values l others)) next
 
 pub notes_next : (chain : List NamedLayer) (index from : ℕ) (l : NamedLayer) (fields : List NamedField) (b : Bool) → slice_get chain index ≡ Some l → fields ≡ fields_in l → NextValue fields from None → b ≡ has_notes l → b ≡ true → parts_from chain index (stage.Value from) ≡ note_part ∷ parts_from chain (index + 1) stage.Start
-notes_next chain index from l fields b is fields_are next noted holds =
-    values_end chain index from l fields is fields_are next
+notes_next chain index from l fields b is tokens_are next noted holds =
+    values_end chain index from l fields is tokens_are next
     ∙ ap (λ t. note_if t (parts_from chain (index + 1) stage.Start)) (sym noted ∙ holds)
 
 -- the same first part, where the parts are the same
@@ -87,12 +87,12 @@ carried : (here there : List SectionPart) (p : Part) (others : List SectionPart)
 carried here there p others same begins = subst (λ parts. BeginsWith parts p others) (sym same) begins
 
 pub after_raw : (chain : List NamedLayer) (index from : ℕ) (l : NamedLayer) (fields : List NamedField) (next : NextPart) → slice_get chain index ≡ Some l → fields ≡ fields_in l → NextRaw fields from None → IsNextPart chain index (stage.Value 0) next → IsNextPart chain index (stage.Raw from) next
-after_raw chain index from l fields next is fields_are none begins =
-    carried _ _ next.part _ (raw_end chain index from l fields is fields_are none) begins
+after_raw chain index from l fields next is tokens_are none begins =
+    carried _ _ next.part _ (raw_end chain index from l fields is tokens_are none) begins
 
 pub after_values : (chain : List NamedLayer) (index from : ℕ) (l : NamedLayer) (fields : List NamedField) (b : Bool) (next : NextPart) → slice_get chain index ≡ Some l → fields ≡ fields_in l → NextValue fields from None → b ≡ has_notes l → b ≡ false → IsNextPart chain (index + 1) stage.Start next → IsNextPart chain index (stage.Value from) next
-after_values chain index from l fields b next is fields_are none noted fails begins =
+after_values chain index from l fields b next is tokens_are none noted fails begins =
     carried _ _ next.part _
-    (values_end chain index from l fields is fields_are none
+    (values_end chain index from l fields is tokens_are none
     ∙ ap (λ t. note_if t (parts_from chain (index + 1) stage.Start)) (sym noted ∙ fails))
     begins

@@ -1,4 +1,4 @@
--- Steps that need no field, by the frame on top.
+-- Steps that need no token, by the frame on top.
 use Rattle.std.proofs.Common.{◌≡◌, ℕ, suc, ◌+◌, Bool, true, false, List, [], ◌∷◌, ◌++◌, length, slice_set, zero, Option, Some, None, refl, ap, sym, ◌∙◌, subst, arith}
 use Rattle.jser_shown.specs.Words.{Epoch}
 use Rattle.jser_shown.specs.Known.{NamedField, NamedLayer, Known, known_class, classes_at, own_class_of, is_external_class, is_external_chain, elements_in, elements_of_chain}

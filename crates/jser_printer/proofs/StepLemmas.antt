@@ -1,11 +1,11 @@
--- Steps between two fields.
+-- Steps between two tokens.
 use Rattle.std.proofs.Common.{◌≡◌, ℕ, suc, ◌<◌, List, length, true, Some, None, Result, Ok, Err, OnOk, OnErr, refl, sym, ap, subst, ◌∙◌, rules, arith}
 use Rattle.jser_prim.specs.Outgoing.{Outgoing, SinkState}
-use Rattle.jser_reading.specs.Labels.{StreamField}
+use Rattle.jser_reading.specs.Labels.{StreamToken}
 use Rattle.jser_shown.specs.Cues.{Teller}
-use Rattle.jser_shown.specs.Telling.{SeenField, says, says_in, settle_says, settled, first_owner}
+use Rattle.jser_shown.specs.Telling.{SeenToken, says, says_in, settle_says, settled, first_owner}
 use Rattle.jser_shown.specs.Telling.{seen as seen_of}
-use Rattle.jser_printer.specs.FieldWords.{epoch_in, field_words}
+use Rattle.jser_printer.specs.TokenWords.{epoch_in, token_words}
 use Rattle.jser_printer.specs.declared.words.tag.Marks.{Marks}
 use Rattle.jser_printer.specs.Steps.{Due, due, due_says, pass, steps_left}
 use Rattle.jser_printer.specs.Passing.{Passed, MarksAre, says_next}
@@ -81,15 +81,15 @@ pub err_by : {T E P Q : Type 0} (r : Result T E) → OnErr r P → (P → Q) →
 err_by (Ok x) p f = tt
 err_by (Err e) p f = f p
 
--- a field, where all is said that was due before it
-pub says_then : (a b c : Outgoing) (d e f : SinkState) (s t : Teller) (told : StreamField) → Says a b d e (λ k. settle_says s.known s.cues k)
+-- a token, where all is said that was due before it
+pub says_then : (a b c : Outgoing) (d e f : SinkState) (s t : Teller) (told : StreamToken) → Says a b d e (λ k. settle_says s.known s.cues k)
     → t ≡ settled s → Says b c e f (λ k. says t told k) → Says a c d f (λ k. says_next s told k)
 says_then a b c d e f s t told h is g =
     says_both a b c d e f (λ k. settle_says s.known s.cues k) (λ k. says (settled s) told k) h
     (subst (λ u. Says b c e f (λ k. says u told k)) is g)
 
--- where memory ran out before the field
-pub begins_dues : (a b : Outgoing) (d e : SinkState) (s : Teller) (told : StreamField) → Begins a b d e (λ k. settle_says s.known s.cues k)
+-- where memory ran out before the token
+pub begins_dues : (a b : Outgoing) (d e : SinkState) (s : Teller) (told : StreamToken) → Begins a b d e (λ k. settle_says s.known s.cues k)
     → Begins a b d e (λ k. says_next s told k)
 begins_dues a b d e s told h = record {
   left = λ k. h.left (says (settled s) told k);
@@ -99,12 +99,12 @@ begins_dues a b d e s told h = record {
 pub begins_all : (a b : Outgoing) (d e : SinkState) (all : List ℕ → List ℕ) → Says a b d e all → Begins a b d e all
 begins_all a b d e all h = record { left = λ k. k; said = h }
 
--- what is said of a field at a place of a teller is what the teller says of it
-pub says_told : (a b : Outgoing) (d e : SinkState) (marks : Marks) (seen : SeenField) (s : Teller) (told : StreamField)
-    → Says a b d e (λ k. field_words marks s.cues seen k) → seen ≡ seen_of told → MarksAre marks s → Says a b d e (λ k. says s told k)
+-- what is said of a token at a place of a teller is what the teller says of it
+pub says_told : (a b : Outgoing) (d e : SinkState) (marks : Marks) (seen : SeenToken) (s : Teller) (told : StreamToken)
+    → Says a b d e (λ k. token_words marks s.cues seen k) → seen ≡ seen_of told → MarksAre marks s → Says a b d e (λ k. says s told k)
 says_told a b d e marks seen s told h is here =
-    says_same a b d e (λ k. field_words marks s.cues seen k) (λ k. says s told k)
+    says_same a b d e (λ k. token_words marks s.cues seen k) (λ k. says s told k)
     (λ k. ap (λ x. says_in x (length s.known) (first_owner s.owners) s.cues (seen_of told) k) (sym here.0)
     ∙ ap (λ x. says_in (epoch_in marks) x (first_owner s.owners) s.cues (seen_of told) k) (sym here.1)
     ∙ ap (λ x. says_in (epoch_in marks) marks.next x s.cues (seen_of told) k) (sym here.2)
-    ∙ ap (λ x. field_words marks s.cues x k) (sym is)) h
+    ∙ ap (λ x. token_words marks s.cues x k) (sym is)) h

@@ -1,4 +1,4 @@
--- Fields by the frame on top.
+-- Tokens by the frame on top.
 use Rattle.std.proofs.Common.{◌≡◌, ℕ, suc, List, [], ◌∷◌, ◌++◌, length, slice_set, Option, Some, None, refl, ap, sym, subst, ◌∙◌, arith}
 use Rattle.jser_reading.specs.Labels.{Tag, null_tag}
 use Rattle.jser_shown.specs.Words.{Epoch}
@@ -7,7 +7,7 @@ use Rattle.jser_grammar.specs.Codes.{PrimCode, prim_code_of}
 use Rattle.jser_shown.specs.Shown.{field_named}
 use Rattle.jser_shown.specs.Owners.{OwnerNode}
 use Rattle.jser_shown.specs.Cues.{SectionPart, data_part, raw_part, value_part, note_part, top_cue, note_cue, elements_cue, parts_cue, Cue, teller}
-use Rattle.jser_shown.specs.Telling.{SeenField, seen_tag, seen_bytes, begin, goes_at, goes_in, parts_goes, raw_line}
+use Rattle.jser_shown.specs.Telling.{SeenToken, seen_tag, seen_bytes, begin, goes_at, goes_in, parts_goes, raw_line}
 use Rattle.jser_printer.specs.declared.frame.Frame.{Frame}
 use Rattle.jser_printer.specs.declared.frame.Frame.TheVariants as frame
 use Rattle.jser_printer.specs.declared.frame.Stage.{Stage}
@@ -19,7 +19,7 @@ use Rattle.jser_printer.specs.declared.seen.Seen.TheVariants as seen
 use Rattle.jser_printer.specs.declared.seen.Tag.{Tag as DeclaredTag}
 use Rattle.jser_shown.specs.Shown.{ValueName, name_text}
 use Rattle.jser_shown.specs.Words.{begin_line}
-use Rattle.jser_printer.specs.FieldWords.{cue_words, field_words}
+use Rattle.jser_printer.specs.TokenWords.{cue_words, token_words}
 use Rattle.jser_printer.specs.TagWords.{tag_words}
 use Rattle.jser_printer.specs.Says.{Says}
 use Rattle.jser_printer.specs.declared.words.tag.Marks.{Marks}
@@ -30,8 +30,8 @@ use Rattle.jser_printer.specs.Frames.{parts_of, go_on, cue_of, cues_of, others_o
 use Rattle.jser_printer.proofs.PassLemmas.{close_cues}
 use Rattle.jser_printer.proofs.SaysLemmas.{says_nothing}
 
-pub goes_first : (layers : List NamedLayer) (chains : List (List NamedLayer)) (frames : List Frame) (f : Frame) (e : Epoch) (known : Known) (os : List OwnerNode) (field : SeenField) → frames ≡ f ∷ tail_of frames → goes_in e known os (cues_of layers chains frames) field ≡ goes_at e known os (cue_of layers chains f) (cues_of layers chains (tail_of frames)) field
-goes_first layers chains frames f e known os field is = ap (λ fs. goes_in e known os (cues_of layers chains fs) field) is
+pub goes_first : (layers : List NamedLayer) (chains : List (List NamedLayer)) (frames : List Frame) (f : Frame) (e : Epoch) (known : Known) (os : List OwnerNode) (token : SeenToken) → frames ≡ f ∷ tail_of frames → goes_in e known os (cues_of layers chains frames) token ≡ goes_at e known os (cue_of layers chains f) (cues_of layers chains (tail_of frames)) token
+goes_first layers chains frames f e known os token is = ap (λ fs. goes_in e known os (cues_of layers chains fs) token) is
 
 -- what stands below a cue that is not the top of the stream
 
@@ -56,36 +56,36 @@ at_top layers chains frames none = ap (cues_of layers chains) none
 
 -- at the sections of an object
 
-part_goes : (layers : List NamedLayer) (chains : List (List NamedLayer)) (frames : List Frame) (at : Sections) (parts : List SectionPart) (e : Epoch) (known : Known) (os : List OwnerNode) (field : SeenField) → frames ≡ frame.Sections at ∷ tail_of frames → parts_of chains at ≡ parts → goes_in e known os (cues_of layers chains frames) field ≡ parts_goes e known os (cues_of layers chains (tail_of frames)) at.level parts field
-part_goes layers chains frames at parts e known os field top is =
-    goes_first layers chains frames (frame.Sections at) e known os field top
-    ∙ ap (λ ps. parts_goes e known os (cues_of layers chains (tail_of frames)) at.level ps field) is
+part_goes : (layers : List NamedLayer) (chains : List (List NamedLayer)) (frames : List Frame) (at : Sections) (parts : List SectionPart) (e : Epoch) (known : Known) (os : List OwnerNode) (token : SeenToken) → frames ≡ frame.Sections at ∷ tail_of frames → parts_of chains at ≡ parts → goes_in e known os (cues_of layers chains frames) token ≡ parts_goes e known os (cues_of layers chains (tail_of frames)) at.level parts token
+part_goes layers chains frames at parts e known os token top is =
+    goes_first layers chains frames (frame.Sections at) e known os token top
+    ∙ ap (λ ps. parts_goes e known os (cues_of layers chains (tail_of frames)) at.level ps token) is
 
 same_frames : (layers : List NamedLayer) (chains : List (List NamedLayer)) (frames : List Frame) (at : Sections) (parts : List SectionPart) (e : Epoch) (known : Known) (os : List OwnerNode) → frames ≡ frame.Sections at ∷ tail_of frames → parts_of chains at ≡ parts → teller e known os (cues_of layers chains frames) ≡ teller e known os (parts_cue at.level parts ∷ cues_of layers chains (tail_of frames))
 same_frames layers chains frames at parts e known os top is =
     ap (λ fs. teller e known os (cues_of layers chains fs)) top
     ∙ ap (λ ps. teller e known os (parts_cue at.level ps ∷ cues_of layers chains (tail_of frames))) is
 
--- the field is not this part's
-left_there : (layers : List NamedLayer) (chains : List (List NamedLayer)) (frames : List Frame) (at : Sections) (parts : List SectionPart) (field : SeenField) → frames ≡ frame.Sections at ∷ tail_of frames → parts_of chains at ≡ parts → ((e : Epoch) (known : Known) (os : List OwnerNode) (cues : List Cue) → parts_goes e known os cues at.level parts field ≡ teller e known os (parts_cue at.level parts ∷ cues)) → TakesPart layers chains at.level frames frames field None
-left_there layers chains frames at parts field top is stays = λ e known os.
-    part_goes layers chains frames at parts e known os field top is
+-- the token is not this part's
+left_there : (layers : List NamedLayer) (chains : List (List NamedLayer)) (frames : List Frame) (at : Sections) (parts : List SectionPart) (token : SeenToken) → frames ≡ frame.Sections at ∷ tail_of frames → parts_of chains at ≡ parts → ((e : Epoch) (known : Known) (os : List OwnerNode) (cues : List Cue) → parts_goes e known os cues at.level parts token ≡ teller e known os (parts_cue at.level parts ∷ cues)) → TakesPart layers chains at.level frames frames token None
+left_there layers chains frames at parts token top is stays = λ e known os.
+    part_goes layers chains frames at parts e known os token top is
     ∙ stays e known os (cues_of layers chains (tail_of frames))
     ∙ sym (same_frames layers chains frames at parts e known os top is)
 
-pub section_left : (layers : List NamedLayer) (chains : List (List NamedLayer)) (frames : List Frame) (at : Sections) (name : Option (List ℕ)) (others : List SectionPart) (field : SeenField) → frames ≡ frame.Sections at ∷ tail_of frames → BeginsSection (parts_of chains at) name others → TakesPart layers chains at.level frames frames field None
-section_left layers chains frames at name others field top begins =
-    left_there layers chains frames at (data_part begins.layer ∷ others) field top begins.parts_are (λ e known os cues. refl)
+pub section_left : (layers : List NamedLayer) (chains : List (List NamedLayer)) (frames : List Frame) (at : Sections) (name : Option (List ℕ)) (others : List SectionPart) (token : SeenToken) → frames ≡ frame.Sections at ∷ tail_of frames → BeginsSection (parts_of chains at) name others → TakesPart layers chains at.level frames frames token None
+section_left layers chains frames at name others token top begins =
+    left_there layers chains frames at (data_part begins.layer ∷ others) token top begins.parts_are (λ e known os cues. refl)
 
-pub notes_left : (layers : List NamedLayer) (chains : List (List NamedLayer)) (frames : List Frame) (at : Sections) (others : List SectionPart) (field : SeenField) → frames ≡ frame.Sections at ∷ tail_of frames → parts_of chains at ≡ note_part ∷ others → TakesPart layers chains at.level frames frames field None
-notes_left layers chains frames at others field top is =
-    left_there layers chains frames at (note_part ∷ others) field top is (λ e known os cues. refl)
+pub notes_left : (layers : List NamedLayer) (chains : List (List NamedLayer)) (frames : List Frame) (at : Sections) (others : List SectionPart) (token : SeenToken) → frames ≡ frame.Sections at ∷ tail_of frames → parts_of chains at ≡ note_part ∷ others → TakesPart layers chains at.level frames frames token None
+notes_left layers chains frames at others token top is =
+    left_there layers chains frames at (note_part ∷ others) token top is (λ e known os cues. refl)
 
-pub end_left : (layers : List NamedLayer) (chains : List (List NamedLayer)) (frames : List Frame) (at : Sections) (field : SeenField) → frames ≡ frame.Sections at ∷ tail_of frames → parts_of chains at ≡ [] → TakesPart layers chains at.level frames frames field None
-end_left layers chains frames at field top is =
-    left_there layers chains frames at [] field top is (λ e known os cues. refl)
+pub end_left : (layers : List NamedLayer) (chains : List (List NamedLayer)) (frames : List Frame) (at : Sections) (token : SeenToken) → frames ≡ frame.Sections at ∷ tail_of frames → parts_of chains at ≡ [] → TakesPart layers chains at.level frames frames token None
+end_left layers chains frames at token top is =
+    left_there layers chains frames at [] token top is (λ e known os cues. refl)
 
--- the field is this part's
+-- the token is this part's
 
 pub raw_taken : (layers : List NamedLayer) (chains : List (List NamedLayer)) (old new : List Frame) (at : Sections) (index : ℕ) (s : Stage) (f : NamedField) (bytes : List ℕ) → old ≡ frame.Sections at ∷ tail_of old → new ≡ frame.Sections (go_on at index s) ∷ tail_of old → parts_of chains at ≡ raw_part f ∷ parts_of chains (go_on at index s) → TakesPart layers chains at.level old new (seen_bytes bytes) None
 raw_taken layers chains old new at index s name bytes top put is = λ e known os.
@@ -97,48 +97,48 @@ value_taken layers chains old new at index s name tag top put is = λ e known os
     part_goes layers chains old at _ e known os (seen_tag tag) top is
     ∙ sym (ap (λ fs. begin e (suc at.level) known os tag (cues_of layers chains fs)) put)
 
--- what is said of a field by the frame on top
+-- what is said of a token by the frame on top
 
-pub says_first : (a b : Outgoing) (d e : SinkState) (marks : Marks) (layers : List NamedLayer) (chains : List (List NamedLayer)) (frames : List Frame) (f : Frame) (field : SeenField) → frames ≡ f ∷ tail_of frames → Says a b d e (λ k. cue_words marks (cue_of layers chains f) field k) → Says a b d e (λ k. field_words marks (cues_of layers chains frames) field k)
-says_first a b d e marks layers chains frames f field top h =
-    subst (λ fs. Says a b d e (λ k. field_words marks (cues_of layers chains fs) field k)) (sym top) h
+pub says_first : (a b : Outgoing) (d e : SinkState) (marks : Marks) (layers : List NamedLayer) (chains : List (List NamedLayer)) (frames : List Frame) (f : Frame) (token : SeenToken) → frames ≡ f ∷ tail_of frames → Says a b d e (λ k. cue_words marks (cue_of layers chains f) token k) → Says a b d e (λ k. token_words marks (cues_of layers chains frames) token k)
+says_first a b d e marks layers chains frames f token top h =
+    subst (λ fs. Says a b d e (λ k. token_words marks (cues_of layers chains fs) token k)) (sym top) h
 
-pub says_last : (a b : Outgoing) (d e : SinkState) (marks : Marks) (layers : List NamedLayer) (chains : List (List NamedLayer)) (frames : List Frame) (field : SeenField) → frames ≡ [] → Says a b d e (λ k. cue_words marks top_cue field k) → Says a b d e (λ k. field_words marks (cues_of layers chains frames) field k)
-says_last a b d e marks layers chains frames field none h =
-    subst (λ fs. Says a b d e (λ k. field_words marks (cues_of layers chains fs) field k)) (sym none) h
+pub says_last : (a b : Outgoing) (d e : SinkState) (marks : Marks) (layers : List NamedLayer) (chains : List (List NamedLayer)) (frames : List Frame) (token : SeenToken) → frames ≡ [] → Says a b d e (λ k. cue_words marks top_cue token k) → Says a b d e (λ k. token_words marks (cues_of layers chains frames) token k)
+says_last a b d e marks layers chains frames token none h =
+    subst (λ fs. Says a b d e (λ k. token_words marks (cues_of layers chains fs) token k)) (sym none) h
 
-part_says : (a b : Outgoing) (d e : SinkState) (marks : Marks) (layers : List NamedLayer) (chains : List (List NamedLayer)) (frames : List Frame) (at : Sections) (parts : List SectionPart) (field : SeenField) → frames ≡ frame.Sections at ∷ tail_of frames → parts_of chains at ≡ parts → Says a b d e (λ k. cue_words marks (parts_cue at.level parts) field k) → Says a b d e (λ k. field_words marks (cues_of layers chains frames) field k)
-part_says a b d e marks layers chains frames at parts field top is h =
-    says_first a b d e marks layers chains frames (frame.Sections at) field top
-    (subst (λ ps. Says a b d e (λ k. cue_words marks (parts_cue at.level ps) field k)) (sym is) h)
+part_says : (a b : Outgoing) (d e : SinkState) (marks : Marks) (layers : List NamedLayer) (chains : List (List NamedLayer)) (frames : List Frame) (at : Sections) (parts : List SectionPart) (token : SeenToken) → frames ≡ frame.Sections at ∷ tail_of frames → parts_of chains at ≡ parts → Says a b d e (λ k. cue_words marks (parts_cue at.level parts) token k) → Says a b d e (λ k. token_words marks (cues_of layers chains frames) token k)
+part_says a b d e marks layers chains frames at parts token top is h =
+    says_first a b d e marks layers chains frames (frame.Sections at) token top
+    (subst (λ ps. Says a b d e (λ k. cue_words marks (parts_cue at.level ps) token k)) (sym is) h)
 
-pub raw_said : (a b : Outgoing) (d e : SinkState) (marks : Marks) (layers : List NamedLayer) (chains : List (List NamedLayer)) (frames : List Frame) (at : Sections) (f : NamedField) (others : List SectionPart) (field : SeenField) (bytes : List ℕ) → frames ≡ frame.Sections at ∷ tail_of frames → parts_of chains at ≡ raw_part f ∷ others → field ≡ seen_bytes bytes → Says a b d e (λ k. raw_line marks.values (prim_code_of f.code) (suc at.level) (field_named f.name) bytes k) → Says a b d e (λ k. field_words marks (cues_of layers chains frames) field k)
-raw_said a b d e marks layers chains frames at f others field bytes top is same h =
-    part_says a b d e marks layers chains frames at (raw_part f ∷ others) field top is
+pub raw_said : (a b : Outgoing) (d e : SinkState) (marks : Marks) (layers : List NamedLayer) (chains : List (List NamedLayer)) (frames : List Frame) (at : Sections) (f : NamedField) (others : List SectionPart) (token : SeenToken) (bytes : List ℕ) → frames ≡ frame.Sections at ∷ tail_of frames → parts_of chains at ≡ raw_part f ∷ others → token ≡ seen_bytes bytes → Says a b d e (λ k. raw_line marks.values (prim_code_of f.code) (suc at.level) (field_named f.name) bytes k) → Says a b d e (λ k. token_words marks (cues_of layers chains frames) token k)
+raw_said a b d e marks layers chains frames at f others token bytes top is same h =
+    part_says a b d e marks layers chains frames at (raw_part f ∷ others) token top is
     (subst (λ x. Says a b d e (λ k. cue_words marks (parts_cue at.level (raw_part f ∷ others)) x k)) (sym same) h)
 
-pub value_said : (a b : Outgoing) (d e : SinkState) (marks : Marks) (layers : List NamedLayer) (chains : List (List NamedLayer)) (frames : List Frame) (at : Sections) (name : List ℕ) (others : List SectionPart) (field : SeenField) (tag : Tag) → frames ≡ frame.Sections at ∷ tail_of frames → parts_of chains at ≡ value_part (field_named name) ∷ others → field ≡ seen_tag tag → Says a b d e (λ k. begin_line (suc at.level) (name_text (field_named name) (tag_words marks tag k))) → Says a b d e (λ k. field_words marks (cues_of layers chains frames) field k)
-value_said a b d e marks layers chains frames at name others field tag top is same h =
-    part_says a b d e marks layers chains frames at (value_part (field_named name) ∷ others) field top is
+pub value_said : (a b : Outgoing) (d e : SinkState) (marks : Marks) (layers : List NamedLayer) (chains : List (List NamedLayer)) (frames : List Frame) (at : Sections) (name : List ℕ) (others : List SectionPart) (token : SeenToken) (tag : Tag) → frames ≡ frame.Sections at ∷ tail_of frames → parts_of chains at ≡ value_part (field_named name) ∷ others → token ≡ seen_tag tag → Says a b d e (λ k. begin_line (suc at.level) (name_text (field_named name) (tag_words marks tag k))) → Says a b d e (λ k. token_words marks (cues_of layers chains frames) token k)
+value_said a b d e marks layers chains frames at name others token tag top is same h =
+    part_says a b d e marks layers chains frames at (value_part (field_named name) ∷ others) token top is
     (subst (λ f. Says a b d e (λ k. cue_words marks (parts_cue at.level (value_part (field_named name) ∷ others)) f k)) (sym same) h)
 
--- a field of which this part says nothing
-pub part_silent : (a : Outgoing) (d : SinkState) (marks : Marks) (layers : List NamedLayer) (chains : List (List NamedLayer)) (frames : List Frame) (at : Sections) (parts : List SectionPart) (field : SeenField) → frames ≡ frame.Sections at ∷ tail_of frames → parts_of chains at ≡ parts → ((k : List ℕ) → cue_words marks (parts_cue at.level parts) field k ≡ k) → Says a a d d (λ k. field_words marks (cues_of layers chains frames) field k)
-part_silent a d marks layers chains frames at parts field top is same =
-    part_says a a d d marks layers chains frames at parts field top is
-    (says_nothing a d (λ k. cue_words marks (parts_cue at.level parts) field k) same)
+-- a token of which this part says nothing
+pub part_silent : (a : Outgoing) (d : SinkState) (marks : Marks) (layers : List NamedLayer) (chains : List (List NamedLayer)) (frames : List Frame) (at : Sections) (parts : List SectionPart) (token : SeenToken) → frames ≡ frame.Sections at ∷ tail_of frames → parts_of chains at ≡ parts → ((k : List ℕ) → cue_words marks (parts_cue at.level parts) token k ≡ k) → Says a a d d (λ k. token_words marks (cues_of layers chains frames) token k)
+part_silent a d marks layers chains frames at parts token top is same =
+    part_says a a d d marks layers chains frames at parts token top is
+    (says_nothing a d (λ k. cue_words marks (parts_cue at.level parts) token k) same)
 
-pub section_silent : (a : Outgoing) (d : SinkState) (marks : Marks) (layers : List NamedLayer) (chains : List (List NamedLayer)) (frames : List Frame) (at : Sections) (name : Option (List ℕ)) (others : List SectionPart) (field : SeenField) → frames ≡ frame.Sections at ∷ tail_of frames → BeginsSection (parts_of chains at) name others → Says a a d d (λ k. field_words marks (cues_of layers chains frames) field k)
-section_silent a d marks layers chains frames at name others field top begins =
-    part_silent a d marks layers chains frames at (data_part begins.layer ∷ others) field top begins.parts_are (λ k. refl)
+pub section_silent : (a : Outgoing) (d : SinkState) (marks : Marks) (layers : List NamedLayer) (chains : List (List NamedLayer)) (frames : List Frame) (at : Sections) (name : Option (List ℕ)) (others : List SectionPart) (token : SeenToken) → frames ≡ frame.Sections at ∷ tail_of frames → BeginsSection (parts_of chains at) name others → Says a a d d (λ k. token_words marks (cues_of layers chains frames) token k)
+section_silent a d marks layers chains frames at name others token top begins =
+    part_silent a d marks layers chains frames at (data_part begins.layer ∷ others) token top begins.parts_are (λ k. refl)
 
-pub notes_silent : (a : Outgoing) (d : SinkState) (marks : Marks) (layers : List NamedLayer) (chains : List (List NamedLayer)) (frames : List Frame) (at : Sections) (others : List SectionPart) (field : SeenField) → frames ≡ frame.Sections at ∷ tail_of frames → parts_of chains at ≡ note_part ∷ others → Says a a d d (λ k. field_words marks (cues_of layers chains frames) field k)
-notes_silent a d marks layers chains frames at others field top is =
-    part_silent a d marks layers chains frames at (note_part ∷ others) field top is (λ k. refl)
+pub notes_silent : (a : Outgoing) (d : SinkState) (marks : Marks) (layers : List NamedLayer) (chains : List (List NamedLayer)) (frames : List Frame) (at : Sections) (others : List SectionPart) (token : SeenToken) → frames ≡ frame.Sections at ∷ tail_of frames → parts_of chains at ≡ note_part ∷ others → Says a a d d (λ k. token_words marks (cues_of layers chains frames) token k)
+notes_silent a d marks layers chains frames at others token top is =
+    part_silent a d marks layers chains frames at (note_part ∷ others) token top is (λ k. refl)
 
-pub end_silent : (a : Outgoing) (d : SinkState) (marks : Marks) (layers : List NamedLayer) (chains : List (List NamedLayer)) (frames : List Frame) (at : Sections) (field : SeenField) → frames ≡ frame.Sections at ∷ tail_of frames → parts_of chains at ≡ [] → Says a a d d (λ k. field_words marks (cues_of layers chains frames) field k)
-end_silent a d marks layers chains frames at field top is =
-    part_silent a d marks layers chains frames at [] field top is (λ k. refl)
+pub end_silent : (a : Outgoing) (d : SinkState) (marks : Marks) (layers : List NamedLayer) (chains : List (List NamedLayer)) (frames : List Frame) (at : Sections) (token : SeenToken) → frames ≡ frame.Sections at ∷ tail_of frames → parts_of chains at ≡ [] → Says a a d d (λ k. token_words marks (cues_of layers chains frames) token k)
+end_silent a d marks layers chains frames at token top is =
+    part_silent a d marks layers chains frames at [] token top is (λ k. refl)
 
 raw-says_nothing : (marks : Marks) (level : ℕ) (name : NamedField) (parts : List SectionPart) (sight : Seen) (k : List ℕ) → ((x : Bor (List ℕ)) → sight ≡ seen.Bytes x → ⊥) → cue_words marks (parts_cue level (raw_part name ∷ parts)) (view_seen sight) k ≡ k
 raw-says_nothing marks level name parts (seen.Bytes x) k other = absurd (other x refl)
@@ -148,7 +148,7 @@ raw-stays : (level : ℕ) (name : NamedField) (parts : List SectionPart) (sight 
 raw-stays level name parts (seen.Bytes x) other e known os cues = absurd (other x refl)
 raw-stays level name parts sight other e known os cues = refl
 
-pub raw_silent : (a : Outgoing) (d : SinkState) (marks : Marks) (layers : List NamedLayer) (chains : List (List NamedLayer)) (frames : List Frame) (at : Sections) (name : NamedField) (others : List SectionPart) (sight : Seen) → frames ≡ frame.Sections at ∷ tail_of frames → parts_of chains at ≡ raw_part name ∷ others → ((x : Bor (List ℕ)) → sight ≡ seen.Bytes x → ⊥) → Says a a d d (λ k. field_words marks (cues_of layers chains frames) (view_seen sight) k)
+pub raw_silent : (a : Outgoing) (d : SinkState) (marks : Marks) (layers : List NamedLayer) (chains : List (List NamedLayer)) (frames : List Frame) (at : Sections) (name : NamedField) (others : List SectionPart) (sight : Seen) → frames ≡ frame.Sections at ∷ tail_of frames → parts_of chains at ≡ raw_part name ∷ others → ((x : Bor (List ℕ)) → sight ≡ seen.Bytes x → ⊥) → Says a a d d (λ k. token_words marks (cues_of layers chains frames) (view_seen sight) k)
 raw_silent a d marks layers chains frames at name others sight top is other =
     part_silent a d marks layers chains frames at (raw_part name ∷ others) (view_seen sight) top is (λ k. raw-says_nothing marks at.level name others sight k other)
 
@@ -164,7 +164,7 @@ value-stays : (level : ℕ) (name : ValueName) (parts : List SectionPart) (sight
 value-stays level name parts (seen.Tag x) other e known os cues = absurd (other x refl)
 value-stays level name parts sight other e known os cues = refl
 
-pub value_silent : (a : Outgoing) (d : SinkState) (marks : Marks) (layers : List NamedLayer) (chains : List (List NamedLayer)) (frames : List Frame) (at : Sections) (name : ValueName) (others : List SectionPart) (sight : Seen) → frames ≡ frame.Sections at ∷ tail_of frames → parts_of chains at ≡ value_part name ∷ others → ((x : DeclaredTag) → sight ≡ seen.Tag x → ⊥) → Says a a d d (λ k. field_words marks (cues_of layers chains frames) (view_seen sight) k)
+pub value_silent : (a : Outgoing) (d : SinkState) (marks : Marks) (layers : List NamedLayer) (chains : List (List NamedLayer)) (frames : List Frame) (at : Sections) (name : ValueName) (others : List SectionPart) (sight : Seen) → frames ≡ frame.Sections at ∷ tail_of frames → parts_of chains at ≡ value_part name ∷ others → ((x : DeclaredTag) → sight ≡ seen.Tag x → ⊥) → Says a a d d (λ k. token_words marks (cues_of layers chains frames) (view_seen sight) k)
 value_silent a d marks layers chains frames at name others sight top is other =
     part_silent a d marks layers chains frames at (value_part name ∷ others) (view_seen sight) top is (λ k. value-says_nothing marks at.level name others sight k other)
 

@@ -7,7 +7,7 @@ use Rattle.hex.specs.Hex.{encode_lower}
 use Rattle.jser_prim.specs.Outgoing.{Outgoing, SinkState}
 use Rattle.jser_prim.proofs.OutgoingLemmas.{puts_none, puts_stopped}
 use Rattle.jser_grammar.specs.Codes.{PrimCode, size_of}
-use Rattle.jser_reading.specs.FieldsFromBytes.{number_of}
+use Rattle.jser_reading.specs.TokensFromBytes.{number_of}
 use Rattle.jser_shown.specs.Values.{meaning, in_brackets, value_word, bytes_word}
 use Rattle.jser_shown.specs.Words.{begin_line, quoted_unit}
 use Rattle.jser_shown.specs.Shown.{element_at, field_named, name_text}

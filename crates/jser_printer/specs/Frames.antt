@@ -2,7 +2,7 @@
 use Rattle.std.specs.Prelude.{ℕ, Bool, true, false, ◌≡◌, ◌<◌, suc, List, [], ◌∷◌, drop, reverse, Option, Some, None}
 use Rattle.jser_reading.specs.Labels.{Tag as ToldTag}
 use Rattle.jser_shown.specs.Owners.{OwnerNode}
-use Rattle.jser_shown.specs.Telling.{SeenField, begin, goes_in}
+use Rattle.jser_shown.specs.Telling.{SeenToken, begin, goes_in}
 use Rattle.jser_shown.specs.Known.{Known, NamedLayer, prim_fields, object_names, fields_in, has_notes, own_class_of}
 use Rattle.jser_shown.specs.Words.{Epoch}
 use Rattle.jser_shown.specs.Shown.{field_named}
@@ -125,14 +125,14 @@ others_of (cue ∷ cues) = cues
 abbrev pub FirstIs : Cue → Teller → Type 0
 FirstIs cue s = s.cues ≡ cue ∷ others_of s.cues
 
--- At the sections on top of a stack a field leads to these frames, and to the value with this tag, if it begins one.
-abbrev pub TakesPart : List NamedLayer → List (List NamedLayer) → (level : ℕ) → (old new : List Frame) → SeenField → Option ToldTag → Type 0
-TakesPart layers chains level old new field None =
+-- At the sections on top of a stack a token leads to these frames, and to the value with this tag, if it begins one.
+abbrev pub TakesPart : List NamedLayer → List (List NamedLayer) → (level : ℕ) → (old new : List Frame) → SeenToken → Option ToldTag → Type 0
+TakesPart layers chains level old new token None =
     (e : Epoch) (known : Known) (os : List OwnerNode)
-    → goes_in e known os (cues_of layers chains old) field ≡ teller e known os (cues_of layers chains new)
-TakesPart layers chains level old new field (Some tag) =
+    → goes_in e known os (cues_of layers chains old) token ≡ teller e known os (cues_of layers chains new)
+TakesPart layers chains level old new token (Some tag) =
     (e : Epoch) (known : Known) (os : List OwnerNode)
-    → goes_in e known os (cues_of layers chains old) field ≡ begin e (suc level) known os tag (cues_of layers chains new)
+    → goes_in e known os (cues_of layers chains old) token ≡ begin e (suc level) known os tag (cues_of layers chains new)
 
 -- What is due on top of a stack is done and leads to these frames, or nothing is due.
 abbrev pub PassesTop : List NamedLayer → List (List NamedLayer) → (more : Bool) → (old new : List Frame) → Type 0

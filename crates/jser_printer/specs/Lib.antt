@@ -8,7 +8,7 @@ pub mod Frames
 pub mod Seen
 pub mod Phases
 pub mod Says
-pub mod FieldWords
+pub mod TokenWords
 pub mod TagWords
 pub mod DueWords
 pub mod Passing

@@ -1,10 +1,10 @@
--- What is done of what is due, and what is said of a field with it.
+-- What is done of what is due, and what is said of a token with it.
 use Rattle.std.specs.Prelude.{ℕ, List, length, ◌≡◌, Bool, true, false, Option, Some, None}
 use Rattle.jser_shown.specs.Cues.{Teller}
-use Rattle.jser_reading.specs.Labels.{StreamField}
+use Rattle.jser_reading.specs.Labels.{StreamToken}
 use Rattle.jser_shown.specs.Telling.{says, settle_says, settled, first_owner}
 use Rattle.jser_printer.specs.Given.{view_node}
-use Rattle.jser_printer.specs.FieldWords.{epoch_in}
+use Rattle.jser_printer.specs.TokenWords.{epoch_in}
 use Rattle.jser_printer.specs.Phases.{StandsIn}
 use Rattle.jser_printer.specs.Steps.{Due, due, pass}
 use Rattle.jser_printer.specs.declared.phase.Phase.{Phase}
@@ -28,6 +28,6 @@ abbrev pub PassedTo : Option Phase → Teller → Teller → Type 0
 PassedTo (Some phase) old new = IsDue old × StandsIn phase new (pass old)
 PassedTo None old new = (due old ≡ None) × (new ≡ old)
 
--- what a teller that may not have settled says of the next field, before `k`
-abbrev pub says_next : Teller → StreamField → List ℕ → List ℕ
-says_next s field k = settle_says s.known s.cues (says (settled s) field k)
+-- what a teller that may not have settled says of the next token, before `k`
+abbrev pub says_next : Teller → StreamToken → List ℕ → List ℕ
+says_next s token k = settle_says s.known s.cues (says (settled s) token k)

@@ -4,7 +4,7 @@ use Rattle.jser_shown.specs.Known.{Known, NamedField as ToldField}
 use Rattle.jser_shown.specs.Words.{Epoch}
 use Rattle.jser_shown.specs.Owners.{OwnerNode as ToldNode}
 use Rattle.jser_shown.specs.Cues.{Cue, header_cue, handle_cue, string_cue, text_place_cue, block_length_cue, block_cue, name_cue, length_cue, class_cue, class_handle_cue, class_name_cue, suid_cue, flags_cue, field_count_cue, fields_cue, field_name_cue, type_cue, interface_count_cue, interfaces_cue, Teller, teller}
-use Rattle.jser_shown.specs.Telling.{SeenField, goes_in}
+use Rattle.jser_shown.specs.Telling.{SeenToken, goes_in}
 use Rattle.jser_printer.specs.declared.phase.Over.{Over}
 use Rattle.jser_printer.specs.declared.phase.Over.TheVariants as over
 use Rattle.jser_printer.specs.declared.phase.Phase.{Phase}
@@ -54,11 +54,11 @@ in_phase phase name done s = teller s.epoch s.known s.owners (phase_cues phase n
 abbrev pub StandsIn : Phase → (now whole : Teller) → Type 0
 StandsIn phase now whole = (name : List ℕ) (done : List ToldField) → whole ≡ in_phase phase name done now
 
--- From one phase a field leads to another, whatever is known and comes behind; it changes nothing else.
-abbrev pub Leads : (from to : Phase) → SeenField → Type 0
-Leads from to field =
+-- From one phase a token leads to another, whatever is known and comes behind; it changes nothing else.
+abbrev pub Leads : (from to : Phase) → SeenToken → Type 0
+Leads from to token =
     (e : Epoch) (known : Known) (os : List ToldNode) (cues : List Cue) (name : List ℕ) (done : List ToldField)
-    → teller e known os (phase_cues to name done cues) ≡ goes_in e known os (phase_cues from name done cues) field
+    → teller e known os (phase_cues to name done cues) ≡ goes_in e known os (phase_cues from name done cues) token
 
 -- the fields of a descriptor, the last one first
 abbrev pub done_of : List NamedField → List ToldField

@@ -1,9 +1,9 @@
--- What a printer sees of a field stands for what a teller sees of it.
+-- What a printer sees of a token stands for what a teller sees of it.
 use Rattle.std.specs.Prelude.{ℕ, ◌≡◌, ◌==◌, true, false, if◌then◌else◌, Option, Some, None}
 use Rattle.jser_grammar.specs.Wire.{TC_NULL, TC_REFERENCE, TC_CLASSDESC, TC_OBJECT, TC_STRING, TC_ARRAY, TC_CLASS, TC_BLOCKDATA, TC_ENDBLOCKDATA, TC_RESET, TC_BLOCKDATALONG, TC_LONGSTRING, TC_PROXYCLASSDESC, TC_ENUM}
-use Rattle.jser_reading.specs.Labels.{null_tag, reference_tag, class_desc_tag, object_tag, string_tag, array_tag, class_tag, long_string_tag, proxy_desc_tag, enum_tag, StreamField}
+use Rattle.jser_reading.specs.Labels.{null_tag, reference_tag, class_desc_tag, object_tag, string_tag, array_tag, class_tag, long_string_tag, proxy_desc_tag, enum_tag, StreamToken}
 use Rattle.jser_reading.specs.Labels.{Tag as ToldTag}
-use Rattle.jser_shown.specs.Telling.{SeenField, seen_header, seen_end_tag, seen_reset_tag, seen_tag, seen_block_tag, seen_handle, seen_suid, seen_flags, seen_field_count, seen_interface_count, seen_array_length, seen_code, seen_block_length, seen_text, seen_bytes}
+use Rattle.jser_shown.specs.Telling.{SeenToken, seen_header, seen_end_tag, seen_reset_tag, seen_tag, seen_block_tag, seen_handle, seen_suid, seen_flags, seen_field_count, seen_interface_count, seen_array_length, seen_code, seen_block_length, seen_text, seen_bytes}
 use Rattle.jser_shown.specs.Telling.{seen as seen_of}
 use Rattle.jser_printer.specs.Names.{view_text}
 use Rattle.jser_printer.specs.declared.seen.Tag.{Tag}
@@ -23,7 +23,7 @@ view_tag tag.LongString = long_string_tag
 view_tag tag.ProxyDesc = proxy_desc_tag
 view_tag tag.Enum = enum_tag
 
-abbrev pub view_seen : Seen → SeenField
+abbrev pub view_seen : Seen → SeenToken
 view_seen seen.Header = seen_header
 view_seen (seen.Tag tag) = seen_tag (view_tag tag)
 view_seen (seen.BlockTag long) = seen_block_tag long
@@ -40,13 +40,13 @@ view_seen (seen.BlockLength n) = seen_block_length n
 view_seen (seen.Text text) = seen_text (view_text text)
 view_seen (seen.Bytes bytes) = seen_bytes bytes.now
 
--- the field is seen as what it is
-abbrev pub Sees : Option Seen → StreamField → Type 0
+-- the token is seen as what it is
+abbrev pub Sees : Option Seen → StreamToken → Type 0
 Sees None told = ⊥
 Sees (Some s) told = view_seen s ≡ seen_of told
 
 -- what is seen of a tag
-abbrev pub tag_seen : ℕ → Option SeenField
+abbrev pub tag_seen : ℕ → Option SeenToken
 tag_seen b =
     if b == TC_NULL then Some (seen_tag null_tag)
     else (if b == TC_REFERENCE then Some (seen_tag reference_tag)

@@ -1,4 +1,4 @@
--- A teller settles step by step. A step does what the first cue asks where no field belongs to it, and `due` tells
+-- A teller settles step by step. A step does what the first cue asks where no token belongs to it, and `due` tells
 -- what that is and what is said.
 use Rattle.std.specs.Prelude.{ℕ, zero, suc, true, false, List, [], ◌∷◌, ◌++◌, slice_set, codes, Option, Some, None}
 use Rattle.jser_reading.specs.Roles.{Owner, object_owner, array_owner, enum_owner, class_owner}
@@ -7,7 +7,7 @@ use Rattle.jser_shown.specs.Words.{Epoch, end_line, begin_line, quoted}
 use Rattle.jser_shown.specs.Owners.{OwnerNode}
 use Rattle.jser_shown.specs.Cues.{SectionPart, data_part, external_part, raw_part, value_part, note_part, Cue, text_place_cue, note_cue, name_cue, length_cue, elements_cue, parts_cue, made_cue, close_cue, fields_cue, type_cue, interfaces_cue, Teller, teller, object_parts, fields_done, rest_of_desc}
 
--- What the first cue asks where no field belongs to it: the first line of a section, with the name of its class (none:
+-- What the first cue asks where no token belongs to it: the first line of a section, with the name of its class (none:
 -- a proxy); the word before the type of a field, or the end of the line where there is no type; the handle of an
 -- object, array, enum constant or class object; or nothing that is said or kept.
 pub data Due : Type 0 where

@@ -1,4 +1,4 @@
-//! Frames: what is open while the fields go by, in few bytes.
+//! Frames: what is open while the tokens go by, in few bytes.
 ghost use Rattle.std.specs.Prelude.{◌≡◌};
 ghost use Rattle.jser_printer.specs.Frames.{go_on};
 

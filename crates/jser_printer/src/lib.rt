@@ -1,9 +1,8 @@
-//! The text of `show`, written along the fields of a stream.
+//! The text of `show`, written along the tokens of a stream.
 #![tactic(auto)]
 
 mod class;
 mod draft;
-mod field;
 mod frame;
 mod layer;
 mod name;
@@ -19,14 +18,15 @@ mod stack;
 mod standing;
 mod table;
 mod text;
+mod token;
 mod words;
 
-pub use field::Field;
 pub use name::Name;
 pub use opened::Open;
 pub use owner::OwnerNode;
 pub use printer::Printer;
 pub use text::Plain;
+pub use token::Token;
 pub use words::line::write;
 pub use words::number::{write_decimal, write_hex};
 pub use words::quote::{write_quoted, write_units};

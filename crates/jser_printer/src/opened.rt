@@ -46,8 +46,8 @@ pub enum Open<'w> {
 }
 
 impl Printer<'_> {
-    /// What is open, the outermost first. Where a printer has settled, that is what the next field belongs to, with the
-    /// field or element whose value it begins. Of an array of primitives it is the element 0, since all are one field.
+    /// What is open, the outermost first. Where a printer has settled, that is what the next token belongs to, with the
+    /// field or element whose value it begins. Of an array of primitives it is the element 0, since all are one token.
     ///
     /// The list takes memory for what is open and for nothing else.
     ///

@@ -1,6 +1,6 @@
 //! The printer: where it stands in a stream, in a phase before what is open.
 ghost use Rattle.std.specs.Prelude.{◌≡◌, Bool, Some, OnOk, OnErr};
-ghost use Rattle.jser_reading.specs.Labels.{StreamField, text_field};
+ghost use Rattle.jser_reading.specs.Labels.{StreamToken, text_token};
 ghost use Rattle.jser_shown.specs.Telling.{begin_telling, goes, says, settle_says, settled};
 ghost use Rattle.jser_printer.specs.Given.{IsOf, view_nodes};
 ghost use Rattle.jser_printer.specs.Passing.{MarksAre, says_next};
@@ -12,12 +12,12 @@ mod passing;
 mod taking;
 
 use crate::draft::Draft;
-use crate::field::Field;
 use crate::owner::OwnerNode;
 use crate::phase::Phase;
 use crate::seen::{Seen, see};
 use crate::standing::Standing;
 use crate::text::{Plain, Text};
+use crate::token::Token;
 use crate::words::number::write_mark_line;
 use crate::words::quote::write_plain_line;
 use crate::words::tag::Marks;
@@ -25,9 +25,9 @@ use jser_prim::{Outbox, Sink};
 use std::alloc::{AllocError, Global};
 use std::marker::Model;
 
-/// Goes along the fields of a stream, and writes what `show` says of them.
+/// Goes along the tokens of a stream, and writes what `show` says of them.
 ///
-/// It asks no field whether it is right: of other fields than those of a stream it writes something else, and never stops.
+/// It asks no token whether it is right: of other tokens than those of a stream it writes something else, and never stops.
 /// What it keeps is the table of handles of the epoch, with the names of classes and fields, and the stack of what is open.
 #[derive(Drop)]
 pub struct Printer<'a> {
@@ -46,7 +46,7 @@ impl<'a> Model for Printer<'a> {
 }
 
 impl<'a> Printer<'a> {
-    /// A printer that has gone along no field. Takes no memory.
+    /// A printer that has gone along no token. Takes no memory.
     ///
     /// `values` says whether raw values are followed by what they mean. `owners` are the nodes of all owners of the stream in
     /// the order of their tags.
@@ -60,7 +60,7 @@ impl<'a> Printer<'a> {
         }
     }
 
-    /// Writes all that is due before a field, and then the field, and goes past it: what the teller says of it, and where it
+    /// Writes all that is due before a token, and then the token, and goes past it: what the teller says of it, and where it
     /// goes.
     ///
     /// # Errors
@@ -71,15 +71,15 @@ impl<'a> Printer<'a> {
         &mut self,
         outbox: &mut Outbox,
         sink: &mut W,
-        field: Field<'_>,
+        token: Token<'_>,
     ) -> Result<(), AllocError>
-        ensures said { OnOk result ((told : StreamField) → IsOf field.entry told
+        ensures said { OnOk result ((told : StreamToken) → IsOf token.entry told
             → SaysTo W.gone_out W.has_failed outbox.old outbox.new sink.old sink.new (λ k. says_next self.old told k)) }
-        ensures goes { OnOk result ((told : StreamField) → IsOf field.entry told → self.new ≡ goes (settled self.old) told) }
-        ensures front { OnErr result ((told : StreamField) → IsOf field.entry told
+        ensures goes { OnOk result ((told : StreamToken) → IsOf token.entry told → self.new ≡ goes (settled self.old) told) }
+        ensures front { OnErr result ((told : StreamToken) → IsOf token.entry told
             → BeginsTo W.gone_out W.has_failed outbox.old outbox.new sink.old sink.new (λ k. says_next self.old told k)) }
     {
-        match see(field) {
+        match see(token) {
             Some(Seen::Handle(number)) => self.write_handle(outbox, sink, number),
             Some(seen) => self.write_seen(outbox, sink, seen),
             None => Ok(()),
@@ -95,10 +95,10 @@ impl<'a> Printer<'a> {
         sink: &mut W,
         number: usize,
     ) -> Result<(), AllocError>
-        ensures said { OnOk result ((told : StreamField) → Sees (Some (Seen.Handle number)) told
+        ensures said { OnOk result ((told : StreamToken) → Sees (Some (Seen.Handle number)) told
             → SaysTo W.gone_out W.has_failed outbox.old outbox.new sink.old sink.new (λ k. says_next self.old told k)) }
-        ensures goes { OnOk result ((told : StreamField) → Sees (Some (Seen.Handle number)) told → self.new ≡ goes (settled self.old) told) }
-        ensures front { OnErr result ((told : StreamField) → Sees (Some (Seen.Handle number)) told
+        ensures goes { OnOk result ((told : StreamToken) → Sees (Some (Seen.Handle number)) told → self.new ≡ goes (settled self.old) told) }
+        ensures front { OnErr result ((told : StreamToken) → Sees (Some (Seen.Handle number)) told
             → BeginsTo W.gone_out W.has_failed outbox.old outbox.new sink.old sink.new (λ k. says_next self.old told k)) }
     {
         // Nothing is due before the handle of a value or of a class.
@@ -131,10 +131,10 @@ impl<'a> Printer<'a> {
         plain: Plain<'_>,
     ) -> Result<(), AllocError>
         ensures said { OnOk result ((long : Bool)
-            → SaysTo W.gone_out W.has_failed outbox.old outbox.new sink.old sink.new (λ k. says_next self.old (text_field long plain.entry.bytes.now) k)) }
-        ensures goes { OnOk result ((long : Bool) → self.new ≡ goes (settled self.old) (text_field long plain.entry.bytes.now)) }
+            → SaysTo W.gone_out W.has_failed outbox.old outbox.new sink.old sink.new (λ k. says_next self.old (text_token long plain.entry.bytes.now) k)) }
+        ensures goes { OnOk result ((long : Bool) → self.new ≡ goes (settled self.old) (text_token long plain.entry.bytes.now)) }
         ensures front { OnErr result ((long : Bool)
-            → BeginsTo W.gone_out W.has_failed outbox.old outbox.new sink.old sink.new (λ k. says_next self.old (text_field long plain.entry.bytes.now) k)) }
+            → BeginsTo W.gone_out W.has_failed outbox.old outbox.new sink.old sink.new (λ k. says_next self.old (text_token long plain.entry.bytes.now) k)) }
     {
         if let Phase::Text = self.phase {
             // Nothing is due before the units of a string, and most texts are those.
@@ -145,7 +145,7 @@ impl<'a> Printer<'a> {
         self.write_seen(outbox, sink, Seen::Text(Text::Plain(plain)))
     }
 
-    /// Writes all that is due before the next field, and settles.
+    /// Writes all that is due before the next token, and settles.
     ///
     /// # Errors
     ///
@@ -164,7 +164,7 @@ impl<'a> Printer<'a> {
         Ok(())
     }
 
-    /// Writes what is seen of a field, with all that is due before it.
+    /// Writes what is seen of a token, with all that is due before it.
     #[inline(never)]
     fn write_seen<W: Sink>(
         &mut self,
@@ -172,17 +172,17 @@ impl<'a> Printer<'a> {
         sink: &mut W,
         seen: Seen<'_>,
     ) -> Result<(), AllocError>
-        ensures said { OnOk result ((told : StreamField) → Sees (Some seen.entry) told
+        ensures said { OnOk result ((told : StreamToken) → Sees (Some seen.entry) told
             → SaysTo W.gone_out W.has_failed outbox.old outbox.new sink.old sink.new (λ k. says_next self.old told k)) }
-        ensures goes { OnOk result ((told : StreamField) → Sees (Some seen.entry) told → self.new ≡ goes (settled self.old) told) }
-        ensures front { OnErr result ((told : StreamField) → Sees (Some seen.entry) told
+        ensures goes { OnOk result ((told : StreamToken) → Sees (Some seen.entry) told → self.new ≡ goes (settled self.old) told) }
+        ensures front { OnErr result ((told : StreamToken) → Sees (Some seen.entry) told
             → BeginsTo W.gone_out W.has_failed outbox.old outbox.new sink.old sink.new (λ k. says_next self.old told k)) }
     {
         self.write_all_due(outbox, sink)?;
         self.write_settled(outbox, sink, seen)
     }
 
-    /// Writes what is seen of a field, where nothing is due.
+    /// Writes what is seen of a token, where nothing is due.
     #[tactic(auto, using(crate::proofs::WalkLemmas::goes_seen))]
     #[inline(always)]
     fn write_settled<W: Sink>(
@@ -191,9 +191,9 @@ impl<'a> Printer<'a> {
         sink: &mut W,
         seen: Seen<'_>,
     ) -> Result<(), AllocError>
-        ensures said { (told : StreamField) → Sees (Some seen.entry) told
+        ensures said { (told : StreamToken) → Sees (Some seen.entry) told
             → SaysTo W.gone_out W.has_failed outbox.old outbox.new sink.old sink.new (λ k. says self.old told k) }
-        ensures goes { OnOk result ((told : StreamField) → Sees (Some seen.entry) told → self.new ≡ goes self.old told) }
+        ensures goes { OnOk result ((told : StreamToken) → Sees (Some seen.entry) told → self.new ≡ goes self.old told) }
     {
         let marks = self.marks();
         self.write_here(outbox, sink, marks, seen)

@@ -1,12 +1,12 @@
-//! What a printer sees of a field: tags by name, texts in either form alike, and so with raw values and the bytes of
+//! What a printer sees of a token: tags by name, texts in either form alike, and so with raw values and the bytes of
 //! blocks.
-ghost use Rattle.jser_reading.specs.Labels.{StreamField};
+ghost use Rattle.jser_reading.specs.Labels.{StreamToken};
 ghost use Rattle.jser_printer.specs.Given.{IsOf};
 ghost use Rattle.jser_printer.specs.Seen.{Sees, tag_seen, view_seen};
 ghost use Rattle.std.specs.Prelude.{◌≡◌, option_map};
 
-use crate::field::Field;
 use crate::text::Text;
+use crate::token::Token;
 use jser_grammar::wire::{
     BASE_WIRE_HANDLE, TC_ARRAY, TC_BLOCKDATA, TC_BLOCKDATALONG, TC_CLASS, TC_CLASSDESC,
     TC_ENDBLOCKDATA, TC_ENUM, TC_LONGSTRING, TC_NULL, TC_OBJECT, TC_PROXYCLASSDESC, TC_REFERENCE,
@@ -38,7 +38,7 @@ pub(crate) enum Tag {
     Enum,
 }
 
-/// What is seen of a field.
+/// What is seen of a token.
 #[derive(Clone, Copy)]
 pub(crate) enum Seen<'f> {
     /// The header.
@@ -73,28 +73,28 @@ pub(crate) enum Seen<'f> {
     Bytes(&'f [u8]),
 }
 
-/// What is seen of a field; None of one that no stream has.
+/// What is seen of a token; None of one that no stream has.
 #[tactic(auto, using(crate::proofs::SeenLemmas::sees_tag))]
 #[inline(always)]
-pub(crate) fn see(field: Field<'_>) -> Option<Seen<'_>>
-    ensures { (told : StreamField) → IsOf field.entry told → Sees result told }
+pub(crate) fn see(token: Token<'_>) -> Option<Seen<'_>>
+    ensures { (told : StreamToken) → IsOf token.entry told → Sees result told }
 {
-    match field {
-        Field::Header => Some(Seen::Header),
-        Field::Tag(byte) => see_tag(byte),
-        Field::Handle(handle) => match handle.checked_sub(BASE_WIRE_HANDLE) {
+    match token {
+        Token::Header => Some(Seen::Header),
+        Token::Tag(byte) => see_tag(byte),
+        Token::Handle(handle) => match handle.checked_sub(BASE_WIRE_HANDLE) {
             Some(number) => Some(Seen::Handle(number as usize)),
             None => None,
         },
-        Field::Suid(suid) => Some(Seen::Suid(suid)),
-        Field::Flags(flags) => Some(Seen::Flags(flags)),
-        Field::FieldCount(count) => Some(Seen::FieldCount(count)),
-        Field::InterfaceCount(count) => Some(Seen::InterfaceCount(count)),
-        Field::ArrayLength(length) => Some(Seen::ArrayLength(length)),
-        Field::TypeCode(code) => Some(Seen::TypeCode(code)),
-        Field::BlockLength(length) => Some(Seen::BlockLength(length)),
-        Field::Text(units) => Some(Seen::Text(Text::Units(units))),
-        Field::Raw(bytes) => Some(Seen::Bytes(bytes)),
+        Token::Suid(suid) => Some(Seen::Suid(suid)),
+        Token::Flags(flags) => Some(Seen::Flags(flags)),
+        Token::FieldCount(count) => Some(Seen::FieldCount(count)),
+        Token::InterfaceCount(count) => Some(Seen::InterfaceCount(count)),
+        Token::ArrayLength(length) => Some(Seen::ArrayLength(length)),
+        Token::TypeCode(code) => Some(Seen::TypeCode(code)),
+        Token::BlockLength(length) => Some(Seen::BlockLength(length)),
+        Token::Text(units) => Some(Seen::Text(Text::Units(units))),
+        Token::Raw(bytes) => Some(Seen::Bytes(bytes)),
     }
 }
 

@@ -8,8 +8,8 @@ use Rattle.jser_table.specs.Chains.{chain_in}
 use Rattle.jser_table.specs.Entries.{TableEntry, text_entry, other_entry, pending_entry, closed_entry, is_pending, chain_at, chain_of}
 use Rattle.jser_table.specs.Tables.{IsClass}
 use Rattle.jser_reading.specs.Labels.{class_place_at, class_handle_at}
-use Rattle.jser_reading.specs.FieldBytes.{tag_byte}
-use Rattle.jser_reading.specs.FieldsFromBytes.{tag_from}
+use Rattle.jser_reading.specs.TokenBytes.{tag_byte}
+use Rattle.jser_reading.specs.TokensFromBytes.{tag_from}
 use Rattle.jser_reading.specs.Goals.{State}
 use Rattle.jser_reading.specs.Roles.{object_owner, array_owner, enum_owner, class_owner}
 use Rattle.jser_reading.specs.Roles.{Owner as GoalOwner}

@@ -2,7 +2,7 @@
 use Rattle.std.proofs.Common.{◌≡◌, ℕ, ◌+◌, ◌<◌, ◌≤◌, Bool, true, false, List, ◌++◌, length, take, refl, sym, ◌∙◌, ap, subst, arith, length-append}
 use Rattle.std.proofs.lemmas.List.{length-take-le}
 use Rattle.jser_prim.specs.Bytes.{big_bytes}
-use Rattle.jser_reading.specs.FieldsFromBytes.{head_size}
+use Rattle.jser_reading.specs.TokensFromBytes.{head_size}
 use Rattle.jser_reading.proofs.Decoding.{length-big_bytes}
 use Rattle.jser_verdict.specs.Gates.{Gate}
 use Rattle.jser_reader.specs.declared.machine.take.taken.Taken.{Taken}
@@ -11,14 +11,14 @@ use Rattle.jser_reader.specs.declared.phase.Phase.{Phase}
 use Rattle.jser_reader.specs.declared.phase.Phase.TheVariants as phase
 use Rattle.jser_reader.specs.Readers.{Seen, length_phase}
 use Rattle.jser_reader.specs.Walks.{size_of_phase, open_phase, cut_of, Keeps}
-use Rattle.jser_reader.specs.Cuts.{IsFour, CanBeCut, IsCutField}
+use Rattle.jser_reader.specs.Cuts.{IsFour, CanBeCut, IsCutToken}
 use Rattle.jser_reader.specs.Takes.{TakesNumber, CutsOff, IsWholeLength, TakesNumberFor, TakesFromFor, TakesFrom, taken_by}
 use Rattle.jser_reader.proofs.PhaseLemmas.{IsFixed, whole_open, cut_open}
 use Rattle.jser_reader.proofs.FixedWalks.{number_kept}
 use Rattle.jser_reader.proofs.TakeLemmas.{taken_so_far}
 use Rattle.jser_reader.proofs.TextSteps.{size_of_length, length_kept}
 
-pub cuts_off : (piece : List ℕ) (old new : Seen) → IsCutField old.phase piece
+pub cuts_off : (piece : List ℕ) (old new : Seen) → IsCutToken old.phase piece
     → new.phase ≡ phase.Cut → new.meter.cut_phase ≡ old.phase → new.meter.kept ≡ piece
     → new.meter.at ≡ old.meter.at + length piece → new.meter.from ≡ old.meter.from → new.meter.limits ≡ old.meter.limits
     → new.frames ≡ old.frames → new.layers ≡ old.layers → new.table ≡ old.table → new.refs ≡ old.refs → new.owner ≡ old.owner

@@ -1,4 +1,4 @@
--- How many frames are open while a field is read, by the depth in its label.
+-- How many frames are open while a token is read, by the depth in its label.
 use Rattle.std.proofs.Common.{◌≡◌, ℕ, suc, ◌≤◌, Bool, true, false, List, [], ◌∷◌, length, refl, sym, ◌∙◌, ap, subst, arith}
 use Rattle.jser_reading.specs.Goals.{Goal, State}
 use Rattle.jser_reading.specs.Accepts.{label_of}
@@ -66,7 +66,7 @@ fixed_fits _ r s i h = one_fewer (length r.frames)
 fixed_at : (p : Phase) (r : Seen) (s : State) → IsFixed p → ReadyAt p r s → FitsDepth (length r.frames) (label_of s).depth
 fixed_at p r s i h = subst (FitsDepth (length r.frames)) (sym (ap (λ l. l.depth) (label_is p r s i h))) (fixed_fits p r s i h)
 
--- ---- every field
+-- ---- every token
 
 ready_fits : (p : Phase) (r : Seen) (s : State) → ReadyAt p r s → FitsDepth (length r.frames) (label_of s).depth
 ready_fits phase.Length2 r s h = text_at r s false h.1

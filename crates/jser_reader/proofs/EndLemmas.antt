@@ -1,4 +1,4 @@
--- How the handler of a field ends.
+-- How the handler of a token ends.
 use Rattle.std.proofs.Common.{◌≡◌, ℕ, Bool, true, false, Option, Some, None, refl, ◌∙◌, ap, subst}
 use Rattle.jser_reading.specs.Goals.{State}
 use Rattle.jser_verdict.specs.Reasons.{Reason}
@@ -20,7 +20,7 @@ pub ends : (old mid new : Seen) → Ready new (after_value mid) → Kept mid new
 ends old mid new h k em en ef ey et er =
     record { ready = subst (Ready new) (same_value old mid ef ey et er) h; meter = em ∙ en; max = ap (λ t. t.max) (k.table ∙ et) }
 
--- what is seen where this field comes next
+-- what is seen where this token comes next
 pub next_is : (p : Phase) (o : Owner) (chain : Option ℕ) (h : Header) (t : TextFor) (old new : Seen) → IsNext p o chain h t old new
     → new ≡ record { meter = moved old.meter; phase = p; frames = old.frames; layers = old.layers; table = old.table; refs = old.refs; owner = o; elements = chain; header = h; text = t; left = new.left; scan = new.scan; name = new.name }
 next_is p o chain h t old new n =

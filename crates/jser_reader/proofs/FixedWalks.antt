@@ -1,7 +1,7 @@
 -- A tag, a number or the header, whole or cut, and the walk over its bytes.
 use Rattle.std.proofs.Common.{◌≡◌, ℕ, ◌+◌, ◌<◌, ◌≤◌, Bool, false, List, [], ◌∷◌, ◌++◌, length, Option, None, refl, sym, ◌∙◌, ap, subst, arith, length-append, append-nil, inl, inr}
-use Rattle.jser_reading.specs.Labels.{header_field, Label}
-use Rattle.jser_reading.specs.FieldsFromBytes.{size_in, field_in}
+use Rattle.jser_reading.specs.Labels.{header_token, Label}
+use Rattle.jser_reading.specs.TokensFromBytes.{size_in, token_in}
 use Rattle.jser_reading.specs.Goals.{top_goal, State, settled}
 use Rattle.jser_reading.specs.Accepts.{label_of}
 use Rattle.jser_reading.specs.Machine.{advance}
@@ -35,7 +35,7 @@ fixed_some _ i = omega arith
 pub limits_counted : (gate : Gate) (bytes : List ℕ) (old mid : Seen) → Counts bytes old mid → gate_with old gate.answer ≡ gate → gate_with mid gate.answer ≡ gate
 limits_counted gate bytes old mid c e = same_limits old mid gate.answer c.limits (ap (λ t. t.max) c.table) ∙ e
 
--- what the verdict tells of these bytes at this state, and where their field leads
+-- what the verdict tells of these bytes at this state, and where their token leads
 pub record IsJudged (gate : Gate) (told : Option Reason) (next s : State) (bytes : List ℕ) : Type 0 where
   pub reason : reason_at gate (label_of s) (label_of s).position bytes ≡ told
   pub leads : told ≡ None → LeadsTo s bytes next
@@ -163,7 +163,7 @@ plain_reason gate p r l bytes i e = ap (λ g. reason_at g l (phase_position p r)
     go phase.Cut i = absurd i
     go phase.Stopped i = absurd i
 
--- the reason at the field that the phase is, by the limits of the machine
+-- the reason at the token that the phase is, by the limits of the machine
 pub phase_reason : (gate : Gate) (p : Phase) (r : Seen) (s : State) (bytes : List ℕ) → IsFixed p → ReadyAt p r s → gate_with r gate.answer ≡ gate
     → reason_at gate (label_of s) (label_of s).position bytes
     ≡ reason_at (plain_gate r) (label_at (phase_position p r) (phase_depth p r) r) (phase_position p r) bytes
@@ -199,13 +199,13 @@ header_judged gate r s bytes h whole = record {
   reason = ap (λ l. reason_at gate l l.position bytes) (label_is phase.Header r s tt h);
   leads =
       λ k. record {
-        field = header_field;
+        token = header_token;
         enough =
             let size : size_in (label_of s).position bytes ≡ 4 = ap (λ l. size_in l.position bytes) (label_is phase.Header r s tt h) in
             let n = whole k in
             omega arith;
-        found = ap (λ l. field_in l.position bytes) (label_is phase.Header r s tt h);
-        goes = ap (λ t. settled (advance t header_field)) h.1;
+        found = ap (λ l. token_in l.position bytes) (label_is phase.Header r s tt h);
+        goes = ap (λ t. settled (advance t header_token)) h.1;
       };
 }
 

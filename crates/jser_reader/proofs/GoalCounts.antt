@@ -1,7 +1,7 @@
--- What one field adds to the table and to the number of places, told by its position. A handle that is owed to an owner
+-- What one token adds to the table and to the number of places, told by its position. A handle that is owed to an owner
 -- is assigned when its class has been read, so the goals below a class or a superclass place tell whether one is owed.
 use Rattle.std.proofs.Common.{◌≡◌, ℕ, zero, suc, ◌+◌, Bool, true, false, ◌||◌, is_some, List, [], ◌∷◌, ◌++◌, length, Some, None, refl, sym, ◌∙◌, ap, ap₂, arith}
-use Rattle.jser_reading.proofs.Vocabulary.{text_entry, other_entry, pending_entry, chain_at, Layer, is_object_code, is_external, Entries, Owner, object_owner, array_owner, enum_owner, class_owner, ChainOwner, owner_of, Moment, tick, assign, closing, Tag, null_tag, reference_tag, class_desc_tag, object_tag, string_tag, array_tag, class_tag, long_string_tag, proxy_desc_tag, enum_tag, StreamField, header_field, tag_field, block_tag_field, end_tag_field, reset_tag_field, handle_field, suid_field, flags_field, field_count_field, interface_count_field, array_length_field, code_field, text_field, block_length_field, prims_field, bytes_field, Position, top_at, annotation_at, value_at, text_place_at, class_place_at, superclass_place_at, superclass_handle_at, Label, Piece, piece, Part, raw_part, value_part, annotation_part, Goal, header_goal, top_goal, annotation_goal, back_handle_goal, text_place_goal, text_handle_goal, field_name_goal, string_goal, block_length_goal, block_goal, array_length_goal, parts_goal, class_goal, class_handle_goal, made_goal, superclass_goal, superclass_handle_goal, close_goal, class_name_goal, suid_goal, flags_goal, field_count_goal, fields_goal, interface_count_goal, interfaces_goal, State, object_parts, settle_parts, settle, settled, position_of, label_of, AcceptsAt, Accepts, begin, type_goals, advance_at, advance, begin_state, Runs, left}
+use Rattle.jser_reading.proofs.Vocabulary.{text_entry, other_entry, pending_entry, chain_at, Layer, is_object_code, is_external, Entries, Owner, object_owner, array_owner, enum_owner, class_owner, ChainOwner, owner_of, Moment, tick, assign, closing, Tag, null_tag, reference_tag, class_desc_tag, object_tag, string_tag, array_tag, class_tag, long_string_tag, proxy_desc_tag, enum_tag, StreamToken, header_token, tag_token, block_tag_token, end_tag_token, reset_tag_token, handle_token, suid_token, flags_token, field_count_token, interface_count_token, array_length_token, code_token, text_token, block_length_token, prims_token, bytes_token, Position, top_at, annotation_at, value_at, text_place_at, class_place_at, superclass_place_at, superclass_handle_at, Label, Piece, piece, Part, raw_part, value_part, annotation_part, Goal, header_goal, top_goal, annotation_goal, back_handle_goal, text_place_goal, text_handle_goal, field_name_goal, string_goal, block_length_goal, block_goal, array_length_goal, parts_goal, class_goal, class_handle_goal, made_goal, superclass_goal, superclass_handle_goal, close_goal, class_name_goal, suid_goal, flags_goal, field_count_goal, fields_goal, interface_count_goal, interfaces_goal, State, object_parts, settle_parts, settle, settled, position_of, label_of, AcceptsAt, Accepts, begin, type_goals, advance_at, advance, begin_state, Runs, left}
 use Rattle.jser_reading.specs.GateLimits.{begins_place, assigns_handle}
 use Rattle.jser_reading.specs.Totals.{one_more_if, count_of}
 use Rattle.jser_grammar.proofs.TableLemmas.{length-add, length-close}
@@ -32,7 +32,7 @@ abbrev pub Orderly : List Goal → Type 0
 Orderly [] = Unit {0}
 Orderly (goal ∷ goals) = Below goal (makes goals) × Orderly goals
 
--- ---- goals that take no field
+-- ---- goals that take no token
 
 -- so many places went by, the table has so many entries, and the goals are in order
 abbrev pub Has : State → (places entries : ℕ) → Type 0
@@ -81,12 +81,12 @@ settles (interfaces_goal role d number zero ∷ gs) m o = (refl, refl, (refl, o)
 settles (interfaces_goal role d number (suc n) ∷ gs) m o = (refl, refl, o)
 settles (g ∷ gs) m o = (refl, refl, o)
 
--- ---- one field
+-- ---- one token
 
--- how many entries there are after this field
-abbrev pub entries_after : Position → StreamField → ℕ → ℕ
-entries_after position reset_tag_field n = 0
-entries_after position field n = one_more_if (assigns_handle position field) n
+-- how many entries there are after this token
+abbrev pub entries_after : Position → StreamToken → ℕ → ℕ
+entries_after position reset_tag_token n = 0
+entries_after position token n = one_more_if (assigns_handle position token) n
 
 -- `Has`, of a state that is not settled
 abbrev Leads : State → (places entries : ℕ) → Type 0
@@ -94,9 +94,9 @@ Leads s places entries = (s.0.places ≡ places) × (one_more_if (makes s.1) (le
 
 -- the tag of a value assigns a handle
 abbrev by_tag : Tag → Bool
-by_tag tag = assigns_handle value_at (tag_field tag)
+by_tag tag = assigns_handle value_at (tag_token tag)
 
-by_content_tag : (tag : Tag) → (by_tag tag ≡ assigns_handle top_at (tag_field tag)) × (by_tag tag ≡ assigns_handle annotation_at (tag_field tag))
+by_content_tag : (tag : Tag) → (by_tag tag ≡ assigns_handle top_at (tag_token tag)) × (by_tag tag ≡ assigns_handle annotation_at (tag_token tag))
 by_content_tag null_tag = (refl, refl)
 by_content_tag reference_tag = (refl, refl)
 by_content_tag class_desc_tag = (refl, refl)
@@ -127,28 +127,28 @@ leads_value enum_tag d m gs e o = (refl, refl, (e, o))
 leads_content : (tag : Tag) (b : Bool) (s : State) (p n : ℕ) → by_tag tag ≡ b → Leads s p (one_more_if (by_tag tag) n) → Leads s p (one_more_if b n)
 leads_content tag b s p n e h = (h.0, h.1 ∙ ap (λ b. one_more_if b n) e, h.2)
 
--- what stands at this goal, and the field is taken there
-abbrev Taken : Moment → Goal → List Goal → StreamField → Type 0
+-- what stands at this goal, and the token is taken there
+abbrev Taken : Moment → Goal → List Goal → StreamToken → Type 0
 Taken m g gs f =
     Leads (advance_at m g gs f) (one_more_if (begins_place (position_of g) f) m.places) (entries_after (position_of g) f (length m.table))
 
 leads_text : (tag : Tag) (d : ℕ) (m : Moment) (gs : List Goal) → Orderly (text_place_goal d ∷ gs)
-    → AcceptsAt text_place_at m (tag_field tag) → Taken m (text_place_goal d) gs (tag_field tag)
+    → AcceptsAt text_place_at m (tag_token tag) → Taken m (text_place_goal d) gs (tag_token tag)
 leads_text reference_tag d m gs o a = (refl, refl, o)
 leads_text string_tag d m gs o a = (refl, length-add m.table text_entry, o)
 leads_text long_string_tag d m gs o a = (refl, length-add m.table text_entry, o)
 leads_text _ d m gs o a = absurd a
 
 leads_class : (tag : Tag) (owner : Owner) (d : ℕ) (m : Moment) (gs : List Goal) → Orderly (class_goal owner d ∷ gs)
-    → AcceptsAt (class_place_at owner) m (tag_field tag) → Taken m (class_goal owner d) gs (tag_field tag)
+    → AcceptsAt (class_place_at owner) m (tag_token tag) → Taken m (class_goal owner d) gs (tag_token tag)
 leads_class reference_tag owner d m gs o a = (refl, refl, o)
 leads_class class_desc_tag owner d m gs o a = (refl, refl, (refl, o))
 leads_class proxy_desc_tag owner d m gs o a = (refl, length-add m.table pending_entry, (refl, o))
 leads_class _ owner d m gs o a = absurd a
 
 leads_superclass : (tag : Tag) (owner : ChainOwner) (strict : Bool) (d number : ℕ) (l : Layer) (m : Moment) (gs : List Goal)
-    → Orderly (superclass_goal owner strict d number l ∷ gs) → AcceptsAt (superclass_place_at owner strict) m (tag_field tag)
-    → Taken m (superclass_goal owner strict d number l) gs (tag_field tag)
+    → Orderly (superclass_goal owner strict d number l ∷ gs) → AcceptsAt (superclass_place_at owner strict) m (tag_token tag)
+    → Taken m (superclass_goal owner strict d number l) gs (tag_token tag)
 leads_superclass null_tag None strict d number l m gs o a =
     (refl, none_made (makes gs) (length (closing (tick m) number (l ∷ [])).table) o.0 ∙ length-close m.table number (l ∷ []), o.1)
 leads_superclass null_tag (Some owner) strict d number l m gs o a =
@@ -163,7 +163,7 @@ leads_superclass _ owner strict d number l m gs o a = absurd a
 
 leads_superclass_handle : (owner : ChainOwner) (n : ℕ) (strict : Bool) (d number : ℕ) (l : Layer) (m : Moment) (gs : List Goal)
     → Orderly (superclass_handle_goal owner strict d number l ∷ gs)
-    → Taken m (superclass_handle_goal owner strict d number l) gs (handle_field n)
+    → Taken m (superclass_handle_goal owner strict d number l) gs (handle_token n)
 leads_superclass_handle None n strict d number l m gs o = (refl, none_made (makes gs) (length m.table) o.0, (tt, o.1))
 leads_superclass_handle (Some owner) n strict d number l m gs o = (refl, ap (λ b. one_more_if b (length m.table)) o.0, (tt, o.1))
 
@@ -172,40 +172,40 @@ leads_type : (object : Bool) (d : ℕ) (m : Moment) (fields : Goal) (gs : List G
 leads_type true d m fields gs e o = (refl, refl, (refl, (e, o)))
 leads_type false d m fields gs e o = (refl, refl, (e, o))
 
-leads : (g : Goal) (f : StreamField) (m : Moment) (gs : List Goal) → Orderly (g ∷ gs) → AcceptsAt (position_of g) m f → Taken m g gs f
-leads header_goal header_field m gs o a = (refl, none_made (makes gs) (length m.table) o.0, o.1)
-leads top_goal (tag_field tag) m gs o a =
-    leads_content tag (assigns_handle top_at (tag_field tag)) (begin 1 m tag (top_goal ∷ gs)) (suc m.places) (length m.table) (by_content_tag tag).0
+leads : (g : Goal) (f : StreamToken) (m : Moment) (gs : List Goal) → Orderly (g ∷ gs) → AcceptsAt (position_of g) m f → Taken m g gs f
+leads header_goal header_token m gs o a = (refl, none_made (makes gs) (length m.table) o.0, o.1)
+leads top_goal (tag_token tag) m gs o a =
+    leads_content tag (assigns_handle top_at (tag_token tag)) (begin 1 m tag (top_goal ∷ gs)) (suc m.places) (length m.table) (by_content_tag tag).0
     (leads_value tag 1 m (top_goal ∷ gs) refl o)
-leads top_goal (block_tag_field long) m gs o a = (refl, refl, (refl, o))
-leads top_goal reset_tag_field m gs o a = (refl, refl, o)
-leads (annotation_goal d) (tag_field tag) m gs o a =
-    leads_content tag (assigns_handle annotation_at (tag_field tag)) (begin (suc d) m tag (annotation_goal d ∷ gs)) (suc m.places) (length m.table) (by_content_tag tag).1
+leads top_goal (block_tag_token long) m gs o a = (refl, refl, (refl, o))
+leads top_goal reset_tag_token m gs o a = (refl, refl, o)
+leads (annotation_goal d) (tag_token tag) m gs o a =
+    leads_content tag (assigns_handle annotation_at (tag_token tag)) (begin (suc d) m tag (annotation_goal d ∷ gs)) (suc m.places) (length m.table) (by_content_tag tag).1
     (leads_value tag (suc d) m (annotation_goal d ∷ gs) refl o)
-leads (annotation_goal d) (block_tag_field long) m gs o a = (refl, refl, (refl, o))
-leads (annotation_goal d) end_tag_field m gs o a = (refl, none_made (makes gs) (length m.table) o.0, o.1)
-leads (parts_goal d (value_part ∷ parts)) (tag_field tag) m gs o a = leads_value tag (suc d) m (parts_goal d parts ∷ gs) refl o
-leads (parts_goal d (raw_part c (suc n) ∷ parts)) (prims_field ps) m gs o a = (refl, refl, o)
-leads (block_length_goal long d) (block_length_field long' n) m gs o a = (refl, refl, o)
-leads (block_goal d (suc n)) (bytes_field b) m gs o a = (refl, none_made (makes gs) (length m.table) o.0, o.1)
-leads (text_place_goal d) (tag_field tag) m gs o a = leads_text tag d m gs o a
-leads (class_goal owner d) (tag_field tag) m gs o a = leads_class tag owner d m gs o a
-leads (superclass_goal owner strict d number l) (tag_field tag) m gs o a = leads_superclass tag owner strict d number l m gs o a
-leads (superclass_handle_goal owner strict d number l) (handle_field n) m gs o a = leads_superclass_handle owner n strict d number l m gs o
-leads (fields_goal role d number kind flags seen codes (suc n)) (code_field c) m gs o a =
+leads (annotation_goal d) (block_tag_token long) m gs o a = (refl, refl, (refl, o))
+leads (annotation_goal d) end_tag_token m gs o a = (refl, none_made (makes gs) (length m.table) o.0, o.1)
+leads (parts_goal d (value_part ∷ parts)) (tag_token tag) m gs o a = leads_value tag (suc d) m (parts_goal d parts ∷ gs) refl o
+leads (parts_goal d (raw_part c (suc n) ∷ parts)) (prims_token ps) m gs o a = (refl, refl, o)
+leads (block_length_goal long d) (block_length_token long' n) m gs o a = (refl, refl, o)
+leads (block_goal d (suc n)) (bytes_token b) m gs o a = (refl, none_made (makes gs) (length m.table) o.0, o.1)
+leads (text_place_goal d) (tag_token tag) m gs o a = leads_text tag d m gs o a
+leads (class_goal owner d) (tag_token tag) m gs o a = leads_class tag owner d m gs o a
+leads (superclass_goal owner strict d number l) (tag_token tag) m gs o a = leads_superclass tag owner strict d number l m gs o a
+leads (superclass_handle_goal owner strict d number l) (handle_token n) m gs o a = leads_superclass_handle owner n strict d number l m gs o
+leads (fields_goal role d number kind flags seen codes (suc n)) (code_token c) m gs o a =
     leads_type (is_object_code c) d m (fields_goal role d number kind flags (seen || is_object_code c) (c ∷ codes) n) gs refl o
-leads (interfaces_goal role d number (suc n)) (text_field long u) m gs o a = (refl, refl, o)
-leads (back_handle_goal d) (handle_field n) m gs o a = (refl, none_made (makes gs) (length m.table) o.0, o.1)
-leads (text_handle_goal d) (handle_field n) m gs o a = (refl, none_made (makes gs) (length m.table) o.0, o.1)
-leads (class_handle_goal owner d) (handle_field n) m gs o a = (refl, refl, o)
-leads (string_goal long d) (text_field long' u) m gs o a = (refl, none_made (makes gs) (length m.table) o.0, o.1)
-leads (field_name_goal d) (text_field long u) m gs o a = (refl, none_made (makes gs) (length m.table) o.0, o.1)
-leads (array_length_goal elements d) (array_length_field n) m gs o a = (refl, refl, o)
-leads (class_name_goal role d) (text_field long u) m gs o a = (refl, refl, o)
-leads (suid_goal role d kind) (suid_field n) m gs o a = (refl, length-add m.table pending_entry, o)
-leads (flags_goal role d number kind) (flags_field f) m gs o a = (refl, refl, o)
-leads (field_count_goal role d number kind flags) (field_count_field n) m gs o a = (refl, refl, o)
-leads (interface_count_goal role d number) (interface_count_field n) m gs o a = (refl, refl, o)
+leads (interfaces_goal role d number (suc n)) (text_token long u) m gs o a = (refl, refl, o)
+leads (back_handle_goal d) (handle_token n) m gs o a = (refl, none_made (makes gs) (length m.table) o.0, o.1)
+leads (text_handle_goal d) (handle_token n) m gs o a = (refl, none_made (makes gs) (length m.table) o.0, o.1)
+leads (class_handle_goal owner d) (handle_token n) m gs o a = (refl, refl, o)
+leads (string_goal long d) (text_token long' u) m gs o a = (refl, none_made (makes gs) (length m.table) o.0, o.1)
+leads (field_name_goal d) (text_token long u) m gs o a = (refl, none_made (makes gs) (length m.table) o.0, o.1)
+leads (array_length_goal elements d) (array_length_token n) m gs o a = (refl, refl, o)
+leads (class_name_goal role d) (text_token long u) m gs o a = (refl, refl, o)
+leads (suid_goal role d kind) (suid_token n) m gs o a = (refl, length-add m.table pending_entry, o)
+leads (flags_goal role d number kind) (flags_token f) m gs o a = (refl, refl, o)
+leads (field_count_goal role d number kind flags) (field_count_token n) m gs o a = (refl, refl, o)
+leads (interface_count_goal role d number) (interface_count_token n) m gs o a = (refl, refl, o)
 leads (string_goal true d) _ m gs o a = absurd a
 leads (block_length_goal true d) _ m gs o a = absurd a
 leads _ _ m gs o a = absurd a
@@ -213,16 +213,16 @@ leads _ _ m gs o a = absurd a
 settled_leads : (s : State) (places entries : ℕ) → Leads s places entries → Has (settled s) places entries
 settled_leads (m, gs) places entries h = let k = settles gs m h.2 in (k.0 ∙ h.0, k.1 ∙ h.1, k.2)
 
--- a field that is taken adds a place where its label begins one, and an entry where it assigns a handle
-pub one_field : (s : State) (f : StreamField) → Orderly s.1 → Accepts (label_of s) f
+-- a token that is taken adds a place where its label begins one, and an entry where it assigns a handle
+pub one_token : (s : State) (f : StreamToken) → Orderly s.1 → Accepts (label_of s) f
     → Has (settled (advance s f)) (one_more_if (begins_place (label_of s).position f) s.0.places)
     (entries_after (label_of s).position f (length s.0.table))
-one_field (m, []) f o a = absurd a
-one_field (m, g ∷ gs) f o a =
+one_token (m, []) f o a = absurd a
+one_token (m, g ∷ gs) f o a =
     settled_leads (advance_at m g gs f) (one_more_if (begins_place (position_of g) f) m.places) (entries_after (position_of g) f (length m.table))
     (leads g f m gs o a)
 
--- ---- all fields
+-- ---- all tokens
 
 pub label_moment : (s : State) → (label_of s).moment ≡ s.0
 label_moment (m, []) = refl
@@ -232,57 +232,57 @@ one_more_in : (b : Bool) (n k : ℕ) → one_more_if b n + k ≡ n + one_more_if
 one_more_in true n k = omega arith
 one_more_in false n k = refl
 
-reset_assigns_none : (position : Position) → assigns_handle position reset_tag_field ≡ false
+reset_assigns_none : (position : Position) → assigns_handle position reset_tag_token ≡ false
 reset_assigns_none (superclass_place_at None strict) = refl
 reset_assigns_none (superclass_place_at (Some owner) strict) = refl
 reset_assigns_none (superclass_handle_at None strict) = refl
 reset_assigns_none (superclass_handle_at (Some owner) strict) = refl
 reset_assigns_none _ = refl
 
-entries_in : (f : StreamField) (position : Position) (T : Entries) (k : ℕ)
+entries_in : (f : StreamToken) (position : Position) (T : Entries) (k : ℕ)
     → ended_by f T + (entries_after position f (length T) + k) ≡ length T + one_more_if (assigns_handle position f) k
-entries_in reset_tag_field position T k = let e : one_more_if (assigns_handle position reset_tag_field) k ≡ k = ap (λ b. one_more_if b k) (reset_assigns_none position) in omega arith
+entries_in reset_tag_token position T k = let e : one_more_if (assigns_handle position reset_tag_token) k ≡ k = ap (λ b. one_more_if b k) (reset_assigns_none position) in omega arith
 entries_in f position T k = let e = one_more_in (assigns_handle position f) (length T) k in omega arith
 
--- Along fields that the machine takes from s on to t one counts the places and the handles by which t differs from s.
-pub record CountedTo (s t : State) (fields : List Piece) : Type 0 where
-  pub places : t.0.places ≡ s.0.places + count_of begins_place fields
-  pub handles : earlier_handles fields + length t.0.table ≡ length s.0.table + count_of assigns_handle fields
+-- Along tokens that the machine takes from s on to t one counts the places and the handles by which t differs from s.
+pub record CountedTo (s t : State) (tokens : List Piece) : Type 0 where
+  pub places : t.0.places ≡ s.0.places + count_of begins_place tokens
+  pub handles : earlier_handles tokens + length t.0.table ≡ length s.0.table + count_of assigns_handle tokens
   pub orderly : Orderly t.1
 
-counted_on : (f : StreamField) (l : Label) (s t u : State) (fields : List Piece) → l ≡ label_of s
+counted_on : (f : StreamToken) (l : Label) (s t u : State) (tokens : List Piece) → l ≡ label_of s
     → Has t (one_more_if (begins_place (label_of s).position f) s.0.places) (entries_after (label_of s).position f (length s.0.table))
-    → CountedTo t u fields → CountedTo s u (piece l f ∷ fields)
-counted_on f l s t u fields e h c =
+    → CountedTo t u tokens → CountedTo s u (piece l f ∷ tokens)
+counted_on f l s t u tokens e h c =
     let place : begins_place (label_of s).position f ≡ begins_place l.position f = ap (λ l. begins_place l.position f) (sym e) in
     let handle : assigns_handle (label_of s).position f ≡ assigns_handle l.position f = ap (λ l. assigns_handle l.position f) (sym e) in
     let ended : ended_by f l.moment.table ≡ ended_by f s.0.table = ap (λ m. ended_by f m.table) (ap (λ l. l.moment) e ∙ label_moment s) in
-    let n = entries_in f (label_of s).position s.0.table (count_of assigns_handle fields) in
+    let n = entries_in f (label_of s).position s.0.table (count_of assigns_handle tokens) in
     let a = c.handles in
     let b = h.1 in
     record {
       places =
-          c.places ∙ ap (λ n. n + count_of begins_place fields) h.0
-          ∙ one_more_in (begins_place (label_of s).position f) s.0.places (count_of begins_place fields)
-          ∙ ap (λ b. s.0.places + one_more_if b (count_of begins_place fields)) place;
+          c.places ∙ ap (λ n. n + count_of begins_place tokens) h.0
+          ∙ one_more_in (begins_place (label_of s).position f) s.0.places (count_of begins_place tokens)
+          ∙ ap (λ b. s.0.places + one_more_if b (count_of begins_place tokens)) place;
       handles =
-          sums (ended_by f l.moment.table) (earlier_handles fields) (length u.0.table) (length t.0.table) (count_of assigns_handle fields) a
-          ∙ ap₂ (λ x y. x + (y + count_of assigns_handle fields)) ended b ∙ n
-          ∙ ap (λ b. length s.0.table + one_more_if b (count_of assigns_handle fields)) handle;
+          sums (ended_by f l.moment.table) (earlier_handles tokens) (length u.0.table) (length t.0.table) (count_of assigns_handle tokens) a
+          ∙ ap₂ (λ x y. x + (y + count_of assigns_handle tokens)) ended b ∙ n
+          ∙ ap (λ b. length s.0.table + one_more_if b (count_of assigns_handle tokens)) handle;
       orderly = c.orderly;
     }
   where
     sums : (e k n t c : ℕ) → k + n ≡ t + c → e + k + n ≡ e + (t + c)
     sums e k n t c h = omega arith
 
-pub counted_along : (fields : List Piece) (s : State) → Orderly (settled s).1 → Runs s fields
-    → CountedTo (settled s) (settled (left s fields)) fields
+pub counted_along : (tokens : List Piece) (s : State) → Orderly (settled s).1 → Runs s tokens
+    → CountedTo (settled s) (settled (left s tokens)) tokens
 counted_along [] s o r = record { places = omega arith; handles = omega arith; orderly = o }
-counted_along (piece l f ∷ fields) s o r =
-    let x = one_field (settled s) f o r.1 in
-    counted_on f l (settled s) (settled (advance (settled s) f)) (settled (left (advance (settled s) f) fields)) fields r.0 x
-    (counted_along fields (advance (settled s) f) x.2 r.2)
+counted_along (piece l f ∷ tokens) s o r =
+    let x = one_token (settled s) f o r.1 in
+    counted_on f l (settled s) (settled (advance (settled s) f)) (settled (left (advance (settled s) f) tokens)) tokens r.0 x
+    (counted_along tokens (advance (settled s) f) x.2 r.2)
 
 -- of a stream, from its beginning on
-pub counted_from_start : (fields : List Piece) → Runs begin_state fields → CountedTo begin_state (settled (left begin_state fields)) fields
-counted_from_start fields r = counted_along fields begin_state (refl, (refl, tt)) r
+pub counted_from_start : (tokens : List Piece) → Runs begin_state tokens → CountedTo begin_state (settled (left begin_state tokens)) tokens
+counted_from_start tokens r = counted_along tokens begin_state (refl, (refl, tt)) r

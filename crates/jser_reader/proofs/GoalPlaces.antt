@@ -115,7 +115,7 @@ ready_place phase.Bytes r s h = told r.table.chains s _ _ (place_at phase.Bytes 
 ready_place phase.Cut r s h = absurd h
 ready_place phase.Stopped r s h = absurd h
 
--- the place of a field of which some bytes were taken
+-- the place of a token of which some bytes were taken
 stands_place : (p : Phase) (r : Seen) (s : State) (cut : List ℕ) → StandsAt p r s cut → TellsPlace r.table.chains s.1 (place_at (open_in p r.meter.cut_phase) r.text r.frames)
 stands_place phase.Text r s cut h = texts r r.text h.long _ s h.is
 stands_place phase.Prims r s cut h = told r.table.chains s _ _ (place_at phase.Prims r.text r.frames) h.is (refl, tt)
@@ -148,7 +148,7 @@ pub place_told : (answer : Place) (r : Seen) (tally : Tally) → answer ≡ plac
 unfolding PlaceTold
 place_told answer r tally is = λ gate front cut stands.
     let taken = stands.counted.taken in
-    let s : State = settled (left begin_state taken.fields) in
+    let s : State = settled (left begin_state taken.tokens) in
     let here : TellsPlace r.table.chains s.1 (place_at (open_phase r) r.text r.frames) = stands_place r.phase r s taken.cut taken.stands.stands in
-    subst (λ fields. TellsPlace r.table.chains (goals_after fields) answer) stands.fields_are
+    subst (λ tokens. TellsPlace r.table.chains (goals_after tokens) answer) stands.tokens_are
     (subst (λ (a : Place). TellsPlace r.table.chains s.1 a) (sym is) here)

@@ -1,7 +1,7 @@
--- The items that are made of the bytes of a field.
+-- The items that are made of the bytes of a token.
 use Rattle.std.proofs.Common.{◌≡◌, ◌⊎◌, inl, inr, ℕ, ◌<◌, ◌≤◌, ◌^◌, List, ◌++◌, length, refl, sym, ◌∙◌, ap, subst, arith}
 use Rattle.jser_prim.specs.Bytes.{big_bytes}
-use Rattle.jser_reading.specs.FieldsFromBytes.{number_of}
+use Rattle.jser_reading.specs.TokensFromBytes.{number_of}
 use Rattle.jser_reading.proofs.Decoding.{number_2, number_4, number_8}
 use Rattle.jser_reader.specs.declared.item.Item.{Item}
 use Rattle.jser_reader.specs.declared.item.Step.TheVariants as step
@@ -11,7 +11,7 @@ use Rattle.jser_reader.specs.Walks.{size_of_phase}
 use Rattle.jser_reader.specs.Items.{IsRawPart}
 use Rattle.jser_reader.specs.ItemsMade.{IsTextPart, number_item, ItemCases, MakesItem, MakesStep}
 
--- ---- the number in the bytes of a field
+-- ---- the number in the bytes of a token
 
 pub number_of_two : (n : ℕ) (bytes : List ℕ) → big_bytes 2 n ≡ bytes → n < 2 ^ 16 → n ≡ number_of bytes
 number_of_two n bytes e small = sym (number_2 n small) ∙ ap number_of e

@@ -1,8 +1,8 @@
--- Items are the fields: from the machine before and after some bytes of a field to the item that is lent of them.
+-- Items are the tokens: from the machine before and after some bytes of a token to the item that is lent of them.
 use Rattle.std.proofs.Common.{◌≡◌, ℕ, ◌<◌, ◌≤◌, Bool, true, false, List, [], ◌∷◌, ◌++◌, length, take, refl, sym, ◌∙◌, ap, subst, arith, length-append, append-nil}
 use Rattle.jser_prim.specs.Bytes.{big_bytes}
 use Rattle.jser_reading.specs.Labels.{Position, string_at, class_name_at, field_name_at, interface_name_at}
-use Rattle.jser_reading.specs.FieldsFromBytes.{number_of, head_size, size_in}
+use Rattle.jser_reading.specs.TokensFromBytes.{number_of, head_size, size_in}
 use Rattle.jser_reading.specs.Goals.{State, settled}
 use Rattle.jser_reading.specs.Accepts.{label_of}
 use Rattle.jser_grammar.specs.Parts.{text_bound}
@@ -21,7 +21,7 @@ use Rattle.jser_reader.proofs.TextWalks.{IsTextAt}
 use Rattle.jser_reader.proofs.TextSteps.{length_open, text_of}
 use Rattle.jser_reader.proofs.PhaseLemmas.{IsFixed, phase_position, label_is, size_of_fixed, text_is}
 
--- ---- the items of the open field, by its phase
+-- ---- the items of the open token, by its phase
 
 abbrev pub OpenItems : Phase → (cut : List ℕ) → Items → Type 0
 OpenItems phase.Header cut i = i ≡ header_items
@@ -171,7 +171,7 @@ text_part : (long : Bool) (cut taken : List ℕ) (lent : Item) → head_size lon
 text_part long cut taken (item.TextPart part) le h = (le, h)
 text_part long cut taken _ le h = absurd h
 
--- the item that is made of the bytes is the one of the field
+-- the item that is made of the bytes is the one of the token
 pub is_lent : (p : Phase) (i : Items) (cut kept taken : List ℕ) (lent : Item) → OpenItems p cut i
     → (0 < size_of_phase p → (cut ≡ kept) × (length (cut ++ taken) ≡ size_of_phase p)) → MakesItem p kept taken lent → IsLent i cut taken lent
 unfolding MakesItem
@@ -193,7 +193,7 @@ is_lent phase.Stopped i cut kept taken lent o n h = absurd o
 is_lent p i cut kept taken lent o n h =
     let x = n (omega arith) in subst (λ i. IsLent i cut taken lent) (sym o) (x.1, number_lent p cut kept taken lent x.0 x.1 h)
 
--- a field that goes on after it
+-- a token that goes on after it
 text_goes_on : (taken : List ℕ) (lent : Item) (full : Type 0) → IsTextPart taken lent → full → MayGoOn lent full
 text_goes_on taken (item.TextPart part) full h f = f
 text_goes_on taken _ full h f = absurd h

@@ -1,6 +1,6 @@
--- Bytes of a field that were kept, and others after them.
+-- Bytes of a token that were kept, and others after them.
 use Rattle.std.proofs.Common.{◌≡◌, ℕ, ◌+◌, Bool, true, false, List, [], ◌++◌, length, sym, ◌∙◌, ap, subst, arith, append_assoc, append-nil, length-append}
-use Rattle.jser_reading.specs.FieldsFromBytes.{size_in}
+use Rattle.jser_reading.specs.TokensFromBytes.{size_in}
 use Rattle.jser_reading.specs.Goals.{State, settled}
 use Rattle.jser_reading.specs.Accepts.{label_of}
 use Rattle.jser_reading.specs.Scanner.{walk, refused, ended}
@@ -38,7 +38,7 @@ kept_on gate front back old mid new h k = λ s cut st.
       at = omega arith;
     }
 
--- where the first bytes were kept, the field begins where it began
+-- where the first bytes were kept, the token begins where it began
 told_on : (gate : Gate) (s : State) (cut front back : List ℕ) (old_from mid_from : ℕ) (why : Stop)
     → ((rest : List ℕ) → walk (verdict gate) s cut (front ++ rest) ≡ walk (verdict gate) s (cut ++ front) rest)
     → old_from ≡ mid_from → StopTold gate s (cut ++ front) back mid_from why → StopTold gate s cut (front ++ back) old_from why
@@ -85,7 +85,7 @@ taken_on gate front back found old mid new h k = λ s cut st.
         let same : (cut ++ front) ++ back ≡ cut ++ (front ++ back) = append_assoc cut front back in
         let l = label_of (settled s) in
         record {
-          field = y.field;
+          token = y.token;
           is_good = ap (verdict gate l) (sym same) ∙ y.is_good;
           whole = subst (λ bytes. size_in l.position bytes ≡ length bytes) same y.whole;
           walks = λ rest. ap (walk (verdict gate) s cut) (append_assoc front back rest) ∙ on s cut x (back ++ rest) ∙ y.walks rest;

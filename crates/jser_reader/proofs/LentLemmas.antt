@@ -4,8 +4,8 @@ use Rattle.std.proofs.lemmas.List.{length-drop, length-take-le}
 use Rattle.jser_prim.specs.Bytes.{big_bytes}
 use Rattle.jser_table.specs.Entries.{text_entry}
 use Rattle.jser_reading.specs.Labels.{Piece}
-use Rattle.jser_reading.specs.FieldBytes.{tag_byte, joined}
-use Rattle.jser_reading.specs.FieldsFromBytes.{number_of}
+use Rattle.jser_reading.specs.TokenBytes.{tag_byte, joined}
+use Rattle.jser_reading.specs.TokensFromBytes.{number_of}
 use Rattle.jser_reading.specs.Goals.{State, settled}
 use Rattle.jser_reading.specs.Accepts.{label_of}
 use Rattle.jser_reading.specs.Machine.{begin_state, left}
@@ -33,7 +33,7 @@ use Rattle.jser_reader.specs.Takes.{farther, TakesFromFor}
 use Rattle.jser_reader.specs.Tallies.{mark_of, tally_after}
 use Rattle.jser_reader.specs.Items.{items_at}
 use Rattle.jser_reader.specs.ItemsMade.{MakesItem, MakesStep}
-use Rattle.jser_reader.specs.ItemsTold.{StandsIn, FieldEnds, TellsItems}
+use Rattle.jser_reader.specs.ItemsTold.{StandsIn, TokenEnds, TellsItems}
 use Rattle.jser_reader.specs.Passes.{HaltCases, PassTells, Passes, IsQuiet, CanPass}
 use Rattle.jser_reader.specs.ReaderStates.{HasRefused, IsSpent, NextCases, NextTells}
 use Rattle.jser_reader.specs.States.{AnswersStop, stop_after}
@@ -48,10 +48,10 @@ use Rattle.jser_reader.proofs.TextLemmas.{value_ends}
 use Rattle.jser_reader.proofs.TextSteps.{short_text_taken}
 use Rattle.jser_reader.proofs.PhaseLemmas.{is_open, whole_open}
 use Rattle.jser_reader.proofs.ReaderLemmas.{bytes_front}
-use Rattle.jser_reader.proofs.NextLemmas.{CountsField}
+use Rattle.jser_reader.proofs.NextLemmas.{CountsToken}
 use Rattle.jser_reader.proofs.MemoryLemmas.{are_assigned}
 use Rattle.jser_reader.proofs.ItemStands.{OpenItems, stands_items}
-use Rattle.jser_reader.proofs.ItemCalls.{machine_stands, comes_next, field_ended, lends_end, tells_end}
+use Rattle.jser_reader.proofs.ItemCalls.{machine_stands, comes_next, token_ended, lends_end, tells_end}
 use Rattle.jser_reader.proofs.PassLemmas.{quiet_refs, quiet_top, quiet_tally}
 use Rattle.jser_reader.proofs.WholeLemmas.{place_is_one, tag_taken, rest_can, CountsMarks, of_marks, same_end, same_meter, begun_reference, reference_begins, reference_passes, begun_string, string_begins, string_passes, begun_owner, owner_begins, at_class, class_tag_taken, with_class, same_class, TellsClass, second_is, two_on, owner_passes}
 
@@ -78,27 +78,27 @@ makes_tag _ piece b r i e is some = absurd i
 tag_tells : (gate : Gate) (t : ValueTag) (piece : List ℕ) (r m : Seen) (before after : Tally) → IsGate gate → CanPass r piece → IsPlace r.phase
     → 0 < length piece → tag_byte (view_tag t) ≡ get_or piece 0 0
     → Tells (place_reason (farther r 1) (view_tag t)) (after_tag (farther r 1) (view_tag t)) true (farther r 1) m
-    → CountsField r m before after → TellsItems gate piece (Ok (step.Item (item.Tag (tag_byte (view_tag t))) 1)) r before m after
+    → CountsToken r m before after → TellsItems gate piece (Ok (step.Item (item.Tag (tag_byte (view_tag t))) 1)) r before m after
 tag_tells gate t piece r m before after g can i some first h c =
     tells_end (step.Item (item.Tag (tag_byte (view_tag t))) 1) (open_phase r) (cut_of r) 1 (taken.Ended 1) piece piece gate r m before after
     (one_taken (tag_byte (view_tag t)) true (taken.Ended 1) piece r m (tag_taken r.phase t r m i refl h) refl first some (place_is_one r.phase i) gate)
     refl c g can.within can.all_bytes refl refl refl (makes_tag r.phase piece (tag_byte (view_tag t)) r i refl first some)
 
--- ---- a field with which no count changes
+-- ---- a token with which no count changes
 
-pub same_tally : (gate : Gate) (used : ℕ) (given : List ℕ) (old new : Seen) (tally : Tally) (fields : List Piece) (cut : List ℕ) → StandsIn gate fields cut old tally
+pub same_tally : (gate : Gate) (used : ℕ) (given : List ℕ) (old new : Seen) (tally : Tally) (tokens : List Piece) (cut : List ℕ) → StandsIn gate tokens cut old tally
     → Takes gate (take used given) true old new → IsQuiet old.phase → CanPass old given → tally ≡ tally_after (mark_of old) (mark_of new) tally
-same_tally gate used given old new tally fields cut st t q can =
+same_tally gate used given old new tally tokens cut st t q can =
     sym (quiet_tally (mark_of old) (mark_of new) tally (quiet_top old.phase q)
-    (quiet_refs gate old new (joined fields ++ cut) (take used given) t (bytes_front used given can.all_bytes) st.counted.taken q))
+    (quiet_refs gate old new (joined tokens ++ cut) (take used given) t (bytes_front used given can.all_bytes) st.counted.taken q))
 
 quiet_tells : (gate : Gate) (lent : Item) (used : ℕ) (given : List ℕ) (old new : Seen) (tally : Tally) → TakesFromFor gate (taken.Ended used) given old new
     → IsQuiet old.phase → CanPass old given → MakesItem (open_phase old) (cut_of old) (take used given) lent
     → TellsItems gate given (Ok (step.Item lent used)) old tally new tally
 unfolding TakesFromFor TellsItems
-quiet_tells gate lent used given old new tally k q can m = λ fields cut st.
-    lends_end gate given given used lent old new tally tally fields cut st can.within k.1 can.all_bytes k.2 k.3
-    (same_tally gate used given old new tally fields cut st k.2 q can) m
+quiet_tells gate lent used given old new tally k q can m = λ tokens cut st.
+    lends_end gate given given used lent old new tally tally tokens cut st can.within k.1 can.all_bytes k.2 k.3
+    (same_tally gate used given old new tally tokens cut st k.2 q can) m
 
 -- ---- a reference
 
@@ -145,22 +145,22 @@ text_tells : (gate : Gate) (text given : List ℕ) (m new : Seen) (tally : Tally
     → 2 + length text ≤ length given → text ≡ drop 2 (take (2 + length text) given) → m.phase ≡ phase.Length2 → CanPass m given
     → TellsText gate given text m tally new tally
 unfolding TellsText
-text_tells gate text given m new tally t enough bytes ep can = λ fields cut st.
-    let s : State = settled (left begin_state fields) in
-    let so = machine_stands gate fields cut m tally st in
+text_tells gate text given m new tally t enough bytes ep can = λ tokens cut st.
+    let s : State = settled (left begin_state tokens) in
+    let so = machine_stands gate tokens cut m tally st in
     let w = whole_open phase.Length2 m ep (omega arith) in
     let o = is_open phase.Length2 m s cut so.stands w.0 (omega arith) in
     let none : cut ≡ [] = o.cut_is ∙ w.1 in
     record {
       none = none;
       label = label_of s;
-      comes = comes_next gate fields cut m tally st;
-      is_text = subst (λ p. OpenItems p cut (items_at (label_of s).position)) w.0 (stands_items m.phase m (left begin_state fields) cut so.stands);
+      comes = comes_next gate tokens cut m tally st;
+      is_text = subst (λ p. OpenItems p cut (items_at (label_of s).position)) w.0 (stands_items m.phase m (left begin_state tokens) cut so.stands);
       bytes = bytes;
       ends =
-          subst (λ c. FieldEnds gate fields (label_of s) (c ++ take (2 + length text) given) new tally) none
-          (field_ended gate given given (2 + length text) m new tally tally fields cut st can.within enough can.all_bytes t
-          (same_tally gate (2 + length text) given m new tally fields cut st t (subst IsQuiet (sym ep) tt) can));
+          subst (λ c. TokenEnds gate tokens (label_of s) (c ++ take (2 + length text) given) new tally) none
+          (token_ended gate given given (2 + length text) m new tally tally tokens cut st can.within enough can.all_bytes t
+          (same_tally gate (2 + length text) given m new tally tokens cut st t (subst IsQuiet (sym ep) tt) can));
     }
 
 pub string_tells : (gate : Gate) (len : ℕ) (piece text : List ℕ) (old mid far new : Seen) (m1 m2 : Mark) (before after : Tally) → IsGate gate → CanPass old piece → IsPlace old.phase
@@ -184,7 +184,7 @@ string_tells gate len piece text old mid far new m1 m2 before after g can i firs
     subst (λ b. Comes (placed k b) new (after_value (placed k b))) (sym e) (subst (λ r. Comes (placed r (len + 3)) new (after_value (placed r (len + 3)))) assigns.1 comes) in
     let ends : Comes (farther m (2 + len)) new (after_value (farther m (2 + len))) =
     same_end (placed k (2 + len + 1)) (farther m (2 + len)) new come (same_meter old (2 + len)) refl refl refl refl in
-    let count : CountsField old m before after = subst (λ r. CountsMarks (mark_of old) (mark_of (placed r (len + 3))) before after) assigns.1 counts in
+    let count : CountsToken old m before after = subst (λ r. CountsMarks (mark_of old) (mark_of (placed r (len + 3))) before after) assigns.1 counts in
     let body : Takes gate (take (2 + len) rest) true m new =
     short_text_taken gate m (farther m (2 + len)) new (take (2 + len) rest) h.units
     (λ inside. value_ends gate true (farther m (2 + len)) new ends refl refl h.units (record { inside = inside; kept = λ checked. absurd (cc) }))

@@ -53,7 +53,7 @@ pub constant_begins : (piece : List ℕ) (n name : ℕ) (r : Seen) (k : Counts) 
 constant_begins piece n name r k h p room le tag class small is name_is name_small text =
     record { holds = h; place = p; room = omega arith; tag = tag; class = class; small = small; is = is; name_is = name_is; name_small = name_small; text = text }
 
--- ---- the fields
+-- ---- the tokens
 
 -- after the class
 abbrev at_name : Seen → Seen

@@ -92,7 +92,7 @@ leads_raws piece old mid k i fs bytes from to h raws enough =
           (record { ready = comes.ready; meter = comes.meter ∙ sym same; max = comes.max }) (record { table = kept.table; layers = kept.layers; refs = kept.refs });
     }
 
--- ---- what is on top has no field left
+-- ---- what is on top has no token left
 
 -- they are right still
 pub used_holds : (piece : List ℕ) (old new : Seen) (i j : Counts) (size : ℕ) → Holds piece old i → new.meter ≡ old.meter → i.used + size ≤ length piece → j.used ≡ i.used + size → j.items ≡ i.items

@@ -36,7 +36,7 @@ use Rattle.jser_reader.proofs.WholeLemmas.{block_passes}
 not_less : (n m : ℕ) → m ≡ n → nat_lt n m ≡ false
 not_less n m e = grind (arith, nat_tests)
 
--- the counts of a field where no place begins
+-- the counts of a token where no place begins
 pub no_place_counted : (piece : List ℕ) (before : Tally) (old far : Seen) (k : Counts) (size : ℕ) → HoldsNext piece old k → far.refs ≡ k.refs → far.table.entries ≡ old.table.entries
     → tally_at old.meter.at before (with_block k size) ≡ tally_after (mark_of (seen_at old k)) (mark_of far) (tally_at old.meter.at before k)
 no_place_counted piece before old far k size h er et =

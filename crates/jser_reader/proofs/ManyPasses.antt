@@ -1,6 +1,6 @@
 -- The loop over whole values: its beginning and its end.
 use Rattle.std.proofs.Common.{◌≡◌, ℕ, ◌+◌, ◌^◌, ◌<◌, ◌≤◌, List, ◌++◌, length, take, drop, Some, refl, sym, ◌∙◌, ap, ap₂, subst, arith}
-use Rattle.jser_reading.specs.FieldBytes.{joined}
+use Rattle.jser_reading.specs.TokenBytes.{joined}
 use Rattle.jser_verdict.specs.Gates.{Gate, IsGate}
 use Rattle.jser_reader.specs.declared.machine.many.counts.Counts.{Counts}
 use Rattle.jser_reader.specs.declared.machine.many.counts.Turn.{Turn}

@@ -2,8 +2,8 @@
 use Rattle.std.proofs.Common.{◌≡◌, ℕ, ◌+◌, ◌<◌, ◌≤◌, ◌^◌, true, false, List, [], ◌∷◌, ◌++◌, length, take, Result, Ok, Err, refl, sym, ◌∙◌, subst, ap, arith, length-append, length-take-le, inl, inr}
 use Rattle.jser_grammar.specs.Parts.{IsBytes}
 use Rattle.jser_reading.specs.Labels.{Position, string_at, class_name_at, field_name_at, interface_name_at, block_length_at, raw_at, bytes_at, Label, Piece}
-use Rattle.jser_reading.specs.FieldBytes.{joined}
-use Rattle.jser_reading.specs.FieldsFromBytes.{size_in}
+use Rattle.jser_reading.specs.TokenBytes.{joined}
+use Rattle.jser_reading.specs.TokensFromBytes.{size_in}
 use Rattle.jser_reading.specs.Goals.{State, settled}
 use Rattle.jser_reading.specs.Accepts.{label_of}
 use Rattle.jser_reading.specs.Machine.{begin_state, Runs, left}
@@ -30,16 +30,16 @@ use Rattle.jser_reader.proofs.DepthLemmas.{frames_fit}
 use Rattle.jser_reader.proofs.MarkLemmas.{moment_is}
 use Rattle.jser_reader.proofs.PlaceDepths.{depth_within}
 use Rattle.jser_reader.proofs.JoinLemmas.{kept_none}
-use Rattle.jser_reader.proofs.ReaderLemmas.{front_of_front, field_goes_on, take_whole}
+use Rattle.jser_reader.proofs.ReaderLemmas.{front_of_front, token_goes_on, take_whole}
 
--- ---- the field that is open
+-- ---- the token that is open
 
--- the machine stands where these fields lead
+-- the machine stands where these tokens lead
 pub stands_in : (gate : Gate) (front : List Piece) (cut : List ℕ) (r : Seen) (tally : Tally) → StandsIn gate front cut r tally
     → Stands gate r (settled (left begin_state front)) cut
 stands_in gate front cut r tally h =
-    subst (λ fs. Stands gate r (settled (left begin_state fs)) cut) h.fields_are
-    (subst (Stands gate r (settled (left begin_state h.counted.taken.fields))) h.cut_is h.counted.taken.stands)
+    subst (λ fs. Stands gate r (settled (left begin_state fs)) cut) h.tokens_are
+    (subst (Stands gate r (settled (left begin_state h.counted.taken.tokens))) h.cut_is h.counted.taken.stands)
 
 -- it has not stopped
 pub never_stopped : (gate : Gate) (front : List Piece) (cut : List ℕ) (r : Seen) (tally : Tally) → StandsIn gate front cut r tally → r.phase ≡ phase.Stopped → ⊥
@@ -58,9 +58,9 @@ frames_are_bounded gate frames r tally e = λ front cut st.
     let s : State = settled (left begin_state front) in
     let taken = st.counted.taken in (
       label_of s,
-      (next_law front (label_of s)).1 (subst (λ fs. Runs begin_state fs) st.fields_are taken.runs, refl),
+      (next_law front (label_of s)).1 (subst (λ fs. Runs begin_state fs) st.tokens_are taken.runs, refl),
       subst (λ n. FitsDepth n (label_of s).depth) (sym e) (frames_fit gate r s cut (stands_in gate front cut r tally st)),
-      subst (λ fs. (label_of (settled (left begin_state fs))).depth ≤ gate.depth + 1) st.fields_are (depth_within gate (joined front ++ cut) r taken),
+      subst (λ fs. (label_of (settled (left begin_state fs))).depth ≤ gate.depth + 1) st.tokens_are (depth_within gate (joined front ++ cut) r taken),
     )
 
 -- ---- handles
@@ -78,7 +78,7 @@ are_assigned gate handles r tally e = λ front cut label st next.
 
 -- ---- where memory may run out
 
--- the size of a field is known from its beginning, but for texts and raw fields
+-- the size of a token is known from its beginning, but for texts and raw tokens
 same_size : (w : Position) (a b : List ℕ) → (IsForgotten w → ⊥) → (IsCheckedName w → ⊥) → size_in w a ≡ size_in w b
 same_size (string_at long) a b f n = absurd (f tt)
 same_size (class_name_at role) a b f n = absurd (n tt)
@@ -90,7 +90,7 @@ same_size (block_length_at true) a b f n = refl
 same_size (block_length_at false) a b f n = refl
 same_size _ a b f n = refl
 
--- not before the end of a field that is no checked name
+-- not before the end of a token that is no checked name
 pub not_inside : (w : Position) (cut piece : List ℕ) (n : ℕ) → n ≤ length piece → (IsCheckedName w → ⊥) → EndsInside w (cut ++ piece)
     → MayRunOut w (cut ++ take n piece) → ⊥
 not_inside w cut piece n le other short (inl checked) = other checked
@@ -107,7 +107,7 @@ not_both (class_name_at role) f c = f
 not_both interface_name_at f c = f
 not_both _ f c = c
 
--- not in a field of which nothing is kept
+-- not in a token of which nothing is kept
 not_in_forgotten : (w : Position) (bytes : List ℕ) → IsForgotten w → MayRunOut w bytes → ⊥
 not_in_forgotten w bytes f (inl checked) = not_both w f checked
 not_in_forgotten w bytes f (inr k) = k.0 f
@@ -145,7 +145,7 @@ free_over : (why : Stop) (piece front : List ℕ) (gate : Gate) (old mid : Seen)
 unfolding MemoryFree
 free_over why piece front gate old mid new tally w h k x g = λ before cut label st next.
     let t : take (length front) front ≡ front = take_whole front in
-    let y = field_goes_on gate (joined before ++ cut) piece front (length front) old mid w (omega arith) h (subst (λ xs. Keeps gate xs old mid) (sym t) k) st.counted.taken st.within in
+    let y = token_goes_on gate (joined before ++ cut) piece front (length front) old mid w (omega arith) h (subst (λ xs. Keeps gate xs old mid) (sym t) k) st.counted.taken st.within in
     let at = y.0.taken in
     let le = y.1 in
     let cap = g.0 in

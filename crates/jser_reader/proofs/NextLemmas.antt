@@ -29,8 +29,8 @@ use Rattle.jser_reader.proofs.JoinLemmas.{kept_none}
 use Rattle.jser_reader.proofs.StreamWalks.{ends_only_at_top}
 use Rattle.jser_reader.proofs.AnswerLemmas.{truncates}
 use Rattle.jser_reader.proofs.CountLemmas.{new_counts, counts_within}
-use Rattle.jser_reader.proofs.TotalLemmas.{field_counts, goes_on_counts, finish_totals}
-use Rattle.jser_reader.proofs.ReaderLemmas.{field_stops, never_spent, has_stopped, over, over_whole, limit_is, take_whole, bytes_front, front_of_front}
+use Rattle.jser_reader.proofs.TotalLemmas.{token_counts, goes_on_counts, finish_totals}
+use Rattle.jser_reader.proofs.ReaderLemmas.{token_stops, never_spent, has_stopped, over, over_whole, limit_is, take_whole, bytes_front, front_of_front}
 use Rattle.jser_reader.proofs.WholeContentLemmas.{stopped_whole, whole_stopped, whole_below}
 
 -- ---- items, and more bytes
@@ -43,18 +43,18 @@ pub is_part : (gate : Gate) (used : ℕ) (took : Taken) (front : List ℕ) (old 
 unfolding TakesFromFor
 is_part gate used took front old new h e = (subst (λ x. TakenCases gate x front old new) e h).1
 
--- the tally, where a field has ended
-abbrev pub CountsField : (old new : Seen) (before after : Tally) → Type 0
-CountsField old new before after =
+-- the tally, where a token has ended
+abbrev pub CountsToken : (old new : Seen) (before after : Tally) → Type 0
+CountsToken old new before after =
     before.contents + 1 < 2 ^ 64 → before.earlier + (mark_of old).entries < 2 ^ 64 → after ≡ tally_after (mark_of old) (mark_of new) before
 
 pub next_item : (result : Step) (used : ℕ) (piece front : List ℕ) (gate : Gate) (old new : Seen) (before after : Tally) → IsWithin old piece front → IsBytes piece → 0 < used
-    → used ≤ length front → Takes gate (take used front) true old new → CountsField old new before after → IsGate gate → IsItem used result
+    → used ≤ length front → Takes gate (take used front) true old new → CountsToken old new before after → IsGate gate → IsItem used result
     → NextTells gate piece (Ok result) old before new after
 unfolding NextTells StandsFor
 next_item step.More used piece front gate old new before after w h some le t k g i = absurd i
 next_item (step.Item item count) used piece front gate old new before after w h some le t k g i = λ bytes st.
-    let x = field_counts gate bytes piece front used old new before w le h t st.0 st.1 in
+    let x = token_counts gate bytes piece front used old new before w le h t st.0 st.1 in
     let s = w.short in
     let n = counts_within gate bytes old before st.0 in
     let c = n.0 in
@@ -107,7 +107,7 @@ next_stops why used piece front gate old mid new before after w h some le t a ea
     go bytes st room (stop.Refused refusal) e =
         let es : mid.meter.stop ≡ stop.Refused refusal = sym a.is ∙ e in
         let ep = has_stopped gate bytes (take used front) old mid t st.taken in
-        let x = field_stops gate bytes piece front used refusal old mid w le h t st.taken room es in
+        let x = token_stops gate bytes piece front used refusal old mid w le h t st.taken room es in
         let s = w.short in
         let whole : StaysWhole gate (bytes ++ take used piece) after.begun =
         stopped_whole gate old mid bytes (take used piece) refusal after.begun (subst (λ xs. Takes gate xs false old mid) (front_of_front old piece front used w le) t) es
@@ -168,7 +168,7 @@ next_full why piece front gate old new before after w h none some x g ea =
 -- ---- the same of what came of a piece
 
 pub step_item : (result : Step) (used : ℕ) (took : Taken) (piece front : List ℕ) (gate : Gate) (old new : Seen) (before after : Tally) → TakesFromFor gate took front old new
-    → took ≡ taken.Ended used → CountsField old new before after → IsGate gate → IsWithin old piece front → IsBytes piece → IsItem used result
+    → took ≡ taken.Ended used → CountsToken old new before after → IsGate gate → IsWithin old piece front → IsBytes piece → IsItem used result
     → NextTells gate piece (Ok result) old before new after
 unfolding TakesFromFor
 step_item result used took piece front gate old new before after k e c g w h i =
@@ -226,7 +226,7 @@ part_progress (step.Item item count) used took piece front gate old new k e w i 
 
 pub no_bytes : (gate : Gate) (bytes : List ℕ) (r : Seen) (tally : Tally) → r.phase ≡ phase.Stopped → StandsFor gate bytes r tally → ⊥
 unfolding StandsFor
-no_bytes gate bytes r tally e st = subst (λ p. StandsAt p r (settled (left begin_state st.0.taken.fields)) st.0.taken.cut) e st.0.taken.stands.stands
+no_bytes gate bytes r tally e st = subst (λ p. StandsAt p r (settled (left begin_state st.0.taken.tokens)) st.0.taken.cut) e st.0.taken.stands.stands
 
 pub stopped_tells : (piece : List ℕ) (why : Stop) (gate : Gate) (old new : Seen) (before after : Tally) → old.phase ≡ phase.Stopped → NextTells gate piece (Err why) old before new after
 unfolding NextTells
@@ -292,7 +292,7 @@ pub finish_truncates : (why : Stop) (gate : Gate) (old new : Seen) (tally : Tall
     → StopsWith (refusal old.meter reason.Truncated) old new → FinishTells gate (Err why) old tally new
 unfolding FinishTells StandsFor HasRefused
 finish_truncates why gate old new tally inside e h = λ bytes st.
-    let s = left begin_state st.0.taken.fields in
+    let s = left begin_state st.0.taken.tokens in
     let d = ends_only_at_top gate old (settled s) st.0.taken.cut st.0.taken.stands inside in
     let told : Refusal = record { from_byte = old.meter.from; to_byte = old.meter.at; reason = reason.Truncated } in
     let c = st.0.taken.stands.counts in

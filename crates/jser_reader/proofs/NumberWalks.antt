@@ -3,8 +3,8 @@ use Rattle.std.proofs.Common.{◌≡◌, ℕ, zero, suc, ◌+◌, ◌-◌, ◌*�
 use Rattle.jser_prim.specs.Bytes.{big_bytes}
 use Rattle.jser_table.specs.Codes.{PrimCode, size_of}
 use Rattle.jser_table.specs.Entries.{chain_at}
-use Rattle.jser_reading.specs.Labels.{StreamField, handle_field, suid_field, flags_field, field_count_field, interface_count_field, array_length_field, code_field, block_length_field, class_handle_at, text_handle_at}
-use Rattle.jser_reading.specs.FieldsFromBytes.{number_of, size_in, field_in}
+use Rattle.jser_reading.specs.Labels.{StreamToken, handle_token, suid_token, flags_token, field_count_token, interface_count_token, array_length_token, code_token, block_length_token, class_handle_at, text_handle_at}
+use Rattle.jser_reading.specs.TokensFromBytes.{number_of, size_in, token_in}
 use Rattle.jser_reading.specs.Goals.{class_handle_goal, State, settle, settled}
 use Rattle.jser_reading.specs.Accepts.{label_of}
 use Rattle.jser_reading.specs.Machine.{advance}
@@ -59,11 +59,11 @@ pub on_whole : (k n : ℕ) (bytes : List ℕ) (tell : ℕ → Option Reason) →
 on_whole k n bytes tell h =
     ap (λ x. if x then tell (number_of bytes) else None) (same_equal (length bytes) k (number_long k n bytes h)) ∙ ap tell h.number
 
--- the number of a phase, with what its handler told, from the reason at its position and the field that it is
-pub number_judged : (gate : Gate) (p : Phase) (r : Seen) (s : State) (n : ℕ) (bytes : List ℕ) (told : Option Reason) (next : State) (f : StreamField)
+-- the number of a phase, with what its handler told, from the reason at its position and the token that it is
+pub number_judged : (gate : Gate) (p : Phase) (r : Seen) (s : State) (n : ℕ) (bytes : List ℕ) (told : Option Reason) (next : State) (f : StreamToken)
     → IsFixed p → ReadyAt p r s → gate_with r gate.answer ≡ gate → IsNumber (size_of_phase p) n bytes
     → reason_at (plain_gate r) (label_at (phase_position p r) (phase_depth p r) r) (phase_position p r) bytes ≡ told
-    → field_in (phase_position p r) bytes ≡ Some f → (told ≡ None → settled (advance s f) ≡ next)
+    → token_in (phase_position p r) bytes ≡ Some f → (told ≡ None → settled (advance s f) ≡ next)
     → IsJudged gate told next s bytes
 number_judged gate p r s n bytes told next f i h e b er ef goes =
     let w : (label_of s).position ≡ phase_position p r = ap (λ l. l.position) (label_is p r s i h) in
@@ -71,21 +71,21 @@ number_judged gate p r s n bytes told next f i h e b er ef goes =
       reason = phase_reason gate p r s bytes i h e ∙ er;
       leads =
           λ k. record {
-            field = f;
+            token = f;
             enough =
                 let size : size_in (label_of s).position bytes ≡ size_of_phase p = ap (λ x. size_in x bytes) w ∙ size_of_fixed p r bytes i in
                 let l = number_long (size_of_phase p) n bytes b in
                 omega arith;
-            found = ap (λ x. field_in x bytes) w ∙ ef;
+            found = ap (λ x. token_in x bytes) w ∙ ef;
             goes = goes k;
           };
     }
 
--- a field of one byte is judged
-pub byte_judged : (gate : Gate) (p : Phase) (r : Seen) (s : State) (b : ℕ) (told : Option Reason) (next : State) (f : StreamField)
+-- a token of one byte is judged
+pub byte_judged : (gate : Gate) (p : Phase) (r : Seen) (s : State) (b : ℕ) (told : Option Reason) (next : State) (f : StreamToken)
     → IsFixed p → ReadyAt p r s → gate_with r gate.answer ≡ gate → size_of_phase p ≡ 1
     → reason_at (plain_gate r) (label_at (phase_position p r) (phase_depth p r) r) (phase_position p r) (b ∷ []) ≡ told
-    → field_in (phase_position p r) (b ∷ []) ≡ Some f → (told ≡ None → settled (advance s f) ≡ next)
+    → token_in (phase_position p r) (b ∷ []) ≡ Some f → (told ≡ None → settled (advance s f) ≡ next)
     → IsJudged gate told next s (b ∷ [])
 byte_judged gate p r s b told next f i h e one er ef goes =
     let w : (label_of s).position ≡ phase_position p r = ap (λ l. l.position) (label_is p r s i h) in
@@ -93,11 +93,11 @@ byte_judged gate p r s b told next f i h e one er ef goes =
       reason = phase_reason gate p r s (b ∷ []) i h e ∙ er;
       leads =
           λ k. record {
-            field = f;
+            token = f;
             enough =
                 let size : size_in (label_of s).position (b ∷ []) ≡ size_of_phase p = ap (λ x. size_in x (b ∷ [])) w ∙ size_of_fixed p r (b ∷ []) i in
                 omega arith;
-            found = ap (λ x. field_in x (b ∷ [])) w ∙ ef;
+            found = ap (λ x. token_in x (b ∷ [])) w ∙ ef;
             goes = goes k;
           };
     }
@@ -126,13 +126,13 @@ back_handle_taken gate n found old mid new taken h ep some b c =
     number_taken gate phase.BackHandle n (back_reason mid n) (after_value mid) found old mid new taken
     (λ s r. tells_surely (back_reason mid n) (after_value mid) found mid new h)
     (λ s r e. number_judged gate phase.BackHandle mid s n (cut_of old ++ taken) (back_reason mid n) (after_value mid)
-    (handle_field (n - 0x7E0000)) tt r e b (on_whole 4 n (cut_of old ++ taken) (back_reason mid) b)
-    (ap (λ k. Some (handle_field (k - 0x7E0000))) b.number) (λ _. ap (λ t. settled (advance t (handle_field (n - 0x7E0000)))) r))
+    (handle_token (n - 0x7E0000)) tt r e b (on_whole 4 n (cut_of old ++ taken) (back_reason mid) b)
+    (ap (λ k. Some (handle_token (k - 0x7E0000))) b.number) (λ _. ap (λ t. settled (advance t (handle_token (n - 0x7E0000)))) r))
     ep tt (λ e. absurd (cc)) some b c
 
 -- the handle of a reference in a class place
 class_handle_goes : (r : Seen) (o : Owner) (k : ℕ) → r.owner ≡ o
-    → settled (advance (moment_of r, class_handle_goal (goal_owner r.owner) (depth_of r) ∷ goals_of r) (handle_field k)) ≡ owner_state r (chain_at r.table.entries k)
+    → settled (advance (moment_of r, class_handle_goal (goal_owner r.owner) (depth_of r) ∷ goals_of r) (handle_token k)) ≡ owner_state r (chain_at r.table.entries k)
 unfolding owner_state object_state
 class_handle_goes r owner.Object k e = rw e refl
 class_handle_goes r owner.Array k e = rw e refl
@@ -148,16 +148,16 @@ class_handle_taken gate n found old mid new taken h ep some b c =
     let told = class_handle_reason (plain_gate mid) (label_at (class_handle_at (goal_owner mid.owner)) (suc (length mid.frames)) mid) (goal_owner mid.owner) n in
     let next = owner_state mid (chain_at mid.table.entries (n - 0x7E0000)) in
     number_taken gate phase.ClassHandle n told next found old mid new taken (λ s r. h)
-    (λ s r e. number_judged gate phase.ClassHandle mid s n (cut_of old ++ taken) told next (handle_field (n - 0x7E0000)) tt r e b
+    (λ s r e. number_judged gate phase.ClassHandle mid s n (cut_of old ++ taken) told next (handle_token (n - 0x7E0000)) tt r e b
     (on_whole 4 n (cut_of old ++ taken)
     (class_handle_reason (plain_gate mid) (label_at (class_handle_at (goal_owner mid.owner)) (suc (length mid.frames)) mid) (goal_owner mid.owner)) b)
-    (ap (λ k. Some (handle_field (k - 0x7E0000))) b.number)
-    (λ _. ap (λ t. settled (advance t (handle_field (n - 0x7E0000)))) r ∙ class_handle_goes mid mid.owner (n - 0x7E0000) refl))
+    (ap (λ k. Some (handle_token (k - 0x7E0000))) b.number)
+    (λ _. ap (λ t. settled (advance t (handle_token (n - 0x7E0000)))) r ∙ class_handle_goes mid mid.owner (n - 0x7E0000) refl))
     ep tt (λ e. absurd (cc)) some b c
 
 -- the handle of a reference in a superclass place
 super_handle_goes : (r : Seen) (fs : List Frame) (k : ℕ) → HasDescriptor fs → r.frames ≡ fs
-    → settled (advance (moment_of r, superclass_handle_goals r.table.chains r.layers r.frames) (handle_field k)) ≡ closed_state r (Some k)
+    → settled (advance (moment_of r, superclass_handle_goals r.table.chains r.layers r.frames) (handle_token k)) ≡ closed_state r (Some k)
 unfolding closed_state
 super_handle_goes r (frame.Descriptor number role ∷ fs) k n e = rw e refl
 super_handle_goes r (frame.Elements left ∷ fs) k n e = absurd n
@@ -174,10 +174,10 @@ super_handle_taken gate n found old mid new taken h ep some b c =
     let told = super_handle_reason mid n in
     let next = closed_state mid (Some (n - 0x7E0000)) in
     number_taken gate phase.SuperHandle n told next found old mid new taken (λ s r. h r.0)
-    (λ s r e. number_judged gate phase.SuperHandle mid s n (cut_of old ++ taken) told next (handle_field (n - 0x7E0000)) tt r e b
+    (λ s r e. number_judged gate phase.SuperHandle mid s n (cut_of old ++ taken) told next (handle_token (n - 0x7E0000)) tt r e b
     (on_whole 4 n (cut_of old ++ taken) (super_handle_reason mid) b)
-    (ap (λ k. Some (handle_field (k - 0x7E0000))) b.number)
-    (λ _. ap (λ t. settled (advance t (handle_field (n - 0x7E0000)))) r.1 ∙ super_handle_goes mid mid.frames (n - 0x7E0000) r.0 refl))
+    (ap (λ k. Some (handle_token (k - 0x7E0000))) b.number)
+    (λ _. ap (λ t. settled (advance t (handle_token (n - 0x7E0000)))) r.1 ∙ super_handle_goes mid mid.frames (n - 0x7E0000) r.0 refl))
     ep tt (λ e. absurd (cc)) some b c
 
 -- the handle of a reference in a text place
@@ -190,10 +190,10 @@ text_handle_taken gate n found old mid new taken h ep some b c =
     let told = text_handle_reason (label_at text_handle_at (text_depth mid mid.text) mid) n in
     let next = settle (moment_of mid) (text_rest mid mid.text) in
     number_taken gate phase.TextHandle n told next found old mid new taken (λ s r. tells_surely told next found mid new (h r.0 r.1))
-    (λ s r e. number_judged gate phase.TextHandle mid s n (cut_of old ++ taken) told next (handle_field (n - 0x7E0000)) tt r e b
+    (λ s r e. number_judged gate phase.TextHandle mid s n (cut_of old ++ taken) told next (handle_token (n - 0x7E0000)) tt r e b
     (on_whole 4 n (cut_of old ++ taken) (text_handle_reason (label_at text_handle_at (text_depth mid mid.text) mid)) b)
-    (ap (λ k. Some (handle_field (k - 0x7E0000))) b.number)
-    (λ _. ap (λ t. settled (advance t (handle_field (n - 0x7E0000)))) r.2))
+    (ap (λ k. Some (handle_token (k - 0x7E0000))) b.number)
+    (λ _. ap (λ t. settled (advance t (handle_token (n - 0x7E0000)))) r.2))
     ep tt (λ e. absurd (cc)) some b c
 
 -- ---- lengths and counts
@@ -210,8 +210,8 @@ array_length_taken gate n found old mid new taken h ep some b c = λ s cut st.
     fixed_took gate phase.ArrayLength (array_reason (plain_gate mid) n) (after_length mid ready.elements n) found old mid new taken s cut st
     (λ _. h ready.elements ready.size)
     (λ r e. number_judged gate phase.ArrayLength mid (settled s) n (cut_of old ++ taken) (array_reason (plain_gate mid) n) (after_length mid ready.elements n)
-    (array_length_field n) tt r e b (on_whole 4 n (cut_of old ++ taken) (array_reason (plain_gate mid)) b)
-    (ap (λ k. Some (array_length_field k)) b.number) (λ _. ap (λ t. settled (advance t (array_length_field n))) ready.is))
+    (array_length_token n) tt r e b (on_whole 4 n (cut_of old ++ taken) (array_reason (plain_gate mid)) b)
+    (ap (λ k. Some (array_length_token k)) b.number) (λ _. ap (λ t. settled (advance t (array_length_token n))) ready.is))
     ep tt some (let l = number_long 4 n (cut_of old ++ taken) b in omega arith) (λ _ a c d e. tt) c
 
 -- the length of a block
@@ -224,9 +224,9 @@ block_length_taken gate n found old mid new taken h ep some b c =
     let told = count_reason (2 ^ 31) n in
     number_taken gate phase.BlockLength4 n told (after_block_length mid n) found old mid new taken
     (λ s r. tells_surely told (after_block_length mid n) found mid new h)
-    (λ s r e. number_judged gate phase.BlockLength4 mid s n (cut_of old ++ taken) told (after_block_length mid n) (block_length_field true n) tt r e b
+    (λ s r e. number_judged gate phase.BlockLength4 mid s n (cut_of old ++ taken) told (after_block_length mid n) (block_length_token true n) tt r e b
     (on_whole 4 n (cut_of old ++ taken) (count_reason (2 ^ 31)) b)
-    (ap (λ k. Some (block_length_field true k)) b.number) (λ _. ap (λ t. settled (advance t (block_length_field true n))) r))
+    (ap (λ k. Some (block_length_token true k)) b.number) (λ _. ap (λ t. settled (advance t (block_length_token true n))) r))
     ep tt (λ e. absurd (cc)) some b c
 
 -- the length of a short block, of one byte
@@ -238,8 +238,8 @@ byte_length_taken gate n found old mid new h ep c =
     let one : n * 256 ^ 0 + 0 ≡ n = omega arith in
     byte_taken gate phase.BlockLength1 None (after_block_length mid n) found old mid new n
     (λ s r. tells_surely None (after_block_length mid n) found mid new h)
-    (λ s r e. byte_judged gate phase.BlockLength1 mid s n None (after_block_length mid n) (block_length_field false n) tt r e refl refl
-    (ap (λ k. Some (block_length_field false k)) one) (λ _. ap (λ t. settled (advance t (block_length_field false n))) r))
+    (λ s r e. byte_judged gate phase.BlockLength1 mid s n None (after_block_length mid n) (block_length_token false n) tt r e refl refl
+    (ap (λ k. Some (block_length_token false k)) one) (λ _. ap (λ t. settled (advance t (block_length_token false n))) r))
     (ap (λ q. open_in q old.meter.cut_phase) ep) (ap (λ q. cut_in q old.meter.kept) ep) tt (λ e. absurd (cc)) c
 
 -- ---- a descriptor
@@ -254,9 +254,9 @@ suid_taken gate n found old mid new taken h ep some b c =
     let told = told_if (is_full mid) handle_space None in
     let next : State = after_suid mid in
     number_taken gate phase.Suid n told next found old mid new taken (λ s r. h)
-    (λ s r e. number_judged gate phase.Suid mid s n (cut_of old ++ taken) told next (suid_field n) tt r e b
+    (λ s r e. number_judged gate phase.Suid mid s n (cut_of old ++ taken) told next (suid_token n) tt r e b
     (on_whole 8 n (cut_of old ++ taken) (λ n. told_if (is_full mid) handle_space None) b)
-    (ap (λ k. Some (suid_field k)) b.number) (λ _. ap (λ t. settled (advance t (suid_field n))) r))
+    (ap (λ k. Some (suid_token k)) b.number) (λ _. ap (λ t. settled (advance t (suid_token n))) r))
     ep tt (λ e. absurd (cc)) some b c
 
 -- its flags
@@ -267,7 +267,7 @@ flags_taken gate n found old mid new h ep c =
     let told = flags_reason (top_role mid.frames) n in
     let next : State = field_count_state mid n in
     byte_taken gate phase.Flags told next found old mid new n (λ s r. h r.0)
-    (λ s r e. byte_judged gate phase.Flags mid s n told next (flags_field n) tt r e refl refl refl (λ _. ap (λ t. settled (advance t (flags_field n))) r.1))
+    (λ s r e. byte_judged gate phase.Flags mid s n told next (flags_token n) tt r e refl refl refl (λ _. ap (λ t. settled (advance t (flags_token n))) r.1))
     (ap (λ q. open_in q old.meter.cut_phase) ep) (ap (λ q. cut_in q old.meter.kept) ep) tt (λ e. absurd (cc)) c
 
 -- the number of its fields
@@ -280,13 +280,13 @@ field_count_taken gate n found old mid new taken h ep some b c =
     let told = count_reason (2 ^ 15) n in
     let next = after_field_count mid n in
     number_taken gate phase.FieldCount n told next found old mid new taken (λ s r. h r.0)
-    (λ s r e. number_judged gate phase.FieldCount mid s n (cut_of old ++ taken) told next (field_count_field n) tt r e b
+    (λ s r e. number_judged gate phase.FieldCount mid s n (cut_of old ++ taken) told next (field_count_token n) tt r e b
     (on_whole 2 n (cut_of old ++ taken) (count_reason (2 ^ 15)) b)
-    (ap (λ k. Some (field_count_field k)) b.number) (λ _. ap (λ t. settled (advance t (field_count_field n))) r.1))
+    (ap (λ k. Some (field_count_token k)) b.number) (λ _. ap (λ t. settled (advance t (field_count_token n))) r.1))
     ep tt (λ e. absurd (cc)) some b c
 
 -- the type code of a field: its name comes next, and its type text, if it has one
-code_goes : (r : Seen) (n b : ℕ) → r.header.fields ≡ n → 0 < n → settled (advance (moment_of r, fields_goals r n) (code_field b)) ≡ after_code r b
+code_goes : (r : Seen) (n b : ℕ) → r.header.fields ≡ n → 0 < n → settled (advance (moment_of r, fields_goals r n) (code_token b)) ≡ after_code r b
 unfolding after_code
 code_goes r zero b e h = absurd (omega arith)
 code_goes r (suc n) b e h = let d : suc n - 1 ≡ n = omega arith in rw e (rw d refl)
@@ -298,8 +298,8 @@ type_code_taken gate b found old mid new h ep c =
     let told = code_reason mid.header.seen b in
     let next : State = after_code mid b in
     byte_taken gate phase.TypeCode told next found old mid new b (λ s r. h r.0 r.1)
-    (λ s r e. byte_judged gate phase.TypeCode mid s b told next (code_field b) tt r e refl refl refl
-    (λ _. ap (λ t. settled (advance t (code_field b))) r.2 ∙ code_goes mid mid.header.fields b refl r.1))
+    (λ s r e. byte_judged gate phase.TypeCode mid s b told next (code_token b) tt r e refl refl refl
+    (λ _. ap (λ t. settled (advance t (code_token b))) r.2 ∙ code_goes mid mid.header.fields b refl r.1))
     (ap (λ q. open_in q old.meter.cut_phase) ep) (ap (λ q. cut_in q old.meter.kept) ep) tt (λ e. absurd (cc)) c
 
 -- the number of interfaces of a proxy descriptor
@@ -312,7 +312,7 @@ interface_count_taken gate n found old mid new taken h ep some b c =
     let told = count_reason (2 ^ 31) n in
     let next = after_interfaces mid n in
     number_taken gate phase.InterfaceCount n told next found old mid new taken (λ s r. h r.0)
-    (λ s r e. number_judged gate phase.InterfaceCount mid s n (cut_of old ++ taken) told next (interface_count_field n) tt r e b
+    (λ s r e. number_judged gate phase.InterfaceCount mid s n (cut_of old ++ taken) told next (interface_count_token n) tt r e b
     (on_whole 4 n (cut_of old ++ taken) (count_reason (2 ^ 31)) b)
-    (ap (λ k. Some (interface_count_field k)) b.number) (λ _. ap (λ t. settled (advance t (interface_count_field n))) r.1))
+    (ap (λ k. Some (interface_count_token k)) b.number) (λ _. ap (λ t. settled (advance t (interface_count_token n))) r.1))
     ep tt (λ e. absurd (cc)) some b c

@@ -1,11 +1,11 @@
--- A step of `skip`: what was taken of a piece, field after field.
+-- A step of `skip`: what was taken of a piece, token after token.
 use Rattle.std.proofs.Common.{◌≡◌, ℕ, zero, suc, ◌+◌, ◌-◌, ◌^◌, ◌<◌, ◌≤◌, ◌==◌, Bool, true, false, nat_lt, max, ◌&&◌, if◌then◌else◌, List, ◌∷◌, ◌++◌, length, take, drop, Option, Some, None, Result, Ok, Err, refl, sym, ◌∙◌, ap, subst, arith, append_assoc, append-nil, length-append}
 use Rattle.std.proofs.lemmas.Bool.Decides.{nat_tests}
 use Rattle.std.proofs.lemmas.List.{length-take-le, take-append-drop}
 use Rattle.jser_grammar.specs.Parts.{IsBytes}
-use Rattle.jser_reading.specs.Labels.{StreamField, Position, Label, Piece}
-use Rattle.jser_reading.specs.FieldBytes.{joined}
-use Rattle.jser_reading.specs.FieldsFromBytes.{size_in}
+use Rattle.jser_reading.specs.Labels.{StreamToken, Position, Label, Piece}
+use Rattle.jser_reading.specs.TokenBytes.{joined}
+use Rattle.jser_reading.specs.TokensFromBytes.{size_in}
 use Rattle.jser_reading.specs.Goals.{State, Goal, interfaces_goal, settled}
 use Rattle.jser_reading.specs.Roles.{Role as GoalRole}
 use Rattle.jser_reading.specs.Moments.{Moment}
@@ -43,13 +43,13 @@ use Rattle.jser_reader.specs.Passes.{bytes_passed, HaltCases, PassCases, PassTel
 use Rattle.jser_reader.specs.WholeContents.{IsWhole, StaysWhole}
 use Rattle.jser_reader.proofs.StandLemmas.{took_stands}
 use Rattle.jser_reader.proofs.CountLemmas.{counts_at_top, count_one_more, places_are}
-use Rattle.jser_reader.proofs.TotalLemmas.{field_counts, goes_on_counts}
-use Rattle.jser_reader.proofs.ReaderLemmas.{take_whole, front_of_front, bytes_front, field_stops, never_spent, has_stopped}
+use Rattle.jser_reader.proofs.TotalLemmas.{token_counts, goes_on_counts}
+use Rattle.jser_reader.proofs.ReaderLemmas.{take_whole, front_of_front, bytes_front, token_stops, never_spent, has_stopped}
 use Rattle.jser_reader.proofs.MemoryLemmas.{stands_in, label_next, not_inside}
 use Rattle.jser_reader.proofs.SkipMemory.{size_after}
 use Rattle.jser_reader.proofs.SkipLemmas.{take_more}
-use Rattle.jser_reader.proofs.ItemCalls.{field_open}
-use Rattle.jser_reader.proofs.NextLemmas.{CountsField, next_item, next_full, no_bytes}
+use Rattle.jser_reader.proofs.ItemCalls.{token_open}
+use Rattle.jser_reader.proofs.NextLemmas.{CountsToken, next_item, next_full, no_bytes}
 use Rattle.jser_reader.proofs.WholeContentLemmas.{stopped_whole, whole_stopped}
 
 -- ---- one step after another
@@ -58,7 +58,7 @@ pub joined_takes : (piece rest : List ℕ) (used k : ℕ) → used ≤ length pi
 joined_takes piece rest used k le e =
     take_more (take used piece) rest k ∙ ap (λ n. take (n + k) (take used piece ++ rest)) (length-take-le used piece le) ∙ ap (take (used + k)) (sym e)
 
--- to stand for fields is to stand for their bytes
+-- to stand for tokens is to stand for their bytes
 pub for_bytes : (gate : Gate) (front : List Piece) (cut : List ℕ) (r : Seen) (tally : Tally) → StandsIn gate front cut r tally → StandsFor gate (joined front ++ cut) r tally
 unfolding StandsFor
 for_bytes gate front cut r tally st = (st.counted, st.within)
@@ -138,7 +138,7 @@ pass_stopped gate piece r tally e = record {
   inside = λ front cut label st comes inside other. absurd (no_bytes gate (joined front ++ cut) r tally e (for_bytes gate front cut r tally st));
 }
 
--- ---- a field ends
+-- ---- a token ends
 
 -- then the piece does not end inside it
 ended_inside : (gate : Gate) (piece : List ℕ) (used : ℕ) (old new : Seen) (tally : Tally) (front : List Piece) (cut : List ℕ) (label : Label)
@@ -156,7 +156,7 @@ ended_inside gate piece used old new tally front cut label t st comes inside =
     omega arith
 
 pub passes_end : (gate : Gate) (used : ℕ) (took : Taken) (piece : List ℕ) (old new : Seen) (before after : Tally) → TakesFromFor gate took piece old new
-    → took ≡ taken.Ended used → CountsField old new before after → IsGate gate → CanPass old piece → Passes gate piece (Some used) old before new after
+    → took ≡ taken.Ended used → CountsToken old new before after → IsGate gate → CanPass old piece → Passes gate piece (Some used) old before new after
 unfolding TakesFromFor PassTells PassInside NextTells
 passes_end gate used took piece old new before after k e c g can =
     let t = subst (λ x. TakenCases gate x piece old new) e k in
@@ -167,61 +167,61 @@ passes_end gate used took piece old new before after k e c g can =
       inside = λ front cut label st comes inside. absurd (ended_inside gate piece used old new before front cut label t.2 st comes inside);
     }
 
--- ---- quiet fields
+-- ---- quiet tokens
 
-quiet_interfaces : (m : Moment) (goals : List Goal) (role : GoalRole) (d number count : ℕ) (field : StreamField)
-    → begins_place (label_of (m, interfaces_goal role d number count ∷ goals)).position field ≡ false
-quiet_interfaces m goals role d number zero field = refl
-quiet_interfaces m goals role d number (suc n) field = refl
+quiet_interfaces : (m : Moment) (goals : List Goal) (role : GoalRole) (d number count : ℕ) (token : StreamToken)
+    → begins_place (label_of (m, interfaces_goal role d number count ∷ goals)).position token ≡ false
+quiet_interfaces m goals role d number zero token = refl
+quiet_interfaces m goals role d number (suc n) token = refl
 
-quiet_fields : (r : Seen) (count : ℕ) (field : StreamField) → begins_place (label_of (moment_of r, fields_goals r count)).position field ≡ false
-quiet_fields r zero field = refl
-quiet_fields r (suc n) field = refl
+quiet_fields : (r : Seen) (count : ℕ) (token : StreamToken) → begins_place (label_of (moment_of r, fields_goals r count)).position token ≡ false
+quiet_fields r zero token = refl
+quiet_fields r (suc n) token = refl
 
-quiet_text : (r : Seen) (t : TextFor) (long : Bool) (goals : List Goal) (field : StreamField)
-    → begins_place (label_of (moment_of r, text_goal r t long ∷ goals)).position field ≡ false
-quiet_text r text.Value long goals field = refl
-quiet_text r text.FieldType long goals field = refl
-quiet_text r (text.FieldName is_object) long goals field = refl
-quiet_text r text.ClassName long goals field = refl
-quiet_text r text.InterfaceName long goals field = quiet_interfaces (moment_of r) goals (top_role r.frames) (length r.frames) (top_number r.frames) r.header.interfaces field
+quiet_text : (r : Seen) (t : TextFor) (long : Bool) (goals : List Goal) (token : StreamToken)
+    → begins_place (label_of (moment_of r, text_goal r t long ∷ goals)).position token ≡ false
+quiet_text r text.Value long goals token = refl
+quiet_text r text.FieldType long goals token = refl
+quiet_text r (text.FieldName is_object) long goals token = refl
+quiet_text r text.ClassName long goals token = refl
+quiet_text r text.InterfaceName long goals token = quiet_interfaces (moment_of r) goals (top_role r.frames) (length r.frames) (top_number r.frames) r.header.interfaces token
 
-abbrev BeginsNone : State → StreamField → Type 0
-BeginsNone s field = begins_place (label_of s).position field ≡ false
+abbrev BeginsNone : State → StreamToken → Type 0
+BeginsNone s token = begins_place (label_of s).position token ≡ false
 
-of_state : (s t : State) (field : StreamField) → s ≡ t → BeginsNone t field → BeginsNone s field
-of_state s t field e h = subst (λ s. BeginsNone s field) (sym e) h
+of_state : (s t : State) (token : StreamToken) → s ≡ t → BeginsNone t token → BeginsNone s token
+of_state s t token e h = subst (λ s. BeginsNone s token) (sym e) h
 
-quiet_place : (p : Phase) (r : Seen) (s : State) (cut : List ℕ) (field : StreamField) → IsQuiet p → StandsAt p r s cut → BeginsNone s field
-quiet_place phase.ClassTag r s cut field q h = of_state s _ field h.0 refl
-quiet_place phase.TextTag r s cut field q h = of_state s _ field h.0.2 refl
-quiet_place phase.BackHandle r s cut field q h = of_state s _ field h.0 refl
-quiet_place phase.ClassHandle r s cut field q h = of_state s _ field h.0 refl
-quiet_place phase.TextHandle r s cut field q h = of_state s _ field h.0.2 refl
-quiet_place phase.Length8 r s cut field q h = of_state s _ field h.0.2 (quiet_text r r.text true (text_rest r r.text) field)
-quiet_place phase.Suid r s cut field q h = of_state s _ field h.0 refl
-quiet_place phase.Flags r s cut field q h = of_state s _ field h.0.1 refl
-quiet_place phase.FieldCount r s cut field q h = of_state s _ field h.0.1 refl
-quiet_place phase.TypeCode r s cut field q h = of_state s _ field h.0.2 (quiet_fields r r.header.fields field)
-quiet_place phase.Length2 r s cut field q h = of_state s _ field h.0.1 (quiet_text r r.text false (text_rest r r.text) field)
-quiet_place phase.Text r s cut field q h = of_state s _ field h.is (quiet_text r r.text h.long (text_rest r r.text) field)
-quiet_place phase.ArrayLength r s cut field q h = of_state s _ field h.0.is refl
-quiet_place phase.BlockLength1 r s cut field q h = of_state s _ field h.0 refl
-quiet_place phase.InterfaceCount r s cut field q h = of_state s _ field h.0.1 refl
-quiet_place phase.BlockLength4 r s cut field q h = of_state s _ field h.0 refl
-quiet_place phase.Prims r s cut field q h = of_state s _ field h.is refl
-quiet_place phase.Bytes r s cut field q h = of_state s _ field h.is refl
-quiet_place _ r s cut field q h = absurd q
+quiet_place : (p : Phase) (r : Seen) (s : State) (cut : List ℕ) (token : StreamToken) → IsQuiet p → StandsAt p r s cut → BeginsNone s token
+quiet_place phase.ClassTag r s cut token q h = of_state s _ token h.0 refl
+quiet_place phase.TextTag r s cut token q h = of_state s _ token h.0.2 refl
+quiet_place phase.BackHandle r s cut token q h = of_state s _ token h.0 refl
+quiet_place phase.ClassHandle r s cut token q h = of_state s _ token h.0 refl
+quiet_place phase.TextHandle r s cut token q h = of_state s _ token h.0.2 refl
+quiet_place phase.Length8 r s cut token q h = of_state s _ token h.0.2 (quiet_text r r.text true (text_rest r r.text) token)
+quiet_place phase.Suid r s cut token q h = of_state s _ token h.0 refl
+quiet_place phase.Flags r s cut token q h = of_state s _ token h.0.1 refl
+quiet_place phase.FieldCount r s cut token q h = of_state s _ token h.0.1 refl
+quiet_place phase.TypeCode r s cut token q h = of_state s _ token h.0.2 (quiet_fields r r.header.fields token)
+quiet_place phase.Length2 r s cut token q h = of_state s _ token h.0.1 (quiet_text r r.text false (text_rest r r.text) token)
+quiet_place phase.Text r s cut token q h = of_state s _ token h.is (quiet_text r r.text h.long (text_rest r r.text) token)
+quiet_place phase.ArrayLength r s cut token q h = of_state s _ token h.0.is refl
+quiet_place phase.BlockLength1 r s cut token q h = of_state s _ token h.0 refl
+quiet_place phase.InterfaceCount r s cut token q h = of_state s _ token h.0.1 refl
+quiet_place phase.BlockLength4 r s cut token q h = of_state s _ token h.0 refl
+quiet_place phase.Prims r s cut token q h = of_state s _ token h.is refl
+quiet_place phase.Bytes r s cut token q h = of_state s _ token h.is refl
+quiet_place _ r s cut token q h = absurd q
 
 pub quiet_refs : (gate : Gate) (old new : Seen) (bytes taken : List ℕ) → Takes gate taken true old new → IsBytes taken → HasTaken gate bytes old → IsQuiet old.phase
     → new.refs ≡ old.refs
 unfolding Takes took_stands
 quiet_refs gate old new bytes taken t hb st q =
-    let x = t (left begin_state st.fields) st.cut st.stands in
-    let s = settled (left begin_state st.fields) in
+    let x = t (left begin_state st.tokens) st.cut st.stands in
+    let s = settled (left begin_state st.tokens) in
     places_are gate (bytes ++ taken) new (took_stands gate old new bytes taken t hb st)
-    ∙ count_one_more begins_place st.fields (label_of s) x.field
-    ∙ ap (λ b. one_more_if b (count_of begins_place st.fields)) (quiet_place old.phase old s st.cut x.field q st.stands.stands)
+    ∙ count_one_more begins_place st.tokens (label_of s) x.token
+    ∙ ap (λ b. one_more_if b (count_of begins_place st.tokens)) (quiet_place old.phase old s st.cut x.token q st.stands.stands)
     ∙ sym (places_are gate bytes old st)
 
 -- where the last content began is not asked at the top
@@ -234,7 +234,7 @@ passes_at_top gate piece used old new before after begun top h = record {
       let x = h.inside front cut label st comes inside in
       record {
         counted = counts_at_top gate (joined front ++ (cut ++ take used piece)) new after begun top x.counted;
-        fields_are = x.fields_are;
+        tokens_are = x.tokens_are;
         cut_is = x.cut_is;
         within = x.within;
       };
@@ -270,7 +270,7 @@ pub quiet_takes : (gate : Gate) (used : ℕ) (piece : List ℕ) (old new : Seen)
 unfolding PassTells PassInside StandsFor
 quiet_takes gate used piece old new tally le t q can = record {
   tells = λ bytes st.
-      let x = field_counts gate bytes piece piece used old new tally can.within le can.all_bytes t st.0 st.1 in
+      let x = token_counts gate bytes piece piece used old new tally can.within le can.all_bytes t st.0 st.1 in
       let refs = quiet_refs gate old new bytes (take used piece) t (bytes_front used piece can.all_bytes) st.0.taken q in
       let same = quiet_tally (mark_of old) (mark_of new) tally (quiet_top old.phase q) refs in
       (le, (subst (λ a. HasCounted gate (bytes ++ take used piece) new a) same x.0, x.1));
@@ -283,14 +283,14 @@ unfolding TakesFromFor
 quiet_end gate used took piece old new tally k e q can =
     let t = subst (λ x. TakenCases gate x piece old new) e k in quiet_takes gate used piece old new tally t.1 t.2 q can
 
--- ---- a field goes on
+-- ---- a token goes on
 
 keeps_passes : (gate : Gate) (used : ℕ) (piece : List ℕ) (old new : Seen) (tally : Tally) → used ≤ length piece → Keeps gate (take used piece) old new → CanPass old piece
     → Passes gate piece (Some used) old tally new tally
 unfolding PassTells PassInside StandsFor
 keeps_passes gate used piece old new tally le k can = record {
   tells = λ bytes st. (le, goes_on_counts gate bytes piece piece used old new tally can.within le can.all_bytes k st.0 st.1);
-  inside = λ front cut label st comes inside. field_open gate piece piece used old new tally front cut st can.within le can.all_bytes k;
+  inside = λ front cut label st comes inside. token_open gate piece piece used old new tally front cut st can.within le can.all_bytes k;
 }
 
 pub passes_part : (gate : Gate) (used : ℕ) (took : Taken) (piece : List ℕ) (old new : Seen) (tally : Tally) → TakesFromFor gate took piece old new
@@ -323,7 +323,7 @@ passes_stop gate used took piece old new before after k e can ea =
     halts some le t bytes st room (stop.Refused refusal) es = (
       used,
       le,
-      field_stops gate bytes piece piece used refusal old new can.within le can.all_bytes t st.taken room es,
+      token_stops gate bytes piece piece used refusal old new can.within le can.all_bytes t st.taken room es,
       some,
       stopped_whole gate old new bytes (take used piece) refusal after.begun t es (bytes_front used piece can.all_bytes) st.taken
           (subst (λ x. IsWhole gate bytes x.begun) (sym ea) (st.whole room)),
@@ -340,7 +340,7 @@ passes_stop gate used took piece old new before after k e can ea =
         (subst (λ l. MayRunOut l.position (cut ++ take used piece)) (sym (label_next front label comes))
         (subst (StopTold gate s cut (take used piece) old.meter.from) none h))
 
--- ---- any of these, of a quiet field
+-- ---- any of these, of a quiet token
 
 pub quiet_passes : (gate : Gate) (took : Taken) (piece : List ℕ) (old new : Seen) (tally : Tally) → TakesFromFor gate took piece old new
     → IsQuiet old.phase → CanPass old piece → Passes gate piece (bytes_passed (passed_of took (length piece))) old tally new tally
@@ -361,7 +361,7 @@ some_passed gate (taken.Stopped used) piece old new k some = tt
 
 -- ---- a piece that reaches over the limit of bytes
 
--- a piece that ends inside a field has a front that ends inside it
+-- a piece that ends inside a token has a front that ends inside it
 inside_front : (w : Position) (a b : List ℕ) → EndsInside w (a ++ b) → EndsInside w a
 inside_front w a b inside = go (nat_lt (length a) (size_in w a)) refl
   where
@@ -378,9 +378,9 @@ pub passes_front : (gate : Gate) (piece front : List ℕ) (result : Option ℕ) 
 unfolding PassTells PassInside
 passes_front gate piece front result old new before after h w = record {
   tells = λ bytes st. told result bytes (h.tells bytes st);
-  inside = λ fields cut label st comes inside.
-      goes_on result fields cut label (h.tells (joined fields ++ cut) (for_bytes gate fields cut old before st))
-      (h.inside fields cut label st comes (inside_front label.position (cut ++ front) (drop (length front) piece) (subst (EndsInside label.position) (all cut) inside)));
+  inside = λ tokens cut label st comes inside.
+      goes_on result tokens cut label (h.tells (joined tokens ++ cut) (for_bytes gate tokens cut old before st))
+      (h.inside tokens cut label st comes (inside_front label.position (cut ++ front) (drop (length front) piece) (subst (EndsInside label.position) (all cut) inside)));
 }
   where
     all : (cut : List ℕ) → cut ++ piece ≡ (cut ++ front) ++ drop (length front) piece
@@ -404,10 +404,10 @@ passes_front gate piece front result old new before after h w = record {
         (omega arith, subst (λ xs. StandsFor gate (bytes ++ xs) new after) (front_of_front old piece front used w x.0) x.1)
     told None bytes x = (x.0, halts new.meter.stop bytes x.1)
 
-    goes_on : (result : Option ℕ) (fields : List Piece) (cut : List ℕ) (label : Label) → PassCases gate (joined fields ++ cut) front result new after
-        → InsideCases gate fields cut front (IsCheckedName label.position) result new after → InsideCases gate fields cut piece (IsCheckedName label.position) result new after
-    goes_on (Some used) fields cut label t x = subst (λ xs. StandsIn gate fields (cut ++ xs) new after) (front_of_front old piece front used w t.0) x
-    goes_on None fields cut label t x = x
+    goes_on : (result : Option ℕ) (tokens : List Piece) (cut : List ℕ) (label : Label) → PassCases gate (joined tokens ++ cut) front result new after
+        → InsideCases gate tokens cut front (IsCheckedName label.position) result new after → InsideCases gate tokens cut piece (IsCheckedName label.position) result new after
+    goes_on (Some used) tokens cut label t x = subst (λ xs. StandsIn gate tokens (cut ++ xs) new after) (front_of_front old piece front used w t.0) x
+    goes_on None tokens cut label t x = x
 
 -- not a byte of it is within the limit
 pub passes_full : (why : Stop) (piece front : List ℕ) (gate : Gate) (old new : Seen) (before after : Tally) → IsWithin old piece front → IsBytes piece → length front ≡ 0 → 0 < length piece
@@ -419,8 +419,8 @@ passes_full why piece front gate old new before after w h none some x g ea = rec
       let y = next_full why piece front gate old new before after w h none some x g ea bytes st in
       let z = stops bytes st in
       (z.1.phase, halts bytes new.meter.stop z.1.phase z.1.stop (subst (λ s. NextCases gate bytes piece (Err s) new after) z.0 y));
-  inside = λ fields cut label st comes inside other out.
-      let z = stops (joined fields ++ cut) (for_bytes gate fields cut old before st) in
+  inside = λ tokens cut label st comes inside other out.
+      let z = stops (joined tokens ++ cut) (for_bytes gate tokens cut old before st) in
       let e = z.1.stop in
       absurd (cc);
 }

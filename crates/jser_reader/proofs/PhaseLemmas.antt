@@ -1,11 +1,11 @@
--- Which field the phase is: its label, and that fewer bytes than it has do not decide.
+-- Which token the phase is: its label, and that fewer bytes than it has do not decide.
 use Rattle.std.proofs.Common.{◌≡◌, ℕ, zero, suc, ◌+◌, ◌^◌, ◌<◌, ◌≤◌, Bool, true, false, List, [], ◌∷◌, ◌++◌, length, None, refl, sym, ◌∙◌, ap, subst, arith, length-append, ◌||◌}
 use Rattle.jser_table.specs.Entries.{other_entry, chain_at}
 use Rattle.jser_grammar.specs.Parts.{is_external}
 use Rattle.jser_reading.specs.Roles.{object_owner, array_owner, enum_owner, class_owner}
 use Rattle.jser_reading.specs.Moments.{Moment, assign, closing}
 use Rattle.jser_reading.specs.Labels.{Position, nowhere, header_at, top_at, annotation_at, value_at, text_place_at, class_place_at, superclass_place_at, back_handle_at, text_handle_at, class_handle_at, superclass_handle_at, string_at, class_name_at, field_name_at, interface_name_at, suid_at, field_count_at, interface_count_at, array_length_at, flags_at, type_code_at, block_length_at, Label}
-use Rattle.jser_reading.specs.FieldsFromBytes.{size_in}
+use Rattle.jser_reading.specs.TokensFromBytes.{size_in}
 use Rattle.jser_reading.specs.Goals.{Part, raw_part, value_part, annotation_part, Goal, block_goal, parts_goal, made_goal, close_goal, fields_goal, interfaces_goal, State, object_parts, settle_parts, settle, settled}
 use Rattle.jser_reading.specs.Accepts.{label_of}
 use Rattle.jser_reading.specs.Scanner.{more, IsUndecided}
@@ -42,7 +42,7 @@ IsFixed phase.Cut = ⊥
 IsFixed phase.Stopped = ⊥
 IsFixed _ = Unit {0}
 
--- the position and the depth of the field that a phase is
+-- the position and the depth of the token that a phase is
 abbrev pub phase_position : Phase → Seen → Position
 phase_position phase.Header r = header_at
 phase_position phase.Top r = top_at
@@ -146,7 +146,7 @@ label_is phase.Bytes r s i h = absurd i
 label_is phase.Cut r s i h = absurd i
 label_is phase.Stopped r s i h = absurd i
 
--- ---- fewer bytes than the field has do not decide
+-- ---- fewer bytes than the token has do not decide
 
 quiet_phase : (g : Gate) (l : Label) (p : Phase) (r : Seen) (bytes : List ℕ) → IsFixed p → length bytes < size_of_phase p → IsRightSoFar p bytes
     → reason_at g l (phase_position p r) bytes ≡ None
@@ -248,7 +248,7 @@ text_position r (text.FieldName is_object) long = field_name_at
 text_position r text.ClassName long = class_name_at (head_role r)
 text_position r text.InterfaceName long = interface_name_at
 
--- the field is the text that the machine holds it for
+-- the token is the text that the machine holds it for
 pub record IsTextOf (r : Seen) (long : Bool) (s : State) : Type 0 where
   pub position : (label_of s).position ≡ text_position r r.text long
   pub is_text : IsTextAt long (label_of s).position
@@ -281,7 +281,7 @@ text_is r long s f e =
     let p : (label_of (settled s)).position ≡ text_position r r.text long = ap (λ t. (label_of t).position) e ∙ x.0 in
     record { position = p; is_text = subst (IsTextAt long) (sym p) x.1; some = x.2 }
 
--- ---- the field that is open
+-- ---- the token that is open
 
 pub record IsOpenAt (p : Phase) (r : Seen) (s : State) (cut : List ℕ) : Type 0 where
   pub ready : ReadyAt p r s
@@ -304,7 +304,7 @@ pub is_open : (p : Phase) (r : Seen) (s : State) (cut : List ℕ) → StandsAt r
 is_open p r s cut h e some =
     subst (λ q. IsOpenAt q r s cut) e (open_at r.phase r s cut refl h (subst (λ q. 0 < size_of_phase q) (sym e) some))
 
--- a field that is not cut
+-- a token that is not cut
 
 whole_open_at : (p cut_phase : Phase) (kept : List ℕ) → 0 < size_of_phase p → (open_in p cut_phase ≡ p) × (cut_in p kept ≡ [])
 whole_open_at phase.Cut cut_phase kept some = absurd (omega arith)
@@ -374,7 +374,7 @@ differs_less (x ∷ xs) (y ∷ a) b e = both _ (differs xs (a ++ b)) (differs xs
     both true q q' e k = e
     both false q q' e k = k e
 
--- the bytes of a field up to some that were right so far
+-- the bytes of a token up to some that were right so far
 pub fixed_undecided : (g : Gate) (p : Phase) (r : Seen) (s : State) (bytes : List ℕ) → IsFixed p → ReadyAt p r s
     → length bytes ≤ size_of_phase p → ((a : List ℕ) (c : ℕ) (d : List ℕ) → bytes ≡ a ++ (c ∷ d) → IsRightSoFar p a)
     → IsUndecided (verdict g) (label_of s) bytes

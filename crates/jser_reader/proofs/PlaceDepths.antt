@@ -1,13 +1,13 @@
--- No field lies deeper than one below the deepest place: a goal stands in a place that has begun, and a place that is to
+-- No token lies deeper than one below the deepest place: a goal stands in a place that has begun, and a place that is to
 -- begin next is one deeper.
 use Rattle.std.proofs.Common.{◌≡◌, ℕ, zero, suc, ◌+◌, ◌≤◌, max, Bool, true, false, ◌||◌, List, [], ◌∷◌, ◌++◌, refl, sym, ◌∙◌, subst, arith}
-use Rattle.jser_reading.proofs.Vocabulary.{other_entry, chain_at, Layer, is_object_code, proxy_layer, is_external, Owner, object_owner, array_owner, enum_owner, class_owner, ChainOwner, Role, Moment, assign, closing, Tag, null_tag, reference_tag, class_desc_tag, object_tag, string_tag, array_tag, class_tag, long_string_tag, proxy_desc_tag, enum_tag, StreamField, header_field, tag_field, block_tag_field, end_tag_field, reset_tag_field, handle_field, suid_field, flags_field, field_count_field, interface_count_field, array_length_field, code_field, text_field, block_length_field, prims_field, bytes_field, Piece, piece, Part, raw_part, value_part, annotation_part, Goal, header_goal, top_goal, annotation_goal, back_handle_goal, text_place_goal, text_handle_goal, field_name_goal, string_goal, block_length_goal, block_goal, array_length_goal, parts_goal, class_goal, class_handle_goal, made_goal, superclass_goal, superclass_handle_goal, close_goal, class_name_goal, suid_goal, flags_goal, field_count_goal, fields_goal, interface_count_goal, interfaces_goal, State, object_parts, read_layer, ending, settle_parts, settle, settled, depth_of_parts, depth_of_goal, label_of, begin, type_goals, advance_at, advance, begin_state, left}
+use Rattle.jser_reading.proofs.Vocabulary.{other_entry, chain_at, Layer, is_object_code, proxy_layer, is_external, Owner, object_owner, array_owner, enum_owner, class_owner, ChainOwner, Role, Moment, assign, closing, Tag, null_tag, reference_tag, class_desc_tag, object_tag, string_tag, array_tag, class_tag, long_string_tag, proxy_desc_tag, enum_tag, StreamToken, header_token, tag_token, block_tag_token, end_tag_token, reset_tag_token, handle_token, suid_token, flags_token, field_count_token, interface_count_token, array_length_token, code_token, text_token, block_length_token, prims_token, bytes_token, Piece, piece, Part, raw_part, value_part, annotation_part, Goal, header_goal, top_goal, annotation_goal, back_handle_goal, text_place_goal, text_handle_goal, field_name_goal, string_goal, block_length_goal, block_goal, array_length_goal, parts_goal, class_goal, class_handle_goal, made_goal, superclass_goal, superclass_handle_goal, close_goal, class_name_goal, suid_goal, flags_goal, field_count_goal, fields_goal, interface_count_goal, interfaces_goal, State, object_parts, read_layer, ending, settle_parts, settle, settled, depth_of_parts, depth_of_goal, label_of, begin, type_goals, advance_at, advance, begin_state, left}
 use Rattle.jser_reading.specs.Accepts.{position_of}
 use Rattle.jser_reading.specs.GateLimits.{begins_place, gate_of}
 use Rattle.jser_reading.specs.Machine.{Runs}
 use Rattle.jser_reading.specs.Totals.{number_if, deepest}
 use Rattle.jser_reading.proofs.Observed.{observed}
-use Rattle.jser_reading.proofs.Told.{fields_told_law}
+use Rattle.jser_reading.proofs.Told.{tokens_told_law}
 use Rattle.jser_verdict.specs.Gates.{Gate, limits_of}
 use Rattle.jser_verdict.proofs.Scanning.{scanning_verdict}
 use Rattle.jser_verdict.proofs.Scans.{verdict_scans}
@@ -47,7 +47,7 @@ abbrev AllDeep : ℕ → List Goal → Type 0
 AllDeep D [] = Unit {0}
 AllDeep D (g ∷ gs) = Deep D g × AllDeep D gs
 
--- goals that take no field
+-- goals that take no token
 
 deep_parts : (D : ℕ) (parts : List Part) (d : ℕ) (m : Moment) (gs : List Goal) (s : State) → d ≤ D → AllDeep D gs → AllDeep D s.1
     → AllDeep D (settle_parts d parts m gs s).1
@@ -78,7 +78,7 @@ deep_settle D (interfaces_goal role d number zero ∷ gs) m p = deep_ending D ro
 deep_settle D (interfaces_goal role d number (suc n) ∷ gs) m p = p
 deep_settle D (g ∷ gs) m p = p
 
--- one field
+-- one token
 
 deep_value : (D : ℕ) (tag : Tag) (d : ℕ) (m : Moment) (gs : List Goal) → d ≤ D → AllDeep D gs → AllDeep D (begin d m tag gs).1
 deep_value D null_tag d m gs a p = p
@@ -93,14 +93,14 @@ deep_value D proxy_desc_tag d m gs a p = (a, p)
 deep_value D enum_tag d m gs a p = (a, p)
 
 deep_text : (D : ℕ) (tag : Tag) (d : ℕ) (m : Moment) (gs : List Goal) → AllDeep D (text_place_goal d ∷ gs)
-    → AllDeep D (advance_at m (text_place_goal d) gs (tag_field tag)).1
+    → AllDeep D (advance_at m (text_place_goal d) gs (tag_token tag)).1
 deep_text D reference_tag d m gs p = p
 deep_text D string_tag d m gs p = p
 deep_text D long_string_tag d m gs p = p
 deep_text D tag d m gs p = p
 
 deep_class : (D : ℕ) (tag : Tag) (owner : Owner) (d : ℕ) (m : Moment) (gs : List Goal) → AllDeep D (class_goal owner d ∷ gs)
-    → AllDeep D (advance_at m (class_goal owner d) gs (tag_field tag)).1
+    → AllDeep D (advance_at m (class_goal owner d) gs (tag_token tag)).1
 deep_class D reference_tag owner d m gs p = p
 deep_class D class_desc_tag owner d m gs p = (p.0, (p.0, p.1))
 deep_class D proxy_desc_tag owner d m gs p = (p.0, (p.0, p.1))
@@ -108,7 +108,7 @@ deep_class D tag owner d m gs p = p
 
 deep_superclass : (D : ℕ) (tag : Tag) (owner : ChainOwner) (strict : Bool) (d number : ℕ) (l : Layer) (m : Moment) (gs : List Goal)
     → d ≤ D → AllDeep D (superclass_goal owner strict d number l ∷ gs)
-    → AllDeep D (advance_at m (superclass_goal owner strict d number l) gs (tag_field tag)).1
+    → AllDeep D (advance_at m (superclass_goal owner strict d number l) gs (tag_token tag)).1
 deep_superclass D reference_tag owner strict d number l m gs a p = (a, p.1)
 deep_superclass D class_desc_tag owner strict d number l m gs a p = (a, (tt, p.1))
 deep_superclass D proxy_desc_tag owner strict d number l m gs a p = (a, (tt, p.1))
@@ -121,40 +121,40 @@ deep_type D true d fields gs a p = (a, (a, p))
 deep_type D false d fields gs a p = (a, p)
 
 -- a place that begins is no deeper either
-deep_at : (D : ℕ) (g : Goal) (f : StreamField) (m : Moment) (gs : List Goal) → (begins_place (position_of g) f ≡ true → depth_of_goal g ≤ D)
+deep_at : (D : ℕ) (g : Goal) (f : StreamToken) (m : Moment) (gs : List Goal) → (begins_place (position_of g) f ≡ true → depth_of_goal g ≤ D)
     → AllDeep D (g ∷ gs) → AllDeep D (advance_at m g gs f).1
-deep_at D header_goal header_field m gs k p = p.1
-deep_at D top_goal (tag_field tag) m gs k p = deep_value D tag 1 m (top_goal ∷ gs) (k refl) p
-deep_at D top_goal (block_tag_field long) m gs k p = (omega arith, p)
-deep_at D top_goal reset_tag_field m gs k p = p
-deep_at D (annotation_goal d) (tag_field tag) m gs k p = deep_value D tag (suc d) m (annotation_goal d ∷ gs) (k refl) p
-deep_at D (annotation_goal d) (block_tag_field long) m gs k p = (p.0, p)
-deep_at D (annotation_goal d) end_tag_field m gs k p = p.1
-deep_at D (parts_goal d (value_part ∷ parts)) (tag_field tag) m gs k p = deep_value D tag (suc d) m (parts_goal d parts ∷ gs) (k refl) p
-deep_at D (parts_goal d (raw_part c (suc n) ∷ parts)) (prims_field ps) m gs k p = p
-deep_at D (block_length_goal long d) (block_length_field long' n) m gs k p = p
-deep_at D (block_goal d (suc n)) (bytes_field b) m gs k p = p.1
-deep_at D (text_place_goal d) (tag_field tag) m gs k p = deep_text D tag d m gs p
-deep_at D (class_goal owner d) (tag_field tag) m gs k p = deep_class D tag owner d m gs p
-deep_at D (superclass_goal owner strict d number l) (tag_field tag) m gs k p = deep_superclass D tag owner strict d number l m gs (k refl) p
-deep_at D (fields_goal role d number kind flags seen codes (suc n)) (code_field c) m gs k p =
+deep_at D header_goal header_token m gs k p = p.1
+deep_at D top_goal (tag_token tag) m gs k p = deep_value D tag 1 m (top_goal ∷ gs) (k refl) p
+deep_at D top_goal (block_tag_token long) m gs k p = (omega arith, p)
+deep_at D top_goal reset_tag_token m gs k p = p
+deep_at D (annotation_goal d) (tag_token tag) m gs k p = deep_value D tag (suc d) m (annotation_goal d ∷ gs) (k refl) p
+deep_at D (annotation_goal d) (block_tag_token long) m gs k p = (p.0, p)
+deep_at D (annotation_goal d) end_tag_token m gs k p = p.1
+deep_at D (parts_goal d (value_part ∷ parts)) (tag_token tag) m gs k p = deep_value D tag (suc d) m (parts_goal d parts ∷ gs) (k refl) p
+deep_at D (parts_goal d (raw_part c (suc n) ∷ parts)) (prims_token ps) m gs k p = p
+deep_at D (block_length_goal long d) (block_length_token long' n) m gs k p = p
+deep_at D (block_goal d (suc n)) (bytes_token b) m gs k p = p.1
+deep_at D (text_place_goal d) (tag_token tag) m gs k p = deep_text D tag d m gs p
+deep_at D (class_goal owner d) (tag_token tag) m gs k p = deep_class D tag owner d m gs p
+deep_at D (superclass_goal owner strict d number l) (tag_token tag) m gs k p = deep_superclass D tag owner strict d number l m gs (k refl) p
+deep_at D (fields_goal role d number kind flags seen codes (suc n)) (code_token c) m gs k p =
     deep_type D (is_object_code c) d (fields_goal role d number kind flags (seen || is_object_code c) (c ∷ codes) n) gs p.0 p
-deep_at D (interfaces_goal role d number (suc n)) (text_field long u) m gs k p = p
-deep_at D (back_handle_goal d) (handle_field n) m gs k p = p.1
-deep_at D (text_handle_goal d) (handle_field n) m gs k p = p.1
-deep_at D (class_handle_goal owner d) (handle_field n) m gs k p = p
-deep_at D (superclass_handle_goal owner strict d number l) (handle_field n) m gs k p = (tt, p.1)
-deep_at D (string_goal long d) (text_field long' u) m gs k p = p.1
-deep_at D (field_name_goal d) (text_field long u) m gs k p = p.1
-deep_at D (array_length_goal elements d) (array_length_field n) m gs k p = p
-deep_at D (class_name_goal role d) (text_field long u) m gs k p = p
-deep_at D (suid_goal role d kind) (suid_field n) m gs k p = p
-deep_at D (flags_goal role d number kind) (flags_field f) m gs k p = p
-deep_at D (field_count_goal role d number kind flags) (field_count_field n) m gs k p = p
-deep_at D (interface_count_goal role d number) (interface_count_field n) m gs k p = p
+deep_at D (interfaces_goal role d number (suc n)) (text_token long u) m gs k p = p
+deep_at D (back_handle_goal d) (handle_token n) m gs k p = p.1
+deep_at D (text_handle_goal d) (handle_token n) m gs k p = p.1
+deep_at D (class_handle_goal owner d) (handle_token n) m gs k p = p
+deep_at D (superclass_handle_goal owner strict d number l) (handle_token n) m gs k p = (tt, p.1)
+deep_at D (string_goal long d) (text_token long' u) m gs k p = p.1
+deep_at D (field_name_goal d) (text_token long u) m gs k p = p.1
+deep_at D (array_length_goal elements d) (array_length_token n) m gs k p = p
+deep_at D (class_name_goal role d) (text_token long u) m gs k p = p
+deep_at D (suid_goal role d kind) (suid_token n) m gs k p = p
+deep_at D (flags_goal role d number kind) (flags_token f) m gs k p = p
+deep_at D (field_count_goal role d number kind flags) (field_count_token n) m gs k p = p
+deep_at D (interface_count_goal role d number) (interface_count_token n) m gs k p = p
 deep_at D g f m gs k p = p
 
-deep_advance : (D : ℕ) (s : State) (f : StreamField) → (begins_place (label_of s).position f ≡ true → (label_of s).depth ≤ D) → AllDeep D s.1
+deep_advance : (D : ℕ) (s : State) (f : StreamToken) → (begins_place (label_of s).position f ≡ true → (label_of s).depth ≤ D) → AllDeep D s.1
     → AllDeep D (advance s f).1
 deep_advance D (m, []) f k p = p
 deep_advance D (m, g ∷ gs) f k p = deep_at D g f m gs k p
@@ -162,7 +162,7 @@ deep_advance D (m, g ∷ gs) f k p = deep_at D g f m gs k p
 deep_settled : (D : ℕ) (s : State) → AllDeep D s.1 → AllDeep D (settled s).1
 deep_settled D (m, gs) p = deep_settle D gs m p
 
--- ---- the fields that were taken
+-- ---- the tokens that were taken
 
 deep_left : (D : ℕ) (front : List Piece) (s : State) → Runs s front → deepest front ≤ D → AllDeep D s.1 → AllDeep D (left s front).1
 deep_left D [] s r h p = p
@@ -175,7 +175,7 @@ deep_left D (piece l f ∷ front) s r h p =
     begun true n k h e = omega arith
     begun false n k h e = absurd (cc)
 
--- the depth of the field that is next
+-- the depth of the token that is next
 
 deep_parts_label : (D d : ℕ) (parts : List Part) → d ≤ D → depth_of_parts d parts ≤ D + 1
 deep_parts_label D d [] a = omega arith
@@ -214,12 +214,12 @@ deep_label : (D : ℕ) (s : State) → AllDeep D s.1 → (label_of s).depth ≤ 
 deep_label D (m, []) p = omega arith
 deep_label D (m, g ∷ gs) p = deep_goal D g p.0
 
--- the machine is in a field one deeper than the gate allows at most
+-- the machine is in a token one deeper than the gate allows at most
 pub depth_within : (gate : Gate) (bytes : List ℕ) (r : Seen) (h : HasTaken gate bytes r)
-    → (label_of (settled (left begin_state h.fields))).depth ≤ gate.depth + 1
+    → (label_of (settled (left begin_state h.tokens))).depth ≤ gate.depth + 1
 depth_within gate bytes r h =
-    let s : State = left begin_state h.fields in
-    let x = fields_told_law (gate_of (limits_of gate)) (scanning_verdict gate) (verdict_scans gate) bytes h.cut s (sym (same_walk gate bytes h.all_bytes) ∙ h.walked) in
+    let s : State = left begin_state h.tokens in
+    let x = tokens_told_law (gate_of (limits_of gate)) (scanning_verdict gate) (verdict_scans gate) bytes h.cut s (sym (same_walk gate bytes h.all_bytes) ∙ h.walked) in
     let o = observed (limits_of gate) x.0 x.2 in
     let p : AllDeep gate.depth (left begin_state x.0).1 = deep_left gate.depth x.0 begin_state x.1 o.depth (tt, (tt, tt)) in
     deep_label gate.depth (settled s) (deep_settled gate.depth s (subst (λ t. AllDeep gate.depth t.1) x.3 p))

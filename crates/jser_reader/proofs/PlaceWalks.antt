@@ -3,15 +3,15 @@ use Rattle.std.proofs.Common.{◌≡◌, ℕ, suc, Bool, true, List, [], ◌∷�
 use Rattle.jser_reading.specs.Roles.{object_owner, array_owner, enum_owner, class_owner}
 use Rattle.jser_reading.specs.Roles.{Owner as GoalOwner}
 use Rattle.jser_reading.specs.Moments.{Moment, tick}
-use Rattle.jser_reading.specs.Labels.{Tag, null_tag, reference_tag, class_desc_tag, object_tag, string_tag, array_tag, class_tag, long_string_tag, proxy_desc_tag, enum_tag, StreamField, tag_field, block_tag_field, end_tag_field, reset_tag_field, Position, top_at, annotation_at, value_at, text_place_at, class_place_at, superclass_place_at}
-use Rattle.jser_reading.specs.FieldsFromBytes.{tag_from, size_in, field_in}
+use Rattle.jser_reading.specs.Labels.{Tag, null_tag, reference_tag, class_desc_tag, object_tag, string_tag, array_tag, class_tag, long_string_tag, proxy_desc_tag, enum_tag, StreamToken, tag_token, block_tag_token, end_tag_token, reset_tag_token, Position, top_at, annotation_at, value_at, text_place_at, class_place_at, superclass_place_at}
+use Rattle.jser_reading.specs.TokensFromBytes.{tag_from, size_in, token_in}
 use Rattle.jser_reading.specs.Goals.{Goal, text_place_goal, class_goal, State, settled}
 use Rattle.jser_reading.specs.Accepts.{label_of, AcceptsAt}
 use Rattle.jser_reading.specs.Machine.{begin, advance}
 use Rattle.jser_reading.proofs.PlainVerdict.{whole}
 use Rattle.jser_verdict.specs.Gates.{Gate}
 use Rattle.jser_verdict.specs.Verdicts.{content_reason, inner_reason, class_tag_reason, other_tag_reason}
-use Rattle.jser_verdict.proofs.Completes.{IsField, top_byte, annotation_byte, value_byte, object_byte, array_byte, enum_byte, class_byte, superclass_byte, text_place_byte}
+use Rattle.jser_verdict.proofs.Completes.{IsToken, top_byte, annotation_byte, value_byte, object_byte, array_byte, enum_byte, class_byte, superclass_byte, text_place_byte}
 use Rattle.jser_reader.specs.declared.frame.Frame.{Frame}
 use Rattle.jser_reader.specs.declared.frame.Frame.TheVariants as frame
 use Rattle.jser_reader.specs.declared.phase.Phase.TheVariants as phase
@@ -47,27 +47,27 @@ unfolding after_tag begun
 tag_begins r tag = ap settled (begins (depth_of r) (moment_of r) tag (goals_of r))
 
 -- one byte that is a tag the format takes there
-byte_leads : (w : Position) (m : Moment) (s : State) (b : ℕ) (after : Option StreamField → State) → (label_of s).position ≡ w → IsField w m (b ∷ [])
-    → ((f : StreamField) → AcceptsAt w m f → settled (advance s f) ≡ after (Some f))
-    → size_in w (b ∷ []) ≡ 1 → ((bytes : List ℕ) → field_in w (b ∷ []) ≡ tag_from b)
+byte_leads : (w : Position) (m : Moment) (s : State) (b : ℕ) (after : Option StreamToken → State) → (label_of s).position ≡ w → IsToken w m (b ∷ [])
+    → ((f : StreamToken) → AcceptsAt w m f → settled (advance s f) ≡ after (Some f))
+    → size_in w (b ∷ []) ≡ 1 → ((bytes : List ℕ) → token_in w (b ∷ []) ≡ tag_from b)
     → LeadsTo s (b ∷ []) (after (tag_from b))
 byte_leads w m s b after ew x goes size tags =
     let f = x.0 in
-    let found : field_in w (b ∷ []) ≡ Some f = ap (field_in w) x.1 ∙ (whole w m f x.2).found ∙ refl in
+    let found : token_in w (b ∷ []) ≡ Some f = ap (token_in w) x.1 ∙ (whole w m f x.2).found ∙ refl in
     record {
-      field = f;
+      token = f;
       enough = let k : size_in (label_of s).position (b ∷ []) ≡ 1 = ap (λ p. size_in p (b ∷ [])) ew ∙ size in omega arith;
-      found = ap (λ p. field_in p (b ∷ [])) ew ∙ found;
+      found = ap (λ p. token_in p (b ∷ [])) ew ∙ found;
       goes = goes f x.2 ∙ ap after (sym (sym (tags []) ∙ found));
     }
 
 -- at the top
 
-top_goes : (r : Seen) (f : StreamField) → r.frames ≡ [] → AcceptsAt top_at (moment_of r) f
+top_goes : (r : Seen) (f : StreamToken) → r.frames ≡ [] → AcceptsAt top_at (moment_of r) f
     → settled (advance (moment_of r, goals_of r) f) ≡ after_content r (Some f)
-top_goes r (tag_field tag) e h = rw (← tag_begins r tag) (rw e refl)
-top_goes r (block_tag_field long) e h = rw e refl
-top_goes r reset_tag_field e h = rw e refl
+top_goes r (tag_token tag) e h = rw (← tag_begins r tag) (rw e refl)
+top_goes r (block_tag_token long) e h = rw e refl
+top_goes r reset_tag_token e h = rw e refl
 top_goes r _ e h = absurd h
 
 top_judged : (gate : Gate) (r : Seen) (b : ℕ) (s : State) → ReadyAt phase.Top r s → gate_with r gate.answer ≡ gate
@@ -94,18 +94,18 @@ top_taken gate b found old mid new h ep c =
 
 -- in an annotation
 
-note_goes : (r : Seen) (fs : List Frame) (f : StreamField) → HasNotes fs → r.frames ≡ fs → AcceptsAt annotation_at (moment_of r) f
+note_goes : (r : Seen) (fs : List Frame) (f : StreamToken) → HasNotes fs → r.frames ≡ fs → AcceptsAt annotation_at (moment_of r) f
     → settled (advance (moment_of r, goals_of r) f) ≡ after_content r (Some f)
 unfolding after_end
-note_goes r (frame.Notes last section ∷ fs) (tag_field tag) n e h = rw (← tag_begins r tag) (rw e refl)
-note_goes r (frame.Notes last section ∷ fs) (block_tag_field long) n e h = rw e refl
-note_goes r (frame.Notes last section ∷ fs) end_tag_field n e h = rw e refl
-note_goes r (frame.ExternalNotes ∷ fs) (tag_field tag) n e h = rw (← tag_begins r tag) (rw e refl)
-note_goes r (frame.ExternalNotes ∷ fs) (block_tag_field long) n e h = rw e refl
-note_goes r (frame.ExternalNotes ∷ fs) end_tag_field n e h = rw e refl
-note_goes r (frame.Descriptor number role ∷ fs) (tag_field tag) n e h = rw (← tag_begins r tag) (rw e refl)
-note_goes r (frame.Descriptor number role ∷ fs) (block_tag_field long) n e h = rw e refl
-note_goes r (frame.Descriptor number role ∷ fs) end_tag_field n e h = rw e refl
+note_goes r (frame.Notes last section ∷ fs) (tag_token tag) n e h = rw (← tag_begins r tag) (rw e refl)
+note_goes r (frame.Notes last section ∷ fs) (block_tag_token long) n e h = rw e refl
+note_goes r (frame.Notes last section ∷ fs) end_tag_token n e h = rw e refl
+note_goes r (frame.ExternalNotes ∷ fs) (tag_token tag) n e h = rw (← tag_begins r tag) (rw e refl)
+note_goes r (frame.ExternalNotes ∷ fs) (block_tag_token long) n e h = rw e refl
+note_goes r (frame.ExternalNotes ∷ fs) end_tag_token n e h = rw e refl
+note_goes r (frame.Descriptor number role ∷ fs) (tag_token tag) n e h = rw (← tag_begins r tag) (rw e refl)
+note_goes r (frame.Descriptor number role ∷ fs) (block_tag_token long) n e h = rw e refl
+note_goes r (frame.Descriptor number role ∷ fs) end_tag_token n e h = rw e refl
 note_goes r (frame.Elements left ∷ fs) f n e h = absurd n
 note_goes r (frame.Fields last section pos prims values ∷ fs) f n e h = absurd n
 note_goes r [] f n e h = absurd n
@@ -134,10 +134,10 @@ note_taken gate b found old mid new h ep c =
 
 -- in a value place
 
-value_goes : (r : Seen) (fs : List Frame) (f : StreamField) → HasPart fs → r.frames ≡ fs → AcceptsAt value_at (moment_of r) f
+value_goes : (r : Seen) (fs : List Frame) (f : StreamToken) → HasPart fs → r.frames ≡ fs → AcceptsAt value_at (moment_of r) f
     → settled (advance (moment_of r, value_goals r.table.chains r.layers r.frames) f) ≡ after_content r (Some f)
-value_goes r (frame.Elements left ∷ fs) (tag_field tag) n e h = rw (← tag_begins r tag) (rw e refl)
-value_goes r (frame.Fields last section pos prims values ∷ fs) (tag_field tag) n e h = rw (← tag_begins r tag) (rw e refl)
+value_goes r (frame.Elements left ∷ fs) (tag_token tag) n e h = rw (← tag_begins r tag) (rw e refl)
+value_goes r (frame.Fields last section pos prims values ∷ fs) (tag_token tag) n e h = rw (← tag_begins r tag) (rw e refl)
 value_goes r (frame.Elements left ∷ fs) _ n e h = absurd h
 value_goes r (frame.Fields last section pos prims values ∷ fs) _ n e h = absurd h
 value_goes r (frame.Notes last section ∷ fs) f n e h = absurd n
@@ -166,23 +166,23 @@ value_taken gate b found old mid new h ep c =
 
 -- in a class place
 
-class_goes : (r : Seen) (o : GoalOwner) (f : StreamField) → goal_owner r.owner ≡ o → AcceptsAt (class_place_at o) (moment_of r) f
+class_goes : (r : Seen) (o : GoalOwner) (f : StreamToken) → goal_owner r.owner ≡ o → AcceptsAt (class_place_at o) (moment_of r) f
     → settled (advance (moment_of r, class_goal (goal_owner r.owner) (depth_of r) ∷ goals_of r) f) ≡ after_class_tag r (Some f)
 unfolding opens_class opens_proxy
-class_goes r o (tag_field reference_tag) e h = refl
-class_goes r o (tag_field class_desc_tag) e h = refl
-class_goes r o (tag_field proxy_desc_tag) e h = refl
+class_goes r o (tag_token reference_tag) e h = refl
+class_goes r o (tag_token class_desc_tag) e h = refl
+class_goes r o (tag_token proxy_desc_tag) e h = refl
 class_goes r object_owner _ e h = absurd h
 class_goes r array_owner _ e h = absurd h
 class_goes r enum_owner _ e h = absurd h
 class_goes r class_owner _ e h = absurd h
 
-owner_field : (g : Gate) (d : ℕ) (m : Moment) (o : GoalOwner) (b : ℕ)
-    → class_tag_reason g (record { position = class_place_at o; depth = d; moment = m }) o b ≡ None → IsField (class_place_at o) m (b ∷ [])
-owner_field g d m object_owner b h = object_byte g d m b h
-owner_field g d m array_owner b h = array_byte g d m b h
-owner_field g d m enum_owner b h = enum_byte g d m b h
-owner_field g d m class_owner b h = class_byte g d m b h
+owner_token : (g : Gate) (d : ℕ) (m : Moment) (o : GoalOwner) (b : ℕ)
+    → class_tag_reason g (record { position = class_place_at o; depth = d; moment = m }) o b ≡ None → IsToken (class_place_at o) m (b ∷ [])
+owner_token g d m object_owner b h = object_byte g d m b h
+owner_token g d m array_owner b h = array_byte g d m b h
+owner_token g d m enum_owner b h = enum_byte g d m b h
+owner_token g d m class_owner b h = class_byte g d m b h
 
 class_judged : (gate : Gate) (r : Seen) (b : ℕ) (s : State) → ReadyAt phase.ClassTag r s → gate_with r gate.answer ≡ gate
     → IsJudged gate (class_tag_reason (plain_gate r) (label_at (class_place_at (goal_owner r.owner)) (suc (length r.frames)) r) (goal_owner r.owner) b)
@@ -192,7 +192,7 @@ class_judged gate r b s h e = record {
   leads =
       λ k. byte_leads (class_place_at (goal_owner r.owner)) (moment_of r) s b (after_class_tag r)
       (ap (λ l. l.position) (label_is phase.ClassTag r s tt h))
-      (owner_field (plain_gate r) (suc (length r.frames)) (moment_of r) (goal_owner r.owner) b k)
+      (owner_token (plain_gate r) (suc (length r.frames)) (moment_of r) (goal_owner r.owner) b k)
       (λ f a. ap (λ t. settled (advance t f)) h ∙ class_goes r (goal_owner r.owner) f refl a) refl (λ _. refl);
 }
 
@@ -209,14 +209,14 @@ class_tag_taken gate b found old mid new h ep c =
 
 -- in a superclass place
 
-super_goes : (r : Seen) (fs : List Frame) (f : StreamField) → HasDescriptor fs → r.frames ≡ fs
+super_goes : (r : Seen) (fs : List Frame) (f : StreamToken) → HasDescriptor fs → r.frames ≡ fs
     → AcceptsAt (superclass_place_at (chain_owner r.frames) (strict_in r.layers r.frames)) (moment_of r) f
     → settled (advance (moment_of r, superclass_goals r.table.chains r.layers r.frames) f) ≡ after_super_tag r (Some f)
 unfolding closed_state opens_class opens_proxy
-super_goes r (frame.Descriptor number role ∷ fs) (tag_field null_tag) n e h = rw e refl
-super_goes r (frame.Descriptor number role ∷ fs) (tag_field reference_tag) n e h = rw e refl
-super_goes r (frame.Descriptor number role ∷ fs) (tag_field class_desc_tag) n e h = rw e refl
-super_goes r (frame.Descriptor number role ∷ fs) (tag_field proxy_desc_tag) n e h = rw e refl
+super_goes r (frame.Descriptor number role ∷ fs) (tag_token null_tag) n e h = rw e refl
+super_goes r (frame.Descriptor number role ∷ fs) (tag_token reference_tag) n e h = rw e refl
+super_goes r (frame.Descriptor number role ∷ fs) (tag_token class_desc_tag) n e h = rw e refl
+super_goes r (frame.Descriptor number role ∷ fs) (tag_token proxy_desc_tag) n e h = rw e refl
 super_goes r (frame.Descriptor number role ∷ fs) _ n e h = absurd h
 super_goes r (frame.Elements left ∷ fs) f n e h = absurd n
 super_goes r (frame.Fields last section pos prims values ∷ fs) f n e h = absurd n
@@ -246,15 +246,15 @@ super_tag_taken gate b found old mid new h ep c =
 
 -- in a text place, of an enum constant's name or a field's type
 
-text_place_goes : (r : Seen) (t : TextFor) (f : StreamField) → IsForm t true → r.text ≡ t → AcceptsAt text_place_at (moment_of r) f
+text_place_goes : (r : Seen) (t : TextFor) (f : StreamToken) → IsForm t true → r.text ≡ t → AcceptsAt text_place_at (moment_of r) f
     → settled (advance (moment_of r, text_place_goal (text_depth r r.text) ∷ text_rest r r.text) f) ≡ after_text_tag r (Some f)
 unfolding opens_text
-text_place_goes r text.Value (tag_field reference_tag) i e h = rw e refl
-text_place_goes r text.Value (tag_field string_tag) i e h = rw e refl
-text_place_goes r text.Value (tag_field long_string_tag) i e h = rw e refl
-text_place_goes r text.FieldType (tag_field reference_tag) i e h = rw e refl
-text_place_goes r text.FieldType (tag_field string_tag) i e h = rw e refl
-text_place_goes r text.FieldType (tag_field long_string_tag) i e h = rw e refl
+text_place_goes r text.Value (tag_token reference_tag) i e h = rw e refl
+text_place_goes r text.Value (tag_token string_tag) i e h = rw e refl
+text_place_goes r text.Value (tag_token long_string_tag) i e h = rw e refl
+text_place_goes r text.FieldType (tag_token reference_tag) i e h = rw e refl
+text_place_goes r text.FieldType (tag_token string_tag) i e h = rw e refl
+text_place_goes r text.FieldType (tag_token long_string_tag) i e h = rw e refl
 text_place_goes r (text.FieldName is_object) f i e h = absurd i
 text_place_goes r text.ClassName f i e h = absurd i
 text_place_goes r text.InterfaceName f i e h = absurd i

@@ -1,10 +1,10 @@
--- Raw values that are taken in one step, and lent none of: their fields, one after another.
+-- Raw values that are taken in one step, and lent none of: their tokens, one after another.
 use Rattle.std.proofs.Common.{◌≡◌, ℕ, suc, ◌+◌, ◌<◌, ◌≤◌, List, [], ◌∷◌, ◌++◌, length, take, drop, refl, sym, ◌∙◌, ap, ap₂, subst, arith, append_assoc, append-nil}
 use Rattle.std.proofs.lemmas.List.{take-append-drop}
 use Rattle.jser_table.specs.Codes.{PrimCode}
 use Rattle.jser_reading.specs.Moments.{Moment}
-use Rattle.jser_reading.specs.Labels.{StreamField, prims_field, Piece, piece, raw_at}
-use Rattle.jser_reading.specs.FieldBytes.{bytes_of}
+use Rattle.jser_reading.specs.Labels.{StreamToken, prims_token, Piece, piece, raw_at}
+use Rattle.jser_reading.specs.TokenBytes.{bytes_of}
 use Rattle.jser_reading.specs.Goals.{Part, raw_part, Goal, parts_goal, State, settled}
 use Rattle.jser_reading.specs.Accepts.{label_of, AcceptsAt, Accepts}
 use Rattle.jser_reading.specs.Machine.{begin_state, left}
@@ -15,31 +15,31 @@ use Rattle.jser_reader.specs.declared.phase.Phase.TheVariants as phase
 use Rattle.jser_reader.specs.declared.tally.Tally.{Tally}
 use Rattle.jser_reader.specs.Bounds.{AreAssigned}
 use Rattle.jser_reader.specs.Handlers.{Comes}
-use Rattle.jser_reader.specs.ItemsTold.{StandsIn, FieldEnds}
+use Rattle.jser_reader.specs.ItemsTold.{StandsIn, TokenEnds}
 use Rattle.jser_reader.specs.Passes.{CanPass}
 use Rattle.jser_reader.specs.RawsTold.{IsRawPiece, AreRaws, TellsRaws}
 use Rattle.jser_reader.specs.Readers.{Seen}
 use Rattle.jser_reader.specs.Steps.{after_value}
 use Rattle.jser_reader.specs.Takes.{farther, TakesFromFor}
 use Rattle.jser_reader.specs.Walks.{PrimsStands, StandsAt}
-use Rattle.jser_reader.proofs.ItemCalls.{machine_stands, comes_next, field_ended}
+use Rattle.jser_reader.proofs.ItemCalls.{machine_stands, comes_next, token_ended}
 use Rattle.jser_reader.proofs.LentLemmas.{same_tally}
 use Rattle.jser_reader.proofs.MemoryLemmas.{are_assigned}
 use Rattle.jser_reader.proofs.PassLemmas.{joined_takes}
 use Rattle.jser_reader.proofs.TakeRawLemmas.{takes_prims}
 use Rattle.jser_reader.proofs.WholeLemmas.{raw_is_whole}
 
--- ---- one field of raw values
+-- ---- one token of raw values
 
-raw_accepted : (c : PrimCode) (n handles : ℕ) (m : Moment) (s : State) (field : StreamField) → AcceptsAt (raw_at c (suc n)) m field
-    → length (label_of s).moment.table ≡ handles → IsRawPiece handles (piece (label_of s) field)
-raw_accepted c n handles m s (prims_field ps) a e = e
+raw_accepted : (c : PrimCode) (n handles : ℕ) (m : Moment) (s : State) (token : StreamToken) → AcceptsAt (raw_at c (suc n)) m token
+    → length (label_of s).moment.table ≡ handles → IsRawPiece handles (piece (label_of s) token)
+raw_accepted c n handles m s (prims_token ps) a e = e
 raw_accepted c n handles m s _ a e = absurd a
 
-raw_piece : (c : PrimCode) (n depth handles : ℕ) (m : Moment) (parts : List Part) (goals : List Goal) (s : State) (field : StreamField)
-    → s ≡ (m, parts_goal depth (raw_part c (suc n) ∷ parts) ∷ goals) → Accepts (label_of s) field
-    → length (label_of s).moment.table ≡ handles → IsRawPiece handles (piece (label_of s) field)
-raw_piece c n depth handles m parts goals s field e a h = raw_accepted c n handles m s field (subst (λ t. Accepts (label_of t) field) e a) h
+raw_piece : (c : PrimCode) (n depth handles : ℕ) (m : Moment) (parts : List Part) (goals : List Goal) (s : State) (token : StreamToken)
+    → s ≡ (m, parts_goal depth (raw_part c (suc n) ∷ parts) ∷ goals) → Accepts (label_of s) token
+    → length (label_of s).moment.table ≡ handles → IsRawPiece handles (piece (label_of s) token)
+raw_piece c n depth handles m parts goals s token e a h = raw_accepted c n handles m s token (subst (λ t. Accepts (label_of t) token) e a) h
 
 pub one_raw : (gate : Gate) (n : ℕ) (piece : List ℕ) (old far new : Seen) (tally : Tally) → CanPass old piece → old.phase ≡ phase.Prims → old.left ≡ n
     → 0 < n → n ≤ length piece → far ≡ farther old n → Comes far new (after_value far) → TellsRaws gate piece n old tally new tally
@@ -50,14 +50,14 @@ one_raw gate n given old far new tally can ep el some enough ef end = λ front c
     takes_prims (taken.Ended n) given old new (raw_is_whole n given old new some enough el comes) ep (omega arith) gate in
     let s : State = settled (left begin_state front) in
     let x : PrimsStands old s cut = subst (λ p. StandsAt p old s cut) ep (machine_stands gate front cut old tally st).stands in
-    let e : FieldEnds gate front (label_of s) (cut ++ take n given) new tally =
-    field_ended gate given given n old new tally tally front cut st can.within t.1 can.all_bytes t.2
+    let e : TokenEnds gate front (label_of s) (cut ++ take n given) new tally =
+    token_ended gate given given n old new tally tally front cut st can.within t.1 can.all_bytes t.2
     (same_tally gate n given old new tally front cut st t.2 (rw ep tt) can) in
     let handles = are_assigned gate (length old.table.entries) old tally refl front cut (label_of s) st (comes_next gate front cut old tally st) in
     record {
-      raws = piece (label_of s) e.field ∷ [];
-      are_raws = (raw_piece x.type_code x.more x.depth (length old.table.entries) _ x.parts x.goals s e.field x.is e.accepted handles, tt);
-      spelled = append-nil (bytes_of e.field) ∙ e.spelled;
+      raws = piece (label_of s) e.token ∷ [];
+      are_raws = (raw_piece x.type_code x.more x.depth (length old.table.entries) _ x.parts x.goals s e.token x.is e.accepted handles, tt);
+      spelled = append-nil (bytes_of e.token) ∙ e.spelled;
       stands = e.stands;
     }
 

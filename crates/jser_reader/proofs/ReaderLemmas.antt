@@ -58,12 +58,12 @@ limit_is gate bytes r h = ap (λ g. g.bytes) h.stands.limits_are
 pub within_room : (r : Seen) (piece front : List ℕ) → IsWithin r piece front → 0 < length front → r.meter.at + length front < 2 ^ 64
 within_room r piece front w some = w.room some
 
--- ---- a field ends, or goes on
+-- ---- a token ends, or goes on
 
-pub field_ends : (gate : Gate) (bytes piece front : List ℕ) (n : ℕ) (old new : Seen) → IsWithin old piece front → n ≤ length front → IsBytes piece
+pub token_ends : (gate : Gate) (bytes piece front : List ℕ) (n : ℕ) (old new : Seen) → IsWithin old piece front → n ≤ length front → IsBytes piece
     → Takes gate (take n front) true old new → HasTaken gate bytes old → length bytes ≤ gate.bytes
     → HasTaken gate (bytes ++ take n piece) new × (length (bytes ++ take n piece) ≤ gate.bytes)
-field_ends gate bytes piece front n old new w le h t st room =
+token_ends gate bytes piece front n old new w le h t st room =
     let e = front_of_front old piece front n w le in
     let m = limit_is gate bytes old st in
     let f = w.fits in
@@ -72,10 +72,10 @@ field_ends gate bytes piece front n old new w le h t st room =
     let j = length-take-le n piece (let s = w.short in omega arith) in
     (took_stands gate old new bytes (take n piece) (subst (λ xs. Takes gate xs true old new) e t) (bytes_front n piece h) st, omega arith)
 
-pub field_goes_on : (gate : Gate) (bytes piece front : List ℕ) (n : ℕ) (old new : Seen) → IsWithin old piece front → n ≤ length front → IsBytes piece
+pub token_goes_on : (gate : Gate) (bytes piece front : List ℕ) (n : ℕ) (old new : Seen) → IsWithin old piece front → n ≤ length front → IsBytes piece
     → Keeps gate (take n front) old new → HasTaken gate bytes old → length bytes ≤ gate.bytes
     → HasTaken gate (bytes ++ take n piece) new × (length (bytes ++ take n piece) ≤ gate.bytes)
-field_goes_on gate bytes piece front n old new w le h t st room =
+token_goes_on gate bytes piece front n old new w le h t st room =
     let e = front_of_front old piece front n w le in
     let m = limit_is gate bytes old st in
     let f = w.fits in
@@ -86,10 +86,10 @@ field_goes_on gate bytes piece front n old new w le h t st room =
 
 -- ---- the machine stops
 
-pub field_stops : (gate : Gate) (bytes piece front : List ℕ) (n : ℕ) (refusal : Refusal) (old new : Seen) → IsWithin old piece front → n ≤ length front → IsBytes piece
+pub token_stops : (gate : Gate) (bytes piece front : List ℕ) (n : ℕ) (refusal : Refusal) (old new : Seen) → IsWithin old piece front → n ≤ length front → IsBytes piece
     → Takes gate (take n front) false old new → HasTaken gate bytes old → length bytes ≤ gate.bytes → new.meter.stop ≡ stop.Refused refusal
     → AreRefused gate (bytes ++ take n piece) refusal
-field_stops gate bytes piece front n refusal old new w le h t st room es =
+token_stops gate bytes piece front n refusal old new w le h t st room es =
     let e = front_of_front old piece front n w le in
     let m = limit_is gate bytes old st in
     let f = w.fits in
@@ -120,7 +120,7 @@ over gate bytes piece k r st more le h refusal er =
     let last : IsBytes (x.0 ∷ []) = bytes_right (take k piece) (x.0 ∷ []) (subst IsBytes x.1 (bytes_front (suc k) piece h)) in
     let all : bytes ++ take (suc k) piece ≡ (bytes ++ take k piece) ++ (x.0 ∷ []) = ap (λ xs. bytes ++ xs) x.1 ∙ sym (append_assoc bytes (take k piece) (x.0 ∷ [])) in
     subst (λ xs. AreRefused gate xs refusal) (sym all)
-    (exceeds gate (bytes ++ take k piece) st.cut x.0 (left begin_state st.fields) refusal st.all_bytes last le st.walked
+    (exceeds gate (bytes ++ take k piece) st.cut x.0 (left begin_state st.tokens) refusal st.all_bytes last le st.walked
     (ap (λ x. x.reason) same) (let k = ap (λ x. x.from_byte) same in omega arith) (let k = ap (λ x. x.to_byte) same in omega arith))
 
 pub over_whole : (gate : Gate) (bytes piece : List ℕ) (k n : ℕ) → k < length piece → length (bytes ++ take k piece) ≡ gate.bytes → IsWhole gate (bytes ++ take k piece) n
@@ -133,4 +133,4 @@ over_whole gate bytes piece k n more full i =
 -- it has stopped then
 pub has_stopped : (gate : Gate) (bytes taken : List ℕ) (old new : Seen) → Takes gate taken false old new → HasTaken gate bytes old → new.phase ≡ phase.Stopped
 unfolding Takes
-has_stopped gate bytes taken old new h st = (h (left begin_state st.fields) st.cut st.stands).0
+has_stopped gate bytes taken old new h st = (h (left begin_state st.tokens) st.cut st.stands).0

@@ -1,9 +1,9 @@
--- Memory in a call that takes a whole piece; and the size of a field, which other bytes after it do not change.
+-- Memory in a call that takes a whole piece; and the size of a token, which other bytes after it do not change.
 use Rattle.std.proofs.Common.{◌≡◌, ℕ, zero, suc, ◌+◌, ◌<◌, ◌≤◌, Bool, true, false, nat_lt, List, ◌++◌, length, Result, Ok, Err, refl, ap, arith, length-append}
 use Rattle.std.proofs.lemmas.Bool.Decides.{nat_tests}
 use Rattle.std.proofs.lemmas.List.{take-append-le}
 use Rattle.jser_reading.specs.Labels.{Position, string_at, class_name_at, field_name_at, interface_name_at, block_length_at, raw_at, bytes_at}
-use Rattle.jser_reading.specs.FieldsFromBytes.{number_of, head_size, text_size, size_in}
+use Rattle.jser_reading.specs.TokensFromBytes.{number_of, head_size, text_size, size_in}
 use Rattle.jser_verdict.specs.Gates.{Gate}
 use Rattle.jser_reader.specs.declared.phase.Phase.TheVariants as phase
 use Rattle.jser_reader.specs.declared.refusal.Stop.{Stop}
@@ -12,7 +12,7 @@ use Rattle.jser_reader.specs.Readers.{Seen}
 use Rattle.jser_reader.specs.Bounds.{SkipMemoryFree}
 use Rattle.jser_reader.proofs.MemoryLemmas.{never_stopped}
 
--- ---- bytes that are all of a field are not inside it
+-- ---- bytes that are all of a token are not inside it
 
 text_size_after : (long : Bool) (a b : List ℕ) → text_size long a ≤ length a → text_size long (a ++ b) ≡ text_size long a
 text_size_after long a b h = go (nat_lt (length a) (head_size long)) refl

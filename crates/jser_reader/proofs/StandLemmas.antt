@@ -1,10 +1,10 @@
--- From the contract of a handler to the walk over bytes: what the machine stands for before and after a field.
+-- From the contract of a handler to the walk over bytes: what the machine stands for before and after a token.
 use Rattle.std.proofs.Common.{◌≡◌, ℕ, suc, ◌+◌, ◌*◌, ◌<◌, Bool, true, false, List, [], ◌∷◌, ◌++◌, length, Option, Some, None, refl, sym, ◌∙◌, ap, ap₂, subst, arith, append_assoc, append-nil, length-append, inr}
 use Rattle.jser_table.specs.Codes.{PrimCode, byte_code, char_code, double_code, float_code, int_code, long_code, short_code, boolean_code, size_of}
 use Rattle.jser_grammar.specs.Parts.{IsBytes}
-use Rattle.jser_reading.specs.Labels.{StreamField, Piece, piece}
-use Rattle.jser_reading.specs.FieldBytes.{bytes_of, joined}
-use Rattle.jser_reading.specs.FieldsFromBytes.{size_in, field_in}
+use Rattle.jser_reading.specs.Labels.{StreamToken, Piece, piece}
+use Rattle.jser_reading.specs.TokenBytes.{bytes_of, joined}
+use Rattle.jser_reading.specs.TokensFromBytes.{size_in, token_in}
 use Rattle.jser_reading.specs.Goals.{State, settled}
 use Rattle.jser_reading.specs.Accepts.{label_of, Accepts}
 use Rattle.jser_reading.specs.Machine.{advance, begin_state, Runs, left}
@@ -20,16 +20,16 @@ use Rattle.jser_verdict.proofs.Scanning.{scanning_verdict}
 use Rattle.jser_verdict.proofs.Scans.{verdict_scans}
 use Rattle.jser_verdict.proofs.ToldRows.{same_verdict}
 use Rattle.jser_verdict.proofs.ByteLists.{bytes_both, bytes_right}
-use Rattle.jser_verdict.proofs.ReadFields.{read_next}
+use Rattle.jser_verdict.proofs.ReadTokens.{read_next}
 use Rattle.jser_reader.specs.declared.phase.Phase.{Phase}
 use Rattle.jser_reader.specs.declared.phase.Phase.TheVariants as phase
 use Rattle.jser_reader.specs.Readers.{Seen, Ready, ReadyAt, PrimsReady, BytesReady}
 use Rattle.jser_reader.specs.Memory.{IsForgotten}
 use Rattle.jser_reader.specs.Handlers.{Tells, TellCases, TellsSurely}
 use Rattle.jser_reader.specs.Walks.{gate_with, PrimsStands, BytesStands, StandsAt, Stands, HasTaken, Took, Takes, Keeps, Counts}
-use Rattle.jser_reader.proofs.WalkLemmas.{walk_on, judged_by, walk_field, verdict_good, verdict_bad}
+use Rattle.jser_reader.proofs.WalkLemmas.{walk_on, judged_by, walk_token, verdict_good, verdict_bad}
 
--- ---- where a field begins
+-- ---- where a token begins
 
 some_size : (c : PrimCode) → 0 < size_of c
 some_size byte_code = omega arith
@@ -74,7 +74,7 @@ stands_at phase.Cut r s h = absurd h
 stands_at phase.Stopped r s h = absurd h
 stands_at p r s h = (h, refl)
 
--- a machine that is ready has no cut field
+-- a machine that is ready has no cut token
 pub stands_ready : (gate : Gate) (r : Seen) (s : State) → Ready r s → gate_with r gate.answer ≡ gate → r.meter.at ≡ r.meter.from
     → Stands gate r s []
 unfolding Ready
@@ -87,14 +87,14 @@ pub same_limits : (old new : Seen) (answer : List ℕ → Answer) → new.meter.
 same_limits old new answer el em =
     ap₂ (λ l n. record { bytes = l.bytes; depth = l.depth; refs = l.refs; array = l.array; handles = n; answer = answer }) el em
 
--- ---- a field that a handler judged
+-- ---- a token that a handler judged
 
--- the bytes are a field that leads to this state
+-- the bytes are a token that leads to this state
 pub record LeadsTo (s : State) (bytes : List ℕ) (next : State) : Type 0 where
-  pub field : StreamField
+  pub token : StreamToken
   pub enough : size_in (label_of s).position bytes ≡ length bytes
-  pub found : field_in (label_of s).position bytes ≡ Some field
-  pub goes : settled (advance s field) ≡ next
+  pub found : token_in (label_of s).position bytes ≡ Some token
+  pub goes : settled (advance s token) ≡ next
 
 -- what a handler that takes no memory tells, or one that cannot fail
 pub tells_surely : (told : Option ToldReason) (s : State) (found : Bool) (old new : Seen) → TellsSurely told s found old new → Tells told s found old new
@@ -111,19 +111,19 @@ surely_goes_on None s true old new h stops none = absurd (cc)
 surely_goes_on None s false old new h stops none = h
 surely_goes_on (Some k) s found old new h stops none = absurd (cc)
 
-took_field : (gate : Gate) (told : Option ToldReason) (next : State) (found : Bool) (old mid new : Seen) (s : State) (cut taken : List ℕ)
+took_token : (gate : Gate) (told : Option ToldReason) (next : State) (found : Bool) (old mid new : Seen) (s : State) (cut taken : List ℕ)
     → TellCases told next found mid new → Stands gate old (settled s) cut → Counts taken old mid
     → ((rest : List ℕ) → walk (verdict gate) s cut (taken ++ rest) ≡ judged_by (verdict gate) s (cut ++ taken) rest)
     → reason_at gate (label_of (settled s)) (label_of (settled s)).position (cut ++ taken) ≡ told
     → (told ≡ None → LeadsTo (settled s) (cut ++ taken) next)
     → (found ≡ false → told ≡ None → IsForgotten (label_of (settled s)).position → ⊥)
     → Took gate s cut taken found old new
-took_field gate None next true old mid new s cut taken h st c w e leads keeps =
+took_token gate None next true old mid new s cut taken h st c w e leads keeps =
     let x = leads refl in
-    let v : verdict gate (label_of (settled s)) (cut ++ taken) ≡ good x.field =
-    verdict_good gate (label_of (settled s)) (cut ++ taken) x.field e (let w = x.enough in omega arith) x.found in
+    let v : verdict gate (label_of (settled s)) (cut ++ taken) ≡ good x.token =
+    verdict_good gate (label_of (settled s)) (cut ++ taken) x.token e (let w = x.enough in omega arith) x.found in
     record {
-      field = x.field;
+      token = x.token;
       is_good = v;
       whole = x.enough;
       walks =
@@ -137,9 +137,9 @@ took_field gate None next true old mid new s cut taken h st c w e leads keeps =
           (ap (λ m. m.at) h.meter ∙ sym (ap (λ m. m.from) h.meter)));
       at = ap (λ m. m.at) h.meter ∙ c.at;
     }
-took_field gate (Some k) next true old mid new s cut taken h st c w e leads keeps = absurd h
-took_field gate None next false old mid new s cut taken h st c w e leads keeps = (h.phase, rw h.stop (inr (keeps refl refl, (leads refl).enough)))
-took_field gate (Some k) next false old mid new s cut taken h st c w e leads keeps =
+took_token gate (Some k) next true old mid new s cut taken h st c w e leads keeps = absurd h
+took_token gate None next false old mid new s cut taken h st c w e leads keeps = (h.phase, rw h.stop (inr (keeps refl refl, (leads refl).enough)))
+took_token gate (Some k) next false old mid new s cut taken h st c w e leads keeps =
     let v : verdict gate (label_of (settled s)) (cut ++ taken) ≡ bad (turn k) = verdict_bad gate (label_of (settled s)) (cut ++ taken) k e in (
       h.phase,
       rw h.stop (record {
@@ -158,7 +158,7 @@ took_field gate (Some k) next false old mid new s cut taken h st c w e leads kee
       }),
     )
 
--- the bytes of a field of which no front decides, as its handler judged them
+-- the bytes of a token of which no front decides, as its handler judged them
 pub judged : (gate : Gate) (told : Option ToldReason) (next : State) (found : Bool) (old mid new : Seen) (s : State) (cut taken : List ℕ)
     → Tells told next found mid new → Stands gate old (settled s) cut → Counts taken old mid → 0 < length taken
     → IsUndecided (verdict gate) (label_of (settled s)) (cut ++ taken)
@@ -168,46 +168,46 @@ pub judged : (gate : Gate) (told : Option ToldReason) (next : State) (found : Bo
     → Took gate s cut taken found old new
 unfolding Tells
 judged gate told next found old mid new s cut taken h st c some u e leads keeps =
-    took_field gate told next found old mid new s cut taken h st c (λ rest. walk_field (verdict gate) s taken cut rest some u) e leads keeps
+    took_token gate told next found old mid new s cut taken h st c (λ rest. walk_token (verdict gate) s taken cut rest some u) e leads keeps
 
 -- ---- the bytes that the machine stands for
 
--- what ends the open field is a field that may come there
-pub field_read : (gate : Gate) (fields : List Piece) (bytes : List ℕ) (field : StreamField)
-    → let l = label_of (settled (left begin_state fields)) in
-    Runs begin_state fields → verdict gate l bytes ≡ good field → size_in l.position bytes ≡ length bytes → IsBytes bytes
-    → (bytes ≡ bytes_of field) × Accepts l field
-field_read gate fields bytes field r v e h =
-    let l = label_of (settled (left begin_state fields)) in
+-- what ends the open token is a token that may come there
+pub token_read : (gate : Gate) (tokens : List Piece) (bytes : List ℕ) (token : StreamToken)
+    → let l = label_of (settled (left begin_state tokens)) in
+    Runs begin_state tokens → verdict gate l bytes ≡ good token → size_in l.position bytes ≡ length bytes → IsBytes bytes
+    → (bytes ≡ bytes_of token) × Accepts l token
+token_read gate tokens bytes token r v e h =
+    let l = label_of (settled (left begin_state tokens)) in
     let same : verdict gate l bytes ≡ scanning_verdict gate l bytes =
-    same_verdict gate l bytes (read_next fields l ((next_law fields l).1 (r, refl))) h (omega arith) in
-    let g = (verdict_scans gate).good_is l bytes field (sym same ∙ v) in (g.0, g.1)
+    same_verdict gate l bytes (read_next tokens l ((next_law tokens l).1 (r, refl))) h (omega arith) in
+    let g = (verdict_scans gate).good_is l bytes token (sym same ∙ v) in (g.0, g.1)
 
 unfoldable pub took_stands : (gate : Gate) (old new : Seen) (bytes taken : List ℕ) → Takes gate taken true old new → IsBytes taken → HasTaken gate bytes old
     → HasTaken gate (bytes ++ taken) new
 unfolding Takes
 took_stands gate old new bytes taken h bt st =
-    let s = left begin_state st.fields in
+    let s = left begin_state st.tokens in
     let l = label_of (settled s) in
     let x = h s st.cut st.stands in
     let all : IsBytes (bytes ++ taken) = bytes_both bytes taken st.all_bytes bt in
-    let is : bytes ++ taken ≡ joined st.fields ++ (st.cut ++ taken) = ap (λ b. b ++ taken) st.are_fields ∙ append_assoc (joined st.fields) st.cut taken in
-    let of_field : IsBytes (st.cut ++ taken) = bytes_right (joined st.fields) (st.cut ++ taken) (subst IsBytes is all) in
-    let f = field_read gate st.fields (st.cut ++ taken) x.field st.runs x.is_good x.whole of_field in
-    let after : left begin_state (st.fields ++ (piece l x.field ∷ [])) ≡ advance (settled s) x.field = left-append st.fields (piece l x.field ∷ []) begin_state in
-    let w : walk (verdict gate) begin_state [] (bytes ++ taken) ≡ ended (advance (settled s) x.field) [] =
+    let is : bytes ++ taken ≡ joined st.tokens ++ (st.cut ++ taken) = ap (λ b. b ++ taken) st.are_tokens ∙ append_assoc (joined st.tokens) st.cut taken in
+    let of_token : IsBytes (st.cut ++ taken) = bytes_right (joined st.tokens) (st.cut ++ taken) (subst IsBytes is all) in
+    let f = token_read gate st.tokens (st.cut ++ taken) x.token st.runs x.is_good x.whole of_token in
+    let after : left begin_state (st.tokens ++ (piece l x.token ∷ [])) ≡ advance (settled s) x.token = left-append st.tokens (piece l x.token ∷ []) begin_state in
+    let w : walk (verdict gate) begin_state [] (bytes ++ taken) ≡ ended (advance (settled s) x.token) [] =
     walk_on (verdict gate) bytes taken begin_state s [] st.cut st.walked
     ∙ ap (walk (verdict gate) s st.cut) (sym (append-nil taken)) ∙ x.walks [] in
     let n : length (bytes ++ taken) ≡ length bytes + length taken = length-append bytes taken in
     let a = x.at in
     let t = st.taken in
     record {
-      fields = st.fields ++ (piece l x.field ∷ []);
+      tokens = st.tokens ++ (piece l x.token ∷ []);
       cut = [];
-      runs = Runs-append st.fields (piece l x.field ∷ []) begin_state st.runs (refl, f.1, tt);
-      are_fields =
-          is ∙ ap (λ b. joined st.fields ++ b) (f.0 ∙ sym (append-nil (bytes_of x.field)))
-          ∙ sym (joined-append st.fields (piece l x.field ∷ [])) ∙ sym (append-nil (joined (st.fields ++ (piece l x.field ∷ []))));
+      runs = Runs-append st.tokens (piece l x.token ∷ []) begin_state st.runs (refl, f.1, tt);
+      are_tokens =
+          is ∙ ap (λ b. joined st.tokens ++ b) (f.0 ∙ sym (append-nil (bytes_of x.token)))
+          ∙ sym (joined-append st.tokens (piece l x.token ∷ [])) ∙ sym (append-nil (joined (st.tokens ++ (piece l x.token ∷ []))));
       walked = w ∙ ap (λ t. ended t []) (sym after);
       stands = subst (λ t. Stands gate new (settled t) []) (sym after) x.stands;
       taken = omega arith;
@@ -218,16 +218,16 @@ unfoldable pub kept_stands : (gate : Gate) (old new : Seen) (bytes taken : List 
     → HasTaken gate (bytes ++ taken) new
 unfolding Keeps
 kept_stands gate old new bytes taken h bp st =
-    let s = left begin_state st.fields in
+    let s = left begin_state st.tokens in
     let x = h s st.cut st.stands in
     let n : length (bytes ++ taken) ≡ length bytes + length taken = length-append bytes taken in
     let a = x.at in
     let t = st.taken in
     record {
-      fields = st.fields;
+      tokens = st.tokens;
       cut = st.cut ++ taken;
       runs = st.runs;
-      are_fields = ap (λ b. b ++ taken) st.are_fields ∙ append_assoc (joined st.fields) st.cut taken;
+      are_tokens = ap (λ b. b ++ taken) st.are_tokens ∙ append_assoc (joined st.tokens) st.cut taken;
       walked = walk_on (verdict gate) bytes taken begin_state s [] st.cut st.walked ∙ x.walks;
       stands = x.stands;
       taken = omega arith;

@@ -25,10 +25,10 @@ new_stands gate r n e =
     let a = n.at in
     let f = n.from in
     record {
-      fields = [];
+      tokens = [];
       cut = [];
       runs = tt;
-      are_fields = refl;
+      are_tokens = refl;
       walked = refl;
       stands = record {
         limits_are = e;
@@ -43,9 +43,9 @@ new_stands gate r n e =
 pub stop_stands : (gate : Gate) (old new : Seen) (bytes taken : List ℕ) → Takes gate taken false old new → HasTaken gate bytes old
     → StopsFor gate (bytes ++ taken) new.meter.stop
 unfolding Takes
-stop_stands gate old new bytes taken h st = go new.meter.stop (h (left begin_state st.fields) st.cut st.stands).1
+stop_stands gate old new bytes taken h st = go new.meter.stop (h (left begin_state st.tokens) st.cut st.stands).1
   where
-    go : (why : Stop) → StopTold gate (left begin_state st.fields) st.cut taken old.meter.from why → StopsFor gate (bytes ++ taken) why
+    go : (why : Stop) → StopTold gate (left begin_state st.tokens) st.cut taken old.meter.from why → StopsFor gate (bytes ++ taken) why
     go (stop.Refused refusal) x =
         let n : length (bytes ++ taken) ≡ length bytes + length taken = length-append bytes taken in
         let m : length (st.cut ++ taken) ≡ length st.cut + length taken = length-append st.cut taken in
@@ -59,7 +59,7 @@ stop_stands gate old new bytes taken h st = go new.meter.stop (h (left begin_sta
           is_named = x.is_named;
           walks =
               λ rest. ap (walk (verdict gate) begin_state []) (append_assoc bytes taken rest)
-              ∙ walk_on (verdict gate) bytes (taken ++ rest) begin_state (left begin_state st.fields) [] st.cut st.walked ∙ x.walks rest;
+              ∙ walk_on (verdict gate) bytes (taken ++ rest) begin_state (left begin_state st.tokens) [] st.cut st.walked ∙ x.walks rest;
           begins = omega arith;
           ends = omega arith;
         }
@@ -68,7 +68,7 @@ stop_stands gate old new bytes taken h st = go new.meter.stop (h (left begin_sta
 
 -- ---- the end: at the top, and nowhere else
 
--- only the top is left, and no field is cut
+-- only the top is left, and no token is cut
 abbrev pub MayEnd : State → List ℕ → Type 0
 MayEnd s cut = IsDone s × (cut ≡ [])
 

@@ -7,8 +7,8 @@ use Rattle.jser_table.specs.Chains.{all_serial, chain_in}
 use Rattle.jser_table.specs.Entries.{TableEntry, text_entry, other_entry, pending_entry, closed_entry, is_pending, is_closed, chain_at, chain_of}
 use Rattle.jser_table.specs.Tables.{IsClass}
 use Rattle.jser_reading.specs.Labels.{superclass_place_at}
-use Rattle.jser_reading.specs.FieldBytes.{tag_byte}
-use Rattle.jser_reading.specs.FieldsFromBytes.{tag_from}
+use Rattle.jser_reading.specs.TokenBytes.{tag_byte}
+use Rattle.jser_reading.specs.TokensFromBytes.{tag_from}
 use Rattle.jser_reading.specs.Roles.{ChainOwner}
 use Rattle.jser_reading.specs.Goals.{State}
 use Rattle.jser_verdict.specs.Reasons.{Reason, bad_tag, no_such_handle, wrong_kind, open_descriptor, not_serializable, handle_space}

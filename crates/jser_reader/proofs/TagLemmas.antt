@@ -2,9 +2,9 @@
 use Rattle.std.proofs.Common.{◌≡◌, ℕ, suc, ◌<◌, ◌⊎◌, inl, inr, Bool, true, false, [], ◌∷◌, length, Some, None, refl, sym, ◌∙◌, ap, subst, arith}
 use Rattle.std.proofs.lemmas.Bool.Decides.{nat_tests}
 use Rattle.jser_table.specs.Sections.{under}
-use Rattle.jser_reading.specs.Labels.{tag_field, reset_tag_field, Label, top_at, annotation_at, value_at}
-use Rattle.jser_reading.specs.FieldBytes.{tag_byte}
-use Rattle.jser_reading.specs.FieldsFromBytes.{tag_from}
+use Rattle.jser_reading.specs.Labels.{tag_token, reset_tag_token, Label, top_at, annotation_at, value_at}
+use Rattle.jser_reading.specs.TokenBytes.{tag_byte}
+use Rattle.jser_reading.specs.TokensFromBytes.{tag_from}
 use Rattle.jser_reading.specs.Goals.{State, section_parts, settle, parts_goal}
 use Rattle.jser_verdict.specs.Reasons.{bad_tag, exception_tag, reset_inside}
 use Rattle.jser_verdict.specs.TagRows.{is_known_tag}
@@ -48,7 +48,7 @@ no_value_tag b found old new s t h e =
 
 -- tags of values
 
-tag_told : (t : ValueTag) → tag_from (tag_byte (view_tag t)) ≡ Some (tag_field (view_tag t))
+tag_told : (t : ValueTag) → tag_from (tag_byte (view_tag t)) ≡ Some (tag_token (view_tag t))
 unfolding tag_from
 tag_told value.Null = refl
 tag_told value.Reference = refl
@@ -167,10 +167,10 @@ pub value_reset : (b : ℕ) (found : Bool) (s : State) (old new : Seen) → b �
     → Tells (inner_reason (plain_gate old) (label_at value_at (suc (length old.frames)) old) b) s found old new
 value_reset b found s old new e h ef = rw e (tells_refusal reset_inside (Some reset_inside) s found old new h ef refl)
 
-pub top_reset : (b : ℕ) (found : Bool) (old new : Seen) → b ≡ 0x79 → Comes old new (after_content old (Some reset_tag_field)) → found ≡ true
+pub top_reset : (b : ℕ) (found : Bool) (old new : Seen) → b ≡ 0x79 → Comes old new (after_content old (Some reset_tag_token)) → found ≡ true
     → Tells (content_reason (plain_gate old) (label_at top_at 1 old) b) (after_content old (tag_from b)) found old new
 unfolding tag_from
-top_reset b found old new e h ef = rw e (tells_next None (after_content old (Some reset_tag_field)) found old new h ef refl)
+top_reset b found old new e h ef = rw e (tells_next None (after_content old (Some reset_tag_token)) found old new h ef refl)
 
 pub note_end : (b : ℕ) (found : Bool) (old new : Seen) → b ≡ 0x78 → Comes old new (after_end old) → found ≡ true
     → Tells (inner_reason (plain_gate old) (label_at annotation_at (suc (length old.frames)) old) b) (after_content old (tag_from b)) found old new
@@ -180,7 +180,7 @@ note_end b found old new e h ef = rw e (tells_next None (after_end old) found ol
 -- a reset
 pub resets : (old mid new : Seen) → IsNext phase.Top mid.owner mid.elements mid.header mid.text mid new → old.frames ≡ []
     → mid.frames ≡ [] → mid.table.entries ≡ [] → mid.table.max ≡ old.table.max → mid.refs ≡ old.refs → mid.meter ≡ old.meter
-    → Comes old new (after_content old (Some reset_tag_field))
+    → Comes old new (after_content old (Some reset_tag_token))
 unfolding Ready
 resets old mid new n none ef et ex er em =
     record {

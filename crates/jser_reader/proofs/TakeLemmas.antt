@@ -3,7 +3,7 @@ use Rattle.std.proofs.Common.{◌≡◌, ℕ, suc, ◌+◌, ◌-◌, ◌^◌, �
 use Rattle.jser_table.specs.Codes.{PrimCode, size_of}
 use Rattle.jser_table.specs.Entries.{chain_at}
 use Rattle.jser_reading.specs.Labels.{top_at, annotation_at, value_at, class_place_at, class_handle_at}
-use Rattle.jser_reading.specs.FieldsFromBytes.{tag_from}
+use Rattle.jser_reading.specs.TokensFromBytes.{tag_from}
 use Rattle.jser_verdict.specs.Reasons.{handle_space}
 use Rattle.jser_verdict.specs.Gates.{Gate}
 use Rattle.jser_verdict.specs.Verdicts.{told_if, content_reason, inner_reason, class_tag_reason, class_handle_reason, array_reason, count_reason, flags_reason, code_reason}
@@ -119,7 +119,7 @@ no_other_one phase.TypeCode i t n v c s x f k b = k refl
 no_other_one phase.BlockLength1 i t n v c s x f k b = b refl
 no_other_one _ i t n v c s x f k b = absurd i
 
--- bytes of a piece end the open field, or the machine stops at them
+-- bytes of a piece end the open token, or the machine stops at them
 pub taken_so_far : (gate : Gate) (count : ℕ) (found : Bool) (result : Taken) (piece : List ℕ) (old new : Seen)
     → Takes gate (take count piece) found old new → result ≡ taken_by count found → 0 < count → count ≤ length piece
     → IsWholeLength (open_phase old) (cut_of old ++ take count piece) → TakesFromFor gate result piece old new
@@ -127,7 +127,7 @@ unfolding TakesFromFor
 taken_so_far gate count true result piece old new h er some within whole = rw er (some, within, h, whole)
 taken_so_far gate count false result piece old new h er some within whole = rw er (some, within, h)
 
--- a field of one byte is no length
+-- a token of one byte is no length
 one_is_whole : (p : Phase) (cut_phase : Phase) (bytes : List ℕ) → IsOne p → IsWholeLength (open_in p cut_phase) bytes
 one_is_whole phase.Top cut_phase bytes i = tt
 one_is_whole phase.Note cut_phase bytes i = tt

@@ -1,4 +1,4 @@
--- Bytes of raw fields that are taken, and the walk over them.
+-- Bytes of raw tokens that are taken, and the walk over them.
 use Rattle.std.proofs.Common.{◌≡◌, ℕ, ◌+◌, ◌<◌, ◌≤◌, max, min, true, List, ◌++◌, length, take, refl, sym, ◌∙◌, ap, subst, arith}
 use Rattle.std.proofs.lemmas.List.{length-take-le, take_all}
 use Rattle.jser_reading.specs.Goals.{settled}

@@ -3,8 +3,8 @@ use Rattle.std.proofs.Common.{◌≡◌, ℕ, ◌-◌, ◌<◌, ◌≤◌, ◌�
 use Rattle.std.proofs.lemmas.Bool.Decides.{nat_tests}
 use Rattle.jser_table.specs.Entries.{TableEntry, text_entry, other_entry, pending_entry, closed_entry, is_text}
 use Rattle.jser_reading.specs.Labels.{text_place_at}
-use Rattle.jser_reading.specs.FieldBytes.{tag_byte}
-use Rattle.jser_reading.specs.FieldsFromBytes.{tag_from}
+use Rattle.jser_reading.specs.TokenBytes.{tag_byte}
+use Rattle.jser_reading.specs.TokensFromBytes.{tag_from}
 use Rattle.jser_reading.specs.Goals.{State, settle}
 use Rattle.jser_verdict.specs.Reasons.{Reason, bad_tag, no_such_handle, wrong_kind, handle_space}
 use Rattle.jser_verdict.specs.TagRows.{is_known_tag}

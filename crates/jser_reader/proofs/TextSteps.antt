@@ -5,8 +5,8 @@ use Rattle.jser_prim.specs.ModifiedUtf8.{modified_utf8}
 use Rattle.jser_prim.specs.Texts.{BeginsText, FaultsAfter}
 use Rattle.jser_prim.proofs.ScanLemmas.{accepts_text}
 use Rattle.jser_grammar.specs.Parts.{IsText, text_bound}
-use Rattle.jser_reading.specs.Labels.{text_field, Label}
-use Rattle.jser_reading.specs.FieldsFromBytes.{head_size}
+use Rattle.jser_reading.specs.Labels.{text_token, Label}
+use Rattle.jser_reading.specs.TokensFromBytes.{head_size}
 use Rattle.jser_reading.specs.Goals.{State, settled}
 use Rattle.jser_reading.specs.Accepts.{label_of}
 use Rattle.jser_reading.specs.Machine.{advance}
@@ -57,7 +57,7 @@ same_text bytes old mid s long c o =
 
 -- where its end leads
 text_goes : (t : TextFor) (r : Seen) (long : Bool) (units : List ℕ) → (t ≡ text.InterfaceName → 0 < r.header.interfaces)
-    → settled (advance (moment_of r, text_goal r t long ∷ text_rest r t) (text_field long units)) ≡ text_state_of r t units
+    → settled (advance (moment_of r, text_goal r t long ∷ text_rest r t) (text_token long units)) ≡ text_state_of r t units
 text_goes text.Value r long units k = refl
 text_goes text.FieldType r long units k = refl
 text_goes (text.FieldName is_object) r long units k = refl
@@ -65,7 +65,7 @@ text_goes text.ClassName r long units k = refl
 text_goes text.InterfaceName r long units k = go r.header.interfaces refl (k refl)
   where
     go : (n : ℕ) → r.header.interfaces ≡ n → 0 < r.header.interfaces
-        → settled (advance (moment_of r, text_goal r text.InterfaceName long ∷ text_rest r text.InterfaceName) (text_field long units))
+        → settled (advance (moment_of r, text_goal r text.InterfaceName long ∷ text_rest r text.InterfaceName) (text_token long units))
         ≡ text_state_of r text.InterfaceName units
     go zero e h = absurd (omega arith)
     go (suc n) e h = let d : suc n - 1 ≡ n = omega arith in rw (e, d) refl
@@ -95,10 +95,10 @@ whole_taken gate found old mid new s cut taken long units h st c some o t e =
     (subst (λ bytes. reason_at gate (label_of (settled s)) (label_of (settled s)).position bytes ≡ text_reason gate mid units) e
     (spelled_reason gate (label_of (settled s)) long units i.is_text t ∙ ap (λ w. name_reason gate w units) i.position ∙ same_reason gate mid mid.text long units))
     (λ _. subst (λ bytes. LeadsTo (settled s) bytes (after_text mid units)) e (record {
-      field = text_field long units;
+      token = text_token long units;
       enough = f.0;
       found = f.1;
-      goes = ap (λ t. settled (advance t (text_field long units))) om.is ∙ text_goes mid.text mid long units i.some;
+      goes = ap (λ t. settled (advance t (text_token long units))) om.is ∙ text_goes mid.text mid long units i.some;
     }))
     (λ stops none _. surely_goes_on (text_reason gate mid units) (after_text mid units) found mid new (h om.inside) stops none)
 

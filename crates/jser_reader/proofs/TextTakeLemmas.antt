@@ -4,7 +4,7 @@ use Rattle.std.proofs.Common.{◌≡◌, ℕ, ◌^◌, ◌<◌, ◌≤◌, Bool,
 use Rattle.jser_prim.specs.Bytes.{big_bytes}
 use Rattle.jser_prim.specs.Texts.{Scan, HasAccepted}
 use Rattle.jser_grammar.specs.Parts.{text_bound}
-use Rattle.jser_reading.specs.FieldsFromBytes.{head_size}
+use Rattle.jser_reading.specs.TokensFromBytes.{head_size}
 use Rattle.jser_reading.specs.Goals.{settle}
 use Rattle.jser_verdict.specs.Reasons.{negative_length}
 use Rattle.jser_verdict.specs.Gates.{Gate}

@@ -7,8 +7,8 @@ use Rattle.jser_prim.specs.ModifiedUtf8.{modified_utf8}
 use Rattle.jser_prim.specs.Texts.{BeginsText}
 use Rattle.jser_grammar.specs.Parts.{IsText, text_bound}
 use Rattle.jser_reading.specs.Moments.{beginning}
-use Rattle.jser_reading.specs.Labels.{text_field, Position, string_at, class_name_at, field_name_at, interface_name_at, Label}
-use Rattle.jser_reading.specs.FieldsFromBytes.{number_of, head_size, text_in, text_size, size_in, field_in}
+use Rattle.jser_reading.specs.Labels.{text_token, Position, string_at, class_name_at, field_name_at, interface_name_at, Label}
+use Rattle.jser_reading.specs.TokensFromBytes.{number_of, head_size, text_in, text_size, size_in, token_in}
 use Rattle.jser_reading.specs.Scanner.{more, IsUndecided}
 use Rattle.jser_reading.proofs.Decoding.{number_2, number_8, length-big_bytes}
 use Rattle.jser_reading.proofs.PlainVerdict.{whole}
@@ -19,7 +19,7 @@ use Rattle.jser_verdict.specs.Verdicts.{class_name_reason, interface_reason, rea
 use Rattle.jser_verdict.proofs.Texts.{bad_text_is_exact}
 use Rattle.jser_verdict.proofs.Fronts.{FrontIsRight, text_front_short, text_front_long, not_whole, not_le}
 use Rattle.jser_verdict.proofs.ByteLists.{last_split}
-use Rattle.jser_verdict.proofs.ReadFields.{size_next}
+use Rattle.jser_verdict.proofs.ReadTokens.{size_next}
 use Rattle.jser_verdict.proofs.Ends.{whole_short, units_short}
 use Rattle.jser_reader.proofs.WalkLemmas.{verdict_more}
 
@@ -59,15 +59,15 @@ size_at_text false (string_at true) a h = absurd h
 size_at_text true (string_at false) a h = absurd h
 size_at_text _ _ a h = absurd h
 
-field_at_text : (long : Bool) (w : Position) (a : List ℕ) → IsTextAt long w → field_in w a ≡ text_in long a
-field_at_text false (string_at false) a h = refl
-field_at_text true (string_at true) a h = refl
-field_at_text false (class_name_at role) a h = refl
-field_at_text false field_name_at a h = refl
-field_at_text false interface_name_at a h = refl
-field_at_text false (string_at true) a h = absurd h
-field_at_text true (string_at false) a h = absurd h
-field_at_text _ _ a h = absurd h
+token_at_text : (long : Bool) (w : Position) (a : List ℕ) → IsTextAt long w → token_in w a ≡ text_in long a
+token_at_text false (string_at false) a h = refl
+token_at_text true (string_at true) a h = refl
+token_at_text false (class_name_at role) a h = refl
+token_at_text false field_name_at a h = refl
+token_at_text false interface_name_at a h = refl
+token_at_text false (string_at true) a h = absurd h
+token_at_text true (string_at false) a h = absurd h
+token_at_text _ _ a h = absurd h
 
 -- ---- before the length is there
 
@@ -88,12 +88,12 @@ abbrev pub spelled : (long : Bool) → List ℕ → List ℕ
 spelled long units = big_bytes (head_size long) (length (modified_utf8 units)) ++ modified_utf8 units
 
 spelled_whole : (long : Bool) (units : List ℕ) → IsText long units
-    → (text_in long (spelled long units) ≡ Some (text_field long units)) × (text_size long (spelled long units) ≤ length (spelled long units))
+    → (text_in long (spelled long units) ≡ Some (text_token long units)) × (text_size long (spelled long units) ≤ length (spelled long units))
     × ((a : List ℕ) (c : ℕ) (d : List ℕ) → spelled long units ≡ a ++ (c ∷ d) → length a < text_size long a)
 spelled_whole false units h =
-    let x = whole field_name_at beginning (text_field false units) h in (x.found, x.enough, x.fronts)
+    let x = whole field_name_at beginning (text_token false units) h in (x.found, x.enough, x.fronts)
 spelled_whole true units h =
-    let x = whole (string_at true) beginning (text_field true units) h in (x.found, x.enough, x.fronts)
+    let x = whole (string_at true) beginning (text_token true units) h in (x.found, x.enough, x.fronts)
 
 spelled_fronts : (long : Bool) (units a b : List ℕ) → IsText long units → spelled long units ≡ a ++ b → FrontIsRight long a
 spelled_fronts false units a b h e = text_front_short units a b h e
@@ -126,16 +126,16 @@ pub spelled_reason : (g : Gate) (l : Label) (long : Bool) (units : List ℕ) →
     → reason_at g l l.position (spelled long units) ≡ name_reason g l.position units
 spelled_reason g l long units i h = spelled_reason_at g l long l.position units i h
 
--- it is the field with these units
+-- it is the token with these units
 pub spelled_found : (l : Label) (long : Bool) (units : List ℕ) → IsTextAt long l.position → IsText long units
     → (size_in l.position (spelled long units) ≡ length (spelled long units))
-    × (field_in l.position (spelled long units) ≡ Some (text_field long units))
+    × (token_in l.position (spelled long units) ≡ Some (text_token long units))
 spelled_found l long units i h =
     let x = spelled_whole long units h in
     let size = size_at_text long l.position (spelled long units) i in
     let k = x.1 in
     let least = go (spelled long units) refl in
-    (omega arith, field_at_text long l.position (spelled long units) i ∙ x.0)
+    (omega arith, token_at_text long l.position (spelled long units) i ∙ x.0)
   where
     go : (bytes : List ℕ) → spelled long units ≡ bytes → length (spelled long units) ≤ size_in l.position (spelled long units)
     go [] e = let n : length (spelled long units) ≡ 0 = ap length e in omega arith

@@ -15,28 +15,28 @@ use Rattle.jser_reader.specs.Walks.{Takes, Keeps}
 use Rattle.jser_reader.specs.Tallies.{mark_of, tally_after, HasCounted, totals_of, AreTotals}
 use Rattle.jser_reader.proofs.AnswerLemmas.{passes}
 use Rattle.jser_reader.proofs.CountLemmas.{took_counts, kept_counts, counts_are_totals}
-use Rattle.jser_reader.proofs.ReaderLemmas.{field_ends, field_goes_on, bytes_front, front_of_front}
+use Rattle.jser_reader.proofs.ReaderLemmas.{token_ends, token_goes_on, bytes_front, front_of_front}
 use Rattle.jser_reader.proofs.StreamWalks.{ends_at_top}
 
--- a field has ended within the piece
-pub field_counts : (gate : Gate) (bytes piece front : List ℕ) (n : ℕ) (old new : Seen) (tally : Tally) → IsWithin old piece front → n ≤ length front
+-- a token has ended within the piece
+pub token_counts : (gate : Gate) (bytes piece front : List ℕ) (n : ℕ) (old new : Seen) (tally : Tally) → IsWithin old piece front → n ≤ length front
     → IsBytes piece → Takes gate (take n front) true old new → HasCounted gate bytes old tally → length bytes ≤ gate.bytes
     → HasCounted gate (bytes ++ take n piece) new (tally_after (mark_of old) (mark_of new) tally)
     × (length (bytes ++ take n piece) ≤ gate.bytes)
-field_counts gate bytes piece front n old new tally w le h t c room = (
+token_counts gate bytes piece front n old new tally w le h t c room = (
   took_counts gate old new bytes (take n piece) tally (subst (λ xs. Takes gate xs true old new) (front_of_front old piece front n w le) t)
       (bytes_front n piece h) c,
-  (field_ends gate bytes piece front n old new w le h t c.taken room).1,
+  (token_ends gate bytes piece front n old new w le h t c.taken room).1,
 )
 
--- the open field goes on
+-- the open token goes on
 pub goes_on_counts : (gate : Gate) (bytes piece front : List ℕ) (n : ℕ) (old new : Seen) (tally : Tally) → IsWithin old piece front → n ≤ length front
     → IsBytes piece → Keeps gate (take n front) old new → HasCounted gate bytes old tally → length bytes ≤ gate.bytes
     → HasCounted gate (bytes ++ take n piece) new tally × (length (bytes ++ take n piece) ≤ gate.bytes)
 goes_on_counts gate bytes piece front n old new tally w le h t c room = (
   kept_counts gate old new bytes (take n piece) tally (subst (λ xs. Keeps gate xs old new) (front_of_front old piece front n w le) t)
       (bytes_front n piece h) c,
-  (field_goes_on gate bytes piece front n old new w le h t c.taken room).1,
+  (token_goes_on gate bytes piece front n old new w le h t c.taken room).1,
 )
 
 -- at the top the bytes are a stream that passes, and the totals are its counts
@@ -44,7 +44,7 @@ pub finish_totals : (gate : Gate) (bytes : List ℕ) (r : Seen) (tally : Tally) 
     → r.phase ≡ phase.Top → (list : ContentTrees) × Passes gate bytes list × AreTotals bytes list (totals_of r tally)
 finish_totals gate bytes r tally c room top =
     let st = c.taken in
-    let s = left begin_state st.fields in
+    let s = left begin_state st.tokens in
     let d = ends_at_top gate r (settled s) st.cut st.stands top in
     let x = passes gate bytes s st.all_bytes room (st.walked ∙ ap (λ cut. ended s cut) d.1) d.0 in
     (x.0, x.1, counts_are_totals gate bytes r tally x.0 c top x.1.0)

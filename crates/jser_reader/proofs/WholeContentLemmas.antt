@@ -1,14 +1,14 @@
--- Which fronts of the bytes taken are streams: those behind which the walk stands at the top. Within a field it does not.
+-- Which fronts of the bytes taken are streams: those behind which the walk stands at the top. Within a token it does not.
 use Rattle.std.proofs.Common.{◌≡◌, ℕ, zero, suc, ◌+◌, ◌-◌, ◌<◌, ◌≤◌, ◌⊎◌, true, false, if◌then◌else◌, List, [], ◌∷◌, ◌++◌, length, take, drop, refl, sym, ◌∙◌, ap, subst, arith, append_assoc, append-nil, length-append, take-append-drop, length-take-le, inl, inr}
 use Rattle.std.proofs.lemmas.Bool.{cases_lt}
 use Rattle.std.proofs.lemmas.List.{take-append-le}
 use Rattle.jser_grammar.specs.Trees.{ContentTrees}
 use Rattle.jser_grammar.specs.Parts.{IsBytes}
-use Rattle.jser_reading.specs.FieldBytes.{joined}
-use Rattle.jser_reading.specs.FieldsFromBytes.{size_in}
+use Rattle.jser_reading.specs.TokenBytes.{joined}
+use Rattle.jser_reading.specs.TokensFromBytes.{size_in}
 use Rattle.jser_reading.specs.Goals.{State, settled}
 use Rattle.jser_reading.specs.Accepts.{label_of}
-use Rattle.jser_reading.specs.Labels.{StreamField, Piece}
+use Rattle.jser_reading.specs.Labels.{StreamToken, Piece}
 use Rattle.jser_reading.specs.Machine.{begin_state, advance, IsDone, Runs, left}
 use Rattle.jser_reading.specs.Scanner.{Verdict, more, good, bad, VerdictOn, IsUndecided, Outcome, by_verdict, walk, refused, ended}
 use Rattle.jser_reading.proofs.Next.{next_law}
@@ -17,8 +17,8 @@ use Rattle.jser_verdict.specs.Passing.{Passes}
 use Rattle.jser_verdict.specs.Reasons.{turn}
 use Rattle.jser_verdict.specs.Verdicts.{verdict}
 use Rattle.jser_verdict.proofs.ByteLists.{bytes_both, bytes_left, bytes_right, take_past}
-use Rattle.jser_verdict.proofs.Passing.{by_fields}
-use Rattle.jser_verdict.proofs.ReadFields.{read_next}
+use Rattle.jser_verdict.proofs.Passing.{by_tokens}
+use Rattle.jser_verdict.proofs.ReadTokens.{read_next}
 use Rattle.jser_verdict.proofs.SameWalks.{same_walk}
 use Rattle.jser_verdict.proofs.Scanning.{scanning_verdict}
 use Rattle.jser_verdict.proofs.Scans.{verdict_scans}
@@ -67,7 +67,7 @@ whole_of_none gate = record { within = omega arith; front = inl refl; longest = 
 no_pass : (gate : Gate) (bytes cut : List ℕ) (s : State) → IsBytes bytes → walk (verdict gate) begin_state [] bytes ≡ ended s cut
     → (IsDone (settled s) → cut ≡ [] → ⊥) → (list : ContentTrees) → Passes gate bytes list → ⊥
 no_pass gate bytes cut s hb e nt list p =
-    let x = taken gate bytes list hb (by_fields gate bytes list p).0 in
+    let x = taken gate bytes list hb (by_tokens gate bytes list p).0 in
     let k : ended s cut ≡ ended x.0 [] = sym e ∙ x.2 in
     let es : s ≡ x.0 = cc in
     let ec : cut ≡ [] = cc in
@@ -77,13 +77,13 @@ no_pass gate bytes cut s hb e nt list p =
 no_pass_refused : (gate : Gate) (bytes wrong rest : List ℕ) (k : ℕ) → IsBytes bytes → walk (verdict gate) begin_state [] bytes ≡ refused wrong rest k
     → (list : ContentTrees) → Passes gate bytes list → ⊥
 no_pass_refused gate bytes wrong rest k hb e list p =
-    let x = taken gate bytes list hb (by_fields gate bytes list p).0 in
+    let x = taken gate bytes list hb (by_tokens gate bytes list p).0 in
     let z : refused wrong rest k ≡ ended x.0 [] = sym e ∙ x.2 in
     absurd (cc)
 
--- ---- within a field
+-- ---- within a token
 
--- how many bytes of a field the outcome of a walk has
+-- how many bytes of a token the outcome of a walk has
 abbrev kept_of : Outcome → ℕ
 kept_of (ended s cut) = length cut
 kept_of (refused wrong rest k) = length wrong
@@ -94,14 +94,14 @@ at_most v s cut (b ∷ bytes) =
     go (v (label_of (settled s)) (cut ++ (b ∷ []))) (at_most v s (cut ++ (b ∷ [])) bytes) (λ f. at_most v (advance (settled s) f) [] bytes) (length-append cut (b ∷ []))
   where
     go : (y : Verdict) → kept_of (walk v s (cut ++ (b ∷ [])) bytes) ≤ length (cut ++ (b ∷ [])) + length bytes
-        → ((f : StreamField) → kept_of (walk v (advance (settled s) f) [] bytes) ≤ 0 + length bytes)
+        → ((f : StreamToken) → kept_of (walk v (advance (settled s) f) [] bytes) ≤ 0 + length bytes)
         → length (cut ++ (b ∷ [])) ≡ length cut + 1
         → kept_of (by_verdict y (walk v s (cut ++ (b ∷ [])) bytes) (λ f. walk v (advance (settled s) f) [] bytes) (λ r. refused (cut ++ (b ∷ [])) bytes r)) ≤ length cut + suc (length bytes)
     go more k f n = omega arith
     go (good fd) k f n = let x = f fd in omega arith
     go (bad r) k f n = omega arith
 
--- a walk that has all bytes at its end is within the same field at each front
+-- a walk that has all bytes at its end is within the same token at each front
 open_within : (v : VerdictOn) (s : State) (cut front : List ℕ) (c : ℕ) (rest : List ℕ)
     → kept_of (walk v s cut (front ++ (c ∷ rest))) ≡ length cut + length (front ++ (c ∷ rest)) → walk v s cut front ≡ ended s (cut ++ front)
 open_within v s cut [] c rest e = ap (λ x. ended s x) (sym (append-nil cut))
@@ -206,12 +206,12 @@ whole_stopped r tally e = whole_inside r tally (ap is_top e)
 -- at the top all bytes are whole contents
 top_whole : (gate : Gate) (bytes : List ℕ) (r : Seen) (tally : Tally) → HasTaken gate bytes r → length bytes ≤ gate.bytes → r.phase ≡ phase.Top → IsWhole gate bytes (whole_of r tally)
 top_whole gate bytes r tally st room top =
-    let s = left begin_state st.fields in
+    let s = left begin_state st.tokens in
     let d = ends_at_top gate r (settled s) st.cut st.stands top in
     let p = passes gate bytes s st.all_bytes room (st.walked ∙ ap (λ c. ended s c) d.1) d.0 in
     subst (IsWhole gate bytes) (sym (whole_top r tally top ∙ st.taken)) (all_whole gate bytes p.0 p.1)
 
--- ---- a part of a field
+-- ---- a part of a token
 
 some_cut : (cut front : List ℕ) → 0 < length front → cut ++ front ≡ [] → ⊥
 some_cut cut front some e = let n = length-append cut front in let z : length (cut ++ front) ≡ 0 = ap length e in omega arith
@@ -236,7 +236,7 @@ take_whole (suc k) (x ∷ xs) h = ap (λ ys. x ∷ ys) (take_whole k xs (omega a
 bytes_take : (k : ℕ) (xs : List ℕ) → IsBytes xs → IsBytes (take k xs)
 bytes_take k xs h = bytes_left (take k xs) (drop k xs) (subst (λ z. IsBytes z) (sym (take-append-drop k xs)) h)
 
--- a front of the bytes that came, behind which the walk is within the open field
+-- a front of the bytes that came, behind which the walk is within the open token
 within_none : (gate : Gate) (bytes cut front : List ℕ) (s : State) → IsBytes bytes → IsBytes front → 0 < length front
     → walk (verdict gate) begin_state [] bytes ≡ ended s cut → walk (verdict gate) s cut front ≡ ended s (cut ++ front)
     → (list : ContentTrees) → Passes gate (bytes ++ front) list → ⊥
@@ -250,7 +250,7 @@ some_taken k came some le = let l = length-take-le k came le in omega arith
 kept_n : (gate : Gate) (old new : Seen) (bytes came : List ℕ) (n : ℕ) → Keeps gate came old new → IsBytes came → HasTaken gate bytes old → IsWhole gate bytes n → IsWhole gate (bytes ++ came) n
 unfolding Keeps
 kept_n gate old new bytes came n h bt st i =
-    let s = left begin_state st.fields in
+    let s = left begin_state st.tokens in
     let x = h s st.cut st.stands in
     let full : kept_of (walk (verdict gate) s st.cut came) ≡ length st.cut + length came = ap kept_of x.walks ∙ length-append st.cut came in
     stays_whole gate bytes came n i (λ k some le.
@@ -262,14 +262,14 @@ kept_n gate old new bytes came n h bt st i =
       | inr ge ↦ subst (λ z. walk (verdict gate) s st.cut z ≡ ended s (st.cut ++ z)) (sym (take_whole k came ge)) x.walks
     ]))
 
--- the same field is still open
+-- the same token is still open
 pub kept_whole : (gate : Gate) (old new : Seen) (bytes came : List ℕ) (tally : Tally) → Keeps gate came old new → IsBytes came → HasTaken gate bytes old → length (bytes ++ came) ≤ gate.bytes
     → IsWhole gate bytes (whole_of old tally) → IsWhole gate (bytes ++ came) (whole_of new tally)
 unfolding Keeps
 kept_whole gate old new bytes came tally h bt st room i = elim (top_or_not new.phase) [
   | inl top ↦ top_whole gate (bytes ++ came) new tally (kept_stands gate old new bytes came h bt st) room top
   | inr other ↦
-      let s = left begin_state st.fields in
+      let s = left begin_state st.tokens in
       let x = h s st.cut st.stands in
       let before : is_top old.phase ≡ false = elim (top_or_not old.phase) [
         | inl top ↦ absurd (done_at_top gate new (settled s) (st.cut ++ came) x.stands (ends_at_top gate old (settled s) st.cut st.stands top).0 other.0)
@@ -285,7 +285,7 @@ stopped_n : (gate : Gate) (old new : Seen) (bytes came after : List ℕ) (refusa
     → IsBytes came → IsBytes after → HasTaken gate bytes old → IsWhole gate bytes n → IsWhole gate (bytes ++ (came ++ after)) n
 unfolding Takes
 stopped_n gate old new bytes came after refusal n h er bt ba st i =
-    let s = left begin_state st.fields in
+    let s = left begin_state st.tokens in
     let x = subst (λ why. StopTold gate s st.cut came old.meter.from why) er (h s st.cut st.stands).1 in
     stays_whole gate bytes (came ++ after) n i (λ k some le.
     elim (cases_lt k (length came)) [
@@ -322,21 +322,21 @@ limit_whole gate bytes came n full i = λ after ba.
     let t = length-take-le k (came ++ after) le in
     omega arith))
 
--- ---- a field has ended
+-- ---- a token has ended
 
--- no front of a field decides
-field_undecided : (gate : Gate) (fields : List Piece) (bytes : List ℕ) (field : StreamField)
-    → let l = label_of (settled (left begin_state fields)) in
-    Runs begin_state fields → verdict gate l bytes ≡ good field → size_in l.position bytes ≡ length bytes → IsBytes bytes
+-- no front of a token decides
+token_undecided : (gate : Gate) (tokens : List Piece) (bytes : List ℕ) (token : StreamToken)
+    → let l = label_of (settled (left begin_state tokens)) in
+    Runs begin_state tokens → verdict gate l bytes ≡ good token → size_in l.position bytes ≡ length bytes → IsBytes bytes
     → IsUndecided (scanning_verdict gate) l bytes
-field_undecided gate fields bytes field r v e h =
-    let l = label_of (settled (left begin_state fields)) in
+token_undecided gate tokens bytes token r v e h =
+    let l = label_of (settled (left begin_state tokens)) in
     let same : verdict gate l bytes ≡ scanning_verdict gate l bytes =
-    same_verdict gate l bytes (read_next fields l ((next_law fields l).1 (r, refl))) h (omega arith) in
-    let g = (verdict_scans gate).good_is l bytes field (sym same ∙ v) in
-    subst (IsUndecided (scanning_verdict gate) l) (sym g.0) ((verdict_scans gate).before_end l field g.1 g.2)
+    same_verdict gate l bytes (read_next tokens l ((next_law tokens l).1 (r, refl))) h (omega arith) in
+    let g = (verdict_scans gate).good_is l bytes token (sym same ∙ v) in
+    subst (IsUndecided (scanning_verdict gate) l) (sym g.0) ((verdict_scans gate).before_end l token g.1 g.2)
 
--- the walk by the other verdict is within the field at each front of it
+-- the walk by the other verdict is within the token at each front of it
 open_scanned : (v : VerdictOn) (s : State) (cut front : List ℕ) (c : ℕ) (rest : List ℕ)
     → IsUndecided v (label_of (settled s)) (cut ++ (front ++ (c ∷ rest))) → walk v s cut front ≡ ended s (cut ++ front)
 open_scanned v s cut front c rest u =
@@ -344,17 +344,17 @@ open_scanned v s cut front c rest u =
     (λ a b more e. u a b (more ++ (c ∷ rest)) (sym (append_assoc cut front (c ∷ rest)) ∙ ap (λ z. z ++ (c ∷ rest)) e ∙ append_assoc a (b ∷ more) (c ∷ rest)))
     (u (cut ++ front) c rest (sym (append_assoc cut front (c ∷ rest))))
 
--- inside a field the walk by the verdict has ended
-front_of_field : (gate : Gate) (bytes cut front : List ℕ) (s : State) (c : ℕ) (rest : List ℕ) → IsBytes bytes → IsBytes front
+-- inside a token the walk by the verdict has ended
+front_of_token : (gate : Gate) (bytes cut front : List ℕ) (s : State) (c : ℕ) (rest : List ℕ) → IsBytes bytes → IsBytes front
     → walk (verdict gate) begin_state [] bytes ≡ ended s cut
     → IsUndecided (scanning_verdict gate) (label_of (settled s)) (cut ++ (front ++ (c ∷ rest)))
     → walk (verdict gate) begin_state [] (bytes ++ front) ≡ ended s (cut ++ front)
-front_of_field gate bytes cut front s c rest hb hf w u =
+front_of_token gate bytes cut front s c rest hb hf w u =
     same_walk gate (bytes ++ front) (bytes_both bytes front hb hf)
     ∙ walk_on (scanning_verdict gate) bytes front begin_state s [] cut (sym (same_walk gate bytes hb) ∙ w)
     ∙ open_scanned (scanning_verdict gate) s cut front c rest u
 
--- the open field has ended
+-- the open token has ended
 pub took_whole : (gate : Gate) (old new : Seen) (bytes came : List ℕ) (tally : Tally) → Takes gate came true old new → IsBytes came → HasTaken gate bytes old → length (bytes ++ came) ≤ gate.bytes
     → IsWhole gate bytes (whole_of old tally) → IsWhole gate (bytes ++ came) (whole_of new (tally_after (mark_of old) (mark_of new) tally))
 unfolding Takes
@@ -369,20 +369,20 @@ took_whole gate old new bytes came tally h bt st room i = elim (top_or_not new.p
     none : (new.phase ≡ phase.Top → ⊥) → (k : ℕ) → 0 < k → k ≤ length came → (list : ContentTrees) → Passes gate (bytes ++ take k came) list → ⊥
     none inside k some le = elim (cases_lt k (length came)) [
       | inl lt ↦
-          let s = left begin_state st.fields in
+          let s = left begin_state st.tokens in
           let x = h s st.cut st.stands in
-          let is : bytes ++ came ≡ joined st.fields ++ (st.cut ++ came) = ap (λ b. b ++ came) st.are_fields ∙ append_assoc (joined st.fields) st.cut came in
+          let is : bytes ++ came ≡ joined st.tokens ++ (st.cut ++ came) = ap (λ b. b ++ came) st.are_tokens ∙ append_assoc (joined st.tokens) st.cut came in
           let all : IsBytes (bytes ++ came) = bytes_both bytes came st.all_bytes bt in
-          let of_field : IsBytes (st.cut ++ came) = bytes_right (joined st.fields) (st.cut ++ came) (subst IsBytes is all) in
-          let u = field_undecided gate st.fields (st.cut ++ came) x.field st.runs x.is_good x.whole of_field in
+          let of_token : IsBytes (st.cut ++ came) = bytes_right (joined st.tokens) (st.cut ++ came) (subst IsBytes is all) in
+          let u = token_undecided gate st.tokens (st.cut ++ came) x.token st.runs x.is_good x.whole of_token in
           let y = split_in came k lt in
           no_pass gate (bytes ++ take k came) (st.cut ++ take k came) s (bytes_both bytes (take k came) st.all_bytes (bytes_take k came bt))
-          (front_of_field gate bytes st.cut (take k came) s y.0 y.1 st.all_bytes (bytes_take k came bt) st.walked
+          (front_of_token gate bytes st.cut (take k came) s y.0 y.1 st.all_bytes (bytes_take k came bt) st.walked
           (subst (λ z. IsUndecided (scanning_verdict gate) (label_of (settled s)) (st.cut ++ z)) y.2 u))
           (λ d e. some_cut st.cut (take k came) (some_taken k came some le) e)
       | inr ge ↦
           let now = took_stands gate old new bytes came h bt st in
-          let s = left begin_state now.fields in
+          let s = left begin_state now.tokens in
           λ list p. no_pass gate (bytes ++ came) now.cut s now.all_bytes now.walked
           (λ d e. ends_only_at_top gate new (settled s) now.cut now.stands inside (d, e)) list
           (subst (λ z. Passes gate (bytes ++ z) list) (take_whole k came ge) p)

@@ -10,7 +10,7 @@ use Rattle.jser_prim.proofs.TextLemmas.{begins_whole}
 use Rattle.jser_table.specs.Entries.{text_entry, other_entry, chain_at}
 use Rattle.jser_grammar.specs.Parts.{IsBytes}
 use Rattle.jser_reading.specs.Labels.{reference_tag, string_tag, class_handle_at}
-use Rattle.jser_reading.specs.FieldBytes.{tag_byte}
+use Rattle.jser_reading.specs.TokenBytes.{tag_byte}
 use Rattle.jser_verdict.specs.Gates.{Gate, IsGate}
 use Rattle.jser_verdict.specs.Verdicts.{class_handle_reason}
 use Rattle.jser_reader.specs.declared.frame.Owner.{Owner}
@@ -44,7 +44,7 @@ use Rattle.jser_reader.proofs.TakeRawLemmas.{takes_prims, takes_block}
 use Rattle.jser_reader.proofs.TextLemmas.{value_ends}
 use Rattle.jser_reader.proofs.TextSteps.{short_text_taken}
 use Rattle.jser_reader.proofs.ReaderLemmas.{take_whole}
-use Rattle.jser_reader.proofs.NextLemmas.{CountsField}
+use Rattle.jser_reader.proofs.NextLemmas.{CountsToken}
 use Rattle.jser_reader.proofs.PassLemmas.{quiet_stopped, joined_takes, then_passes, then_halts, passes_end, passes_stop, quiet_end, quiet_takes}
 
 -- ---- the tag of a value, at any place
@@ -69,7 +69,7 @@ tag_taken _ t r m i e h = absurd i
 pub tag_passes : (gate : Gate) (t : ValueTag) (piece : List ℕ) (r m : Seen) (before after : Tally) → IsGate gate → CanPass r piece → IsPlace r.phase
     → 0 < length piece → tag_byte (view_tag t) ≡ get_or piece 0 0
     → Tells (place_reason (farther r 1) (view_tag t)) (after_tag (farther r 1) (view_tag t)) true (farther r 1) m
-    → CountsField r m before after → Passes gate piece (Some 1) r before m after
+    → CountsToken r m before after → Passes gate piece (Some 1) r before m after
 tag_passes gate t piece r m before after g can i some first h c =
     passes_end gate 1 (taken.Ended 1) piece r m before after
     (one_taken (tag_byte (view_tag t)) true (taken.Ended 1) piece r m (tag_taken r.phase t r m i refl h) refl first some (place_is_one r.phase i) gate)
@@ -458,7 +458,7 @@ string_passes gate len piece old mid far new m1 m2 before after g can i first h 
     subst (λ b. Comes (placed k b) new (after_value (placed k b))) (sym e) (subst (λ r. Comes (placed r (len + 3)) new (after_value (placed r (len + 3)))) assigns.1 comes) in
     let ends : Comes (farther m (2 + len)) new (after_value (farther m (2 + len))) =
     same_end (placed k (2 + len + 1)) (farther m (2 + len)) new come (same_meter old (2 + len)) refl refl refl refl in
-    let count : CountsField old m before after = subst (λ r. CountsMarks (mark_of old) (mark_of (placed r (len + 3))) before after) assigns.1 counts in
+    let count : CountsToken old m before after = subst (λ r. CountsMarks (mark_of old) (mark_of (placed r (len + 3))) before after) assigns.1 counts in
     let tag : Passes gate piece (Some 1) old before m after =
     tag_passes gate value.String piece old m before after g can i (omega arith) first (string_begins old p assigns.0) count in
     let body : Passes gate rest (Some (2 + len)) m after new after =

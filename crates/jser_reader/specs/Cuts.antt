@@ -4,8 +4,8 @@ use Rattle.jser_reader.specs.declared.phase.Phase.{Phase}
 use Rattle.jser_reader.specs.declared.phase.Phase.TheVariants as phase
 use Rattle.jser_reader.specs.Walks.{size_of_phase}
 
--- which field it is, and its first bytes
-pub record CutField : Type 0 where
+-- which token it is, and its first bytes
+pub record CutToken : Type 0 where
   pub phase : Phase
   pub kept : List ℕ
 
@@ -20,7 +20,7 @@ IsFour phase.ArrayLength = Unit {0}
 IsFour phase.BlockLength4 = Unit {0}
 IsFour _ = ⊥
 
--- a field that has more bytes than one, so that a piece may end within it
+-- a token that has more bytes than one, so that a piece may end within it
 abbrev pub CanBeCut : Phase → Type 0
 CanBeCut phase.Header = Unit {0}
 CanBeCut phase.FieldCount = Unit {0}
@@ -30,6 +30,6 @@ CanBeCut phase.Suid = Unit {0}
 CanBeCut p = IsFour p
 
 -- these are bytes of it, but not all
-pub record IsCutField (phase : Phase) (kept : List ℕ) : Type 0 where
+pub record IsCutToken (phase : Phase) (kept : List ℕ) : Type 0 where
   pub may_be : CanBeCut phase
   pub short : length kept < size_of_phase phase

@@ -1,11 +1,11 @@
--- What a handler does with a field whose bytes have all been counted: it refuses it for the reason that is told, or it
--- goes on to the state to which the field leads, if memory lasts.
+-- What a handler does with a token whose bytes have all been counted: it refuses it for the reason that is told, or it
+-- goes on to the state to which the token leads, if memory lasts.
 use Rattle.std.specs.Prelude.{◌≡◌, ℕ, suc, ◌++◌, Bool, true, false, List, [], ◌∷◌, length, Option, Some, None, nat_lt, nat_le, ◌&&◌}
 use Rattle.jser_table.specs.declared.layer.Layer.{Layer}
 use Rattle.jser_table.specs.Chains.{is_external, elements_of}
 use Rattle.jser_table.specs.Entries.{TableEntry, text_entry, other_entry, pending_entry}
 use Rattle.jser_table.specs.Tables.{TableView}
-use Rattle.jser_reading.specs.Labels.{StreamField, tag_field, block_tag_field, end_tag_field, reset_tag_field, Position, Label, Tag, null_tag, reference_tag, class_desc_tag, object_tag, string_tag, array_tag, class_tag, long_string_tag, proxy_desc_tag, enum_tag}
+use Rattle.jser_reading.specs.Labels.{StreamToken, tag_token, block_tag_token, end_tag_token, reset_tag_token, Position, Label, Tag, null_tag, reference_tag, class_desc_tag, object_tag, string_tag, array_tag, class_tag, long_string_tag, proxy_desc_tag, enum_tag}
 use Rattle.jser_reading.specs.Moments.{Moment, assign, emptied, next_number}
 use Rattle.jser_reading.specs.Roles.{object_owner, array_owner, enum_owner, class_owner, own_class}
 use Rattle.jser_reading.specs.Goals.{Goal, State, settle, settled, object_parts, parts_goal, class_handle_goal, array_length_goal, text_place_goal, back_handle_goal, block_length_goal, string_goal, class_goal, class_name_goal, interface_count_goal}
@@ -37,7 +37,7 @@ pub record StopsWith (why : Stop) (old new : Seen) : Type 0 where
 abbrev pub refusal : Meter → Reason → Stop
 refusal meter reason = stop.Refused (record { from_byte = meter.from; to_byte = meter.at; reason = reason })
 
--- the next field begins where this one ends
+-- the next token begins where this one ends
 abbrev pub moved : Meter → Meter
 moved meter = record { at = meter.at; from = meter.at; limits = meter.limits; stop = meter.stop; cut_phase = meter.cut_phase; kept = meter.kept }
 
@@ -66,7 +66,7 @@ SureCases (Some k) s false old new = StopsWith (refusal old.meter (named k)) old
 unfoldable pub TellsSurely : Option ToldReason → State → Bool → Seen → Seen → Type 0
 TellsSurely k s b old new = SureCases k s b old new
 
--- this field comes next; the frames, the table and the counters are as they were
+-- this token comes next; the frames, the table and the counters are as they were
 pub record IsNext (phase : Phase) (owner : Owner) (chain : Option ℕ) (header : Header) (text : TextFor) (old new : Seen) : Type 0 where
   pub phase_is : new.phase ≡ phase
   pub frames : new.frames ≡ old.frames
@@ -159,7 +159,7 @@ opens_proxy r role = (
       ∷ closed_goals r.table.chains r.layers r.frames role (next_number (moment_of r)),
 )
 
--- The gate as the tests of all fields but names see it: its limits alone.
+-- The gate as the tests of all tokens but names see it: its limits alone.
 abbrev pub plain_gate : Seen → Gate
 plain_gate r = record { bytes = r.meter.limits.bytes; depth = r.meter.limits.depth; refs = r.meter.limits.refs; array = r.meter.limits.array; handles = r.table.max; answer = λ name. pass }
 
@@ -178,19 +178,19 @@ after_end r = settle (moment_of r) (tail_goals (goals_of r))
 abbrev pub after_block_tag : Seen → (long : Bool) → State
 after_block_tag r long = (moment_of r, block_length_goal long (length r.frames) ∷ goals_of r)
 
-abbrev pub after_content : Seen → Option StreamField → State
-after_content r (Some (tag_field tag)) = after_tag r tag
-after_content r (Some (block_tag_field long)) = after_block_tag r long
-after_content r (Some end_tag_field) = after_end r
-after_content r (Some reset_tag_field) = (emptied (moment_of r), goals_of r)
+abbrev pub after_content : Seen → Option StreamToken → State
+after_content r (Some (tag_token tag)) = after_tag r tag
+after_content r (Some (block_tag_token long)) = after_block_tag r long
+after_content r (Some end_tag_token) = after_end r
+after_content r (Some reset_tag_token) = (emptied (moment_of r), goals_of r)
 after_content r _ = (moment_of r, [])
 
 -- A class place: its tag, and the class that a handle names.
 
-abbrev pub after_class_tag : Seen → Option StreamField → State
-after_class_tag r (Some (tag_field reference_tag)) = (moment_of r, class_handle_goal (goal_owner r.owner) (depth_of r) ∷ goals_of r)
-after_class_tag r (Some (tag_field class_desc_tag)) = opens_class r (role.ClassOf r.owner)
-after_class_tag r (Some (tag_field proxy_desc_tag)) = opens_proxy r (role.ClassOf r.owner)
+abbrev pub after_class_tag : Seen → Option StreamToken → State
+after_class_tag r (Some (tag_token reference_tag)) = (moment_of r, class_handle_goal (goal_owner r.owner) (depth_of r) ∷ goals_of r)
+after_class_tag r (Some (tag_token class_desc_tag)) = opens_class r (role.ClassOf r.owner)
+after_class_tag r (Some (tag_token proxy_desc_tag)) = opens_proxy r (role.ClassOf r.owner)
 after_class_tag r _ = (moment_of r, [])
 
 -- the data of an object with this chain

@@ -1,12 +1,12 @@
--- Which item is lent of a field: a tag or a number as a whole, a text as its length and then its bytes, raw bytes as they
+-- Which item is lent of a token: a tag or a number as a whole, a text as its length and then its bytes, raw bytes as they
 -- come.
 use Rattle.std.specs.Prelude.{ℕ, ◌≡◌, ◌≤◌, Bool, true, false, List, ◌++◌, length}
 use Rattle.jser_reading.specs.Labels.{Position, nowhere, header_at, top_at, annotation_at, value_at, text_place_at, class_place_at, superclass_place_at, back_handle_at, text_handle_at, class_handle_at, superclass_handle_at, string_at, class_name_at, field_name_at, interface_name_at, suid_at, field_count_at, interface_count_at, array_length_at, flags_at, type_code_at, block_length_at, raw_at, bytes_at}
-use Rattle.jser_reading.specs.FieldsFromBytes.{number_of, head_size}
+use Rattle.jser_reading.specs.TokensFromBytes.{number_of, head_size}
 use Rattle.jser_reader.specs.declared.item.Item.{Item}
 use Rattle.jser_reader.specs.declared.item.Item.TheVariants as item
 
--- the items of a field: none, the header, a number of so many bytes, those of a text, those of raw bytes
+-- the items of a token: none, the header, a number of so many bytes, those of a text, those of raw bytes
 pub data Items : Type 0 where
   no_items header_items raw_items : Items
   number_items : (item : ℕ → Item) (size : ℕ) → Items
@@ -55,7 +55,7 @@ abbrev pub IsRawPart : (taken : List ℕ) → Item → Type 0
 IsRawPart taken (item.RawPart part) = part.now ≡ taken
 IsRawPart taken _ = ⊥
 
--- This item is lent of a field, of which the bytes `cut` were taken before and these now.
+-- This item is lent of a token, of which the bytes `cut` were taken before and these now.
 abbrev pub IsLent : Items → (cut taken : List ℕ) → Item → Type 0
 IsLent no_items cut taken lent = ⊥
 IsLent header_items cut taken lent = (length (cut ++ taken) ≡ 4) × (lent ≡ item.Header)
@@ -63,7 +63,7 @@ IsLent (number_items kind size) cut taken lent = (length (cut ++ taken) ≡ size
 IsLent (text_items long) cut taken lent = IsOfText long cut taken lent
 IsLent raw_items cut taken lent = IsRawPart taken lent
 
--- how many bytes the first item of a field takes, at least
+-- how many bytes the first item of a token takes, at least
 abbrev pub first_size : Items → ℕ
 first_size no_items = 0
 first_size header_items = 4

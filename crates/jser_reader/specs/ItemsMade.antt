@@ -1,6 +1,6 @@
--- Which item the code makes of the bytes of a field, by the phase in which the machine reads it.
+-- Which item the code makes of the bytes of a token, by the phase in which the machine reads it.
 use Rattle.std.specs.Prelude.{ℕ, ◌≡◌, List, ◌++◌, length}
-use Rattle.jser_reading.specs.FieldsFromBytes.{number_of}
+use Rattle.jser_reading.specs.TokensFromBytes.{number_of}
 use Rattle.jser_reader.specs.declared.item.Item.{Item}
 use Rattle.jser_reader.specs.declared.item.Item.TheVariants as item
 use Rattle.jser_reader.specs.declared.item.Step.{Step}
@@ -10,7 +10,7 @@ use Rattle.jser_reader.specs.declared.phase.Phase.TheVariants as phase
 use Rattle.jser_reader.specs.Walks.{size_of_phase}
 use Rattle.jser_reader.specs.Items.{IsRawPart}
 
--- the item of a whole field that is the header, a tag or a number
+-- the item of a whole token that is the header, a tag or a number
 abbrev pub number_item : Phase → ℕ → Item
 number_item phase.Top n = item.Tag n
 number_item phase.Note n = item.Tag n
@@ -44,7 +44,7 @@ ItemCases phase.Prims kept taken lent = IsRawPart taken lent
 ItemCases phase.Bytes kept taken lent = IsRawPart taken lent
 ItemCases p kept taken lent = length (kept ++ taken) ≡ size_of_phase p → lent ≡ number_item p (number_of (kept ++ taken))
 
--- in this phase, after these bytes of the field were kept, this item is made of those that are taken
+-- in this phase, after these bytes of the token were kept, this item is made of those that are taken
 unfoldable pub MakesItem : Phase → (kept taken : List ℕ) → Item → Type 0
 MakesItem p kept taken lent = ItemCases p kept taken lent
 

@@ -36,7 +36,7 @@ pub mod Items
 pub mod ItemsMade
 pub mod ItemsTold
 pub mod WholesTold
-pub mod FieldLaws
+pub mod TokenLaws
 pub mod Gates
 pub mod RawRuns
 pub mod RawsTold

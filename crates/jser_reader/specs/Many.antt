@@ -47,7 +47,7 @@ phase_on (frame.Notes last section ∷ fs) = phase.Note
 phase_on (frame.ExternalNotes ∷ fs) = phase.Note
 phase_on (frame.Descriptor number role ∷ fs) = phase.Note
 
--- the machine and the counts of fields, if the loop ended here
+-- the machine and the counts of tokens, if the loop ended here
 
 abbrev pub seen_at : Seen → Counts → Seen
 seen_at r k = record { meter = moved (counted_on r.meter k.used); phase = phase_on r.frames; frames = r.frames; layers = r.layers; table = r.table; refs = k.refs; owner = r.owner; elements = r.elements; header = r.header; text = r.text; left = r.left; scan = r.scan; name = r.name }

@@ -1,7 +1,7 @@
--- Which fields take no memory, and where in a field memory may run out.
+-- Which tokens take no memory, and where in a token memory may run out.
 use Rattle.std.specs.Prelude.{ℕ, ◌≡◌, ◌<◌, ◌⊎◌, List, length}
 use Rattle.jser_reading.specs.Labels.{Position, string_at, class_name_at, field_name_at, interface_name_at, raw_at, bytes_at}
-use Rattle.jser_reading.specs.FieldsFromBytes.{size_in}
+use Rattle.jser_reading.specs.TokensFromBytes.{size_in}
 
 -- the name of a class or of an interface, of which the units are kept until it is judged
 abbrev pub IsCheckedName : Position → Type 0
@@ -17,10 +17,10 @@ IsForgotten (string_at long) = Unit {0}
 IsForgotten field_name_at = Unit {0}
 IsForgotten _ = ⊥
 
--- the field needs more bytes than these
+-- the token needs more bytes than these
 abbrev pub EndsInside : Position → (bytes : List ℕ) → Type 0
 EndsInside position bytes = length bytes < size_in position bytes
 
--- After these bytes of a field memory may run out: those of a checked name, and all of another field that is not forgotten.
+-- After these bytes of a token memory may run out: those of a checked name, and all of another token that is not forgotten.
 abbrev pub MayRunOut : Position → (bytes : List ℕ) → Type 0
 MayRunOut position bytes = IsCheckedName position ⊎ ((IsForgotten position → ⊥) × (size_in position bytes ≡ length bytes))

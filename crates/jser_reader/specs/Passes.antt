@@ -1,4 +1,4 @@
--- What a reader says of a step that takes some of the front of a piece and lends nothing: a field, part of one, or several.
+-- What a reader says of a step that takes some of the front of a piece and lends nothing: a token, part of one, or several.
 use Rattle.std.specs.Prelude.{◌≡◌, ◌≢◌, ℕ, ◌<◌, ◌≤◌, List, ◌++◌, length, take, Option, Some, None}
 use Rattle.jser_grammar.specs.Parts.{IsBytes}
 use Rattle.jser_reading.specs.Labels.{Label, Piece}
@@ -37,7 +37,7 @@ unfoldable pub PassTells : Gate → (piece : List ℕ) → Option ℕ → Seen �
 PassTells gate piece result old before new after =
     (bytes : List ℕ) → StandsFor gate bytes old before → PassCases gate bytes piece result new after
 
--- Where the piece ends inside the field in which it begins, the same field is open; or the machine stopped, which is not
+-- Where the piece ends inside the token in which it begins, the same token is open; or the machine stopped, which is not
 -- for want of memory, but in a checked name.
 abbrev pub InsideCases : Gate → (front : List Piece) (cut piece : List ℕ) (checked : Type 0) → Option ℕ → Seen → Tally → Type 0
 InsideCases gate front cut piece checked (Some used) r tally = StandsIn gate front (cut ++ take used piece) r tally
@@ -75,7 +75,7 @@ abbrev pub HasPassed : (piece : List ℕ) → Option ℕ → Type 0
 HasPassed piece (Some used) = (0 < used) × (used ≤ length piece)
 HasPassed piece None = Unit {0}
 
--- a field where no place begins, and which is not at the top: no count changes with it
+-- a token where no place begins, and which is not at the top: no count changes with it
 abbrev pub IsQuiet : Phase → Type 0
 IsQuiet phase.ClassTag = Unit {0}
 IsQuiet phase.TextTag = Unit {0}

@@ -1,4 +1,4 @@
--- What the field is for that is open or comes next, by the goals of the reading machine there, the next one first.
+-- What the token is for that is open or comes next, by the goals of the reading machine there, the next one first.
 use Rattle.std.specs.Prelude.{◌≡◌, ℕ, suc, Bool, true, false, List, [], ◌∷◌}
 use Rattle.jser_table.specs.declared.layer.Layer.{Layer}
 use Rattle.jser_table.specs.Sections.{layer_of, under}
@@ -129,11 +129,11 @@ CountsParts C goals _ = Unit {0}
 abbrev pub TellsPlace : List (List Layer) → List Goal → Place → Type 0
 TellsPlace C goals answer = (view_place answer ≡ place_in goals) × CountsParts C goals answer
 
--- the goals of the reading machine after these fields, the next one first
+-- the goals of the reading machine after these tokens, the next one first
 abbrev pub goals_after : List Piece → List Goal
 goals_after front = (settled (left begin_state front)).1
 
--- Wherever a reader stands for whole fields and some bytes of the next one, this is the place of the next one.
+-- Wherever a reader stands for whole tokens and some bytes of the next one, this is the place of the next one.
 unfoldable pub PlaceTold : Place → Seen → Tally → Type 0
 PlaceTold answer r tally =
     (gate : Gate) (front : List Piece) (cut : List ℕ) → StandsIn gate front cut r tally → TellsPlace r.table.chains (goals_after front) answer

@@ -1,4 +1,4 @@
--- What a reader keeps, and the settled state of the reading machine for which it stands where a field begins.
+-- What a reader keeps, and the settled state of the reading machine for which it stands where a token begins.
 use Rattle.std.specs.Prelude.{◌≡◌, ℕ, suc, ◌*◌, ◌<◌, Bool, true, false, List, [], ◌∷◌, length, reverse, Option, None, option_map}
 use Rattle.jser_prim.specs.Texts.{Scan}
 use Rattle.jser_table.specs.declared.layer.Layer.{Layer}
@@ -31,7 +31,7 @@ pub record Limits : Type 0 where
   pub refs : ℕ
   pub array : ℕ
 
--- what frames and goals do not touch: how many bytes were taken, where the open field starts, the limits, why the
+-- what frames and goals do not touch: how many bytes were taken, where the open token starts, the limits, why the
 -- reader stopped, and a number of which not all bytes have come
 pub record Meter : Type 0 where
   pub at : ℕ
@@ -234,7 +234,7 @@ superclass_handle_goals C L (frame.Fields last section pos prims values ∷ fs) 
 superclass_handle_goals C L (frame.Notes last section ∷ fs) = []
 superclass_handle_goals C L (frame.ExternalNotes ∷ fs) = []
 
--- A raw field comes next: so many raw values of one type, or the bytes of a block. After it the frames go on.
+-- A raw token comes next: so many raw values of one type, or the bytes of a block. After it the frames go on.
 pub record PrimsReady (r : Seen) (s : State) : Type 0 where
   pub depth : ℕ
   pub type_code : PrimCode
@@ -257,7 +257,7 @@ pub record LengthReady (r : Seen) (s : State) : Type 0 where
   pub is : s ≡ (moment_of r, array_length_goal elements (depth_of r) ∷ goals_of r)
   pub size : r.elements ≡ option_map size_of elements
 
--- the state of the machine, settled, where this field begins
+-- the state of the machine, settled, where this token begins
 abbrev pub ReadyAt : Phase → Seen → State → Type 0
 ReadyAt phase.Header r s = (r.frames ≡ []) × (s ≡ (moment_of r, header_goal ∷ top_goal ∷ []))
 ReadyAt phase.Top r s = (r.frames ≡ []) × (s ≡ (moment_of r, top_goal ∷ []))
@@ -294,7 +294,7 @@ ReadyAt phase.Stopped r s = ⊥
 unfoldable pub Ready : Seen → State → Type 0
 Ready r s = ReadyAt r.phase r s
 
--- the field that is the length of a text
+-- the token that is the length of a text
 abbrev pub length_phase : (long : Bool) → Phase
 length_phase false = phase.Length2
 length_phase true = phase.Length8
@@ -303,7 +303,7 @@ length_phase true = phase.Length8
 abbrev pub in_role : Header → Role → Header
 in_role h role = record { role = role; kind = h.kind; seen = h.seen; codes = h.codes; fields = h.fields; interfaces = h.interfaces }
 
--- the field that is the length of a block
+-- the token that is the length of a block
 abbrev pub block_phase : (long : Bool) → Phase
 block_phase false = phase.BlockLength1
 block_phase true = phase.BlockLength4

@@ -12,7 +12,7 @@ abbrev pub tail_of : List Frame → List Frame
 tail_of [] = []
 tail_of (f ∷ fs) = fs
 
--- so many frames are open while a field of this depth is read: as many as it is deep, or one fewer
+-- so many frames are open while a token of this depth is read: as many as it is deep, or one fewer
 pub record FitsDepth (frames depth : ℕ) : Type 0 where
   pub most : frames ≤ depth
   pub least : depth ≤ frames + 1

@@ -1,6 +1,6 @@
 -- Superclass places: their tags, and the handles of superclasses that have been read.
 use Rattle.std.specs.Prelude.{◌≡◌, ℕ, suc, Bool, true, false, List, [], ◌∷◌, length, Option, Some, None, nat_lt, nat_le}
-use Rattle.jser_reading.specs.Labels.{StreamField, tag_field, null_tag, reference_tag, class_desc_tag, proxy_desc_tag, superclass_place_at, superclass_handle_at}
+use Rattle.jser_reading.specs.Labels.{StreamToken, tag_token, null_tag, reference_tag, class_desc_tag, proxy_desc_tag, superclass_place_at, superclass_handle_at}
 use Rattle.jser_reading.specs.Roles.{is_strict_above}
 use Rattle.jser_reading.specs.Goals.{State}
 use Rattle.jser_table.specs.declared.layer.Layer.{Layer}
@@ -33,11 +33,11 @@ super_handle_reason r n =
     superclass_handle_reason (plain_gate r) (label_at (superclass_handle_at (chain_owner r.frames) (strict_in r.layers r.frames)) (suc (length r.frames)) r)
     (chain_owner r.frames) (strict_in r.layers r.frames) n
 
-abbrev pub after_super_tag : Seen → Option StreamField → State
-after_super_tag r (Some (tag_field null_tag)) = closed_state (counted r) None
-after_super_tag r (Some (tag_field reference_tag)) = (moment_of (counted r), superclass_handle_goals r.table.chains r.layers r.frames)
-after_super_tag r (Some (tag_field class_desc_tag)) = opens_class (counted r) (role.Superclass (strict_in r.layers r.frames))
-after_super_tag r (Some (tag_field proxy_desc_tag)) = opens_proxy (counted r) (role.Superclass (strict_in r.layers r.frames))
+abbrev pub after_super_tag : Seen → Option StreamToken → State
+after_super_tag r (Some (tag_token null_tag)) = closed_state (counted r) None
+after_super_tag r (Some (tag_token reference_tag)) = (moment_of (counted r), superclass_handle_goals r.table.chains r.layers r.frames)
+after_super_tag r (Some (tag_token class_desc_tag)) = opens_class (counted r) (role.Superclass (strict_in r.layers r.frames))
+after_super_tag r (Some (tag_token proxy_desc_tag)) = opens_proxy (counted r) (role.Superclass (strict_in r.layers r.frames))
 after_super_tag r _ = (moment_of r, [])
 
 -- a place too deep, or one too many; or it is counted

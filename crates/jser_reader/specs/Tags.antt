@@ -1,9 +1,9 @@
--- The bytes of tags (`java.io.ObjectStreamConstants`), and the fields that they are.
+-- The bytes of tags (`java.io.ObjectStreamConstants`), and the tokens that they are.
 use Rattle.std.specs.Prelude.{◌≡◌, ℕ, ◌<◌, ◌⊎◌, Bool, true, false, Option, Some, None}
 use Rattle.jser_grammar.specs.Wire.{TC_NULL, TC_BLOCKDATA, TC_ENDBLOCKDATA, TC_RESET, TC_BLOCKDATALONG, TC_EXCEPTION, TC_ENUM}
 use Rattle.jser_reading.specs.Labels.{null_tag, reference_tag, class_desc_tag, object_tag, string_tag, array_tag, class_tag, long_string_tag, proxy_desc_tag, enum_tag}
 use Rattle.jser_reading.specs.Labels.{Tag as ToldTag}
-use Rattle.jser_reading.specs.FieldBytes.{tag_byte}
+use Rattle.jser_reading.specs.TokenBytes.{tag_byte}
 use Rattle.jser_reader.specs.declared.tag.Tag.{Tag}
 use Rattle.jser_reader.specs.declared.tag.Tag.TheVariants as tag
 use Rattle.jser_reader.specs.declared.tag.ValueTag.{ValueTag}

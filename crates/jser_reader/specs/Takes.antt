@@ -1,4 +1,4 @@
--- What the functions that take bytes do: the bytes are counted, and the field that they end is judged.
+-- What the functions that take bytes do: the bytes are counted, and the token that they end is judged.
 use Rattle.std.specs.Prelude.{◌≡◌, ℕ, ◌+◌, ◌<◌, ◌≤◌, Bool, true, false, List, [], ◌∷◌, ◌++◌, length, take, Option, Some, None}
 use Rattle.jser_prim.specs.Bytes.{big_bytes}
 use Rattle.jser_verdict.specs.Gates.{Gate}
@@ -18,11 +18,11 @@ counted_on m k = record { at = m.at + k; from = m.from; limits = m.limits; stop 
 abbrev pub farther : Seen → ℕ → Seen
 farther r k = record { meter = counted_on r.meter k; phase = r.phase; frames = r.frames; layers = r.layers; table = r.table; refs = r.refs; owner = r.owner; elements = r.elements; header = r.header; text = r.text; left = r.left; scan = r.scan; name = r.name }
 
--- this byte ends the open field, or the machine stops at it
+-- this byte ends the open token, or the machine stops at it
 unfoldable pub TakesByte : ℕ → Bool → Seen → Seen → Type 0
 TakesByte byte result old new = (gate : Gate) → Takes gate (byte ∷ []) result old new
 
--- a field of one byte
+-- a token of one byte
 abbrev pub IsOne : Phase → Type 0
 IsOne phase.Top = Unit {0}
 IsOne phase.Note = Unit {0}
@@ -35,7 +35,7 @@ IsOne phase.TypeCode = Unit {0}
 IsOne phase.BlockLength1 = Unit {0}
 IsOne _ = ⊥
 
--- The last bytes of the number `n` of `size` bytes, so many, end the open field, or the machine stops at them: as one
+-- The last bytes of the number `n` of `size` bytes, so many, end the open token, or the machine stops at them: as one
 -- gate judges it, and as any does.
 unfoldable pub TakesNumberFor : Gate → (size n count : ℕ) → Bool → Seen → Seen → Type 0
 TakesNumberFor gate size n count result old new =
@@ -44,7 +44,7 @@ TakesNumberFor gate size n count result old new =
 unfoldable pub TakesNumber : (size n count : ℕ) → Bool → Seen → Seen → Type 0
 TakesNumber size n count result old new = (gate : Gate) → TakesNumberFor gate size n count result old new
 
--- these bytes of the open field were kept, which is cut after them
+-- these bytes of the open token were kept, which is cut after them
 pub record CutsOff (piece : List ℕ) (old new : Seen) : Type 0 where
   pub phase_is : new.phase ≡ phase.Cut
   pub cut_phase : new.meter.cut_phase ≡ open_phase old
@@ -57,7 +57,7 @@ IsWholeLength phase.Length2 bytes = length bytes ≡ 2
 IsWholeLength phase.Length8 bytes = length bytes ≡ 8
 IsWholeLength _ bytes = Unit {0}
 
--- what is taken of a field that stays open, and lent: the length of a text, or all of the piece
+-- what is taken of a token that stays open, and lent: the length of a text, or all of the piece
 abbrev pub IsPart : Phase → (kept piece : List ℕ) → (count : ℕ) → Type 0
 IsPart phase.Length2 kept piece count = length (kept ++ take count piece) ≡ 2
 IsPart phase.Length8 kept piece count = length (kept ++ take count piece) ≡ 8
@@ -71,8 +71,8 @@ pub record StillOpen (old new : Seen) : Type 0 where
   pub same : open_phase new ≡ open_phase old
   pub some : 0 < size_of_phase (open_phase old)
 
--- The first bytes of the piece, so many, end the open field, or the machine stops at the last of them; or they are
--- lent of the field, which stays open; or the whole piece is of the header or a number, which stays open: as one gate
+-- The first bytes of the piece, so many, end the open token, or the machine stops at the last of them; or they are
+-- lent of the token, which stays open; or the whole piece is of the header or a number, which stays open: as one gate
 -- judges it, and as any does.
 abbrev pub TakenCases : Gate → Taken → List ℕ → Seen → Seen → Type 0
 TakenCases gate (taken.Ended count) piece old new = (0 < count) × (count ≤ length piece) × Takes gate (take count piece) true old new
@@ -108,7 +108,7 @@ abbrev pub taken_by : ℕ → Bool → Taken
 taken_by count true = taken.Ended count
 taken_by count false = taken.Stopped count
 
--- Bytes of a raw field: it ends, with as many as were left of it, or all are of it and others are still to come. (While it
+-- Bytes of a raw token: it ends, with as many as were left of it, or all are of it and others are still to come. (While it
 -- is open at least one is left.)
 abbrev pub RawCases : Taken → List ℕ → Seen → Seen → Type 0
 RawCases (taken.Ended count) piece old new =

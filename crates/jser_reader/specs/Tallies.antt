@@ -1,10 +1,10 @@
--- The counts of a stream, as they are kept while it is read: what is known of the machine before and after a field is
--- enough to go on from one field to the next.
+-- The counts of a stream, as they are kept while it is read: what is known of the machine before and after a token is
+-- enough to go on from one token to the next.
 use Rattle.std.specs.Prelude.{ℕ, ◌≡◌, suc, ◌+◌, ◌^◌, ◌<◌, max, ◌==◌, ◌&&◌, nat_lt, ◌≤◌, if◌then◌else◌, Bool, true, false, List, [], ◌∷◌, length}
 use Rattle.jser_grammar.specs.Trees.{ContentTrees}
 use Rattle.jser_grammar.specs.TableAfter.{Entries}
 use Rattle.jser_grammar.specs.Counts.{content_count, refs_of, depth_of, handle_count}
-use Rattle.jser_reading.specs.Labels.{StreamField, reset_tag_field, Piece, piece}
+use Rattle.jser_reading.specs.Labels.{StreamToken, reset_tag_token, Piece, piece}
 use Rattle.jser_reading.specs.Totals.{begins_content, one_more_if, count_of, number_if, deepest}
 use Rattle.jser_verdict.specs.Gates.{Gate}
 use Rattle.jser_reader.specs.declared.item.Totals.{Totals}
@@ -18,17 +18,17 @@ use Rattle.jser_reader.specs.Readers.{Seen}
 use Rattle.jser_reader.specs.Walks.{HasTaken}
 use Rattle.jser_reader.specs.WholeContents.{IsWhole}
 
--- ---- what is counted along the fields
+-- ---- what is counted along the tokens
 
 -- a reset ends an epoch, which had the handles of the table before it
-abbrev pub ended_by : StreamField → Entries → ℕ
-ended_by reset_tag_field table = length table
+abbrev pub ended_by : StreamToken → Entries → ℕ
+ended_by reset_tag_token table = length table
 ended_by _ table = 0
 
 -- the handles of the epochs that have ended
 abbrev pub earlier_handles : List Piece → ℕ
 earlier_handles [] = 0
-earlier_handles (piece label field ∷ pieces) = ended_by field label.moment.table + earlier_handles pieces
+earlier_handles (piece label token ∷ pieces) = ended_by token label.moment.table + earlier_handles pieces
 
 -- ---- what is kept
 
@@ -37,15 +37,15 @@ earlier_handles (piece label field ∷ pieces) = ended_by field label.moment.tab
 abbrev pub no_tally : Tally
 no_tally = record { contents = 0; earlier = 0; depth = 0; begun = 0 }
 
--- it tells these fields
-pub record Tallied (fields : List Piece) (tally : Tally) : Type 0 where
-  pub contents : tally.contents ≡ count_of begins_content fields
-  pub earlier : tally.earlier ≡ earlier_handles fields
-  pub depth : tally.depth ≡ deepest fields
+-- it tells these tokens
+pub record Tallied (tokens : List Piece) (tally : Tally) : Type 0 where
+  pub contents : tally.contents ≡ count_of begins_content tokens
+  pub earlier : tally.earlier ≡ earlier_handles tokens
+  pub depth : tally.depth ≡ deepest tokens
 
 -- ---- how it goes on
 
--- What a tally asks of a machine before and after a field: whether the field stands at the top, how many bytes were taken,
+-- What a tally asks of a machine before and after a token: whether the token stands at the top, how many bytes were taken,
 -- the depth of a place that begins there, how many places there were, and how many entries the table has.
 abbrev pub is_top : Phase → Bool
 is_top phase.Top = true
@@ -54,8 +54,8 @@ is_top _ = false
 abbrev pub mark_of : Seen → Mark
 mark_of r = record { at_top = is_top r.phase; at = r.meter.at; depth = suc (length r.frames); refs = r.refs; entries = length r.table.entries }
 
--- A field has ended. At the top a content has begun; if the table is empty after it, an epoch may have ended, and if not,
--- the table was empty before it too. Where there is one place more, it has the depth of the field.
+-- A token has ended. At the top a content has begun; if the table is empty after it, an epoch may have ended, and if not,
+-- the table was empty before it too. Where there is one place more, it has the depth of the token.
 abbrev pub tally_after : (old new : Mark) → Tally → Tally
 tally_after old new tally = record {
   contents = one_more_if old.at_top tally.contents;
@@ -68,7 +68,7 @@ tally_after old new tally = record {
 abbrev pub tally_stopped : (last : Mark) → Tally → Tally
 tally_stopped last tally = record { contents = tally.contents; earlier = tally.earlier; depth = tally.depth; begun = if last.at_top then last.at else tally.begun }
 
--- Bytes of a field were taken: the field has ended, or the machine has stopped in it, or the field goes on.
+-- Bytes of a token were taken: the token has ended, or the machine has stopped in it, or the token goes on.
 abbrev pub CountsTaken : Taken → (old new : Mark) → (before after : Tally) → Type 0
 CountsTaken (taken.Ended count) old new before after =
     before.contents + 1 < 2 ^ 64 → before.earlier + old.entries < 2 ^ 64 → after ≡ tally_after old new before
@@ -86,10 +86,10 @@ whole_of r tally = if is_top r.phase then r.meter.at else tally.begun
 
 -- ---- a machine with its tally
 
--- The machine stands for these bytes, and the tally tells the fields that it took; so many of the bytes are whole contents.
+-- The machine stands for these bytes, and the tally tells the tokens that it took; so many of the bytes are whole contents.
 pub record HasCounted (gate : Gate) (bytes : List ℕ) (r : Seen) (tally : Tally) : Type 0 where
   pub taken : HasTaken gate bytes r
-  pub tallied : Tallied taken.fields tally
+  pub tallied : Tallied taken.tokens tally
   pub whole : length bytes ≤ gate.bytes → IsWhole gate bytes (whole_of r tally)
 
 -- ---- the end

@@ -3,7 +3,7 @@ use Rattle.std.specs.Prelude.{◌≡◌, ℕ, ◌-◌, true, false, List, [], �
 use Rattle.jser_table.specs.declared.layer.LayerKind.{LayerKind}
 use Rattle.jser_table.specs.Names.{name_kind}
 use Rattle.jser_reading.specs.Moments.{next_number}
-use Rattle.jser_reading.specs.Labels.{StreamField, tag_field, reference_tag, string_tag, long_string_tag, text_place_at, text_handle_at}
+use Rattle.jser_reading.specs.Labels.{StreamToken, tag_token, reference_tag, string_tag, long_string_tag, text_place_at, text_handle_at}
 use Rattle.jser_reading.specs.Goals.{State, settle, text_handle_goal, suid_goal}
 use Rattle.jser_reading.specs.Machine.{type_goals}
 use Rattle.jser_verdict.specs.Reasons.{Reason}
@@ -51,10 +51,10 @@ abbrev pub handle_reason : Seen → ℕ → Option Reason
 handle_reason r n = text_handle_reason (label_at text_handle_at (text_depth r r.text) r) n
 
 -- the state after the tag of a text place
-abbrev pub after_text_tag : Seen → Option StreamField → State
-after_text_tag r (Some (tag_field reference_tag)) = (moment_of r, text_handle_goal (text_depth r r.text) ∷ text_rest r r.text)
-after_text_tag r (Some (tag_field string_tag)) = opens_text r r.text false
-after_text_tag r (Some (tag_field long_string_tag)) = opens_text r r.text true
+abbrev pub after_text_tag : Seen → Option StreamToken → State
+after_text_tag r (Some (tag_token reference_tag)) = (moment_of r, text_handle_goal (text_depth r r.text) ∷ text_rest r r.text)
+after_text_tag r (Some (tag_token string_tag)) = opens_text r r.text false
+after_text_tag r (Some (tag_token long_string_tag)) = opens_text r r.text true
 after_text_tag r _ = (moment_of r, [])
 
 -- the text that the machine reads has these units, as far as it keeps them

@@ -1,5 +1,5 @@
 -- A machine stands for the bytes that it took: the walk over them, by the verdict of a gate, ends in the state for which
--- the machine stands, with the bytes that it took of the open field.
+-- the machine stands, with the bytes that it took of the open token.
 use Rattle.std.specs.Prelude.{ℕ, suc, ◌≡◌, ◌+◌, ◌*◌, ◌<◌, Bool, true, false, List, [], ◌∷◌, ◌++◌, length}
 use Rattle.jser_prim.specs.Bytes.{big_bytes}
 use Rattle.jser_prim.specs.Texts.{HasAccepted}
@@ -7,9 +7,9 @@ use Rattle.jser_table.specs.Codes.{PrimCode, size_of}
 use Rattle.jser_grammar.specs.Parts.{text_bound, IsBytes}
 use Rattle.jser_grammar.specs.Wire.{stream_header}
 use Rattle.jser_reading.specs.Goals.{Part, raw_part, Goal, parts_goal, block_goal, State, settle, settled}
-use Rattle.jser_reading.specs.Labels.{StreamField, Piece}
-use Rattle.jser_reading.specs.FieldBytes.{joined}
-use Rattle.jser_reading.specs.FieldsFromBytes.{head_size, size_in}
+use Rattle.jser_reading.specs.Labels.{StreamToken, Piece}
+use Rattle.jser_reading.specs.TokenBytes.{joined}
+use Rattle.jser_reading.specs.TokensFromBytes.{head_size, size_in}
 use Rattle.jser_reading.specs.Accepts.{label_of}
 use Rattle.jser_reading.specs.Machine.{begin_state, advance, Runs, left}
 use Rattle.jser_reading.specs.Scanner.{good, ended, refused, walk}
@@ -129,7 +129,7 @@ pub record BytesStands (r : Seen) (s : State) (cut : List ℕ) : Type 0 where
   pub size : length cut + r.left ≡ suc more
   pub goes_on : 0 < r.left
 
--- in this phase the machine stands for a settled state, with these bytes of the open field
+-- in this phase the machine stands for a settled state, with these bytes of the open token
 abbrev pub StandsAt : Phase → Seen → State → List ℕ → Type 0
 StandsAt phase.Text r s cut = TextStands r s cut
 StandsAt phase.Prims r s cut = PrimsStands r s cut
@@ -138,7 +138,7 @@ StandsAt phase.Cut r s cut = CutStands r s cut
 StandsAt phase.Stopped r s cut = ⊥
 StandsAt p r s cut = ReadyAt p r s × (cut ≡ [])
 
--- the phase of the field that is open, though it may be cut, and the bytes that were kept of it
+-- the phase of the token that is open, though it may be cut, and the bytes that were kept of it
 abbrev pub open_in : Phase → Phase → Phase
 open_in phase.Cut cut_phase = cut_phase
 open_in p cut_phase = p
@@ -153,25 +153,25 @@ open_phase r = open_in r.phase r.meter.cut_phase
 abbrev pub cut_of : Seen → List ℕ
 cut_of r = cut_in r.phase r.meter.kept
 
--- the machine, with the limits of the gate, stands for this settled state and these bytes of the open field
+-- the machine, with the limits of the gate, stands for this settled state and these bytes of the open token
 pub record Stands (gate : Gate) (r : Seen) (s : State) (cut : List ℕ) : Type 0 where
   pub limits_are : gate_with r gate.answer ≡ gate
   pub stands : StandsAt r.phase r s cut
   pub counts : r.meter.at ≡ r.meter.from + length cut
 
--- The machine took these bytes, no more than the gate allows: whole fields, and some bytes of the one that is open. It
+-- The machine took these bytes, no more than the gate allows: whole tokens, and some bytes of the one that is open. It
 -- stands where the walk over them ends.
 pub record HasTaken (gate : Gate) (bytes : List ℕ) (r : Seen) : Type 0 where
-  pub fields : List Piece
+  pub tokens : List Piece
   pub cut : List ℕ
-  pub runs : Runs begin_state fields
-  pub are_fields : bytes ≡ joined fields ++ cut
-  pub walked : walk (verdict gate) begin_state [] bytes ≡ ended (left begin_state fields) cut
-  pub stands : Stands gate r (settled (left begin_state fields)) cut
+  pub runs : Runs begin_state tokens
+  pub are_tokens : bytes ≡ joined tokens ++ cut
+  pub walked : walk (verdict gate) begin_state [] bytes ≡ ended (left begin_state tokens) cut
+  pub stands : Stands gate r (settled (left begin_state tokens)) cut
   pub taken : r.meter.at ≡ length bytes
   pub all_bytes : IsBytes bytes
 
--- the walk refuses the bytes of the field up to here, and the refusal says where they are and why
+-- the walk refuses the bytes of the token up to here, and the refusal says where they are and why
 pub record IsRefusal (gate : Gate) (s : State) (cut taken : List ℕ) (from : ℕ) (refusal : Refusal) : Type 0 where
   pub reason : ToldReason
   pub is_named : refusal.reason ≡ named reason
@@ -184,25 +184,25 @@ StopTold gate s cut taken from (stop.Refused refusal) = IsRefusal gate s cut tak
 StopTold gate s cut taken from stop.OutOfMemory = MayRunOut (label_of (settled s)).position (cut ++ taken)
 StopTold gate s cut taken from stop.Spent = ⊥
 
--- the bytes end the open field, and the machine stands for the state to which it leads
+-- the bytes end the open token, and the machine stands for the state to which it leads
 pub record Ends (gate : Gate) (s : State) (cut taken : List ℕ) (old new : Seen) : Type 0 where
-  pub field : StreamField
-  pub is_good : verdict gate (label_of (settled s)) (cut ++ taken) ≡ good field
+  pub token : StreamToken
+  pub is_good : verdict gate (label_of (settled s)) (cut ++ taken) ≡ good token
   pub whole : size_in (label_of (settled s)).position (cut ++ taken) ≡ length (cut ++ taken)
-  pub walks : (rest : List ℕ) → walk (verdict gate) s cut (taken ++ rest) ≡ walk (verdict gate) (advance (settled s) field) [] rest
-  pub stands : Stands gate new (settled (advance (settled s) field)) []
+  pub walks : (rest : List ℕ) → walk (verdict gate) s cut (taken ++ rest) ≡ walk (verdict gate) (advance (settled s) token) [] rest
+  pub stands : Stands gate new (settled (advance (settled s) token)) []
   pub at : new.meter.at ≡ old.meter.at + length taken
 
 abbrev pub Took : Gate → State → (cut taken : List ℕ) → Bool → Seen → Seen → Type 0
 Took gate s cut taken true old new = Ends gate s cut taken old new
 Took gate s cut taken false old new = (new.phase ≡ phase.Stopped) × StopTold gate s cut taken old.meter.from new.meter.stop
 
--- these bytes end the open field, or the machine stops at the last of them
+-- these bytes end the open token, or the machine stops at the last of them
 unfoldable pub Takes : Gate → List ℕ → Bool → Seen → Seen → Type 0
 Takes gate taken result old new =
     (s : State) (cut : List ℕ) → Stands gate old (settled s) cut → Took gate s cut taken result old new
 
--- the same field stays open, and these bytes are of it
+-- the same token stays open, and these bytes are of it
 pub record StaysOpen (gate : Gate) (s : State) (cut piece : List ℕ) (old new : Seen) : Type 0 where
   pub walks : walk (verdict gate) s cut piece ≡ ended s (cut ++ piece)
   pub stands : Stands gate new (settled s) (cut ++ piece)
@@ -212,7 +212,7 @@ unfoldable pub Keeps : Gate → List ℕ → Seen → Seen → Type 0
 Keeps gate piece old new =
     (s : State) (cut : List ℕ) → Stands gate old (settled s) cut → StaysOpen gate s cut piece old new
 
--- bytes were counted; what the machine stands for is as it was, but for the open field
+-- bytes were counted; what the machine stands for is as it was, but for the open token
 pub record Counts (bytes : List ℕ) (old new : Seen) : Type 0 where
   pub at : new.meter.at ≡ old.meter.at + length bytes
   pub from : new.meter.from ≡ old.meter.from

@@ -15,7 +15,7 @@ use Rattle.jser_reader.specs.declared.refusal.Stop.{Stop}
 use Rattle.jser_reader.specs.declared.tally.Tally.{Tally}
 use Rattle.jser_reader.specs.Bounds.{AreAssigned}
 use Rattle.jser_reader.specs.Items.{items_at, text_items}
-use Rattle.jser_reader.specs.ItemsTold.{StandsIn, FieldEnds, TellsItems}
+use Rattle.jser_reader.specs.ItemsTold.{StandsIn, TokenEnds, TellsItems}
 use Rattle.jser_reader.specs.Passes.{PassTells, Passes}
 use Rattle.jser_reader.specs.ReaderStates.{NextTells}
 use Rattle.jser_reader.specs.Readers.{Seen}
@@ -29,14 +29,14 @@ pub record TellsReference (gate : Gate) (given : List ℕ) (handle : ℕ) (old :
   pub number : TellsItems gate (drop 1 given) (Ok (step.Item (item.Handle handle) 4)) between after new after
   pub tells : PassTells gate given (Some 5) old before new after
 
--- the next field is a text, which ends with the last of these bytes; they are all its bytes after its length
+-- the next token is a text, which ends with the last of these bytes; they are all its bytes after its length
 pub record TextEnds (gate : Gate) (front : List Piece) (cut given text : List ℕ) (r : Seen) (tally : Tally) : Type 0 where
   pub none : cut ≡ []
   pub label : Label
   pub comes : ComesNext front label
   pub is_text : items_at label.position ≡ text_items false
   pub bytes : text ≡ drop 2 (take (2 + length text) given)
-  pub ends : FieldEnds gate front label (take (2 + length text) given) r tally
+  pub ends : TokenEnds gate front label (take (2 + length text) given) r tally
 
 unfoldable pub TellsText : Gate → (given text : List ℕ) → Seen → Tally → Seen → Tally → Type 0
 TellsText gate given text old before new after =

@@ -2,14 +2,14 @@
 ghost use Rattle.std.specs.Prelude.{◌≡◌, ◌+◌, ◌++◌, ◌<◌, ◌≤◌, [], length};
 ghost use Rattle.jser_prim.specs.Bytes.{big_bytes};
 ghost use Rattle.jser_reader.specs.Walks.{size_of_phase};
-ghost use Rattle.jser_reader.specs.Cuts.{CanBeCut, IsCutField};
+ghost use Rattle.jser_reader.specs.Cuts.{CanBeCut, IsCutToken};
 
 use crate::phase::Phase;
 use arrayvec::ArrayVec;
 use jser_prim::{read_u16, read_u32, read_u64};
 use std::marker::Model;
 
-/// Which field was cut, and its first bytes: fewer than it has.
+/// Which token was cut, and its first bytes: fewer than it has.
 #[derive(Drop)]
 pub(crate) struct Cut {
     phase: Phase,
@@ -17,13 +17,13 @@ pub(crate) struct Cut {
 }
 
 impl Model for Cut {
-    ghost use Rattle.jser_reader.specs.Cuts.{CutField, IsCutField};
+    ghost use Rattle.jser_reader.specs.Cuts.{CutToken, IsCutToken};
 
-    ghost Value = { CutField };
+    ghost Value = { CutToken };
 
     ghost view = { λ a. record { phase = a.phase; kept = a.kept.items } };
 
-    ghost invariant = { λ a. IsCutField a.phase a.kept.items };
+    ghost invariant = { λ a. IsCutToken a.phase a.kept.items };
 }
 
 impl Cut {
@@ -38,7 +38,7 @@ impl Cut {
         }
     }
 
-    /// Which field was cut.
+    /// Which token was cut.
     pub(crate) fn phase(&self) -> Phase
         ensures is { result ≡ self.now.phase }
         ensures may_be { CanBeCut result }
@@ -54,9 +54,9 @@ impl Cut {
         self.phase.size() - self.kept.len()
     }
 
-    /// The first bytes of this field have come.
+    /// The first bytes of this token have come.
     pub(crate) fn begin(&mut self, phase: Phase, bytes: &[u8])
-        requires { IsCutField phase bytes.now }
+        requires { IsCutToken phase bytes.now }
         ensures phase { self.new.phase ≡ phase }
         ensures kept { self.new.kept ≡ bytes.now }
     {
@@ -74,7 +74,7 @@ impl Cut {
         let _ = self.kept.try_extend_from_slice(bytes);
     }
 
-    /// All bytes of the field, whose last bytes are these.
+    /// All bytes of the token, whose last bytes are these.
     fn whole(&self, last: &[u8]) -> ArrayVec<u8, 8>
         requires { length (self.now.kept ++ last.now) ≤ 8 }
         ensures { result.items ≡ self.now.kept ++ last.now }

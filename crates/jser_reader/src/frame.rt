@@ -1,4 +1,4 @@
-//! Frames: what is open while a field is read, one for each array, object and descriptor.
+//! Frames: what is open while a token is read, one for each array, object and descriptor.
 ghost use Rattle.std.specs.Prelude.{◌≡◌};
 ghost use Rattle.jser_reader.specs.Stacks.{GivesValue, GivesRaw};
 

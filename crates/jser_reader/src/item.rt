@@ -1,9 +1,9 @@
-//! Items: the fields of a stream as the reader lends them.
+//! Items: the tokens of a stream as the reader lends them.
 
-/// A field of the stream, or a part of one (Java Object Serialization Specification, section 6.4.2).
+/// A token of the stream, or a part of one (Java Object Serialization Specification, section 6.4.2).
 ///
 /// The bytes of a text and of raw values are lent as slices of the piece that was given, in as many parts as the piece
-/// has of them; all other items are whole fields.
+/// has of them; all other items are whole tokens.
 #[derive(Clone, Copy, PartialEq, Eq, Debug)]
 pub enum Item<'p> {
     /// The header: `STREAM_MAGIC` and `STREAM_VERSION`.
@@ -48,7 +48,7 @@ pub enum Step<'p> {
     More,
 }
 
-/// A value of several fields, lent at once.
+/// A value of several tokens, lent at once.
 #[derive(Clone, Copy, PartialEq, Eq, Debug)]
 pub enum Whole<'p> {
     /// A reference: its tag, and its handle as it is written. They are five bytes.

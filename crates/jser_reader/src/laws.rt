@@ -1,18 +1,18 @@
 //! Laws of the definitions alone: no call stands behind them. Each is the clause of an empty function, so that the check
-//! insists on its proof; the statements are in `specs/FieldLaws.antt` and `specs/WholeContents.antt`.
+//! insists on its proof; the statements are in `specs/TokenLaws.antt` and `specs/WholeContents.antt`.
 
-ghost use Rattle.jser_reader.specs.FieldLaws.{BytesAreFields, FieldsBeginStreams};
+ghost use Rattle.jser_reader.specs.TokenLaws.{BytesAreTokens, TokensBeginStreams};
 ghost use Rattle.jser_reader.specs.WholeContents.{OneIsWhole};
 
-/// A reader stands for bytes exactly where it stands for whole fields, and bytes of the next one, into which these bytes
+/// A reader stands for bytes exactly where it stands for whole tokens, and bytes of the next one, into which these bytes
 /// are cut.
-pub fn bytes_are_fields()
-    ensures { BytesAreFields }
+pub fn bytes_are_tokens()
+    ensures { BytesAreTokens }
 {}
 
-/// The fields that a reader took are the first fields of every stream that begins with the bytes that it took.
-pub fn fields_begin_streams()
-    ensures { FieldsBeginStreams }
+/// The tokens that a reader took are the first tokens of every stream that begins with the bytes that it took.
+pub fn tokens_begin_streams()
+    ensures { TokensBeginStreams }
 {}
 
 /// Of bytes there is one number of whole contents: what a reader says of it leaves no choice.

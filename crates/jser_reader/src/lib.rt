@@ -1,4 +1,4 @@
-//! The reader: takes a Java object serialization stream in pieces of any sizes, and lends its fields one by one
+//! The reader: takes a Java object serialization stream in pieces of any sizes, and lends its tokens one by one
 //! (Java Object Serialization Specification, chapter 6). It keeps no tree and no text but the one class name
 //! that is being read.
 #![tactic(auto)]

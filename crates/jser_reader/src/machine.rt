@@ -1,7 +1,7 @@
-//! The reader's machine: what is open, in few bytes, and the field that comes next.
+//! The reader's machine: what is open, in few bytes, and the token that comes next.
 //!
 //! There is a frame for each array, object and descriptor that is open, so the depth is the length of the stack.
-//! A handler of a field answers false where the machine has stopped; `stop` then says why.
+//! A handler of a token answers false where the machine has stopped; `stop` then says why.
 
 use crate::cut::Cut;
 use crate::field_list::FieldList;
@@ -44,9 +44,9 @@ pub(crate) struct Machine {
     phase: Phase,
     /// How many bytes were taken.
     at: u64,
-    /// Where the field starts that is open or comes next.
+    /// Where the token starts that is open or comes next.
     from: u64,
-    /// How many bytes of the raw field are left.
+    /// How many bytes of the raw token are left.
     left: u64,
     /// How many places there were.
     refs: u64,

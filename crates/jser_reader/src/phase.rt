@@ -1,4 +1,4 @@
-//! The field that comes next or is being read.
+//! The token that comes next or is being read.
 ghost use Rattle.std.specs.Prelude.{◌≡◌, true};
 ghost use Rattle.jser_reader.specs.Passes.{IsQuiet};
 ghost use Rattle.jser_reader.specs.Wholes.{IsPlace};
@@ -19,7 +19,7 @@ pub(crate) enum TextFor {
     InterfaceName,
 }
 
-/// The field that comes next or is being read.
+/// The token that comes next or is being read.
 #[derive(Clone, Copy, PartialEq, Eq)]
 pub(crate) enum Phase {
     /// The header of the stream.
@@ -77,7 +77,7 @@ pub(crate) enum Phase {
 }
 
 impl Phase {
-    /// How many bytes the field has, where it is the header, a tag or a number; none where it is anything else.
+    /// How many bytes the token has, where it is the header, a tag or a number; none where it is anything else.
     pub(crate) fn size(self) -> usize
         ensures { result ≡ size_of_phase self }
     {
@@ -102,7 +102,7 @@ impl Phase {
         matches!(self, Phase::Top | Phase::Note | Phase::Value)
     }
 
-    /// Whether no count changes with the field: it is not at the top, and no place begins there.
+    /// Whether no count changes with the token: it is not at the top, and no place begins there.
     #[inline(always)]
     pub(crate) fn is_quiet(self) -> bool
         ensures { result ≡ true → IsQuiet self }

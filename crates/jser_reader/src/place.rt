@@ -1,8 +1,8 @@
-//! Places: what the field that is open or comes next is for.
+//! Places: what the token that is open or comes next is for.
 
 use jser_table::SectionNumber;
 
-/// What the field that is open or comes next is for, in the words of the grammar. `Reader::place` gives it.
+/// What the token that is open or comes next is for, in the words of the grammar. `Reader::place` gives it.
 #[derive(Clone, Copy, PartialEq, Eq, Debug)]
 pub enum Place {
     /// The header of the stream.
@@ -25,7 +25,7 @@ pub enum Place {
         /// How many elements come after it.
         left: u32,
     },
-    /// The tag of a value that is a field of an object.
+    /// The tag of the value of a field of an object.
     Field {
         /// The last section of the object.
         last: SectionNumber,
@@ -34,7 +34,7 @@ pub enum Place {
         /// How many fields of this section come after it.
         left: u16,
     },
-    /// Raw values: those of an array, or one that is a field of an object.
+    /// Raw values: those of an array, or that of a field of an object.
     Raw,
     /// The tag in a class place: that of an object, an array, an enum constant or a class object.
     ClassTag,

@@ -1,10 +1,10 @@
-//! The reader: a stream in pieces of any sizes, field by field.
+//! The reader: a stream in pieces of any sizes, token by token.
 ghost use Rattle.std.specs.Prelude.{◌≡◌, ◌+◌, ◌<◌, ◌≤◌, [], length, take, IfOk, Ok, None};
 ghost use Rattle.jser_reader.specs.ReaderStates.{IsItem, HasProgress, StandsFor, NextTells, SkipTells, StaysStopped, FinishTells, WholeTold, WholeAtEnd, KeepsWhole};
 ghost use Rattle.jser_reader.specs.Tallies.{whole_of};
 ghost use Rattle.jser_reader.specs.Bounds.{FramesAreBounded, AreAssigned, MemoryFree, SkipMemoryFree};
 ghost use Rattle.jser_reader.specs.ItemsMade.{MakesStep};
-ghost use Rattle.jser_reader.specs.ItemsTold.{StandsIn, TellsItems, TellsFields};
+ghost use Rattle.jser_reader.specs.ItemsTold.{StandsIn, TellsItems, TellsTokens};
 ghost use Rattle.jser_reader.specs.States.{IsWithin};
 ghost use Rattle.jser_reader.specs.Places.{PlaceTold};
 ghost use Rattle.jser_reader.specs.RawsTold.{RawsCases};
@@ -25,22 +25,22 @@ use jser_table::Table;
 use std::alloc::Global;
 use std::marker::Model;
 
-/// The item that so many bytes of a piece give, of a field of which others were kept.
+/// The item that so many bytes of a piece give, of a token of which others were kept.
 #[tactic(auto, using(crate::proofs::ItemLemmas::makes_step))]
 #[inline(always)]
-fn lend<'p>(field: Phase, kept: Kept, front: &'p [u8], used: usize) -> Step<'p>
+fn lend<'p>(token: Phase, kept: Kept, front: &'p [u8], used: usize) -> Step<'p>
     requires { used ≤ length front.now }
     ensures used { IsItem used result }
-    ensures lent { MakesStep field kept.items (take used front.now) result }
+    ensures lent { MakesStep token kept.items (take used front.now) result }
 {
     let (part, _) = front.split_at(used);
     Step::Item {
-        item: item_of(field, kept, part),
+        item: item_of(token, kept, part),
         used,
     }
 }
 
-/// Takes a Java object serialization stream in pieces of any sizes, and lends its fields one by one.
+/// Takes a Java object serialization stream in pieces of any sizes, and lends its tokens one by one.
 ///
 /// It keeps no tree and no text but the one class name that is being read. What it allocates is the table of handles
 /// and the stack of what is open.
@@ -98,15 +98,15 @@ impl<G: Gate> Reader<G> {
         ensures progress { IfOk result (λ step. HasProgress piece.now step) }
         ensures gate { self.new.gate ≡ self.old.gate }
     {
-        let field = self.machine.field();
+        let token = self.machine.token();
         let kept = self.machine.kept();
         let before = self.machine.mark();
         match self.machine.take(&self.gate, front) {
             Taken::Ended(used) => {
                 self.tally.count(before, self.machine.mark());
-                Ok(lend(field, kept, front, used))
+                Ok(lend(token, kept, front, used))
             }
-            Taken::Part(used) => Ok(lend(field, kept, front, used)),
+            Taken::Part(used) => Ok(lend(token, kept, front, used)),
             Taken::Stopped(_) => {
                 self.tally.stop(before);
                 Err(self.machine.answer())
@@ -222,7 +222,7 @@ impl<G: Gate> Reader<G> {
     /// `Refused` as `Truncated` where the stream has not ended; else as `next`, but never `OutOfMemory`.
     pub fn finish(&mut self) -> Result<Totals, Stop>
         ensures tells { FinishTells (G.told self.old.gate) result self.old.machine self.old.tally self.new.machine }
-        ensures fields { TellsFields (G.told self.old.gate) result self.old.machine self.old.tally }
+        ensures tokens { TellsTokens (G.told self.old.gate) result self.old.machine self.old.tally }
         ensures whole { WholeAtEnd (G.told self.old.gate) self.old.machine self.old.tally self.new.machine self.new.tally }
         ensures stays { StaysStopped result self.old.machine self.new.machine }
         ensures keeps { KeepsWhole self.old.machine self.old.tally self.new.machine self.new.tally }
@@ -271,7 +271,7 @@ impl<G: Gate> Reader<G> {
         self.machine.depth() as u64
     }
 
-    /// How many handles of the epoch are assigned before the field that is open or comes next.
+    /// How many handles of the epoch are assigned before the token that is open or comes next.
     #[inline(always)]
     pub fn epoch_handles(&self) -> u32
         ensures is { result ≡ length self.now.machine.table.entries }
@@ -280,7 +280,7 @@ impl<G: Gate> Reader<G> {
         self.machine.handles()
     }
 
-    /// What the field that is open or comes next is for.
+    /// What the token that is open or comes next is for.
     #[tactic(auto, using(crate::proofs::GoalPlaces::place_told))]
     pub fn place(&self) -> Place
         ensures { PlaceTold result self.now.machine self.now.tally }
@@ -288,7 +288,7 @@ impl<G: Gate> Reader<G> {
         self.machine.open_place()
     }
 
-    /// The handles of the epoch that are assigned before the field that is open or comes next, and their classes.
+    /// The handles of the epoch that are assigned before the token that is open or comes next, and their classes.
     pub fn table(&self) -> &Table
         ensures { result.now ≡ self.now.machine.table }
     {

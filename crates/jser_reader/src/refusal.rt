@@ -110,7 +110,7 @@ impl fmt::Display for Reason {
 /// The bytes that are refused. Its text is `at A to E: REASON`, as `check` prints it after `no `.
 #[derive(Clone, Copy, PartialEq, Eq, Debug)]
 pub struct Refusal {
-    /// Where the faulty field starts, counted from 0.
+    /// Where the faulty token starts, counted from 0.
     pub from_byte: u64,
     /// How many bytes of the stream decide.
     pub to_byte: u64,

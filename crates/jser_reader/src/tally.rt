@@ -1,10 +1,10 @@
-//! The counts of a stream that its fields tell, kept while it is read.
+//! The counts of a stream that its tokens tell, kept while it is read.
 ghost use Rattle.std.specs.Prelude.{◌≡◌, ◌+◌, ◌<◌, ◌^◌};
 ghost use Rattle.jser_reader.specs.Tallies.{tally_after, tally_stopped, CountsTaken, all_counted, no_tally};
 
 use crate::machine::take::taken::Taken;
 
-/// What a tally asks of the machine before and after a field.
+/// What a tally asks of the machine before and after a token.
 #[derive(Clone, Copy)]
 pub(crate) struct Mark {
     pub(crate) at_top: bool,
@@ -39,7 +39,7 @@ impl Tally {
         }
     }
 
-    /// A field has ended: what was known before it, and what is known after it.
+    /// A token has ended: what was known before it, and what is known after it.
     #[inline(always)]
     pub(crate) fn count(&mut self, old: Mark, new: Mark)
         ensures { self.old.contents + 1 < 2 ^ 64 → self.old.earlier + old.entries < 2 ^ 64 → self.new ≡ tally_after old new self.old }
@@ -56,7 +56,7 @@ impl Tally {
         }
     }
 
-    /// Nothing more is taken: what was known before the field in which the machine stops, or before the end.
+    /// Nothing more is taken: what was known before the token in which the machine stops, or before the end.
     #[inline(always)]
     pub(crate) fn stop(&mut self, last: Mark)
         ensures { self.new ≡ tally_stopped last self.old }
@@ -66,7 +66,7 @@ impl Tally {
         }
     }
 
-    /// Bytes of a field were taken: it has ended, or goes on, or the machine has stopped in it. What was known before them, and
+    /// Bytes of a token were taken: it has ended, or goes on, or the machine has stopped in it. What was known before them, and
     /// what is known after them.
     #[inline(always)]
     pub(crate) fn count_taken(&mut self, taken: Taken, old: Mark, new: Mark)

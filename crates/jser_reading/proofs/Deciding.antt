@@ -1,6 +1,6 @@
--- Whether the format takes a field is decided, position by position.
+-- Whether the format takes a token is decided, position by position.
 use Rattle.std.proofs.Common.{◌≡◌, ℕ, zero, suc, ◌+◌, ◌^◌, Bool, true, false, ◌&&◌, if◌then◌else◌, List, [], ◌∷◌, length, refl, sym, ◌∙◌, ap, ap₂, Some, None, IsTrue, IsFalse, nat_lt, slice_get, true≢false}
-use Rattle.jser_reading.proofs.Vocabulary.{is_serializable, is_externalizable, has_block_data, is_enum, all_serial, is_text, is_closed, chain_at, fits, NameKind, plain_name, array_name, malformed_name, name_kind, Layer, modified_utf8, PrimCode, byte_code, char_code, double_code, float_code, int_code, long_code, short_code, boolean_code, letter_of, size_of, prim_code_of, PrimTree, Entries, text_bound, IsText, is_malformed, IsClassName, IsHandle, IsBackToClass, ArePrimsOf, block_bound, Owner, object_owner, array_owner, enum_owner, class_owner, ChainOwner, Role, own_class, superclass, FitsOwner, FitsRole, NameFits, FlagsFit, ProxyFitsOwner, Moment, null_tag, reference_tag, class_desc_tag, string_tag, long_string_tag, proxy_desc_tag, StreamField, header_field, tag_field, block_tag_field, end_tag_field, reset_tag_field, handle_field, suid_field, flags_field, field_count_field, interface_count_field, array_length_field, code_field, text_field, block_length_field, prims_field, bytes_field, Position, header_at, top_at, annotation_at, value_at, text_place_at, class_place_at, superclass_place_at, back_handle_at, text_handle_at, class_handle_at, superclass_handle_at, string_at, class_name_at, field_name_at, interface_name_at, suid_at, field_count_at, interface_count_at, array_length_at, flags_at, type_code_at, block_length_at, raw_at, bytes_at, may_follow, AcceptsAt}
+use Rattle.jser_reading.proofs.Vocabulary.{is_serializable, is_externalizable, has_block_data, is_enum, all_serial, is_text, is_closed, chain_at, fits, NameKind, plain_name, array_name, malformed_name, name_kind, Layer, modified_utf8, PrimCode, byte_code, char_code, double_code, float_code, int_code, long_code, short_code, boolean_code, letter_of, size_of, prim_code_of, PrimTree, Entries, text_bound, IsText, is_malformed, IsClassName, IsHandle, IsBackToClass, ArePrimsOf, block_bound, Owner, object_owner, array_owner, enum_owner, class_owner, ChainOwner, Role, own_class, superclass, FitsOwner, FitsRole, NameFits, FlagsFit, ProxyFitsOwner, Moment, null_tag, reference_tag, class_desc_tag, string_tag, long_string_tag, proxy_desc_tag, StreamToken, header_token, tag_token, block_tag_token, end_tag_token, reset_tag_token, handle_token, suid_token, flags_token, field_count_token, interface_count_token, array_length_token, code_token, text_token, block_length_token, prims_token, bytes_token, Position, header_at, top_at, annotation_at, value_at, text_place_at, class_place_at, superclass_place_at, back_handle_at, text_handle_at, class_handle_at, superclass_handle_at, string_at, class_name_at, field_name_at, interface_name_at, suid_at, field_count_at, interface_count_at, array_length_at, flags_at, type_code_at, block_length_at, raw_at, bytes_at, may_follow, AcceptsAt}
 use Rattle.std.specs.List.{list_all}
 use Rattle.std.proofs.Math.Decide.{dec_lt, ℕ_discrete}
 use Rattle.jser_table.specs.declared.layer.Purpose.TheVariants as purpose
@@ -93,48 +93,48 @@ decide_prims : (c : PrimCode) (ps : List PrimTree) → Dec (ArePrimsOf c ps)
 decide_prims c [] = yes tt
 decide_prims c (p ∷ ps) = decide_both (decide_both (decide_code p.code c) (dec_lt p.bits (256 ^ size_of c))) (decide_prims c ps)
 
-pub decide_at : (w : Position) (m : Moment) (f : StreamField) → Dec (AcceptsAt w m f)
-decide_at header_at m header_field = yes tt
-decide_at top_at m (tag_field tag) = yes tt
-decide_at top_at m (block_tag_field long) = yes tt
-decide_at top_at m reset_tag_field = yes tt
-decide_at annotation_at m (tag_field tag) = yes tt
-decide_at annotation_at m (block_tag_field long) = yes tt
-decide_at annotation_at m end_tag_field = yes tt
-decide_at value_at m (tag_field tag) = yes tt
-decide_at (class_place_at owner) m (tag_field reference_tag) = yes tt
-decide_at (class_place_at owner) m (tag_field class_desc_tag) = yes tt
-decide_at (class_place_at owner) m (tag_field proxy_desc_tag) = decide_proxy owner
-decide_at (superclass_place_at owner strict) m (tag_field null_tag) = yes tt
-decide_at (superclass_place_at owner strict) m (tag_field reference_tag) = yes tt
-decide_at (superclass_place_at owner strict) m (tag_field class_desc_tag) = yes tt
-decide_at (superclass_place_at owner strict) m (tag_field proxy_desc_tag) = yes tt
-decide_at text_place_at m (tag_field reference_tag) = yes tt
-decide_at text_place_at m (tag_field string_tag) = yes tt
-decide_at text_place_at m (tag_field long_string_tag) = yes tt
-decide_at back_handle_at m (handle_field n) = decide_both (dec_lt n (length m.table)) (decide_handle n)
-decide_at text_handle_at m (handle_field n) = decide_both (decide_true (is_text (slice_get m.table n))) (decide_handle n)
-decide_at (class_handle_at owner) m (handle_field n) =
+pub decide_at : (w : Position) (m : Moment) (f : StreamToken) → Dec (AcceptsAt w m f)
+decide_at header_at m header_token = yes tt
+decide_at top_at m (tag_token tag) = yes tt
+decide_at top_at m (block_tag_token long) = yes tt
+decide_at top_at m reset_tag_token = yes tt
+decide_at annotation_at m (tag_token tag) = yes tt
+decide_at annotation_at m (block_tag_token long) = yes tt
+decide_at annotation_at m end_tag_token = yes tt
+decide_at value_at m (tag_token tag) = yes tt
+decide_at (class_place_at owner) m (tag_token reference_tag) = yes tt
+decide_at (class_place_at owner) m (tag_token class_desc_tag) = yes tt
+decide_at (class_place_at owner) m (tag_token proxy_desc_tag) = decide_proxy owner
+decide_at (superclass_place_at owner strict) m (tag_token null_tag) = yes tt
+decide_at (superclass_place_at owner strict) m (tag_token reference_tag) = yes tt
+decide_at (superclass_place_at owner strict) m (tag_token class_desc_tag) = yes tt
+decide_at (superclass_place_at owner strict) m (tag_token proxy_desc_tag) = yes tt
+decide_at text_place_at m (tag_token reference_tag) = yes tt
+decide_at text_place_at m (tag_token string_tag) = yes tt
+decide_at text_place_at m (tag_token long_string_tag) = yes tt
+decide_at back_handle_at m (handle_token n) = decide_both (dec_lt n (length m.table)) (decide_handle n)
+decide_at text_handle_at m (handle_token n) = decide_both (decide_true (is_text (slice_get m.table n))) (decide_handle n)
+decide_at (class_handle_at owner) m (handle_token n) =
     decide_both (decide_class m.table n) (decide_owner owner (chain_at m.table n))
-decide_at (superclass_handle_at owner strict) m (handle_field n) =
+decide_at (superclass_handle_at owner strict) m (handle_token n) =
     decide_both (decide_class m.table n) (decide_superclass owner strict (chain_at m.table n))
-decide_at (string_at false) m (text_field false units) = decide_text false units
-decide_at (string_at true) m (text_field true units) = decide_text true units
-decide_at (class_name_at role) m (text_field false units) =
+decide_at (string_at false) m (text_token false units) = decide_text false units
+decide_at (string_at true) m (text_token true units) = decide_text true units
+decide_at (class_name_at role) m (text_token false units) =
     decide_both (decide_class_name units) (decide_name role (name_kind units))
-decide_at field_name_at m (text_field false units) = decide_text false units
-decide_at interface_name_at m (text_field false units) = decide_class_name units
-decide_at suid_at m (suid_field n) = dec_lt n (2 ^ 64)
-decide_at (flags_at role) m (flags_field n) =
+decide_at field_name_at m (text_token false units) = decide_text false units
+decide_at interface_name_at m (text_token false units) = decide_class_name units
+decide_at suid_at m (suid_token n) = dec_lt n (2 ^ 64)
+decide_at (flags_at role) m (flags_token n) =
     decide_both (decide_both (dec_lt n 32) (decide_false (is_serializable n && is_externalizable n))) (decide_flags role n)
-decide_at field_count_at m (field_count_field n) = dec_lt n (2 ^ 15)
-decide_at interface_count_at m (interface_count_field n) = dec_lt n (2 ^ 31)
-decide_at array_length_at m (array_length_field n) = dec_lt n (2 ^ 31)
-decide_at (type_code_at seen) m (code_field n) = decide_true (may_follow seen n)
-decide_at (block_length_at false) m (block_length_field false n) = dec_lt n (block_bound false)
-decide_at (block_length_at true) m (block_length_field true n) = dec_lt n (block_bound true)
-decide_at (raw_at c (suc n)) m (prims_field ps) = decide_both (ℕ_discrete (length ps) (suc n)) (decide_prims c ps)
-decide_at (bytes_at (suc n)) m (bytes_field bytes) =
+decide_at field_count_at m (field_count_token n) = dec_lt n (2 ^ 15)
+decide_at interface_count_at m (interface_count_token n) = dec_lt n (2 ^ 31)
+decide_at array_length_at m (array_length_token n) = dec_lt n (2 ^ 31)
+decide_at (type_code_at seen) m (code_token n) = decide_true (may_follow seen n)
+decide_at (block_length_at false) m (block_length_token false n) = dec_lt n (block_bound false)
+decide_at (block_length_at true) m (block_length_token true n) = dec_lt n (block_bound true)
+decide_at (raw_at c (suc n)) m (prims_token ps) = decide_both (ℕ_discrete (length ps) (suc n)) (decide_prims c ps)
+decide_at (bytes_at (suc n)) m (bytes_token bytes) =
     decide_both (decide_true (list_all (λ b. nat_lt b 0x100) bytes)) (ℕ_discrete (length bytes) (suc n))
 decide_at (string_at false) m _ = no (λ h. h)
 decide_at (string_at true) m _ = no (λ h. h)

@@ -1,15 +1,15 @@
--- Fields out of their bytes: numbers, the units of modified UTF-8, tags and raw values are found again.
+-- Tokens out of their bytes: numbers, the units of modified UTF-8, tags and raw values are found again.
 use Rattle.std.proofs.Common.{◌≡◌, ℕ, zero, suc, ◌+◌, ◌-◌, ◌*◌, ◌/◌, ◌%◌, ◌^◌, ◌<◌, ◌≤◌, Bool, true, false, ◌&&◌, List, [], ◌∷◌, ◌++◌, length, refl, sym, ◌∙◌, ap, ap₂, arith, rules, Some, nat_lt}
-use Rattle.jser_reading.proofs.Vocabulary.{big_bytes, modified_utf8, IsUnits, PrimCode, byte_code, char_code, double_code, float_code, int_code, long_code, short_code, boolean_code, size_of, PrimTree, ArePrimsOf, Tag, null_tag, reference_tag, class_desc_tag, object_tag, string_tag, array_tag, class_tag, long_string_tag, proxy_desc_tag, enum_tag, tag_field, block_tag_field, end_tag_field, reset_tag_field}
+use Rattle.jser_reading.proofs.Vocabulary.{big_bytes, modified_utf8, IsUnits, PrimCode, byte_code, char_code, double_code, float_code, int_code, long_code, short_code, boolean_code, size_of, PrimTree, ArePrimsOf, Tag, null_tag, reference_tag, class_desc_tag, object_tag, string_tag, array_tag, class_tag, long_string_tag, proxy_desc_tag, enum_tag, tag_token, block_tag_token, end_tag_token, reset_tag_token}
 use Rattle.std.proofs.Common.{take, drop, length-append, leb-true, le-leb}
 use Rattle.std.specs.Prelude.{nat_le}
 use Rattle.std.specs.List.{list_all}
 use Rattle.std.proofs.lemmas.List.{take_at, drop_at}
 use Rattle.jser_prim.specs.ModifiedUtf8.{unit_spelling}
 use Rattle.jser_grammar.specs.Spelling.{prim_spelling, prims_spelling}
-use Rattle.jser_reading.specs.FieldBytes.{tag_byte, bytes_of}
+use Rattle.jser_reading.specs.TokenBytes.{tag_byte, bytes_of}
 use Rattle.jser_grammar.proofs.Bools.{and_left, and_right}
-use Rattle.jser_reading.specs.FieldsFromBytes.{number_of, first, units_in, tag_from, prims_in}
+use Rattle.jser_reading.specs.TokensFromBytes.{number_of, first, units_in, tag_from, prims_in}
 
 pub number_1 : (n : ℕ) → n < 2 ^ 8 → number_of (big_bytes 1 n) ≡ n
 number_1 n h = omega arith
@@ -81,7 +81,7 @@ units_back (u ∷ us) (suc k) h l =
 
 -- tags
 
-pub tag_back : (tag : Tag) → tag_from (tag_byte tag) ≡ Some (tag_field tag)
+pub tag_back : (tag : Tag) → tag_from (tag_byte tag) ≡ Some (tag_token tag)
 unfolding tag_from
 tag_back null_tag = refl
 tag_back reference_tag = refl
@@ -94,16 +94,16 @@ tag_back long_string_tag = refl
 tag_back proxy_desc_tag = refl
 tag_back enum_tag = refl
 
-pub block_tag_back : (long : Bool) → tag_from (first (bytes_of (block_tag_field long))) ≡ Some (block_tag_field long)
+pub block_tag_back : (long : Bool) → tag_from (first (bytes_of (block_tag_token long))) ≡ Some (block_tag_token long)
 unfolding tag_from
 block_tag_back true = refl
 block_tag_back false = refl
 
-pub end_tag_back : tag_from 0x78 ≡ Some end_tag_field
+pub end_tag_back : tag_from 0x78 ≡ Some end_tag_token
 unfolding tag_from
 end_tag_back = refl
 
-pub reset_tag_back : tag_from 0x79 ≡ Some reset_tag_field
+pub reset_tag_back : tag_from 0x79 ≡ Some reset_tag_token
 unfolding tag_from
 reset_tag_back = refl
 

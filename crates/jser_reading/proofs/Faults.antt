@@ -1,23 +1,23 @@
 -- The laws of the walk: it accepts exactly the streams that pass, it refuses at the first fault, and where it
 -- refuses nothing there is none.
 use Rattle.std.proofs.Common.{◌≡◌, ℕ, ◌≤◌, Bool, true, false, List, [], ◌∷◌, ◌++◌, length, refl, sym, ◌∙◌, ap, subst, arith, IsFalse, append_assoc, append-nil, ◌⊎◌, inl, inr}
-use Rattle.jser_reading.proofs.Vocabulary.{ContentTrees, WellFormed, StreamField, Label, Piece, piece, fields_of, State, settled, label_of, Accepts, advance, begin_state, IsDone, Runs, left, Reads}
+use Rattle.jser_reading.proofs.Vocabulary.{ContentTrees, WellFormed, StreamToken, Label, Piece, piece, tokens_of, State, settled, label_of, Accepts, advance, begin_state, IsDone, Runs, left, Reads}
 use Rattle.std.proofs.Common.{length-append}
-use Rattle.jser_reading.specs.FieldBytes.{bytes_of, joined}
+use Rattle.jser_reading.specs.TokenBytes.{bytes_of, joined}
 use Rattle.jser_grammar.specs.Streams.{IsStreamOf}
-use Rattle.jser_reading.specs.Scanner.{VerdictOn, FieldGate, IsScanner, ended, refused, walk, AllPass, PassesBy, IsFaultBy}
+use Rattle.jser_reading.specs.Scanner.{VerdictOn, TokenGate, IsScanner, ended, refused, walk, AllPass, PassesBy, IsFaultBy}
 use Rattle.jser_reading.specs.WalkLaws.{AcceptsExactly, RefusesFirst, NoFaultPassed, CutShort}
 use Rattle.jser_reading.proofs.Exact.{exact_law}
 use Rattle.jser_reading.proofs.Fronts.{reads_split, Reads-append}
 use Rattle.jser_reading.proofs.Next.{next_law}
-use Rattle.jser_reading.proofs.SpelledFields.{spelled_law}
-use Rattle.jser_reading.proofs.Walking.{joined-append, walk_front, refuses, RefusesBy, refuses_by, Found, walked, undecided_no_field}
+use Rattle.jser_reading.proofs.SpelledTokens.{spelled_law}
+use Rattle.jser_reading.proofs.Walking.{joined-append, walk_front, refuses, RefusesBy, refuses_by, Found, walked, undecided_no_token}
 
--- all fields of a stream, and nothing behind them
+-- all tokens of a stream, and nothing behind them
 runs_all : (fs : List Piece) → Reads begin_state fs → Runs begin_state fs × IsDone (settled (left begin_state fs))
 runs_all fs h = reads_split fs [] begin_state (subst (λ ps. Reads begin_state ps) (sym (append-nil fs)) h)
 
-module _ (gate : FieldGate) (verdict : VerdictOn) (sc : IsScanner gate verdict) where
+module _ (gate : TokenGate) (verdict : VerdictOn) (sc : IsScanner gate verdict) where
   walk_all : (fs : List Piece) → Runs begin_state fs → AllPass gate fs
       → walk verdict begin_state [] (joined fs) ≡ ended (left begin_state fs) []
   walk_all fs r g =
@@ -29,28 +29,28 @@ module _ (gate : FieldGate) (verdict : VerdictOn) (sc : IsScanner gate verdict) 
       let x : Found gate verdict sc begin_state bs (ended s []) = rw e at (walked gate verdict sc bs) in
       let k : Reads (left begin_state x.0) [] = rw x.3 d in
       let y = (exact_law (x.0 ++ [])).0 (Reads-append x.0 [] begin_state x.1 k) in
-      let z : x.0 ≡ fields_of y.0 = sym (append-nil x.0) ∙ y.2 in
+      let z : x.0 ≡ tokens_of y.0 = sym (append-nil x.0) ∙ y.2 in
       (y.0, ((x.4 ∙ append-nil (joined x.0) ∙ ap joined z ∙ spelled_law y.0 y.1, y.1), subst (λ ps. AllPass gate ps) z x.2))
 
   right_yes : (bs : List ℕ) (list : ContentTrees) → PassesBy gate bs list → (s : State) × IsDone (settled s)
       × (walk verdict begin_state [] bs ≡ ended s [])
   right_yes bs list p =
       let w : WellFormed list = p.0.1 in
-      let eb : bs ≡ joined (fields_of list) = p.0.0 ∙ sym (spelled_law list w) in
-      let x = runs_all (fields_of list) ((exact_law (fields_of list)).1 (list, w, refl)) in
-      (left begin_state (fields_of list), x.1, ap (λ z. walk verdict begin_state [] z) eb ∙ walk_all (fields_of list) x.0 p.1)
+      let eb : bs ≡ joined (tokens_of list) = p.0.0 ∙ sym (spelled_law list w) in
+      let x = runs_all (tokens_of list) ((exact_law (tokens_of list)).1 (list, w, refl)) in
+      (left begin_state (tokens_of list), x.1, ap (λ z. walk verdict begin_state [] z) eb ∙ walk_all (tokens_of list) x.0 p.1)
 
   no_right : (bs wrong rest : List ℕ) (r : ℕ) → walk verdict begin_state [] bs ≡ refused wrong rest r
       → IsFaultBy verdict bs wrong rest r
   no_right bs wrong rest r e =
       let x : Found gate verdict sc begin_state bs (refused wrong rest r) = rw e at (walked gate verdict sc bs) in
       let l : Label = label_of (settled (left begin_state x.0)) in
-      (x.0, l, (next_law x.0 l).1 (x.1, refl), x.3, undecided_no_field gate verdict sc l wrong x.5, x.4)
+      (x.0, l, (next_law x.0 l).1 (x.1, refl), x.3, undecided_no_token gate verdict sc l wrong x.5, x.4)
 
-  -- the first field that the gate stops
+  -- the first token that the gate stops
   abbrev pub Stopped : State → List Piece → Type 0
   Stopped s front =
-      (a b : List Piece) × (f : StreamField) × (front ≡ a ++ (piece (label_of (settled (left s a))) f ∷ b)) × Runs s a
+      (a b : List Piece) × (f : StreamToken) × (front ≡ a ++ (piece (label_of (settled (left s a))) f ∷ b)) × Runs s a
       × AllPass gate a
       × Accepts (label_of (settled (left s a))) f × IsFalse (gate (label_of (settled (left s a))) f)
 
@@ -110,15 +110,15 @@ module _ (gate : FieldGate) (verdict : VerdictOn) (sc : IsScanner gate verdict) 
 
   no_stream_cut : (bs cut : List ℕ) (s : State) → walk verdict begin_state [] bs ≡ ended s cut → (list : ContentTrees)
       → IsStreamOf bs list → IsDone (settled s) × (cut ≡ [])
-  no_stream_cut bs cut s e list st = go (all_or_stopped (fields_of list) begin_state x.0)
+  no_stream_cut bs cut s e list st = go (all_or_stopped (tokens_of list) begin_state x.0)
     where
-      eb : bs ≡ joined (fields_of list)
+      eb : bs ≡ joined (tokens_of list)
       eb = st.0 ∙ sym (spelled_law list st.1)
 
-      x : Runs begin_state (fields_of list) × IsDone (settled (left begin_state (fields_of list)))
-      x = runs_all (fields_of list) ((exact_law (fields_of list)).1 (list, st.1, refl))
+      x : Runs begin_state (tokens_of list) × IsDone (settled (left begin_state (tokens_of list)))
+      x = runs_all (tokens_of list) ((exact_law (tokens_of list)).1 (list, st.1, refl))
 
-      go : AllPass gate (fields_of list) ⊎ Stopped begin_state (fields_of list) → IsDone (settled s) × (cut ≡ [])
+      go : AllPass gate (tokens_of list) ⊎ Stopped begin_state (tokens_of list) → IsDone (settled s) × (cut ≡ [])
       go (inl g) =
           let y = right_yes bs list (st, g) in
           let z : ended s cut ≡ ended y.0 [] = sym e ∙ y.2 in

@@ -1,7 +1,7 @@
--- Fronts of fields: what the machine takes in two parts, and which stacks it passes on the way. A stack stays open
+-- Fronts of tokens: what the machine takes in two parts, and which stacks it passes on the way. A stack stays open
 -- but for the tag of a reference, and the handle that is taken there opens it again.
 use Rattle.std.proofs.Common.{◌≡◌, ℕ, zero, suc, Bool, true, false, ◌||◌, List, [], ◌∷◌, ◌++◌, refl, ◌⊎◌, inl, inr}
-use Rattle.jser_reading.proofs.Vocabulary.{other_entry, chain_at, Layer, is_object_code, is_external, Owner, object_owner, array_owner, enum_owner, class_owner, ChainOwner, Moment, tick, assign, closing, Tag, null_tag, reference_tag, class_desc_tag, object_tag, string_tag, array_tag, class_tag, long_string_tag, proxy_desc_tag, enum_tag, StreamField, header_field, tag_field, block_tag_field, end_tag_field, reset_tag_field, handle_field, suid_field, flags_field, field_count_field, interface_count_field, array_length_field, code_field, text_field, block_length_field, prims_field, bytes_field, back_handle_at, Piece, piece, Part, raw_part, value_part, annotation_part, Goal, header_goal, top_goal, annotation_goal, back_handle_goal, text_place_goal, text_handle_goal, field_name_goal, string_goal, block_length_goal, block_goal, array_length_goal, parts_goal, class_goal, class_handle_goal, made_goal, superclass_goal, superclass_handle_goal, close_goal, class_name_goal, suid_goal, flags_goal, field_count_goal, fields_goal, interface_count_goal, interfaces_goal, State, object_parts, settle_parts, settle, settled, label_of, Accepts, begin, type_goals, advance_at, advance, Runs, left, Reads}
+use Rattle.jser_reading.proofs.Vocabulary.{other_entry, chain_at, Layer, is_object_code, is_external, Owner, object_owner, array_owner, enum_owner, class_owner, ChainOwner, Moment, tick, assign, closing, Tag, null_tag, reference_tag, class_desc_tag, object_tag, string_tag, array_tag, class_tag, long_string_tag, proxy_desc_tag, enum_tag, StreamToken, header_token, tag_token, block_tag_token, end_tag_token, reset_tag_token, handle_token, suid_token, flags_token, field_count_token, interface_count_token, array_length_token, code_token, text_token, block_length_token, prims_token, bytes_token, back_handle_at, Piece, piece, Part, raw_part, value_part, annotation_part, Goal, header_goal, top_goal, annotation_goal, back_handle_goal, text_place_goal, text_handle_goal, field_name_goal, string_goal, block_length_goal, block_goal, array_length_goal, parts_goal, class_goal, class_handle_goal, made_goal, superclass_goal, superclass_handle_goal, close_goal, class_name_goal, suid_goal, flags_goal, field_count_goal, fields_goal, interface_count_goal, interfaces_goal, State, object_parts, settle_parts, settle, settled, label_of, Accepts, begin, type_goals, advance_at, advance, Runs, left, Reads}
 use Rattle.jser_reading.specs.ComesNext.{handle_label}
 use Rattle.jser_reading.proofs.Completion.{Open}
 
@@ -51,13 +51,13 @@ waits_settle (g ∷ gs) m w = absurd w
 pub settled_waits : (s : State) → Waits s.1 → settled s ≡ s
 settled_waits (m, gs) w = waits_settle gs m w
 
--- one field leaves a stack open, or it is the tag of a reference and its handle is waited for
-abbrev pub Moved : StreamField → State → State → Type 0
-Moved f s t = Open t.1 ⊎ ((f ≡ tag_field reference_tag) × Waits t.1 × (label_of t ≡ handle_label (label_of s)))
+-- one token leaves a stack open, or it is the tag of a reference and its handle is waited for
+abbrev pub Moved : StreamToken → State → State → Type 0
+Moved f s t = Open t.1 ⊎ ((f ≡ tag_token reference_tag) × Waits t.1 × (label_of t ≡ handle_label (label_of s)))
 
 moved_value : (tag : Tag) (d : ℕ) (m : Moment) (gs : List Goal) → Open gs
     → Open (begin d m tag gs).1
-    ⊎ ((tag_field tag ≡ tag_field reference_tag) × Waits (begin d m tag gs).1
+    ⊎ ((tag_token tag ≡ tag_token reference_tag) × Waits (begin d m tag gs).1
     × (label_of (begin d m tag gs) ≡ record { position = back_handle_at; depth = d; moment = tick m }))
 moved_value null_tag d m gs o = inl o
 moved_value reference_tag d m gs o = inr (refl, o, refl)
@@ -71,14 +71,14 @@ moved_value proxy_desc_tag d m gs o = inl o
 moved_value enum_tag d m gs o = inl o
 
 moved_text : (tag : Tag) (d : ℕ) (m : Moment) (gs : List Goal) → Open gs
-    → Moved (tag_field tag) (m, text_place_goal d ∷ gs) (advance_at m (text_place_goal d) gs (tag_field tag))
+    → Moved (tag_token tag) (m, text_place_goal d ∷ gs) (advance_at m (text_place_goal d) gs (tag_token tag))
 moved_text reference_tag d m gs o = inr (refl, o, refl)
 moved_text string_tag d m gs o = inl o
 moved_text long_string_tag d m gs o = inl o
 moved_text tag d m gs o = inl o
 
 moved_class : (tag : Tag) (owner : Owner) (d : ℕ) (m : Moment) (gs : List Goal) → Open gs
-    → Moved (tag_field tag) (m, class_goal owner d ∷ gs) (advance_at m (class_goal owner d) gs (tag_field tag))
+    → Moved (tag_token tag) (m, class_goal owner d ∷ gs) (advance_at m (class_goal owner d) gs (tag_token tag))
 moved_class reference_tag owner d m gs o = inr (refl, o, refl)
 moved_class class_desc_tag owner d m gs o = inl o
 moved_class proxy_desc_tag owner d m gs o = inl o
@@ -86,8 +86,8 @@ moved_class tag owner d m gs o = inl o
 
 moved_superclass : (tag : Tag) (owner : ChainOwner) (strict : Bool) (d number : ℕ) (l : Layer) (m : Moment) (gs : List Goal)
     → Open gs
-    → Moved (tag_field tag) (m, superclass_goal owner strict d number l ∷ gs)
-    (advance_at m (superclass_goal owner strict d number l) gs (tag_field tag))
+    → Moved (tag_token tag) (m, superclass_goal owner strict d number l ∷ gs)
+    (advance_at m (superclass_goal owner strict d number l) gs (tag_token tag))
 moved_superclass reference_tag owner strict d number l m gs o = inr (refl, o, refl)
 moved_superclass class_desc_tag owner strict d number l m gs o = inl o
 moved_superclass proxy_desc_tag owner strict d number l m gs o = inl o
@@ -98,62 +98,62 @@ open_type : (object : Bool) (d : ℕ) (gs : List Goal) → Open gs → Open (typ
 open_type true d gs o = o
 open_type false d gs o = o
 
-moved : (g : Goal) (f : StreamField) (m : Moment) (gs : List Goal) → Open (g ∷ gs) → Moved f (m, g ∷ gs) (advance_at m g gs f)
-moved header_goal header_field m gs o = inl o
-moved top_goal (tag_field tag) m gs o = moved_value tag 1 m (top_goal ∷ gs) o
-moved top_goal (block_tag_field long) m gs o = inl o
-moved top_goal reset_tag_field m gs o = inl o
-moved (annotation_goal d) (tag_field tag) m gs o = moved_value tag (suc d) m (annotation_goal d ∷ gs) o
-moved (annotation_goal d) (block_tag_field long) m gs o = inl o
-moved (annotation_goal d) end_tag_field m gs o = inl o
-moved (parts_goal d (value_part ∷ parts)) (tag_field tag) m gs o = moved_value tag (suc d) m (parts_goal d parts ∷ gs) o
-moved (parts_goal d (raw_part c (suc n) ∷ parts)) (prims_field ps) m gs o = inl o
-moved (block_goal d (suc n)) (bytes_field b) m gs o = inl o
-moved (text_place_goal d) (tag_field tag) m gs o = moved_text tag d m gs o
-moved (class_goal owner d) (tag_field tag) m gs o = moved_class tag owner d m gs o
-moved (superclass_goal owner strict d number l) (tag_field tag) m gs o = moved_superclass tag owner strict d number l m gs o
-moved (fields_goal role d number kind flags seen codes (suc n)) (code_field c) m gs o =
+moved : (g : Goal) (f : StreamToken) (m : Moment) (gs : List Goal) → Open (g ∷ gs) → Moved f (m, g ∷ gs) (advance_at m g gs f)
+moved header_goal header_token m gs o = inl o
+moved top_goal (tag_token tag) m gs o = moved_value tag 1 m (top_goal ∷ gs) o
+moved top_goal (block_tag_token long) m gs o = inl o
+moved top_goal reset_tag_token m gs o = inl o
+moved (annotation_goal d) (tag_token tag) m gs o = moved_value tag (suc d) m (annotation_goal d ∷ gs) o
+moved (annotation_goal d) (block_tag_token long) m gs o = inl o
+moved (annotation_goal d) end_tag_token m gs o = inl o
+moved (parts_goal d (value_part ∷ parts)) (tag_token tag) m gs o = moved_value tag (suc d) m (parts_goal d parts ∷ gs) o
+moved (parts_goal d (raw_part c (suc n) ∷ parts)) (prims_token ps) m gs o = inl o
+moved (block_goal d (suc n)) (bytes_token b) m gs o = inl o
+moved (text_place_goal d) (tag_token tag) m gs o = moved_text tag d m gs o
+moved (class_goal owner d) (tag_token tag) m gs o = moved_class tag owner d m gs o
+moved (superclass_goal owner strict d number l) (tag_token tag) m gs o = moved_superclass tag owner strict d number l m gs o
+moved (fields_goal role d number kind flags seen codes (suc n)) (code_token c) m gs o =
     inl (open_type (is_object_code c) d (fields_goal role d number kind flags (seen || is_object_code c) (c ∷ codes) n ∷ gs) o)
-moved (interfaces_goal role d number (suc n)) (text_field long u) m gs o = inl o
+moved (interfaces_goal role d number (suc n)) (text_token long u) m gs o = inl o
 moved (back_handle_goal d) f m gs o = absurd o
 moved (text_handle_goal d) f m gs o = absurd o
 moved (class_handle_goal owner d) f m gs o = absurd o
 moved (superclass_handle_goal owner strict d number l) f m gs o = absurd o
-moved (string_goal long d) (text_field long' u) m gs o = inl o
-moved (block_length_goal long d) (block_length_field long' n) m gs o = inl o
-moved (field_name_goal d) (text_field long u) m gs o = inl o
-moved (array_length_goal elements d) (array_length_field n) m gs o = inl o
-moved (class_name_goal role d) (text_field long u) m gs o = inl o
-moved (suid_goal role d kind) (suid_field n) m gs o = inl o
-moved (flags_goal role d number kind) (flags_field f) m gs o = inl o
-moved (field_count_goal role d number kind flags) (field_count_field n) m gs o = inl o
-moved (interface_count_goal role d number) (interface_count_field n) m gs o = inl o
+moved (string_goal long d) (text_token long' u) m gs o = inl o
+moved (block_length_goal long d) (block_length_token long' n) m gs o = inl o
+moved (field_name_goal d) (text_token long u) m gs o = inl o
+moved (array_length_goal elements d) (array_length_token n) m gs o = inl o
+moved (class_name_goal role d) (text_token long u) m gs o = inl o
+moved (suid_goal role d kind) (suid_token n) m gs o = inl o
+moved (flags_goal role d number kind) (flags_token f) m gs o = inl o
+moved (field_count_goal role d number kind flags) (field_count_token n) m gs o = inl o
+moved (interface_count_goal role d number) (interface_count_token n) m gs o = inl o
 moved g f m gs o = inl o
 
-pub moved_of : (s : State) (f : StreamField) → Open s.1 → Moved f s (advance s f)
+pub moved_of : (s : State) (f : StreamToken) → Open s.1 → Moved f s (advance s f)
 moved_of (m, []) f o = absurd o
 moved_of (m, g ∷ gs) f o = moved g f m gs o
 
 -- a handle that is taken leaves the stack open
-waited : (g : Goal) (f : StreamField) (m : Moment) (gs : List Goal) → Waits (g ∷ gs) → Accepts (label_of (m, g ∷ gs)) f
+waited : (g : Goal) (f : StreamToken) (m : Moment) (gs : List Goal) → Waits (g ∷ gs) → Accepts (label_of (m, g ∷ gs)) f
     → Open (advance_at m g gs f).1
-waited (back_handle_goal d) (handle_field n) m gs w a = w
-waited (text_handle_goal d) (handle_field n) m gs w a = w
-waited (class_handle_goal owner d) (handle_field n) m gs w a = w
-waited (superclass_handle_goal owner strict d number l) (handle_field n) m gs w a = w
+waited (back_handle_goal d) (handle_token n) m gs w a = w
+waited (text_handle_goal d) (handle_token n) m gs w a = w
+waited (class_handle_goal owner d) (handle_token n) m gs w a = w
+waited (superclass_handle_goal owner strict d number l) (handle_token n) m gs w a = w
 waited (back_handle_goal d) _ m gs w a = absurd a
 waited (text_handle_goal d) _ m gs w a = absurd a
 waited (class_handle_goal owner d) _ m gs w a = absurd a
 waited (superclass_handle_goal owner strict d number l) _ m gs w a = absurd a
 waited _ f m gs w a = absurd w
 
-pub waited_of : (f : StreamField) (s : State) → Waits s.1 → Accepts (label_of s) f → Open (advance s f).1
+pub waited_of : (f : StreamToken) (s : State) → Waits s.1 → Accepts (label_of s) f → Open (advance s f).1
 waited_of f (m, []) w a = absurd w
 waited_of f (m, g ∷ gs) w a = waited g f m gs w a
 
 -- behind the tag of a reference its handle is read
-handle_next : (g : Goal) (m : Moment) (gs : List Goal) → Accepts (label_of (m, g ∷ gs)) (tag_field reference_tag)
-    → label_of (settled (advance_at m g gs (tag_field reference_tag))) ≡ handle_label (label_of (m, g ∷ gs))
+handle_next : (g : Goal) (m : Moment) (gs : List Goal) → Accepts (label_of (m, g ∷ gs)) (tag_token reference_tag)
+    → label_of (settled (advance_at m g gs (tag_token reference_tag))) ≡ handle_label (label_of (m, g ∷ gs))
 handle_next top_goal m gs a = refl
 handle_next (annotation_goal d) m gs a = refl
 handle_next (parts_goal d (value_part ∷ parts)) m gs a = refl
@@ -169,12 +169,12 @@ handle_next (interfaces_goal role d number zero) m gs a = absurd a
 handle_next (parts_goal d []) m gs a = absurd a
 handle_next _ m gs a = absurd a
 
-pub handle_next_of : (s : State) → Accepts (label_of s) (tag_field reference_tag)
-    → label_of (settled (advance s (tag_field reference_tag))) ≡ handle_label (label_of s)
+pub handle_next_of : (s : State) → Accepts (label_of s) (tag_token reference_tag)
+    → label_of (settled (advance s (tag_token reference_tag))) ≡ handle_label (label_of s)
 handle_next_of (m, []) a = absurd a
 handle_next_of (m, g ∷ gs) a = handle_next g m gs a
 
--- fields in two parts
+-- tokens in two parts
 
 pub left-append : (a b : List Piece) (s : State) → left s (a ++ b) ≡ left (left s a) b
 left-append [] b s = refl

@@ -1,7 +1,7 @@
--- What is gathered along the fields of a tree is what is gathered in the tree, in its order: the length of each array,
+-- What is gathered along the tokens of a tree is what is gathered in the tree, in its order: the length of each array,
 -- and each checked name.
 use Rattle.std.proofs.Common.{◌≡◌, ℕ, suc, Bool, true, false, ◌||◌, if◌then◌else◌, List, [], ◌∷◌, ◌++◌, refl, sym, ◌∙◌, ap, Option, Some, None, append_assoc, append-nil, MatchBool}
-use Rattle.jser_reading.proofs.Vocabulary.{has_write_method, other_entry, pending_entry, Layer, PrimCode, is_object_code, primitive_codes, TextPlaceTree, new_text, back_text, FieldTree, PrimTree, ValueTree, null, back, string, descriptor, class_object, array, enum_constant, object, DescTree, plain, proxy, ClassPlaceTree, no_class, back_class, new_class, BodyTree, raw_body, value_body, ValueTrees, no_values, value_and, section, SectionTrees, no_sections, section_and, NotesTree, no_notes, annotation, block, reset, content, ContentTrees, no_contents, content_and, chain_of_class, elements_of, is_external, WellFormedValue, WellFormedDesc, WellFormedClass, WellFormedSuperclass, WellFormedBody, WellFormedValues, WellFormedExternal, WellFormedSections, WellFormedNotesIf, WellFormedNotes, WellFormedContents, WellFormed, Owner, object_owner, array_owner, enum_owner, class_owner, ChainOwner, Role, own_class, superclass, owner_of, is_strict_above, Moment, beginning, tick, assign, emptied, past_type, past_fields, past_value, past_class, past_values, past_notes, past_contents, array_length_field, array_length_at, Piece, at, cut_text_place, cut_type, cut_fields, cut_interfaces, cut_bytes, cut_raw, cut_prims, cut_value, cut_desc, cut_class, cut_superclass, cut_body, cut_values, cut_external, cut_sections, cut_notes, cut_annotation, cut_top, fields_of}
+use Rattle.jser_reading.proofs.Vocabulary.{has_write_method, other_entry, pending_entry, Layer, PrimCode, is_object_code, primitive_codes, TextPlaceTree, new_text, back_text, FieldTree, PrimTree, ValueTree, null, back, string, descriptor, class_object, array, enum_constant, object, DescTree, plain, proxy, ClassPlaceTree, no_class, back_class, new_class, BodyTree, raw_body, value_body, ValueTrees, no_values, value_and, section, SectionTrees, no_sections, section_and, NotesTree, no_notes, annotation, block, reset, content, ContentTrees, no_contents, content_and, chain_of_class, elements_of, is_external, WellFormedValue, WellFormedDesc, WellFormedClass, WellFormedSuperclass, WellFormedBody, WellFormedValues, WellFormedExternal, WellFormedSections, WellFormedNotesIf, WellFormedNotes, WellFormedContents, WellFormed, Owner, object_owner, array_owner, enum_owner, class_owner, ChainOwner, Role, own_class, superclass, owner_of, is_strict_above, Moment, beginning, tick, assign, emptied, past_type, past_fields, past_value, past_class, past_values, past_notes, past_contents, array_length_token, array_length_at, Piece, at, cut_text_place, cut_type, cut_fields, cut_interfaces, cut_bytes, cut_raw, cut_prims, cut_value, cut_desc, cut_class, cut_superclass, cut_body, cut_values, cut_external, cut_sections, cut_notes, cut_annotation, cut_top, tokens_of}
 use Rattle.jser_grammar.specs.Counts.{array_length, array_lengths}
 use Rattle.jser_grammar.specs.CheckedNames.{checked_names}
 use Rattle.jser_grammar.specs.InOrder.{gathered_in_value, gathered_in_desc, gathered_in_class, gathered_in_body, gathered_in_values, gathered_in_sections, gathered_in_notes, gathered_in_contents}
@@ -103,7 +103,7 @@ mutual
   gathers_value G (array c b) d m rest h =
       let made = assign (past_class (tick m) c) other_entry in
       let elements = elements_of (chain_of_class m.table c) in
-      gathers_class G c array_owner d (tick m) (at array_length_at d made (array_length_field (array_length b))
+      gathers_class G c array_owner d (tick m) (at array_length_at d made (array_length_token (array_length b))
       ∷ cut_body d made elements b rest) h.0
       ∙ ap (λ z. in_class G c ++ (G.length (array_length b) ++ z)) (gathers_body G b elements d made rest h.2)
       ∙ three (in_class G c) (G.length (array_length b)) (in_body G b) (along G rest)
@@ -222,11 +222,11 @@ gathers_top G (content_and (content v) cs) m h =
 abbrev of_lengths : Gathering ℕ
 of_lengths = record { length = λ n. n ∷ []; names = λ names. []; none = refl; more = λ n ns. refl }
 
-pub lengths_observed : (list : ContentTrees) → WellFormed list → lengths_in (fields_of list) ≡ array_lengths list
+pub lengths_observed : (list : ContentTrees) → WellFormed list → lengths_in (tokens_of list) ≡ array_lengths list
 lengths_observed list h = gathers_top of_lengths list beginning h
 
 abbrev of_names : Gathering (List ℕ)
 of_names = record { length = λ n. []; names = λ names. names; none = refl; more = λ n ns. refl }
 
-pub names_observed : (list : ContentTrees) → WellFormed list → names_in (fields_of list) ≡ checked_names list
+pub names_observed : (list : ContentTrees) → WellFormed list → names_in (tokens_of list) ≡ checked_names list
 names_observed list h = gathers_top of_names list beginning h

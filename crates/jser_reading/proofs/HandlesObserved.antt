@@ -1,6 +1,6 @@
--- The handles that the fields of a tree assign: the greatest number in a table is that of the entries at its end.
+-- The handles that the tokens of a tree assign: the greatest number in a table is that of the entries at its end.
 use Rattle.std.proofs.Common.{◌≡◌, ℕ, suc, ◌+◌, ◌≤◌, max, Bool, true, false, ◌||◌, if◌then◌else◌, List, [], ◌∷◌, ◌++◌, length, refl, arith, Option, Some, None, MatchBool}
-use Rattle.jser_reading.proofs.Vocabulary.{has_write_method, text_entry, other_entry, pending_entry, Layer, PrimCode, is_object_code, primitive_codes, TextPlaceTree, new_text, back_text, FieldTree, PrimTree, ValueTree, null, back, string, descriptor, class_object, array, enum_constant, object, DescTree, plain, proxy, ClassPlaceTree, no_class, back_class, new_class, BodyTree, raw_body, value_body, ValueTrees, no_values, value_and, section, SectionTrees, no_sections, section_and, NotesTree, no_notes, annotation, block, reset, content, ContentTrees, no_contents, content_and, Entries, plain_layer, proxy_layer, after_text_place, after_type, after_fields, after_value, after_desc, after_class, after_body, after_values, after_sections, after_notes, after_contents, chain_of_class, elements_of, is_external, WellFormedValue, WellFormedDesc, WellFormedClass, WellFormedSuperclass, WellFormedBody, WellFormedValues, WellFormedExternal, WellFormedSections, WellFormedNotesIf, WellFormedNotes, WellFormedContents, WellFormed, Owner, object_owner, array_owner, enum_owner, class_owner, ChainOwner, Role, own_class, superclass, owner_of, is_strict_above, Moment, beginning, tick, assign, emptied, past_type, past_fields, past_value, past_class, past_values, past_notes, past_contents, Tag, null_tag, reference_tag, class_desc_tag, object_tag, string_tag, array_tag, class_tag, long_string_tag, proxy_desc_tag, enum_tag, tag_field, array_length_field, text_field, top_at, annotation_at, value_at, text_place_at, class_place_at, superclass_place_at, string_at, array_length_at, Piece, at, tag_of_string, tag_of_desc, tag_of, cut_text_place, cut_type, cut_fields, cut_interfaces, cut_bytes, cut_raw, cut_prims, cut_value, cut_desc, cut_class, cut_superclass, cut_body, cut_values, cut_external, cut_sections, cut_notes, cut_annotation, cut_top, fields_of}
+use Rattle.jser_reading.proofs.Vocabulary.{has_write_method, text_entry, other_entry, pending_entry, Layer, PrimCode, is_object_code, primitive_codes, TextPlaceTree, new_text, back_text, FieldTree, PrimTree, ValueTree, null, back, string, descriptor, class_object, array, enum_constant, object, DescTree, plain, proxy, ClassPlaceTree, no_class, back_class, new_class, BodyTree, raw_body, value_body, ValueTrees, no_values, value_and, section, SectionTrees, no_sections, section_and, NotesTree, no_notes, annotation, block, reset, content, ContentTrees, no_contents, content_and, Entries, plain_layer, proxy_layer, after_text_place, after_type, after_fields, after_value, after_desc, after_class, after_body, after_values, after_sections, after_notes, after_contents, chain_of_class, elements_of, is_external, WellFormedValue, WellFormedDesc, WellFormedClass, WellFormedSuperclass, WellFormedBody, WellFormedValues, WellFormedExternal, WellFormedSections, WellFormedNotesIf, WellFormedNotes, WellFormedContents, WellFormed, Owner, object_owner, array_owner, enum_owner, class_owner, ChainOwner, Role, own_class, superclass, owner_of, is_strict_above, Moment, beginning, tick, assign, emptied, past_type, past_fields, past_value, past_class, past_values, past_notes, past_contents, Tag, null_tag, reference_tag, class_desc_tag, object_tag, string_tag, array_tag, class_tag, long_string_tag, proxy_desc_tag, enum_tag, tag_token, array_length_token, text_token, top_at, annotation_at, value_at, text_place_at, class_place_at, superclass_place_at, string_at, array_length_at, Piece, at, tag_of_string, tag_of_desc, tag_of, cut_text_place, cut_type, cut_fields, cut_interfaces, cut_bytes, cut_raw, cut_prims, cut_value, cut_desc, cut_class, cut_superclass, cut_body, cut_values, cut_external, cut_sections, cut_notes, cut_annotation, cut_top, tokens_of}
 use Rattle.jser_grammar.specs.Counts.{array_length, epochs_from, epoch_handles}
 use Rattle.jser_reading.specs.GateLimits.{assigns_handle}
 use Rattle.jser_reading.proofs.Observed.{most_handles}
@@ -9,7 +9,7 @@ use Rattle.jser_grammar.proofs.TableLemmas.{length-add, length-close, grows_valu
 
 -- the tag of a string or a proxy descriptor assigns a handle, whatever it is read for
 abbrev by_tag : Tag → Entries → ℕ
-by_tag tag T = number_if (assigns_handle value_at (tag_field tag)) (suc (length T))
+by_tag tag T = number_if (assigns_handle value_at (tag_token tag)) (suc (length T))
 
 -- the owner of a chain has its handle at the chain's end
 abbrev owned : ChainOwner → ℕ
@@ -25,8 +25,8 @@ assigns_string true T = refl
 assigns_string false T = refl
 
 assigns_new_text : (long : Bool) (units : List ℕ) (d : ℕ) (m : Moment) (rest : List Piece)
-    → most_handles (at text_place_at d m (tag_field (tag_of_string long))
-    ∷ at (string_at long) d (assign m text_entry) (text_field long units) ∷ rest) ≡ max (suc (length m.table))
+    → most_handles (at text_place_at d m (tag_token (tag_of_string long))
+    ∷ at (string_at long) d (assign m text_entry) (text_token long units) ∷ rest) ≡ max (suc (length m.table))
     (most_handles rest)
 assigns_new_text true units d m rest = omega arith
 assigns_new_text false units d m rest = omega arith
@@ -87,7 +87,7 @@ assigns_by_class false E S k k' a b rest h f g = g h
 
 -- the tag of a value or a descriptor, by its position
 
-by_tag_at_top : (tag : Tag) (T : Entries) → number_if (assigns_handle top_at (tag_field tag)) (suc (length T)) ≡ by_tag tag T
+by_tag_at_top : (tag : Tag) (T : Entries) → number_if (assigns_handle top_at (tag_token tag)) (suc (length T)) ≡ by_tag tag T
 by_tag_at_top null_tag T = refl
 by_tag_at_top reference_tag T = refl
 by_tag_at_top class_desc_tag T = refl
@@ -100,7 +100,7 @@ by_tag_at_top proxy_desc_tag T = refl
 by_tag_at_top enum_tag T = refl
 
 by_tag_at_annotation : (tag : Tag) (T : Entries)
-    → number_if (assigns_handle annotation_at (tag_field tag)) (suc (length T)) ≡ by_tag tag T
+    → number_if (assigns_handle annotation_at (tag_token tag)) (suc (length T)) ≡ by_tag tag T
 by_tag_at_annotation null_tag T = refl
 by_tag_at_annotation reference_tag T = refl
 by_tag_at_annotation class_desc_tag T = refl
@@ -113,12 +113,12 @@ by_tag_at_annotation proxy_desc_tag T = refl
 by_tag_at_annotation enum_tag T = refl
 
 by_tag_at_class : (x : DescTree) (owner : Owner) (T : Entries)
-    → number_if (assigns_handle (class_place_at owner) (tag_field (tag_of_desc x))) (suc (length T)) ≡ by_tag (tag_of_desc x) T
+    → number_if (assigns_handle (class_place_at owner) (tag_token (tag_of_desc x))) (suc (length T)) ≡ by_tag (tag_of_desc x) T
 by_tag_at_class (plain name suid flags fields notes parent) owner T = refl
 by_tag_at_class (proxy interfaces notes parent) owner T = refl
 
 by_tag_at_superclass : (x : DescTree) (owner : ChainOwner) (strict : Bool) (T : Entries)
-    → number_if (assigns_handle (superclass_place_at owner strict) (tag_field (tag_of_desc x))) (suc (length T)) ≡ by_tag
+    → number_if (assigns_handle (superclass_place_at owner strict) (tag_token (tag_of_desc x))) (suc (length T)) ≡ by_tag
     (tag_of_desc x) T
 by_tag_at_superclass (plain name suid flags fields notes parent) None strict T = refl
 by_tag_at_superclass (plain name suid flags fields notes parent) (Some owner) strict T = refl
@@ -141,7 +141,7 @@ mutual
       let elements = elements_of (chain_of_class m.table c) in
       omega (
         arith,
-        assigns_class c array_owner d (tick m) (at array_length_at d made (array_length_field (array_length b))
+        assigns_class c array_owner d (tick m) (at array_length_at d made (array_length_token (array_length b))
             ∷ cut_body d made elements b rest) h.0,
         assigns_body b elements d made rest h.2,
         length-add (after_class m.table c) other_entry,
@@ -314,5 +314,5 @@ assigns_top (content_and (content v) cs) m h =
       grows_value v m.table,
     )
 
-pub handles_observed : (list : ContentTrees) → WellFormed list → most_handles (fields_of list) ≡ greatest (epoch_handles list)
+pub handles_observed : (list : ContentTrees) → WellFormed list → most_handles (tokens_of list) ≡ greatest (epoch_handles list)
 handles_observed list h = omega (arith, assigns_top list beginning h)

@@ -9,11 +9,11 @@ pub mod Completion
 pub mod Fronts
 pub mod Next
 pub mod SameParts
-pub mod SameFields
-pub mod SpelledFields
+pub mod SameTokens
+pub mod SpelledTokens
 pub mod Walking
 pub mod Faults
-pub mod FieldsAppend
+pub mod TokensAppend
 pub mod Reading
 pub mod Deciding
 pub mod Decoding

@@ -1,7 +1,7 @@
--- From the machine to trees: where the machine reads fields to its end, what its stack asked for was there. One
--- lemma for each goal, by cases on the field that it is read by; then an induction along the fields.
+-- From the machine to trees: where the machine reads tokens to its end, what its stack asked for was there. One
+-- lemma for each goal, by cases on the token that it is read by; then an induction along the tokens.
 use Rattle.std.proofs.Common.{◌≡◌, ℕ, zero, suc, ◌<◌, Bool, true, false, not, ◌&&◌, ◌||◌, List, [], ◌∷◌, ◌++◌, refl, sym, ◌∙◌, ap, ap₂, subst, Option, Some, None, IsTrue, IsFalse, is_some}
-use Rattle.jser_reading.proofs.Vocabulary.{other_entry, NameKind, Layer, PrimCode, prim_code_of, is_object_code, new_text, back_text, ValueTree, null, back, string, descriptor, class_object, array, enum_constant, object, no_class, back_class, new_class, block, reset, content, no_contents, content_and, chain_of_class, block_bound, elements_of, is_external, WellFormedValue, Owner, object_owner, array_owner, enum_owner, ChainOwner, Role, own_class, superclass, FitsRole, Moment, tick, assign, closing, next_number, past_value, past_desc, past_class, Tag, null_tag, reference_tag, class_desc_tag, object_tag, string_tag, array_tag, class_tag, long_string_tag, proxy_desc_tag, enum_tag, StreamField, header_field, tag_field, block_tag_field, end_tag_field, reset_tag_field, handle_field, suid_field, flags_field, field_count_field, interface_count_field, array_length_field, code_field, text_field, block_length_field, prims_field, bytes_field, header_at, top_at, annotation_at, value_at, text_place_at, class_place_at, superclass_place_at, back_handle_at, text_handle_at, class_handle_at, superclass_handle_at, string_at, class_name_at, field_name_at, interface_name_at, suid_at, field_count_at, interface_count_at, array_length_at, flags_at, type_code_at, block_length_at, Piece, piece, at, tag_of, cut_value, cut_class, Part, raw_part, value_part, annotation_part, Goal, header_goal, top_goal, annotation_goal, back_handle_goal, text_place_goal, text_handle_goal, field_name_goal, string_goal, block_length_goal, block_goal, array_length_goal, parts_goal, class_goal, class_handle_goal, made_goal, superclass_goal, superclass_handle_goal, close_goal, class_name_goal, suid_goal, flags_goal, field_count_goal, fields_goal, interface_count_goal, interfaces_goal, State, settle, position_of_parts, position_of, depth_of_parts, label_of, may_follow, AcceptsAt, Accepts, begin, type_goals, advance_at, advance, IsDone, Reads}
+use Rattle.jser_reading.proofs.Vocabulary.{other_entry, NameKind, Layer, PrimCode, prim_code_of, is_object_code, new_text, back_text, ValueTree, null, back, string, descriptor, class_object, array, enum_constant, object, no_class, back_class, new_class, block, reset, content, no_contents, content_and, chain_of_class, block_bound, elements_of, is_external, WellFormedValue, Owner, object_owner, array_owner, enum_owner, ChainOwner, Role, own_class, superclass, FitsRole, Moment, tick, assign, closing, next_number, past_value, past_desc, past_class, Tag, null_tag, reference_tag, class_desc_tag, object_tag, string_tag, array_tag, class_tag, long_string_tag, proxy_desc_tag, enum_tag, StreamToken, header_token, tag_token, block_tag_token, end_tag_token, reset_tag_token, handle_token, suid_token, flags_token, field_count_token, interface_count_token, array_length_token, code_token, text_token, block_length_token, prims_token, bytes_token, header_at, top_at, annotation_at, value_at, text_place_at, class_place_at, superclass_place_at, back_handle_at, text_handle_at, class_handle_at, superclass_handle_at, string_at, class_name_at, field_name_at, interface_name_at, suid_at, field_count_at, interface_count_at, array_length_at, flags_at, type_code_at, block_length_at, Piece, piece, at, tag_of, cut_value, cut_class, Part, raw_part, value_part, annotation_part, Goal, header_goal, top_goal, annotation_goal, back_handle_goal, text_place_goal, text_handle_goal, field_name_goal, string_goal, block_length_goal, block_goal, array_length_goal, parts_goal, class_goal, class_handle_goal, made_goal, superclass_goal, superclass_handle_goal, close_goal, class_name_goal, suid_goal, flags_goal, field_count_goal, fields_goal, interface_count_goal, interfaces_goal, State, settle, position_of_parts, position_of, depth_of_parts, label_of, may_follow, AcceptsAt, Accepts, begin, type_goals, advance_at, advance, IsDone, Reads}
 use Rattle.jser_grammar.proofs.Bools.{and_left, and_right, untrue}
 use Rattle.jser_grammar.proofs.TableLemmas.{chain_at-after_desc}
 use Rattle.jser_reading.proofs.Remaining.{RemainsAnnotation, RemainsParts, RemainsText, RemainsBody, RemainsOwner, RemainsTop, RemainsBytes, RemainsBlock, RemainsString, RemainsSuperclass, RemainsFields, RemainsFieldCount, RemainsFlags, RemainsSuid, RemainsName, RemainsInterfaces, RemainsInterfaceCount, RemainsDesc, RemainsAt, Remains, RemainsOf, unsettle}
@@ -25,7 +25,7 @@ begun_array d m gs fs (c, r, w, f, e, (n, r2, a, e2, h)) =
       refl,
       (w, f, x.3),
       e ∙ ap (λ y. cut_class array_owner d (tick m) c y)
-          (e2 ∙ ap₂ (λ k y. at array_length_at d made (array_length_field k) ∷ y) (sym x.2) x.4),
+          (e2 ∙ ap₂ (λ k y. at array_length_at d made (array_length_token k) ∷ y) (sym x.2) x.4),
       x.5,
     )
 
@@ -53,41 +53,41 @@ begun class_tag d m gs fs (c, r, w, f, e, k) = (class_object c, r, refl, w, e, k
 begun enum_tag d m gs fs (c, r, w, f, e, (t, r2, wt, e2, k)) =
     (enum_constant c t, r2, refl, (w, f, wt), e ∙ ap (λ y. cut_class enum_owner d (tick m) c y) e2, k)
 
--- Back over one field, at each goal. Where the format takes no such field, there is nothing to show.
+-- Back over one token, at each goal. Where the format takes no such token, there is nothing to show.
 
-back_top : (f : StreamField) (m : Moment) (gs : List Goal) (fs : List Piece) → AcceptsAt top_at m f
+back_top : (f : StreamToken) (m : Moment) (gs : List Goal) (fs : List Piece) → AcceptsAt top_at m f
     → RemainsOf (advance_at m top_goal gs f) fs → RemainsTop m (Remains gs) (at top_at 1 m f ∷ fs)
-back_top (tag_field tag) m gs fs a h = go (begun tag 1 m (top_goal ∷ gs) fs h)
+back_top (tag_token tag) m gs fs a h = go (begun tag 1 m (top_goal ∷ gs) fs h)
   where
-    go : Begun tag 1 m (top_goal ∷ gs) fs → RemainsTop m (Remains gs) (at top_at 1 m (tag_field tag) ∷ fs)
+    go : Begun tag 1 m (top_goal ∷ gs) fs → RemainsTop m (Remains gs) (at top_at 1 m (tag_token tag) ∷ fs)
     go (v, r, et, w, e, (cs, r', wc, e', k)) = (content_and (content v) cs, r', (w, wc), rw (← et, e, e') refl, k)
-back_top (block_tag_field long) m gs fs a (b, r, w, e, (cs, r', wc, e', k)) =
+back_top (block_tag_token long) m gs fs a (b, r, w, e, (cs, r', wc, e', k)) =
     (content_and (block long b) cs, r', (w, wc), rw (e, e') refl, k)
-back_top reset_tag_field m gs fs a (cs, r, wc, e, k) = (content_and reset cs, r, wc, rw e refl, k)
+back_top reset_tag_token m gs fs a (cs, r, wc, e, k) = (content_and reset cs, r, wc, rw e refl, k)
 back_top _ m gs fs a h = absurd a
 
-back_annotation : (f : StreamField) (d : ℕ) (m : Moment) (gs : List Goal) (fs : List Piece) → AcceptsAt annotation_at m f
+back_annotation : (f : StreamToken) (d : ℕ) (m : Moment) (gs : List Goal) (fs : List Piece) → AcceptsAt annotation_at m f
     → RemainsOf (advance_at m (annotation_goal d) gs f) fs
     → RemainsAnnotation d m (Remains gs) (at annotation_at (suc d) m f ∷ fs)
-back_annotation (tag_field tag) d m gs fs a h = go (begun tag (suc d) m (annotation_goal d ∷ gs) fs h)
+back_annotation (tag_token tag) d m gs fs a h = go (begun tag (suc d) m (annotation_goal d ∷ gs) fs h)
   where
     go : Begun tag (suc d) m (annotation_goal d ∷ gs) fs
-        → RemainsAnnotation d m (Remains gs) (at annotation_at (suc d) m (tag_field tag) ∷ fs)
+        → RemainsAnnotation d m (Remains gs) (at annotation_at (suc d) m (tag_token tag) ∷ fs)
     go (v, r, et, w, e, (cs, r', wc, e', k)) = (content_and (content v) cs, r', (w, wc), rw (← et, e, e') refl, k)
-back_annotation (block_tag_field long) d m gs fs a (b, r, w, e, (cs, r', wc, e', k)) =
+back_annotation (block_tag_token long) d m gs fs a (b, r, w, e, (cs, r', wc, e', k)) =
     (content_and (block long b) cs, r', (w, wc), rw (e, e') refl, k)
-back_annotation end_tag_field d m gs fs a h = (no_contents, fs, tt, refl, h)
+back_annotation end_tag_token d m gs fs a h = (no_contents, fs, tt, refl, h)
 back_annotation _ d m gs fs a h = absurd a
 
-back_parts : (parts : List Part) (f : StreamField) (d : ℕ) (m : Moment) (gs : List Goal) (fs : List Piece)
+back_parts : (parts : List Part) (f : StreamToken) (d : ℕ) (m : Moment) (gs : List Goal) (fs : List Piece)
     → AcceptsAt (position_of_parts parts) m f
     → RemainsOf (advance_at m (parts_goal d parts) gs f) fs
     → RemainsParts d parts m (Remains gs) (at (position_of_parts parts) (depth_of_parts d parts) m f ∷ fs)
-back_parts (raw_part c (suc n) ∷ parts) (prims_field ps) d m gs fs a h = (ps, fs, a, refl, h)
-back_parts (value_part ∷ parts) (tag_field tag) d m gs fs a h = go (begun tag (suc d) m (parts_goal d parts ∷ gs) fs h)
+back_parts (raw_part c (suc n) ∷ parts) (prims_token ps) d m gs fs a h = (ps, fs, a, refl, h)
+back_parts (value_part ∷ parts) (tag_token tag) d m gs fs a h = go (begun tag (suc d) m (parts_goal d parts ∷ gs) fs h)
   where
     go : Begun tag (suc d) m (parts_goal d parts ∷ gs) fs
-        → RemainsParts d (value_part ∷ parts) m (Remains gs) (at value_at (suc d) m (tag_field tag) ∷ fs)
+        → RemainsParts d (value_part ∷ parts) m (Remains gs) (at value_at (suc d) m (tag_token tag) ∷ fs)
     go (v, r, et, w, e, k) = (v, r, w, rw (← et, e) refl, k)
 back_parts [] f d m gs fs a h = absurd a
 back_parts (annotation_part ∷ parts) f d m gs fs a h = absurd a
@@ -95,81 +95,81 @@ back_parts (raw_part c zero ∷ parts) f d m gs fs a h = absurd a
 back_parts (raw_part c (suc n) ∷ parts) _ d m gs fs a h = absurd a
 back_parts (value_part ∷ parts) _ d m gs fs a h = absurd a
 
-back_header : (f : StreamField) (m : Moment) (gs : List Goal) (fs : List Piece) → AcceptsAt header_at m f
+back_header : (f : StreamToken) (m : Moment) (gs : List Goal) (fs : List Piece) → AcceptsAt header_at m f
     → RemainsOf (advance_at m header_goal gs f) fs → RemainsAt header_goal m (Remains gs) (at header_at 0 m f ∷ fs)
-back_header header_field m gs fs a h = (fs, refl, h)
+back_header header_token m gs fs a h = (fs, refl, h)
 back_header _ m gs fs a h = absurd a
 
-back_handle : (f : StreamField) (d : ℕ) (m : Moment) (gs : List Goal) (fs : List Piece) → AcceptsAt back_handle_at m f
+back_handle : (f : StreamToken) (d : ℕ) (m : Moment) (gs : List Goal) (fs : List Piece) → AcceptsAt back_handle_at m f
     → RemainsOf (advance_at m (back_handle_goal d) gs f) fs
     → RemainsAt (back_handle_goal d) m (Remains gs) (at back_handle_at d m f ∷ fs)
-back_handle (handle_field n) d m gs fs a h = (n, fs, a, refl, h)
+back_handle (handle_token n) d m gs fs a h = (n, fs, a, refl, h)
 back_handle _ d m gs fs a h = absurd a
 
-back_string : (long : Bool) (f : StreamField) (d : ℕ) (m : Moment) (gs : List Goal) (fs : List Piece)
+back_string : (long : Bool) (f : StreamToken) (d : ℕ) (m : Moment) (gs : List Goal) (fs : List Piece)
     → AcceptsAt (string_at long) m f
     → RemainsOf (advance_at m (string_goal long d) gs f) fs → RemainsString long d m (Remains gs) (at (string_at long) d m f ∷ fs)
-back_string true (text_field true u) d m gs fs a h = (u, fs, a, refl, h)
-back_string false (text_field false u) d m gs fs a h = (u, fs, a, refl, h)
+back_string true (text_token true u) d m gs fs a h = (u, fs, a, refl, h)
+back_string false (text_token false u) d m gs fs a h = (u, fs, a, refl, h)
 back_string true _ d m gs fs a h = absurd a
 back_string false _ d m gs fs a h = absurd a
 
 block_remains : (long : Bool) (n d : ℕ) (m : Moment) (gs : List Goal) (fs : List Piece) → n < block_bound long
     → RemainsBytes d n m (Remains gs) fs
-    → RemainsBlock long d m (Remains gs) (at (block_length_at long) d m (block_length_field long n) ∷ fs)
+    → RemainsBlock long d m (Remains gs) (at (block_length_at long) d m (block_length_token long n) ∷ fs)
 block_remains long n d m gs fs a h =
     let x = bytes_remain n d m (Remains gs) fs h in
-    (x.0, x.1, (x.2, rw x.3 a), ap₂ (λ k y. at (block_length_at long) d m (block_length_field long k) ∷ y) (sym x.3) x.4, x.5)
+    (x.0, x.1, (x.2, rw x.3 a), ap₂ (λ k y. at (block_length_at long) d m (block_length_token long k) ∷ y) (sym x.3) x.4, x.5)
 
-back_block_length : (long : Bool) (f : StreamField) (d : ℕ) (m : Moment) (gs : List Goal) (fs : List Piece)
+back_block_length : (long : Bool) (f : StreamToken) (d : ℕ) (m : Moment) (gs : List Goal) (fs : List Piece)
     → AcceptsAt (block_length_at long) m f
     → RemainsOf (advance_at m (block_length_goal long d) gs f) fs
     → RemainsBlock long d m (Remains gs) (at (block_length_at long) d m f ∷ fs)
-back_block_length true (block_length_field true n) d m gs fs a h = block_remains true n d m gs fs a h
-back_block_length false (block_length_field false n) d m gs fs a h = block_remains false n d m gs fs a h
+back_block_length true (block_length_token true n) d m gs fs a h = block_remains true n d m gs fs a h
+back_block_length false (block_length_token false n) d m gs fs a h = block_remains false n d m gs fs a h
 back_block_length true _ d m gs fs a h = absurd a
 back_block_length false _ d m gs fs a h = absurd a
 
-back_block : (n : ℕ) (f : StreamField) (d : ℕ) (m : Moment) (gs : List Goal) (fs : List Piece)
+back_block : (n : ℕ) (f : StreamToken) (d : ℕ) (m : Moment) (gs : List Goal) (fs : List Piece)
     → AcceptsAt (position_of (block_goal d n)) m f
     → RemainsOf (advance_at m (block_goal d n) gs f) fs
     → RemainsBytes d n m (Remains gs) (at (position_of (block_goal d n)) d m f ∷ fs)
-back_block (suc n) (bytes_field b) d m gs fs a h = (b, fs, a, refl, h)
+back_block (suc n) (bytes_token b) d m gs fs a h = (b, fs, a, refl, h)
 back_block zero f d m gs fs a h = absurd a
 back_block (suc n) _ d m gs fs a h = absurd a
 
-back_field_name : (f : StreamField) (d : ℕ) (m : Moment) (gs : List Goal) (fs : List Piece) → AcceptsAt field_name_at m f
+back_field_name : (f : StreamToken) (d : ℕ) (m : Moment) (gs : List Goal) (fs : List Piece) → AcceptsAt field_name_at m f
     → RemainsOf (advance_at m (field_name_goal d) gs f) fs
     → RemainsAt (field_name_goal d) m (Remains gs) (at field_name_at d m f ∷ fs)
-back_field_name (text_field false u) d m gs fs a h = (u, fs, a, refl, h)
+back_field_name (text_token false u) d m gs fs a h = (u, fs, a, refl, h)
 back_field_name _ d m gs fs a h = absurd a
 
-back_text_place : (f : StreamField) (d : ℕ) (m : Moment) (gs : List Goal) (fs : List Piece) → AcceptsAt text_place_at m f
+back_text_place : (f : StreamToken) (d : ℕ) (m : Moment) (gs : List Goal) (fs : List Piece) → AcceptsAt text_place_at m f
     → RemainsOf (advance_at m (text_place_goal d) gs f) fs → RemainsText d m (Remains gs) (at text_place_at d m f ∷ fs)
-back_text_place (tag_field string_tag) d m gs fs a (u, r, b, e, k) =
-    (new_text (record { long = false; units = u }), r, b, ap (λ x. at text_place_at d m (tag_field string_tag) ∷ x) e, k)
-back_text_place (tag_field long_string_tag) d m gs fs a (u, r, b, e, k) =
-    (new_text (record { long = true; units = u }), r, b, ap (λ x. at text_place_at d m (tag_field long_string_tag) ∷ x) e, k)
-back_text_place (tag_field reference_tag) d m gs fs a (n, r, b, e, k) =
-    (back_text n, r, b, ap (λ x. at text_place_at d m (tag_field reference_tag) ∷ x) e, k)
+back_text_place (tag_token string_tag) d m gs fs a (u, r, b, e, k) =
+    (new_text (record { long = false; units = u }), r, b, ap (λ x. at text_place_at d m (tag_token string_tag) ∷ x) e, k)
+back_text_place (tag_token long_string_tag) d m gs fs a (u, r, b, e, k) =
+    (new_text (record { long = true; units = u }), r, b, ap (λ x. at text_place_at d m (tag_token long_string_tag) ∷ x) e, k)
+back_text_place (tag_token reference_tag) d m gs fs a (n, r, b, e, k) =
+    (back_text n, r, b, ap (λ x. at text_place_at d m (tag_token reference_tag) ∷ x) e, k)
 back_text_place _ d m gs fs a h = absurd a
 
-back_text_handle : (f : StreamField) (d : ℕ) (m : Moment) (gs : List Goal) (fs : List Piece) → AcceptsAt text_handle_at m f
+back_text_handle : (f : StreamToken) (d : ℕ) (m : Moment) (gs : List Goal) (fs : List Piece) → AcceptsAt text_handle_at m f
     → RemainsOf (advance_at m (text_handle_goal d) gs f) fs
     → RemainsAt (text_handle_goal d) m (Remains gs) (at text_handle_at d m f ∷ fs)
-back_text_handle (handle_field n) d m gs fs a h = (n, fs, a, refl, h)
+back_text_handle (handle_token n) d m gs fs a h = (n, fs, a, refl, h)
 back_text_handle _ d m gs fs a h = absurd a
 
-back_array_length : (f : StreamField) (elements : Option PrimCode) (d : ℕ) (m : Moment) (gs : List Goal) (fs : List Piece)
+back_array_length : (f : StreamToken) (elements : Option PrimCode) (d : ℕ) (m : Moment) (gs : List Goal) (fs : List Piece)
     → AcceptsAt array_length_at m f
     → RemainsOf (advance_at m (array_length_goal elements d) gs f) fs
     → RemainsBody elements d m (Remains gs) (at array_length_at d m f ∷ fs)
-back_array_length (array_length_field n) elements d m gs fs a h = (n, fs, a, refl, h)
+back_array_length (array_length_token n) elements d m gs fs a h = (n, fs, a, refl, h)
 back_array_length _ elements d m gs fs a h = absurd a
 
 class_remains : (tag : Tag) (owner : Owner) (d : ℕ) (m : Moment) (gs : List Goal) (fs : List Piece)
     → RemainsDesc tag (own_class (Some owner)) d m (Remains (made_goal owner d (next_number m) ∷ gs)) fs
-    → RemainsAt (class_goal owner d) m (Remains gs) (at (class_place_at owner) d m (tag_field tag) ∷ fs)
+    → RemainsAt (class_goal owner d) m (Remains gs) (at (class_place_at owner) d m (tag_token tag) ∷ fs)
 class_remains tag owner d m gs fs (x, r, et, w, f, e, k) = (
   new_class x,
   r,
@@ -179,31 +179,31 @@ class_remains tag owner d m gs fs (x, r, et, w, f, e, k) = (
   subst (λ c. RemainsOwner owner d c (assign (past_desc m x) other_entry) (Remains gs) r) (chain_at-after_desc x m.table) k,
 )
 
-back_class_place : (f : StreamField) (owner : Owner) (d : ℕ) (m : Moment) (gs : List Goal) (fs : List Piece)
+back_class_place : (f : StreamToken) (owner : Owner) (d : ℕ) (m : Moment) (gs : List Goal) (fs : List Piece)
     → AcceptsAt (class_place_at owner) m f
     → RemainsOf (advance_at m (class_goal owner d) gs f) fs
     → RemainsAt (class_goal owner d) m (Remains gs) (at (class_place_at owner) d m f ∷ fs)
-back_class_place (tag_field class_desc_tag) owner d m gs fs a h =
+back_class_place (tag_token class_desc_tag) owner d m gs fs a h =
     class_remains class_desc_tag owner d m gs fs
     (plain_remains (own_class (Some owner)) d m (Remains (made_goal owner d (next_number m) ∷ gs)) fs h)
-back_class_place (tag_field proxy_desc_tag) owner d m gs fs a h =
+back_class_place (tag_token proxy_desc_tag) owner d m gs fs a h =
     class_remains proxy_desc_tag owner d m gs fs
     (proxy_remains (own_class (Some owner)) d m (Remains (made_goal owner d (next_number m) ∷ gs)) fs a h)
-back_class_place (tag_field reference_tag) owner d m gs fs a (n, r, b, e, k) =
-    (back_class n, r, b.0, b.1, ap (λ y. at (class_place_at owner) d m (tag_field reference_tag) ∷ y) e, k)
+back_class_place (tag_token reference_tag) owner d m gs fs a (n, r, b, e, k) =
+    (back_class n, r, b.0, b.1, ap (λ y. at (class_place_at owner) d m (tag_token reference_tag) ∷ y) e, k)
 back_class_place _ owner d m gs fs a h = absurd a
 
-back_class_handle : (f : StreamField) (owner : Owner) (d : ℕ) (m : Moment) (gs : List Goal) (fs : List Piece)
+back_class_handle : (f : StreamToken) (owner : Owner) (d : ℕ) (m : Moment) (gs : List Goal) (fs : List Piece)
     → AcceptsAt (class_handle_at owner) m f
     → RemainsOf (advance_at m (class_handle_goal owner d) gs f) fs
     → RemainsAt (class_handle_goal owner d) m (Remains gs) (at (class_handle_at owner) d m f ∷ fs)
-back_class_handle (handle_field n) owner d m gs fs a h = (n, fs, a, refl, h)
+back_class_handle (handle_token n) owner d m gs fs a h = (n, fs, a, refl, h)
 back_class_handle _ owner d m gs fs a h = absurd a
 
 superclass_remains : (tag : Tag) (owner : ChainOwner) (strict : Bool) (d number : ℕ) (l : Layer) (m : Moment) (gs : List Goal)
     (fs : List Piece)
     → RemainsDesc tag (superclass owner strict) d (tick m) (Remains (close_goal number (next_number m) l ∷ gs)) fs
-    → RemainsSuperclass owner strict d number l m (Remains gs) (at (superclass_place_at owner strict) d m (tag_field tag) ∷ fs)
+    → RemainsSuperclass owner strict d number l m (Remains gs) (at (superclass_place_at owner strict) d m (tag_token tag) ∷ fs)
 superclass_remains tag owner strict d number l m gs fs (x, r, et, w, f, e, h) = (
   new_class x,
   r,
@@ -217,57 +217,57 @@ fits_none : (owner : ChainOwner) (strict : Bool) → FitsRole (superclass owner 
 fits_none owner true = refl
 fits_none owner false = tt
 
-back_superclass_place : (f : StreamField) (owner : ChainOwner) (strict : Bool) (d number : ℕ) (l : Layer) (m : Moment)
+back_superclass_place : (f : StreamToken) (owner : ChainOwner) (strict : Bool) (d number : ℕ) (l : Layer) (m : Moment)
     (gs : List Goal) (fs : List Piece)
     → AcceptsAt (superclass_place_at owner strict) m f
     → RemainsOf (advance_at m (superclass_goal owner strict d number l) gs f) fs
     → RemainsSuperclass owner strict d number l m (Remains gs) (at (superclass_place_at owner strict) d m f ∷ fs)
-back_superclass_place (tag_field null_tag) owner strict d number l m gs fs a h =
+back_superclass_place (tag_token null_tag) owner strict d number l m gs fs a h =
     (no_class, fs, tt, fits_none owner strict, refl, h)
-back_superclass_place (tag_field class_desc_tag) owner strict d number l m gs fs a h =
+back_superclass_place (tag_token class_desc_tag) owner strict d number l m gs fs a h =
     superclass_remains class_desc_tag owner strict d number l m gs fs
     (plain_remains (superclass owner strict) d (tick m) (Remains (close_goal number (next_number m) l ∷ gs)) fs h)
-back_superclass_place (tag_field proxy_desc_tag) owner strict d number l m gs fs a h =
+back_superclass_place (tag_token proxy_desc_tag) owner strict d number l m gs fs a h =
     superclass_remains proxy_desc_tag owner strict d number l m gs fs
     (proxy_remains (superclass owner strict) d (tick m) (Remains (close_goal number (next_number m) l ∷ gs)) fs tt h)
-back_superclass_place (tag_field reference_tag) owner strict d number l m gs fs a (n, r, b, e, h) =
-    (back_class n, r, b.0, b.1, ap (λ y. at (superclass_place_at owner strict) d m (tag_field reference_tag) ∷ y) e, h)
+back_superclass_place (tag_token reference_tag) owner strict d number l m gs fs a (n, r, b, e, h) =
+    (back_class n, r, b.0, b.1, ap (λ y. at (superclass_place_at owner strict) d m (tag_token reference_tag) ∷ y) e, h)
 back_superclass_place _ owner strict d number l m gs fs a h = absurd a
 
-back_superclass_handle : (f : StreamField) (owner : ChainOwner) (strict : Bool) (d number : ℕ) (l : Layer) (m : Moment)
+back_superclass_handle : (f : StreamToken) (owner : ChainOwner) (strict : Bool) (d number : ℕ) (l : Layer) (m : Moment)
     (gs : List Goal) (fs : List Piece)
     → AcceptsAt (superclass_handle_at owner strict) m f
     → RemainsOf (advance_at m (superclass_handle_goal owner strict d number l) gs f) fs
     → RemainsAt (superclass_handle_goal owner strict d number l) m (Remains gs)
     (at (superclass_handle_at owner strict) d m f ∷ fs)
-back_superclass_handle (handle_field n) owner strict d number l m gs fs a h = (n, fs, a, refl, h)
+back_superclass_handle (handle_token n) owner strict d number l m gs fs a h = (n, fs, a, refl, h)
 back_superclass_handle _ owner strict d number l m gs fs a h = absurd a
 
-back_class_name : (f : StreamField) (role : Role) (d : ℕ) (m : Moment) (gs : List Goal) (fs : List Piece)
+back_class_name : (f : StreamToken) (role : Role) (d : ℕ) (m : Moment) (gs : List Goal) (fs : List Piece)
     → AcceptsAt (class_name_at role) m f
     → RemainsOf (advance_at m (class_name_goal role d) gs f) fs
     → RemainsName role d m (Remains gs) (at (class_name_at role) d m f ∷ fs)
-back_class_name (text_field false u) role d m gs fs a h = (u, fs, a, refl, h)
+back_class_name (text_token false u) role d m gs fs a h = (u, fs, a, refl, h)
 back_class_name _ role d m gs fs a h = absurd a
 
-back_suid : (f : StreamField) (role : Role) (d : ℕ) (kind : NameKind) (m : Moment) (gs : List Goal) (fs : List Piece)
+back_suid : (f : StreamToken) (role : Role) (d : ℕ) (kind : NameKind) (m : Moment) (gs : List Goal) (fs : List Piece)
     → AcceptsAt suid_at m f
     → RemainsOf (advance_at m (suid_goal role d kind) gs f) fs → RemainsSuid role d kind m (Remains gs) (at suid_at d m f ∷ fs)
-back_suid (suid_field n) role d kind m gs fs a h = (n, fs, a, refl, h)
+back_suid (suid_token n) role d kind m gs fs a h = (n, fs, a, refl, h)
 back_suid _ role d kind m gs fs a h = absurd a
 
-back_flags : (f : StreamField) (role : Role) (d number : ℕ) (kind : NameKind) (m : Moment) (gs : List Goal) (fs : List Piece)
+back_flags : (f : StreamToken) (role : Role) (d number : ℕ) (kind : NameKind) (m : Moment) (gs : List Goal) (fs : List Piece)
     → AcceptsAt (flags_at role) m f
     → RemainsOf (advance_at m (flags_goal role d number kind) gs f) fs
     → RemainsFlags role d number kind m (Remains gs) (at (flags_at role) d m f ∷ fs)
-back_flags (flags_field n) role d number kind m gs fs a h = (n, fs, a, refl, h)
+back_flags (flags_token n) role d number kind m gs fs a h = (n, fs, a, refl, h)
 back_flags _ role d number kind m gs fs a h = absurd a
 
-back_field_count : (f : StreamField) (role : Role) (d number : ℕ) (kind : NameKind) (flags : ℕ) (m : Moment) (gs : List Goal)
+back_field_count : (f : StreamToken) (role : Role) (d number : ℕ) (kind : NameKind) (flags : ℕ) (m : Moment) (gs : List Goal)
     (fs : List Piece) → AcceptsAt field_count_at m f
     → RemainsOf (advance_at m (field_count_goal role d number kind flags) gs f) fs
     → RemainsFieldCount role d number kind flags m (Remains gs) (at field_count_at d m f ∷ fs)
-back_field_count (field_count_field n) role d number kind flags m gs fs a h = (n, fs, a, refl, h)
+back_field_count (field_count_token n) role d number kind flags m gs fs a h = (n, fs, a, refl, h)
 back_field_count _ role d number kind flags m gs fs a h = absurd a
 
 -- a type code that may follow, and what its kind asks for, are a field
@@ -276,7 +276,7 @@ field_remains : (object : Bool) (c : ℕ) (role : Role) (d number : ℕ) (kind :
     → is_object_code c ≡ object → IsTrue (may_follow seen c)
     → Remains (field_name_goal d ∷ type_goals object d
     (fields_goal role d number kind flags (seen || is_object_code c) (c ∷ codes) n ∷ gs)) m fs
-    → RemainsFields role d number kind flags seen codes (suc n) m (Remains gs) (at (type_code_at seen) d m (code_field c) ∷ fs)
+    → RemainsFields role d number kind flags seen codes (suc n) m (Remains gs) (at (type_code_at seen) d m (code_token c) ∷ fs)
 field_remains true c role d number kind flags seen codes n m gs fs o a (u, r, b, e, (t, r2, wt, e2, (xs, r', el, wx, e', h))) =
     (record { code = c; name = u; text = Some t } ∷ xs, r', ap (λ n. suc n) el, (b, (o, wt), wx), rw (e, e2, e') refl, h)
 field_remains false c role d number kind flags seen codes n m gs fs o a (u, r, b, e, (xs, r', el, wx, e', h)) =
@@ -301,35 +301,35 @@ field_remains false c role d number kind flags seen codes n m gs fs o a (u, r, b
     unseen true h = untrue h
     unseen false h = refl
 
-back_fields : (n : ℕ) (f : StreamField) (role : Role) (d number : ℕ) (kind : NameKind) (flags : ℕ) (seen : Bool)
+back_fields : (n : ℕ) (f : StreamToken) (role : Role) (d number : ℕ) (kind : NameKind) (flags : ℕ) (seen : Bool)
     (codes : List ℕ) (m : Moment) (gs : List Goal) (fs : List Piece)
     → AcceptsAt (position_of (fields_goal role d number kind flags seen codes n)) m f
     → RemainsOf (advance_at m (fields_goal role d number kind flags seen codes n) gs f) fs
     → RemainsFields role d number kind flags seen codes n m (Remains gs)
     (at (position_of (fields_goal role d number kind flags seen codes n)) d m f ∷ fs)
-back_fields (suc n) (code_field c) role d number kind flags seen codes m gs fs a h =
+back_fields (suc n) (code_token c) role d number kind flags seen codes m gs fs a h =
     field_remains (is_object_code c) c role d number kind flags seen codes n m gs fs refl a h
 back_fields zero f role d number kind flags seen codes m gs fs a h = absurd a
 back_fields (suc n) _ role d number kind flags seen codes m gs fs a h = absurd a
 
-back_interface_count : (f : StreamField) (role : Role) (d number : ℕ) (m : Moment) (gs : List Goal) (fs : List Piece)
+back_interface_count : (f : StreamToken) (role : Role) (d number : ℕ) (m : Moment) (gs : List Goal) (fs : List Piece)
     → AcceptsAt interface_count_at m f
     → RemainsOf (advance_at m (interface_count_goal role d number) gs f) fs
     → RemainsInterfaceCount role d number m (Remains gs) (at interface_count_at d m f ∷ fs)
-back_interface_count (interface_count_field n) role d number m gs fs a h = (n, fs, a, refl, h)
+back_interface_count (interface_count_token n) role d number m gs fs a h = (n, fs, a, refl, h)
 back_interface_count _ role d number m gs fs a h = absurd a
 
-back_interfaces : (n : ℕ) (f : StreamField) (role : Role) (d number : ℕ) (m : Moment) (gs : List Goal) (fs : List Piece)
+back_interfaces : (n : ℕ) (f : StreamToken) (role : Role) (d number : ℕ) (m : Moment) (gs : List Goal) (fs : List Piece)
     → AcceptsAt (position_of (interfaces_goal role d number n)) m f
     → RemainsOf (advance_at m (interfaces_goal role d number n) gs f) fs
     → RemainsInterfaces role d number n m (Remains gs) (at (position_of (interfaces_goal role d number n)) d m f ∷ fs)
-back_interfaces (suc n) (text_field false u) role d number m gs fs a (names, r, el, w, e, h) =
-    (u ∷ names, r, ap (λ n. suc n) el, (a, w), ap (λ y. at interface_name_at d m (text_field false u) ∷ y) e, h)
+back_interfaces (suc n) (text_token false u) role d number m gs fs a (names, r, el, w, e, h) =
+    (u ∷ names, r, ap (λ n. suc n) el, (a, w), ap (λ y. at interface_name_at d m (text_token false u) ∷ y) e, h)
 back_interfaces zero f role d number m gs fs a h = absurd a
 back_interfaces (suc n) _ role d number m gs fs a h = absurd a
 
 -- any goal
-back_at : (g : Goal) (f : StreamField) (m : Moment) (gs : List Goal) (fs : List Piece)
+back_at : (g : Goal) (f : StreamToken) (m : Moment) (gs : List Goal) (fs : List Piece)
     → Accepts (label_of (m, g ∷ gs)) f → RemainsOf (advance_at m g gs f) fs
     → RemainsAt g m (Remains gs) (piece (label_of (m, g ∷ gs)) f ∷ fs)
 back_at header_goal f m gs fs a h = back_header f m gs fs a h
@@ -360,7 +360,7 @@ back_at (fields_goal role d number kind flags seen codes n) f m gs fs a h =
 back_at (interface_count_goal role d number) f m gs fs a h = back_interface_count f role d number m gs fs a h
 back_at (interfaces_goal role d number n) f m gs fs a h = back_interfaces n f role d number m gs fs a h
 
-back_one : (s : State) (f : StreamField) (fs : List Piece) → Accepts (label_of s) f → RemainsOf (advance s f) fs
+back_one : (s : State) (f : StreamToken) (fs : List Piece) → Accepts (label_of s) f → RemainsOf (advance s f) fs
     → RemainsOf s (piece (label_of s) f ∷ fs)
 back_one (m, []) f fs a h = absurd a
 back_one (m, g ∷ gs) f fs a h = back_at g f m gs fs a h

@@ -1,6 +1,6 @@
 -- What the machine asks next is exactly what may come next.
 use Rattle.std.proofs.Common.{◌≡◌, List, [], ◌∷◌, ◌++◌, refl, sym, ◌∙◌, ap, append_assoc, append-nil, ◌⊎◌, inl, inr}
-use Rattle.jser_reading.proofs.Vocabulary.{reference_tag, StreamField, tag_field, Label, Piece, piece, State, settled, label_of, Accepts, advance, begin_state, Runs, left}
+use Rattle.jser_reading.proofs.Vocabulary.{reference_tag, StreamToken, tag_token, Label, Piece, piece, State, settled, label_of, Accepts, advance, begin_state, Runs, left}
 use Rattle.jser_reading.specs.ComesNext.{BeginsSome, handle_label, ComesNext}
 use Rattle.jser_reading.specs.Laws.{NextIsTold}
 use Rattle.jser_reading.proofs.Exact.{exact_law}
@@ -10,12 +10,12 @@ use Rattle.jser_reading.proofs.Fronts.{Waits, open_settle, settled_waits, moved_
 -- where the machine stands: it can go on to a whole list, or before the last tag it could
 abbrev Sound : List Piece → State → Type 0
 Sound front s = Open s.1
-    ⊎ ((before : List Piece) × (l : Label) × (front ≡ before ++ (piece l (tag_field reference_tag) ∷ []))
+    ⊎ ((before : List Piece) × (l : Label) × (front ≡ before ++ (piece l (tag_token reference_tag) ∷ []))
     × Runs begin_state before
-    × (l ≡ label_of (settled (left begin_state before))) × Accepts l (tag_field reference_tag) × Open (left begin_state before).1
+    × (l ≡ label_of (settled (left begin_state before))) × Accepts l (tag_token reference_tag) × Open (left begin_state before).1
     × Waits s.1 × (label_of s ≡ handle_label l))
 
-from_open : (f : StreamField) (front : List Piece) (t : State) → Open t.1 → Accepts (label_of t) f
+from_open : (f : StreamToken) (front : List Piece) (t : State) → Open t.1 → Accepts (label_of t) f
     → Runs begin_state front → (label_of t ≡ label_of (settled (left begin_state front))) → Open (left begin_state front).1
     → Sound (front ++ (piece (label_of t) f ∷ [])) (advance t f)
 from_open f front t o a r e b =
@@ -24,7 +24,7 @@ from_open f front t o a r e b =
       | inr h ↦ inr (front, label_of t, rw h.0 refl, r, e, rw (← h.0) a, b, h.1, h.2)
     ]
 
-sound_step : (f : StreamField) (front : List Piece) → Runs begin_state front → Sound front (left begin_state front)
+sound_step : (f : StreamToken) (front : List Piece) → Runs begin_state front → Sound front (left begin_state front)
     → Accepts (label_of (settled (left begin_state front))) f
     → Sound (front ++ (piece (label_of (settled (left begin_state front))) f ∷ [])) (advance (settled (left begin_state front)) f)
 sound_step f front r (inl o) a =
@@ -68,9 +68,9 @@ next_told front l (inl b) = told front l b
 next_told front l (inr (before, l', b, a, ef, el)) =
     let x = told before l' b in
     let s : State = settled (left begin_state before) in
-    let a' : Accepts (label_of s) (tag_field reference_tag) = rw (← x.1) a in
-    let p : List Piece = piece l' (tag_field reference_tag) ∷ [] in
-    let e : left begin_state (before ++ p) ≡ advance s (tag_field reference_tag) = left-append before p begin_state in (
+    let a' : Accepts (label_of s) (tag_token reference_tag) = rw (← x.1) a in
+    let p : List Piece = piece l' (tag_token reference_tag) ∷ [] in
+    let e : left begin_state (before ++ p) ≡ advance s (tag_token reference_tag) = left-append before p begin_state in (
       rw ef (Runs-append before p begin_state x.0 (x.1, a', tt)),
       rw (ef, e) (el ∙ ap handle_label x.1 ∙ sym (handle_next_of s a')),
     )

@@ -1,7 +1,7 @@
--- What is observed along fields: the depth and the number of each place, the length of each array, the number of
--- each handle, each checked name. A gate lets fields through exactly where what is observed is within its limits.
+-- What is observed along tokens: the depth and the number of each place, the length of each array, the number of
+-- each handle, each checked name. A gate lets tokens through exactly where what is observed is within its limits.
 use Rattle.std.proofs.Common.{ℕ, suc, ◌≤◌, max, Bool, true, false, not, ◌&&◌, ◌||◌, List, [], ◌∷◌, ◌++◌, length, refl, arith, IsTrue, nat_lt}
-use Rattle.jser_reading.proofs.Vocabulary.{StreamField, array_length_field, text_field, Position, class_name_at, interface_name_at, Piece, piece}
+use Rattle.jser_reading.proofs.Vocabulary.{StreamToken, array_length_token, text_token, Position, class_name_at, interface_name_at, Piece, piece}
 use Rattle.std.proofs.Common.{nat_le, le-leb, leb-true}
 use Rattle.jser_reading.specs.Scanner.{AllPass}
 use Rattle.jser_reading.specs.GateLimits.{GateLimits, begins_place, assigns_handle, array_is_within, name_passes, gate_of, Each}
@@ -18,29 +18,29 @@ abbrev pub most_handles : List Piece → ℕ
 most_handles [] = 0
 most_handles (piece l f ∷ ps) = max (number_if (assigns_handle l.position f) (suc (length l.moment.table))) (most_handles ps)
 
--- what is gathered along fields: something for each array length, something for each checked name
+-- what is gathered along tokens: something for each array length, something for each checked name
 
 abbrev gathered_name : {X : Type 0} → (List (List ℕ) → List X) → Position → List ℕ → List X → List X
 gathered_name names (class_name_at role) units xs = names (units ∷ []) ++ xs
 gathered_name names interface_name_at units xs = names (units ∷ []) ++ xs
 gathered_name names _ units xs = xs
 
-abbrev gathered_by : {X : Type 0} → (ℕ → List X) → (List (List ℕ) → List X) → Position → StreamField → List X → List X
-gathered_by lengths names w (array_length_field n) xs = lengths n ++ xs
-gathered_by lengths names w (text_field long units) xs = gathered_name names w units xs
+abbrev gathered_by : {X : Type 0} → (ℕ → List X) → (List (List ℕ) → List X) → Position → StreamToken → List X → List X
+gathered_by lengths names w (array_length_token n) xs = lengths n ++ xs
+gathered_by lengths names w (text_token long units) xs = gathered_name names w units xs
 gathered_by lengths names w _ xs = xs
 
 abbrev pub gathered : {X : Type 0} → (ℕ → List X) → (List (List ℕ) → List X) → List Piece → List X
 gathered lengths names [] = []
 gathered lengths names (piece l f ∷ ps) = gathered_by lengths names l.position f (gathered lengths names ps)
 
-abbrev length_in : Position → StreamField → List ℕ → List ℕ
+abbrev length_in : Position → StreamToken → List ℕ → List ℕ
 length_in w f ns = gathered_by (λ n. n ∷ []) (λ names. []) w f ns
 
 abbrev pub lengths_in : List Piece → List ℕ
 lengths_in ps = gathered (λ n. n ∷ []) (λ names. []) ps
 
-abbrev name_in : Position → StreamField → List (List ℕ) → List (List ℕ)
+abbrev name_in : Position → StreamToken → List (List ℕ) → List (List ℕ)
 name_in w f ns = gathered_by (λ n. []) (λ names. names) w f ns
 
 abbrev pub names_in : List Piece → List (List ℕ)
@@ -68,35 +68,35 @@ one_from : (b : Bool) (x D : ℕ) → number_if b (suc x) ≤ D → IsTrue (not 
 one_from true x D h = le-leb (suc x) D h
 one_from false x D h = refl
 
-length_to : (w : Position) (f : StreamField) (A : ℕ) (ns : List ℕ) → IsTrue (array_is_within A f) → Each (λ n. n ≤ A) ns
+length_to : (w : Position) (f : StreamToken) (A : ℕ) (ns : List ℕ) → IsTrue (array_is_within A f) → Each (λ n. n ≤ A) ns
     → Each (λ n. n ≤ A) (length_in w f ns)
-length_to w (array_length_field n) A ns h k = (leb-true n A h, k)
-length_to (class_name_at role) (text_field long units) A ns h k = k
-length_to interface_name_at (text_field long units) A ns h k = k
+length_to w (array_length_token n) A ns h k = (leb-true n A h, k)
+length_to (class_name_at role) (text_token long units) A ns h k = k
+length_to interface_name_at (text_token long units) A ns h k = k
 length_to _ _ A ns h k = k
 
-length_from : (w : Position) (f : StreamField) (A : ℕ) (ns : List ℕ) → Each (λ n. n ≤ A) (length_in w f ns)
+length_from : (w : Position) (f : StreamToken) (A : ℕ) (ns : List ℕ) → Each (λ n. n ≤ A) (length_in w f ns)
     → IsTrue (array_is_within A f) × Each (λ n. n ≤ A) ns
-length_from w (array_length_field n) A ns h = (le-leb n A h.0, h.1)
-length_from (class_name_at role) (text_field long units) A ns h = (refl, h)
-length_from interface_name_at (text_field long units) A ns h = (refl, h)
+length_from w (array_length_token n) A ns h = (le-leb n A h.0, h.1)
+length_from (class_name_at role) (text_token long units) A ns h = (refl, h)
+length_from interface_name_at (text_token long units) A ns h = (refl, h)
 length_from _ _ A ns h = (refl, h)
 
-name_to : (w : Position) (f : StreamField) (passes : List ℕ → Bool) (ns : List (List ℕ)) → IsTrue (name_passes passes w f)
+name_to : (w : Position) (f : StreamToken) (passes : List ℕ → Bool) (ns : List (List ℕ)) → IsTrue (name_passes passes w f)
     → Each (λ n. IsTrue (passes n)) ns
     → Each (λ n. IsTrue (passes n)) (name_in w f ns)
-name_to w (array_length_field n) passes ns h k = k
-name_to (class_name_at role) (text_field long units) passes ns h k = (h, k)
-name_to interface_name_at (text_field long units) passes ns h k = (h, k)
+name_to w (array_length_token n) passes ns h k = k
+name_to (class_name_at role) (text_token long units) passes ns h k = (h, k)
+name_to interface_name_at (text_token long units) passes ns h k = (h, k)
 name_to _ _ passes ns h k = k
 
-name_from : (w : Position) (f : StreamField) (passes : List ℕ → Bool) (ns : List (List ℕ))
+name_from : (w : Position) (f : StreamToken) (passes : List ℕ → Bool) (ns : List (List ℕ))
     → Each (λ n. IsTrue (passes n)) (name_in w f ns)
     → IsTrue (name_passes passes w f) × Each (λ n. IsTrue (passes n)) ns
-name_from (class_name_at role) (text_field long units) passes ns h = h
-name_from interface_name_at (text_field long units) passes ns h = h
-name_from _ (array_length_field n) passes ns h = (refl, h)
-name_from _ (text_field long units) passes ns h = (refl, h)
+name_from (class_name_at role) (text_token long units) passes ns h = h
+name_from interface_name_at (text_token long units) passes ns h = h
+name_from _ (array_length_token n) passes ns h = (refl, h)
+name_from _ (text_token long units) passes ns h = (refl, h)
 name_from _ _ passes ns h = (refl, h)
 
 -- what is observed is within the limits

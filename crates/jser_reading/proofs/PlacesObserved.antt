@@ -1,6 +1,6 @@
--- The depth and the number of the places along the fields of a tree: the greatest ones are the counts of the tree.
+-- The depth and the number of the places along the tokens of a tree: the greatest ones are the counts of the tree.
 use Rattle.std.proofs.Common.{◌≡◌, ℕ, suc, ◌+◌, ◌≤◌, max, Bool, true, false, ◌||◌, if◌then◌else◌, List, [], ◌∷◌, refl, ◌∙◌, arith, Option, Some, None, MatchBool}
-use Rattle.jser_reading.proofs.Vocabulary.{has_write_method, other_entry, pending_entry, Layer, PrimCode, is_object_code, primitive_codes, TextPlaceTree, new_text, back_text, FieldTree, PrimTree, ValueTree, null, back, string, descriptor, class_object, array, enum_constant, object, DescTree, plain, proxy, ClassPlaceTree, no_class, back_class, new_class, BodyTree, raw_body, value_body, ValueTrees, no_values, value_and, section, SectionTrees, no_sections, section_and, NotesTree, no_notes, annotation, block, reset, content, ContentTrees, no_contents, content_and, chain_of_class, elements_of, is_external, WellFormedValue, WellFormedDesc, WellFormedClass, WellFormedSuperclass, WellFormedBody, WellFormedValues, WellFormedExternal, WellFormedSections, WellFormedNotesIf, WellFormedNotes, WellFormedContents, WellFormed, Owner, object_owner, array_owner, enum_owner, class_owner, ChainOwner, Role, own_class, superclass, owner_of, is_strict_above, Moment, beginning, tick, assign, emptied, places_value, places_desc, places_class, places_body, places_values, places_sections, places_notes, places_contents, past_type, past_fields, past_value, past_class, past_values, past_notes, past_contents, array_length_field, array_length_at, Piece, at, cut_text_place, cut_type, cut_fields, cut_interfaces, cut_bytes, cut_raw, cut_prims, cut_value, cut_desc, cut_class, cut_superclass, cut_body, cut_values, cut_external, cut_sections, cut_notes, cut_annotation, cut_top, fields_of}
+use Rattle.jser_reading.proofs.Vocabulary.{has_write_method, other_entry, pending_entry, Layer, PrimCode, is_object_code, primitive_codes, TextPlaceTree, new_text, back_text, FieldTree, PrimTree, ValueTree, null, back, string, descriptor, class_object, array, enum_constant, object, DescTree, plain, proxy, ClassPlaceTree, no_class, back_class, new_class, BodyTree, raw_body, value_body, ValueTrees, no_values, value_and, section, SectionTrees, no_sections, section_and, NotesTree, no_notes, annotation, block, reset, content, ContentTrees, no_contents, content_and, chain_of_class, elements_of, is_external, WellFormedValue, WellFormedDesc, WellFormedClass, WellFormedSuperclass, WellFormedBody, WellFormedValues, WellFormedExternal, WellFormedSections, WellFormedNotesIf, WellFormedNotes, WellFormedContents, WellFormed, Owner, object_owner, array_owner, enum_owner, class_owner, ChainOwner, Role, own_class, superclass, owner_of, is_strict_above, Moment, beginning, tick, assign, emptied, places_value, places_desc, places_class, places_body, places_values, places_sections, places_notes, places_contents, past_type, past_fields, past_value, past_class, past_values, past_notes, past_contents, array_length_token, array_length_at, Piece, at, cut_text_place, cut_type, cut_fields, cut_interfaces, cut_bytes, cut_raw, cut_prims, cut_value, cut_desc, cut_class, cut_superclass, cut_body, cut_values, cut_external, cut_sections, cut_notes, cut_annotation, cut_top, tokens_of}
 use Rattle.jser_grammar.specs.Counts.{array_length, refs_in_value, refs_in_desc, refs_in_class, refs_in_body, refs_in_values, refs_in_sections, refs_in_notes, refs_in_contents, depth_of_value, depth_in_desc, depth_in_class, depth_in_body, depth_in_values, depth_in_sections, depth_in_notes, depth_in_contents, refs_of, depth_of}
 use Rattle.jser_reading.proofs.Observed.{most_places}
 use Rattle.jser_reading.specs.Totals.{deepest}
@@ -58,7 +58,7 @@ mutual
   counted_contents (content_and reset cs) k = counted_contents cs k
   counted_contents (content_and (content v) cs) k = omega (arith, counted_value v k, counted_contents cs (places_value k v))
 
--- fields that begin no place show nothing
+-- tokens that begin no place show nothing
 
 abbrev Shows : List Piece → List Piece → Type 0
 Shows ps rest = (deepest ps ≡ deepest rest) × (most_places ps ≡ most_places rest)
@@ -124,7 +124,7 @@ mutual
       let made = assign (past_class (tick m) c) other_entry in
       let elements = elements_of (chain_of_class m.table c) in
       let q =
-      adds_class c array_owner (suc d) (tick m) (at array_length_at (suc d) made (array_length_field (array_length b))
+      adds_class c array_owner (suc d) (tick m) (at array_length_at (suc d) made (array_length_token (array_length b))
       ∷ cut_body (suc d) made elements b rest) h.0 in
       let r = adds_body b elements (suc d) made rest h.2 in
       (omega arith, omega (arith, counted_class c (suc m.places)))
@@ -261,8 +261,8 @@ adds_top (content_and (content v) cs) m h =
     let r = adds_top cs (past_value m v) h.1 in
     (omega arith, omega (arith, counted_value v m.places, counted_contents cs (places_value m.places v)))
 
-pub depth_observed : (list : ContentTrees) → WellFormed list → deepest (fields_of list) ≡ depth_of list
+pub depth_observed : (list : ContentTrees) → WellFormed list → deepest (tokens_of list) ≡ depth_of list
 depth_observed list h = let r = adds_top list beginning h in omega arith
 
-pub places_observed : (list : ContentTrees) → WellFormed list → most_places (fields_of list) ≡ refs_of list
+pub places_observed : (list : ContentTrees) → WellFormed list → most_places (tokens_of list) ≡ refs_of list
 places_observed list h = let r = adds_top list beginning h in omega (arith, counted_contents list 0)

@@ -1,33 +1,33 @@
--- A plain verdict: wait for as many bytes as the field needs, find the field in them, and compare its bytes. It
+-- A plain verdict: wait for as many bytes as the token needs, find the token in them, and compare its bytes. It
 -- tells no early fault and knows one reason, but it meets the premise of the byte laws, for every gate.
 use Rattle.std.proofs.Common.{◌≡◌, ℕ, zero, suc, ◌+◌, ◌-◌, ◌*◌, ◌<◌, ◌≤◌, Bool, true, false, cond, List, [], ◌∷◌, ◌++◌, length, refl, sym, ◌∙◌, ap, subst, arith, Option, Some, None, IsTrue, IsFalse, nat_lt, append-nil, true≢false}
-use Rattle.jser_reading.proofs.Vocabulary.{big_bytes, modified_utf8, IsUnits, byte_code, char_code, double_code, float_code, int_code, long_code, short_code, boolean_code, size_of, IsText, IsHandle, Moment, StreamField, header_field, tag_field, block_tag_field, end_tag_field, reset_tag_field, handle_field, suid_field, flags_field, field_count_field, interface_count_field, array_length_field, code_field, text_field, block_length_field, prims_field, bytes_field, Position, header_at, top_at, annotation_at, value_at, text_place_at, class_place_at, superclass_place_at, back_handle_at, text_handle_at, class_handle_at, superclass_handle_at, string_at, class_name_at, field_name_at, interface_name_at, suid_at, field_count_at, interface_count_at, array_length_at, flags_at, type_code_at, block_length_at, raw_at, bytes_at, Label, AcceptsAt, Accepts}
+use Rattle.jser_reading.proofs.Vocabulary.{big_bytes, modified_utf8, IsUnits, byte_code, char_code, double_code, float_code, int_code, long_code, short_code, boolean_code, size_of, IsText, IsHandle, Moment, StreamToken, header_token, tag_token, block_tag_token, end_tag_token, reset_tag_token, handle_token, suid_token, flags_token, field_count_token, interface_count_token, array_length_token, code_token, text_token, block_length_token, prims_token, bytes_token, Position, header_at, top_at, annotation_at, value_at, text_place_at, class_place_at, superclass_place_at, back_handle_at, text_handle_at, class_handle_at, superclass_handle_at, string_at, class_name_at, field_name_at, interface_name_at, suid_at, field_count_at, interface_count_at, array_length_at, flags_at, type_code_at, block_length_at, raw_at, bytes_at, Label, AcceptsAt, Accepts}
 use Rattle.std.proofs.Common.{take, drop, length-append, leb-true, le-leb, ltb-false}
 use Rattle.std.proofs.lemmas.List.{take_at, drop_at, take-append-le}
 use Rattle.jser_grammar.specs.Spelling.{utf, long_utf, prims_spelling}
-use Rattle.jser_reading.specs.FieldBytes.{bytes_of}
-use Rattle.jser_reading.specs.Scanner.{Verdict, more, good, bad, FieldGate, IsUndecided, IsScanner}
+use Rattle.jser_reading.specs.TokenBytes.{bytes_of}
+use Rattle.jser_reading.specs.Scanner.{Verdict, more, good, bad, TokenGate, IsUndecided, IsScanner}
 use Rattle.jser_reading.specs.WalkLaws.{EachGateHasAVerdict}
 use Rattle.jser_reading.proofs.Deciding.{decide_at, decide_bytes}
 use Rattle.jser_reading.proofs.Decoding.{number_1, number_2, number_4, number_8, length-big_bytes, not_lt, units_back, tag_back, block_tag_back, end_tag_back, reset_tag_back, prims_back, length-prims_spelling}
-use Rattle.jser_reading.specs.FieldsFromBytes.{number_of, units_in, prims_in, text_in, field_in, text_size, size_in}
+use Rattle.jser_reading.specs.TokensFromBytes.{number_of, units_in, prims_in, text_in, token_in, text_size, size_in}
 
-abbrev pub judge : {A B : Type 0} → StreamField → Dec A → Bool → Dec B → Verdict
+abbrev pub judge : {A B : Type 0} → StreamToken → Dec A → Bool → Dec B → Verdict
 judge f (yes a) true (yes e) = good f
 judge f (yes a) true (no h) = bad 0
 judge f (yes a) false e = bad 0
 judge f (no h) g e = bad 0
 
-abbrev pub judged : FieldGate → Label → Option StreamField → List ℕ → Verdict
+abbrev pub judged : TokenGate → Label → Option StreamToken → List ℕ → Verdict
 judged gate l None p = bad 0
 judged gate l (Some f) p = judge f (decide_at l.position l.moment f) (gate l f) (decide_bytes p (bytes_of f))
 
-abbrev pub plain_verdict : FieldGate → Label → List ℕ → Verdict
-plain_verdict gate l p = cond (nat_lt (length p) (size_in l.position p)) more (judged gate l (field_in l.position p) p)
+abbrev pub plain_verdict : TokenGate → Label → List ℕ → Verdict
+plain_verdict gate l p = cond (nat_lt (length p) (size_in l.position p)) more (judged gate l (token_in l.position p) p)
 
--- what the verdict needs of a field at a position
-pub record Whole (w : Position) (f : StreamField) : Type 0 where
-  pub found : field_in w (bytes_of f) ≡ Some f
+-- what the verdict needs of a token at a position
+pub record Whole (w : Position) (f : StreamToken) : Type 0 where
+  pub found : token_in w (bytes_of f) ≡ Some f
   pub enough : size_in w (bytes_of f) ≤ length (bytes_of f)
   pub fronts : (a : List ℕ) (c : ℕ) (b : List ℕ) → bytes_of f ≡ a ++ (c ∷ b) → length a < size_in w a
 
@@ -79,24 +79,24 @@ text_parts k u us nh =
           (modified_utf8 u) a c b lh nh refl e,
     )
 
-text_whole : (w : Position) (long : Bool) (u : List ℕ) → IsText long u → ((p : List ℕ) → field_in w p ≡ text_in long p)
-    → ((p : List ℕ) → size_in w p ≡ text_size long p) → Whole w (text_field long u)
+text_whole : (w : Position) (long : Bool) (u : List ℕ) → IsText long u → ((p : List ℕ) → token_in w p ≡ text_in long p)
+    → ((p : List ℕ) → size_in w p ≡ text_size long p) → Whole w (text_token long u)
 text_whole w true u h d n =
     let x = text_parts 8 u h.0 (number_8 (length (modified_utf8 u)) (omega arith)) in
     record {
-      found = d (long_utf u) ∙ ap (λ z. Some (text_field true z)) x.0;
+      found = d (long_utf u) ∙ ap (λ z. Some (text_token true z)) x.0;
       enough = rw (n (long_utf u)) x.1;
       fronts = λ a c b e. rw (n a) (x.2 a c b e);
     }
 text_whole w false u h d n =
     let x = text_parts 2 u h.0 (number_2 (length (modified_utf8 u)) h.1) in
     record {
-      found = d (utf u) ∙ ap (λ z. Some (text_field false z)) x.0;
+      found = d (utf u) ∙ ap (λ z. Some (text_token false z)) x.0;
       enough = rw (n (utf u)) x.1;
       fronts = λ a c b e. rw (n a) (x.2 a c b e);
     }
 
-fixed : (w : Position) (f : StreamField) (k : ℕ) → field_in w (bytes_of f) ≡ Some f → length (bytes_of f) ≡ k
+fixed : (w : Position) (f : StreamToken) (k : ℕ) → token_in w (bytes_of f) ≡ Some f → length (bytes_of f) ≡ k
     → ((p : List ℕ) → size_in w p ≡ k) → Whole w f
 fixed w f k d l n = record {
   found = d;
@@ -105,68 +105,68 @@ fixed w f k d l n = record {
 }
 
 handle_whole : (w : Position) (n : ℕ) → IsHandle n
-    → ((p : List ℕ) → field_in w p ≡ Some (handle_field (number_of p - 0x7E0000))) → ((p : List ℕ) → size_in w p ≡ 4)
-    → Whole w (handle_field n)
+    → ((p : List ℕ) → token_in w p ≡ Some (handle_token (number_of p - 0x7E0000))) → ((p : List ℕ) → size_in w p ≡ 4)
+    → Whole w (handle_token n)
 handle_whole w n h d k =
     let e : number_of (big_bytes 4 (0x7E0000 + n)) ≡ 0x7E0000 + n = number_4 (0x7E0000 + n) h in
     let z : number_of (big_bytes 4 (0x7E0000 + n)) - 0x7E0000 ≡ n = omega arith in
-    fixed w (handle_field n) 4 (d (big_bytes 4 (0x7E0000 + n)) ∙ ap (λ k. Some (handle_field k)) z)
+    fixed w (handle_token n) 4 (d (big_bytes 4 (0x7E0000 + n)) ∙ ap (λ k. Some (handle_token k)) z)
     (length-big_bytes 4 (0x7E0000 + n)) k
 
-length-block_tag : (long : Bool) → length (bytes_of (block_tag_field long)) ≡ 1
+length-block_tag : (long : Bool) → length (bytes_of (block_tag_token long)) ≡ 1
 length-block_tag true = refl
 length-block_tag false = refl
 
-pub whole : (w : Position) (m : Moment) (f : StreamField) → AcceptsAt w m f → Whole w f
-whole header_at m header_field a = fixed header_at header_field 4 refl refl (λ p. refl)
-whole top_at m (tag_field t) a = fixed top_at (tag_field t) 1 (tag_back t) refl (λ p. refl)
-whole top_at m (block_tag_field long) a =
-    fixed top_at (block_tag_field long) 1 (block_tag_back long) (length-block_tag long) (λ p. refl)
-whole top_at m reset_tag_field a = fixed top_at reset_tag_field 1 reset_tag_back refl (λ p. refl)
-whole annotation_at m (tag_field t) a = fixed annotation_at (tag_field t) 1 (tag_back t) refl (λ p. refl)
-whole annotation_at m (block_tag_field long) a =
-    fixed annotation_at (block_tag_field long) 1 (block_tag_back long) (length-block_tag long) (λ p. refl)
-whole annotation_at m end_tag_field a = fixed annotation_at end_tag_field 1 end_tag_back refl (λ p. refl)
-whole value_at m (tag_field t) a = fixed value_at (tag_field t) 1 (tag_back t) refl (λ p. refl)
-whole text_place_at m (tag_field t) a = fixed text_place_at (tag_field t) 1 (tag_back t) refl (λ p. refl)
-whole (class_place_at owner) m (tag_field t) a = fixed (class_place_at owner) (tag_field t) 1 (tag_back t) refl (λ p. refl)
-whole (superclass_place_at owner strict) m (tag_field t) a =
-    fixed (superclass_place_at owner strict) (tag_field t) 1 (tag_back t) refl (λ p. refl)
-whole back_handle_at m (handle_field n) a = handle_whole back_handle_at n a.1 (λ p. refl) (λ p. refl)
-whole text_handle_at m (handle_field n) a = handle_whole text_handle_at n a.1 (λ p. refl) (λ p. refl)
-whole (class_handle_at owner) m (handle_field n) a = handle_whole (class_handle_at owner) n a.0.1 (λ p. refl) (λ p. refl)
-whole (superclass_handle_at owner strict) m (handle_field n) a =
+pub whole : (w : Position) (m : Moment) (f : StreamToken) → AcceptsAt w m f → Whole w f
+whole header_at m header_token a = fixed header_at header_token 4 refl refl (λ p. refl)
+whole top_at m (tag_token t) a = fixed top_at (tag_token t) 1 (tag_back t) refl (λ p. refl)
+whole top_at m (block_tag_token long) a =
+    fixed top_at (block_tag_token long) 1 (block_tag_back long) (length-block_tag long) (λ p. refl)
+whole top_at m reset_tag_token a = fixed top_at reset_tag_token 1 reset_tag_back refl (λ p. refl)
+whole annotation_at m (tag_token t) a = fixed annotation_at (tag_token t) 1 (tag_back t) refl (λ p. refl)
+whole annotation_at m (block_tag_token long) a =
+    fixed annotation_at (block_tag_token long) 1 (block_tag_back long) (length-block_tag long) (λ p. refl)
+whole annotation_at m end_tag_token a = fixed annotation_at end_tag_token 1 end_tag_back refl (λ p. refl)
+whole value_at m (tag_token t) a = fixed value_at (tag_token t) 1 (tag_back t) refl (λ p. refl)
+whole text_place_at m (tag_token t) a = fixed text_place_at (tag_token t) 1 (tag_back t) refl (λ p. refl)
+whole (class_place_at owner) m (tag_token t) a = fixed (class_place_at owner) (tag_token t) 1 (tag_back t) refl (λ p. refl)
+whole (superclass_place_at owner strict) m (tag_token t) a =
+    fixed (superclass_place_at owner strict) (tag_token t) 1 (tag_back t) refl (λ p. refl)
+whole back_handle_at m (handle_token n) a = handle_whole back_handle_at n a.1 (λ p. refl) (λ p. refl)
+whole text_handle_at m (handle_token n) a = handle_whole text_handle_at n a.1 (λ p. refl) (λ p. refl)
+whole (class_handle_at owner) m (handle_token n) a = handle_whole (class_handle_at owner) n a.0.1 (λ p. refl) (λ p. refl)
+whole (superclass_handle_at owner strict) m (handle_token n) a =
     handle_whole (superclass_handle_at owner strict) n a.0.1 (λ p. refl) (λ p. refl)
-whole (string_at true) m (text_field true u) a = text_whole (string_at true) true u a (λ p. refl) (λ p. refl)
-whole (string_at false) m (text_field false u) a = text_whole (string_at false) false u a (λ p. refl) (λ p. refl)
-whole (class_name_at role) m (text_field false u) a = text_whole (class_name_at role) false u a.0.0 (λ p. refl) (λ p. refl)
-whole field_name_at m (text_field false u) a = text_whole field_name_at false u a (λ p. refl) (λ p. refl)
-whole interface_name_at m (text_field false u) a = text_whole interface_name_at false u a.0 (λ p. refl) (λ p. refl)
-whole suid_at m (suid_field n) a =
-    fixed suid_at (suid_field n) 8 (ap (λ k. Some (suid_field k)) (number_8 n a)) (length-big_bytes 8 n) (λ p. refl)
-whole (flags_at role) m (flags_field n) a = fixed (flags_at role) (flags_field n) 1 refl refl (λ p. refl)
-whole field_count_at m (field_count_field n) a =
-    fixed field_count_at (field_count_field n) 2 (ap (λ k. Some (field_count_field k)) (number_2 n (omega arith)))
+whole (string_at true) m (text_token true u) a = text_whole (string_at true) true u a (λ p. refl) (λ p. refl)
+whole (string_at false) m (text_token false u) a = text_whole (string_at false) false u a (λ p. refl) (λ p. refl)
+whole (class_name_at role) m (text_token false u) a = text_whole (class_name_at role) false u a.0.0 (λ p. refl) (λ p. refl)
+whole field_name_at m (text_token false u) a = text_whole field_name_at false u a (λ p. refl) (λ p. refl)
+whole interface_name_at m (text_token false u) a = text_whole interface_name_at false u a.0 (λ p. refl) (λ p. refl)
+whole suid_at m (suid_token n) a =
+    fixed suid_at (suid_token n) 8 (ap (λ k. Some (suid_token k)) (number_8 n a)) (length-big_bytes 8 n) (λ p. refl)
+whole (flags_at role) m (flags_token n) a = fixed (flags_at role) (flags_token n) 1 refl refl (λ p. refl)
+whole field_count_at m (field_count_token n) a =
+    fixed field_count_at (field_count_token n) 2 (ap (λ k. Some (field_count_token k)) (number_2 n (omega arith)))
     (length-big_bytes 2 n) (λ p. refl)
-whole interface_count_at m (interface_count_field n) a =
-    fixed interface_count_at (interface_count_field n) 4 (ap (λ k. Some (interface_count_field k)) (number_4 n (omega arith)))
+whole interface_count_at m (interface_count_token n) a =
+    fixed interface_count_at (interface_count_token n) 4 (ap (λ k. Some (interface_count_token k)) (number_4 n (omega arith)))
     (length-big_bytes 4 n) (λ p. refl)
-whole array_length_at m (array_length_field n) a =
-    fixed array_length_at (array_length_field n) 4 (ap (λ k. Some (array_length_field k)) (number_4 n (omega arith)))
+whole array_length_at m (array_length_token n) a =
+    fixed array_length_at (array_length_token n) 4 (ap (λ k. Some (array_length_token k)) (number_4 n (omega arith)))
     (length-big_bytes 4 n) (λ p. refl)
-whole (type_code_at seen) m (code_field n) a = fixed (type_code_at seen) (code_field n) 1 refl refl (λ p. refl)
-whole (block_length_at true) m (block_length_field true n) a =
-    fixed (block_length_at true) (block_length_field true n) 4
-    (ap (λ k. Some (block_length_field true k)) (number_4 n (omega arith))) (length-big_bytes 4 n) (λ p. refl)
-whole (block_length_at false) m (block_length_field false n) a =
-    fixed (block_length_at false) (block_length_field false n) 1
-    (ap (λ k. Some (block_length_field false k)) (number_1 n (omega arith))) (length-big_bytes 1 n) (λ p. refl)
-whole (raw_at c (suc n)) m (prims_field ps) a =
-    fixed (raw_at c (suc n)) (prims_field ps) (suc n * size_of c)
-    (ap (λ k. Some (prims_field (prims_in c k (prims_spelling ps)))) (sym a.0) ∙ ap (λ q. Some (prims_field q))
+whole (type_code_at seen) m (code_token n) a = fixed (type_code_at seen) (code_token n) 1 refl refl (λ p. refl)
+whole (block_length_at true) m (block_length_token true n) a =
+    fixed (block_length_at true) (block_length_token true n) 4
+    (ap (λ k. Some (block_length_token true k)) (number_4 n (omega arith))) (length-big_bytes 4 n) (λ p. refl)
+whole (block_length_at false) m (block_length_token false n) a =
+    fixed (block_length_at false) (block_length_token false n) 1
+    (ap (λ k. Some (block_length_token false k)) (number_1 n (omega arith))) (length-big_bytes 1 n) (λ p. refl)
+whole (raw_at c (suc n)) m (prims_token ps) a =
+    fixed (raw_at c (suc n)) (prims_token ps) (suc n * size_of c)
+    (ap (λ k. Some (prims_token (prims_in c k (prims_spelling ps)))) (sym a.0) ∙ ap (λ q. Some (prims_token q))
     (prims_back c ps a.1))
     (length-prims_spelling c ps a.1 ∙ ap (λ k. k * size_of c) a.0) (λ p. refl)
-whole (bytes_at (suc n)) m (bytes_field b) a = fixed (bytes_at (suc n)) (bytes_field b) (suc n) refl a.1 (λ p. refl)
+whole (bytes_at (suc n)) m (bytes_token b) a = fixed (bytes_at (suc n)) (bytes_token b) (suc n) refl a.1 (λ p. refl)
 whole (string_at true) m _ a = absurd a
 whole (string_at false) m _ a = absurd a
 whole (block_length_at true) m _ a = absurd a
@@ -195,39 +195,39 @@ some_size (bytes_at zero) = omega arith
 some_size (bytes_at (suc n)) = omega arith
 some_size _ = omega arith
 
-judge_good : {A B : Type 0} (f g : StreamField) (x : Dec A) (b : Bool) (y : Dec B) → judge f x b y ≡ good g → (f ≡ g) × A
+judge_good : {A B : Type 0} (f g : StreamToken) (x : Dec A) (b : Bool) (y : Dec B) → judge f x b y ≡ good g → (f ≡ g) × A
     × IsTrue b × B
 judge_good f g (yes a) true (yes e) h = (cc, a, refl, e)
 judge_good f g (yes a) true (no k) h = absurd (cc)
 judge_good f g (yes a) false e h = absurd (cc)
 judge_good f g (no k) b e h = absurd (cc)
 
-judge_yes : {A B : Type 0} (f : StreamField) (x : Dec A) (b : Bool) (y : Dec B) → A → IsTrue b → B → judge f x b y ≡ good f
+judge_yes : {A B : Type 0} (f : StreamToken) (x : Dec A) (b : Bool) (y : Dec B) → A → IsTrue b → B → judge f x b y ≡ good f
 judge_yes f (yes a) true (yes e) p q r = refl
 judge_yes f (yes a) true (no k) p q r = absurd (k r)
 judge_yes f (yes a) false e p q r = absurd (true≢false (sym q))
 judge_yes f (no k) b e p q r = absurd (k p)
 
-judge_stop : {A B : Type 0} (f : StreamField) (x : Dec A) (b : Bool) (y : Dec B) → IsFalse b → judge f x b y ≡ bad 0
+judge_stop : {A B : Type 0} (f : StreamToken) (x : Dec A) (b : Bool) (y : Dec B) → IsFalse b → judge f x b y ≡ bad 0
 judge_stop f (yes a) true e q = absurd (true≢false q)
 judge_stop f (yes a) false e q = refl
 judge_stop f (no k) b e q = refl
 
-module _ (gate : FieldGate) where
-  at_end : (l : Label) (f : StreamField) → Accepts l f → plain_verdict gate l (bytes_of f) ≡ judged gate l (Some f) (bytes_of f)
+module _ (gate : TokenGate) where
+  at_end : (l : Label) (f : StreamToken) → Accepts l f → plain_verdict gate l (bytes_of f) ≡ judged gate l (Some f) (bytes_of f)
   at_end l f h =
       let w = whole l.position l.moment f h in
-      ap (λ b. cond b more (judged gate l (field_in l.position (bytes_of f)) (bytes_of f)))
+      ap (λ b. cond b more (judged gate l (token_in l.position (bytes_of f)) (bytes_of f)))
       (not_lt (length (bytes_of f)) (size_in l.position (bytes_of f)) w.enough)
       ∙ ap (λ o. judged gate l o (bytes_of f)) w.found
 
-  pub in_front : (l : Label) (f : StreamField) → Accepts l f → IsUndecided (plain_verdict gate) l (bytes_of f)
+  pub in_front : (l : Label) (f : StreamToken) → Accepts l f → IsUndecided (plain_verdict gate) l (bytes_of f)
   in_front l f h a c b e =
       let w = whole l.position l.moment f h in
-      ap (λ x. cond x more (judged gate l (field_in l.position a) a))
+      ap (λ x. cond x more (judged gate l (token_in l.position a) a))
       (le-leb (suc (length a)) (size_in l.position a) (w.fronts a c b e))
 
-  good_judged : (l : Label) (o : Option StreamField) (p : List ℕ) (f : StreamField) → judged gate l o p ≡ good f
+  good_judged : (l : Label) (o : Option StreamToken) (p : List ℕ) (f : StreamToken) → judged gate l o p ≡ good f
       → (p ≡ bytes_of f) × Accepts l f × IsTrue (gate l f)
   good_judged l None p f e = absurd (cc)
   good_judged l (Some g) p f e =
@@ -237,7 +237,7 @@ module _ (gate : FieldGate) where
   pub scanner : IsScanner gate (plain_verdict gate)
   scanner = record {
     nothing_yet =
-        λ l. ap (λ b. cond b more (judged gate l (field_in l.position []) []))
+        λ l. ap (λ b. cond b more (judged gate l (token_in l.position []) []))
         (le-leb 1 (size_in l.position []) (some_size l.position));
     good_is = λ l p f e. good_one l p f e;
     is_good =
@@ -254,14 +254,14 @@ module _ (gate : FieldGate) where
     );
   }
     where
-      good_one : (l : Label) (p : List ℕ) (f : StreamField) → plain_verdict gate l p ≡ good f → (p ≡ bytes_of f) × Accepts l f
+      good_one : (l : Label) (p : List ℕ) (f : StreamToken) → plain_verdict gate l p ≡ good f → (p ≡ bytes_of f) × Accepts l f
           × IsTrue (gate l f)
       good_one l p f e = go (nat_lt (length p) (size_in l.position p)) e
         where
-          go : (x : Bool) → cond x more (judged gate l (field_in l.position p) p) ≡ good f → (p ≡ bytes_of f) × Accepts l f
+          go : (x : Bool) → cond x more (judged gate l (token_in l.position p) p) ≡ good f → (p ≡ bytes_of f) × Accepts l f
               × IsTrue (gate l f)
           go true e = absurd (cc)
-          go false e = good_judged l (field_in l.position p) p f e
+          go false e = good_judged l (token_in l.position p) p f e
 
 pub each_gate_law : EachGateHasAVerdict
 each_gate_law gate = (plain_verdict gate, scanner gate)

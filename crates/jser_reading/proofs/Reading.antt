@@ -1,13 +1,13 @@
--- One reading, for a verdict and its gate: bytes are cut into fields in one way, and fields are those of one tree.
+-- One reading, for a verdict and its gate: bytes are cut into tokens in one way, and tokens are those of one tree.
 use Rattle.std.proofs.Common.{Bool, true, false, ap, ◌≡◌, ℕ, List, [], ◌∷◌, ◌++◌, refl, sym, ◌∙◌, ap₂, IsTrue, append_assoc, append-nil, ◌⊎◌, inl, inr}
-use Rattle.jser_reading.proofs.Vocabulary.{Runs, ValueTree, ContentTrees, WellFormedValue, WellFormed, Moment, StreamField, tag_field, value_at, Label, Piece, piece, at, tag_of, cut_value, fields_of, value_part, top_goal, parts_goal, State, settled, label_of, Accepts, advance, begin_state, Reads}
-use Rattle.jser_reading.specs.FieldBytes.{bytes_of, joined}
-use Rattle.jser_reading.specs.Scanner.{more, good, bad, VerdictOn, FieldGate, IsUndecided, IsScanner, AllPass}
+use Rattle.jser_reading.proofs.Vocabulary.{Runs, ValueTree, ContentTrees, WellFormedValue, WellFormed, Moment, StreamToken, tag_token, value_at, Label, Piece, piece, at, tag_of, cut_value, tokens_of, value_part, top_goal, parts_goal, State, settled, label_of, Accepts, advance, begin_state, Reads}
+use Rattle.jser_reading.specs.TokenBytes.{bytes_of, joined}
+use Rattle.jser_reading.specs.Scanner.{more, good, bad, VerdictOn, TokenGate, IsUndecided, IsScanner, AllPass}
 use Rattle.jser_reading.proofs.TreeToMachine.{reads_value}
 use Rattle.jser_reading.proofs.Exact.{exact_law}
 use Rattle.jser_reading.proofs.Fronts.{reads_runs}
-use Rattle.jser_reading.proofs.SameFields.{same_value, same_list}
-use Rattle.jser_reading.proofs.FieldsAppend.{cut_value-append}
+use Rattle.jser_reading.proofs.SameTokens.{same_value, same_list}
+use Rattle.jser_reading.proofs.TokensAppend.{cut_value-append}
 
 -- one of two fronts of a list is a front of the other
 fronts : (a b x y : List ℕ) → a ++ x ≡ b ++ y
@@ -23,14 +23,14 @@ fronts (c ∷ a) (c' ∷ b) x y e =
       | inr h ↦ inr (h.0, h.1, ap₂ (λ n q. n ∷ q) (sym ec) h.2)
     ]
 
--- the fields of a value alone
-abbrev pub fields_of_value : Moment → ValueTree → List Piece
-fields_of_value m v = at value_at 1 m (tag_field (tag_of v)) ∷ cut_value 1 m v []
+-- the tokens of a value alone
+abbrev pub tokens_of_value : Moment → ValueTree → List Piece
+tokens_of_value m v = at value_at 1 m (tag_token (tag_of v)) ∷ cut_value 1 m v []
 
-module _ (gate : FieldGate) (verdict : VerdictOn) (sc : IsScanner gate verdict) where
-  pub same_field : (l : Label) (f g : StreamField) (x y : List ℕ) → Accepts l f → IsTrue (gate l f) → Accepts l g → IsTrue (gate l g)
+module _ (gate : TokenGate) (verdict : VerdictOn) (sc : IsScanner gate verdict) where
+  pub same_token : (l : Label) (f g : StreamToken) (x y : List ℕ) → Accepts l f → IsTrue (gate l f) → Accepts l g → IsTrue (gate l g)
       → bytes_of f ++ x ≡ bytes_of g ++ y → (f ≡ g) × (x ≡ y)
-  same_field l f g x y h hp k kp e = go (fronts (bytes_of f) (bytes_of g) x y e)
+  same_token l f g x y h hp k kp e = go (fronts (bytes_of f) (bytes_of g) x y e)
     where
       go : (((d : List ℕ) × (bytes_of f ≡ bytes_of g ++ d) × (y ≡ d ++ x))
           ⊎ ((c : ℕ) × (d : List ℕ) × (bytes_of g ≡ bytes_of f ++ (c ∷ d)))) → (f ≡ g) × (x ≡ y)
@@ -48,18 +48,18 @@ module _ (gate : FieldGate) (verdict : VerdictOn) (sc : IsScanner gate verdict) 
           let w = sc.is_good l f h hp in
           absurd (cc)
 
-  some_bytes : (l : Label) (f : StreamField) (x : List ℕ) → Accepts l f → IsTrue (gate l f) → bytes_of f ++ x ≡ [] → ⊥
+  some_bytes : (l : Label) (f : StreamToken) (x : List ℕ) → Accepts l f → IsTrue (gate l f) → bytes_of f ++ x ≡ [] → ⊥
   some_bytes l f x h hp e = go (bytes_of f) refl e
     where
       go : (w : List ℕ) → bytes_of f ≡ w → w ++ x ≡ [] → ⊥
       go [] e k = let u = sc.nothing_yet l in let w : verdict l [] ≡ good f = rw (← e) (sc.is_good l f h hp) in cc
       go (c ∷ w) e k = cc
 
-  -- a field that is let through, and another one, with bytes that begin alike
-  same_front_field : (l : Label) (f g : StreamField) (x y : List ℕ) → Accepts l f → IsTrue (gate l f) → Accepts l g → bytes_of f
+  -- a token that is let through, and another one, with bytes that begin alike
+  same_front_token : (l : Label) (f g : StreamToken) (x y : List ℕ) → Accepts l f → IsTrue (gate l f) → Accepts l g → bytes_of f
       ++ x ≡ bytes_of g ++ y
       → (f ≡ g) × (x ≡ y)
-  same_front_field l f g x y h hp k e = go (gate l g) refl
+  same_front_token l f g x y h hp k e = go (gate l g) refl
     where
       stopped : (p q : List ℕ) (r : ℕ) → bytes_of g ≡ p ++ q → verdict l p ≡ bad r → IsUndecided verdict l p → ⊥
       stopped p q r eg v u = cut (fronts (bytes_of f) p x (q ++ y) (e ∙ ap (λ z. z ++ y) eg ∙ append_assoc p q y))
@@ -76,10 +76,10 @@ module _ (gate : FieldGate) (verdict : VerdictOn) (sc : IsScanner gate verdict) 
               cc
 
       go : (b : Bool) → gate l g ≡ b → (f ≡ g) × (x ≡ y)
-      go true kp = same_field l f g x y h hp k kp e
+      go true kp = same_token l f g x y h hp k kp e
       go false kp = let z = sc.stops l g k kp in absurd (stopped z.0 z.1 z.2 z.3 z.4 z.5)
 
-  -- fields that the machine takes, and whose bytes begin those of others that it reads, begin those
+  -- tokens that the machine takes, and whose bytes begin those of others that it reads, begin those
   pub begin_pieces : (a b : List Piece) (s : State) (z : List ℕ) → Runs s a → Reads s b → AllPass gate a → joined a
       ++ z ≡ joined b
       → (behind : List Piece) × (b ≡ a ++ behind)
@@ -89,7 +89,7 @@ module _ (gate : FieldGate) (verdict : VerdictOn) (sc : IsScanner gate verdict) 
       ++ z) h.1 (rw (← h.0) ga.0) (sym (append_assoc (bytes_of f) (joined a) z) ∙ e))
   begin_pieces (piece l f ∷ a) (piece l' g ∷ b) s z h k ga e =
       let x =
-      same_front_field (label_of (settled s)) f g (joined a
+      same_front_token (label_of (settled s)) f g (joined a
       ++ z) (joined b) h.1 (rw (← h.0) ga.0) k.1 (sym (append_assoc (bytes_of f) (joined a) z) ∙ e) in
       let k' : Reads (advance (settled s) f) b = rw x.0 k.2 in
       let r = begin_pieces a b (advance (settled s) f) z h.2 k' ga.1 x.1 in
@@ -106,7 +106,7 @@ module _ (gate : FieldGate) (verdict : VerdictOn) (sc : IsScanner gate verdict) 
       absurd (some_bytes (label_of (settled s)) f (joined b) k.1 (rw (← k.0) gb.0) (sym e))
   same_pieces (piece l f ∷ a) [] s h k ga gb e = absurd (some_bytes (label_of (settled s)) f (joined a) h.1 (rw (← h.0) ga.0) e)
   same_pieces (piece l f ∷ a) (piece l' g ∷ b) s h k ga gb e =
-      let x = same_field (label_of (settled s)) f g (joined a) (joined b) h.1 (rw (← h.0) ga.0) k.1 (rw (← k.0) gb.0) e in
+      let x = same_token (label_of (settled s)) f g (joined a) (joined b) h.1 (rw (← h.0) ga.0) k.1 (rw (← k.0) gb.0) e in
       let k' : Reads (advance (settled s) f) b = rw x.0 k.2 in
       let r : a ≡ b = same_pieces a b (advance (settled s) f) h.2 k' ga.1 gb.1 x.1 in
       let fg : f ≡ g = x.0 in
@@ -114,23 +114,23 @@ module _ (gate : FieldGate) (verdict : VerdictOn) (sc : IsScanner gate verdict) 
       let l2 : l' ≡ label_of (settled s) = k.0 in
       cc
 
-  -- two lists whose fields pass and have the same bytes are equal
-  pub same_by_bytes : (list other : ContentTrees) → WellFormed list → WellFormed other → AllPass gate (fields_of list)
-      → AllPass gate (fields_of other)
-      → joined (fields_of list) ≡ joined (fields_of other) → list ≡ other
+  -- two lists whose tokens pass and have the same bytes are equal
+  pub same_by_bytes : (list other : ContentTrees) → WellFormed list → WellFormed other → AllPass gate (tokens_of list)
+      → AllPass gate (tokens_of other)
+      → joined (tokens_of list) ≡ joined (tokens_of other) → list ≡ other
   same_by_bytes list other w w' g g' e =
       same_list list other w w'
-      (same_pieces (fields_of list) (fields_of other) begin_state ((exact_law (fields_of list)).1 (list, w, refl))
-      ((exact_law (fields_of other)).1 (other, w', refl)) g g' e)
+      (same_pieces (tokens_of list) (tokens_of other) begin_state ((exact_law (tokens_of list)).1 (list, w, refl))
+      ((exact_law (tokens_of other)).1 (other, w', refl)) g g' e)
 
   -- and so are two values, where the bytes of one begin those of the other
   pub same_value_by_bytes : (m : Moment) (v u : ValueTree) (rest : List ℕ) → WellFormedValue m.table v → WellFormedValue m.table u
-      → AllPass gate (fields_of_value m v) → joined (fields_of_value m v) ++ rest ≡ joined (fields_of_value m u) → v ≡ u
+      → AllPass gate (tokens_of_value m v) → joined (tokens_of_value m v) ++ rest ≡ joined (tokens_of_value m u) → v ≡ u
   same_value_by_bytes m v u rest h k gv e =
       let s : State = (m, parts_goal 0 (value_part ∷ []) ∷ top_goal ∷ []) in
-      let rv : Reads s (fields_of_value m v) = (refl, tt, reads_value v 1 m (parts_goal 0 [] ∷ top_goal ∷ []) [] h refl) in
-      let ru : Reads s (fields_of_value m u) = (refl, tt, reads_value u 1 m (parts_goal 0 [] ∷ top_goal ∷ []) [] k refl) in
-      let x = begin_pieces (fields_of_value m v) (fields_of_value m u) s rest (reads_runs (fields_of_value m v) s rv) ru gv e in
+      let rv : Reads s (tokens_of_value m v) = (refl, tt, reads_value v 1 m (parts_goal 0 [] ∷ top_goal ∷ []) [] h refl) in
+      let ru : Reads s (tokens_of_value m u) = (refl, tt, reads_value u 1 m (parts_goal 0 [] ∷ top_goal ∷ []) [] k refl) in
+      let x = begin_pieces (tokens_of_value m v) (tokens_of_value m u) s rest (reads_runs (tokens_of_value m v) s rv) ru gv e in
       let x1 = x.1 in
       let t : tag_of v ≡ tag_of u = cc in
       let f : cut_value 1 m u [] ≡ cut_value 1 m v [] ++ x.0 = cc in

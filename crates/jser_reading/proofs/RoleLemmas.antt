@@ -1,5 +1,5 @@
 -- A chain fits its role exactly where its own layer's name and flags do, or its proxy, and the chain of its
--- superclasses fits the role above. So a condition on the whole chain is told at the field where it shows.
+-- superclasses fits the role above. So a condition on the whole chain is told at the token where it shows.
 use Rattle.std.proofs.Common.{◌≡◌, ℕ, Bool, true, false, not, cond, ◌&&◌, if◌then◌else◌, List, [], ◌∷◌, ◌++◌, refl, sym, ◌∙◌, ap, Some, None, IsTrue, IsFalse, true≢false}
 use Rattle.jser_reading.proofs.Vocabulary.{is_serializable, is_externalizable, has_block_data, is_enum, is_proxy_kind, is_array_kind, own_layer, is_serial_kind, all_serial, does_fit, fits, NameKind, plain_name, array_name, malformed_name, layer_kind, Layer, proxy_layer, is_malformed, object_owner, array_owner, enum_owner, class_owner, ChainOwner, Role, own_class, superclass, owner_of, is_strict_above, FitsRole, NameFits, FlagsFit, ProxyFits}
 use Rattle.jser_table.specs.declared.layer.Purpose.TheVariants as purpose

@@ -1,4 +1,4 @@
--- The parts of two trees from one moment, whose fields begin alike, are equal: text places, fields, interfaces, raw
+-- The parts of two trees from one moment, whose tokens begin alike, are equal: text places, fields, interfaces, raw
 -- data. Values of different shapes have different tags.
 use Rattle.std.proofs.Common.{◌≡◌, ℕ, Bool, true, false, ◌||◌, if◌then◌else◌, List, [], ◌∷◌, length, refl, sym, ◌∙◌, ap, ap₂, arith, Option, Some, None, MatchBool}
 use Rattle.jser_reading.proofs.Vocabulary.{PrimCode, is_object_code, TextTree, TextPlaceTree, new_text, back_text, FieldTree, PrimTree, ValueTree, null, back, string, descriptor, class_object, array, enum_constant, object, DescTree, plain, proxy, SectionTrees, after_type, WellFormedType, WellFormedFields, ArePrims, Moment, past_type, Tag, null_tag, reference_tag, class_desc_tag, object_tag, string_tag, array_tag, class_tag, long_string_tag, proxy_desc_tag, enum_tag, Piece, tag_of_string, tag_of_desc, tag_of, cut_text_place, cut_type, cut_fields, cut_interfaces, cut_bytes, cut_raw, cut_prims}
@@ -10,8 +10,8 @@ use Rattle.jser_reading.proofs.TreeToMachine.{not_object}
 pub same_text : (t u : TextTree) → t.long ≡ u.long → t.units ≡ u.units → t ≡ u
 same_text t u e f = λ i. record { long = e i; units = f i }
 
-pub same_field : (f g : FieldTree) → f.code ≡ g.code → f.name ≡ g.name → f.text ≡ g.text → f ≡ g
-same_field f g e n t = λ i. record { code = e i; name = n i; text = t i }
+pub same_token : (f g : FieldTree) → f.code ≡ g.code → f.name ≡ g.name → f.text ≡ g.text → f ≡ g
+same_token f g e n t = λ i. record { code = e i; name = n i; text = t i }
 
 -- text places, fields, interfaces and raw data
 
@@ -54,7 +54,7 @@ same_fields (f ∷ fs) (g ∷ gs) d seen m x y l h k e =
     let wgs : WellFormedFields (after_type m.table f.text) (seen || is_object_code f.code) gs = rw (ec, q.0) k.2 in
     let e2 : X ≡ cut_fields d (seen || is_object_code f.code) (past_type m f.text) gs y = q.1 ∙ rw (ec, q.0) refl in
     let r = same_fields fs gs d (seen || is_object_code f.code) (past_type m f.text) x y (omega arith) h.2 wgs e2 in
-    (ap₂ (λ a b. a ∷ b) (same_field f g ec en q.0) r.0, r.1)
+    (ap₂ (λ a b. a ∷ b) (same_token f g ec en q.0) r.0, r.1)
 same_fields [] (g ∷ gs) d seen m x y l h k e = absurd (omega arith)
 same_fields (f ∷ fs) [] d seen m x y l h k e = absurd (omega arith)
 

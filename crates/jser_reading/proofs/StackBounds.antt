@@ -1,7 +1,7 @@
 -- How long the stack of goals gets: a goal of depth d has at least d goals below it, and at most about 3 d. A value
 -- has one goal of its container below it, its class at most three more for each level.
 use Rattle.std.proofs.Common.{◌≡◌, ℕ, zero, suc, ◌+◌, ◌*◌, ◌≤◌, Bool, true, false, ◌||◌, List, [], ◌∷◌, ◌++◌, length, refl, arith}
-use Rattle.jser_reading.proofs.Vocabulary.{other_entry, chain_at, Layer, is_object_code, proxy_layer, is_external, Owner, object_owner, array_owner, enum_owner, class_owner, ChainOwner, Role, Moment, assign, closing, Tag, null_tag, reference_tag, class_desc_tag, object_tag, string_tag, array_tag, class_tag, long_string_tag, proxy_desc_tag, enum_tag, StreamField, header_field, tag_field, block_tag_field, end_tag_field, reset_tag_field, handle_field, suid_field, flags_field, field_count_field, interface_count_field, array_length_field, code_field, text_field, block_length_field, prims_field, bytes_field, Piece, piece, Part, raw_part, value_part, annotation_part, Goal, header_goal, top_goal, annotation_goal, back_handle_goal, text_place_goal, text_handle_goal, field_name_goal, string_goal, block_length_goal, block_goal, array_length_goal, parts_goal, class_goal, class_handle_goal, made_goal, superclass_goal, superclass_handle_goal, close_goal, class_name_goal, suid_goal, flags_goal, field_count_goal, fields_goal, interface_count_goal, interfaces_goal, State, object_parts, read_layer, ending, settle_parts, settle, settled, depth_of_parts, depth_of_goal, label_of, begin, type_goals, advance_at, advance, begin_state, left}
+use Rattle.jser_reading.proofs.Vocabulary.{other_entry, chain_at, Layer, is_object_code, proxy_layer, is_external, Owner, object_owner, array_owner, enum_owner, class_owner, ChainOwner, Role, Moment, assign, closing, Tag, null_tag, reference_tag, class_desc_tag, object_tag, string_tag, array_tag, class_tag, long_string_tag, proxy_desc_tag, enum_tag, StreamToken, header_token, tag_token, block_tag_token, end_tag_token, reset_tag_token, handle_token, suid_token, flags_token, field_count_token, interface_count_token, array_length_token, code_token, text_token, block_length_token, prims_token, bytes_token, Piece, piece, Part, raw_part, value_part, annotation_part, Goal, header_goal, top_goal, annotation_goal, back_handle_goal, text_place_goal, text_handle_goal, field_name_goal, string_goal, block_length_goal, block_goal, array_length_goal, parts_goal, class_goal, class_handle_goal, made_goal, superclass_goal, superclass_handle_goal, close_goal, class_name_goal, suid_goal, flags_goal, field_count_goal, fields_goal, interface_count_goal, interfaces_goal, State, object_parts, read_layer, ending, settle_parts, settle, settled, depth_of_parts, depth_of_goal, label_of, begin, type_goals, advance_at, advance, begin_state, left}
 use Rattle.jser_reading.specs.Laws.{StackIsBounded}
 
 -- how many goals may stand below this one
@@ -36,7 +36,7 @@ abbrev Piled : List Goal → Type 0
 Piled [] = Unit {0}
 Piled (g ∷ gs) = Below g (length gs) × Piled gs
 
--- goals that take no field
+-- goals that take no token
 
 piled_parts : (parts : List Part) (d : ℕ) (m : Moment) (gs : List Goal) (s : State) → d ≤ length gs → length gs + 2 ≤ 3 * d
     → Piled gs → Piled s.1
@@ -71,7 +71,7 @@ piled_settle (interfaces_goal role d number zero ∷ gs) m p = piled_ending role
 piled_settle (interfaces_goal role d number (suc n) ∷ gs) m p = p
 piled_settle (g ∷ gs) m p = p
 
--- one field
+-- one token
 
 piled_value : (tag : Tag) (d : ℕ) (m : Moment) (gs : List Goal) → d ≤ length gs → length gs + 2 ≤ 3 * d → Piled gs
     → Piled (begin d m tag gs).1
@@ -87,14 +87,14 @@ piled_value proxy_desc_tag d m gs a b p = ((a, omega arith), p)
 piled_value enum_tag d m gs a b p = ((a, b), p)
 
 piled_text : (tag : Tag) (d : ℕ) (m : Moment) (gs : List Goal) → Piled (text_place_goal d ∷ gs)
-    → Piled (advance_at m (text_place_goal d) gs (tag_field tag)).1
+    → Piled (advance_at m (text_place_goal d) gs (tag_token tag)).1
 piled_text reference_tag d m gs p = p
 piled_text string_tag d m gs p = p
 piled_text long_string_tag d m gs p = p
 piled_text tag d m gs p = p
 
 piled_class : (tag : Tag) (owner : Owner) (d : ℕ) (m : Moment) (gs : List Goal) → Piled (class_goal owner d ∷ gs)
-    → Piled (advance_at m (class_goal owner d) gs (tag_field tag)).1
+    → Piled (advance_at m (class_goal owner d) gs (tag_token tag)).1
 piled_class reference_tag owner d m gs p = p
 piled_class class_desc_tag owner d m gs p = let a = p.0.0 in let b = p.0.1 in ((omega arith, omega arith), (p.0, p.1))
 piled_class proxy_desc_tag owner d m gs p = let a = p.0.0 in let b = p.0.1 in ((omega arith, omega arith), (p.0, p.1))
@@ -102,7 +102,7 @@ piled_class tag owner d m gs p = p
 
 piled_superclass : (tag : Tag) (owner : ChainOwner) (strict : Bool) (d number : ℕ) (l : Layer) (m : Moment) (gs : List Goal)
     → Piled (superclass_goal owner strict d number l ∷ gs)
-    → Piled (advance_at m (superclass_goal owner strict d number l) gs (tag_field tag)).1
+    → Piled (advance_at m (superclass_goal owner strict d number l) gs (tag_token tag)).1
 piled_superclass reference_tag owner strict d number l m gs p = p
 piled_superclass class_desc_tag owner strict d number l m gs p =
     let a = p.0.0 in let b = p.0.1 in ((omega arith, omega arith), (tt, p.1))
@@ -116,42 +116,42 @@ piled_type : (object : Bool) (d : ℕ) (fields : Goal) (gs : List Goal) → d �
 piled_type true d fields gs a b p = ((omega arith, omega arith), ((omega arith, omega arith), p))
 piled_type false d fields gs a b p = ((omega arith, omega arith), p)
 
-piled_at : (g : Goal) (f : StreamField) (m : Moment) (gs : List Goal) → Piled (g ∷ gs) → Piled (advance_at m g gs f).1
-piled_at header_goal header_field m gs p = p.1
-piled_at top_goal (tag_field tag) m gs p = let a = p.0 in piled_value tag 1 m (top_goal ∷ gs) (omega arith) (omega arith) p
-piled_at top_goal (block_tag_field long) m gs p = let a = p.0 in ((omega arith, omega arith), p)
-piled_at top_goal reset_tag_field m gs p = p
-piled_at (annotation_goal d) (tag_field tag) m gs p =
+piled_at : (g : Goal) (f : StreamToken) (m : Moment) (gs : List Goal) → Piled (g ∷ gs) → Piled (advance_at m g gs f).1
+piled_at header_goal header_token m gs p = p.1
+piled_at top_goal (tag_token tag) m gs p = let a = p.0 in piled_value tag 1 m (top_goal ∷ gs) (omega arith) (omega arith) p
+piled_at top_goal (block_tag_token long) m gs p = let a = p.0 in ((omega arith, omega arith), p)
+piled_at top_goal reset_tag_token m gs p = p
+piled_at (annotation_goal d) (tag_token tag) m gs p =
     let a = p.0.0 in let b = p.0.1 in piled_value tag (suc d) m (annotation_goal d ∷ gs) (omega arith) (omega arith) p
-piled_at (annotation_goal d) (block_tag_field long) m gs p = let a = p.0.0 in let b = p.0.1 in ((omega arith, omega arith), p)
-piled_at (annotation_goal d) end_tag_field m gs p = p.1
-piled_at (parts_goal d (value_part ∷ parts)) (tag_field tag) m gs p =
+piled_at (annotation_goal d) (block_tag_token long) m gs p = let a = p.0.0 in let b = p.0.1 in ((omega arith, omega arith), p)
+piled_at (annotation_goal d) end_tag_token m gs p = p.1
+piled_at (parts_goal d (value_part ∷ parts)) (tag_token tag) m gs p =
     let a = p.0.0 in let b = p.0.1 in piled_value tag (suc d) m (parts_goal d parts ∷ gs) (omega arith) (omega arith) p
-piled_at (parts_goal d (raw_part c (suc n) ∷ parts)) (prims_field ps) m gs p = p
-piled_at (block_length_goal long d) (block_length_field long' n) m gs p = p
-piled_at (block_goal d (suc n)) (bytes_field b) m gs p = p.1
-piled_at (text_place_goal d) (tag_field tag) m gs p = piled_text tag d m gs p
-piled_at (class_goal owner d) (tag_field tag) m gs p = piled_class tag owner d m gs p
-piled_at (superclass_goal owner strict d number l) (tag_field tag) m gs p = piled_superclass tag owner strict d number l m gs p
-piled_at (fields_goal role d number kind flags seen codes (suc n)) (code_field c) m gs p =
+piled_at (parts_goal d (raw_part c (suc n) ∷ parts)) (prims_token ps) m gs p = p
+piled_at (block_length_goal long d) (block_length_token long' n) m gs p = p
+piled_at (block_goal d (suc n)) (bytes_token b) m gs p = p.1
+piled_at (text_place_goal d) (tag_token tag) m gs p = piled_text tag d m gs p
+piled_at (class_goal owner d) (tag_token tag) m gs p = piled_class tag owner d m gs p
+piled_at (superclass_goal owner strict d number l) (tag_token tag) m gs p = piled_superclass tag owner strict d number l m gs p
+piled_at (fields_goal role d number kind flags seen codes (suc n)) (code_token c) m gs p =
     piled_type (is_object_code c) d
     (fields_goal role d number kind flags (seen || is_object_code c) (c ∷ codes) n) gs p.0.0 p.0.1 p
-piled_at (interfaces_goal role d number (suc n)) (text_field long u) m gs p = p
-piled_at (back_handle_goal d) (handle_field n) m gs p = p.1
-piled_at (text_handle_goal d) (handle_field n) m gs p = p.1
-piled_at (class_handle_goal owner d) (handle_field n) m gs p = p
-piled_at (superclass_handle_goal owner strict d number l) (handle_field n) m gs p = (tt, p.1)
-piled_at (string_goal long d) (text_field long' u) m gs p = p.1
-piled_at (field_name_goal d) (text_field long u) m gs p = p.1
-piled_at (array_length_goal elements d) (array_length_field n) m gs p = p
-piled_at (class_name_goal role d) (text_field long u) m gs p = p
-piled_at (suid_goal role d kind) (suid_field n) m gs p = p
-piled_at (flags_goal role d number kind) (flags_field f) m gs p = p
-piled_at (field_count_goal role d number kind flags) (field_count_field n) m gs p = p
-piled_at (interface_count_goal role d number) (interface_count_field n) m gs p = p
+piled_at (interfaces_goal role d number (suc n)) (text_token long u) m gs p = p
+piled_at (back_handle_goal d) (handle_token n) m gs p = p.1
+piled_at (text_handle_goal d) (handle_token n) m gs p = p.1
+piled_at (class_handle_goal owner d) (handle_token n) m gs p = p
+piled_at (superclass_handle_goal owner strict d number l) (handle_token n) m gs p = (tt, p.1)
+piled_at (string_goal long d) (text_token long' u) m gs p = p.1
+piled_at (field_name_goal d) (text_token long u) m gs p = p.1
+piled_at (array_length_goal elements d) (array_length_token n) m gs p = p
+piled_at (class_name_goal role d) (text_token long u) m gs p = p
+piled_at (suid_goal role d kind) (suid_token n) m gs p = p
+piled_at (flags_goal role d number kind) (flags_token f) m gs p = p
+piled_at (field_count_goal role d number kind flags) (field_count_token n) m gs p = p
+piled_at (interface_count_goal role d number) (interface_count_token n) m gs p = p
 piled_at g f m gs p = p
 
-piled_advance : (s : State) (f : StreamField) → Piled s.1 → Piled (advance s f).1
+piled_advance : (s : State) (f : StreamToken) → Piled s.1 → Piled (advance s f).1
 piled_advance (m, []) f p = p
 piled_advance (m, g ∷ gs) f p = piled_at g f m gs p
 

@@ -1,7 +1,7 @@
--- The counts along the fields of a list are its counts. Each tree adds as many as it has within it: no content,
+-- The counts along the tokens of a list are its counts. Each tree adds as many as it has within it: no content,
 -- its places, and the handles by which its table grows.
 use Rattle.std.proofs.Common.{◌≡◌, ℕ, suc, ◌+◌, Bool, true, false, ◌||◌, if◌then◌else◌, List, [], ◌∷◌, ◌++◌, length, refl, ◌∙◌, ap, arith, Option, Some, None, MatchBool}
-use Rattle.jser_reading.proofs.Vocabulary.{has_write_method, text_entry, other_entry, pending_entry, Layer, PrimCode, is_object_code, primitive_codes, TextPlaceTree, new_text, back_text, FieldTree, PrimTree, ValueTree, null, back, string, descriptor, class_object, array, enum_constant, object, DescTree, plain, proxy, ClassPlaceTree, no_class, back_class, new_class, BodyTree, raw_body, value_body, ValueTrees, no_values, value_and, section, SectionTrees, no_sections, section_and, NotesTree, no_notes, annotation, block, reset, content, ContentTrees, no_contents, content_and, plain_layer, proxy_layer, after_value, after_desc, after_class, after_sections, chain_of_class, elements_of, is_external, WellFormedValue, WellFormedDesc, WellFormedClass, WellFormedSuperclass, WellFormedBody, WellFormedValues, WellFormedExternal, WellFormedSections, WellFormedNotesIf, WellFormedNotes, WellFormedContents, Owner, object_owner, array_owner, enum_owner, class_owner, ChainOwner, Role, own_class, superclass, owner_of, is_strict_above, Moment, beginning, tick, assign, emptied, places_value, places_desc, places_contents, past_text, past_type, past_fields, past_value, past_class, past_body, past_values, past_sections, past_notes, past_contents, Tag, null_tag, reference_tag, class_desc_tag, object_tag, string_tag, array_tag, class_tag, long_string_tag, proxy_desc_tag, enum_tag, tag_field, array_length_field, text_field, top_at, annotation_at, value_at, text_place_at, class_place_at, superclass_place_at, string_at, array_length_at, Piece, at, tag_of_string, tag_of_desc, tag_of, cut_text_place, cut_type, cut_fields, cut_interfaces, cut_bytes, cut_raw, cut_prims, cut_value, cut_desc, cut_class, cut_superclass, cut_body, cut_values, cut_external, cut_sections, cut_notes, cut_annotation, cut_top}
+use Rattle.jser_reading.proofs.Vocabulary.{has_write_method, text_entry, other_entry, pending_entry, Layer, PrimCode, is_object_code, primitive_codes, TextPlaceTree, new_text, back_text, FieldTree, PrimTree, ValueTree, null, back, string, descriptor, class_object, array, enum_constant, object, DescTree, plain, proxy, ClassPlaceTree, no_class, back_class, new_class, BodyTree, raw_body, value_body, ValueTrees, no_values, value_and, section, SectionTrees, no_sections, section_and, NotesTree, no_notes, annotation, block, reset, content, ContentTrees, no_contents, content_and, plain_layer, proxy_layer, after_value, after_desc, after_class, after_sections, chain_of_class, elements_of, is_external, WellFormedValue, WellFormedDesc, WellFormedClass, WellFormedSuperclass, WellFormedBody, WellFormedValues, WellFormedExternal, WellFormedSections, WellFormedNotesIf, WellFormedNotes, WellFormedContents, Owner, object_owner, array_owner, enum_owner, class_owner, ChainOwner, Role, own_class, superclass, owner_of, is_strict_above, Moment, beginning, tick, assign, emptied, places_value, places_desc, places_contents, past_text, past_type, past_fields, past_value, past_class, past_body, past_values, past_sections, past_notes, past_contents, Tag, null_tag, reference_tag, class_desc_tag, object_tag, string_tag, array_tag, class_tag, long_string_tag, proxy_desc_tag, enum_tag, tag_token, array_length_token, text_token, top_at, annotation_at, value_at, text_place_at, class_place_at, superclass_place_at, string_at, array_length_at, Piece, at, tag_of_string, tag_of_desc, tag_of, cut_text_place, cut_type, cut_fields, cut_interfaces, cut_bytes, cut_raw, cut_prims, cut_value, cut_desc, cut_class, cut_superclass, cut_body, cut_values, cut_external, cut_sections, cut_notes, cut_annotation, cut_top}
 use Rattle.std.proofs.Common.{sum}
 use Rattle.std.proofs.lemmas.List.Sums.{sum_by-cons}
 use Rattle.jser_grammar.specs.Counts.{array_length, content_count, epochs_from}
@@ -19,7 +19,7 @@ places_in ps = count_of begins_place ps
 abbrev handles_in : List Piece → ℕ
 handles_in ps = count_of assigns_handle ps
 
--- the fields from one moment to another, and then rest
+-- the tokens from one moment to another, and then rest
 abbrev Counts : Moment → Moment → List Piece → List Piece → Type 0
 Counts m m' ps rest =
     (contents_in ps ≡ contents_in rest) × (m.places + places_in ps ≡ m'.places + places_in rest)
@@ -37,11 +37,11 @@ CountsOwned owner m m' ps rest =
 
 -- the tag of a value or a descriptor assigns a handle, or none
 abbrev by_tag : Tag → ℕ
-by_tag tag = one_more_if (assigns_handle value_at (tag_field tag)) 0
+by_tag tag = one_more_if (assigns_handle value_at (tag_token tag)) 0
 
 counts_new_text : (long : Bool) (units : List ℕ) (d : ℕ) (m : Moment) (rest : List Piece)
-    → Counts m (assign m text_entry) (at text_place_at d m (tag_field (tag_of_string long))
-    ∷ at (string_at long) d (assign m text_entry) (text_field long units) ∷ rest) rest
+    → Counts m (assign m text_entry) (at text_place_at d m (tag_token (tag_of_string long))
+    ∷ at (string_at long) d (assign m text_entry) (text_token long units) ∷ rest) rest
 counts_new_text true units d m rest = (refl, refl, omega (arith, length-add m.table text_entry))
 counts_new_text false units d m rest = (refl, refl, omega (arith, length-add m.table text_entry))
 
@@ -92,9 +92,9 @@ counts_by_class false E S m m' a b rest h f g = g h
 
 -- tags of values and descriptors, by their position
 
-count_tag : (tag : Tag) (n : ℕ) → (one_more_if (assigns_handle top_at (tag_field tag)) n ≡ by_tag tag + n)
-    × (one_more_if (assigns_handle annotation_at (tag_field tag)) n ≡ by_tag tag + n)
-    × (one_more_if (assigns_handle value_at (tag_field tag)) n ≡ by_tag tag + n)
+count_tag : (tag : Tag) (n : ℕ) → (one_more_if (assigns_handle top_at (tag_token tag)) n ≡ by_tag tag + n)
+    × (one_more_if (assigns_handle annotation_at (tag_token tag)) n ≡ by_tag tag + n)
+    × (one_more_if (assigns_handle value_at (tag_token tag)) n ≡ by_tag tag + n)
 count_tag null_tag n = (omega arith, omega arith, omega arith)
 count_tag reference_tag n = (omega arith, omega arith, omega arith)
 count_tag class_desc_tag n = (omega arith, omega arith, omega arith)
@@ -111,12 +111,12 @@ count_string true = refl
 count_string false = refl
 
 count_class_tag : (x : DescTree) (owner : Owner) (n : ℕ)
-    → one_more_if (assigns_handle (class_place_at owner) (tag_field (tag_of_desc x))) n ≡ by_tag (tag_of_desc x) + n
+    → one_more_if (assigns_handle (class_place_at owner) (tag_token (tag_of_desc x))) n ≡ by_tag (tag_of_desc x) + n
 count_class_tag (plain name suid flags fields notes parent) owner n = omega arith
 count_class_tag (proxy interfaces notes parent) owner n = omega arith
 
 count_superclass_tag : (x : DescTree) (owner : ChainOwner) (strict : Bool) (n : ℕ)
-    → one_more_if (assigns_handle (superclass_place_at owner strict) (tag_field (tag_of_desc x))) n ≡ by_tag (tag_of_desc x) + n
+    → one_more_if (assigns_handle (superclass_place_at owner strict) (tag_token (tag_of_desc x))) n ≡ by_tag (tag_of_desc x) + n
 count_superclass_tag (plain name suid flags fields notes parent) None strict n = omega arith
 count_superclass_tag (plain name suid flags fields notes parent) (Some owner) strict n = omega arith
 count_superclass_tag (proxy interfaces notes parent) None strict n = omega arith
@@ -141,7 +141,7 @@ mutual
       let made = assign (past_class (tick m) c) other_entry in
       let elements = elements_of (chain_of_class m.table c) in
       let q =
-      counts_class c array_owner d (tick m) (at array_length_at d made (array_length_field (array_length b))
+      counts_class c array_owner d (tick m) (at array_length_at d made (array_length_token (array_length b))
       ∷ cut_body d made elements b rest) h.0 in
       let r = counts_body b elements d made rest h.2 in
       (q.0 ∙ r.0, q.1 ∙ r.1, omega (arith, length-add (after_class m.table c) other_entry))

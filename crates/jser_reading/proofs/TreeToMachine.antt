@@ -1,7 +1,7 @@
--- From trees to the machine: the fields of a well-formed tree take the machine from the state before the tree to
--- the one behind it, whatever comes after. One lemma for each kind of tree; each case follows the fields in order.
+-- From trees to the machine: the tokens of a well-formed tree take the machine from the state before the tree to
+-- the one behind it, whatever comes after. One lemma for each kind of tree; each case follows the tokens in order.
 use Rattle.std.proofs.Common.{◌≡◌, ℕ, suc, Bool, true, false, ◌||◌, if◌then◌else◌, List, [], ◌∷◌, ◌++◌, length, refl, Option, Some, None, IsTrue, nat_eq, true≢false, is_some, MatchBool}
-use Rattle.jser_reading.proofs.Vocabulary.{has_write_method, text_entry, other_entry, pending_entry, chain_at, NameKind, name_kind, layer_kind, Layer, PrimCode, prim_code_of, is_object_code, primitive_codes, object_count, TextPlaceTree, new_text, back_text, FieldTree, PrimTree, ValueTree, null, back, string, descriptor, class_object, array, enum_constant, object, DescTree, plain, proxy, ClassPlaceTree, no_class, back_class, new_class, BodyTree, raw_body, value_body, ValueTrees, no_values, value_and, section, SectionTrees, no_sections, section_and, NotesTree, no_notes, annotation, block, reset, content, ContentTrees, no_contents, content_and, value_count, Entries, add, codes_of, plain_layer, proxy_layer, after_desc, after_contents, chain_of_class, chain_of_desc, IsText, AreClassNames, WellFormedText, WellFormedType, WellFormedFields, ArePrimsOf, ArePrims, IsBytes, IsBlock, elements_of, is_external, WellFormedValue, WellFormedDesc, WellFormedClass, WellFormedSuperclass, WellFormedBody, WellFormedValues, WellFormedExternal, WellFormedSections, WellFormedNotesIf, WellFormedNotes, WellFormedContents, Owner, object_owner, array_owner, enum_owner, class_owner, ChainOwner, Role, own_class, superclass, owner_of, is_strict_above, FitsOwner, FitsRole, Moment, tick, assign, closing, emptied, next_number, past_text, past_type, past_fields, past_value, past_desc, past_class, past_body, past_values, past_sections, past_notes, past_contents, tag_field, array_length_field, text_field, block_length_field, text_place_at, class_place_at, superclass_place_at, string_at, array_length_at, block_length_at, Piece, piece, at, tag_of_string, tag_of_desc, tag_of, cut_text_place, cut_type, cut_fields, cut_interfaces, cut_bytes, cut_raw, cut_prims, cut_value, cut_desc, cut_class, cut_superclass, cut_body, cut_values, cut_external, cut_sections, cut_notes, cut_annotation, cut_top, Part, raw_part, annotation_part, Goal, top_goal, annotation_goal, text_place_goal, string_goal, block_length_goal, block_goal, array_length_goal, parts_goal, class_goal, made_goal, superclass_goal, close_goal, class_name_goal, fields_goal, interfaces_goal, State, prim_parts, value_parts, annotation_if, section_parts, object_parts, in_order, read_layer, ending, settled, may_follow, open_proxy, begin, type_goals, Reads}
+use Rattle.jser_reading.proofs.Vocabulary.{has_write_method, text_entry, other_entry, pending_entry, chain_at, NameKind, name_kind, layer_kind, Layer, PrimCode, prim_code_of, is_object_code, primitive_codes, object_count, TextPlaceTree, new_text, back_text, FieldTree, PrimTree, ValueTree, null, back, string, descriptor, class_object, array, enum_constant, object, DescTree, plain, proxy, ClassPlaceTree, no_class, back_class, new_class, BodyTree, raw_body, value_body, ValueTrees, no_values, value_and, section, SectionTrees, no_sections, section_and, NotesTree, no_notes, annotation, block, reset, content, ContentTrees, no_contents, content_and, value_count, Entries, add, codes_of, plain_layer, proxy_layer, after_desc, after_contents, chain_of_class, chain_of_desc, IsText, AreClassNames, WellFormedText, WellFormedType, WellFormedFields, ArePrimsOf, ArePrims, IsBytes, IsBlock, elements_of, is_external, WellFormedValue, WellFormedDesc, WellFormedClass, WellFormedSuperclass, WellFormedBody, WellFormedValues, WellFormedExternal, WellFormedSections, WellFormedNotesIf, WellFormedNotes, WellFormedContents, Owner, object_owner, array_owner, enum_owner, class_owner, ChainOwner, Role, own_class, superclass, owner_of, is_strict_above, FitsOwner, FitsRole, Moment, tick, assign, closing, emptied, next_number, past_text, past_type, past_fields, past_value, past_desc, past_class, past_body, past_values, past_sections, past_notes, past_contents, tag_token, array_length_token, text_token, block_length_token, text_place_at, class_place_at, superclass_place_at, string_at, array_length_at, block_length_at, Piece, piece, at, tag_of_string, tag_of_desc, tag_of, cut_text_place, cut_type, cut_fields, cut_interfaces, cut_bytes, cut_raw, cut_prims, cut_value, cut_desc, cut_class, cut_superclass, cut_body, cut_values, cut_external, cut_sections, cut_notes, cut_annotation, cut_top, Part, raw_part, annotation_part, Goal, top_goal, annotation_goal, text_place_goal, string_goal, block_length_goal, block_goal, array_length_goal, parts_goal, class_goal, made_goal, superclass_goal, close_goal, class_name_goal, fields_goal, interfaces_goal, State, prim_parts, value_parts, annotation_if, section_parts, object_parts, in_order, read_layer, ending, settled, may_follow, open_proxy, begin, type_goals, Reads}
 use Rattle.std.proofs.Common.{eqb-true}
 use Rattle.jser_grammar.specs.Counts.{array_length}
 use Rattle.jser_grammar.proofs.Bools.{both_ways, untrue}
@@ -23,7 +23,7 @@ desc_state role d m (proxy interfaces notes parent) goals = open_proxy role d m 
 -- only what a state settles to counts
 pub resettle : (rest : List Piece) (s t : State) → settled s ≡ settled t → Reads s rest → Reads t rest
 resettle [] s t e h = rw (← e) h
-resettle (piece label field ∷ rest) s t e h = rw (← e) h
+resettle (piece label token ∷ rest) s t e h = rw (← e) h
 
 pub reads_made : (owner : Owner) (d number : ℕ) (m : Moment) (gs : List Goal) (rest : List Piece)
     → Reads (assign m other_entry, owner_goals owner d (chain_at m.table number) gs) rest
@@ -44,14 +44,14 @@ reads_made class_owner d number m gs rest k =
 
 reads_string : (long : Bool) (units : List ℕ) (d : ℕ) (m : Moment) (gs : List Goal) (rest : List Piece) → IsText long units
     → Reads (m, gs) rest
-    → Reads (m, string_goal long d ∷ gs) (at (string_at long) d m (text_field long units) ∷ rest)
+    → Reads (m, string_goal long d ∷ gs) (at (string_at long) d m (text_token long units) ∷ rest)
 reads_string true units d m gs rest h k = (refl, h, k)
 reads_string false units d m gs rest h k = (refl, h, k)
 
 reads_new_text : (long : Bool) (units : List ℕ) (d : ℕ) (m : Moment) (gs : List Goal) (rest : List Piece) → IsText long units
     → Reads (assign m text_entry, gs) rest
-    → Reads (m, text_place_goal d ∷ gs) (at text_place_at d m (tag_field (tag_of_string long))
-    ∷ at (string_at long) d (assign m text_entry) (text_field long units) ∷ rest)
+    → Reads (m, text_place_goal d ∷ gs) (at text_place_at d m (tag_token (tag_of_string long))
+    ∷ at (string_at long) d (assign m text_entry) (text_token long units) ∷ rest)
 reads_new_text true units d m gs rest h k = (refl, tt, (refl, h, k))
 reads_new_text false units d m gs rest h k = (refl, tt, (refl, h, k))
 
@@ -127,7 +127,7 @@ reads_bytes (b ∷ bs) d m gs rest h k = (refl, (h, refl), k)
 
 pub reads_block : (long : Bool) (bytes : List ℕ) (d : ℕ) (m : Moment) (gs : List Goal) (rest : List Piece) → IsBlock long bytes
     → Reads (m, gs) rest
-    → Reads (m, block_length_goal long d ∷ gs) (at (block_length_at long) d m (block_length_field long (length bytes))
+    → Reads (m, block_length_goal long d ∷ gs) (at (block_length_at long) d m (block_length_token long (length bytes))
     ∷ cut_bytes d m bytes rest)
 reads_block true bytes d m gs rest h k = (refl, h.1, reads_bytes bytes d m gs rest h.0 k)
 reads_block false bytes d m gs rest h k = (refl, h.1, reads_bytes bytes d m gs rest h.0 k)
@@ -157,7 +157,7 @@ enter_value (proxy interfaces notes parent) d m gs rest k = k
 enter_class : (x : DescTree) (owner : Owner) (d : ℕ) (m : Moment) (gs : List Goal) (rest : List Piece)
     → FitsOwner owner (chain_of_desc m.table x)
     → Reads (desc_state (own_class (Some owner)) d m x (made_goal owner d (next_number m) ∷ gs)) rest
-    → Reads (m, class_goal owner d ∷ gs) (at (class_place_at owner) d m (tag_field (tag_of_desc x)) ∷ rest)
+    → Reads (m, class_goal owner d ∷ gs) (at (class_place_at owner) d m (tag_token (tag_of_desc x)) ∷ rest)
 enter_class (plain name suid flags fields notes parent) owner d m gs rest f k = (refl, tt, k)
 enter_class (proxy interfaces notes parent) owner d m gs rest f k =
     (refl, proxy_fits_of (own_class (Some owner)) (chain_of_class (after_contents (add m.table pending_entry) notes) parent) f, k)
@@ -166,7 +166,7 @@ enter_superclass : (x : DescTree) (owner : ChainOwner) (strict : Bool) (d number
     (rest : List Piece)
     → Reads (desc_state (superclass owner strict) d (tick m) x (close_goal number (next_number m) l ∷ gs)) rest
     → Reads (m, superclass_goal owner strict d number l ∷ gs)
-    (at (superclass_place_at owner strict) d m (tag_field (tag_of_desc x)) ∷ rest)
+    (at (superclass_place_at owner strict) d m (tag_token (tag_of_desc x)) ∷ rest)
 enter_superclass (plain name suid flags fields notes parent) owner strict d number l m gs rest k = (refl, tt, k)
 enter_superclass (proxy interfaces notes parent) owner strict d number l m gs rest k = (refl, tt, k)
 
@@ -187,7 +187,7 @@ mutual
     where
       begin_string : (long : Bool) (units : List ℕ) → IsText long units → Reads (assign (tick m) text_entry, gs) rest
           → Reads (begin d m (tag_of_string long) gs)
-          (at (string_at long) d (assign (tick m) text_entry) (text_field long units) ∷ rest)
+          (at (string_at long) d (assign (tick m) text_entry) (text_token long units) ∷ rest)
       begin_string true units a b = (refl, a, b)
       begin_string false units a b = (refl, a, b)
   reads_value (descriptor x) d m gs rest h k =
@@ -196,7 +196,7 @@ mutual
   reads_value (array c b) d m gs rest h k =
       let made = assign (past_class (tick m) c) other_entry in
       let chain = chain_of_class m.table c in
-      reads_class c array_owner d (tick m) gs (at array_length_at d made (array_length_field (array_length b))
+      reads_class c array_owner d (tick m) gs (at array_length_at d made (array_length_token (array_length b))
       ∷ cut_body d made (elements_of chain) b rest) h.0 h.1
       (reads_body b (elements_of chain) d made gs rest h.2 k)
   reads_value (enum_constant c t) d m gs rest h k =
@@ -292,7 +292,7 @@ mutual
 
   pub reads_body : (b : BodyTree) (elements : Option PrimCode) (d : ℕ) (m : Moment) (gs : List Goal) (rest : List Piece)
       → WellFormedBody m.table b elements → Reads (past_body m b, gs) rest
-      → Reads (m, array_length_goal elements d ∷ gs) (at array_length_at d m (array_length_field (array_length b))
+      → Reads (m, array_length_goal elements d ∷ gs) (at array_length_at d m (array_length_token (array_length b))
       ∷ cut_body d m elements b rest)
   reads_body (raw_body ps) None d m gs rest h k = absurd h
   reads_body (raw_body ps) (Some c) d m gs rest h k = (refl, h.0, reads_raw c ps d m gs rest h.1 k)

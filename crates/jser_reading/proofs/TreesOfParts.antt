@@ -1,6 +1,6 @@
--- Trees out of their parts: where the fields of the parts remain, the fields of one tree of them do.
+-- Trees out of their parts: where the tokens of the parts remain, the tokens of one tree of them do.
 use Rattle.std.proofs.Common.{◌≡◌, ℕ, zero, suc, ◌^◌, ◌<◌, Bool, true, false, if◌then◌else◌, List, [], ◌∷◌, length, refl, ◌∙◌, ap, arith, Option, Some, None, MatchBool}
-use Rattle.jser_reading.proofs.Vocabulary.{has_write_method, pending_entry, name_kind, Layer, PrimCode, primitive_codes, object_count, PrimTree, plain, proxy, BodyTree, raw_body, value_body, ValueTrees, no_values, value_and, section, SectionTrees, no_sections, section_and, NotesTree, no_notes, annotation, value_count, add, codes_of, after_fields, after_contents, chain_of_class, ArePrims, IsBytes, WellFormedBody, WellFormedValues, WellFormedExternal, WellFormedSections, WellFormedNotesIf, Role, ProxyFits, Moment, assign, next_number, past_value, past_body, past_values, past_sections, past_notes, class_desc_tag, proxy_desc_tag, tag_field, prims_field, value_at, raw_at, Piece, at, tag_of, cut_bytes, cut_prims, cut_value, cut_body, cut_values, cut_external, cut_sections, cut_notes, Part, prim_parts, value_parts, annotation_if, section_parts, object_parts, body_parts}
+use Rattle.jser_reading.proofs.Vocabulary.{has_write_method, pending_entry, name_kind, Layer, PrimCode, primitive_codes, object_count, PrimTree, plain, proxy, BodyTree, raw_body, value_body, ValueTrees, no_values, value_and, section, SectionTrees, no_sections, section_and, NotesTree, no_notes, annotation, value_count, add, codes_of, after_fields, after_contents, chain_of_class, ArePrims, IsBytes, WellFormedBody, WellFormedValues, WellFormedExternal, WellFormedSections, WellFormedNotesIf, Role, ProxyFits, Moment, assign, next_number, past_value, past_body, past_values, past_sections, past_notes, class_desc_tag, proxy_desc_tag, tag_token, prims_token, value_at, raw_at, Piece, at, tag_of, cut_bytes, cut_prims, cut_value, cut_body, cut_values, cut_external, cut_sections, cut_notes, Part, prim_parts, value_parts, annotation_if, section_parts, object_parts, body_parts}
 use Rattle.jser_grammar.specs.Counts.{array_length}
 use Rattle.jser_reading.proofs.RoleLemmas.{plain_fits, proxy_fits}
 use Rattle.jser_reading.proofs.Remaining.{Behind, RemainsParts, RemainsBytes, RemainsName, RemainsInterfaceCount, RemainsDesc}
@@ -22,7 +22,7 @@ prims_remain (c ∷ cs) parts d m K fs ([], r1, a, e, k) = absurd (not_none 0 a.
 prims_remain (c ∷ cs) parts d m K fs (p ∷ q ∷ ps, r1, a, e, k) = let z : suc (suc (length ps)) ≡ 1 = a.0 in absurd (omega arith)
 prims_remain (c ∷ cs) parts d m K fs (p ∷ [], r1, a, e, k) =
     let x = prims_remain cs parts d m K r1 k in
-    (p ∷ x.0, x.1, (a.1.0, x.2), e ∙ ap (λ y. at (raw_at c 1) d m (prims_field (p ∷ [])) ∷ y) x.3, x.4)
+    (p ∷ x.0, x.1, (a.1.0, x.2), e ∙ ap (λ y. at (raw_at c 1) d m (prims_token (p ∷ [])) ∷ y) x.3, x.4)
 
 values_remain : (n : ℕ) (parts : List Part) (d : ℕ) (m : Moment) (K : Behind) (fs : List Piece)
     → RemainsParts d (value_parts n parts) m K fs
@@ -35,7 +35,7 @@ values_remain (suc n) parts d m K fs (v, r1, w, e, k) =
       x.1,
       ap (λ n. suc n) x.2,
       (w, x.3),
-      e ∙ ap (λ y. at value_at (suc d) m (tag_field (tag_of v))
+      e ∙ ap (λ y. at value_at (suc d) m (tag_token (tag_of v))
           ∷ cut_value (suc d) m v y) x.4,
       x.5,
     )

@@ -1,10 +1,10 @@
--- The walk over bytes, for one verdict and its gate: whole fields are taken, refused bytes are told, and what was
--- taken on the way are whole fields.
+-- The walk over bytes, for one verdict and its gate: whole tokens are taken, refused bytes are told, and what was
+-- taken on the way are whole tokens.
 use Rattle.std.proofs.Common.{◌≡◌, ℕ, ◌≤◌, Bool, true, false, List, [], ◌∷◌, ◌++◌, length, refl, sym, ◌∙◌, ap, ap₂, arith, IsTrue, append_assoc, append-nil}
-use Rattle.jser_reading.proofs.Vocabulary.{StreamField, Label, Piece, piece, State, settled, label_of, Accepts, advance, begin_state, Runs, left}
+use Rattle.jser_reading.proofs.Vocabulary.{StreamToken, Label, Piece, piece, State, settled, label_of, Accepts, advance, begin_state, Runs, left}
 use Rattle.std.proofs.Common.{length-append}
-use Rattle.jser_reading.specs.FieldBytes.{bytes_of, joined}
-use Rattle.jser_reading.specs.Scanner.{Verdict, more, good, bad, VerdictOn, FieldGate, IsUndecided, IsScanner, Outcome, ended, refused, by_verdict, walk, AllPass, HasNoField}
+use Rattle.jser_reading.specs.TokenBytes.{bytes_of, joined}
+use Rattle.jser_reading.specs.Scanner.{Verdict, more, good, bad, VerdictOn, TokenGate, IsUndecided, IsScanner, Outcome, ended, refused, by_verdict, walk, AllPass, HasNoToken}
 
 pub snoc_more : (p : List ℕ) (b : ℕ) (q : List ℕ) → (p ++ (b ∷ [])) ++ q ≡ p ++ (b ∷ q)
 snoc_more p b q = append_assoc p (b ∷ []) q
@@ -27,40 +27,40 @@ joined-append [] b = refl
 joined-append (piece l f ∷ a) b =
     ap (λ x. bytes_of f ++ x) (joined-append a b) ∙ sym (append_assoc (bytes_of f) (joined a) (joined b))
 
-module _ (gate : FieldGate) (verdict : VerdictOn) (sc : IsScanner gate verdict) where
-  -- a whole field is taken
-  walk_field_from : (b : List ℕ) (c : ℕ) (a : List ℕ) (s : State) (f : StreamField) (bs : List ℕ)
+module _ (gate : TokenGate) (verdict : VerdictOn) (sc : IsScanner gate verdict) where
+  -- a whole token is taken
+  walk_token_from : (b : List ℕ) (c : ℕ) (a : List ℕ) (s : State) (f : StreamToken) (bs : List ℕ)
       → Accepts (label_of (settled s)) f → IsTrue (gate (label_of (settled s)) f)
       → bytes_of f ≡ a ++ (c ∷ b) → walk verdict s a (c ∷ (b ++ bs)) ≡ walk verdict (advance (settled s) f) [] bs
-  walk_field_from [] c a s f bs h g e =
+  walk_token_from [] c a s f bs h g e =
       let l = label_of (settled s) in
       let v : verdict l (a ++ (c ∷ [])) ≡ good f = rw (← e) (sc.is_good l f h g) in
       rw v refl
-  walk_field_from (c' ∷ b) c a s f bs h g e =
+  walk_token_from (c' ∷ b) c a s f bs h g e =
       let l = label_of (settled s) in
       let e' : bytes_of f ≡ (a ++ (c ∷ [])) ++ (c' ∷ b) = e ∙ sym (snoc_more a c (c' ∷ b)) in
       let v : verdict l (a ++ (c ∷ [])) ≡ more = sc.before_end l f h g (a ++ (c ∷ [])) c' b e' in
-      rw v (walk_field_from b c' (a ++ (c ∷ [])) s f bs h g e')
+      rw v (walk_token_from b c' (a ++ (c ∷ [])) s f bs h g e')
 
-  walk_field : (s : State) (f : StreamField) (bs : List ℕ) → Accepts (label_of (settled s)) f
+  walk_token : (s : State) (f : StreamToken) (bs : List ℕ) → Accepts (label_of (settled s)) f
       → IsTrue (gate (label_of (settled s)) f)
       → walk verdict s [] (bytes_of f ++ bs) ≡ walk verdict (advance (settled s) f) [] bs
-  walk_field s f bs h g = go (bytes_of f) refl
+  walk_token s f bs h g = go (bytes_of f) refl
     where
       go : (w : List ℕ) → bytes_of f ≡ w → walk verdict s [] (bytes_of f ++ bs) ≡ walk verdict (advance (settled s) f) [] bs
       go [] e =
           let n : verdict (label_of (settled s)) [] ≡ more = sc.nothing_yet (label_of (settled s)) in
           let g' : verdict (label_of (settled s)) [] ≡ good f = rw (← e) (sc.is_good (label_of (settled s)) f h g) in
           absurd (cc)
-      go (c ∷ b) e = rw e (walk_field_from b c [] s f bs h g e)
+      go (c ∷ b) e = rw e (walk_token_from b c [] s f bs h g e)
 
-  -- whole fields are taken
+  -- whole tokens are taken
   pub walk_front : (front : List Piece) (s : State) (bs : List ℕ) → Runs s front → AllPass gate front
       → walk verdict s [] (joined front ++ bs) ≡ walk verdict (left s front) [] bs
   walk_front [] s bs h g = refl
   walk_front (piece l f ∷ ps) s bs h g =
       let g' : IsTrue (gate (label_of (settled s)) f) = rw (← h.0) g.0 in
-      rw (append_assoc (bytes_of f) (joined ps) bs) (walk_field s f (joined ps
+      rw (append_assoc (bytes_of f) (joined ps) bs) (walk_token s f (joined ps
       ++ bs) h.1 g' ∙ walk_front ps (advance (settled s) f) bs h.2 g.1)
 
   -- bytes that are bad, and undecided before, are refused
@@ -81,13 +81,13 @@ module _ (gate : FieldGate) (verdict : VerdictOn) (sc : IsScanner gate verdict) 
   refuses front (c ∷ b) rest r h g v u =
       walk_front front begin_state (c ∷ (b ++ rest)) h g ∙ walk_bad b c [] (left begin_state front) rest r v u
 
-  -- bytes that are bad, and have no whole field before, are refused at their end or earlier
+  -- bytes that are bad, and have no whole token before, are refused at their end or earlier
   abbrev pub RefusesBy : State → List ℕ → List ℕ → List ℕ → Type 0
   RefusesBy s cut bytes rest = (w q : List ℕ) × (k : ℕ) × (walk verdict s cut bytes ≡ refused w q k) × (length rest ≤ length q)
 
   walk_wrong : (b : List ℕ) (c : ℕ) (a : List ℕ) (s : State) (rest : List ℕ) (r : ℕ)
       → verdict (label_of (settled s)) (a ++ (c ∷ b)) ≡ bad r
-      → HasNoField (label_of (settled s)) (a ++ (c ∷ b)) → RefusesBy s a (c ∷ (b ++ rest)) rest
+      → HasNoToken (label_of (settled s)) (a ++ (c ∷ b)) → RefusesBy s a (c ∷ (b ++ rest)) rest
   walk_wrong [] c a s rest r v u = (a ++ (c ∷ []), rest, r, rw v refl, omega arith)
   walk_wrong (c' ∷ b) c a s rest r v u =
       let e : (a ++ (c ∷ [])) ++ (c' ∷ b) ≡ a ++ (c ∷ c' ∷ b) = snoc_more a c (c' ∷ b) in
@@ -106,7 +106,7 @@ module _ (gate : FieldGate) (verdict : VerdictOn) (sc : IsScanner gate verdict) 
 
   pub refuses_by : (front : List Piece) (wrong rest : List ℕ) (r : ℕ) → Runs begin_state front → AllPass gate front
       → verdict (label_of (settled (left begin_state front))) wrong ≡ bad r
-      → HasNoField (label_of (settled (left begin_state front))) wrong
+      → HasNoToken (label_of (settled (left begin_state front))) wrong
       → RefusesBy begin_state [] (joined front ++ (wrong ++ rest)) rest
   refuses_by front [] rest r h g v u = let n = sc.nothing_yet (label_of (settled (left begin_state front))) in absurd (cc)
   refuses_by front (c ∷ b) rest r h g v u =
@@ -128,7 +128,7 @@ module _ (gate : FieldGate) (verdict : VerdictOn) (sc : IsScanner gate verdict) 
   quiet_none l [] b e = sc.nothing_yet l
   quiet_none l (x ∷ a) b e = absurd (cc)
 
-  -- what was found on the way: whole fields, and bytes that decide nothing, or that are refused
+  -- what was found on the way: whole tokens, and bytes that decide nothing, or that are refused
   abbrev pub Found : State → List ℕ → Outcome → Type 0
   Found s bs (ended t q) =
       (front : List Piece) × Runs s front × AllPass gate front × (left s front ≡ t) × (bs ≡ joined front ++ q)
@@ -136,7 +136,7 @@ module _ (gate : FieldGate) (verdict : VerdictOn) (sc : IsScanner gate verdict) 
   Found s bs (refused p rest r) = (front : List Piece) × Runs s front × AllPass gate front × (bs ≡ joined front ++ (p ++ rest))
       × (verdict (label_of (settled (left s front))) p ≡ bad r) × IsUndecided verdict (label_of (settled (left s front))) p
 
-  found_more : (out : Outcome) (s : State) (f : StreamField) (bs : List ℕ) → Accepts (label_of (settled s)) f
+  found_more : (out : Outcome) (s : State) (f : StreamToken) (bs : List ℕ) → Accepts (label_of (settled s)) f
       → IsTrue (gate (label_of (settled s)) f)
       → Found (advance (settled s) f) bs out → Found s (bytes_of f ++ bs) out
   found_more (ended t q) s f bs h g (front, r, ga, e, eb, u) = (
@@ -170,7 +170,7 @@ module _ (gate : FieldGate) (verdict : VerdictOn) (sc : IsScanner gate verdict) 
 
       go : (v : Verdict) → verdict l (p ++ (b ∷ [])) ≡ v
           → (verdict l (p ++ (b ∷ [])) ≡ more → Found s ((p ++ (b ∷ [])) ++ bs) (walk verdict s (p ++ (b ∷ [])) bs))
-          → ((f : StreamField) → Found (advance (settled s) f) bs (walk verdict (advance (settled s) f) [] bs))
+          → ((f : StreamToken) → Found (advance (settled s) f) bs (walk verdict (advance (settled s) f) [] bs))
           → Found s (p ++ (b ∷ bs)) (by_verdict v (walk verdict s (p
           ++ (b ∷ [])) bs) (λ f. walk verdict (advance (settled s) f) [] bs) (λ r. refused (p ++ (b ∷ [])) bs r))
       go more e m g = rw (← snoc_more p b bs) (m e)
@@ -182,9 +182,9 @@ module _ (gate : FieldGate) (verdict : VerdictOn) (sc : IsScanner gate verdict) 
   pub walked : (bs : List ℕ) → Found begin_state bs (walk verdict begin_state [] bs)
   walked bs = walk_found bs begin_state [] (quiet_none (label_of (settled begin_state)))
 
-  -- bytes that are undecided before their end have no whole field before it
-  pub undecided_no_field : (l : Label) (wrong : List ℕ) → IsUndecided verdict l wrong → HasNoField l wrong
-  undecided_no_field l wrong u a c b f e h ef = go (gate l f) refl
+  -- bytes that are undecided before their end have no whole token before it
+  pub undecided_no_token : (l : Label) (wrong : List ℕ) → IsUndecided verdict l wrong → HasNoToken l wrong
+  undecided_no_token l wrong u a c b f e h ef = go (gate l f) refl
     where
       go : (x : Bool) → gate l f ≡ x → ⊥
       go true g =

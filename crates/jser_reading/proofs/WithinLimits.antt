@@ -1,6 +1,6 @@
--- A gate's limits, asked field by field, hold exactly where the counts and the names of the list are within them.
+-- A gate's limits, asked token by token, hold exactly where the counts and the names of the list are within them.
 use Rattle.std.proofs.Common.{ℕ, ◌≤◌, List, [], ◌∷◌, sym, subst, arith, IsTrue}
-use Rattle.jser_reading.proofs.Vocabulary.{ContentTrees, WellFormed, fields_of}
+use Rattle.jser_reading.proofs.Vocabulary.{ContentTrees, WellFormed, tokens_of}
 use Rattle.jser_grammar.specs.Counts.{epoch_handles}
 use Rattle.jser_reading.specs.GateLimits.{GateLimits, Each, IsWithin, Limited}
 use Rattle.jser_reading.proofs.Observed.{IsObserved, observed, observed_passes}
@@ -16,7 +16,7 @@ below_each : (ns : List ℕ) (D : ℕ) → Each (λ n. n ≤ D) ns → greatest 
 below_each [] D h = omega arith
 below_each (n ∷ ns) D h = let a = h.0 in let r = below_each ns D h.1 in omega arith
 
-within : (limits : GateLimits) (list : ContentTrees) → WellFormed list → IsObserved limits (fields_of list) → IsWithin limits list
+within : (limits : GateLimits) (list : ContentTrees) → WellFormed list → IsObserved limits (tokens_of list) → IsWithin limits list
 within limits list w o =
     let d = depth_observed list w in
     let p = places_observed list w in
@@ -31,7 +31,7 @@ within limits list w o =
       subst (λ ns. Each (λ n. IsTrue (limits.passes n)) ns) (names_observed list w) o.names,
     )
 
-without : (limits : GateLimits) (list : ContentTrees) → WellFormed list → IsWithin limits list → IsObserved limits (fields_of list)
+without : (limits : GateLimits) (list : ContentTrees) → WellFormed list → IsWithin limits list → IsObserved limits (tokens_of list)
 without limits list w (d, p, a, t, n) =
     let ed = depth_observed list w in
     let ep = places_observed list w in
@@ -47,7 +47,7 @@ without limits list w (d, p, a, t, n) =
 
 pub limited_law : Limited
 limited_law limits list w = (
-  λ h. within limits list w (observed limits (fields_of list) h),
-  λ h. observed_passes limits (fields_of list)
+  λ h. within limits list w (observed limits (tokens_of list) h),
+  λ h. observed_passes limits (tokens_of list)
       (without limits list w h),
 )

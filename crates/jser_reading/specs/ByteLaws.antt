@@ -1,16 +1,16 @@
--- What holds of the bytes of fields and of streams.
+-- What holds of the bytes of tokens and of streams.
 use Rattle.std.specs.Prelude.{ℕ, ◌≡◌, List, ◌++◌}
 use Rattle.jser_grammar.specs.Trees.{ValueTree, ContentTrees}
 use Rattle.jser_grammar.specs.TableAfter.{Entries}
 use Rattle.jser_grammar.specs.Spelling.{value_spelling, spelling}
 use Rattle.jser_grammar.specs.WellFormed.{WellFormedValue, WellFormed}
 use Rattle.jser_grammar.specs.Streams.{IsStreamOf}
-use Rattle.jser_reading.specs.Fields.{fields_of}
-use Rattle.jser_reading.specs.FieldBytes.{joined}
+use Rattle.jser_reading.specs.Tokens.{tokens_of}
+use Rattle.jser_reading.specs.TokenBytes.{joined}
 
--- The fields of a list that obeys the format, joined, are its spelling.
+-- The tokens of a list that obeys the format, joined, are its spelling.
 abbrev pub Spelled : Type 0
-Spelled = (list : ContentTrees) → WellFormed list → joined (fields_of list) ≡ spelling list
+Spelled = (list : ContentTrees) → WellFormed list → joined (tokens_of list) ≡ spelling list
 
 -- One reading: of a byte list at most one content list makes a stream ..
 abbrev pub OneReading : Type 0

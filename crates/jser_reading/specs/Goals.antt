@@ -1,5 +1,5 @@
--- What the reading machine still has to read: a stack of goals, the next one first. A goal is read by one field,
--- and leads to others. Some goals take no field, and are settled as soon as they are next: parts that are empty,
+-- What the reading machine still has to read: a stack of goals, the next one first. A goal is read by one token,
+-- and leads to others. Some goals take no token, and are settled as soon as they are next: parts that are empty,
 -- a class that has been read (the entry of its owner is added), a descriptor whose superclass has been read (its
 -- entry is closed). `d` is the depth, `number` the number of an entry in the table.
 use Rattle.std.specs.Prelude.{ℕ, zero, suc, Bool, true, false, List, [], ◌∷◌, ◌++◌, Option, Some, None}
@@ -104,7 +104,7 @@ abbrev pub settle_interfaces : Role → ℕ → ℕ → ℕ → Moment → List 
 settle_interfaces role d number zero m goals = (m, ending role d number 0 proxy_layer goals)
 settle_interfaces role d number (suc n) m goals = (m, interfaces_goal role d number (suc n) ∷ goals)
 
--- the goals that take no field and are next are done
+-- the goals that take no token and are next are done
 abbrev pub settle : Moment → List Goal → State
 settle m [] = (m, [])
 settle m (block_goal d n ∷ goals) = settle_block d n m goals (settle m goals)

@@ -1,5 +1,5 @@
--- A stream is cut into fields, one after the other: a tag, a number, a text, raw bytes. A label says what is
--- known of a field before its bytes: which field it is, for what it is read, how deep it stands, and the moment
+-- A stream is cut into tokens, one after the other: a tag, a number, a text, raw bytes. A label says what is
+-- known of a token before its bytes: which token it is, for what it is read, how deep it stands, and the moment
 -- at its beginning.
 use Rattle.std.specs.Prelude.{ℕ, Bool, List}
 use Rattle.jser_grammar.specs.Codes.{PrimCode}
@@ -11,24 +11,24 @@ use Rattle.jser_reading.specs.Moments.{Moment}
 pub data Tag : Type 0 where
   null_tag reference_tag class_desc_tag object_tag string_tag array_tag class_tag long_string_tag proxy_desc_tag enum_tag : Tag
 
--- What the bytes of one field say. A number is as big as its bytes; a handle is told by its number, less
+-- What the bytes of one token say. A number is as big as its bytes; a handle is told by its number, less
 -- 0x7E0000; a text by its form and its units.
-pub data StreamField : Type 0 where
-  header_field : StreamField
-  tag_field : Tag → StreamField
-  block_tag_field : (long : Bool) → StreamField
-  end_tag_field reset_tag_field : StreamField
-  handle_field suid_field flags_field field_count_field interface_count_field array_length_field code_field : ℕ → StreamField
-  text_field : (long : Bool) → List ℕ → StreamField
-  block_length_field : (long : Bool) → ℕ → StreamField
-  prims_field : List PrimTree → StreamField
-  bytes_field : List ℕ → StreamField
+pub data StreamToken : Type 0 where
+  header_token : StreamToken
+  tag_token : Tag → StreamToken
+  block_tag_token : (long : Bool) → StreamToken
+  end_tag_token reset_tag_token : StreamToken
+  handle_token suid_token flags_token field_count_token interface_count_token array_length_token code_token : ℕ → StreamToken
+  text_token : (long : Bool) → List ℕ → StreamToken
+  block_length_token : (long : Bool) → ℕ → StreamToken
+  prims_token : List PrimTree → StreamToken
+  bytes_token : List ℕ → StreamToken
 
--- Which field is read. The first ones are the tags: at the top, in an annotation, in a value place (an object
+-- Which token is read. The first ones are the tags: at the top, in an annotation, in a value place (an object
 -- field or an array element), in a class place, a superclass place and a text place. Then the handle of a
--- reference in each of these; the texts: of a string, a class name (a checked name), a field name, an interface
+-- reference in each of these; the texts: of a string, a class name (a checked name), a field's name, an interface
 -- name (a checked name); and the rest. `seen` tells of an object field before, in the same descriptor; `raw_at`
--- is so many raw values of a primitive, `bytes_at` so many bytes. At `nowhere` no field is read.
+-- is so many raw values of a primitive, `bytes_at` so many bytes. At `nowhere` no token is read.
 pub data Position : Type 0 where
   nowhere header_at top_at annotation_at value_at text_place_at : Position
   class_place_at : Owner → Position
@@ -46,16 +46,16 @@ pub data Position : Type 0 where
   raw_at : PrimCode → ℕ → Position
   bytes_at : ℕ → Position
 
--- The depth is that of the place that a tag there may begin, else of the place in which the field stands, and
+-- The depth is that of the place that a tag there may begin, else of the place in which the token stands, and
 -- 0 at the top.
 pub record Label : Type 0 where
   pub position : Position
   pub depth : ℕ
   pub moment : Moment
 
--- a field with its label
+-- a token with its label
 pub data Piece : Type 0 where
-  piece : Label → StreamField → Piece
+  piece : Label → StreamToken → Piece
 
-abbrev pub at : Position → ℕ → Moment → StreamField → Piece
-at position depth moment field = piece (record { position = position; depth = depth; moment = moment }) field
+abbrev pub at : Position → ℕ → Moment → StreamToken → Piece
+at position depth moment token = piece (record { position = position; depth = depth; moment = moment }) token

@@ -1,9 +1,9 @@
 pub mod Roles
 pub mod Moments
 pub mod Labels
-pub mod Fields
-pub mod FieldBytes
-pub mod FieldsFromBytes
+pub mod Tokens
+pub mod TokenBytes
+pub mod TokensFromBytes
 pub mod Goals
 pub mod Accepts
 pub mod Machine

@@ -1,5 +1,5 @@
 -- For what a class is read, and what that asks of each of its descriptors (Java Object Serialization
--- Specification, section 6.4.1). The conditions are those of `fits` on the whole chain, told at the field of
+-- Specification, section 6.4.1). The conditions are those of `fits` on the whole chain, told at the token of
 -- the descriptor at which they show: its name, its flags, or the tag of a proxy.
 use Rattle.std.specs.Prelude.{ℕ, Bool, true, false, not, IsTrue, if◌then◌else◌, List, Option, Some, None}
 use Rattle.jser_table.specs.declared.layer.Layer.{Layer}

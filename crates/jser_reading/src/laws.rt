@@ -4,7 +4,7 @@
 
 ghost use Rattle.jser_reading.specs.Laws.{Exact, NextIsTold, StackIsBounded};
 ghost use Rattle.jser_reading.specs.ByteLaws.{OneReading, NoPrefix, Spelled};
-ghost use Rattle.jser_reading.specs.WalkLaws.{AcceptsExactly, RefusesFirst, NoFaultPassed, CutShort, FieldsAreTold, EachGateHasAVerdict};
+ghost use Rattle.jser_reading.specs.WalkLaws.{AcceptsExactly, RefusesFirst, NoFaultPassed, CutShort, TokensAreTold, EachGateHasAVerdict};
 ghost use Rattle.jser_reading.specs.GateLimits.{Limited};
 ghost use Rattle.jser_reading.specs.Totals.{Totalled};
 
@@ -18,23 +18,23 @@ pub fn no_prefix()
     ensures { NoPrefix }
 {}
 
-/// The fields of a list that obeys the format, joined, are its spelling.
+/// The tokens of a list that obeys the format, joined, are its spelling.
 pub fn spelled()
     ensures { Spelled }
 {}
 
-/// The reading machine reads exactly the fields of the lists that obey the format.
+/// The reading machine reads exactly the tokens of the lists that obey the format.
 pub fn exact()
     ensures { Exact }
 {}
 
-/// What the machine asks next is exactly what may come next: each front of fields that it takes begins a stream,
+/// What the machine asks next is exactly what may come next: each front of tokens that it takes begins a stream,
 /// save just behind a reference's tag.
 pub fn next_is_told()
     ensures { NextIsTold }
 {}
 
-/// The stack of goals is at least as long as the next field is deep, and at most three times that and two.
+/// The stack of goals is at least as long as the next token is deep, and at most three times that and two.
 pub fn stack_is_bounded()
     ensures { StackIsBounded }
 {}
@@ -54,14 +54,14 @@ pub fn no_fault_passed()
     ensures { NoFaultPassed }
 {}
 
-/// Where the walk ends within a field or short of the top, the bytes are no stream.
+/// Where the walk ends within a token or short of the top, the bytes are no stream.
 pub fn cut_short()
     ensures { CutShort }
 {}
 
-/// What the walk has taken when it ends are the first fields of every stream that begins with its bytes.
-pub fn fields_are_told()
-    ensures { FieldsAreTold }
+/// What the walk has taken when it ends are the first tokens of every stream that begins with its bytes.
+pub fn tokens_are_told()
+    ensures { TokensAreTold }
 {}
 
 /// Each gate has a verdict that goes with it, so the laws of the walk speak of something.
@@ -69,13 +69,13 @@ pub fn each_gate_has_a_verdict()
     ensures { EachGateHasAVerdict }
 {}
 
-/// A gate's limits on depth, places, array lengths, handles of each epoch and checked names, asked field by field,
+/// A gate's limits on depth, places, array lengths, handles of each epoch and checked names, asked token by token,
 /// hold exactly where the counts and the names of the list are within them.
 pub fn limited()
     ensures { Limited }
 {}
 
-/// Along the fields of a list one counts its contents, places, depth and handles.
+/// Along the tokens of a list one counts its contents, places, depth and handles.
 pub fn totalled()
     ensures { Totalled }
 {}

@@ -1,16 +1,16 @@
--- Worked rows: what is found along the fields of some lists, by computation.
+-- Worked rows: what is found along the tokens of some lists, by computation.
 use Rattle.std.proofs.Common.{◌≡◌, refl}
 use Rattle.jser_grammar.specs.CheckedNames.{checked_names}
 use Rattle.jser_grammar.specs.Trees.{ContentTrees}
 use Rattle.jser_grammar.proofs.Rows.{linked_pair, array_list, reset_epochs, int_array, external_over_serial, enum_constant_row, proxy_row}
 use Rattle.jser_prim.specs.ModifiedUtf8.{unit_spelling}
-use Rattle.jser_reading.specs.Fields.{fields_of}
+use Rattle.jser_reading.specs.Tokens.{tokens_of}
 use Rattle.jser_shown.specs.Nodes.{nodes_of}
 use Rattle.jser_shown.specs.Owners.{owners_of}
 use Rattle.jser_shown.specs.Finding.{Finding, begin_finding, found, finished, nodes_found}
 
 abbrev all_found : ContentTrees → Finding
-all_found list = finished (found begin_finding (fields_of list))
+all_found list = finished (found begin_finding (tokens_of list))
 
 nodes_1 : nodes_found (all_found linked_pair) ≡ nodes_of linked_pair
 unfolding unit_spelling

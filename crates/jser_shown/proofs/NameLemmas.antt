@@ -137,4 +137,4 @@ mutual
   behind_contents (content_and reset cs) N = behind_contents cs N
   behind_contents (content_and (content v) cs) N = behind_contents cs (from_value N v) ∙ joined N (from_value N v) (names_in_value v) (names_in_contents cs) (behind_value v N)
 
--- the names along the fields of a list that obeys the format are its checked names
+-- the names along the tokens of a list that obeys the format are its checked names

@@ -1,11 +1,11 @@
--- The state teller_after a tree: along the fields of a well-formed tree the teller comes to where it knows what the tree leaves,
+-- The state teller_after a tree: along the tokens of a well-formed tree the teller comes to where it knows what the tree leaves,
 -- and has used what was given of its owners. The lemmas are those of `TreeToText` without the texts.
 use Rattle.std.proofs.Common.{◌≡◌, ℕ, suc, Bool, true, false, ◌||◌, if◌then◌else◌, List, [], ◌∷◌, ◌++◌, length, refl, sym, ap, subst, ◌∙◌, Option, Some, None, true≢false, is_some, MatchBool, slice_set, arith}
 use Rattle.jser_grammar.specs.Counts.{array_length}
 use Rattle.jser_grammar.proofs.Bools.{both_ways, untrue}
 use Rattle.jser_reading.proofs.TreeToMachine.{not_object}
 use Rattle.jser_reading.proofs.Vocabulary.{TextPlaceTree, new_text, back_text, FieldTree, PrimTree, ValueTree, null, back, string, descriptor, class_object, array, enum_constant, object, DescTree, plain, proxy, ClassPlaceTree, no_class, back_class, new_class, BodyTree, raw_body, value_body, ValueTrees, no_values, value_and, section, SectionTrees, no_sections, section_and, NotesTree, no_notes, annotation, block, reset, content, ContentTrees, no_contents, content_and, value_count}
-use Rattle.jser_reading.proofs.Vocabulary.{has_write_method, text_entry, other_entry, pending_entry, PrimCode, prim_code_of, is_object_code, with_code, primitive_codes, chain_of_class, WellFormedType, WellFormedFields, ArePrims, elements_of, is_external, WellFormedValue, WellFormedDesc, WellFormedClass, WellFormedSuperclass, WellFormedBody, WellFormedValues, WellFormedExternal, WellFormedSections, WellFormedNotesIf, WellFormedNotes, WellFormedContents, Owner, object_owner, array_owner, enum_owner, class_owner, ChainOwner, Role, own_class, superclass, owner_of, is_strict_above, Moment, beginning, tick, assign, emptied, past_type, past_fields, past_value, past_class, past_values, past_notes, past_contents, tag_field, text_field, array_length_field, block_length_field, class_place_at, superclass_place_at, text_place_at, string_at, array_length_at, block_length_at, Piece, piece, at, tag_of_string, tag_of_desc, tag_of, cut_text_place, cut_type, cut_fields, cut_interfaces, cut_bytes, cut_raw, cut_prims, cut_value, cut_desc, cut_class, cut_superclass, cut_body, cut_values, cut_external, cut_sections, cut_notes, cut_annotation, cut_top}
+use Rattle.jser_reading.proofs.Vocabulary.{has_write_method, text_entry, other_entry, pending_entry, PrimCode, prim_code_of, is_object_code, with_code, primitive_codes, chain_of_class, WellFormedType, WellFormedFields, ArePrims, elements_of, is_external, WellFormedValue, WellFormedDesc, WellFormedClass, WellFormedSuperclass, WellFormedBody, WellFormedValues, WellFormedExternal, WellFormedSections, WellFormedNotesIf, WellFormedNotes, WellFormedContents, Owner, object_owner, array_owner, enum_owner, class_owner, ChainOwner, Role, own_class, superclass, owner_of, is_strict_above, Moment, beginning, tick, assign, emptied, past_type, past_fields, past_value, past_class, past_values, past_notes, past_contents, tag_token, text_token, array_length_token, block_length_token, class_place_at, superclass_place_at, text_place_at, string_at, array_length_at, block_length_at, Piece, piece, at, tag_of_string, tag_of_desc, tag_of, cut_text_place, cut_type, cut_fields, cut_interfaces, cut_bytes, cut_raw, cut_prims, cut_value, cut_desc, cut_class, cut_superclass, cut_body, cut_values, cut_external, cut_sections, cut_notes, cut_annotation, cut_top}
 use Rattle.jser_shown.specs.Known.{NamedField, NamedLayer, class_layer, proxy_layer, known_text, known_other, known_pending, known_class, Known, classes_at, with_entry, named_fields, known_text_place, known_type, known_fields, known_value, known_desc, known_class_place, known_body, known_values, known_sections, known_notes, known_contents, classes_of, last_epoch, last_known, prim_fields, object_names, own_class_of, is_external_chain, elements_of_chain}
 use Rattle.jser_shown.specs.Words.{Epoch, first_epoch, next_epoch}
 use Rattle.jser_shown.specs.Owners.{OwnerNode, owners_in_value, owners_in_desc, owners_in_class, owners_in_body, owners_in_values, owners_in_sections, owners_in_notes, owners_in_annotation, owners_at_top}
@@ -15,7 +15,7 @@ use Rattle.jser_shown.specs.Laws.{EndsThere}
 use Rattle.jser_shown.proofs.CueLemmas.{owner_cues, desc_begin, object_names_count}
 use Rattle.jser_shown.proofs.KnownLemmas.{codes_in, layers_of, entries, classes_at-known_desc, external-known, elements-known, then_entry, then_fields, then_value, then_class, then_values, then_notes, then_contents, then_chain}
 
--- cues that no field belongs to
+-- cues that no token belongs to
 
 parts_done : (rest : List Piece) (e : Epoch) (L : ℕ) (T : Known) (os : List OwnerNode) (gs : List Cue)
     → teller_after (teller e T os (parts_cue L [] ∷ gs)) rest ≡ teller_after (teller e T os gs) rest
@@ -83,7 +83,7 @@ ends_made (piece l f ∷ rest) class_owner e L n T os gs = refl
 -- texts, fields and interfaces
 
 ends_new_text : (long : Bool) (units : List ℕ) (d : ℕ) (m n : Moment) (e : Epoch) (T : Known) (os : List OwnerNode) (gs : List Cue) (rest : List Piece)
-    → teller_after (teller e T os (text_place_cue ∷ gs)) (at text_place_at d m (tag_field (tag_of_string long)) ∷ at (string_at long) d n (text_field long units) ∷ rest)
+    → teller_after (teller e T os (text_place_cue ∷ gs)) (at text_place_at d m (tag_token (tag_of_string long)) ∷ at (string_at long) d n (text_token long units) ∷ rest)
     ≡ teller_after (teller e (with_entry T known_text) os gs) rest
 ends_new_text true units d m n e T os gs rest = refl
 ends_new_text false units d m n e T os gs rest = refl
@@ -94,7 +94,7 @@ ends_text (new_text t) d m e T os gs rest = ends_new_text t.long t.units d m (as
 ends_text (back_text n) d m e T os gs rest = refl
 
 ends_new_name : (long : Bool) (units : List ℕ) (d : ℕ) (m n : Moment) (e : Epoch) (L : ℕ) (T : Known) (os : List OwnerNode) (gs : List Cue) (rest : List Piece)
-    → teller_after (teller e T os (name_cue L ∷ gs)) (at text_place_at d m (tag_field (tag_of_string long)) ∷ at (string_at long) d n (text_field long units) ∷ rest)
+    → teller_after (teller e T os (name_cue L ∷ gs)) (at text_place_at d m (tag_token (tag_of_string long)) ∷ at (string_at long) d n (text_token long units) ∷ rest)
     ≡ teller_after (teller e (with_entry T known_text) os gs) rest
 ends_new_name true units d m n e L T os gs rest = refl
 ends_new_name false units d m n e L T os gs rest = refl
@@ -135,7 +135,7 @@ ends_interfaces (name ∷ names) d m e L number T os gs rest =
 -- raw bytes and raw values
 
 ends_block : (bytes : List ℕ) (long : Bool) (d : ℕ) (m : Moment) (e : Epoch) (T : Known) (os : List OwnerNode) (gs : List Cue) (rest : List Piece)
-    → teller_after (teller e T os (block_length_cue ∷ gs)) (at (block_length_at long) d m (block_length_field long (length bytes)) ∷ cut_bytes d m bytes rest)
+    → teller_after (teller e T os (block_length_cue ∷ gs)) (at (block_length_at long) d m (block_length_token long (length bytes)) ∷ cut_bytes d m bytes rest)
     ≡ teller_after (teller e T os gs) rest
 ends_block [] long d m e T os gs rest = refl
 ends_block (b ∷ bytes) long d m e T os gs rest = refl
@@ -175,13 +175,13 @@ enter_value (plain name suid flags fields notes parent) e L T os gs pieces = ref
 enter_value (proxy interfaces notes parent) e L T os gs pieces = refl
 
 enter_class : (x : DescTree) (owner : Owner) (d : ℕ) (m : Moment) (e : Epoch) (L : ℕ) (T : Known) (os : List OwnerNode) (gs : List Cue) (pieces : List Piece)
-    → teller_after (teller e T os (class_cue owner L ∷ gs)) (at (class_place_at owner) d m (tag_field (tag_of_desc x)) ∷ pieces)
+    → teller_after (teller e T os (class_cue owner L ∷ gs)) (at (class_place_at owner) d m (tag_token (tag_of_desc x)) ∷ pieces)
     ≡ teller_after (desc_begin e L T os x (made_cue owner L (length T) ∷ gs)) pieces
 enter_class (plain name suid flags fields notes parent) owner d m e L T os gs pieces = refl
 enter_class (proxy interfaces notes parent) owner d m e L T os gs pieces = refl
 
 enter_super : (x : DescTree) (owner : ChainOwner) (strict : Bool) (d : ℕ) (m : Moment) (e : Epoch) (L number : ℕ) (layer : NamedLayer) (T : Known) (os : List OwnerNode) (gs : List Cue) (pieces : List Piece)
-    → teller_after (teller e T os (super_cue L number layer ∷ gs)) (at (superclass_place_at owner strict) d m (tag_field (tag_of_desc x)) ∷ pieces)
+    → teller_after (teller e T os (super_cue L number layer ∷ gs)) (at (superclass_place_at owner strict) d m (tag_token (tag_of_desc x)) ∷ pieces)
     ≡ teller_after (desc_begin e L T os x (close_cue number (length T) layer ∷ gs)) pieces
 enter_super (plain name suid flags fields notes parent) owner strict d m e L number layer T os gs pieces = refl
 enter_super (proxy interfaces notes parent) owner strict d m e L number layer T os gs pieces = refl
@@ -207,7 +207,7 @@ mutual
   ends_value (string t) d m e L T os gs rest q h = go t.long t.units
     where
       go : (long : Bool) (units : List ℕ)
-          → teller_after (begin e L T os (tag_of_string long) gs) (at (string_at long) d (assign (tick m) text_entry) (text_field long units) ∷ rest)
+          → teller_after (begin e L T os (tag_of_string long) gs) (at (string_at long) d (assign (tick m) text_entry) (text_token long units) ∷ rest)
           ≡ teller_after (teller e (with_entry T known_text) os gs) rest
       go true units = refl
       go false units = refl
@@ -220,8 +220,8 @@ mutual
       let T1 = with_entry (known_class_place T c) known_other in
       let same = ap elements_of (then_chain c T m.table q) ∙ elements-known (classes_of T c) in
       (ends_class c array_owner d (tick m) e (suc L) T (owners_in_body T1 b os) gs
-      (at array_length_at d made (array_length_field (array_length b)) ∷ cut_body d made (elements_of (chain_of_class m.table c)) b rest) q h.0
-      ∙ ap (λ o. teller_after (teller e T1 (owners_in_body T1 b os) (length_cue (suc L) o ∷ gs)) (at array_length_at d made (array_length_field (array_length b)) ∷ cut_body d made (elements_of (chain_of_class m.table c)) b rest)) (sym same)
+      (at array_length_at d made (array_length_token (array_length b)) ∷ cut_body d made (elements_of (chain_of_class m.table c)) b rest) q h.0
+      ∙ ap (λ o. teller_after (teller e T1 (owners_in_body T1 b os) (length_cue (suc L) o ∷ gs)) (at array_length_at d made (array_length_token (array_length b)) ∷ cut_body d made (elements_of (chain_of_class m.table c)) b rest)) (sym same)
       ∙ (ends_body b (elements_of (chain_of_class m.table c)) d made e (suc L) T1 os gs rest (then_entry known_other (known_class_place T c) (past_class (tick m) c).table (then_class c T m.table q)) h.2))
   ends_value (enum_constant c t) d m e L T os gs rest q h =
       let made = assign (past_class (tick m) c) other_entry in
@@ -305,7 +305,7 @@ mutual
 
   ends_body : (b : BodyTree) (elements : Option PrimCode) (d : ℕ) (m : Moment) (e : Epoch) (L : ℕ) (T : Known) (os : List OwnerNode) (gs : List Cue) (rest : List Piece)
       → m.table ≡ entries T → WellFormedBody m.table b elements
-      → teller_after (teller e T (owners_in_body T b os) (length_cue L elements ∷ gs)) (at array_length_at d m (array_length_field (array_length b)) ∷ cut_body d m elements b rest)
+      → teller_after (teller e T (owners_in_body T b os) (length_cue L elements ∷ gs)) (at array_length_at d m (array_length_token (array_length b)) ∷ cut_body d m elements b rest)
       ≡ teller_after (teller e (known_body T b) os gs) rest
   ends_body (raw_body ps) None d m e L T os gs rest q h = absurd h
   ends_body (raw_body ps) (Some c) d m e L T os gs rest q h = ends_raw ps c d m e L T os gs rest
@@ -420,6 +420,6 @@ ends_top (content_and (content v) cs) m e T q h =
     ends_value v 1 m e 0 T (owners_at_top (known_value T v) cs) (top_cue ∷ []) (cut_top (past_value m v) cs []) q h.0
     ∙ (ends_top cs (past_value m v) e (known_value T v) (then_value v T m.table q) h.1)
 
--- teller_after the fields of a list that obeys the format the teller is at the top, knows what the list leaves, and has used all that was given
+-- teller_after the tokens of a list that obeys the format the teller is at the top, knows what the list leaves, and has used all that was given
 pub ends_there_law : EndsThere
 ends_there_law values list h = ends_top list beginning (first_epoch values) [] refl h

@@ -1,4 +1,4 @@
--- From trees to what is found: along the fields of a well-formed tree its nodes, its owners and its checked names are
+-- From trees to what is found: along the tokens of a well-formed tree its nodes, its owners and its checked names are
 -- found, and after them the place is that after the tree's spelling.
 use Rattle.std.proofs.Common.{◌≡◌, ℕ, suc, Bool, true, false, if◌then◌else◌, List, [], ◌∷◌, ◌++◌, length, refl, sym, ap, ◌∙◌, Option, Some, None, MatchBool, slice_set, append_assoc, append-nil}
 use Rattle.jser_prim.specs.Bytes.{big_bytes}
@@ -8,10 +8,10 @@ use Rattle.jser_reading.proofs.Vocabulary.{ValueTree, null, back, string, descri
 use Rattle.jser_reading.proofs.Vocabulary.{Layer, Entries, add, text_entry, other_entry, pending_entry, PrimCode, primitive_codes, plain_layer, proxy_layer, chain_of_class, after_text_place, after_value, after_desc, after_class, after_body, after_values, after_sections, after_notes, after_contents}
 use Rattle.jser_reading.proofs.Vocabulary.{has_write_method, elements_of, is_external, WellFormedValue, WellFormedDesc, WellFormedClass, WellFormedSuperclass, WellFormedBody, WellFormedValues, WellFormedExternal, WellFormedSections, WellFormedNotesIf, WellFormedNotes, WellFormedContents}
 use Rattle.jser_reading.proofs.Vocabulary.{Owner, object_owner, array_owner, enum_owner, class_owner, ChainOwner, Role, own_class, superclass, owner_of, is_strict_above, Moment, beginning, tick, assign, emptied, past_fields, past_value, past_class, past_values, past_notes, past_contents}
-use Rattle.jser_reading.proofs.Vocabulary.{tag_field, null_tag, reference_tag, class_desc_tag, proxy_desc_tag, object_tag, array_tag, class_tag, enum_tag, end_tag_field, reset_tag_field, handle_field, suid_field, flags_field, field_count_field, interface_count_field, array_length_field, text_field}
+use Rattle.jser_reading.proofs.Vocabulary.{tag_token, null_tag, reference_tag, class_desc_tag, proxy_desc_tag, object_tag, array_tag, class_tag, enum_tag, end_tag_token, reset_tag_token, handle_token, suid_token, flags_token, field_count_token, interface_count_token, array_length_token, text_token}
 use Rattle.jser_reading.proofs.Vocabulary.{Position, top_at, annotation_at, value_at, class_place_at, superclass_place_at, back_handle_at, class_handle_at, superclass_handle_at, class_name_at, suid_at, field_count_at, interface_count_at, array_length_at, flags_at, Piece, at}
 use Rattle.jser_reading.proofs.Vocabulary.{tag_of_desc, tag_of, cut_text_place, cut_fields, cut_interfaces, cut_value, cut_desc, cut_class, cut_superclass, cut_body, cut_values, cut_external, cut_sections, cut_notes, cut_annotation, cut_top}
-use Rattle.jser_reading.specs.FieldBytes.{bytes_of}
+use Rattle.jser_reading.specs.TokenBytes.{bytes_of}
 use Rattle.jser_shown.specs.Known.{known_other, known_pending, Known, with_entry, known_fields, known_value, known_class_place, known_values, known_notes, known_contents}
 use Rattle.jser_shown.specs.Nodes.{NodeKind, plain_desc_node, proxy_desc_node, class_object_node, array_node, enum_const_node, object_node, Nodes, with_node, with_text, place_after, nodes_value, nodes_desc, nodes_class, nodes_body, nodes_values, nodes_sections, nodes_notes, nodes_contents, epochs_of_nodes}
 use Rattle.jser_shown.specs.Owners.{OwnerNode, owner_node, owners_in_value, owners_in_desc, owners_in_class, owners_in_body, owners_in_values, owners_in_sections, owners_in_notes, owners_in_annotation, owners_at_top}
@@ -77,11 +77,11 @@ owner_entered kind y = record y { place = suc y.place; begun = begins kind y ∷
 
 desc_tag : (x : DescTree) (position : Position) (depth : ℕ) (m : Moment) (i : Bool) (z y : Finding) (rest : List Piece) (A : Findings)
     → Near (length m.table) z (named i y) → findings (found (desc_entered x y) rest) ≡ A
-    → findings (found z (at position depth m (tag_field (tag_of_desc x)) ∷ rest)) ≡ A
+    → findings (found z (at position depth m (tag_token (tag_of_desc x)) ∷ rest)) ≡ A
 desc_tag (plain name suid flags fields notes parent) position depth m i z y rest A near k =
-    step position depth m (tag_field class_desc_tag) z (named i y) rest A near (λ z. refl) k
+    step position depth m (tag_token class_desc_tag) z (named i y) rest A near (λ z. refl) k
 desc_tag (proxy interfaces notes parent) position depth m i z y rest A near k =
-    step position depth m (tag_field proxy_desc_tag) z (named i y) rest A near (λ z. refl) k
+    step position depth m (tag_token proxy_desc_tag) z (named i y) rest A near (λ z. refl) k
 
 -- a tree without owners
 
@@ -123,16 +123,16 @@ by_class false E S T y a b A h f g = g h
 mutual
   leads_value : (v : ValueTree) (position : Position) (d : ℕ) (m : Moment) (T : Known) (y : Finding) (rest : List Piece) (A : Findings)
       → m.table ≡ entries T → WellFormedValue m.table v → Leads (after_value m.table v) (value_found T v y) rest A
-      → Leads m.table y (at position d m (tag_field (tag_of v)) ∷ cut_value d m v rest) A
+      → Leads m.table y (at position d m (tag_token (tag_of v)) ∷ cut_value d m v rest) A
   leads_value null position d m T y rest A q h k = λ i x near.
       let y1 : Finding = record y { place = suc y.place; is_name = true } in
-      step position d m (tag_field null_tag) x (named i y) rest A near (λ z. refl)
+      step position d m (tag_token null_tag) x (named i y) rest A near (λ z. refl)
       (goes m.table true y1 rest A (no_owners m.table y1 rest A k) near.exact)
   leads_value (back n) position d m T y rest A q h k = λ i x near.
       let y1 : Finding = record y { place = suc y.place; is_name = true } in
-      let y2 = moved (bytes_of (handle_field n)) y1 in
-      step position d m (tag_field reference_tag) x (named i y) (at back_handle_at d (tick m) (handle_field n) ∷ rest) A near (λ z. refl)
-      (step_exact back_handle_at d (tick m) (handle_field n) y1 rest A near.exact (goes m.table true y2 rest A (no_owners m.table y2 rest A k) near.exact))
+      let y2 = moved (bytes_of (handle_token n)) y1 in
+      step position d m (tag_token reference_tag) x (named i y) (at back_handle_at d (tick m) (handle_token n) ∷ rest) A near (λ z. refl)
+      (step_exact back_handle_at d (tick m) (handle_token n) y1 rest A near.exact (goes m.table true y2 rest A (no_owners m.table y2 rest A k) near.exact))
   leads_value (string t) position d m T y rest A q h k =
       let y1 : Finding = record y { place = place_after y.place (string_spelling t.long t.units); nodes = with_text y.nodes y.place t.units } in
       leads_new_text t.long t.units position d m (assign (tick m) text_entry) y rest A refl (no_owners (add m.table text_entry) y1 rest A k)
@@ -144,7 +144,7 @@ mutual
       let placed = named true (class_found T c entered) in
       let E = after_class m.table c in
       let made = made_owner (begins class_object_node y) y.begun placed in
-      step position d m (tag_field class_tag) x (named i y) (cut_class class_owner d (tick m) c rest) A near (λ z. refl)
+      step position d m (tag_token class_tag) x (named i y) (cut_class class_owner d (tick m) c rest) A near (λ z. refl)
       (goes_class c class_owner d (tick m) T entered rest A q h
       (λ e. late_owner E other_entry (begins class_object_node y) y.begun placed rest A refl (λ f. refl) (λ f. refl) e
       (leads_same (add E other_entry) made made.place made.place (value_found T (class_object c) y).owners made.owners rest A refl
@@ -160,7 +160,7 @@ mutual
       let opened = assign (past_class (tick m) c) other_entry in
       let elements = elements_of (chain_of_class m.table c) in
       let inside = cut_body d opened elements b rest in
-      let sizes = array_length_field (array_length b) in
+      let sizes = array_length_token (array_length b) in
       let y1 = moved (bytes_of sizes) (record placed {
         begun = y.begun;
         nodes = with_node placed.nodes array_node y.place;
@@ -168,7 +168,7 @@ mutual
       }) in
       let y2 = body_found T1 b y1 in
       let those = owners_in_body T1 b [] in
-      step position d m (tag_field array_tag) x (named i y) (cut_class array_owner d (tick m) c (at array_length_at d opened sizes ∷ inside)) A near (λ z. refl)
+      step position d m (tag_token array_tag) x (named i y) (cut_class array_owner d (tick m) c (at array_length_at d opened sizes ∷ inside)) A near (λ z. refl)
       (goes_class c array_owner d (tick m) T entered (at array_length_at d opened sizes ∷ inside) A q h.0
       (λ e. step_late array_length_at d opened sizes placed inside A (below_added (length placed.nodes) E other_entry e)
       (goes (add E other_entry) true y1 inside A
@@ -188,7 +188,7 @@ mutual
       let made = made_owner (begins enum_const_node y) y.begun placed in
       let y1 = text_found t made in
       let pieces = cut_text_place d opened t rest in
-      step position d m (tag_field enum_tag) x (named i y) (cut_class enum_owner d (tick m) c pieces) A near (λ z. refl)
+      step position d m (tag_token enum_tag) x (named i y) (cut_class enum_owner d (tick m) c pieces) A near (λ z. refl)
       (goes_class c enum_owner d (tick m) T entered pieces A q h.0
       (λ e. late_owner E other_entry (begins enum_const_node y) y.begun placed pieces A refl (λ f. refl) (λ f. refl) e
       (leads_text t d opened made rest A
@@ -210,7 +210,7 @@ mutual
       let pieces = if is_external chain then cut_external d opened ss rest else cut_sections d opened chain ss rest in
       let those = owners_in_sections T1 ss [] in
       let q1 = then_entry known_other (known_class_place T c) E (then_class c T m.table q) in
-      step position d m (tag_field object_tag) x (named i y) (cut_class object_owner d (tick m) c pieces) A near (λ z. refl)
+      step position d m (tag_token object_tag) x (named i y) (cut_class object_owner d (tick m) c pieces) A near (λ z. refl)
       (goes_class c object_owner d (tick m) T entered pieces A q h.0
       (λ e.
       let later : Leads (after_sections opened.table ss) y1 rest A =
@@ -240,24 +240,24 @@ mutual
       let q3 = then_contents notes T2 past.table q2 in
       let y1 = desc_entered (plain name suid flags fields notes parent) y in
       let y2 : Finding = record y1 { place = place_after y1.place (utf name); names = y.names ++ (name ∷ []) } in
-      let y3 = moved (bytes_of (suid_field suid)) y2 in
-      let y4 = moved (bytes_of (flags_field flags)) (record y3 { begun = y.begun; nodes = with_node y.nodes plain_desc_node y.place }) in
-      let y5 = moved (bytes_of (field_count_field (length fields))) y4 in
+      let y3 = moved (bytes_of (suid_token suid)) y2 in
+      let y4 = moved (bytes_of (flags_token flags)) (record y3 { begun = y.begun; nodes = with_node y.nodes plain_desc_node y.place }) in
+      let y5 = moved (bytes_of (field_count_token (length fields))) y4 in
       let y6 = fields_found fields y5 in
       let y7 = annotation_found T2 notes y6 in
       let y8 = named true (class_found T3 parent y7) in
       let all = named true (desc_found T (plain name suid flags fields notes parent) y) in
       let ends = cut_superclass (owner_of role) (is_strict_above role flags) (suc d) inside parent rest in
       let lists = cut_fields d false opened fields (cut_annotation d past notes ends) in
-      let counts = at field_count_at d opened (field_count_field (length fields)) ∷ lists in
-      let marks = at (flags_at role) d opened (flags_field flags) ∷ counts in
+      let counts = at field_count_at d opened (field_count_token (length fields)) ∷ lists in
+      let marks = at (flags_at role) d opened (flags_token flags) ∷ counts in
       let made = both_added y.nodes (record { kind = plain_desc_node; place = y.place; units = None }) m.table pending_entry e in
       let those = owners_in_class T3 parent [] in
       let layers = chain_of_class inside.table parent ++ (plain_layer name flags fields ∷ []) in
-      step_exact (class_name_at role) d m (text_field false name) y1 (at suid_at d m (suid_field suid) ∷ marks) A e
-      (step_exact suid_at d m (suid_field suid) y2 marks A e
-      (step_late (flags_at role) d opened (flags_field flags) y3 counts A (below_added (length y.nodes) m.table pending_entry e)
-      (step_exact field_count_at d opened (field_count_field (length fields)) y4 lists A made
+      step_exact (class_name_at role) d m (text_token false name) y1 (at suid_at d m (suid_token suid) ∷ marks) A e
+      (step_exact suid_at d m (suid_token suid) y2 marks A e
+      (step_late (flags_at role) d opened (flags_token flags) y3 counts A (below_added (length y.nodes) m.table pending_entry e)
+      (step_exact field_count_at d opened (field_count_token (length fields)) y4 lists A made
       (goes opened.table true y5 lists A
       (leads_fields fields d false opened y5 (cut_annotation d past notes ends) A
       (leads_annotation notes d past T2 y6 ends A q2 h.5
@@ -276,7 +276,7 @@ mutual
       let q2 = then_entry known_pending T m.table q in
       let q3 = then_contents notes T2 opened.table q2 in
       let y1 = desc_entered (proxy interfaces notes parent) y in
-      let y2 = moved (bytes_of (interface_count_field (length interfaces))) (record y1 { begun = y.begun; nodes = with_node y.nodes proxy_desc_node y.place }) in
+      let y2 = moved (bytes_of (interface_count_token (length interfaces))) (record y1 { begun = y.begun; nodes = with_node y.nodes proxy_desc_node y.place }) in
       let y3 = interfaces_found interfaces y2 in
       let y4 = annotation_found T2 notes y3 in
       let y5 = named true (class_found T3 parent y4) in
@@ -286,7 +286,7 @@ mutual
       let made = both_added y.nodes (record { kind = proxy_desc_node; place = y.place; units = None }) m.table pending_entry e in
       let those = owners_in_class T3 parent [] in
       let layers = chain_of_class inside.table parent ++ (proxy_layer ∷ []) in
-      step_late interface_count_at d opened (interface_count_field (length interfaces)) y1 (cut_interfaces d opened interfaces annotated) A
+      step_late interface_count_at d opened (interface_count_token (length interfaces)) y1 (cut_interfaces d opened interfaces annotated) A
       (below_added (length y.nodes) m.table pending_entry e)
       (goes_interfaces interfaces d opened y2 annotated A
       (goes opened.table true y3 annotated A
@@ -305,9 +305,9 @@ mutual
   goes_class no_class owner d m T y rest A q h k = absurd h
   goes_class (back_class n) owner d m T y rest A q h k = λ e.
       let y1 : Finding = record y { place = suc y.place; is_name = true } in
-      let y2 = moved (bytes_of (handle_field n)) y1 in
-      step_exact (class_place_at owner) d m (tag_field reference_tag) (named true y) (at (class_handle_at owner) d m (handle_field n) ∷ rest) A e
-      (step_exact (class_handle_at owner) d m (handle_field n) y1 rest A e (none_owned m.table y2 rest A k e))
+      let y2 = moved (bytes_of (handle_token n)) y1 in
+      step_exact (class_place_at owner) d m (tag_token reference_tag) (named true y) (at (class_handle_at owner) d m (handle_token n) ∷ rest) A e
+      (step_exact (class_handle_at owner) d m (handle_token n) y1 rest A e (none_owned m.table y2 rest A k e))
   goes_class (new_class x) owner d m T y rest A q h k = λ e.
       desc_tag x (class_place_at owner) d m true (named true y) y (cut_desc (own_class (Some owner)) d m x rest) A (near_self (named true y) (length m.table) e)
       (goes_desc x (own_class (Some owner)) d m T y rest A q h k e)
@@ -317,13 +317,13 @@ mutual
       → Leads m.table y (cut_superclass owner strict d m c rest) A
   leads_super no_class owner strict d m T y rest A q h k = λ i x near.
       let y1 : Finding = record y { place = suc y.place; is_name = true } in
-      step (superclass_place_at owner strict) d m (tag_field null_tag) x (named i y) rest A near (λ z. refl) (none_owned m.table y1 rest A k near.exact)
+      step (superclass_place_at owner strict) d m (tag_token null_tag) x (named i y) rest A near (λ z. refl) (none_owned m.table y1 rest A k near.exact)
   leads_super (back_class n) owner strict d m T y rest A q h k = λ i x near.
       let y1 : Finding = record y { place = suc y.place; is_name = true } in
-      let y2 = moved (bytes_of (handle_field n)) y1 in
-      let pieces = at (superclass_handle_at owner strict) d (tick m) (handle_field n) ∷ rest in
-      step (superclass_place_at owner strict) d m (tag_field reference_tag) x (named i y) pieces A near (λ z. refl)
-      (step_exact (superclass_handle_at owner strict) d (tick m) (handle_field n) y1 rest A near.exact (none_owned m.table y2 rest A k near.exact))
+      let y2 = moved (bytes_of (handle_token n)) y1 in
+      let pieces = at (superclass_handle_at owner strict) d (tick m) (handle_token n) ∷ rest in
+      step (superclass_place_at owner strict) d m (tag_token reference_tag) x (named i y) pieces A near (λ z. refl)
+      (step_exact (superclass_handle_at owner strict) d (tick m) (handle_token n) y1 rest A near.exact (none_owned m.table y2 rest A k near.exact))
   leads_super (new_class x) owner strict d m T y rest A q h k = λ i z near.
       desc_tag x (superclass_place_at owner strict) d m i z y (cut_desc (superclass owner strict) d (tick m) x rest) A near
       (goes_desc x (superclass owner strict) d (tick m) T y rest A q h k near.exact)
@@ -402,8 +402,8 @@ mutual
       → m.table ≡ entries T → WellFormedNotes m.table cs → Leads (after_contents m.table cs) (annotation_found T cs y) rest A
       → Leads m.table y (cut_annotation d m cs rest) A
   leads_annotation no_contents d m T y rest A q h k = λ i x near.
-      let y1 = moved (bytes_of end_tag_field) y in
-      step annotation_at (suc d) m end_tag_field x (named i y) rest A near (λ z. refl)
+      let y1 = moved (bytes_of end_tag_token) y in
+      step annotation_at (suc d) m end_tag_token x (named i y) rest A near (λ z. refl)
       (goes m.table i y1 rest A (no_owners m.table y1 rest A k) near.exact)
   leads_annotation (content_and (block long bytes) cs) d m T y rest A q h k =
       let y1 = moved (content_spelling (block long bytes)) y in
@@ -446,7 +446,7 @@ leads_top (content_and (block long bytes) cs) m T p N D O S q h =
 leads_top (content_and reset cs) m T p N D O S q h = λ i x near.
     let y1 = state (suc p) [] (D ++ (N ∷ [])) O S in
     let A = list_found p N D O S T (content_and reset cs) in
-    step top_at 1 m reset_tag_field x (named i (state p N D O S)) (cut_top (emptied m) cs []) A near (λ z. refl)
+    step top_at 1 m reset_tag_token x (named i (state p N D O S)) (cut_top (emptied m) cs []) A near (λ z. refl)
     (goes [] i y1 (cut_top (emptied m) cs []) (list_found (suc p) [] (D ++ (N ∷ [])) O S [] cs) (leads_top cs (emptied m) [] (suc p) [] (D ++ (N ∷ [])) O S refl h) refl
     ∙ ap (λ nodes. record A { nodes = nodes }) (append_assoc D (N ∷ []) (epochs_of_nodes [] (suc p) cs)))
 leads_top (content_and (content v) cs) m T p N D O S q h =

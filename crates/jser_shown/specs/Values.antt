@@ -3,7 +3,7 @@
 use Rattle.std.specs.Prelude.{ℕ, ◌-◌, ◌^◌, ◌==◌, ◌+◌, nat_lt, Bool, true, false, if◌then◌else◌, List, [], ◌∷◌, ◌++◌, length, codes, Option, Some, None}
 use Rattle.std.specs.Fmt.{decimal}
 use Rattle.jser_grammar.specs.Codes.{PrimCode, byte_code, char_code, double_code, float_code, int_code, long_code, short_code, boolean_code, size_of}
-use Rattle.jser_reading.specs.FieldsFromBytes.{number_of}
+use Rattle.jser_reading.specs.TokensFromBytes.{number_of}
 use Rattle.jser_shown.specs.Words.{quoted}
 
 -- two's complement: of the numbers of a type the lower half stand for themselves, and the others, from `least` on, for

@@ -5,18 +5,18 @@
 ghost use Rattle.jser_shown.specs.FrontLaws.{TellsFronts, OneMore, FindsFronts};
 ghost use Rattle.jser_shown.specs.Laws.{Told, EndsThere, Found, PlacesAreCounted, Counted};
 
-/// Along the fields of a list that obeys the format the teller says the list's text of `show`.
+/// Along the tokens of a list that obeys the format the teller says the list's text of `show`.
 pub fn told()
     ensures { Told }
 {}
 
-/// After these fields the teller is at the top, knows what the list leaves, and has used exactly the owners that
+/// After these tokens the teller is at the top, knows what the list leaves, and has used exactly the owners that
 /// it was given.
 pub fn ends_there()
     ensures { EndsThere }
 {}
 
-/// What is found along these fields, each told how many handles are assigned before it, are the nodes, the owners and
+/// What is found along these tokens, each told how many handles are assigned before it, are the nodes, the owners and
 /// the checked names of the list. No teller is needed.
 pub fn found()
     ensures { Found }
@@ -27,18 +27,18 @@ pub fn places_are_counted()
     ensures { PlacesAreCounted }
 {}
 
-/// Fields may be taken one by one: what the teller says of some first fields, and then of the others from where it has
+/// Tokens may be taken one by one: what the teller says of some first tokens, and then of the others from where it has
 /// come to, is what it says of all.
 pub fn tells_fronts()
     ensures { TellsFronts }
 {}
 
-/// What is found may be found field by field too.
+/// What is found may be found token by token too.
 pub fn finds_fronts()
     ensures { FindsFronts }
 {}
 
-/// One field more is one step, from a teller that has settled.
+/// One token more is one step, from a teller that has settled.
 pub fn one_more()
     ensures { OneMore }
 {}

@@ -9,7 +9,7 @@ use Rattle.jser_grammar.specs.Trees.{TextPlaceTree, new_text, back_text, FieldTr
 use Rattle.jser_grammar.specs.Spelling.{utf, long_utf, string_spelling, text_place_spelling, type_spelling, fields_spelling, interfaces_spelling, prim_spelling, prims_spelling}
 use Rattle.jser_grammar.specs.TableAfter.{Entries, after_type}
 use Rattle.jser_grammar.specs.Parts.{IsText, IsHandle, IsPrimOf, ArePrimsOf, ArePrims, AreClassNames, WellFormedText, WellFormedType, WellFormedFields}
-use Rattle.jser_reading.specs.FieldsFromBytes.{number_of}
+use Rattle.jser_reading.specs.TokensFromBytes.{number_of}
 use Rattle.jser_reading.proofs.Decoding.{number_1, number_2, number_4, number_8, length-big_bytes, units_back}
 use Rattle.jser_reading.proofs.TreeToMachine.{not_object}
 use Rattle.jser_trees.specs.Building.{◌>>=◌, front_in, number_in, is_same, units_from, sized_front_in, sized_text_in, text_in, back_in, new_text_in, text_place_in, byte_in, type_in, many_in, field_in, fields_in, interfaces_in, prim_in, prim_at, prims_in}

@@ -3,7 +3,7 @@ use Rattle.std.proofs.Common.{◌≡◌, ◌∙◌, refl, sym, ap, ◌<◌, ℕ,
 use Rattle.std.specs.List.{list_all}
 use Rattle.jser_prim.specs.ModifiedUtf8.{modified_utf8, IsUnits}
 use Rattle.jser_grammar.proofs.Bools.{and_left, and_right}
-use Rattle.jser_reading.specs.FieldsFromBytes.{units_in}
+use Rattle.jser_reading.specs.TokensFromBytes.{units_in}
 use Rattle.jser_trees.specs.Building.{is_same, units_from}
 use Rattle.jser_trees.proofs.PartsBuilt.{units_found}
 

@@ -13,7 +13,7 @@ use Rattle.jser_grammar.specs.TableAfter.{Entries, add, after_fields, after_valu
 use Rattle.jser_value.specs.Tests.{after_section, element_code}
 use Rattle.jser_grammar.specs.Parts.{is_external}
 use Rattle.jser_grammar.specs.Wire.{TC_NULL, TC_REFERENCE, TC_CLASSDESC, TC_OBJECT, TC_STRING, TC_ARRAY, TC_CLASS, TC_BLOCKDATA, TC_ENDBLOCKDATA, TC_RESET, TC_BLOCKDATALONG, TC_LONGSTRING, TC_PROXYCLASSDESC, TC_ENUM, BASE_WIRE_HANDLE}
-use Rattle.jser_reading.specs.FieldsFromBytes.{number_of, units_in, head_size}
+use Rattle.jser_reading.specs.TokensFromBytes.{number_of, units_in, head_size}
 
 infixl 10 ◌>>=◌
 abbrev pub ◌>>=◌ : {A B : Type 0} → Option A → (A → Option B) → Option B

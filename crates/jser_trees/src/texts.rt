@@ -3,7 +3,7 @@ ghost use Rattle.std.specs.Prelude.{ℕ, List, [], ◌∷◌, ◌++◌, ◌+◌,
 ghost use Rattle.jser_grammar.specs.Codes.{prim_code_of, primitive_codes};
 ghost use Rattle.jser_value.specs.View.{view_text_place, view_field, view_prim};
 ghost use Rattle.jser_trees.specs.Building.{number_in, units_from, text_in, back_in, text_place_in, new_text_in, type_in, field_in, many_in, fields_in, interfaces_in, prim_at, prims_in, block_head_size, block_in};
-ghost use Rattle.jser_reading.specs.FieldsFromBytes.{head_size};
+ghost use Rattle.jser_reading.specs.TokensFromBytes.{head_size};
 ghost use Rattle.jser_trees.specs.Found.{Finds, FindsAll};
 
 use crate::cursor::{Cursor, Fault};

@@ -3,7 +3,7 @@ use Rattle.std.proofs.Common.{◌≡◌, ℕ, suc, ◌+◌, ◌-◌, ◌<◌, �
 use Rattle.std.proofs.lemmas.Bool.{leb-false}
 use Rattle.std.proofs.lemmas.List.{take-append-drop, length-take-le}
 use Rattle.jser_reading.proofs.Vocabulary.{ContentTrees, Goal, IsBytes, IsDone, begin_state, settled, top_goal}
-use Rattle.jser_reading.specs.FieldBytes.{joined}
+use Rattle.jser_reading.specs.TokenBytes.{joined}
 use Rattle.jser_reading.specs.GateLimits.{gate_of}
 use Rattle.jser_reading.specs.Scanner.{Outcome, ended, refused, walk, PassesBy}
 use Rattle.jser_verdict.specs.Reasons.{Reason, bytes_exceeded, truncated, turn, reason_with}
@@ -13,9 +13,9 @@ use Rattle.jser_verdict.specs.FirstFault.{IsFault, IsFirstFault}
 use Rattle.jser_verdict.specs.Answers.{Told, accepted, refused_at, is_top, is_none, told_whole, told_over, answer}
 use Rattle.jser_verdict.specs.AnswerLaws.{AcceptsPassing, AcceptsNoFault, RefusesFirstFault}
 use Rattle.jser_verdict.proofs.Turns.{reason_of_turn}
-use Rattle.jser_verdict.proofs.OpenFields.{no_row}
+use Rattle.jser_verdict.proofs.OpenTokens.{no_row}
 use Rattle.jser_verdict.proofs.SameWalks.{same_walk}
-use Rattle.jser_verdict.proofs.Passing.{by_fields, by_tree}
+use Rattle.jser_verdict.proofs.Passing.{by_tokens, by_tree}
 use Rattle.jser_verdict.proofs.WalkFaults.{refuses_the_first, cut_is_the_first, over_is_the_first, takes, taken}
 use Rattle.jser_verdict.proofs.OneFault.{one_first_fault}
 use Rattle.jser_verdict.proofs.ByteLists.{bytes_left}
@@ -150,7 +150,7 @@ module _ (g : Gate) (bytes : List ℕ) (hb : IsBytes bytes) where
       → (at end : ℕ) (r : Reason) → IsFault g bytes at end r → ⊥
   no_fault_at_all list p le at end r (l, some, rest, o, ee, inl h) =
       let x = taken g bytes list hb p in
-      no_row g bytes [] x.0 (sym (same_walk g bytes hb) ∙ x.2) o.front l some rest r o.next o.split o.no_field h
+      no_row g bytes [] x.0 (sym (same_walk g bytes hb) ∙ x.2) o.front l some rest r o.next o.split o.no_token h
   no_fault_at_all list p le at end r (l, some, rest, o, ee, inr (inl (er, et))) =
       let e1 = et.0 in
       let bg = o.begins in
@@ -170,7 +170,7 @@ module _ (g : Gate) (bytes : List ℕ) (hb : IsBytes bytes) where
 pub accepts_passing : AcceptsPassing
 accepts_passing g bytes hb = (
   λ h. let x = answer_yes g bytes hb h in (x.0, by_tree g bytes x.0 x.1 x.2),
-  λ (list, p). let x = by_fields g bytes list p in yes_answer g bytes hb list x.0 x.1,
+  λ (list, p). let x = by_tokens g bytes list p in yes_answer g bytes hb list x.0 x.1,
 )
 
 pub accepts_no_fault : AcceptsNoFault

@@ -2,9 +2,9 @@
 use Rattle.std.proofs.Common.{◌≡◌, ℕ, suc, ◌+◌, ◌<◌, ◌≤◌, List, [], ◌∷◌, ◌++◌, length, refl, sym, ◌∙◌, ap, subst, arith, append_assoc, append-nil, length-append, ◌⊎◌, inl, inr}
 use Rattle.std.proofs.lemmas.Bool.{cases_lt, cases_eq}
 use Rattle.jser_reading.proofs.Vocabulary.{IsBytes, Label, Piece, State, settled, begin_state, IsDone}
-use Rattle.jser_reading.specs.FieldBytes.{joined}
-use Rattle.jser_reading.specs.Scanner.{VerdictOn, ended, refused, walk, HasNoField}
-use Rattle.jser_reading.proofs.Walking.{snoc_more, undecided_no_field, Quiet, undecided_more}
+use Rattle.jser_reading.specs.TokenBytes.{joined}
+use Rattle.jser_reading.specs.Scanner.{VerdictOn, ended, refused, walk, HasNoToken}
+use Rattle.jser_reading.proofs.Walking.{snoc_more, undecided_no_token, Quiet, undecided_more}
 use Rattle.jser_reading.proofs.Faults.{cut_short_law}
 use Rattle.jser_verdict.specs.Reasons.{Reason, bytes_exceeded, truncated, turn}
 use Rattle.jser_verdict.specs.Gates.{Gate}
@@ -14,7 +14,7 @@ use Rattle.jser_verdict.specs.FaultLaws.{IsCapped}
 use Rattle.jser_verdict.proofs.Turns.{by_turns, turn_most, turn_least}
 use Rattle.jser_verdict.proofs.Scans.{gate, verdict_scans}
 use Rattle.jser_verdict.proofs.RefusedRows.{has_row_told, row_no_earlier}
-use Rattle.jser_verdict.proofs.OpenFields.{open_end, quiet_no_field, no_row}
+use Rattle.jser_verdict.proofs.OpenTokens.{open_end, quiet_no_token, no_row}
 use Rattle.jser_verdict.proofs.ByteLists.{split_at}
 
 module _ (g : Gate) where
@@ -48,7 +48,7 @@ module _ (g : Gate) where
         x.6,
         ls,
         (
-          (x.1, wrong, rest ++ behind, record { front = x.0; next = x.3; split = sp; begins = refl; no_field = x.5 }, refl, inl x.7),
+          (x.1, wrong, rest ++ behind, record { front = x.0; next = x.3; split = sp; begins = refl; no_token = x.5 }, refl, inl x.7),
           λ at' end' r' f. by_turns (at + length wrong) end' x.2 r' (first at x.2 x.6 ls at' end' r' f),
         ),
       )
@@ -71,7 +71,7 @@ module _ (g : Gate) where
                 let w = within seen behind o.front some' rest' o.split (omega (arith, bg, ee, ls)) in
                 let lw : length seen ≡ length (joined o.front) + length some' + length w.0 =
                 omega (arith, ap length w.1, length-append (joined o.front) (some' ++ w.0), length-append some' w.0) in
-                elim (row_no_earlier g seen wrong rest k e o.front l' some' w.0 r' o.next w.1 o.no_field h) [
+                elim (row_no_earlier g seen wrong rest k e o.front l' some' w.0 r' o.next w.1 o.no_token h) [
                   | inl a ↦ inl (omega (arith, a, lw, ls, ee, bg))
                   | inr (a, b) ↦ inr (omega (arith, a, lw, ls, ee, bg), subst (λ z. z ≤ turn r') ek b)
                 ]
@@ -103,19 +103,19 @@ module _ (g : Gate) where
             x.label,
             cut,
             [],
-            record { front = x.front; next = x.next; split = sp; begins = refl; no_field = quiet_fronts x.label x.quiet },
+            record { front = x.front; next = x.next; split = sp; begins = refl; no_token = quiet_fronts x.label x.quiet },
             lb,
-            inr (inr (refl, (refl, quiet_no_field g x.label cut x.quiet, λ list st. nd (cut_short_law (gate g) v (verdict_scans g) bytes cut s e list st)))),
+            inr (inr (refl, (refl, quiet_no_token g x.label cut x.quiet, λ list st. nd (cut_short_law (gate g) v (verdict_scans g) bytes cut s e list st)))),
           ),
           λ at' end' r' f. by_turns (length bytes) end' truncated r' (first at' end' r' f),
         ),
       )
     where
-      quiet_fronts : (l : Label) → Quiet (gate g) v (verdict_scans g) l cut → HasNoField l cut
-      quiet_fronts l q a c b f ec ac ef = quiet_no_field g l a (λ p r ep. q p (r ++ (c ∷ b)) (ec ∙ ap (λ z. z ++ (c ∷ b)) ep ∙ append_assoc p r (c ∷ b))) f ac ef
+      quiet_fronts : (l : Label) → Quiet (gate g) v (verdict_scans g) l cut → HasNoToken l cut
+      quiet_fronts l q a c b f ec ac ef = quiet_no_token g l a (λ p r ep. q p (r ++ (c ∷ b)) (ec ∙ ap (λ z. z ++ (c ∷ b)) ep ∙ append_assoc p r (c ∷ b))) f ac ef
 
       first : (at' end' : ℕ) (r' : Reason) → IsFault g bytes at' end' r' → (length bytes < end') ⊎ ((length bytes ≡ end') × (turn truncated ≤ turn r'))
-      first at' end' r' (l', some', rest', o, ee, inl h) = absurd (no_row g bytes cut s e o.front l' some' rest' r' o.next o.split o.no_field h)
+      first at' end' r' (l', some', rest', o, ee, inl h) = absurd (no_row g bytes cut s e o.front l' some' rest' r' o.next o.split o.no_token h)
       first at' end' r' (l', some', rest', o, ee, inr (inl (er, et))) = let e1 = et.0 in inl (omega (arith, e1, cap))
       first at' end' r' (l', some', rest', o, ee, inr (inr (er, c))) =
           let bg = o.begins in
@@ -143,7 +143,7 @@ module _ (g : Gate) where
               next = x.next;
               split = sp;
               begins = refl;
-              no_field = undecided_no_field (gate g) v (verdict_scans g) x.label (cut ++ (b ∷ [])) (undecided_more (gate g) v (verdict_scans g) x.label cut b x.quiet);
+              no_token = undecided_no_token (gate g) v (verdict_scans g) x.label (cut ++ (b ∷ [])) (undecided_more (gate g) v (verdict_scans g) x.label cut b x.quiet);
             },
             omega (arith, lb, length-append cut (b ∷ [])),
             inr (inl (refl, (omega (arith, cap), omega (arith, lb)))),
@@ -168,7 +168,7 @@ module _ (g : Gate) where
           early : RowHolds g (seen ++ (b ∷ more')) at' end' l' some' rest' r' → end' ≤ length seen → ⊥
           early (inl h) le =
               let w = within seen (b ∷ more') o.front some' rest' o.split (omega (arith, bg, ee, le)) in
-              no_row g seen cut s e o.front l' some' w.0 r' o.next w.1 o.no_field h
+              no_row g seen cut s e o.front l' some' w.0 r' o.next w.1 o.no_token h
           early (inr (inl (er, et))) le = let e1 = et.0 in omega (arith, e1, cap, le)
           early (inr (inr (er, c))) le =
               let lb : length (seen ++ (b ∷ more')) ≡ end' =

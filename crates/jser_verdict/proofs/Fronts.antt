@@ -1,4 +1,4 @@
--- No reason is told before the end of a field that the format takes.
+-- No reason is told before the end of a token that the format takes.
 use Rattle.std.proofs.Common.{◌≡◌, ℕ, zero, suc, ◌+◌, ◌<◌, ◌≤◌, Bool, true, false, ◌&&◌, List, [], ◌∷◌, ◌++◌, length, refl, sym, ◌∙◌, ap, arith, Option, None, nat_lt, nat_le, nat_eq, take, drop, leb-true}
 use Rattle.std.proofs.lemmas.List.{take_at, drop_at, take-append-le}
 use Rattle.std.proofs.lemmas.Bool.Decides.{nat_tests}
@@ -12,7 +12,7 @@ use Rattle.jser_verdict.specs.BytesSoFar.{differs}
 use Rattle.jser_verdict.specs.TextsSoFar.{unit_start, all_stand, has_head, text_length, is_whole_text, has_wrong_byte}
 use Rattle.jser_verdict.specs.Verdicts.{on_byte, on_number}
 use Rattle.jser_verdict.proofs.Texts.{text_stands, front_stands}
-use Rattle.jser_reading.specs.FieldsFromBytes.{number_of, head_size, text_size}
+use Rattle.jser_reading.specs.TokensFromBytes.{number_of, head_size, text_size}
 
 pub byte_front : (a : List ℕ) (tell : ℕ → Option Reason) → length a < 1 → on_byte a tell ≡ None
 byte_front [] tell h = refl

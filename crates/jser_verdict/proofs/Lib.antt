@@ -8,10 +8,10 @@ pub mod Completes
 pub mod Wholes
 pub mod Turns
 pub mod ByteLists
-pub mod ReadFields
+pub mod ReadTokens
 pub mod ToldRows
 pub mod RefusedRows
-pub mod OpenFields
+pub mod OpenTokens
 pub mod FirstFaults
 pub mod SameWalks
 pub mod Passing

@@ -1,11 +1,11 @@
--- There is one first fault: its end and its reason by the order, its start because bytes are cut into fields in one way.
+-- There is one first fault: its end and its reason by the order, its start because bytes are cut into tokens in one way.
 use Rattle.std.proofs.Common.{◌≡◌, ℕ, ◌+◌, ◌<◌, ◌≤◌, true, false, List, [], ◌∷◌, ◌++◌, length, refl, sym, ◌∙◌, ap, ap₂, subst, arith, append_assoc, append-nil, length-append, true≢false, ◌⊎◌, inl, inr}
 use Rattle.jser_reading.proofs.Vocabulary.{Label, Piece, piece, State, settled, label_of, Accepts, advance, begin_state, Runs, left}
-use Rattle.jser_reading.specs.FieldBytes.{bytes_of, joined}
-use Rattle.jser_reading.specs.Scanner.{FieldGate, more, bad}
+use Rattle.jser_reading.specs.TokenBytes.{bytes_of, joined}
+use Rattle.jser_reading.specs.Scanner.{TokenGate, more, bad}
 use Rattle.jser_reading.proofs.Next.{next_law}
 use Rattle.jser_reading.proofs.PlainVerdict.{plain_verdict, scanner}
-use Rattle.jser_reading.proofs.Reading.{same_field}
+use Rattle.jser_reading.proofs.Reading.{same_token}
 use Rattle.jser_reading.proofs.Walking.{joined-append}
 use Rattle.jser_verdict.specs.Reasons.{Reason, bytes_exceeded, truncated, turn}
 use Rattle.jser_verdict.specs.Gates.{Gate}
@@ -18,11 +18,11 @@ use Rattle.jser_verdict.proofs.Scans.{verdict_scans}
 use Rattle.jser_verdict.proofs.ToldRows.{row_bad}
 use Rattle.jser_verdict.proofs.ByteLists.{split_at}
 
--- a gate that lets each field through
-abbrev open_gate : FieldGate
-open_gate label field = true
+-- a gate that lets each token through
+abbrev open_gate : TokenGate
+open_gate label token = true
 
--- Of two fronts of fields of the same bytes one begins the other.
+-- Of two fronts of tokens of the same bytes one begins the other.
 abbrev Begins : List Piece → List Piece → Type 0
 Begins a b = (rest : List Piece) × (b ≡ a ++ rest)
 
@@ -33,7 +33,7 @@ same_fronts (p ∷ a) [] s x y h k e = inr (p ∷ a, refl)
 same_fronts (piece l f ∷ a) (piece m g ∷ b) s x y h k e =
     let el : l ≡ m = h.0 ∙ sym k.0 in
     let kg : Accepts (label_of (settled s)) g = k.1 in
-    let c = same_field open_gate (plain_verdict open_gate) (scanner open_gate) (label_of (settled s)) f g (joined a ++ x) (joined b ++ y)
+    let c = same_token open_gate (plain_verdict open_gate) (scanner open_gate) (label_of (settled s)) f g (joined a ++ x) (joined b ++ y)
     h.1 refl k.1 refl (sym (append_assoc (bytes_of f) (joined a) x) ∙ e ∙ append_assoc (bytes_of g) (joined b) y) in
     let kb : Runs (advance (settled s) f) b = subst (λ z. Runs (advance (settled s) z) b) (sym c.0) k.2 in
     elim (same_fronts a b (advance (settled s) f) x y h.2 kb c.1) [
@@ -97,9 +97,9 @@ module _ (g : Gate) (bytes : List ℕ) (r : Reason) where
 
       whole : length some' ≡ 0 → (over : List ℕ) → some ≡ bytes_of f ++ over → some ≡ bytes_of f
       whole z [] e = e ∙ append-nil (bytes_of f)
-      whole z (b ∷ over) e = absurd (o.no_field (bytes_of f) b over f e taken refl)
+      whole z (b ∷ over) e = absurd (o.no_token (bytes_of f) b over f e taken refl)
 
-      -- both are Truncated, and the first field is whole
+      -- both are Truncated, and the first token is whole
       cut_whole : length some' ≡ 0 → r ≡ truncated → RowHolds g bytes at end l some rest r → ⊥
       cut_whole z er (inl t) = let n : row r g l some ≡ false = rw er refl in true≢false (sym t ∙ n)
       cut_whole z er (inr (inl (eb, t))) = let n : bytes_exceeded ≡ truncated = sym eb ∙ er in cc
@@ -120,7 +120,7 @@ module _ (g : Gate) (bytes : List ℕ) (r : Reason) where
         where
           within : (over : List ℕ) → some ≡ bytes_of f ++ over → ⊥
           within [] ex = omega (arith, sizes, ap length ex, length-append (bytes_of f) [], ap length e)
-          within (c ∷ over) ex = o.no_field (bytes_of f) c over f ex taken refl
+          within (c ∷ over) ex = o.no_token (bytes_of f) c over f ex taken refl
 
   same_start : (at at' end : ℕ) → IsFault g bytes at end r → IsFault g bytes at' end r → at ≡ at'
   same_start at at' end (l, some, rest, o, ee, h) (l', some', rest', o', ee', h') =

@@ -1,4 +1,4 @@
--- What a gate lets pass, in words of the tree, is what it lets pass field by field, within its limit of bytes.
+-- What a gate lets pass, in words of the tree, is what it lets pass token by token, within its limit of bytes.
 use Rattle.std.proofs.Common.{◌≡◌, ℕ, ◌≤◌, List, [], ◌∷◌, length, refl, sym, arith, IsTrue, true≢false}
 use Rattle.jser_reading.proofs.Vocabulary.{ContentTrees}
 use Rattle.jser_reading.specs.GateLimits.{gate_of, Each}
@@ -20,9 +20,9 @@ each_mapped : {A : Type 0} (P Q : A → Type 0) (xs : List A) → ((x : A) → P
 each_mapped P Q [] f h = tt
 each_mapped P Q (x ∷ xs) f h = (f x h.0, each_mapped P Q xs f h.1)
 
-pub by_fields : (g : Gate) (bytes : List ℕ) (list : ContentTrees) → Passes g bytes list
+pub by_tokens : (g : Gate) (bytes : List ℕ) (list : ContentTrees) → Passes g bytes list
     → PassesBy (gate_of (limits_of g)) bytes list × (length bytes ≤ g.bytes)
-by_fields g bytes list (st, names, le, depth, refs, arrays, handles) = (
+by_tokens g bytes list (st, names, le, depth, refs, arrays, handles) = (
   (st, (limited_law (limits_of g) list st.1).1 (depth, refs, arrays, handles, each_mapped _ _ _ (λ name h. passed_name (g.answer name) h) names)),
   le,
 )

@@ -1,11 +1,11 @@
 -- What the walk refuses has a row, and no row is earlier.
 use Rattle.std.proofs.Common.{◌≡◌, ℕ, ◌<◌, ◌≤◌, true, List, [], ◌∷◌, ◌++◌, length, refl, sym, ◌∙◌, ap, ap₂, subst, arith, Some, IsTrue, append_assoc, length-append, ◌⊎◌, inl, inr}
 use Rattle.jser_reading.proofs.Vocabulary.{IsBytes, Label, Piece, piece, State, settled, label_of, begin_state, Runs, left}
-use Rattle.jser_reading.specs.FieldBytes.{bytes_of, joined}
+use Rattle.jser_reading.specs.TokenBytes.{bytes_of, joined}
 use Rattle.jser_reading.specs.ComesNext.{ComesNext}
-use Rattle.jser_reading.specs.Scanner.{Verdict, more, good, bad, VerdictOn, refused, walk, AllPass, HasNoField}
+use Rattle.jser_reading.specs.Scanner.{Verdict, more, good, bad, VerdictOn, refused, walk, AllPass, HasNoToken}
 use Rattle.jser_reading.proofs.Next.{next_law}
-use Rattle.jser_reading.proofs.Walking.{snoc_more, joined-append, walk_front, refuses, Found, walked, undecided_no_field}
+use Rattle.jser_reading.proofs.Walking.{snoc_more, joined-append, walk_front, refuses, Found, walked, undecided_no_token}
 use Rattle.jser_reading.proofs.Faults.{Stopped, all_or_stopped}
 use Rattle.jser_verdict.specs.Reasons.{Reason, in_order, turn}
 use Rattle.jser_verdict.specs.Gates.{Gate}
@@ -17,7 +17,7 @@ use Rattle.jser_verdict.proofs.Turns.{first_holds}
 use Rattle.jser_verdict.proofs.Scans.{gate, verdict_scans}
 use Rattle.jser_verdict.proofs.ToldRows.{told_bad, row_bad}
 use Rattle.jser_verdict.proofs.ByteLists.{bytes_left, bytes_right, last_split}
-use Rattle.jser_verdict.proofs.ReadFields.{read_next}
+use Rattle.jser_verdict.proofs.ReadTokens.{read_next}
 
 module _ (g : Gate) where
   abbrev v : VerdictOn
@@ -27,7 +27,7 @@ module _ (g : Gate) where
 
   abbrev pub HasRow : List ℕ → List ℕ → List ℕ → ℕ → Type 0
   HasRow bytes wrong rest k =
-      (front : List Piece) × (l : Label) × (r : Reason) × ComesNext front l × (bytes ≡ joined front ++ (wrong ++ rest)) × HasNoField l wrong
+      (front : List Piece) × (l : Label) × (r : Reason) × ComesNext front l × (bytes ≡ joined front ++ (wrong ++ rest)) × HasNoToken l wrong
       × (k ≡ turn r) × IsTrue (row r g l wrong)
 
   pub has_row_told : (bytes wrong rest : List ℕ) (k : ℕ) → IsBytes bytes → walk v begin_state [] bytes ≡ refused wrong rest k
@@ -54,12 +54,12 @@ module _ (g : Gate) where
           let t = told_bad g l s.0 s.1 k (read_next x.0 l nx) (subst (λ z. IsBytes z) es hw) m (ap (v l) (sym es) ∙ x.4) in
           let rt : reason_at g l l.position wrong ≡ Some t.0 = ap (reason_at g l l.position) es ∙ t.1 in
           let h : row t.0 g l wrong ≡ true = first_holds (λ r. row r g l wrong) in_order t.0 (sym (in_turn g l wrong) ∙ rt) in
-          (x.0, l, t.0, nx, x.3, undecided_no_field (gate g) v (verdict_scans g) l wrong x.5, t.2, h)
+          (x.0, l, t.0, nx, x.3, undecided_no_token (gate g) v (verdict_scans g) l wrong x.5, t.2, h)
 
   -- no row ends before the refusal, and none that ends with it comes earlier
 
   walk_tie : (b : List ℕ) (c : ℕ) (a : List ℕ) (s : State) (rest w q : List ℕ) (r k : ℕ) → v (label_of (settled s)) (a ++ (c ∷ b)) ≡ bad r
-      → HasNoField (label_of (settled s)) (a ++ (c ∷ b)) → walk v s a (c ∷ (b ++ rest)) ≡ refused w q k
+      → HasNoToken (label_of (settled s)) (a ++ (c ∷ b)) → walk v s a (c ∷ (b ++ rest)) ≡ refused w q k
       → (length rest < length q) ⊎ ((length rest ≡ length q) × (k ≡ r))
   walk_tie [] c a s rest w q r k vb u e =
       let e' : refused (a ++ (c ∷ [])) rest r ≡ refused w q k = rw vb at e in
@@ -87,7 +87,7 @@ module _ (g : Gate) where
 
   pub row_no_earlier : (bytes w q : List ℕ) (k : ℕ) → walk v begin_state [] bytes ≡ refused w q k
       → (front : List Piece) (l : Label) (wrong rest : List ℕ) (r : Reason) → ComesNext front l → bytes ≡ joined front ++ (wrong ++ rest)
-      → HasNoField l wrong → IsTrue (row r g l wrong) → (length rest < length q) ⊎ ((length rest ≡ length q) × (k ≤ turn r))
+      → HasNoToken l wrong → IsTrue (row r g l wrong) → (length rest < length q) ⊎ ((length rest ≡ length q) × (k ≤ turn r))
   row_no_earlier bytes w q k e front l wrong rest r nx eb u h = go wrong refl
     where
       x : Runs begin_state front × (l ≡ label_of (settled (left begin_state front)))
@@ -109,8 +109,8 @@ module _ (g : Gate) where
           let e2 : walk v (left begin_state front) [] (c ∷ (b ++ rest)) ≡ refused w q k =
           sym (walk_front (gate g) v (verdict_scans g) front begin_state (c ∷ (b ++ rest)) x.0 ga) ∙ ap (λ z. walk v begin_state [] z) (sym e1) ∙ e in
           let vb : v (label_of (settled (left begin_state front))) (c ∷ b) ≡ bad y.0 = ap₂ (λ m z. v m z) (sym x.1) (sym ew) ∙ y.1 in
-          let u' : HasNoField (label_of (settled (left begin_state front))) (c ∷ b) =
-          subst (λ m. HasNoField m (c ∷ b)) x.1 (subst (λ z. HasNoField l z) ew u) in
+          let u' : HasNoToken (label_of (settled (left begin_state front))) (c ∷ b) =
+          subst (λ m. HasNoToken m (c ∷ b)) x.1 (subst (λ z. HasNoToken l z) ew u) in
           elim (walk_tie b c [] (left begin_state front) rest w q y.0 k vb u' e2) [
             | inl a ↦ inl a
             | inr (a, ek) ↦ inr (a, subst (λ z. z ≤ turn r) (sym ek) y.2)

@@ -1,6 +1,6 @@
 -- The walks by the two verdicts are equal.
 use Rattle.std.proofs.Common.{◌≡◌, ℕ, List, [], ◌∷◌, ◌++◌, refl, sym, ◌∙◌, ap, subst}
-use Rattle.jser_reading.proofs.Vocabulary.{IsBytes, StreamField, Label, Piece, piece, settled, label_of, Accepts, advance, begin_state, Runs, left}
+use Rattle.jser_reading.proofs.Vocabulary.{IsBytes, StreamToken, Label, Piece, piece, settled, label_of, Accepts, advance, begin_state, Runs, left}
 use Rattle.jser_reading.specs.Scanner.{Verdict, by_verdict, more, good, bad, refused, walk}
 use Rattle.jser_reading.proofs.Fronts.{left-append, Runs-append}
 use Rattle.jser_reading.proofs.Next.{next_law}
@@ -8,11 +8,11 @@ use Rattle.jser_reading.proofs.Walking.{snoc_more}
 use Rattle.jser_verdict.specs.Gates.{Gate}
 use Rattle.jser_verdict.specs.Verdicts.{verdict}
 use Rattle.jser_verdict.proofs.Scanning.{scanning_verdict}
-use Rattle.jser_verdict.specs.FieldLaws.{VerdictScans}
+use Rattle.jser_verdict.specs.TokenLaws.{VerdictScans}
 use Rattle.jser_verdict.proofs.Scans.{verdict_scans}
 use Rattle.jser_verdict.proofs.ToldRows.{more_short, same_verdict}
 use Rattle.jser_verdict.proofs.ByteLists.{bytes_left, bytes_right}
-use Rattle.jser_verdict.proofs.ReadFields.{read_next, size_next}
+use Rattle.jser_verdict.proofs.ReadTokens.{read_next, size_next}
 
 walk_same : (g : Gate) (bs : List ℕ) (front : List Piece) (p : List ℕ) → Runs begin_state front
     → scanning_verdict g (label_of (settled (left begin_state front))) p ≡ more → IsBytes (p ++ bs)
@@ -35,7 +35,7 @@ walk_same g (b ∷ bs) front p r m h =
     same = same_verdict g l (p ++ (b ∷ [])) (read_next front l ((next_law front l).1 (r, refl))) (bytes_left (p ++ (b ∷ [])) bs hq)
         (size_next l.position p b (more_short g l p m))
 
-    next : (f : StreamField) → Accepts l f
+    next : (f : StreamToken) → Accepts l f
         → walk (verdict g) (left begin_state (front ++ (piece l f ∷ []))) [] bs ≡ walk (scanning_verdict g) (left begin_state (front ++ (piece l f ∷ []))) [] bs
         → walk (verdict g) (advance (settled (left begin_state front)) f) [] bs ≡ walk (scanning_verdict g) (advance (settled (left begin_state front)) f) [] bs
     next f a e = subst (λ s. walk (verdict g) s [] bs ≡ walk (scanning_verdict g) s [] bs) (left-append front (piece l f ∷ []) begin_state) e
@@ -43,7 +43,7 @@ walk_same g (b ∷ bs) front p r m h =
     go : (x : Verdict) → scanning_verdict g l (p ++ (b ∷ [])) ≡ x
         → (scanning_verdict g l (p ++ (b ∷ [])) ≡ more
         → walk (verdict g) (left begin_state front) (p ++ (b ∷ [])) bs ≡ walk (scanning_verdict g) (left begin_state front) (p ++ (b ∷ [])) bs)
-        → ((f : StreamField) → Accepts l f
+        → ((f : StreamToken) → Accepts l f
         → walk (verdict g) (advance (settled (left begin_state front)) f) [] bs ≡ walk (scanning_verdict g) (advance (settled (left begin_state front)) f) [] bs)
         → walk (verdict g) (left begin_state front) p (b ∷ bs) ≡ walk (scanning_verdict g) (left begin_state front) p (b ∷ bs)
     go more ev m' f' = step more ev ∙ m' ev ∙ sym (step_v more ev)

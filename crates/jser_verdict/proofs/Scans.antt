@@ -1,10 +1,10 @@
 -- The scanning_verdict goes with the gate of its limits: the premise of the laws of the walk.
 use Rattle.std.proofs.Common.{◌≡◌, ℕ, Bool, true, false, List, [], ◌++◌, refl, sym, ◌∙◌, ap, Option, Some, None, IsTrue, IsFalse, append-nil, true≢false}
-use Rattle.jser_reading.specs.FieldBytes.{bytes_of}
-use Rattle.jser_reading.specs.Labels.{StreamField, Position, nowhere, header_at, top_at, annotation_at, value_at, text_place_at, class_place_at, superclass_place_at, back_handle_at, text_handle_at, class_handle_at, superclass_handle_at, string_at, class_name_at, field_name_at, interface_name_at, suid_at, field_count_at, interface_count_at, array_length_at, flags_at, type_code_at, block_length_at, raw_at, bytes_at, Label}
+use Rattle.jser_reading.specs.TokenBytes.{bytes_of}
+use Rattle.jser_reading.specs.Labels.{StreamToken, Position, nowhere, header_at, top_at, annotation_at, value_at, text_place_at, class_place_at, superclass_place_at, back_handle_at, text_handle_at, class_handle_at, superclass_handle_at, string_at, class_name_at, field_name_at, interface_name_at, suid_at, field_count_at, interface_count_at, array_length_at, flags_at, type_code_at, block_length_at, raw_at, bytes_at, Label}
 use Rattle.jser_reading.specs.Accepts.{Accepts}
 use Rattle.jser_reading.specs.GateLimits.{gate_of}
-use Rattle.jser_reading.specs.Scanner.{Verdict, good, bad, FieldGate, IsUndecided, IsScanner}
+use Rattle.jser_reading.specs.Scanner.{Verdict, good, bad, TokenGate, IsUndecided, IsScanner}
 use Rattle.jser_reading.proofs.PlainVerdict.{plain_verdict, in_front, scanner}
 use Rattle.jser_verdict.specs.Reasons.{Reason, turn}
 use Rattle.jser_verdict.specs.Gates.{Gate, limits_of}
@@ -41,12 +41,12 @@ none_yet g l (block_length_at false) = refl
 none_yet g l (raw_at c n) = refl
 none_yet g l (bytes_at n) = refl
 
-good_plain : (told : Option Reason) (v : Verdict) (f : StreamField) → by_reason told v ≡ good f → v ≡ good f
+good_plain : (told : Option Reason) (v : Verdict) (f : StreamToken) → by_reason told v ≡ good f → v ≡ good f
 good_plain None v f e = e
 good_plain (Some r) v f e = absurd (cc)
 
 module _ (g : Gate) where
-  abbrev pub gate : FieldGate
+  abbrev pub gate : TokenGate
   gate = gate_of (limits_of g)
 
   pub with_none : (l : Label) (p : List ℕ) → reason_at g l l.position p ≡ None → scanning_verdict g l p ≡ plain_verdict gate l p
@@ -55,8 +55,8 @@ module _ (g : Gate) where
   pub with_some : (l : Label) (p : List ℕ) (r : Reason) → reason_at g l l.position p ≡ Some r → scanning_verdict g l p ≡ bad (turn r)
   with_some l p r e = ap (λ o. by_reason o (plain_verdict gate l p)) e
 
-  quiet_field : (l : Label) (f : StreamField) → Accepts l f → IsTrue (gate l f) → IsUndecided (scanning_verdict g) l (bytes_of f)
-  quiet_field l f h k a c b e =
+  quiet_token : (l : Label) (f : StreamToken) → Accepts l f → IsTrue (gate l f) → IsUndecided (scanning_verdict g) l (bytes_of f)
+  quiet_token l f h k a c b e =
       with_none l a (quiet_before g l f h a c b e) ∙ (scanner gate).before_end l f h k a c b e
 
   pub agrees_true : (x : Bool) (o : Option Reason) → Agrees x o → IsTrue x → o ≡ None
@@ -74,14 +74,14 @@ module _ (g : Gate) where
     is_good =
         λ l f h k. with_none l (bytes_of f) (agrees_true (gate l f) (reason_at g l l.position (bytes_of f)) (ends_agree g l f h) k)
         ∙ (scanner gate).is_good l f h k;
-    before_end = λ l f h k. quiet_field l f h k;
+    before_end = λ l f h k. quiet_token l f h k;
     stops = λ l f h k. stopped l f h k;
   }
     where
-      plain_quiet : (l : Label) (f : StreamField) → Accepts l f → IsFalse (gate l f) → IsUndecided (scanning_verdict g) l (bytes_of f)
+      plain_quiet : (l : Label) (f : StreamToken) → Accepts l f → IsFalse (gate l f) → IsUndecided (scanning_verdict g) l (bytes_of f)
       plain_quiet l f h k a c b e = with_none l a (quiet_before g l f h a c b e) ∙ in_front gate l f h a c b e
 
-      stopped : (l : Label) (f : StreamField) → Accepts l f → IsFalse (gate l f) → (front rest : List ℕ) × (reason : ℕ)
+      stopped : (l : Label) (f : StreamToken) → Accepts l f → IsFalse (gate l f) → (front rest : List ℕ) × (reason : ℕ)
           × (bytes_of f ≡ front ++ rest) × (scanning_verdict g l front ≡ bad reason) × IsUndecided (scanning_verdict g) l front
       stopped l f h k =
           let x = agrees_false (gate l f) (reason_at g l l.position (bytes_of f)) (ends_agree g l f h) k in (

@@ -8,7 +8,7 @@ use Rattle.jser_prim.proofs.Units.{form_of, spelling_one, spelling_two, spelling
 use Rattle.jser_prim.proofs.TextLemmas.{units_head, units_tail, units_cons}
 use Rattle.jser_grammar.proofs.Bools.{and_left, and_right}
 use Rattle.jser_verdict.specs.TextsSoFar.{Spot, unit_start, second_after_c0, second_after_e0, second_of_three, last_of_unit, is_tail, may_stand, less_one, spot_after, all_stand, text_length, text_bytes, has_wrong_byte}
-use Rattle.jser_verdict.specs.FieldLaws.{BadTextIsExact}
+use Rattle.jser_verdict.specs.TokenLaws.{BadTextIsExact}
 
 -- ---- a text's bytes may stand
 

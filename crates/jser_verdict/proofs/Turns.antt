@@ -3,7 +3,7 @@ use Rattle.std.proofs.Common.{◌≡◌, ℕ, ◌<◌, ◌≤◌, Bool, true, fa
 use Rattle.std.proofs.lemmas.Bool.{eqb-true}
 use Rattle.jser_grammar.proofs.Bools.{and_left, and_right}
 use Rattle.jser_verdict.specs.Reasons.{Reason, bytes_exceeded, bad_header, bad_tag, exception_tag, reset_inside, bad_text, negative_length, bad_type_code, field_order, bad_flags, null_class, no_such_handle, wrong_kind, open_descriptor, bad_array_name, wrong_class, external_raw, not_serializable, class_rejected, class_unmatched, depth_exceeded, refs_exceeded, array_exceeded, handle_space, truncated, number, ComesNoLater, in_order, first_that, turn, reason_with}
-use Rattle.jser_verdict.specs.FieldLaws.{TurnsAreInOrder}
+use Rattle.jser_verdict.specs.TokenLaws.{TurnsAreInOrder}
 
 -- a reason is known by its turn
 pub reason_of_turn : (r : Reason) → reason_with (turn r) ≡ r

@@ -1,7 +1,7 @@
 -- The laws of the walk by the verdict that code follows: those of the walk by the verdict that looks at the format.
 use Rattle.std.proofs.Common.{◌≡◌, ℕ, List, [], ◌∷◌, ◌++◌, length, refl, sym, ◌∙◌, ap, ap₂, subst, arith, length-append, inl, inr}
-use Rattle.jser_reading.proofs.Vocabulary.{ContentTrees, IsBytes, State, StreamField, advance, begin_state, label_of, settled}
-use Rattle.jser_reading.specs.FieldBytes.{joined}
+use Rattle.jser_reading.proofs.Vocabulary.{ContentTrees, IsBytes, State, StreamToken, advance, begin_state, label_of, settled}
+use Rattle.jser_reading.specs.TokenBytes.{joined}
 use Rattle.jser_reading.specs.GateLimits.{gate_of}
 use Rattle.jser_reading.specs.Scanner.{Verdict, more, good, bad, VerdictOn, ended, refused, walk, PassesBy}
 use Rattle.jser_reading.specs.WalkLaws.{TakesWhole}
@@ -12,10 +12,10 @@ use Rattle.jser_verdict.specs.Verdicts.{verdict}
 use Rattle.jser_verdict.proofs.Scanning.{scanning_verdict}
 use Rattle.jser_verdict.specs.FaultLaws.{RefusesTheFirst, CutIsTheFirst, OverIsTheFirst, RefusesPromptly, DecidesAlone}
 use Rattle.jser_verdict.proofs.Scans.{verdict_scans}
-use Rattle.jser_verdict.proofs.OpenFields.{no_row}
+use Rattle.jser_verdict.proofs.OpenTokens.{no_row}
 use Rattle.jser_verdict.proofs.FirstFaults.{refuses_first, cut_first, over_first}
 use Rattle.jser_verdict.proofs.SameWalks.{same_walk}
-use Rattle.jser_verdict.proofs.Passing.{by_fields}
+use Rattle.jser_verdict.proofs.Passing.{by_tokens}
 use Rattle.jser_verdict.proofs.ByteLists.{bytes_left, bytes_both}
 
 pub refuses_the_first : RefusesTheFirst
@@ -28,7 +28,7 @@ cut_is_the_first g bytes cut s hb cap e nd = cut_first g bytes cut s cap (sym (s
 pub over_is_the_first : OverIsTheFirst
 over_is_the_first g seen cut b after s hb cap e = over_first g seen cut b after s cap (sym (same_walk g seen hb) ∙ e)
 
--- the walk takes exactly the streams that the gate lets through field by field
+-- the walk takes exactly the streams that the gate lets through token by token
 pub takes : (g : Gate) (bytes : List ℕ) → IsBytes bytes → TakesWhole (verdict g) bytes
     → (list : ContentTrees) × PassesBy (gate_of (limits_of g)) bytes list
 takes g bytes hb (s, d, e) =
@@ -43,7 +43,7 @@ taken g bytes list hb p =
 -- where a walk within the limit refuses nothing, only Truncated holds
 pub refuses_promptly : RefusesPromptly
 refuses_promptly g seen cut s hb le e at end r (l, some, rest, o, ee, inl h) =
-    absurd (no_row g seen cut s (sym (same_walk g seen hb) ∙ e) o.front l some rest r o.next o.split o.no_field h)
+    absurd (no_row g seen cut s (sym (same_walk g seen hb) ∙ e) o.front l some rest r o.next o.split o.no_token h)
 refuses_promptly g seen cut s hb le e at end r (l, some, rest, o, ee, inr (inl (er, et))) =
     let e1 = et.0 in
     let bg = o.begins in
@@ -62,7 +62,7 @@ walk_decides v (b ∷ bs) s p w q k e =
   where
     go : (x : Verdict) → v (label_of (settled s)) (p ++ (b ∷ [])) ≡ x
         → (walk v s (p ++ (b ∷ [])) bs ≡ refused w q k → Decides v s (p ++ (b ∷ [])) bs w q k)
-        → ((f : StreamField) → walk v (advance (settled s) f) [] bs ≡ refused w q k → Decides v (advance (settled s) f) [] bs w q k)
+        → ((f : StreamToken) → walk v (advance (settled s) f) [] bs ≡ refused w q k → Decides v (advance (settled s) f) [] bs w q k)
         → Decides v s p (b ∷ bs) w q k
     go more ex m f = let r = m (rw ex at e) in (b ∷ r.0, ap (λ z. b ∷ z) r.1, λ x. rw ex (r.2 x))
     go (good fd) ex m f = let r = f fd (rw ex at e) in (b ∷ r.0, ap (λ z. b ∷ z) r.1, λ x. rw ex (r.2 x))
@@ -82,6 +82,6 @@ decides_alone g seen wrong rest k hb e =
     none : (bytes behind : List ℕ) (list : ContentTrees) → IsBytes bytes → walk (verdict g) begin_state [] bytes ≡ refused wrong behind k
         → Passes g bytes list → ⊥
     none bytes behind list h e p =
-        let y = taken g bytes list h (by_fields g bytes list p).0 in
+        let y = taken g bytes list h (by_tokens g bytes list p).0 in
         let z : ended y.0 [] ≡ refused wrong behind k = sym y.2 ∙ e in
         cc

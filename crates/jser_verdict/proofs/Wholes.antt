@@ -1,11 +1,11 @@
--- Bytes that are as many as the field needs, and for which no reason is told, are a field that the format takes.
+-- Bytes that are as many as the token needs, and for which no reason is told, are a token that the format takes.
 use Rattle.std.proofs.Common.{◌≡◌, ℕ, zero, suc, ◌+◌, ◌-◌, ◌*◌, ◌^◌, ◌<◌, ◌≤◌, Bool, true, false, ◌&&◌, ◌||◌, not, if◌then◌else◌, List, [], ◌∷◌, ◌++◌, length, refl, sym, ◌∙◌, ap, ap₂, subst, arith, Option, Some, None, IsTrue, nat_lt, nat_le, nat_eq, take, drop, length-append, leb-true, le-leb, ltb-false, append-nil, slice_get, is_some, true≢false}
 use Rattle.std.proofs.lemmas.Bool.Decides.{nat_tests}
-use Rattle.jser_reading.proofs.Vocabulary.{big_bytes, modified_utf8, is_serializable, is_externalizable, has_block_data, is_enum, all_serial, TableEntry, text_entry, other_entry, pending_entry, closed_entry, is_text, is_pending, is_closed, chain_of, does_fit, NameKind, plain_name, array_name, malformed_name, name_kind, Layer, prim_code_of, is_object_code, Entries, IsText, text_bound, is_malformed, IsHandle, Owner, object_owner, array_owner, enum_owner, class_owner, ChainOwner, Role, own_class, superclass, FitsOwner, FitsRole, NameFits, FlagsFit, Moment, StreamField, header_field, handle_field, suid_field, flags_field, field_count_field, interface_count_field, array_length_field, code_field, text_field, block_length_field, prims_field, bytes_field, Position, nowhere, header_at, top_at, annotation_at, value_at, text_place_at, class_place_at, superclass_place_at, back_handle_at, text_handle_at, class_handle_at, superclass_handle_at, string_at, class_name_at, field_name_at, interface_name_at, suid_at, field_count_at, interface_count_at, array_length_at, flags_at, type_code_at, block_length_at, raw_at, bytes_at, Label, AcceptsAt, Accepts}
+use Rattle.jser_reading.proofs.Vocabulary.{big_bytes, modified_utf8, is_serializable, is_externalizable, has_block_data, is_enum, all_serial, TableEntry, text_entry, other_entry, pending_entry, closed_entry, is_text, is_pending, is_closed, chain_of, does_fit, NameKind, plain_name, array_name, malformed_name, name_kind, Layer, prim_code_of, is_object_code, Entries, IsText, text_bound, is_malformed, IsHandle, Owner, object_owner, array_owner, enum_owner, class_owner, ChainOwner, Role, own_class, superclass, FitsOwner, FitsRole, NameFits, FlagsFit, Moment, StreamToken, header_token, handle_token, suid_token, flags_token, field_count_token, interface_count_token, array_length_token, code_token, text_token, block_length_token, prims_token, bytes_token, Position, nowhere, header_at, top_at, annotation_at, value_at, text_place_at, class_place_at, superclass_place_at, back_handle_at, text_handle_at, class_handle_at, superclass_handle_at, string_at, class_name_at, field_name_at, interface_name_at, suid_at, field_count_at, interface_count_at, array_length_at, flags_at, type_code_at, block_length_at, raw_at, bytes_at, Label, AcceptsAt, Accepts}
 use Rattle.jser_table.specs.declared.layer.Fit.{Fit}
 use Rattle.jser_table.specs.declared.layer.Fit.TheVariants as fit
 use Rattle.jser_grammar.specs.Spelling.{utf, long_utf}
-use Rattle.jser_reading.specs.FieldBytes.{bytes_of}
+use Rattle.jser_reading.specs.TokenBytes.{bytes_of}
 use Rattle.jser_grammar.proofs.Bools.{and_left, and_right, and_both}
 use Rattle.jser_verdict.specs.Reasons.{Reason, bad_header, bad_text, negative_length, bad_type_code, field_order, bad_flags, no_such_handle, wrong_kind, open_descriptor, bad_array_name, wrong_class, external_raw, not_serializable, array_exceeded, handle_space}
 use Rattle.jser_verdict.specs.Gates.{Gate}
@@ -14,7 +14,7 @@ use Rattle.jser_verdict.specs.TextsSoFar.{is_whole_text, text_units, text_bytes,
 use Rattle.jser_verdict.specs.HandleRows.{is_no_handle, entry_named, is_no_text, is_no_descriptor}
 use Rattle.jser_verdict.specs.ClassRows.{is_wrong, is_raw, is_unserial, fit_of_owner, fit_at, is_unserial_superclass, is_wrong_name, has_wrong_flags, has_raw_flags, has_unserial_flags}
 use Rattle.jser_verdict.specs.Verdicts.{told_if, on_byte, on_number, on_text, is_full, content_reason, inner_reason, class_tag_reason, other_tag_reason, text_handle_reason, class_handle_reason, superclass_handle_reason, checked_reason, class_name_reason, interface_reason, string_reason, count_reason, array_reason, flags_reason, code_reason, reason_at}
-use Rattle.jser_verdict.specs.FieldLaws.{IsRead}
+use Rattle.jser_verdict.specs.TokenLaws.{IsRead}
 use Rattle.std.specs.List.{list_all}
 use Rattle.std.specs.Int.{byte_at}
 use Rattle.std.proofs.lemmas.Bool.{leb-false}
@@ -24,9 +24,9 @@ use Rattle.jser_verdict.proofs.Fronts.{same_equal}
 use Rattle.jser_verdict.proofs.Ends.{here, whole_short, units_short}
 use Rattle.std.proofs.lemmas.List.{take-append-drop, length-take-le}
 use Rattle.jser_verdict.proofs.Fronts.{text_front_short}
-use Rattle.jser_verdict.proofs.Completes.{IsField, passed, top_byte, annotation_byte, value_byte, text_place_byte, object_byte, class_byte, array_byte, enum_byte, superclass_byte}
+use Rattle.jser_verdict.proofs.Completes.{IsToken, passed, top_byte, annotation_byte, value_byte, text_place_byte, object_byte, class_byte, array_byte, enum_byte, superclass_byte}
 use Rattle.jser_verdict.proofs.Texts.{text_back}
-use Rattle.jser_reading.specs.FieldsFromBytes.{number_of, head_size, text_size, size_in, prims_in}
+use Rattle.jser_reading.specs.TokensFromBytes.{number_of, head_size, text_size, size_in, prims_in}
 
 -- ---- numbers
 
@@ -259,7 +259,7 @@ found (t ∷ T) zero h e = absurd (cc)
 found (t ∷ T) (suc n) h e = found T n (omega arith) e
 
 handle_of : (p : List ℕ) (T : Entries) → length p ≡ 4 → IsBytes p → is_no_handle T (number_of p) ≡ false
-    → (n : ℕ) × (entry_named T (number_of p) ≡ slice_get T n) × (p ≡ bytes_of (handle_field n)) × (n < length T) × IsHandle n
+    → (n : ℕ) × (entry_named T (number_of p) ≡ slice_get T n) × (p ≡ bytes_of (handle_token n)) × (n < length T) × IsHandle n
 handle_of p T l h k =
     let x = numbered_4 p l h in
     let y = entry_of T (number_of p) k in
@@ -309,7 +309,7 @@ there : (T : Entries) (n : ℕ) (entry : Option TableEntry) → entry ≡ slice_
 there T n entry e h z = found T n h (sym e ∙ z)
 
 text_handle_of : (l : Label) (p : List ℕ) → length p ≡ 4 → IsBytes p → text_handle_reason l (number_of p) ≡ None
-    → IsField text_handle_at l.moment p
+    → IsToken text_handle_at l.moment p
 text_handle_of l p k h e =
     let T : Entries = l.moment.table in
     let entry : Option TableEntry = entry_named T (number_of p) in
@@ -317,10 +317,10 @@ text_handle_of l p k h e =
     let b = passed (is_no_text entry) wrong_kind None a.1 in
     let x = handle_of p T k h a.0 in
     let t : IsTrue (is_text entry) = text_entry_of entry (there T x.0 entry x.1 x.3) b.0 in
-    (handle_field x.0, x.2, (subst (λ o. IsTrue (is_text o)) x.1 t, x.4))
+    (handle_token x.0, x.2, (subst (λ o. IsTrue (is_text o)) x.1 t, x.4))
 
 class_handle_of : (g : Gate) (l : Label) (owner : Owner) (p : List ℕ) → length p ≡ 4 → IsBytes p
-    → class_handle_reason g l owner (number_of p) ≡ None → IsField (class_handle_at owner) l.moment p
+    → class_handle_reason g l owner (number_of p) ≡ None → IsToken (class_handle_at owner) l.moment p
 class_handle_of g l owner p k h e =
     let T : Entries = l.moment.table in
     let entry : Option TableEntry = entry_named T (number_of p) in
@@ -343,10 +343,10 @@ class_handle_of g l owner p k h e =
     (with_true (is_closed entry) (is_unserial q) cl u.0) in
     let fits : IsTrue (is_closed (slice_get T x.0)) × FitsOwner owner (chain_of (slice_get T x.0)) =
     subst (λ o. IsTrue (is_closed o) × FitsOwner owner (chain_of o)) x.1 (cl, owner_fits owner (chain_of entry) ft) in
-    (handle_field x.0, x.2, ((fits.0, x.4), fits.1))
+    (handle_token x.0, x.2, ((fits.0, x.4), fits.1))
 
 superclass_handle_of : (g : Gate) (l : Label) (owner : ChainOwner) (strict : Bool) (p : List ℕ) → length p ≡ 4 → IsBytes p
-    → superclass_handle_reason g l owner strict (number_of p) ≡ None → IsField (superclass_handle_at owner strict) l.moment p
+    → superclass_handle_reason g l owner strict (number_of p) ≡ None → IsToken (superclass_handle_at owner strict) l.moment p
 superclass_handle_of g l owner strict p k h e =
     let T : Entries = l.moment.table in
     let entry : Option TableEntry = entry_named T (number_of p) in
@@ -362,7 +362,7 @@ superclass_handle_of g l owner strict p k h e =
     let cl : IsTrue (is_closed entry) = class_entry_of entry (there T x.0 entry x.1 x.3) b.0 c.0 in
     let fits : IsTrue (is_closed (slice_get T x.0)) × FitsRole (superclass owner strict) (chain_of (slice_get T x.0)) =
     subst (λ o. IsTrue (is_closed o) × FitsRole (superclass owner strict) (chain_of o)) x.1 (cl, serial strict entry d.0 cl) in
-    (handle_field x.0, x.2, ((fits.0, x.4), fits.1))
+    (handle_token x.0, x.2, ((fits.0, x.4), fits.1))
   where
     serial : (strict : Bool) (entry : Option TableEntry) → is_unserial_superclass strict entry ≡ false → IsTrue (is_closed entry)
         → FitsRole (superclass owner strict) (chain_of entry)
@@ -394,7 +394,7 @@ flags_fit (own_class (Some class_owner)) n a b c = tt
 flags_fit (superclass owner false) n a b c = tt
 flags_fit (superclass owner true) n a b c = not_true (is_serializable n) c
 
-flags_of : (m : Moment) (role : Role) (n : ℕ) → flags_reason role n ≡ None → IsField (flags_at role) m (n ∷ [])
+flags_of : (m : Moment) (role : Role) (n : ℕ) → flags_reason role n ≡ None → IsToken (flags_at role) m (n ∷ [])
 flags_of m role n e =
     let o4 = told_if (has_unserial_flags role n) not_serializable None in
     let o3 = told_if (has_raw_flags role n) external_raw o4 in
@@ -404,13 +404,13 @@ flags_of m role n e =
     let c = passed (has_raw_flags role n) external_raw o4 b.1 in
     let d = passed (has_unserial_flags role n) not_serializable None c.1 in
     let f = either_false (nat_le 32 n) (is_serializable n && is_externalizable n) a.0 in
-    (flags_field n, refl, ((leb-false 32 n f.0, f.1), flags_fit role n b.0 c.0 d.0))
+    (flags_token n, refl, ((leb-false 32 n f.0, f.1), flags_fit role n b.0 c.0 d.0))
 
-code_of : (m : Moment) (seen : Bool) (n : ℕ) → code_reason seen n ≡ None → IsField (type_code_at seen) m (n ∷ [])
+code_of : (m : Moment) (seen : Bool) (n : ℕ) → code_reason seen n ≡ None → IsToken (type_code_at seen) m (n ∷ [])
 code_of m seen n e =
     let a = passed (not (is_some (prim_code_of n) || is_object_code n)) bad_type_code (told_if (seen && is_some (prim_code_of n)) field_order None) e in
     let b = passed (seen && is_some (prim_code_of n)) field_order None a.1 in
-    (code_field n, refl, follows (is_object_code n) (is_some (prim_code_of n)) seen a.0 b.0)
+    (code_token n, refl, follows (is_object_code n) (is_some (prim_code_of n)) seen a.0 b.0)
   where
     follows : (x y seen : Bool) → not (y || x) ≡ false → (seen && y) ≡ false → IsTrue (if x then true else (y && not seen))
     follows true y seen h k = refl
@@ -442,37 +442,37 @@ one_byte [] tell P l h f = absurd (omega arith)
 one_byte (b ∷ []) tell P l h f = f b h
 one_byte (b ∷ c ∷ p) tell P l h f = absurd (omega arith)
 
-number_field : (k : ℕ) (w : Position) (m : Moment) (make : ℕ → StreamField) (p : List ℕ) → Numbered k p
-    → bytes_of (make (number_of p)) ≡ big_bytes k (number_of p) → AcceptsAt w m (make (number_of p)) → IsField w m p
-number_field k w m make p x e a = (make (number_of p), sym x.0 ∙ sym e, a)
+number_token : (k : ℕ) (w : Position) (m : Moment) (make : ℕ → StreamToken) (p : List ℕ) → Numbered k p
+    → bytes_of (make (number_of p)) ≡ big_bytes k (number_of p) → AcceptsAt w m (make (number_of p)) → IsToken w m p
+number_token k w m make p x e a = (make (number_of p), sym x.0 ∙ sym e, a)
 
 counted : (bound : ℕ) (n : ℕ) (o : Option Reason) → told_if (nat_le bound n) negative_length o ≡ None → n < bound
 counted bound n o e = leb-false bound n (passed (nat_le bound n) negative_length o e).0
 
 complete : (g : Gate) (w : Position) (d : ℕ) (m : Moment) (p : List ℕ) → IsRead w → IsBytes p → length p ≡ size_in w p
-    → reason_at g (here w d m) w p ≡ None → IsField w m p
+    → reason_at g (here w d m) w p ≡ None → IsToken w m p
 complete g nowhere d m p r h l e = absurd r
 complete g header_at d m p r h l e =
-    (header_field, same_bytes (0xAC ∷ 0xED ∷ 0x00 ∷ 0x05 ∷ []) p l (passed (differs (0xAC ∷ 0xED ∷ 0x00 ∷ 0x05 ∷ []) p) bad_header None e).0, tt)
-complete g top_at d m p r h l e = one_byte p (content_reason g (here top_at d m)) (IsField top_at m) l e (top_byte g d m)
-complete g annotation_at d m p r h l e = one_byte p (inner_reason g (here annotation_at d m)) (IsField annotation_at m) l e (annotation_byte g d m)
-complete g value_at d m p r h l e = one_byte p (inner_reason g (here value_at d m)) (IsField value_at m) l e (value_byte g d m)
-complete g text_place_at d m p r h l e = one_byte p (other_tag_reason g (here text_place_at d m)) (IsField text_place_at m) l e (text_place_byte g d m)
+    (header_token, same_bytes (0xAC ∷ 0xED ∷ 0x00 ∷ 0x05 ∷ []) p l (passed (differs (0xAC ∷ 0xED ∷ 0x00 ∷ 0x05 ∷ []) p) bad_header None e).0, tt)
+complete g top_at d m p r h l e = one_byte p (content_reason g (here top_at d m)) (IsToken top_at m) l e (top_byte g d m)
+complete g annotation_at d m p r h l e = one_byte p (inner_reason g (here annotation_at d m)) (IsToken annotation_at m) l e (annotation_byte g d m)
+complete g value_at d m p r h l e = one_byte p (inner_reason g (here value_at d m)) (IsToken value_at m) l e (value_byte g d m)
+complete g text_place_at d m p r h l e = one_byte p (other_tag_reason g (here text_place_at d m)) (IsToken text_place_at m) l e (text_place_byte g d m)
 complete g (class_place_at object_owner) d m p r h l e =
-    one_byte p (class_tag_reason g (here (class_place_at object_owner) d m) object_owner) (IsField (class_place_at object_owner) m) l e (object_byte g d m)
+    one_byte p (class_tag_reason g (here (class_place_at object_owner) d m) object_owner) (IsToken (class_place_at object_owner) m) l e (object_byte g d m)
 complete g (class_place_at array_owner) d m p r h l e =
-    one_byte p (class_tag_reason g (here (class_place_at array_owner) d m) array_owner) (IsField (class_place_at array_owner) m) l e (array_byte g d m)
+    one_byte p (class_tag_reason g (here (class_place_at array_owner) d m) array_owner) (IsToken (class_place_at array_owner) m) l e (array_byte g d m)
 complete g (class_place_at enum_owner) d m p r h l e =
-    one_byte p (class_tag_reason g (here (class_place_at enum_owner) d m) enum_owner) (IsField (class_place_at enum_owner) m) l e (enum_byte g d m)
+    one_byte p (class_tag_reason g (here (class_place_at enum_owner) d m) enum_owner) (IsToken (class_place_at enum_owner) m) l e (enum_byte g d m)
 complete g (class_place_at class_owner) d m p r h l e =
-    one_byte p (class_tag_reason g (here (class_place_at class_owner) d m) class_owner) (IsField (class_place_at class_owner) m) l e (class_byte g d m)
+    one_byte p (class_tag_reason g (here (class_place_at class_owner) d m) class_owner) (IsToken (class_place_at class_owner) m) l e (class_byte g d m)
 complete g (superclass_place_at owner strict) d m p r h l e =
-    one_byte p (other_tag_reason g (here (superclass_place_at owner strict) d m)) (IsField (superclass_place_at owner strict) m) l e
+    one_byte p (other_tag_reason g (here (superclass_place_at owner strict) d m)) (IsToken (superclass_place_at owner strict) m) l e
     (superclass_byte g d m owner strict)
 complete g back_handle_at d m p r h l e =
     let a = passed (is_no_handle m.table (number_of p)) no_such_handle None (number_told 4 p (λ n. told_if (is_no_handle m.table n) no_such_handle None) l e) in
     let x = handle_of p m.table l h a.0 in
-    (handle_field x.0, x.2, (x.3, x.4))
+    (handle_token x.0, x.2, (x.3, x.4))
 complete g text_handle_at d m p r h l e =
     text_handle_of (here text_handle_at d m) p l h (number_told 4 p (text_handle_reason (here text_handle_at d m)) l e)
 complete g (class_handle_at owner) d m p r h l e =
@@ -480,43 +480,43 @@ complete g (class_handle_at owner) d m p r h l e =
 complete g (superclass_handle_at owner strict) d m p r h l e =
     superclass_handle_of g (here (superclass_handle_at owner strict) d m) owner strict p l h
     (number_told 4 p (superclass_handle_reason g (here (superclass_handle_at owner strict) d m) owner strict) l e)
-complete g (string_at true) d m p r h l e = let x = long_text p h l e in (text_field true x.0, x.2, x.1)
+complete g (string_at true) d m p r h l e = let x = long_text p h l e in (text_token true x.0, x.2, x.1)
 complete g (string_at false) d m p r h l e =
-    let x = short_text p h l (passed (has_wrong_byte false p) bad_text None e).0 in (text_field false x.0, x.2, x.1)
+    let x = short_text p h l (passed (has_wrong_byte false p) bad_text None e).0 in (text_token false x.0, x.2, x.1)
 complete g (class_name_at role) d m p r h l e =
     let x = named_text p (class_name_reason g role) h l e in
     let a = passed (is_malformed (name_kind x.0)) bad_array_name (told_if (is_wrong_name role (name_kind x.0)) wrong_class (checked_reason g x.0)) x.3 in
     let b = passed (is_wrong_name role (name_kind x.0)) wrong_class (checked_reason g x.0) a.1 in
-    (text_field false x.0, x.2, ((x.1, a.0), name_fits role (name_kind x.0) a.0 b.0))
+    (text_token false x.0, x.2, ((x.1, a.0), name_fits role (name_kind x.0) a.0 b.0))
 complete g field_name_at d m p r h l e =
-    let x = named_text p (λ name. None) h l e in (text_field false x.0, x.2, x.1)
+    let x = named_text p (λ name. None) h l e in (text_token false x.0, x.2, x.1)
 complete g interface_name_at d m p r h l e =
     let x = named_text p (interface_reason g) h l e in
     let a = passed (is_malformed (name_kind x.0)) bad_array_name (checked_reason g x.0) x.3 in
-    (text_field false x.0, x.2, (x.1, a.0))
-complete g suid_at d m p r h l e = let x = numbered_8 p l h in number_field 8 suid_at m suid_field p x refl (omega (arith, x.1))
+    (text_token false x.0, x.2, (x.1, a.0))
+complete g suid_at d m p r h l e = let x = numbered_8 p l h in number_token 8 suid_at m suid_token p x refl (omega (arith, x.1))
 complete g field_count_at d m p r h l e =
-    number_field 2 field_count_at m field_count_field p (numbered_2 p l h) refl
+    number_token 2 field_count_at m field_count_token p (numbered_2 p l h) refl
     (counted (2 ^ 15) (number_of p) None (number_told 2 p (count_reason (2 ^ 15)) l e))
 complete g interface_count_at d m p r h l e =
-    number_field 4 interface_count_at m interface_count_field p (numbered_4 p l h) refl
+    number_token 4 interface_count_at m interface_count_token p (numbered_4 p l h) refl
     (counted (2 ^ 31) (number_of p) None (number_told 4 p (count_reason (2 ^ 31)) l e))
 complete g array_length_at d m p r h l e =
-    number_field 4 array_length_at m array_length_field p (numbered_4 p l h) refl
+    number_token 4 array_length_at m array_length_token p (numbered_4 p l h) refl
     (counted (2 ^ 31) (number_of p) (told_if (nat_lt g.array (number_of p)) array_exceeded None) (number_told 4 p (array_reason g) l e))
-complete g (flags_at role) d m p r h l e = one_byte p (flags_reason role) (IsField (flags_at role) m) l e (flags_of m role)
-complete g (type_code_at seen) d m p r h l e = one_byte p (code_reason seen) (IsField (type_code_at seen) m) l e (code_of m seen)
+complete g (flags_at role) d m p r h l e = one_byte p (flags_reason role) (IsToken (flags_at role) m) l e (flags_of m role)
+complete g (type_code_at seen) d m p r h l e = one_byte p (code_reason seen) (IsToken (type_code_at seen) m) l e (code_of m seen)
 complete g (block_length_at true) d m p r h l e =
-    number_field 4 (block_length_at true) m (block_length_field true) p (numbered_4 p l h) refl
+    number_token 4 (block_length_at true) m (block_length_token true) p (numbered_4 p l h) refl
     (counted (2 ^ 31) (number_of p) None (number_told 4 p (count_reason (2 ^ 31)) l e))
 complete g (block_length_at false) d m p r h l e =
-    let x = numbered_1 p l h in number_field 1 (block_length_at false) m (block_length_field false) p x refl (omega (arith, x.1))
+    let x = numbered_1 p l h in number_token 1 (block_length_at false) m (block_length_token false) p x refl (omega (arith, x.1))
 complete g (raw_at c zero) d m p r h l e = absurd r
 complete g (raw_at c (suc n)) d m p r h l e =
-    let x = prims_of c (suc n) p l h in (prims_field (prims_in c (suc n) p), sym x.0, (x.2, x.1))
+    let x = prims_of c (suc n) p l h in (prims_token (prims_in c (suc n) p), sym x.0, (x.2, x.1))
 complete g (bytes_at zero) d m p r h l e = absurd r
-complete g (bytes_at (suc n)) d m p r h l e = (bytes_field p, refl, (h, l))
+complete g (bytes_at (suc n)) d m p r h l e = (bytes_token p, refl, (h, l))
 
 pub complete_at : (g : Gate) (l : Label) (p : List ℕ) → IsRead l.position → IsBytes p → length p ≡ size_in l.position p
-    → reason_at g l l.position p ≡ None → (f : StreamField) × (p ≡ bytes_of f) × Accepts l f
+    → reason_at g l l.position p ≡ None → (f : StreamToken) × (p ≡ bytes_of f) × Accepts l f
 complete_at g l p r h k e = complete g l.position l.depth l.moment p r h k e

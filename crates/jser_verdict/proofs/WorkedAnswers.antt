@@ -2,7 +2,7 @@
 -- name by which the tests of the calls know it too. Each reason occurs.
 use Rattle.std.proofs.Common.{◌≡◌, ℕ, zero, suc, Bool, true, false, ◌&&◌, nat_eq, [], ◌∷◌, ◌++◌, take, refl, codes}
 use Rattle.std.specs.Prelude.{replicate}
-use Rattle.jser_reading.specs.FieldsFromBytes.{tag_from, units_in, prims_in}
+use Rattle.jser_reading.specs.TokensFromBytes.{tag_from, units_in, prims_in}
 use Rattle.jser_verdict.specs.Reasons.{array_exceeded, bad_array_name, bad_flags, bad_header, bad_tag, bad_text, bad_type_code, bytes_exceeded, class_rejected, class_unmatched, depth_exceeded, exception_tag, external_raw, field_order, handle_space, negative_length, no_such_handle, not_serializable, null_class, open_descriptor, refs_exceeded, reset_inside, truncated, wrong_class, wrong_kind}
 use Rattle.jser_verdict.specs.Answers.{Told, accepted, refused_at, answer}
 use Rattle.jser_verdict.proofs.WorkedStreams.{hex, linked_pair, int_array_of, enum_constant, proxy, array_list, external_over_serial, superclass_first, class_a, open_gate, with_bytes, with_depth, with_refs, with_array, with_handles, rejecting, rejecting_but, matching_none}

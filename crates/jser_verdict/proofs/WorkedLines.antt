@@ -1,7 +1,7 @@
 -- Further lines of the tables of tags, classes and refusals, each worked by computation on a stream of its own: each
 -- place of a reason has one here or in `WorkedAnswers`.
 use Rattle.std.proofs.Common.{◌≡◌, [], ◌∷◌, refl, codes}
-use Rattle.jser_reading.specs.FieldsFromBytes.{tag_from, units_in, prims_in}
+use Rattle.jser_reading.specs.TokensFromBytes.{tag_from, units_in, prims_in}
 use Rattle.jser_verdict.specs.Reasons.{bad_array_name, bad_flags, bad_tag, bad_text, bytes_exceeded, class_unmatched, depth_exceeded, exception_tag, external_raw, handle_space, negative_length, no_such_handle, not_serializable, null_class, open_descriptor, reset_inside, wrong_class, wrong_kind}
 use Rattle.jser_verdict.specs.Gates.{lowered}
 use Rattle.jser_verdict.specs.Answers.{accepted, refused_at, answer}
@@ -105,7 +105,7 @@ header_or_limit : answer (with_bytes 0) (hex (codes "00")) ≡ refused_at 0 1 by
 unfolding tag_from units_in prims_in
 header_or_limit = refl
 
--- the other fields at which a handle is assigned
+-- the other tokens at which a handle is assigned
 
 long_string_handle : answer (with_handles 0 65535) (hex (codes "ACED0005 7C")) ≡ refused_at 4 5 handle_space
 unfolding tag_from units_in prims_in

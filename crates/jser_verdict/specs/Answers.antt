@@ -7,7 +7,7 @@ use Rattle.jser_verdict.specs.Reasons.{Reason, bytes_exceeded, truncated, reason
 use Rattle.jser_verdict.specs.Gates.{Gate}
 use Rattle.jser_verdict.specs.Verdicts.{verdict}
 
--- accepted; or refused, with the start of the field, the number of bytes that decide, and the reason
+-- accepted; or refused, with the start of the token, the number of bytes that decide, and the reason
 pub data Told : Type 0 where
   accepted : Told
   refused_at : (at end : ℕ) → Reason → Told

@@ -1,6 +1,6 @@
--- What the bytes of a field so far say, where it is a tag or a number: nothing, until they are as many as it has.
+-- What the bytes of a token so far say, where it is a tag or a number: nothing, until they are as many as it has.
 use Rattle.std.specs.Prelude.{ℕ, ◌&&◌, ◌||◌, not, Bool, false, nat_eq, List, [], ◌∷◌, length}
-use Rattle.jser_reading.specs.FieldsFromBytes.{number_of}
+use Rattle.jser_reading.specs.TokensFromBytes.{number_of}
 
 -- of one byte
 abbrev pub of_byte : List ℕ → (ℕ → Bool) → Bool

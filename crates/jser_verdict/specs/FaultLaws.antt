@@ -23,7 +23,7 @@ RefusesTheFirst =
     → (at : ℕ) × (reason : Reason) × (k ≡ turn reason) × (length seen ≡ at + length wrong + length rest)
     × IsFirstFault gate (seen ++ after) at (at + length wrong) reason
 
--- Where the bytes end, and are no stream, it is Truncated, at the open field.
+-- Where the bytes end, and are no stream, it is Truncated, at the open token.
 abbrev pub CutIsTheFirst : Type 0
 CutIsTheFirst =
     (gate : Gate) (bytes cut : List ℕ) (s : State) → IsBytes bytes → length bytes ≤ gate.bytes
@@ -31,7 +31,7 @@ CutIsTheFirst =
     → (at : ℕ) × (length bytes ≡ at + length cut) × IsFirstFault gate bytes at (length bytes) truncated
 
 -- Where one byte more comes than the limit allows, and nothing was refused up to it, it is BytesExceeded, at the open
--- field.
+-- token.
 abbrev pub OverIsTheFirst : Type 0
 OverIsTheFirst =
     (gate : Gate) (seen cut : List ℕ) (b : ℕ) (others : List ℕ) (s : State) → IsBytes seen → length seen ≡ gate.bytes

@@ -1,34 +1,34 @@
 -- The faults of bytes by the rows of the reasons, and the first of them. No machine and no verdict occurs here: which
--- field may come next is told by whole streams.
+-- token may come next is told by whole streams.
 use Rattle.std.specs.Prelude.{ℕ, suc, ◌+◌, ◌<◌, ◌≡◌, ◌⊎◌, IsTrue, List, [], ◌++◌, length}
 use Rattle.jser_grammar.specs.Trees.{ContentTrees}
 use Rattle.jser_grammar.specs.Streams.{IsStreamOf}
-use Rattle.jser_reading.specs.Labels.{StreamField, Label, Piece}
-use Rattle.jser_reading.specs.FieldBytes.{bytes_of, joined}
+use Rattle.jser_reading.specs.Labels.{StreamToken, Label, Piece}
+use Rattle.jser_reading.specs.TokenBytes.{bytes_of, joined}
 use Rattle.jser_reading.specs.Accepts.{Accepts}
 use Rattle.jser_reading.specs.ComesNext.{ComesNext}
-use Rattle.jser_reading.specs.Scanner.{HasNoField}
+use Rattle.jser_reading.specs.Scanner.{HasNoToken}
 use Rattle.jser_verdict.specs.Reasons.{Reason, bytes_exceeded, truncated, ComesNoLater}
 use Rattle.jser_verdict.specs.Gates.{Gate}
 use Rattle.jser_verdict.specs.Rows.{row}
 
--- The first `at` bytes are whole fields, and a field with this label may come next; `some` are the bytes after them, of
--- which no proper front is a whole field with that label.
+-- The first `at` bytes are whole tokens, and a token with this label may come next; `some` are the bytes after them, of
+-- which no proper front is a whole token with that label.
 pub record OpenAt (bytes : List ℕ) (at : ℕ) (label : Label) (some rest : List ℕ) : Type 0 where
   pub front : List Piece
   pub next : ComesNext front label
   pub split : bytes ≡ joined front ++ (some ++ rest)
   pub begins : at ≡ length (joined front)
-  pub no_field : HasNoField label some
+  pub no_token : HasNoToken label some
 
--- the first byte beyond the limit lies in the field
+-- the first byte beyond the limit lies in the token
 abbrev pub IsTooLong : Gate → (at end : ℕ) → Type 0
 IsTooLong gate at end = (end ≡ suc gate.bytes) × (at < end)
 
--- the input ends in the field, and is no stream
+-- the input ends in the token, and is no stream
 abbrev pub IsCut : (bytes : List ℕ) → Label → (some rest : List ℕ) → Type 0
 IsCut bytes label some rest =
-    (rest ≡ []) × ((field : StreamField) → Accepts label field → some ≡ bytes_of field → ⊥)
+    (rest ≡ []) × ((token : StreamToken) → Accepts label token → some ≡ bytes_of token → ⊥)
     × ((list : ContentTrees) → IsStreamOf bytes list → ⊥)
 
 -- the row of the reason holds

@@ -1,5 +1,5 @@
 -- A gate: its limits, and its answer to each checked name. What its limits may be at most is `IsGate`; of what the
--- limits say, see `Passing` for whole lists and `Rows` for the bytes of one field.
+-- limits say, see `Passing` for whole lists and `Rows` for the bytes of one token.
 use Rattle.std.specs.Prelude.{ℕ, ◌-◌, ◌^◌, ◌≤◌, min, Bool, true, false, List}
 use Rattle.jser_grammar.specs.Caps.{most_bytes, most_depth, most_refs, most_array, most_handles}
 use Rattle.jser_reading.specs.GateLimits.{GateLimits}
@@ -49,7 +49,7 @@ is_unmatched pass = false
 is_unmatched rejected = false
 is_unmatched unmatched = true
 
--- what it limits field by field: all but the number of bytes
+-- what it limits token by token: all but the number of bytes
 abbrev pub limits_of : Gate → GateLimits
 limits_of gate = record {
   depth = gate.depth;

@@ -9,7 +9,7 @@ pub mod ClassRows
 pub mod Rows
 pub mod Verdicts
 pub mod FirstFault
-pub mod FieldLaws
+pub mod TokenLaws
 pub mod FaultLaws
 pub mod Answers
 pub mod AnswerLaws

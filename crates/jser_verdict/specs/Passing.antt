@@ -1,4 +1,4 @@
--- Which streams a gate lets pass, in words of the tree alone: no field, no machine and no verdict occurs here.
+-- Which streams a gate lets pass, in words of the tree alone: no token, no machine and no verdict occurs here.
 use Rattle.std.specs.Prelude.{ℕ, ◌≤◌, ◌≡◌, List, length}
 use Rattle.jser_grammar.specs.Trees.{ContentTrees}
 use Rattle.jser_grammar.specs.Streams.{IsStreamOf}

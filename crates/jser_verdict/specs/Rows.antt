@@ -1,8 +1,8 @@
--- The table of refusals: of each reason, when its row holds of the bytes of a field so far, by the field's label and
+-- The table of refusals: of each reason, when its row holds of the bytes of a token so far, by the token's label and
 -- the gate. Read `row`, at the end, beside the table; each of its words is a line for each position.
--- Where the fault lies within a field (BadHeader, BadText, NegativeLength of a text) the row stays true with more
+-- Where the fault lies within a token (BadHeader, BadText, NegativeLength of a text) the row stays true with more
 -- bytes. The first fault has the least end, which is that of the first byte at fault. BytesExceeded and Truncated are
--- no matter of one field: see `FirstFault`.
+-- no matter of one token: see `FirstFault`.
 use Rattle.std.specs.Prelude.{ℕ, ◌^◌, ◌&&◌, ◌||◌, not, Bool, true, false, nat_lt, nat_le, nat_eq, List, [], ◌∷◌, length, Some, is_some}
 use Rattle.jser_table.specs.Chains.{is_serializable, is_externalizable}
 use Rattle.jser_table.specs.Names.{name_kind}
@@ -58,7 +58,7 @@ abbrev pub length_row : Position → List ℕ → (ℕ → Bool) → Bool
 length_row array_length_at bytes test = of_number 4 bytes test
 length_row _ bytes test = false
 
--- A handle is assigned at the end of this field: of a plain descriptor's suid; of the handle that is the class of an
+-- A handle is assigned at the end of this token: of a plain descriptor's suid; of the handle that is the class of an
 -- owner, or ends its chain; or of a tag that assigns one.
 abbrev pub assigns_at : Position → List ℕ → Bool
 assigns_at suid_at bytes = nat_eq (length bytes) 8

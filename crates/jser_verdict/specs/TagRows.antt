@@ -4,8 +4,8 @@
 use Rattle.std.specs.Prelude.{ℕ, ◌&&◌, ◌||◌, Bool, true, false, nat_le, nat_eq, List, Option, Some, None}
 use Rattle.jser_grammar.specs.Wire.{TC_NULL, TC_REFERENCE, TC_CLASSDESC, TC_STRING, TC_CLASS, TC_BLOCKDATA, TC_ENDBLOCKDATA, TC_RESET, TC_BLOCKDATALONG, TC_EXCEPTION, TC_LONGSTRING, TC_PROXYCLASSDESC, TC_ENUM}
 use Rattle.jser_reading.specs.Roles.{Owner, object_owner, array_owner, enum_owner, class_owner}
-use Rattle.jser_reading.specs.Labels.{StreamField, Position, top_at, annotation_at, value_at, class_place_at, superclass_place_at, text_place_at}
-use Rattle.jser_reading.specs.FieldsFromBytes.{tag_from}
+use Rattle.jser_reading.specs.Labels.{StreamToken, Position, top_at, annotation_at, value_at, class_place_at, superclass_place_at, text_place_at}
+use Rattle.jser_reading.specs.TokensFromBytes.{tag_from}
 use Rattle.jser_reading.specs.GateLimits.{begins_place, assigns_handle}
 use Rattle.jser_verdict.specs.BytesSoFar.{of_byte}
 
@@ -70,9 +70,9 @@ is_wrong_proxy enum_owner tag = nat_eq tag TC_PROXYCLASSDESC
 is_wrong_proxy class_owner tag = false
 
 -- the tag begins a place; at its end a handle is assigned
-abbrev pub of_tag : Option StreamField → (StreamField → Bool) → Bool
+abbrev pub of_tag : Option StreamToken → (StreamToken → Bool) → Bool
 of_tag None test = false
-of_tag (Some field) test = test field
+of_tag (Some token) test = test token
 
 abbrev pub is_place_tag : Position → ℕ → Bool
 is_place_tag position tag = of_tag (tag_from tag) (begins_place position)

@@ -3,7 +3,7 @@
 -- two bytes and 0800 to FFFF in three (java.io.DataInput); only these spellings are accepted. So it is known of each
 -- byte whether it may stand there, by the byte before it and the number of bytes that are left.
 use Rattle.std.specs.Prelude.{ℕ, zero, suc, ◌+◌, ◌&&◌, ◌||◌, not, Bool, true, false, nat_lt, nat_le, nat_eq, List, [], ◌∷◌, length, take, drop}
-use Rattle.jser_reading.specs.FieldsFromBytes.{number_of, units_in, head_size}
+use Rattle.jser_reading.specs.TokensFromBytes.{number_of, units_in, head_size}
 
 -- where in a unit the next byte stands
 pub data Spot : Type 0 where

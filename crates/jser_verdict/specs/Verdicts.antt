@@ -1,5 +1,5 @@
--- The verdict on the bytes of a field: the reason for which they are refused, if they are, in one small function for
--- each kind of field, its tests in the order of ties. This is a second text beside `Rows`, made for code to follow;
+-- The verdict on the bytes of a token: the reason for which they are refused, if they are, in one small function for
+-- each kind of token, its tests in the order of ties. This is a second text beside `Rows`, made for code to follow;
 -- that the two agree is proved.
 use Rattle.std.specs.Prelude.{ℕ, ◌^◌, ◌&&◌, not, Bool, true, false, if◌then◌else◌, cond, nat_lt, nat_le, nat_eq, List, [], ◌∷◌, length, Option, Some, None, is_some}
 use Rattle.jser_table.specs.Entries.{is_pending}
@@ -8,8 +8,8 @@ use Rattle.jser_grammar.specs.Codes.{prim_code_of}
 use Rattle.jser_grammar.specs.Parts.{is_malformed}
 use Rattle.jser_grammar.specs.Wire.{TC_NULL, TC_RESET, TC_EXCEPTION, stream_header}
 use Rattle.jser_reading.specs.Roles.{Owner, ChainOwner, Role}
-use Rattle.jser_reading.specs.Labels.{StreamField, Position, nowhere, header_at, top_at, annotation_at, value_at, text_place_at, class_place_at, superclass_place_at, back_handle_at, text_handle_at, class_handle_at, superclass_handle_at, string_at, class_name_at, field_name_at, interface_name_at, suid_at, field_count_at, interface_count_at, array_length_at, flags_at, type_code_at, block_length_at, raw_at, bytes_at, Label}
-use Rattle.jser_reading.specs.FieldsFromBytes.{number_of, size_in, field_in}
+use Rattle.jser_reading.specs.Labels.{StreamToken, Position, nowhere, header_at, top_at, annotation_at, value_at, text_place_at, class_place_at, superclass_place_at, back_handle_at, text_handle_at, class_handle_at, superclass_handle_at, string_at, class_name_at, field_name_at, interface_name_at, suid_at, field_count_at, interface_count_at, array_length_at, flags_at, type_code_at, block_length_at, raw_at, bytes_at, Label}
+use Rattle.jser_reading.specs.TokensFromBytes.{number_of, size_in, token_in}
 use Rattle.jser_reading.specs.Scanner.{Verdict, more, good, bad, VerdictOn}
 use Rattle.jser_verdict.specs.Reasons.{Reason, bad_header, bad_tag, exception_tag, reset_inside, bad_text, negative_length, bad_type_code, field_order, bad_flags, null_class, no_such_handle, wrong_kind, open_descriptor, bad_array_name, wrong_class, external_raw, not_serializable, class_rejected, class_unmatched, depth_exceeded, refs_exceeded, array_exceeded, handle_space, turn}
 use Rattle.jser_verdict.specs.Gates.{Gate, is_rejected, is_unmatched}
@@ -166,12 +166,12 @@ abbrev pub by_reason : Option Reason → Verdict → Verdict
 by_reason None others = others
 by_reason (Some reason) others = bad (turn reason)
 
--- as many bytes as the field needs, and no reason, are the field
-abbrev pub found_field : Option StreamField → Verdict
-found_field None = bad 0
-found_field (Some field) = good field
+-- as many bytes as the token needs, and no reason, are the token
+abbrev pub found_token : Option StreamToken → Verdict
+found_token None = bad 0
+found_token (Some token) = good token
 
 abbrev pub verdict : Gate → VerdictOn
 verdict gate label bytes =
     by_reason (reason_at gate label label.position bytes)
-    (cond (nat_lt (length bytes) (size_in label.position bytes)) more (found_field (field_in label.position bytes)))
+    (cond (nat_lt (length bytes) (size_in label.position bytes)) more (found_token (token_in label.position bytes)))

@@ -1,7 +1,7 @@
 //! Laws of the definitions alone: no call of the product stands behind them. Each is the clause of an empty function, so
-//! that the check insists on its proof; the statements are in `specs/`, as `FieldLaws`, `FaultLaws` and `AnswerLaws`.
+//! that the check insists on its proof; the statements are in `specs/`, as `TokenLaws`, `FaultLaws` and `AnswerLaws`.
 
-ghost use Rattle.jser_verdict.specs.FieldLaws.{TurnsAreInOrder, TellsEachRow, TellsTheFirstRow, BadTextIsExact, VerdictScans};
+ghost use Rattle.jser_verdict.specs.TokenLaws.{TurnsAreInOrder, TellsEachRow, TellsTheFirstRow, BadTextIsExact, VerdictScans};
 ghost use Rattle.jser_verdict.specs.FaultLaws.{RefusesTheFirst, CutIsTheFirst, OverIsTheFirst, RefusesPromptly, DecidesAlone};
 ghost use Rattle.jser_verdict.specs.AnswerLaws.{AcceptsPassing, AcceptsNoFault, RefusesFirstFault, OneFirstFault, RefusedForGood, LoweredIsGate, LoweredPasses};
 

@@ -1,4 +1,4 @@
-//! Streams that are read field by field, under the gate of a filter.
+//! Streams that are read token by token, under the gate of a filter.
 ghost use Rattle.std.specs.Prelude.{IfOk};
 ghost use Rattle.jser_reader.specs.Answers.{PassesWith};
 ghost use Rattle.jser_check.specs.Answers.{Reports};

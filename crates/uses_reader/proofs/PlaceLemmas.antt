@@ -1,4 +1,4 @@
--- What a caller knows of the field that comes next.
+-- What a caller knows of the token that comes next.
 use Rattle.std.proofs.Common.{◌≡◌, ℕ, List, Result, Ok, subst}
 use Rattle.jser_reading.specs.Labels.{Piece}
 use Rattle.jser_verdict.specs.Gates.{Gate}

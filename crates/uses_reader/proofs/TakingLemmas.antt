@@ -11,7 +11,7 @@ use Rattle.jser_reader.specs.declared.Stop.{Stop}
 use Rattle.jser_reader.specs.declared.Stop.TheVariants as stop
 use Rattle.jser_reader.specs.declared.tally.Tally.{Tally}
 use Rattle.jser_reader.specs.Bounds.{FramesAreBounded, MemoryFree}
-use Rattle.jser_reader.specs.FieldLaws.{BytesAreFields}
+use Rattle.jser_reader.specs.TokenLaws.{BytesAreTokens}
 use Rattle.jser_reader.specs.ItemsTold.{StandsIn}
 use Rattle.jser_reader.specs.Memory.{IsForgotten}
 use Rattle.jser_reader.specs.Readers.{Seen}
@@ -23,15 +23,15 @@ pub no_fault : RefusesPromptly → (gate : Gate) (piece : List ℕ) (result : Re
 unfolding SkipTells HoldsNoFault StandsFor
 no_fault law gate piece (Ok _) old new before after tells = λ bytes st at end reason f.
     let s = tells bytes st in
-    law gate (bytes ++ piece) s.0.taken.cut (left begin_state s.0.taken.fields) s.0.taken.all_bytes s.1 s.0.taken.walked at end reason f
+    law gate (bytes ++ piece) s.0.taken.cut (left begin_state s.0.taken.tokens) s.0.taken.all_bytes s.1 s.0.taken.walked at end reason f
 no_fault law gate piece (Err why) old new before after tells = tt
 
-pub few_frames : BytesAreFields → (gate : Gate) (frames : ℕ) (r : Seen) (tally : Tally) → FramesAreBounded gate frames r tally
+pub few_frames : BytesAreTokens → (gate : Gate) (frames : ℕ) (r : Seen) (tally : Tally) → FramesAreBounded gate frames r tally
     → (bytes : List ℕ) → StandsFor gate bytes r tally → frames ≤ gate.depth + 1
 unfolding FramesAreBounded
 few_frames law gate frames r tally bounded bytes st =
-    let fields = (law gate bytes r tally).0 st in
-    let b = bounded fields.0 fields.1 fields.3 in
+    let tokens = (law gate bytes r tally).0 st in
+    let b = bounded tokens.0 tokens.1 tokens.3 in
     let most = b.2.most in
     let deep = b.3 in
     omega arith

@@ -2,7 +2,7 @@
 ghost use Rattle.std.specs.Prelude.{◌≡◌, ◌≢◌, ◌↔◌, ◌≤◌, ℕ, List, [], ◌++◌, length, Some, Err, true};
 ghost use Rattle.jser_reading.specs.Labels.{Label, Piece};
 ghost use Rattle.jser_reading.specs.ComesNext.{ComesNext};
-ghost use Rattle.jser_reading.specs.FieldBytes.{joined};
+ghost use Rattle.jser_reading.specs.TokenBytes.{joined};
 ghost use Rattle.jser_reading.specs.WalkLaws.{BeginEvery};
 ghost use Rattle.jser_reader.specs.ItemsTold.{StandsIn, LentCases};
 ghost use Rattle.jser_reader.specs.Memory.{EndsInside, IsCheckedName};
@@ -10,7 +10,7 @@ ghost use Rattle.jser_reader.specs.ReaderStates.{HasRefused, IsSpent};
 ghost use Rattle.jser_reader.specs.ReasonNames.{reason_name};
 ghost use Rattle.jser_reader.specs.declared.Refusal.{Refusal};
 
-use jser_reader::laws::fields_begin_streams;
+use jser_reader::laws::tokens_begin_streams;
 use jser_reader::{Gate, Reader, Reason, Step, Stop};
 
 /// Whether no frame is open. Then at most one layer is kept beside them.
@@ -21,14 +21,14 @@ pub fn is_between<G: Gate>(reader: &Reader<G>) -> bool
     reader.open_frames() == 0
 }
 
-/// How many handles the fields so far assigned. They are the first fields of every stream that begins with the bytes so far.
+/// How many handles the tokens so far assigned. They are the first tokens of every stream that begins with the bytes so far.
 pub fn handles_so_far<G: Gate>(reader: &Reader<G>) -> u32
     ensures assigned { (front : List Piece) (cut : List ℕ) (label : Label) → StandsIn (G.told reader.now.gate) front cut reader.now.machine reader.now.tally
         → ComesNext front label → length label.moment.table ≡ result }
     ensures settled { (front : List Piece) (cut : List ℕ) → StandsIn (G.told reader.now.gate) front cut reader.now.machine reader.now.tally
         → BeginEvery front (joined front ++ cut) }
 {
-    fields_begin_streams();
+    tokens_begin_streams();
     reader.epoch_handles()
 }
 
@@ -42,7 +42,7 @@ pub fn limit_after<'p, G: Gate>(reader: &mut Reader<G>, piece: &'p [u8]) -> u64
     reader.gate().max_bytes()
 }
 
-/// Begins a stream anew, whatever was read before, and takes the first item of its first field.
+/// Begins a stream anew, whatever was read before, and takes the first item of its first token.
 ///
 /// # Errors
 ///
@@ -65,7 +65,7 @@ pub fn next_again<'p, G: Gate>(reader: &mut Reader<G>, piece: &'p [u8]) -> Resul
     reader.next(piece)
 }
 
-/// Takes a piece that ends inside the field that is open or comes next, where that is no checked name. It does not run out of
+/// Takes a piece that ends inside the token that is open or comes next, where that is no checked name. It does not run out of
 /// memory.
 ///
 /// # Errors

@@ -1,4 +1,4 @@
-//! What a caller knows of the field that comes next: what it is for, and which classes there are.
+//! What a caller knows of the token that comes next: what it is for, and which classes there are.
 ghost use Rattle.std.specs.Prelude.{◌≡◌, ℕ, suc, List, [], true, IfOk, IfSome, Ok};
 ghost use Rattle.jser_table.specs.Lines.{number_at, answered_number};
 ghost use Rattle.jser_table.specs.Sections.{under};
@@ -10,7 +10,7 @@ ghost use Rattle.jser_reader.specs.Places.{view_place, place_in, parts_in, parts
 use jser_reader::{Gate, Place, Reader, Step, Stop};
 use jser_table::{Class, SectionNumber};
 
-/// What the next field is for, and its next item, if all bytes of that are there.
+/// What the next token is for, and its next item, if all bytes of that are there.
 ///
 /// # Errors
 ///

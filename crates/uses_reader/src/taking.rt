@@ -8,7 +8,7 @@ ghost use Rattle.jser_reader.specs.Memory.{IsForgotten};
 ghost use Rattle.jser_reader.specs.ReaderStates.{StandsFor};
 ghost use Rattle.uses_reader.specs.Taking.{HoldsNoFault};
 
-use jser_reader::laws::bytes_are_fields;
+use jser_reader::laws::bytes_are_tokens;
 use jser_reader::{Gate, Reader, Step, Stop};
 use jser_verdict::laws::refuses_promptly;
 
@@ -31,11 +31,11 @@ pub fn frames_open<G: Gate>(reader: &Reader<G>) -> u64
     ensures { (bytes : List ℕ) → StandsFor (G.told reader.now.gate) bytes reader.now.machine reader.now.tally
         → result ≤ (G.told reader.now.gate).depth + 1 }
 {
-    bytes_are_fields();
+    bytes_are_tokens();
     reader.open_frames()
 }
 
-/// Takes some of a piece that goes on within a field of which nothing is kept: raw values, the bytes of a block, or a text that
+/// Takes some of a piece that goes on within a token of which nothing is kept: raw values, the bytes of a block, or a text that
 /// is no checked name. It does not run out of memory.
 ///
 /// # Errors

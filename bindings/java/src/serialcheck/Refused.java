@@ -14,7 +14,7 @@ public final class Refused extends InvalidObjectException {
     private final String reason;
     /** What the reason means, or an empty text. */
     private final String meaning;
-    /** The offset of the faulty field. */
+    /** The offset of the faulty token. */
     private final long from;
     /** How many bytes decide. */
     private final long to;
@@ -92,7 +92,7 @@ public final class Refused extends InvalidObjectException {
     }
 
     /**
-     * Where the faulty field starts.
+     * Where the faulty token starts.
      *
      * @return its offset in bytes
      */

@@ -1,4 +1,4 @@
-//! The fields of descriptors, by the phase.
+//! The tokens of descriptors, by the phase.
 ghost use Rattle.std.specs.Prelude.{◌≡◌, ℕ, List, IfOk};
 ghost use Rattle.jser_shown.specs.Known.{Known, NamedField};
 ghost use Rattle.jser_shown.specs.Owners.{OwnerNode as ToldNode};
@@ -6,7 +6,7 @@ ghost use Rattle.jser_shown.specs.Cues.{Cue, teller};
 ghost use Rattle.jser_shown.specs.Telling.{goes_in, class_name_goes, suid_goes, field_count_goes, code_goes, field_name_goes, name_says, suid_says, flags_says, code_says, interface_says};
 ghost use Rattle.jser_shown.specs.Words.{Epoch};
 ghost use Rattle.jser_printer.specs.Seen.{view_seen};
-ghost use Rattle.jser_printer.specs.FieldWords.{field_words};
+ghost use Rattle.jser_printer.specs.TokenWords.{token_words};
 ghost use Rattle.jser_printer.specs.Says.{SaysTo};
 ghost use Rattle.jser_printer.specs.Phases.{Leads, in_phase, over_fields, phase_cues};
 
@@ -138,7 +138,7 @@ fn write_code<W: Sink>(
     }
 }
 
-/// A field of the type text of a field: what comes before the next field of the descriptor then.
+/// A token of the type text of a field: what comes before the next field of the descriptor then.
 #[tactic(auto, using(crate::proofs::SaysLemmas::says_nothing))]
 fn write_type<W: Sink>(
     outbox: &mut Outbox,
@@ -149,7 +149,7 @@ fn write_type<W: Sink>(
     seen: Seen<'_>,
 ) -> Result<Over, AllocError>
     requires { over ≡ Over.Nothing → ⊥ }
-    ensures said { (cues : List Cue) → SaysTo W.gone_out W.has_failed outbox.old outbox.new sink.old sink.new (λ k. field_words marks (over_fields over cues) (view_seen seen.entry) k) }
+    ensures said { (cues : List Cue) → SaysTo W.gone_out W.has_failed outbox.old outbox.new sink.old sink.new (λ k. token_words marks (over_fields over cues) (view_seen seen.entry) k) }
     ensures leads { IfOk result (λ next. (cues : List Cue) → teller standing.new.epoch standing.new.known standing.new.owners (over_fields next cues) ≡ goes_in standing.old.epoch standing.old.known standing.old.owners (over_fields over cues) (view_seen seen.entry)) }
     ensures below { IfOk result (λ _. standing.new.cues ≡ standing.old.cues) }
 {
@@ -188,7 +188,7 @@ fn write_type<W: Sink>(
     }
 }
 
-/// A field where the fields of a class stand: a type code, or a field of a type text.
+/// A token where the fields of a class stand: a type code, or a token of a type text.
 #[inline(always)]
 pub(crate) fn write_class_field<W: Sink>(
     outbox: &mut Outbox,
@@ -201,7 +201,7 @@ pub(crate) fn write_class_field<W: Sink>(
     over: Over,
     seen: Seen<'_>,
 ) -> Result<Phase, AllocError>
-    ensures said { (name : List ℕ) (done : List NamedField) → SaysTo W.gone_out W.has_failed outbox.old outbox.new sink.old sink.new (λ k. field_words marks (phase_cues (Phase.Fields head flags left over) name done standing.old.cues) (view_seen seen.entry) k) }
+    ensures said { (name : List ℕ) (done : List NamedField) → SaysTo W.gone_out W.has_failed outbox.old outbox.new sink.old sink.new (λ k. token_words marks (phase_cues (Phase.Fields head flags left over) name done standing.old.cues) (view_seen seen.entry) k) }
     ensures leads { IfOk result (λ phase. (name : List ℕ) (done : List NamedField) → in_phase phase name done standing.new ≡ goes_in standing.old.epoch standing.old.known standing.old.owners (phase_cues (Phase.Fields head flags left over) name done standing.old.cues) (view_seen seen.entry)) }
 {
     match over {

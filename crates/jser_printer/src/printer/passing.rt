@@ -1,4 +1,4 @@
-//! What is due between two fields.
+//! What is due between two tokens.
 ghost use Rattle.std.specs.Prelude.{◌≡◌, [], IfOk, OnOk};
 ghost use Rattle.jser_shown.specs.Cues.{fields_done, rest_of_desc, teller};
 ghost use Rattle.jser_shown.specs.Known.{class_layer, proxy_layer};
@@ -37,7 +37,7 @@ fn end_proxy(standing: &mut Standing<'_>, head: Head) -> Result<(), AllocError>
 }
 
 impl<'a> Printer<'a> {
-    /// Writes what is due next where no field belongs to it, and does it. The answer is whether anything was due.
+    /// Writes what is due next where no token belongs to it, and does it. The answer is whether anything was due.
     ///
     /// # Errors
     ///

@@ -1,7 +1,7 @@
-//! Fields, by the phase.
+//! Tokens, by the phase.
 ghost use Rattle.std.specs.Prelude.{◌≡◌, OnOk};
 ghost use Rattle.jser_shown.specs.Telling.{block_length_says, block_says, goes_in, handle_says, header_says, string_says};
-ghost use Rattle.jser_printer.specs.FieldWords.{field_words};
+ghost use Rattle.jser_printer.specs.TokenWords.{token_words};
 ghost use Rattle.jser_printer.specs.Phases.{Leads, in_phase, phase_cues};
 ghost use Rattle.jser_printer.specs.Says.{SaysTo};
 ghost use Rattle.jser_printer.specs.Seen.{view_seen};
@@ -107,7 +107,7 @@ fn write_block<W: Sink>(outbox: &mut Outbox, sink: &mut W, seen: Seen<'_>) -> Ph
     }
 }
 
-/// Writes what is seen of a field in this phase, and goes past it to the phase behind it.
+/// Writes what is seen of a token in this phase, and goes past it to the phase behind it.
 #[tactic(auto, using(crate::proofs::SaysLemmas::says_nothing))]
 #[inline(always)]
 fn write_in_phase<W: Sink>(
@@ -119,7 +119,7 @@ fn write_in_phase<W: Sink>(
     standing: &mut Standing<'_>,
     seen: Seen<'_>,
 ) -> Result<(), AllocError>
-    ensures said { SaysTo W.gone_out W.has_failed outbox.old outbox.new sink.old sink.new (λ k. field_words marks (phase_cues phase.old draft.old.name draft.old.done standing.old.cues) (view_seen seen.entry) k) }
+    ensures said { SaysTo W.gone_out W.has_failed outbox.old outbox.new sink.old sink.new (λ k. token_words marks (phase_cues phase.old draft.old.name draft.old.done standing.old.cues) (view_seen seen.entry) k) }
     ensures goes { OnOk result (in_phase phase.new draft.new.name draft.new.done standing.new ≡ goes_in standing.old.epoch standing.old.known standing.old.owners (phase_cues phase.old draft.old.name draft.old.done standing.old.cues) (view_seen seen.entry)) }
 {
     match *phase {
@@ -168,11 +168,11 @@ fn write_in_phase<W: Sink>(
 }
 
 impl<'a> Printer<'a> {
-    /// Writes what is seen of a field, and goes past it.
+    /// Writes what is seen of a token, and goes past it.
     ///
     /// # Errors
     ///
-    /// Where memory runs out. What the teller says of the field was written then.
+    /// Where memory runs out. What the teller says of the token was written then.
     #[inline(always)]
     pub(crate) fn write_here<W: Sink>(
         &mut self,
@@ -181,7 +181,7 @@ impl<'a> Printer<'a> {
         marks: Marks,
         seen: Seen<'_>,
     ) -> Result<(), AllocError>
-        ensures said { SaysTo W.gone_out W.has_failed outbox.old outbox.new sink.old sink.new (λ k. field_words marks self.old.cues (view_seen seen.entry) k) }
+        ensures said { SaysTo W.gone_out W.has_failed outbox.old outbox.new sink.old sink.new (λ k. token_words marks self.old.cues (view_seen seen.entry) k) }
         ensures goes { OnOk result (self.new ≡ goes_in self.old.epoch self.old.known self.old.owners self.old.cues (view_seen seen.entry)) }
     {
         write_in_phase(

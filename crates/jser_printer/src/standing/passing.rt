@@ -1,4 +1,4 @@
-//! What is due on a stack where no field belongs to it.
+//! What is due on a stack where no token belongs to it.
 ghost use Rattle.std.specs.Prelude.{◌≡◌, ◌∷◌, ◌<◌, ℕ, List, length, OnOk, IfOk};
 ghost use Rattle.jser_shown.specs.Known.{Known, classes_at, elements_of_chain, is_external_chain};
 ghost use Rattle.jser_shown.specs.Owners.{OwnerNode as ToldNode};

@@ -1,4 +1,4 @@
-//! Fields in the places of owners: their classes, and what stands behind these.
+//! Tokens in the places of owners: their classes, and what stands behind these.
 ghost use Rattle.std.specs.Prelude.{IfOk, codes};
 ghost use Rattle.jser_shown.specs.Telling.{class_goes, class_handle_goes, handle_says, length_goes, name_goes, worded_says};
 ghost use Rattle.jser_printer.specs.Given.{view_node, view_owner};

@@ -1,11 +1,11 @@
-//! Fields that a frame belongs to.
+//! Tokens that a frame belongs to.
 ghost use Rattle.std.specs.Prelude.{◌≡◌, ◌∷◌, ◌+◌, ◌<◌, ℕ, List, [], length, option_map, codes, None, OnOk, IfOk};
 ghost use Rattle.jser_shown.specs.Owners.{OwnerNode as ToldNode};
 ghost use Rattle.jser_shown.specs.Cues.{teller, top_cue, note_cue, elements_cue};
 ghost use Rattle.jser_shown.specs.Telling.{elements_says, goes_in, handle_says, note_says, top_says, worded_says};
 ghost use Rattle.jser_printer.specs.Given.{view_node};
 ghost use Rattle.jser_printer.specs.Frames.{FramesFit, FirstIs, TakesPart, cues_of, tail_of};
-ghost use Rattle.jser_printer.specs.FieldWords.{cue_words, field_words};
+ghost use Rattle.jser_printer.specs.TokenWords.{cue_words, token_words};
 ghost use Rattle.jser_shown.specs.Words.{Epoch, next_epoch};
 ghost use Rattle.jser_printer.specs.Primitives.{view_elements};
 ghost use Rattle.jser_printer.specs.Says.{SaysTo};
@@ -29,7 +29,7 @@ use crate::words::value::{write_raw_elements, write_raw_field};
 use jser_prim::{Outbox, Sink};
 use std::alloc::AllocError;
 
-/// The field at the first part of the sections on top: that part is past, where the field is its, and this tag begins a
+/// The token at the first part of the sections on top: that part is past, where the token is its, and this tag begins a
 /// value.
 #[tactic(auto, using(crate::proofs::TakeLemmas::raw_taken, crate::proofs::TakeLemmas::value_taken, crate::proofs::TakeLemmas::section_left, crate::proofs::TakeLemmas::notes_left, crate::proofs::TakeLemmas::end_left, crate::proofs::TakeLemmas::raw_said, crate::proofs::TakeLemmas::value_said))]
 #[inline(always)]
@@ -46,7 +46,7 @@ fn write_part<W: Sink>(
     requires fit { FramesFit (length table.now.layers) (length table.now.chains) frames.old }
     requires top { frames.old ≡ Frame.Sections at ∷ tail_of frames.old }
     ensures fit { FramesFit (length table.now.layers) (length table.now.chains) frames.new }
-    ensures said { SaysTo W.gone_out W.has_failed outbox.old outbox.new sink.old sink.new (λ k. field_words marks (cues_of table.now.layers table.now.chains frames.old) (view_seen seen.entry) k) }
+    ensures said { SaysTo W.gone_out W.has_failed outbox.old outbox.new sink.old sink.new (λ k. token_words marks (cues_of table.now.layers table.now.chains frames.old) (view_seen seen.entry) k) }
     ensures takes { TakesPart table.now.layers table.now.chains at.level frames.old frames.new (view_seen seen.entry) (option_map view_tag result) }
 {
     let next = next_part(table, at.chain, at.index, at.stage);
@@ -152,11 +152,11 @@ fn write_superclass_handle<W: Sink>(
 }
 
 impl<'a> Standing<'a> {
-    /// Writes what is seen of a field, and goes past it.
+    /// Writes what is seen of a token, and goes past it.
     ///
     /// # Errors
     ///
-    /// Where memory runs out. What the teller says of the field was written then.
+    /// Where memory runs out. What the teller says of the token was written then.
     #[tactic(auto, using(crate::proofs::TakeLemmas::goes_first, crate::proofs::TakeLemmas::says_first, crate::proofs::TakeLemmas::says_last, crate::proofs::SaysLemmas::says_nothing, crate::proofs::FrameLemmas::top_fits))]
     #[inline(always)]
     pub(crate) fn write_field<W: Sink>(
@@ -166,7 +166,7 @@ impl<'a> Standing<'a> {
         marks: Marks,
         seen: Seen<'_>,
     ) -> Result<Phase, AllocError>
-        ensures said { SaysTo W.gone_out W.has_failed outbox.old outbox.new sink.old sink.new (λ k. field_words marks self.old.cues (view_seen seen.entry) k) }
+        ensures said { SaysTo W.gone_out W.has_failed outbox.old outbox.new sink.old sink.new (λ k. token_words marks self.old.cues (view_seen seen.entry) k) }
         ensures goes { IfOk result (λ phase. StandsIn phase self.new (goes_in self.old.epoch self.old.known self.old.owners self.old.cues (view_seen seen.entry))) }
     {
         match self.frames.top() {
@@ -218,7 +218,7 @@ impl<'a> Standing<'a> {
         }
     }
 
-    /// A field at the top of the stream.
+    /// A token at the top of the stream.
     #[tactic(auto, using(crate::proofs::SaysLemmas::says_nothing))]
     #[inline(always)]
     fn write_top<W: Sink>(
@@ -261,7 +261,7 @@ impl<'a> Standing<'a> {
         Ok(())
     }
 
-    /// A field in an annotation, which is on top.
+    /// A token in an annotation, which is on top.
     #[tactic(auto, using(crate::proofs::TakeLemmas::popped_note, crate::proofs::FrameLemmas::tail_fits, crate::proofs::SaysLemmas::says_nothing))]
     #[inline(always)]
     fn write_note<W: Sink>(

@@ -1,4 +1,4 @@
-//! How the handler of a field ends: the machine stops, or it knows which field comes next.
+//! How the handler of a token ends: the machine stops, or it knows which token comes next.
 ghost use Rattle.std.specs.Prelude.{◌≡◌, ◌∷◌, true, false};
 ghost use Rattle.jser_reader.specs.Handlers.{StopsWith, refusal, IsNext, Comes};
 ghost use Rattle.jser_reader.specs.Steps.{after_value};
@@ -8,7 +8,7 @@ use crate::phase::Phase;
 use crate::refusal::{Reason, Refusal, Stop};
 
 impl Machine {
-    /// The open field is refused; its bytes so far decide.
+    /// The open token is refused; its bytes so far decide.
     #[inline(never)]
     pub(super) fn refuse(&mut self, reason: Reason) -> bool
         ensures stops { StopsWith (refusal self.old.meter reason) self.old self.new }
@@ -34,7 +34,7 @@ impl Machine {
         false
     }
 
-    /// The field has ended, and this one comes next.
+    /// The token has ended, and this one comes next.
     #[inline(always)]
     pub(super) fn done(&mut self, phase: Phase) -> bool
         ensures next { IsNext phase self.old.owner self.old.elements self.old.header self.old.text self.old self.new }
@@ -45,7 +45,7 @@ impl Machine {
         true
     }
 
-    /// The field has ended, and a value with it.
+    /// The token has ended, and a value with it.
     #[tactic(auto, using(crate::proofs::EndLemmas::ends))]
     #[inline(always)]
     pub(super) fn ended(&mut self) -> bool
@@ -57,7 +57,7 @@ impl Machine {
         true
     }
 
-    /// The field has ended, and a value with it; the next field or element of what is on top is found in line.
+    /// The token has ended, and a value with it; the next field or element of what is on top is found in line.
     #[tactic(auto, using(crate::proofs::EndLemmas::ends))]
     #[inline(always)]
     pub(super) fn ended_in_line(&mut self) -> bool

@@ -1,6 +1,6 @@
 //! Items: what is lent of the bytes that were taken.
 ghost use Rattle.std.specs.Prelude.{◌≡◌, ◌≤◌, ◌++◌, length};
-ghost use Rattle.jser_reading.specs.FieldsFromBytes.{number_of};
+ghost use Rattle.jser_reading.specs.TokensFromBytes.{number_of};
 ghost use Rattle.jser_reader.specs.Walks.{size_of_phase, open_phase, cut_of};
 ghost use Rattle.jser_reader.specs.ItemsMade.{number_item, MakesItem};
 
@@ -10,7 +10,7 @@ use crate::phase::Phase;
 use arrayvec::ArrayVec;
 use jser_prim::{read_u16, read_u32, read_u64};
 
-/// The byte of a field of one byte.
+/// The byte of a token of one byte.
 #[inline(always)]
 fn byte_of(bytes: &[u8]) -> u8
     ensures { length bytes.now ≡ 1 → result ≡ number_of bytes.now }
@@ -21,7 +21,7 @@ fn byte_of(bytes: &[u8]) -> u8
     }
 }
 
-/// The number in the bytes of a field of two.
+/// The number in the bytes of a token of two.
 #[tactic(auto, using(crate::proofs::ItemLemmas::number_of_two))]
 #[inline(always)]
 fn short_of(bytes: &[u8]) -> u16
@@ -33,7 +33,7 @@ fn short_of(bytes: &[u8]) -> u16
     read_u16(bytes)
 }
 
-/// The number in the bytes of a field of four.
+/// The number in the bytes of a token of four.
 #[tactic(auto, using(crate::proofs::ItemLemmas::number_of_four))]
 #[inline(always)]
 fn word_of(bytes: &[u8]) -> u32
@@ -45,7 +45,7 @@ fn word_of(bytes: &[u8]) -> u32
     read_u32(bytes)
 }
 
-/// The number in the bytes of a field of eight.
+/// The number in the bytes of a token of eight.
 #[tactic(auto, using(crate::proofs::ItemLemmas::number_of_eight))]
 #[inline(always)]
 fn long_of(bytes: &[u8]) -> u64
@@ -57,14 +57,14 @@ fn long_of(bytes: &[u8]) -> u64
     read_u64(bytes)
 }
 
-/// The item that a whole field is whose bytes these are: the header, a tag or a number.
+/// The item that a whole token is whose bytes these are: the header, a tag or a number.
 ///
-/// The field tells the item, and so how many bytes it has; a caller that asks which item it is need not ask again.
+/// The token tells the item, and so how many bytes it has; a caller that asks which item it is need not ask again.
 #[inline(always)]
-fn whole_item<'p>(field: Phase, bytes: &[u8]) -> Item<'p>
-    ensures { length bytes.now ≡ size_of_phase field → result ≡ number_item field (number_of bytes.now) }
+fn whole_item<'p>(token: Phase, bytes: &[u8]) -> Item<'p>
+    ensures { length bytes.now ≡ size_of_phase token → result ≡ number_item token (number_of bytes.now) }
 {
-    match field {
+    match token {
         Phase::Top | Phase::Note | Phase::Value => Item::Tag(byte_of(bytes)),
         Phase::ClassTag | Phase::SuperTag | Phase::TextTag => Item::Tag(byte_of(bytes)),
         Phase::BackHandle | Phase::ClassHandle => Item::Handle(word_of(bytes)),
@@ -83,7 +83,7 @@ fn whole_item<'p>(field: Phase, bytes: &[u8]) -> Item<'p>
     }
 }
 
-/// The first bytes of a field that was cut, none of one that was not.
+/// The first bytes of a token that was cut, none of one that was not.
 pub(crate) type Kept = ArrayVec<u8, 8>;
 
 /// The bytes that were kept, and others after them, where there are no more than eight.
@@ -95,37 +95,37 @@ fn joined(kept: Kept, part: &[u8]) -> Kept
     whole
 }
 
-/// The item of a field that was cut, of which these bytes were kept, and this part taken now.
+/// The item of a token that was cut, of which these bytes were kept, and this part taken now.
 #[inline(never)]
-fn cut_item<'p>(field: Phase, kept: Kept, part: &[u8]) -> Item<'p>
-    ensures { length (kept.items ++ part.now) ≤ 8 → length (kept.items ++ part.now) ≡ size_of_phase field → result ≡ number_item field (number_of (kept.items ++ part.now)) }
+fn cut_item<'p>(token: Phase, kept: Kept, part: &[u8]) -> Item<'p>
+    ensures { length (kept.items ++ part.now) ≤ 8 → length (kept.items ++ part.now) ≡ size_of_phase token → result ≡ number_item token (number_of (kept.items ++ part.now)) }
 {
     let whole = joined(kept, part);
-    whole_item(field, whole.as_slice())
+    whole_item(token, whole.as_slice())
 }
 
-/// The item of a field, of which these bytes were kept, and this part taken now.
+/// The item of a token, of which these bytes were kept, and this part taken now.
 #[tactic(auto, using(crate::proofs::ItemLemmas::makes_number))]
 #[inline(always)]
-pub(crate) fn item_of<'p>(field: Phase, kept: Kept, part: &'p [u8]) -> Item<'p>
-    ensures { MakesItem field kept.items part.now result }
+pub(crate) fn item_of<'p>(token: Phase, kept: Kept, part: &'p [u8]) -> Item<'p>
+    ensures { MakesItem token kept.items part.now result }
 {
-    match field {
+    match token {
         Phase::Text => Item::TextPart(part),
         Phase::Prims | Phase::Bytes => Item::RawPart(part),
         _ => {
             if kept.is_empty() {
-                return whole_item(field, part);
+                return whole_item(token, part);
             }
-            cut_item(field, kept, part)
+            cut_item(token, kept, part)
         }
     }
 }
 
 impl Machine {
-    /// The field that is open or comes next.
+    /// The token that is open or comes next.
     #[inline(always)]
-    pub(crate) fn field(&self) -> Phase
+    pub(crate) fn token(&self) -> Phase
         ensures { result ≡ open_phase self.now }
     {
         match self.phase {

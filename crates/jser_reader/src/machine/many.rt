@@ -1,6 +1,6 @@
 //! The loop over whole values: contents and values of which all bytes are in the piece are taken one after another, with no
-//! look at the fields between their bytes. What it counts is written back once, at its end. Any doubt ends it before the value in
-//! question has changed anything, so that the fields decide, one by one.
+//! look at the tokens between their bytes. What it counts is written back once, at its end. Any doubt ends it before the value in
+//! question has changed anything, so that the tokens decide, one by one.
 ghost use Rattle.std.specs.Prelude.{◌≡◌, ◌+◌, ◌^◌, ◌<◌, ◌≤◌, true, length, Some};
 ghost use Rattle.jser_verdict.specs.Gates.{Gate as ToldGate, IsGate};
 ghost use Rattle.jser_reader.specs.Handlers.{Comes};

@@ -1,5 +1,5 @@
 //! Steps of a call that takes a whole piece: what comes next is taken from the front of the piece, and nothing is lent.
-//! Values that are common and whole in the piece are taken by one loop, without a look at each of their fields.
+//! Values that are common and whole in the piece are taken by one loop, without a look at each of their tokens.
 ghost use Rattle.std.specs.Prelude.{◌≡◌, ◌<◌, length};
 ghost use Rattle.jser_reader.specs.Passes.{bytes_passed, Passes, HasPassed, CanPass, IsQuiet};
 ghost use Rattle.jser_reader.specs.Takes.{IsOne};
@@ -19,9 +19,9 @@ mod members;
 pub(crate) mod passed;
 
 impl Machine {
-    /// Takes bytes of the field that is open, whichever it is.
+    /// Takes bytes of the token that is open, whichever it is.
     #[inline(never)]
-    pub(crate) fn pass_field<G: Gate>(
+    pub(crate) fn pass_token<G: Gate>(
         &mut self,
         gate: &G,
         tally: &mut Tally,
@@ -53,7 +53,7 @@ impl Machine {
             let _ = self.exceed();
             return Passed::Stopped;
         }
-        self.pass_field(gate, tally, front)
+        self.pass_token(gate, tally, front)
     }
 
     /// Takes a tag, which comes next.
@@ -88,7 +88,7 @@ impl Machine {
         self.then_owner(tally, piece, used)
     }
 
-    /// Takes bytes of the field that is open, whichever it is, where no count changes with it.
+    /// Takes bytes of the token that is open, whichever it is, where no count changes with it.
     #[inline(always)]
     pub(crate) fn pass_quiet<G: Gate>(&mut self, gate: &G, piece: &[u8]) -> Passed
         requires can { CanPass self.old piece.now }
@@ -100,7 +100,7 @@ impl Machine {
         self.take(gate, piece).passed(piece.len())
     }
 
-    /// Takes some of the front of a piece that is not empty: a field or several, or all of the piece.
+    /// Takes some of the front of a piece that is not empty: a token or several, or all of the piece.
     #[tactic(auto, using(crate::proofs::PassLemmas::pass_stopped))]
     #[inline(always)]
     pub(crate) fn pass<G: Gate>(&mut self, gate: &G, tally: &mut Tally, piece: &[u8]) -> Passed
@@ -124,7 +124,7 @@ impl Machine {
                 if self.phase.is_quiet() {
                     return self.pass_quiet(gate, piece);
                 }
-                self.pass_field(gate, tally, piece)
+                self.pass_token(gate, tally, piece)
             }
         }
     }

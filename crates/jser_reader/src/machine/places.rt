@@ -1,4 +1,4 @@
-//! What the field that is open or comes next is for, as the phase, the text and the frame on top tell it.
+//! What the token that is open or comes next is for, as the phase, the text and the frame on top tell it.
 ghost use Rattle.std.specs.Prelude.{◌≡◌};
 ghost use Rattle.jser_reader.specs.Walks.{open_phase};
 ghost use Rattle.jser_reader.specs.MachinePlaces.{place_at, tag_place_of, text_place_of, note_place_of, value_place_of};
@@ -63,12 +63,12 @@ fn value_place(frame: Frame) -> Place
 }
 
 impl Machine {
-    /// What the field that is open or comes next is for.
+    /// What the token that is open or comes next is for.
     #[tactic(auto, using(crate::proofs::GoalPlaces::top_tells, crate::proofs::GoalPlaces::none_tells))]
     pub(crate) fn open_place(&self) -> Place
         ensures { result ≡ place_at (open_phase self.now) self.now.text self.now.frames }
     {
-        match self.field() {
+        match self.token() {
             Phase::Header => Place::Header,
             Phase::Top => Place::Top,
             Phase::Note => match self.frames.top() {

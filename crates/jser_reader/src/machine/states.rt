@@ -1,4 +1,4 @@
-//! The machine before its first field and after its last: made, stopped, at the limit of bytes, spent.
+//! The machine before its first token and after its last: made, stopped, at the limit of bytes, spent.
 ghost use Rattle.std.specs.Prelude.{◌≡◌, ◌+◌, ◌-◌, ◌<◌, ◌≤◌, ◌^◌, true, false, length};
 ghost use Rattle.jser_reader.specs.Handlers.{StopsWith, refusal};
 ghost use Rattle.jser_reader.specs.Walks.{IsNew};
@@ -110,7 +110,7 @@ impl Machine {
         piece.len() as u64 <= self.limits.bytes.saturating_sub(self.at)
     }
 
-    /// The field that comes next, or `Cut` within a number that was cut, or `Stopped`.
+    /// The token that comes next, or `Cut` within a number that was cut, or `Stopped`.
     #[inline(always)]
     pub(crate) fn phase(&self) -> Phase
         ensures { result ≡ self.now.phase }
@@ -157,7 +157,7 @@ impl Machine {
         &self.table
     }
 
-    /// Whether the stream may end: the next field is a tag at the top.
+    /// Whether the stream may end: the next token is a tag at the top.
     pub(crate) fn is_at_top(&self) -> bool
         ensures top { result ≡ true → self.now.phase ≡ Phase.Top }
         ensures inside { result ≡ false → self.now.phase ≡ Phase.Top → ⊥ }
@@ -165,7 +165,7 @@ impl Machine {
         self.phase == Phase::Top
     }
 
-    /// The input has ended within a field, or where another has to come.
+    /// The input has ended within a token, or where another has to come.
     pub(crate) fn truncate(&mut self) -> Stop
         ensures result { result ≡ Stop.Refused record { from_byte = self.old.meter.from; to_byte = self.old.meter.at; reason = Reason.Truncated } }
         ensures stops { StopsWith (refusal self.old.meter Reason.Truncated) self.old self.new }

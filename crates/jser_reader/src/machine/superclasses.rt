@@ -1,8 +1,8 @@
 //! Superclass places: the tag, and the handle of a superclass that has been read.
 ghost use Rattle.std.specs.Prelude.{◌≡◌, ◌-◌, Some};
 ghost use Rattle.jser_grammar.specs.Wire.{TC_NULL, TC_REFERENCE, TC_CLASSDESC, TC_PROXYCLASSDESC, BASE_WIRE_HANDLE};
-ghost use Rattle.jser_reading.specs.FieldBytes.{tag_byte};
-ghost use Rattle.jser_reading.specs.FieldsFromBytes.{tag_from};
+ghost use Rattle.jser_reading.specs.TokenBytes.{tag_byte};
+ghost use Rattle.jser_reading.specs.TokensFromBytes.{tag_from};
 ghost use Rattle.jser_reader.specs.Tags.{view_tag};
 ghost use Rattle.jser_reader.specs.Fitting.{HasDescriptor};
 ghost use Rattle.jser_reader.specs.Handlers.{Tells};

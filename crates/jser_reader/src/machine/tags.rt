@@ -1,7 +1,7 @@
 //! Tags where a content or a value may stand: at the top, in an annotation, in a field or an element.
 ghost use Rattle.std.specs.Prelude.{◌≡◌, ◌∷◌, [], suc, length, true, Some, None};
-ghost use Rattle.jser_reading.specs.FieldsFromBytes.{tag_from};
-ghost use Rattle.jser_reading.specs.Labels.{top_at, annotation_at, value_at, reset_tag_field};
+ghost use Rattle.jser_reading.specs.TokensFromBytes.{tag_from};
+ghost use Rattle.jser_reading.specs.Labels.{top_at, annotation_at, value_at, reset_tag_token};
 ghost use Rattle.jser_verdict.specs.Verdicts.{content_reason, inner_reason};
 ghost use Rattle.jser_reader.specs.Readers.{HasNotes, block_phase};
 ghost use Rattle.jser_reader.specs.Handlers.{Tells, IsNext, Comes, plain_gate, label_at, after_content, after_end};
@@ -77,7 +77,7 @@ impl Machine {
     /// `TC_RESET`: the table of handles is emptied. Nothing is open there.
     #[tactic(auto, using(crate::proofs::TagLemmas::resets, crate::proofs::LayerLemmas::no_layers))]
     fn reset(&mut self) -> bool
-        ensures reset { self.old.frames ≡ [] → Comes self.old self.new (after_content self.old (Some reset_tag_field)) }
+        ensures reset { self.old.frames ≡ [] → Comes self.old self.new (after_content self.old (Some reset_tag_token)) }
         ensures result { result ≡ true }
     {
         self.frames.clear();

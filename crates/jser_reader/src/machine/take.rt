@@ -1,4 +1,4 @@
-//! The bytes of a piece, as they are taken for the field that is open.
+//! The bytes of a piece, as they are taken for the token that is open.
 ghost use Rattle.std.specs.Prelude.{◌≡◌, ◌+◌, ◌<◌, ◌^◌, length};
 ghost use Rattle.jser_reader.specs.Takes.{TakesFromFor};
 
@@ -18,7 +18,7 @@ pub(crate) mod text_bytes;
 pub(crate) mod texts;
 
 impl Machine {
-    /// Takes bytes of the field that is open: as many as are missing of it, or all of the piece.
+    /// Takes bytes of the token that is open: as many as are missing of it, or all of the piece.
     ///
     /// Each phase has an arm of its own, so that the functions inlined there need not ask again which it is.
     #[inline(always)]

@@ -1,8 +1,8 @@
 //! Text places, of the name of an enum constant and the type of a field, which are new strings or references to
 //! strings; and what comes after a text.
 ghost use Rattle.std.specs.Prelude.{◌≡◌, ℕ, true, List, None};
-ghost use Rattle.jser_reading.specs.FieldBytes.{tag_byte};
-ghost use Rattle.jser_reading.specs.FieldsFromBytes.{tag_from};
+ghost use Rattle.jser_reading.specs.TokenBytes.{tag_byte};
+ghost use Rattle.jser_reading.specs.TokensFromBytes.{tag_from};
 ghost use Rattle.jser_reading.specs.Goals.{settle};
 ghost use Rattle.jser_reader.specs.Tags.{view_tag};
 ghost use Rattle.jser_reader.specs.Readers.{IsForm, IsInside, moment_of, text_rest};

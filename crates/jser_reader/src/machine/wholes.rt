@@ -1,5 +1,5 @@
 //! Parts of values of which all bytes are in the piece: a number, a reference, a text, raw values; and what is counted where a
-//! value begins. They are taken in one step, though each is several fields.
+//! value begins. They are taken in one step, though each is several tokens.
 ghost use Rattle.std.specs.Prelude.{◌≡◌, ◌+◌, ◌^◌, ◌<◌, ◌≤◌, true, length, drop, Some, None, IfSome};
 ghost use Rattle.jser_verdict.specs.Gates.{Gate as ToldGate};
 ghost use Rattle.jser_reader.specs.Passes.{Passes, CanPass};

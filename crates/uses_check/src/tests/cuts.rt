@@ -72,7 +72,7 @@ fn cuts_of_nest_999(rt: HostRuntime) -> Result<(), Fail> {
     })
 }
 
-/// The row `linked-pair-cuts`: where the linked pair may end, and where its fields are cut.
+/// The row `linked-pair-cuts`: where the linked pair may end, and where its tokens are cut.
 const LINKED_PAIR_CUTS: [(usize, Wanted); 6] = [
     (3, Err((Reason::Truncated, 0, 3))),
     (4, Ok([4, 0, 0, 0, 0])),

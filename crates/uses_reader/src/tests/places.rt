@@ -1,4 +1,4 @@
-//! What each field of a stream is for. The words are those of the format, read off the bytes beside them.
+//! What each token of a stream is for. The words are those of the format, read off the bytes beside them.
 
 use crate::places::{class_of_entry, elements_left};
 use crate::tests::asserted::same;
@@ -125,7 +125,7 @@ fn the_place_before_each_item(rt: HostRuntime) {
     }
 }
 
-/// How many bytes of `linked-pair` were taken, and the field that they end in or that comes after them.
+/// How many bytes of `linked-pair` were taken, and the token that they end in or that comes after them.
 const CUTS: [(usize, &str); 8] = [
     (0, "header"),
     (2, "header"),
@@ -150,7 +150,7 @@ fn compare_cut(rt: &impl Abort, reader: &mut Reader<OpenGate>, count: usize, wan
 }
 
 #[test]
-fn the_place_within_a_field(rt: HostRuntime) {
+fn the_place_within_a_token(rt: HostRuntime) {
     for (count, wanted) in CUTS {
         with_reader(&rt, |rt, reader| compare_cut(rt, reader, count, wanted));
     }

@@ -1,15 +1,15 @@
 use Rattle.std.proofs.Common.{rules}
-use Rattle.jser_index.proofs.PartLemmas.{part_field, part_text}
+use Rattle.jser_index.proofs.PartLemmas.{part_token, part_text}
 use Rattle.jser_index.proofs.ShowLemmas.{ok_by, err_by}
 use Rattle.jser_index.proofs.show.write_item.Goals as goal
 
-pub returns-in-Field-clause-said : goal.returns-in-Field-clause-said
-returns-in-Field-clause-said g c =
-    ok_by c.write_next.result c.write_next.ensures.said (λ says told e. says told (part_field c.args.item c.in-Field.field told (search rules) e))
+pub returns-in-Token-clause-said : goal.returns-in-Token-clause-said
+returns-in-Token-clause-said g c =
+    ok_by c.write_next.result c.write_next.ensures.said (λ says told e. says told (part_token c.args.item c.in-Token.token told (search rules) e))
 
-pub returns-in-Field-clause-front : goal.returns-in-Field-clause-front
-returns-in-Field-clause-front g c =
-    err_by c.write_next.result c.write_next.ensures.front (λ begins told e. begins told (part_field c.args.item c.in-Field.field told (search rules) e))
+pub returns-in-Token-clause-front : goal.returns-in-Token-clause-front
+returns-in-Token-clause-front g c =
+    err_by c.write_next.result c.write_next.ensures.front (λ begins told e. begins told (part_token c.args.item c.in-Token.token told (search rules) e))
 
 pub returns-in-Text-clause-said : goal.returns-in-Text-clause-said
 returns-in-Text-clause-said g c =

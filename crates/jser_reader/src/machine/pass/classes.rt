@@ -119,7 +119,7 @@ impl Machine {
         self.then_tag(tally, piece, above, Phase::Top, TC_CLASSDESC)
     }
 
-    /// Takes fields with which no count changes, as many as come one after another, and what comes after those of a
+    /// Takes tokens with which no count changes, as many as come one after another, and what comes after those of a
     /// descriptor.
     #[inline(always)]
     fn pass_class<G: Gate>(&mut self, gate: &G, tally: &mut Tally, piece: &[u8]) -> Passed

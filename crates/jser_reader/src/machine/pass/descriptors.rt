@@ -1,4 +1,4 @@
-//! Fields of a descriptor and text places in steps of a call that takes a whole piece: where a field has ended, the one
+//! Tokens of a descriptor and text places in steps of a call that takes a whole piece: where a token has ended, the one
 //! that mostly comes after it is taken in the same step, without a look at all the others.
 ghost use Rattle.std.specs.Prelude.{◌≡◌, ◌+◌, ◌<◌, ◌^◌, length, Some};
 ghost use Rattle.jser_reader.specs.Passes.{bytes_passed, Passes, HasPassed, CanPass, IsQuiet};
@@ -13,7 +13,7 @@ use crate::phase::Phase;
 use crate::tally::Tally;
 
 impl Machine {
-    /// Takes bytes of the field of this phase, which comes next or is open. Where the caller names the phase, its arm
+    /// Takes bytes of the token of this phase, which comes next or is open. Where the caller names the phase, its arm
     /// alone is left.
     #[inline(always)]
     fn take_known<G: Gate>(&mut self, gate: &G, piece: &[u8], phase: Phase) -> Taken
@@ -34,7 +34,7 @@ impl Machine {
         }
     }
 
-    /// Takes bytes of the field of this phase, which comes next or is open, where no count changes with it.
+    /// Takes bytes of the token of this phase, which comes next or is open, where no count changes with it.
     #[inline(always)]
     pub(super) fn pass_known<G: Gate>(&mut self, gate: &G, piece: &[u8], phase: Phase) -> Passed
         requires can { CanPass self.old piece.now }
@@ -47,7 +47,7 @@ impl Machine {
         self.take_known(gate, piece, phase).passed(piece.len())
     }
 
-    /// After so many bytes of a piece, where this field comes next there, takes bytes of it too; else nothing more. It
+    /// After so many bytes of a piece, where this token comes next there, takes bytes of it too; else nothing more. It
     /// returns how many bytes were taken in all.
     #[inline(always)]
     fn go_on<G: Gate>(&mut self, gate: &G, piece: &[u8], used: usize, next: Phase) -> Passed
@@ -83,7 +83,7 @@ impl Machine {
     }
 
     /// Takes the length of a text and the text; and where it is the name of a class, what comes up to the number of its
-    /// fields.
+    /// tokens.
     #[inline(always)]
     fn pass_text<G: Gate>(&mut self, gate: &G, piece: &[u8]) -> Passed
         requires can { CanPass self.old piece.now }
@@ -120,7 +120,7 @@ impl Machine {
         self.pass_quiet(gate, piece)
     }
 
-    /// Takes a field that is open, or comes next, with those that mostly come after it.
+    /// Takes a token that is open, or comes next, with those that mostly come after it.
     #[inline(always)]
     fn pass_group<G: Gate>(&mut self, gate: &G, piece: &[u8]) -> Passed
         requires can { CanPass self.old piece.now }
@@ -136,7 +136,7 @@ impl Machine {
         }
     }
 
-    /// Takes fields with which no count changes, as many as come one after another.
+    /// Takes tokens with which no count changes, as many as come one after another.
     #[inline(always)]
     pub(crate) fn pass_quiets<G: Gate>(&mut self, gate: &G, piece: &[u8]) -> Passed
         requires can { CanPass self.old piece.now }
@@ -146,7 +146,7 @@ impl Machine {
         ensures progress { HasPassed piece.now (bytes_passed result) }
     {
         let mut used = 0;
-        'fields: loop {
+        'tokens: loop {
             let (_, rest) = piece.split_at(used);
             match self.pass_group(gate, rest) {
                 Passed::Stopped => return Passed::Stopped,

@@ -2,7 +2,7 @@
 //! others are taken from the pieces that follow.
 ghost use Rattle.std.specs.Prelude.{◌≡◌, ◌+◌, ◌++◌, ◌<◌, ◌≤◌, ◌^◌, length};
 ghost use Rattle.jser_reader.specs.Walks.{size_of_phase};
-ghost use Rattle.jser_reader.specs.Cuts.{IsCutField};
+ghost use Rattle.jser_reader.specs.Cuts.{IsCutToken};
 ghost use Rattle.jser_reader.specs.Takes.{CutsOff, TakesFromFor};
 
 use crate::gate::Gate;
@@ -12,11 +12,11 @@ use crate::machine::take::taken::Taken;
 use crate::phase::Phase;
 
 impl Machine {
-    /// Keeps these bytes of the field that comes next: they are not all of it.
+    /// Keeps these bytes of the token that comes next: they are not all of it.
     #[tactic(auto, using(crate::proofs::CutLemmas::cuts_off))]
     #[inline(never)]
     pub(crate) fn keep(&mut self, piece: &[u8])
-        requires field { IsCutField self.old.phase piece.now }
+        requires token { IsCutToken self.old.phase piece.now }
         requires room { self.old.meter.at + length piece.now < 2 ^ 64 }
         ensures { CutsOff piece.now self.old self.new }
     {
@@ -25,7 +25,7 @@ impl Machine {
         self.phase = Phase::Cut;
     }
 
-    /// Keeps these bytes too of the field that was cut: they are not all that were missing.
+    /// Keeps these bytes too of the token that was cut: they are not all that were missing.
     #[tactic(auto, using(crate::proofs::CutLemmas::cuts_again))]
     #[inline(never)]
     pub(crate) fn keep_more(&mut self, piece: &[u8])
@@ -74,7 +74,7 @@ impl Machine {
         }
     }
 
-    /// Takes the missing bytes of the field that was cut, or as many of them as there are.
+    /// Takes the missing bytes of the token that was cut, or as many of them as there are.
     #[inline(never)]
     pub(crate) fn take_cut<G: Gate>(&mut self, gate: &G, piece: &[u8]) -> Taken
         requires phase { self.old.phase ≡ Phase.Cut }

@@ -1,5 +1,5 @@
 //! Numbers, as they are taken: whole in a piece, or the last bytes of one that was cut. The bytes are
-//! counted, and the handler of the field judges the number.
+//! counted, and the handler of the token judges the number.
 ghost use Rattle.std.specs.Prelude.{◌≡◌, ◌+◌, ◌<◌, ◌^◌, length};
 ghost use Rattle.jser_reader.specs.Walks.{open_phase};
 ghost use Rattle.jser_reader.specs.Cuts.{IsFour};
@@ -42,7 +42,7 @@ impl Machine {
         Taken::after(2, goes_on)
     }
 
-    /// Takes the last `count` bytes of a number of four bytes, the field that is open.
+    /// Takes the last `count` bytes of a number of four bytes, the token that is open.
     #[tactic(auto, using(crate::proofs::CutLemmas::no_other_four, crate::proofs::TakeLemmas::takes_back_handle, crate::proofs::TakeLemmas::takes_class_handle, crate::proofs::TakeLemmas::takes_super_handle, crate::proofs::TextTakeLemmas::takes_text_handle, crate::proofs::TakeLemmas::takes_interface_count, crate::proofs::TakeLemmas::takes_array_length, crate::proofs::TakeLemmas::takes_long_block_length))]
     #[inline(always)]
     pub(crate) fn end_four(&mut self, phase: Phase, n: u32, count: u64) -> bool
@@ -65,7 +65,7 @@ impl Machine {
         }
     }
 
-    /// Takes a number of four bytes, the field that comes next, or as many of its bytes as there are.
+    /// Takes a number of four bytes, the token that comes next, or as many of its bytes as there are.
     #[tactic(auto, using(crate::proofs::CutLemmas::four_kept, crate::proofs::CutLemmas::four_taken))]
     #[inline(always)]
     pub(crate) fn take_four(&mut self, piece: &[u8]) -> Taken

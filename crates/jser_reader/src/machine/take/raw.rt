@@ -7,7 +7,7 @@ use crate::machine::take::taken::Taken;
 use crate::phase::Phase;
 
 impl Machine {
-    /// Takes bytes of a raw field: as many as are left of it, which is one at least, or all of the piece.
+    /// Takes bytes of a raw token: as many as are left of it, which is one at least, or all of the piece.
     #[tactic(auto, using(crate::proofs::TakeRawLemmas::raw_ends, crate::proofs::TakeRawLemmas::raw_stays))]
     #[inline(never)]
     fn take_raw(&mut self, piece: &[u8]) -> Taken

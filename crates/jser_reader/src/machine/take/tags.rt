@@ -1,4 +1,4 @@
-//! Fields of one byte, as they are taken: the byte is counted, and its handler judges it.
+//! Tokens of one byte, as they are taken: the byte is counted, and its handler judges it.
 ghost use Rattle.std.specs.Prelude.{◌≡◌, ◌+◌, ◌<◌, ◌^◌, length};
 ghost use Rattle.jser_reader.specs.Takes.{TakesByte, IsOne, TakesFrom};
 
@@ -7,7 +7,7 @@ use crate::machine::take::taken::Taken;
 use crate::phase::Phase;
 
 impl Machine {
-    /// Takes the one byte of the field that comes next.
+    /// Takes the one byte of the token that comes next.
     #[tactic(auto, using(crate::proofs::TakeLemmas::no_other_one, crate::proofs::TakeLemmas::takes_top, crate::proofs::TakeLemmas::takes_note, crate::proofs::TakeLemmas::takes_value, crate::proofs::TakeLemmas::takes_class_tag, crate::proofs::TakeLemmas::takes_super_tag, crate::proofs::TakeLemmas::takes_text_tag, crate::proofs::TakeLemmas::takes_flags, crate::proofs::TakeLemmas::takes_type_code, crate::proofs::TakeLemmas::takes_block_length))]
     #[inline(always)]
     fn end_one(&mut self, byte: u8) -> bool
@@ -30,7 +30,7 @@ impl Machine {
         }
     }
 
-    /// Takes a field of one byte, which comes next, from a piece.
+    /// Takes a token of one byte, which comes next, from a piece.
     #[tactic(auto, using(crate::proofs::TakeLemmas::one_taken))]
     #[inline(always)]
     pub(crate) fn take_one(&mut self, piece: &[u8]) -> Taken

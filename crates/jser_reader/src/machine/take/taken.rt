@@ -5,22 +5,22 @@ ghost use Rattle.jser_reader.specs.Takes.{taken_by};
 
 use crate::machine::pass::passed::Passed;
 
-/// What came of the bytes of a piece that a field was handed.
+/// What came of the bytes of a piece that a token was handed.
 #[derive(Clone, Copy)]
 pub(crate) enum Taken {
-    /// So many bytes ended the field, and another comes next.
+    /// So many bytes ended the token, and another comes next.
     Ended(usize),
     /// The machine stopped at the last of so many bytes.
     Stopped(usize),
-    /// So many bytes are of the field, which stays open, and can be lent: the length of a text, or some of its bytes, or
+    /// So many bytes are of the token, which stays open, and can be lent: the length of a text, or some of its bytes, or
     /// some of raw values.
     Part(usize),
-    /// All bytes are of the field, which stays open, and were kept.
+    /// All bytes are of the token, which stays open, and were kept.
     Open,
 }
 
 impl Taken {
-    /// A handler judged a field after so many bytes, and says whether the machine goes on.
+    /// A handler judged a token after so many bytes, and says whether the machine goes on.
     #[inline(always)]
     pub(crate) fn after(count: usize, goes_on: bool) -> Taken
         ensures { result ≡ taken_by count goes_on }

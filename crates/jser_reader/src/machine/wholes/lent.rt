@@ -7,7 +7,7 @@ ghost use Rattle.jser_reader.specs.Passes.{CanPass};
 ghost use Rattle.jser_reader.specs.Tags.{view_tag};
 ghost use Rattle.jser_reader.specs.Wholes.{IsPlace, HasPlace, HasReference, tag_of_owner};
 ghost use Rattle.jser_reader.specs.WholesTold.{TellsReference, TellsString, LentCases, OwnerCases};
-ghost use Rattle.jser_reading.specs.FieldBytes.{tag_byte};
+ghost use Rattle.jser_reading.specs.TokenBytes.{tag_byte};
 
 use super::{number_after, reference_after, text_after};
 use crate::frame::Owner;

@@ -1,4 +1,4 @@
-use Rattle.jser_reading.proofs.SpelledFields.{spelled_law}
+use Rattle.jser_reading.proofs.SpelledTokens.{spelled_law}
 use Rattle.jser_reading.proofs.laws.spelled.Goals as goal
 
 pub returns : goal.returns

@@ -7,4 +7,4 @@ returns-clause-assigned g c =
 
 pub returns-clause-settled : goal.returns-clause-settled
 returns-clause-settled g c =
-    λ front cut. c.fields_begin_streams.ensures (g.G.Gate.told c.args.reader.now.gate) front cut c.args.reader.now.machine c.args.reader.now.tally
+    λ front cut. c.tokens_begin_streams.ensures (g.G.Gate.told c.args.reader.now.gate) front cut c.args.reader.now.machine c.args.reader.now.tally

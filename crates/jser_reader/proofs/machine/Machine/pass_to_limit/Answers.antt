@@ -3,8 +3,8 @@ use Rattle.jser_reader.proofs.ReaderLemmas.{all_bytes}
 use Rattle.jser_reader.proofs.PassLemmas.{front_can_pass, passes_front, passes_full}
 use Rattle.jser_reader.proofs.machine.Machine.pass_to_limit.Goals as goal
 
-pub pass_field-requires-clause-can : goal.pass_field-requires-clause-can
-pass_field-requires-clause-can g c =
+pub pass_token-requires-clause-can : goal.pass_token-requires-clause-can
+pass_token-requires-clause-can g c =
     front_can_pass c.args.piece.now c.within-front.result.now _ c.within-front.ensures (all_bytes c.within-front.result.now (λ k. omega (arith, c.type_inv.front k)))
 
 pub returns-then-is_empty-clause-passes : goal.returns-then-is_empty-clause-passes
@@ -12,4 +12,4 @@ returns-then-is_empty-clause-passes g c =
     passes_full c.exceed.result c.args.piece.now c.within-front.result.now _ _ _ _ _ c.within-front.ensures (all_bytes c.args.piece.now (λ k. omega (arith, c.type_inv.piece k))) (search rules) (search rules) c.exceed.ensures (search rules) (search rules)
 
 pub returns-clause-passes : goal.returns-clause-passes
-returns-clause-passes g c = passes_front _ c.args.piece.now c.within-front.result.now _ _ _ _ _ c.pass_field.ensures.passes c.within-front.ensures
+returns-clause-passes g c = passes_front _ c.args.piece.now c.within-front.result.now _ _ _ _ _ c.pass_token.ensures.passes c.within-front.ensures

@@ -5,7 +5,7 @@ use Rattle.jser_reader.specs.Handlers.{StopsWith, refusal}
 use Rattle.jser_reader.specs.States.{AnswersStop}
 use Rattle.jser_reader.specs.Tallies.{totals_of}
 use Rattle.jser_reader.proofs.NextLemmas.{stopped_finishes, stays_stopped, finish_truncates, finish_accepts, not_stopped, keeps_stopped, keeps_going, whole_at_end, whole_cut, whole_of_stopped}
-use Rattle.jser_reader.proofs.ItemCalls.{tells_fields, tells_no_fields}
+use Rattle.jser_reader.proofs.ItemCalls.{tells_tokens, tells_no_tokens}
 use Rattle.jser_reader.proofs.reader.Reader.finish.Goals as goal
 
 pub returns-then-is_stopped-clause-tells : goal.returns-then-is_stopped-clause-tells
@@ -31,14 +31,14 @@ returns-clause-tells g c =
 pub returns-clause-stays : goal.returns-clause-stays
 returns-clause-stays g c = not_stopped _ _ _ (search rules)
 
-pub returns-then-is_stopped-clause-fields : goal.returns-then-is_stopped-clause-fields
-returns-then-is_stopped-clause-fields g c = tells_no_fields c.answer.result _ _ _
+pub returns-then-is_stopped-clause-tokens : goal.returns-then-is_stopped-clause-tokens
+returns-then-is_stopped-clause-tokens g c = tells_no_tokens c.answer.result _ _ _
 
-pub returns-then-not-is_at_top-clause-fields : goal.returns-then-not-is_at_top-clause-fields
-returns-then-not-is_at_top-clause-fields g c = tells_no_fields c.truncate.result _ _ _
+pub returns-then-not-is_at_top-clause-tokens : goal.returns-then-not-is_at_top-clause-tokens
+returns-then-not-is_at_top-clause-tokens g c = tells_no_tokens c.truncate.result _ _ _
 
-pub returns-clause-fields : goal.returns-clause-fields
-returns-clause-fields g c = tells_fields _ _ _ _ (search rules)
+pub returns-clause-tokens : goal.returns-clause-tokens
+returns-clause-tokens g c = tells_tokens _ _ _ _ (search rules)
 
 pub returns-then-is_stopped-clause-whole : goal.returns-then-is_stopped-clause-whole
 returns-then-is_stopped-clause-whole g c = whole_of_stopped _ _ _ _ _ (search rules)

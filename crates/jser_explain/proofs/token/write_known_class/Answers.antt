@@ -1,7 +1,7 @@
 use Rattle.std.specs.Prelude.{◌++◌, codes}
 use Rattle.jser_explain.specs.Short.{short_name}
 use Rattle.jser_printer.proofs.SaysLemmas.{says_three}
-use Rattle.jser_explain.proofs.field.write_known_class.Goals as goal
+use Rattle.jser_explain.proofs.token.write_known_class.Goals as goal
 
 pub returns : goal.returns
 returns g c =

@@ -2,7 +2,7 @@ use Rattle.std.specs.Prelude.{◌++◌, codes}
 use Rattle.std.specs.Fmt.{decimal}
 use Rattle.jser_printer.proofs.SaysLemmas.{says_five}
 use Rattle.jser_explain.specs.Heads.{hex_end}
-use Rattle.jser_explain.proofs.field.write_shown.Goals as goal
+use Rattle.jser_explain.proofs.token.write_shown.Goals as goal
 
 pub returns : goal.returns
 returns g c =

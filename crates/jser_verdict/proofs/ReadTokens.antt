@@ -1,16 +1,16 @@
--- Where a field may come next some field is read, and one byte more than a cut field has is no more than it needs.
+-- Where a token may come next some token is read, and one byte more than a cut token has is no more than it needs.
 use Rattle.std.proofs.Common.{◌≡◌, ℕ, zero, suc, ◌+◌, ◌<◌, ◌≤◌, Bool, true, false, List, [], ◌∷◌, ◌++◌, length, refl, sym, arith, nat_lt, take, length-append, leb-true, ltb-false, inl, inr}
 use Rattle.std.proofs.lemmas.List.{take-append-le}
-use Rattle.jser_reading.proofs.Vocabulary.{Moment, reference_tag, StreamField, tag_field, Position, nowhere, header_at, top_at, annotation_at, value_at, text_place_at, class_place_at, superclass_place_at, back_handle_at, text_handle_at, class_handle_at, superclass_handle_at, string_at, class_name_at, field_name_at, interface_name_at, suid_at, field_count_at, interface_count_at, array_length_at, flags_at, type_code_at, block_length_at, raw_at, bytes_at, Label, Piece, piece, AcceptsAt, Accepts, begin_state}
+use Rattle.jser_reading.proofs.Vocabulary.{Moment, reference_tag, StreamToken, tag_token, Position, nowhere, header_at, top_at, annotation_at, value_at, text_place_at, class_place_at, superclass_place_at, back_handle_at, text_handle_at, class_handle_at, superclass_handle_at, string_at, class_name_at, field_name_at, interface_name_at, suid_at, field_count_at, interface_count_at, array_length_at, flags_at, type_code_at, block_length_at, raw_at, bytes_at, Label, Piece, piece, AcceptsAt, Accepts, begin_state}
 use Rattle.jser_reading.specs.ComesNext.{handle_position, ComesNext}
 use Rattle.jser_reading.proofs.Exact.{exact_law}
 use Rattle.jser_reading.proofs.Fronts.{reads_split}
-use Rattle.jser_verdict.specs.FieldLaws.{IsRead}
-use Rattle.jser_reading.specs.FieldsFromBytes.{number_of, head_size, text_size, size_in}
+use Rattle.jser_verdict.specs.TokenLaws.{IsRead}
+use Rattle.jser_reading.specs.TokensFromBytes.{number_of, head_size, text_size, size_in}
 
--- where a field is read
+-- where a token is read
 
-accepts_read : (w : Position) (m : Moment) (f : StreamField) → AcceptsAt w m f → IsRead w
+accepts_read : (w : Position) (m : Moment) (f : StreamToken) → AcceptsAt w m f → IsRead w
 accepts_read nowhere m f h = absurd h
 accepts_read (raw_at c zero) m f h = absurd h
 accepts_read (raw_at c (suc n)) m f h = tt
@@ -41,7 +41,7 @@ accepts_read (type_code_at seen) m f h = tt
 accepts_read (block_length_at true) m f h = tt
 accepts_read (block_length_at false) m f h = tt
 
-handle_read : (w : Position) (m : Moment) → AcceptsAt w m (tag_field reference_tag) → IsRead (handle_position w)
+handle_read : (w : Position) (m : Moment) → AcceptsAt w m (tag_token reference_tag) → IsRead (handle_position w)
 handle_read header_at m h = absurd h
 handle_read top_at m h = tt
 handle_read annotation_at m h = tt
@@ -79,7 +79,7 @@ read_next front l (inl (list, f, rest, w, e)) =
     accepts_read l.position l.moment f a
 read_next front l (inr (before, t, b, a, ef, el)) = rw el (handle_read t.position t.moment a)
 
--- one byte more is no more than the field needs
+-- one byte more is no more than the token needs
 
 text_next : (long : Bool) (p : List ℕ) (b : ℕ) → length p < text_size long p → length (p ++ (b ∷ [])) ≤ text_size long (p ++ (b ∷ []))
 text_next long p b h = go (nat_lt (length (p ++ (b ∷ []))) (head_size long)) (nat_lt (length p) (head_size long)) refl refl

@@ -1,6 +1,6 @@
 use Rattle.std.proofs.Common.{rules}
 use Rattle.jser_reader.proofs.PassLemmas.{counted_step, some_step}
-use Rattle.jser_reader.proofs.machine.Machine.pass_field.Goals as goal
+use Rattle.jser_reader.proofs.machine.Machine.pass_token.Goals as goal
 
 pub returns-clause-passes : goal.returns-clause-passes
 returns-clause-passes g c =

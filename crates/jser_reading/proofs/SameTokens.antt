@@ -1,7 +1,7 @@
--- Two well-formed trees from one moment, whose fields begin alike, are equal, and so is what comes behind them.
+-- Two well-formed trees from one moment, whose tokens begin alike, are equal, and so is what comes behind them.
 -- Equal parts are found by congruence; a later part is first brought to the same moment.
 use Rattle.std.proofs.Common.{◌≡◌, ℕ, suc, Bool, false, if◌then◌else◌, List, [], ◌∷◌, length, refl, sym, ◌∙◌, ap, ap₂, arith, Option, Some, None, MatchBool}
-use Rattle.jser_reading.proofs.Vocabulary.{has_write_method, other_entry, pending_entry, Layer, PrimCode, primitive_codes, ValueTree, null, back, string, descriptor, class_object, array, enum_constant, object, DescTree, plain, proxy, ClassPlaceTree, no_class, back_class, new_class, BodyTree, raw_body, value_body, ValueTrees, no_values, value_and, section, SectionTrees, no_sections, section_and, NotesTree, no_notes, annotation, block, reset, content, ContentTrees, no_contents, content_and, value_count, after_value, after_values, after_notes, chain_of_class, elements_of, is_external, WellFormedValue, WellFormedDesc, WellFormedClass, WellFormedSuperclass, WellFormedBody, WellFormedValues, WellFormedExternal, WellFormedSections, WellFormedNotesIf, WellFormedNotes, WellFormedContents, WellFormed, Owner, object_owner, array_owner, enum_owner, class_owner, ChainOwner, Role, own_class, superclass, owner_of, is_strict_above, Moment, beginning, tick, assign, emptied, past_fields, past_value, past_class, past_values, past_notes, past_contents, null_tag, reference_tag, array_length_field, array_length_at, Piece, at, tag_of_desc, tag_of, cut_text_place, cut_fields, cut_interfaces, cut_bytes, cut_value, cut_desc, cut_class, cut_superclass, cut_body, cut_values, cut_external, cut_sections, cut_notes, cut_annotation, cut_top, fields_of}
+use Rattle.jser_reading.proofs.Vocabulary.{has_write_method, other_entry, pending_entry, Layer, PrimCode, primitive_codes, ValueTree, null, back, string, descriptor, class_object, array, enum_constant, object, DescTree, plain, proxy, ClassPlaceTree, no_class, back_class, new_class, BodyTree, raw_body, value_body, ValueTrees, no_values, value_and, section, SectionTrees, no_sections, section_and, NotesTree, no_notes, annotation, block, reset, content, ContentTrees, no_contents, content_and, value_count, after_value, after_values, after_notes, chain_of_class, elements_of, is_external, WellFormedValue, WellFormedDesc, WellFormedClass, WellFormedSuperclass, WellFormedBody, WellFormedValues, WellFormedExternal, WellFormedSections, WellFormedNotesIf, WellFormedNotes, WellFormedContents, WellFormed, Owner, object_owner, array_owner, enum_owner, class_owner, ChainOwner, Role, own_class, superclass, owner_of, is_strict_above, Moment, beginning, tick, assign, emptied, past_fields, past_value, past_class, past_values, past_notes, past_contents, null_tag, reference_tag, array_length_token, array_length_at, Piece, at, tag_of_desc, tag_of, cut_text_place, cut_fields, cut_interfaces, cut_bytes, cut_value, cut_desc, cut_class, cut_superclass, cut_body, cut_values, cut_external, cut_sections, cut_notes, cut_annotation, cut_top, tokens_of}
 use Rattle.jser_grammar.specs.Counts.{array_length}
 use Rattle.jser_grammar.proofs.Bools.{both_ways}
 use Rattle.jser_reading.proofs.SameParts.{shape_of, shape, same_text, same_text_place, same_fields, same_interfaces, same_bytes, same_raw, same_prims, shape_tag, no_reference_desc, no_null_desc, same_by_class}
@@ -26,9 +26,9 @@ mutual
       let elements = elements_of (chain_of_class m.table c) in
       let elements' = elements_of (chain_of_class m.table c') in
       let q =
-      same_class c c' array_owner d (tick m) (at array_length_at d made (array_length_field (array_length b))
+      same_class c c' array_owner d (tick m) (at array_length_at d made (array_length_token (array_length b))
       ∷ cut_body d made elements b x)
-      (at array_length_at d made' (array_length_field (array_length b')) ∷ cut_body d made' elements' b' y) h.0 k.0 e in
+      (at array_length_at d made' (array_length_token (array_length b')) ∷ cut_body d made' elements' b' y) h.0 k.0 e in
       let qq = q.1 in
       let n : array_length b ≡ array_length b' = cc in
       let e1 : cut_body d made elements b x ≡ cut_body d made' elements' b' y = cc in
@@ -295,6 +295,6 @@ same_top no_contents (content_and (block long b) c') m h k e = absurd (cc)
 same_top no_contents (content_and (content u) c') m h k e = absurd (cc)
 same_top _ _ m h k e = absurd (cc)
 
--- lists with the same fields are equal
-pub same_list : (c c' : ContentTrees) → WellFormed c → WellFormed c' → fields_of c ≡ fields_of c' → c ≡ c'
+-- lists with the same tokens are equal
+pub same_list : (c c' : ContentTrees) → WellFormed c → WellFormed c' → tokens_of c ≡ tokens_of c' → c ≡ c'
 same_list c c' h k e = let e' : cut_top beginning c [] ≡ cut_top beginning c' [] = cc in same_top c c' beginning h k e'

@@ -1,8 +1,8 @@
-//! Fields, as a reader lends them.
+//! Tokens, as a reader lends them.
 
-/// A field of the stream (Java Object Serialization Specification, section 6.4.2).
+/// A token of the stream (Java Object Serialization Specification, section 6.4.2).
 #[derive(Clone, Copy)]
-pub enum Field<'f> {
+pub enum Token<'f> {
     /// The header: `STREAM_MAGIC` and `STREAM_VERSION`.
     Header,
     /// A tag: of a value, of a block, or `TC_ENDBLOCKDATA` or `TC_RESET`.

@@ -1,6 +1,6 @@
-"""A reader of accepted streams that shares no code with serialcheck: it cuts one into fields, and counts.
+"""A reader of accepted streams that shares no code with serialcheck: it cuts one into tokens, and counts.
 
-`python3 tests/parts/fields.py FILE..` prints for each file the line that `serialcheck check` must print of it. It knows just
+`python3 tests/parts/tokens.py FILE..` prints for each file the line that `serialcheck check` must print of it. It knows just
 enough of chapter 6 to read what is accepted, checks next to nothing, and calls itself for each level.
 """
 import sys
@@ -8,36 +8,36 @@ from pathlib import Path
 
 
 class Cut:
-    """A stream cut into fields, each a kind, a start and an end; and its counts."""
+    """A stream cut into tokens, each a kind, a start and an end; and its counts."""
 
     SIZES = {"B": 1, "C": 2, "D": 8, "F": 4, "I": 4, "J": 8, "S": 2, "Z": 1}
 
     def __init__(self, data):
-        self.data, self.at, self.fields, self.handles = data, 0, [], []
+        self.data, self.at, self.tokens, self.handles = data, 0, [], []
         self.contents = self.refs = self.depth = 0
         # Whether the type of a field is of another kind than its code says, as `I` behind the code `[`.
         self.has_odd_type = False
 
-    def field(self, kind, size):
+    def token(self, kind, size):
         start = self.at
         self.at += size
         if self.at > len(self.data):
             raise ValueError("the stream ends early")
-        self.fields.append((kind, start, self.at))
+        self.tokens.append((kind, start, self.at))
         return int.from_bytes(self.data[start : self.at], "big")
 
     def text(self, size=2):
-        length = self.field("length", size)
+        length = self.token("length", size)
         start = self.at
-        self.field("text", length)
+        self.token("text", length)
         return self.data[start : self.at].decode("latin-1")
 
     def stream(self):
-        self.field("header", 4)
+        self.token("header", 4)
         while self.at < len(self.data):
             self.contents += 1
             self.content(1)
-        return self.fields
+        return self.tokens
 
     def line(self):
         return f"yes {len(self.data)} bytes, {self.contents} contents, {self.refs} refs, depth {self.depth}"
@@ -46,13 +46,13 @@ class Cut:
         """One content of this depth; whether it ends an annotation."""
         tag = self.data[self.at]
         if tag in (0x77, 0x7A):
-            self.field("tag", 1)
-            self.field("block", self.field("length", 1 if tag == 0x77 else 4))
+            self.token("tag", 1)
+            self.token("block", self.token("length", 1 if tag == 0x77 else 4))
         elif tag == 0x78:
-            self.field("tag", 1)
+            self.token("tag", 1)
             return True
         elif tag == 0x79:
-            self.field("tag", 1)
+            self.token("tag", 1)
             self.handles = []
         else:
             self.place(depth)
@@ -74,11 +74,11 @@ class Cut:
 
     def value(self, depth):
         """What a tag begins: a value, or what is no place of its own, a class or a text in the place of another."""
-        tag = self.field("tag", 1)
+        tag = self.token("tag", 1)
         if tag == 0x70:
             return None
         if tag == 0x71:
-            return self.handles[self.field("handle", 4) - 0x7E0000]
+            return self.handles[self.token("handle", 4) - 0x7E0000]
         if tag in (0x74, 0x7C):
             number = len(self.handles)
             self.kept("")
@@ -102,15 +102,15 @@ class Cut:
         layer = {"proxy": tag == 0x7D, "flags": 2, "codes": [], "parent": None}
         if layer["proxy"]:
             self.kept(layer)
-            for _ in range(self.field("count", 4)):
+            for _ in range(self.token("count", 4)):
                 self.text()
         else:
             layer["name"] = self.text()
-            self.field("suid", 8)
+            self.token("suid", 8)
             self.kept(layer)
-            layer["flags"] = self.field("flags", 1)
-            for _ in range(self.field("count", 2)):
-                code = chr(self.field("code", 1))
+            layer["flags"] = self.token("flags", 1)
+            for _ in range(self.token("count", 2)):
+                code = chr(self.token("code", 1))
                 self.text()
                 layer["codes"].append(code)
                 if code in "[L":
@@ -133,7 +133,7 @@ class Cut:
         if not layer["flags"] & 4:
             for code in layer["codes"]:
                 if code in self.SIZES:
-                    self.field("raw", self.SIZES[code])
+                    self.token("raw", self.SIZES[code])
             for code in layer["codes"]:
                 if code not in self.SIZES:
                     self.place(depth + 1)
@@ -141,10 +141,10 @@ class Cut:
             self.notes(depth + 1)
 
     def array(self, layer, depth):
-        length, code = self.field("length", 4), layer["name"][1]
+        length, code = self.token("length", 4), layer["name"][1]
         for _ in range(length):
             if code in self.SIZES:
-                self.field("raw", self.SIZES[code])
+                self.token("raw", self.SIZES[code])
             else:
                 self.place(depth + 1)
 

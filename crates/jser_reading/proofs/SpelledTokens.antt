@@ -1,10 +1,10 @@
--- The bytes of the fields of a well-formed tree, joined, are its spelling. What follows a tree is kept apart, and
+-- The bytes of the tokens of a well-formed tree, joined, are its spelling. What follows a tree is kept apart, and
 -- the parts are put together by associativity.
 use Rattle.std.proofs.Common.{◌≡◌, ℕ, suc, Bool, true, false, ◌||◌, if◌then◌else◌, List, [], ◌∷◌, ◌++◌, length, refl, sym, ◌∙◌, ap, Option, Some, None, append_assoc, append-nil, MatchBool}
-use Rattle.jser_reading.proofs.Vocabulary.{has_write_method, other_entry, pending_entry, Layer, big_bytes, PrimCode, is_object_code, primitive_codes, TextPlaceTree, new_text, back_text, FieldTree, PrimTree, ValueTree, null, back, string, descriptor, class_object, array, enum_constant, object, DescTree, plain, proxy, ClassPlaceTree, no_class, back_class, new_class, BodyTree, raw_body, value_body, ValueTrees, no_values, value_and, section, SectionTrees, no_sections, section_and, NotesTree, no_notes, annotation, block, reset, content, ContentTrees, no_contents, content_and, value_count, chain_of_class, ArePrims, elements_of, is_external, WellFormedValue, WellFormedDesc, WellFormedClass, WellFormedSuperclass, WellFormedBody, WellFormedValues, WellFormedExternal, WellFormedSections, WellFormedNotesIf, WellFormedNotes, WellFormedContents, Owner, object_owner, array_owner, enum_owner, class_owner, ChainOwner, Role, own_class, superclass, owner_of, is_strict_above, Moment, beginning, tick, assign, emptied, past_type, past_fields, past_value, past_class, past_values, past_notes, past_contents, block_tag_field, array_length_field, text_field, block_length_field, Position, top_at, annotation_at, array_length_at, block_length_at, Piece, at, tag_of_string, tag_of_desc, tag_of, cut_text_place, cut_type, cut_fields, cut_interfaces, cut_bytes, cut_raw, cut_prims, cut_value, cut_desc, cut_class, cut_superclass, cut_body, cut_values, cut_external, cut_sections, cut_notes, cut_annotation, cut_top}
+use Rattle.jser_reading.proofs.Vocabulary.{has_write_method, other_entry, pending_entry, Layer, big_bytes, PrimCode, is_object_code, primitive_codes, TextPlaceTree, new_text, back_text, FieldTree, PrimTree, ValueTree, null, back, string, descriptor, class_object, array, enum_constant, object, DescTree, plain, proxy, ClassPlaceTree, no_class, back_class, new_class, BodyTree, raw_body, value_body, ValueTrees, no_values, value_and, section, SectionTrees, no_sections, section_and, NotesTree, no_notes, annotation, block, reset, content, ContentTrees, no_contents, content_and, value_count, chain_of_class, ArePrims, elements_of, is_external, WellFormedValue, WellFormedDesc, WellFormedClass, WellFormedSuperclass, WellFormedBody, WellFormedValues, WellFormedExternal, WellFormedSections, WellFormedNotesIf, WellFormedNotes, WellFormedContents, Owner, object_owner, array_owner, enum_owner, class_owner, ChainOwner, Role, own_class, superclass, owner_of, is_strict_above, Moment, beginning, tick, assign, emptied, past_type, past_fields, past_value, past_class, past_values, past_notes, past_contents, block_tag_token, array_length_token, text_token, block_length_token, Position, top_at, annotation_at, array_length_at, block_length_at, Piece, at, tag_of_string, tag_of_desc, tag_of, cut_text_place, cut_type, cut_fields, cut_interfaces, cut_bytes, cut_raw, cut_prims, cut_value, cut_desc, cut_class, cut_superclass, cut_body, cut_values, cut_external, cut_sections, cut_notes, cut_annotation, cut_top}
 use Rattle.jser_grammar.specs.Counts.{array_length}
 use Rattle.jser_grammar.specs.Spelling.{utf, string_spelling, text_place_spelling, type_spelling, fields_spelling, interfaces_spelling, prim_spelling, prims_spelling, block_head, value_spelling, desc_spelling, class_spelling, body_spelling, values_spelling, sections_spelling, notes_spelling, annotation_spelling, contents_spelling}
-use Rattle.jser_reading.specs.FieldBytes.{tag_byte, bytes_of, joined}
+use Rattle.jser_reading.specs.TokenBytes.{tag_byte, bytes_of, joined}
 use Rattle.jser_reading.specs.ByteLaws.{Spelled}
 
 two : (a b r : List ℕ) → a ++ (b ++ r) ≡ (a ++ b) ++ r
@@ -21,7 +21,7 @@ plain_parts : (a b c d e g : List ℕ) (x : ℕ) (r : List ℕ) → a
 plain_parts a b c d e g x r = simp append_assoc
 
 spelled_string : (long : Bool) (u rest : List ℕ)
-    → tag_byte (tag_of_string long) ∷ (bytes_of (text_field long u) ++ rest) ≡ string_spelling long u ++ rest
+    → tag_byte (tag_of_string long) ∷ (bytes_of (text_token long u) ++ rest) ≡ string_spelling long u ++ rest
 spelled_string true u rest = refl
 spelled_string false u rest = refl
 
@@ -57,7 +57,7 @@ spelled_bytes [] d m rest = refl
 spelled_bytes (b ∷ bytes) d m rest = refl
 
 spelled_block : (long : Bool) (bytes : List ℕ) (d e : ℕ) (position : Position) (m : Moment) (rest : List Piece)
-    → joined (at position e m (block_tag_field long) ∷ at (block_length_at long) d m (block_length_field long (length bytes))
+    → joined (at position e m (block_tag_token long) ∷ at (block_length_at long) d m (block_length_token long (length bytes))
     ∷ cut_bytes d m bytes rest)
     ≡ (block_head long (length bytes) ++ bytes) ++ joined rest
 spelled_block true bytes d e position m rest =
@@ -100,7 +100,7 @@ mutual
       let made = assign (past_class (tick m) c) other_entry in
       let elements = elements_of (chain_of_class m.table c) in
       ap (λ z. 0x75 ∷ z) (spelled_class c array_owner d (tick m)
-      (at array_length_at d made (array_length_field (array_length b)) ∷ cut_body d made elements b rest) h.0
+      (at array_length_at d made (array_length_token (array_length b)) ∷ cut_body d made elements b rest) h.0
       ∙ ap (λ z. class_spelling c
       ++ z) (spelled_body b elements d made rest h.2) ∙ two (class_spelling c) (body_spelling b) (joined rest))
   spelled_value (enum_constant c t) d m rest h =
@@ -169,7 +169,7 @@ mutual
 
   spelled_body : (b : BodyTree) (elements : Option PrimCode) (d : ℕ) (m : Moment) (rest : List Piece)
       → WellFormedBody m.table b elements
-      → joined (at array_length_at d m (array_length_field (array_length b)) ∷ cut_body d m elements b rest) ≡ body_spelling b
+      → joined (at array_length_at d m (array_length_token (array_length b)) ∷ cut_body d m elements b rest) ≡ body_spelling b
       ++ joined rest
   spelled_body (raw_body ps) None d m rest h = absurd h
   spelled_body (raw_body ps) (Some c) d m rest h =

@@ -2,14 +2,14 @@
 ghost use Rattle.std.specs.Prelude.{◌++◌, ◌≡◌, take, drop, IfSome};
 ghost use Rattle.jser_printer.specs.Says.{SaysTo};
 ghost use Rattle.jser_printer.specs.Names.{view_name};
-ghost use Rattle.jser_explain.specs.Heads.{class_in, class_line, digits_end, field_line, field_of, first_bytes, hex_end, known_class_line};
+ghost use Rattle.jser_explain.specs.Heads.{class_in, class_line, digits_end, token_line, token_of, first_bytes, hex_end, known_class_line};
 
 use crate::short::write_class_name;
 use jser_prim::{Outbox, Sink};
 use jser_printer::{write, write_decimal, write_hex};
 use jser_scan::Found;
 
-/// How many bytes of a field are printed at most.
+/// How many bytes of a token are printed at most.
 const MOST: u64 = 32;
 
 /// The place of a refusal: its first byte, and the end of the bytes that decide.
@@ -21,7 +21,7 @@ pub(crate) struct Spot {
 
 /// The place of what was found; None where nothing is refused.
 pub(crate) fn spot_of(found: &Found) -> Option<Spot>
-    ensures { result ≡ field_of found.now }
+    ensures { result ≡ token_of found.now }
 {
     match found {
         Found::Refused { refusal, .. } => Some(Spot {
@@ -60,8 +60,8 @@ pub(crate) fn bytes_at(bytes: &[u8], spot: Spot) -> &[u8] {
 
 /// Writes the line of the bytes at a place, of which the first are printed.
 #[tactic(auto, using(crate::proofs::WhyLemmas::shown_said))]
-pub(crate) fn write_field<W: Sink>(outbox: &mut Outbox, sink: &mut W, bytes: &[u8], spot: Spot)
-    ensures { SaysTo W.gone_out W.has_failed outbox.old outbox.new sink.old sink.new (λ k. field_line spot (first_bytes bytes.now spot) k) }
+pub(crate) fn write_token<W: Sink>(outbox: &mut Outbox, sink: &mut W, bytes: &[u8], spot: Spot)
+    ensures { SaysTo W.gone_out W.has_failed outbox.old outbox.new sink.old sink.new (λ k. token_line spot (first_bytes bytes.now spot) k) }
 {
     let shown = first_bytes(bytes, spot);
     write_shown(outbox, sink, spot, shown);
@@ -69,7 +69,7 @@ pub(crate) fn write_field<W: Sink>(outbox: &mut Outbox, sink: &mut W, bytes: &[u
 
 /// Writes the line of a place with these of its bytes.
 fn write_shown<W: Sink>(outbox: &mut Outbox, sink: &mut W, spot: Spot, shown: &[u8])
-    ensures { SaysTo W.gone_out W.has_failed outbox.old outbox.new sink.old sink.new (λ k. field_line spot shown.now k) }
+    ensures { SaysTo W.gone_out W.has_failed outbox.old outbox.new sink.old sink.new (λ k. token_line spot shown.now k) }
 {
     write(outbox, sink, b"  bytes ");
     write_decimal(outbox, sink, spot.from);

@@ -1,7 +1,7 @@
 use Rattle.std.specs.Prelude.{◌++◌, codes}
 use Rattle.hex.specs.Hex.{encode_lower}
 use Rattle.jser_printer.proofs.SaysLemmas.{says_three}
-use Rattle.jser_explain.proofs.field.write_digits.Goals as goal
+use Rattle.jser_explain.proofs.token.write_digits.Goals as goal
 
 pub returns : goal.returns
 returns g c =

@@ -1,6 +1,6 @@
--- What comes behind the fields of a tree may be put there in two parts: cut .. (r ++ s) ≡ cut .. r ++ s.
+-- What comes behind the tokens of a tree may be put there in two parts: cut .. (r ++ s) ≡ cut .. r ++ s.
 use Rattle.std.proofs.Common.{◌≡◌, ℕ, suc, Bool, true, false, ◌||◌, if◌then◌else◌, List, [], ◌∷◌, ◌++◌, length, refl, ◌∙◌, ap, Option, Some, None}
-use Rattle.jser_reading.proofs.Vocabulary.{other_entry, pending_entry, Layer, PrimCode, is_object_code, primitive_codes, TextPlaceTree, new_text, back_text, FieldTree, PrimTree, ValueTree, null, back, string, descriptor, class_object, array, enum_constant, object, DescTree, plain, proxy, ClassPlaceTree, no_class, back_class, new_class, BodyTree, raw_body, value_body, ValueTrees, no_values, value_and, section, SectionTrees, no_sections, section_and, NotesTree, no_notes, annotation, block, reset, content, ContentTrees, no_contents, content_and, chain_of_class, elements_of, is_external, Owner, object_owner, array_owner, enum_owner, class_owner, ChainOwner, Role, own_class, superclass, owner_of, is_strict_above, Moment, tick, assign, past_type, past_fields, past_value, past_class, past_values, past_notes, past_contents, tag_field, block_tag_field, suid_field, flags_field, field_count_field, interface_count_field, array_length_field, code_field, text_field, block_length_field, prims_field, annotation_at, value_at, class_place_at, superclass_place_at, class_name_at, field_name_at, interface_name_at, suid_at, field_count_at, interface_count_at, array_length_at, flags_at, type_code_at, block_length_at, raw_at, Piece, at, tag_of_desc, tag_of, cut_text_place, cut_type, cut_fields, cut_interfaces, cut_bytes, cut_raw, cut_prims, cut_value, cut_desc, cut_class, cut_superclass, cut_body, cut_values, cut_external, cut_sections, cut_notes, cut_annotation}
+use Rattle.jser_reading.proofs.Vocabulary.{other_entry, pending_entry, Layer, PrimCode, is_object_code, primitive_codes, TextPlaceTree, new_text, back_text, FieldTree, PrimTree, ValueTree, null, back, string, descriptor, class_object, array, enum_constant, object, DescTree, plain, proxy, ClassPlaceTree, no_class, back_class, new_class, BodyTree, raw_body, value_body, ValueTrees, no_values, value_and, section, SectionTrees, no_sections, section_and, NotesTree, no_notes, annotation, block, reset, content, ContentTrees, no_contents, content_and, chain_of_class, elements_of, is_external, Owner, object_owner, array_owner, enum_owner, class_owner, ChainOwner, Role, own_class, superclass, owner_of, is_strict_above, Moment, tick, assign, past_type, past_fields, past_value, past_class, past_values, past_notes, past_contents, tag_token, block_tag_token, suid_token, flags_token, field_count_token, interface_count_token, array_length_token, code_token, text_token, block_length_token, prims_token, annotation_at, value_at, class_place_at, superclass_place_at, class_name_at, field_name_at, interface_name_at, suid_at, field_count_at, interface_count_at, array_length_at, flags_at, type_code_at, block_length_at, raw_at, Piece, at, tag_of_desc, tag_of, cut_text_place, cut_type, cut_fields, cut_interfaces, cut_bytes, cut_raw, cut_prims, cut_value, cut_desc, cut_class, cut_superclass, cut_body, cut_values, cut_external, cut_sections, cut_notes, cut_annotation}
 use Rattle.jser_grammar.specs.Counts.{array_length}
 
 cut_text_place-append : (t : TextPlaceTree) (d : ℕ) (m : Moment) (r s : List Piece)
@@ -18,7 +18,7 @@ cut_fields-append : (fs : List FieldTree) (d : ℕ) (seen : Bool) (m : Moment) (
 cut_fields-append [] d seen m r s = refl
 cut_fields-append (f ∷ fs) d seen m r s =
     let later = seen || is_object_code f.code in
-    ap (λ z. at (type_code_at seen) d m (code_field f.code) ∷ at field_name_at d m (text_field false f.name) ∷ z)
+    ap (λ z. at (type_code_at seen) d m (code_token f.code) ∷ at field_name_at d m (text_token false f.name) ∷ z)
     (ap (λ z. cut_type d m f.text z) (cut_fields-append fs d later (past_type m f.text) r s) ∙ cut_type-append f.text d m
     (cut_fields d later (past_type m f.text) fs r) s)
 
@@ -26,7 +26,7 @@ cut_interfaces-append : (names : List (List ℕ)) (d : ℕ) (m : Moment) (r s : 
     → cut_interfaces d m names (r ++ s) ≡ cut_interfaces d m names r ++ s
 cut_interfaces-append [] d m r s = refl
 cut_interfaces-append (name ∷ names) d m r s =
-    ap (λ z. at interface_name_at d m (text_field false name) ∷ z) (cut_interfaces-append names d m r s)
+    ap (λ z. at interface_name_at d m (text_token false name) ∷ z) (cut_interfaces-append names d m r s)
 
 cut_bytes-append : (b : List ℕ) (d : ℕ) (m : Moment) (r s : List Piece) → cut_bytes d m b (r ++ s) ≡ cut_bytes d m b r ++ s
 cut_bytes-append [] d m r s = refl
@@ -43,7 +43,7 @@ cut_prims-append : (cs : List PrimCode) (ps : List PrimTree) (d : ℕ) (m : Mome
 cut_prims-append [] ps d m r s = refl
 cut_prims-append (c ∷ cs) [] d m r s = refl
 cut_prims-append (c ∷ cs) (p ∷ ps) d m r s =
-    ap (λ z. at (raw_at c 1) d m (prims_field (p ∷ [])) ∷ z) (cut_prims-append cs ps d m r s)
+    ap (λ z. at (raw_at c 1) d m (prims_token (p ∷ [])) ∷ z) (cut_prims-append cs ps d m r s)
 
 if-append : (b : Bool) (x y x' y' s : List Piece) → x ≡ x' ++ s → y ≡ y' ++ s → (if b then x else y) ≡ (if b then x' else y') ++ s
 if-append true x y x' y' s e f = e
@@ -60,9 +60,9 @@ mutual
   cut_value-append (array c b) d m r s =
       let made = assign (past_class (tick m) c) other_entry in
       let elements = elements_of (chain_of_class m.table c) in
-      ap (λ z. cut_class array_owner d (tick m) c (at array_length_at d made (array_length_field (array_length b)) ∷ z))
+      ap (λ z. cut_class array_owner d (tick m) c (at array_length_at d made (array_length_token (array_length b)) ∷ z))
       (cut_body-append b elements d made r s)
-      ∙ cut_class-append c array_owner d (tick m) (at array_length_at d made (array_length_field (array_length b))
+      ∙ cut_class-append c array_owner d (tick m) (at array_length_at d made (array_length_token (array_length b))
       ∷ cut_body d made elements b r) s
   cut_value-append (enum_constant c t) d m r s =
       let made = assign (past_class (tick m) c) other_entry in
@@ -90,9 +90,9 @@ mutual
       let e2 = ap (λ z. cut_annotation d m2 notes z) e3 ∙ cut_annotation-append notes d m2 up s in
       let e1 =
       ap (λ z. cut_fields d false m1 fields z) e2 ∙ cut_fields-append fields d false m1 (cut_annotation d m2 notes up) s in
-      ap (λ z. at (class_name_at role) d m (text_field false name) ∷ at suid_at d m (suid_field suid)
-      ∷ at (flags_at role) d m1 (flags_field flags)
-      ∷ at field_count_at d m1 (field_count_field (length fields)) ∷ z) e1
+      ap (λ z. at (class_name_at role) d m (text_token false name) ∷ at suid_at d m (suid_token suid)
+      ∷ at (flags_at role) d m1 (flags_token flags)
+      ∷ at field_count_at d m1 (field_count_token (length fields)) ∷ z) e1
   cut_desc-append (proxy interfaces notes parent) role d m r s =
       let m1 = assign m pending_entry in
       let m3 = past_contents m1 notes in
@@ -103,21 +103,21 @@ mutual
       let e1 =
       ap (λ z. cut_interfaces d m1 interfaces z) e2 ∙ cut_interfaces-append interfaces d m1
       (cut_annotation d m1 notes up) s in
-      ap (λ z. at interface_count_at d m1 (interface_count_field (length interfaces)) ∷ z) e1
+      ap (λ z. at interface_count_at d m1 (interface_count_token (length interfaces)) ∷ z) e1
 
   cut_class-append : (c : ClassPlaceTree) (owner : Owner) (d : ℕ) (m : Moment) (r s : List Piece)
       → cut_class owner d m c (r ++ s) ≡ cut_class owner d m c r ++ s
   cut_class-append no_class owner d m r s = refl
   cut_class-append (back_class n) owner d m r s = refl
   cut_class-append (new_class x) owner d m r s =
-      ap (λ z. at (class_place_at owner) d m (tag_field (tag_of_desc x)) ∷ z) (cut_desc-append x (own_class (Some owner)) d m r s)
+      ap (λ z. at (class_place_at owner) d m (tag_token (tag_of_desc x)) ∷ z) (cut_desc-append x (own_class (Some owner)) d m r s)
 
   cut_superclass-append : (c : ClassPlaceTree) (owner : ChainOwner) (strict : Bool) (d : ℕ) (m : Moment) (r s : List Piece)
       → cut_superclass owner strict d m c (r ++ s) ≡ cut_superclass owner strict d m c r ++ s
   cut_superclass-append no_class owner strict d m r s = refl
   cut_superclass-append (back_class n) owner strict d m r s = refl
   cut_superclass-append (new_class x) owner strict d m r s =
-      ap (λ z. at (superclass_place_at owner strict) d m (tag_field (tag_of_desc x)) ∷ z)
+      ap (λ z. at (superclass_place_at owner strict) d m (tag_token (tag_of_desc x)) ∷ z)
       (cut_desc-append x (superclass owner strict) d (tick m) r s)
 
   cut_body-append : (b : BodyTree) (elements : Option PrimCode) (d : ℕ) (m : Moment) (r s : List Piece)
@@ -129,7 +129,7 @@ mutual
       → cut_values d m vs (r ++ s) ≡ cut_values d m vs r ++ s
   cut_values-append no_values d m r s = refl
   cut_values-append (value_and v vs) d m r s =
-      ap (λ z. at value_at (suc d) m (tag_field (tag_of v)) ∷ z)
+      ap (λ z. at value_at (suc d) m (tag_token (tag_of v)) ∷ z)
       (ap (λ z. cut_value (suc d) m v z) (cut_values-append vs d (past_value m v) r s) ∙ cut_value-append v (suc d) m
       (cut_values d (past_value m v) vs r) s)
 
@@ -160,11 +160,11 @@ mutual
       → cut_annotation d m cs (r ++ s) ≡ cut_annotation d m cs r ++ s
   cut_annotation-append no_contents d m r s = refl
   cut_annotation-append (content_and (block long b) cs) d m r s =
-      ap (λ z. at annotation_at (suc d) m (block_tag_field long)
-      ∷ at (block_length_at long) d m (block_length_field long (length b)) ∷ z)
+      ap (λ z. at annotation_at (suc d) m (block_tag_token long)
+      ∷ at (block_length_at long) d m (block_length_token long (length b)) ∷ z)
       (ap (λ z. cut_bytes d m b z) (cut_annotation-append cs d m r s) ∙ cut_bytes-append b d m (cut_annotation d m cs r) s)
   cut_annotation-append (content_and reset cs) d m r s = cut_annotation-append cs d m r s
   cut_annotation-append (content_and (content v) cs) d m r s =
-      ap (λ z. at annotation_at (suc d) m (tag_field (tag_of v)) ∷ z)
+      ap (λ z. at annotation_at (suc d) m (tag_token (tag_of v)) ∷ z)
       (ap (λ z. cut_value (suc d) m v z) (cut_annotation-append cs d (past_value m v) r s) ∙ cut_value-append v (suc d) m
       (cut_annotation d (past_value m v) cs r) s)

@@ -1,9 +1,9 @@
--- What holds of the verdict on one field: it tells the rows, in the order of ties, and goes with the gate of its limits.
+-- What holds of the verdict on one token: it tells the rows, in the order of ties, and goes with the gate of its limits.
 use Rattle.std.specs.Prelude.{ℕ, zero, IsTrue, ◌≤◌, ◌≡◌, ◌↔◌, Bool, true, false, List, [], ◌∷◌, ◌++◌, length}
 use Rattle.jser_prim.specs.Texts.{BeginsText}
 use Rattle.jser_grammar.specs.Parts.{IsBytes}
 use Rattle.jser_reading.specs.Labels.{Label, Position, nowhere, raw_at, bytes_at}
-use Rattle.jser_reading.specs.FieldsFromBytes.{size_in}
+use Rattle.jser_reading.specs.TokensFromBytes.{size_in}
 use Rattle.jser_reading.specs.GateLimits.{gate_of}
 use Rattle.jser_reading.specs.Machine.{begin_state}
 use Rattle.jser_reading.specs.Scanner.{more, bad, VerdictOn, IsScanner, walk}
@@ -13,7 +13,7 @@ use Rattle.jser_verdict.specs.TextsSoFar.{has_head, text_length, text_bytes, has
 use Rattle.jser_verdict.specs.Rows.{row}
 use Rattle.jser_verdict.specs.Verdicts.{verdict}
 
--- some field is read at the position
+-- some token is read at the position
 abbrev pub IsRead : Position → Type 0
 IsRead nowhere = ⊥
 IsRead (raw_at code zero) = ⊥
@@ -24,7 +24,7 @@ IsRead _ = Unit {0}
 abbrev pub TurnsAreInOrder : Type 0
 TurnsAreInOrder = (reason other : Reason) → (turn reason ≤ turn other) ↔ ComesNoLater reason other
 
--- Where a row holds, a reason is told that comes no later: so where more is wanted, or a field is found, none holds.
+-- Where a row holds, a reason is told that comes no later: so where more is wanted, or a token is found, none holds.
 abbrev pub TellsEachRow : Type 0
 TellsEachRow =
     (gate : Gate) (label : Label) (bytes : List ℕ) (reason : Reason) → IsTrue (row reason gate label bytes)
@@ -47,7 +47,7 @@ BadTextIsExact =
     × (BeginsText (text_length long bytes) (text_bytes long bytes) → has_wrong_byte long bytes ≡ false)
 
 -- There is a verdict that goes with the gate of these limits, so that the laws of the walk hold of it, and that says the
--- same of all bytes that a walk asks about: those of a field that is read, no more than it needs. So the walks by the two
+-- same of all bytes that a walk asks about: those of a token that is read, no more than it needs. So the walks by the two
 -- are equal.
 abbrev pub VerdictScans : Type 0
 VerdictScans =
