@@ -37,31 +37,39 @@ public class InertRead extends InertNames {
 
     @Override protected Class<?> resolveProxyClass(String[] interfaces) throws ClassNotFoundException { throw ABSENT; }
 
+    /** A way to read the bytes of a file to their end. */
+    interface Way {
+        void read(byte[] bytes) throws IOException;
+    }
+
     /** The processor time of one read of the file. */
-    private static long read(Path file) throws IOException {
+    private static long read(Path file, Way way) throws IOException {
         long start = THREADS.getCurrentThreadCpuTime();
-        new InertRead(new Source(Files.readAllBytes(file))).readAll();
+        way.read(Files.readAllBytes(file));
         return THREADS.getCurrentThreadCpuTime() - start;
     }
 
-    private static void measure(Path file, double seconds) throws IOException {
-        for (double left = seconds * 1e9; left > 0;) left -= read(file);
+    private static void measure(Path file, double seconds, Way way) throws IOException {
+        for (double left = seconds * 1e9; left > 0;) left -= read(file, way);
         System.out.println("ready");
         BufferedReader turns = new BufferedReader(new InputStreamReader(System.in));
-        while (turns.readLine() != null) System.out.println(read(file));
+        while (turns.readLine() != null) System.out.println(read(file, way));
     }
 
-    public static void main(String[] words) throws Exception {
+    /** Measures a way, by the words of a command line. */
+    static void run(String[] words, Way way) throws InterruptedException {
         // What is deep is read by calls inside calls.
         Thread reader = new Thread(null, () -> {
             try {
-                measure(Path.of(words[0]), Double.parseDouble(words[1]));
+                measure(Path.of(words[0]), Double.parseDouble(words[1]), way);
             } catch (Throwable fault) {
-                System.err.println("InertRead: " + fault);
+                System.err.println(fault);
                 System.exit(1);
             }
         }, "reader", 1L << 29);
         reader.start();
         reader.join();
     }
+
+    public static void main(String[] words) throws Exception { run(words, bytes -> new InertRead(new Source(bytes)).readAll()); }
 }

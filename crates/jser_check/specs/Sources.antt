@@ -1,6 +1,6 @@
 -- What reading does to the bytes that a source tells are still to come, and to the reader that takes them. `had` are the
 -- bytes that were to come before, `has` those after; `told` is what a gate is, as the definitions see it.
-use Rattle.std.specs.Prelude.{◌≡◌, ℕ, ◌+◌, ◌≤◌, ◌^◌, Bool, true, List, [], ◌++◌, length, Option, Result, Ok, Err}
+use Rattle.std.specs.Prelude.{◌≡◌, ℕ, ◌+◌, ◌<◌, ◌≤◌, ◌^◌, Bool, true, List, [], ◌++◌, length, Option, Result, Ok, Err}
 use Rattle.std.specs.Io.KnownBytes.{Consumes, IsAtEnd}
 use Rattle.jser_verdict.specs.Gates.{Gate}
 use Rattle.jser_reader.specs.declared.Stop.{Stop}
@@ -13,6 +13,10 @@ use Rattle.jser_check.specs.Feeding.{Fed, StopCases}
 -- how many bytes a read asks for at most
 abbrev pub read_bytes : ℕ
 read_bytes = 57344
+
+-- room of this size is enough for a read, and not more than one may ask for
+abbrev pub IsRoom : ℕ → Type 0
+IsRoom size = (0 < size) × (size ≤ read_bytes)
 
 -- at most so many bytes came from the source
 pub record TakesAtMost (most : ℕ) (had has : Option (List ℕ)) : Type 0 where

@@ -3,6 +3,7 @@
 #![tactic(auto)]
 
 mod answer;
+mod buffer;
 mod bytes;
 mod check;
 mod checker;
@@ -11,6 +12,7 @@ mod holds;
 mod reader;
 
 pub use answer::CheckFault;
+pub use buffer::{first_buffer, next_buffer};
 pub use bytes::{Judged, check_bytes, judge_bytes};
 pub use checker::Checker;
 pub use gate::{FilterGate, Options};

@@ -1,5 +1,5 @@
 //! The check of a source: the check in pieces, of what each read gives.
-ghost use Rattle.std.specs.Prelude.{◌≡◌, ◌≢◌, ◌+◌, ◌<◌, ◌≤◌, ℕ, List, [], length, vec_len, IfOk, IfErr, IfSome};
+ghost use Rattle.std.specs.Prelude.{◌≡◌, ◌≢◌, ◌+◌, ◌<◌, ◌≤◌, ℕ, List, [], length, IfOk, IfErr, IfSome};
 ghost use Rattle.std.specs.Io.KnownBytes.{IsAtEnd};
 ghost use Rattle.jser_grammar.specs.Parts.{IsBytes};
 ghost use Rattle.jser_reader.specs.ReaderStates.{StandsFor};
@@ -10,21 +10,19 @@ ghost use Rattle.jser_check.specs.Sources.{TakesAtMost, ReadTells, ReadsTell, Fa
 ghost use Rattle.jser_check.specs.SourceAnswers.{IfFaultRefused, Undecided, TakesFew, SourceTells};
 
 use crate::answer::CheckFault;
+use crate::buffer::{first_buffer, next_buffer};
 use crate::check::Check;
 use crate::gate::{FilterGate, Options};
 use jser_filter::Filter;
 use jser_grammar::caps::MOST_BYTES;
 use jser_prim::Source;
 use jser_reader::{Gate, Stop, Totals};
-use std::alloc::{AllocError, Global};
-
-/// How many bytes a read asks for at most: 14 pages of 4 KiB, so that each read of a file begins at a page.
-const BUFFER_LEN: usize = 57_344;
+use std::alloc::Global;
 
 /// Checks whether the bytes of a source are one stream that the filter admits, and returns its counts.
 ///
 /// Each read asks for at least one byte, and what it gives is checked at once. It reads to the end, or until the bytes
-/// are refused. What it allocates is room for the bytes of a read, once, and what the reader does.
+/// are refused. What it allocates is room for the bytes of a read, at most twice, and what the reader does.
 ///
 /// # Errors
 ///
@@ -89,7 +87,7 @@ fn read_whole<R: Source, G: Gate>(
     ensures fails { FailsWith result (R.has_failed source.old) (R.has_failed source.new) }
     ensures remembers { (all : List ℕ) → R.remembers source.old all → R.remembers source.new all }
 {
-    let Ok(mut buffer) = new_buffer(alloc, BUFFER_LEN) else {
+    let Ok(mut buffer) = first_buffer(alloc) else {
         return Err(CheckFault::Stop(Stop::OutOfMemory));
     };
     let mut taken: u64 = 0;
@@ -97,17 +95,13 @@ fn read_whole<R: Source, G: Gate>(
         let room = (MOST_BYTES + 1 - taken).min(buffer.len() as u64) as usize;
         match read_some(source, check, &mut buffer[..room]) {
             Ok(0) => return Ok(()),
-            Ok(count) => taken += count as u64,
+            Ok(count) => {
+                taken += count as u64;
+                buffer = next_buffer(alloc, buffer, count);
+            }
             Err(fault) => return Err(fault),
         }
     }
-}
-
-/// Room for the bytes of a read.
-fn new_buffer(alloc: Global, len: usize) -> Result<Vec<u8>, AllocError>
-    ensures { IfOk result (λ buffer. vec_len buffer ≡ len) }
-{
-    vec![in alloc; 0u8; len]
 }
 
 /// One read, whose bytes go to the check; returns how many. None are the end.

@@ -1,5 +1,5 @@
 //! The check of a source, which asks the filter about every class name that can be read at any place.
-ghost use Rattle.std.specs.Prelude.{◌≡◌, ◌≢◌, ◌+◌, ◌<◌, ◌≤◌, ℕ, List, [], Ok, Err, length, vec_len, IfOk};
+ghost use Rattle.std.specs.Prelude.{◌≡◌, ◌≢◌, ◌+◌, ◌<◌, ◌≤◌, ℕ, List, [], Ok, Err, length, IfOk};
 ghost use Rattle.std.specs.Io.KnownBytes.{IsAtEnd};
 ghost use Rattle.jser_grammar.specs.Caps.{most_bytes};
 ghost use Rattle.jser_check.specs.Sources.{TakesAtMost};
@@ -8,15 +8,12 @@ ghost use Rattle.jser_check_anywhere.specs.SourceAnswers.{Answered, FailsWith, S
 
 use crate::checker::AnywhereChecker;
 use crate::fault::AnywhereFault;
-use jser_check::Options;
+use jser_check::{Options, first_buffer, next_buffer};
 use jser_filter::Filter;
 use jser_grammar::caps::MOST_BYTES;
 use jser_prim::Source;
 use jser_reader::{Stop, Totals};
-use std::alloc::{AllocError, Global};
-
-/// How many bytes a read asks for at most, as `check_reader` of `jser_check` does.
-const BUFFER_LEN: usize = 57_344;
+use std::alloc::Global;
 
 /// Checks whether the bytes of a source are one stream that the filter admits, and whether it admits each class name that
 /// can be read at any place of them; returns the counts.
@@ -75,7 +72,7 @@ fn read_whole<'f, R: Source>(
     ensures fails { FailsWith result (R.has_failed source.old) (R.has_failed source.new) }
     ensures remembers { (all : List ℕ) → R.remembers source.old all → R.remembers source.new all }
 {
-    let Ok(mut buffer) = new_buffer(alloc, BUFFER_LEN) else {
+    let Ok(mut buffer) = first_buffer(alloc) else {
         return Err(AnywhereFault::Stop(Stop::OutOfMemory));
     };
     let mut taken: u64 = 0;
@@ -83,17 +80,13 @@ fn read_whole<'f, R: Source>(
         let room = (MOST_BYTES + 1 - taken).min(buffer.len() as u64) as usize;
         match read_some(source, checker, &mut buffer[..room]) {
             Ok(0) => return Ok(()),
-            Ok(count) => taken += count as u64,
+            Ok(count) => {
+                taken += count as u64;
+                buffer = next_buffer(alloc, buffer, count);
+            }
             Err(fault) => return Err(fault),
         }
     }
-}
-
-/// Room for the bytes of a read.
-fn new_buffer(alloc: Global, len: usize) -> Result<Vec<u8>, AllocError>
-    ensures { IfOk result (λ buffer. vec_len buffer ≡ len) }
-{
-    vec![in alloc; 0u8; len]
 }
 
 /// One read, whose bytes go to the check; returns how many. None are the end.

@@ -48,7 +48,7 @@ no_cut front (b ∷ cut) r tally list st p =
     let taken = st.counted.taken in
     let same = ap length st.cut_is in
     let refusal : Refusal = record { from_byte = length (joined front); to_byte = length bytes; reason = named truncated } in
-    absurd ((truncates open_gate bytes taken.cut (left begin_state taken.fields) refusal taken.all_bytes st.within taken.walked
+    absurd ((truncates open_gate bytes taken.cut (left begin_state taken.tokens) refusal taken.all_bytes st.within taken.walked
     (λ d. let z = ap length d.1 in omega arith) refl (omega arith) refl).none_passes list p)
 
 no_rest : (rest : List ℕ) → length rest ≡ 0 → rest ≡ []

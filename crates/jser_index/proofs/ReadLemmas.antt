@@ -112,9 +112,9 @@ pub record Laws : Type 0 where
 found_of : (bytes : List ℕ) (list other : ContentTrees) (front : List Piece) (old new : Finding) (totals : Totals) → Laws → IsAt front old → new ≡ finished old
     → Passes open_gate bytes list → front ≡ tokens_of list → Passes open_gate bytes other → AreTotals bytes other totals
     → IsOfList bytes new totals list
-found_of bytes list other front old new totals laws at ended passes fields p are =
+found_of bytes list other front old new totals laws at ended passes tokens p are =
     let is : new ≡ finished (found begin_finding (tokens_of list)) =
-    ended ∙ ap finished (at.found_are ∙ ap (found begin_finding) fields) in
+    ended ∙ ap finished (at.found_are ∙ ap (found begin_finding) tokens) in
     let law = laws.found list passes.0.1 in
     record {
       passes = passes;

@@ -11,7 +11,7 @@ reads-preserved g c =
     record {
       taken = all;
       short = taken_short g.G.Gate.told c.args.check.now c.read_some.new.check _ _ (c.reads.taken + c.in-Ok-read_some.count) g.met.G.Gate.within c.requires all;
-      room = c.reads.invariant.room;
+      room = c.next_buffer-buffer.ensures;
       failed = c.in-Ok-read_some.ensures.fails ∙ c.reads.invariant.failed;
       remembers = λ all m. c.in-Ok-read_some.ensures.remembers all (c.reads.invariant.remembers all m);
     }

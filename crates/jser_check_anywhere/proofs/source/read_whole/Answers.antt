@@ -17,7 +17,7 @@ reads-preserved g c =
       came = all;
       short = came_short c.read_some.new.checker _ _ _ all;
       gate = c.in-Ok-read_some.ensures.filter ∙ c.reads.invariant.gate;
-      room = c.reads.invariant.room;
+      room = c.next_buffer-buffer.ensures;
       failed = c.in-Ok-read_some.ensures.fails came.bytes came.all ∙ c.reads.invariant.failed;
       remembers = λ all m. c.in-Ok-read_some.ensures.remembers all (c.reads.invariant.remembers all m);
     }

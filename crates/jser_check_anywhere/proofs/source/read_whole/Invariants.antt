@@ -1,5 +1,6 @@
 use Rattle.std.proofs.Common.{◌≡◌, ◌≤◌, ◌+◌, ◌-◌, ℕ, List, [], vec_len}
 use Rattle.jser_grammar.specs.Caps.{most_bytes}
+use Rattle.jser_check.specs.Sources.{IsRoom}
 use Rattle.jser_check_anywhere.specs.SourceAnswers.{Came}
 use Rattle.jser_check_anywhere.proofs.source.read_whole.Given as goal
 
@@ -9,7 +10,7 @@ invariant-reads g l = record {
   came : Came l.checker [] (g.R.Source.to_come l.fn.source) (g.R.Source.to_come l.source) l.taken;
   short : l.taken ≤ most_bytes;
   gate : l.checker.reader.gate ≡ l.fn.checker.reader.gate;
-  room : vec_len l.buffer ≡ 57344;
+  room : IsRoom (vec_len l.buffer);
   failed : g.R.Source.has_failed l.source ≡ g.R.Source.has_failed l.fn.source;
   remembers : (all : List ℕ) → g.R.Source.remembers l.fn.source all → g.R.Source.remembers l.source all;
 }

@@ -77,7 +77,7 @@ pub returns-in-Ok-finish : goal.returns-in-Ok-finish
 returns-in-Ok-finish c =
     finish_walks c.args.bytes.now c.items.rest.now c.finish-in-Ok-finish.result c.items.reader.machine c.items.reader.tally c.finish-in-Ok-finish.new.self.machine c.items.survey
     c.finish.new.self (laws_of c.one_reading.ensures c.found.ensures) c.items.invariant (search rules) c.in-Ok-finish.ensures c.finish-in-Ok-finish.ensures.tells
-    c.finish-in-Ok-finish.ensures.fields
+    c.finish-in-Ok-finish.ensures.tokens
 
 pub returns-in-Err-finish : goal.returns-in-Err-finish
 returns-in-Err-finish c = memory_out c.args.bytes.now c.finish.new.self
