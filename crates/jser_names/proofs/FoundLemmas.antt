@@ -1,7 +1,6 @@
 -- What is found at the end of the bytes of a stream.
-use Rattle.std.proofs.Common.{◌≡◌, ◌⊎◌, inl, inr, ℕ, ◌+◌, ◌<◌, Bool, true, false, List, [], ◌∷◌, ◌++◌, length, take, drop, Result, Ok, Err, refl, sym, ◌∙◌, ap, subst, arith, append-nil, length-append}
+use Rattle.std.proofs.Common.{◌≡◌, inl, inr, ℕ, false, List, [], ◌++◌, length, take, drop, Result, Ok, Err, refl, sym, ◌∙◌, ap, subst, arith, append-nil, length-append}
 use Rattle.std.proofs.lemmas.List.{take-append-drop}
-use Rattle.jser_grammar.specs.Trees.{ContentTrees}
 use Rattle.jser_reading.specs.ByteLaws.{OneReading}
 use Rattle.jser_reading.specs.TokenBytes.{joined}
 use Rattle.jser_reading.specs.Labels.{Piece}
@@ -17,9 +16,10 @@ use Rattle.jser_reader.specs.ReaderStates.{FinishTells}
 use Rattle.jser_reader.specs.Tallies.{AreTotals}
 use Rattle.jser_reader.proofs.RefusalLemmas.{front_refused}
 use Rattle.jser_names.specs.Collecting.{LengthsAreMeasured, NamesAreCollected, begin_collecting, collected, measured}
-use Rattle.jser_names.specs.Finds.{EndsFound, Finds}
-use Rattle.jser_names.specs.Pieces.{PieceTells}
+use Rattle.jser_names.specs.Finds.{Finds}
+use Rattle.jser_names.specs.Found.{HasFound}
 use Rattle.jser_names.specs.Standing.{Names, Closes, Closed, IsAt, Stands}
+use Rattle.jser_names.specs.Takers.{EndCases, TookCases}
 use Rattle.jser_names.specs.declared.found.Found.{Found}
 use Rattle.jser_names.proofs.PieceLemmas.{stands_for}
 use Rattle.jser_names.proofs.StepLemmas.{close_closed, close_ended, closes_longest, head_some}
@@ -37,9 +37,9 @@ at_end front cut old mid (inr (inr g)) none closes =
 
 pub ends_found : NamesAreCollected → LengthsAreMeasured → OneReading → (r : Seen) (tally : Tally) (after : Seen) (totals : Totals) (old new : Names) (found : Found)
     → Closes old.is_open old new → FinishTells open_gate (Ok totals) r tally after → TellsTokens open_gate (Ok totals) r tally → found.names ≡ new.names
-    → found.totals ≡ totals → found.longest ≡ new.longest → EndsFound r tally old (Ok found)
-unfolding EndsFound FinishTells TellsTokens
-ends_found names lengths one r tally after totals old new found closes tells tokens names_are totals_are longest_is = λ taken h.
+    → found.totals ≡ totals → found.longest ≡ new.longest → (taken : List ℕ) → Stands taken r tally old → EndCases HasFound taken (Ok found)
+unfolding FinishTells TellsTokens
+ends_found names lengths one r tally after totals old new found closes tells tokens names_are totals_are longest_is taken h =
     let f = tokens h.front h.cut h.reads in
     let t = tells taken (stands_for taken r tally old h) in
     let c = at_end h.front h.cut old new h.at f.0 closes in
@@ -57,15 +57,12 @@ ends_found names lengths one r tally after totals old new found closes tells tok
       },
     )
 
-pub ends_stopped : (r : Seen) (tally : Tally) (after : Seen) (why : Stop) (x : Names) → FinishTells open_gate (Err why) r tally after → EndsFound r tally x (Err why)
-unfolding EndsFound FinishTells
-ends_stopped r tally after (stop.Refused refusal) x t = λ taken h. (t taken (stands_for taken r tally x h)).0
-ends_stopped r tally after stop.OutOfMemory x t = λ taken h. tt
-ends_stopped r tally after stop.Spent x t = λ taken h. t taken (stands_for taken r tally x h)
-
-pub ends_memory : (r : Seen) (tally : Tally) (x : Names) → EndsFound r tally x (Err stop.OutOfMemory)
-unfolding EndsFound
-ends_memory r tally x = λ taken h. tt
+pub ends_stopped : (r : Seen) (tally : Tally) (after : Seen) (why : Stop) (x : Names) → FinishTells open_gate (Err why) r tally after
+    → (taken : List ℕ) → Stands taken r tally x → EndCases HasFound taken (Err why)
+unfolding FinishTells
+ends_stopped r tally after (stop.Refused refusal) x t taken h = (t taken (stands_for taken r tally x h)).0
+ends_stopped r tally after stop.OutOfMemory x t taken h = tt
+ends_stopped r tally after stop.Spent x t taken h = t taken (stands_for taken r tally x h)
 
 -- ---- of bytes
 
@@ -84,23 +81,14 @@ nothing_taken r tally x st is = record {
   measures = sym (ap (λ y. y.longest) is);
 }
 
-of_cases : (bytes : List ℕ) (r : Seen) (tally : Tally) (x : Names) (result : Result Found Stop) → EndsFound r tally x result → Stands bytes r tally x → Finds bytes result
-unfolding EndsFound
-of_cases bytes r tally x (Ok found) e h = e bytes h
-of_cases bytes r tally x (Err (stop.Refused refusal)) e h = inr (e bytes h)
-of_cases bytes r tally x (Err stop.OutOfMemory) e h = tt
-of_cases bytes r tally x (Err stop.Spent) e h = e bytes h
+pub finds : (took : List ℕ → Type 0) (bytes : List ℕ) (result : Result Found Stop) → took bytes → ((taken : List ℕ) → took taken → EndCases HasFound taken result) → Finds bytes result
+finds took bytes (Ok found) t e = e bytes t
+finds took bytes (Err (stop.Refused refusal)) t e = inr (e bytes t)
+finds took bytes (Err stop.OutOfMemory) t e = tt
+finds took bytes (Err stop.Spent) t e = e bytes t
 
-pub finds : (bytes : List ℕ) (r : Seen) (tally : Tally) (x : Names) (new : Seen) (after : Tally) (y : Names) (result : Result Found Stop) → StandsIn open_gate [] [] r tally
-    → x ≡ record { names = []; left = 0; is_open = false; text = []; longest = 0 } → PieceTells bytes (Ok tt) r tally x new after y → EndsFound new after y result → Finds bytes result
-unfolding PieceTells
-finds bytes r tally x new after y result st is p e = of_cases bytes new after y result e (p [] (nothing_taken r tally x st is))
-
-pub finds_not : (bytes : List ℕ) (why : Stop) (r : Seen) (tally : Tally) (x : Names) (new : Seen) (after : Tally) (y : Names) → StandsIn open_gate [] [] r tally
-    → x ≡ record { names = []; left = 0; is_open = false; text = []; longest = 0 } → PieceTells bytes (Err why) r tally x new after y → Finds bytes (Err why)
-unfolding PieceTells
-finds_not bytes (stop.Refused refusal) r tally x new after y st is p =
-    let s = p [] (nothing_taken r tally x st is) in
+pub finds_not : (took : List ℕ → Type 0) (bytes : List ℕ) (why : Stop) → TookCases took [] bytes (Err why) → Finds bytes (Err why)
+finds_not took bytes (stop.Refused refusal) s =
     inl (front_refused open_gate (take s.0 bytes) (drop s.0 bytes) bytes refusal (sym (take-append-drop s.0 bytes)) s.2)
-finds_not bytes stop.OutOfMemory r tally x new after y st is p = tt
-finds_not bytes stop.Spent r tally x new after y st is p = p [] (nothing_taken r tally x st is)
+finds_not took bytes stop.OutOfMemory s = tt
+finds_not took bytes stop.Spent s = s

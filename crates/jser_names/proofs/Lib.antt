@@ -5,7 +5,6 @@ pub mod ItemLemmas
 pub mod LentLemmas
 pub mod CountLemmas
 pub mod MeasureLemmas
-pub mod NamedLemmas
 pub mod PieceLemmas
 pub mod SourceLemmas
 pub mod ReadOnLemmas

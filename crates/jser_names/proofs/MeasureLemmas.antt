@@ -1,11 +1,11 @@
 -- What is measured along the tokens of a list is the greatest of its array lengths.
-use Rattle.std.proofs.Common.{◌≡◌, ℕ, max, Bool, List, [], ◌∷◌, ◌++◌, refl, sym, ◌∙◌, ap, arith}
+use Rattle.std.proofs.Common.{◌≡◌, ℕ, max, Bool, List, [], ◌∷◌, refl, sym, ◌∙◌, ap, arith}
 use Rattle.jser_reading.specs.Tokens.{tokens_of}
-use Rattle.jser_reading.specs.Labels.{StreamToken, array_length_token, text_token, Position, class_name_at, interface_name_at, Label, Piece, piece}
+use Rattle.jser_reading.specs.Labels.{array_length_token, text_token, Position, class_name_at, interface_name_at, Piece, piece}
 use Rattle.jser_reading.specs.Moments.{Moment}
 use Rattle.jser_reading.proofs.Observed.{lengths_in}
 use Rattle.jser_reading.proofs.GatheredObserved.{lengths_observed}
-use Rattle.jser_names.specs.Collecting.{LengthsAreMeasured, greatest, measure, measured}
+use Rattle.jser_names.specs.Collecting.{LengthsAreMeasured, greatest, measured}
 
 -- a token that has no array length, or one
 text_none : (w : Position) (depth : ℕ) (moment : Moment) (long : Bool) (units : List ℕ) (ps : List Piece)

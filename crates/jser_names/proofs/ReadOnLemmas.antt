@@ -1,19 +1,13 @@
 -- How far a source is read whose bytes are refused.
 use Rattle.std.proofs.Common.{◌≡◌, ◌⊎◌, inl, inr, Bool, ℕ, ◌+◌, ◌-◌, ◌≤◌, List, [], ◌∷◌, ◌++◌, length, take, Option, Some, None, refl, sym, ap, subst, arith, length-append, length-take-le}
 use Rattle.std.proofs.KnownBytes.{Consumes-nil, Consumes-trans}
-use Rattle.std.specs.Global.{Global}
-use Rattle.std.specs.Prelude.{IfErr, IfSome, Ok, Err, Result, Vec}
+use Rattle.std.specs.Prelude.{IfSome}
 use Rattle.std.specs.Io.KnownBytes.{Consumes, IsAtEnd}
 use Rattle.jser_grammar.specs.Caps.{most_bytes}
-use Rattle.jser_reader.specs.declared.tally.Tally.{Tally}
-use Rattle.jser_reader.specs.Readers.{Seen}
-use Rattle.jser_names.specs.declared.found.Found.{Found}
 use Rattle.jser_names.specs.declared.source.Halt.{Halt}
 use Rattle.jser_names.specs.declared.source.NamesFault.{NamesFault}
 use Rattle.jser_names.specs.declared.source.NamesFault.TheVariants as fault
 use Rattle.jser_names.specs.Sources.{IfRefused, IsHalted, IsReadOn, Passed, Reads, TakesSome}
-use Rattle.jser_names.specs.Standing.{Names}
-use Rattle.jser_names.specs.Wholes.{Keeping}
 use Rattle.jser_names.proofs.SourceLemmas.{IsTold}
 
 -- ---- reads that keep nothing
@@ -106,7 +100,7 @@ reads_on had mid has halt (fault.Refused refusal) before after (inr failed) h g 
 reads_on had mid has halt fault.ReadFault before after is h g = tt
 reads_on had mid has halt fault.OutOfMemory before after is h g = tt
 
--- ---- the halts of reads that keep something
+-- ---- the halts of reads
 
 halted_from : (had mid has : Option (List ℕ)) (left count : ℕ) (buffer bytes : List ℕ) (halt : Halt) → length bytes + left ≡ most_bytes + 1 → Consumes had mid bytes
     → TakesSome left buffer mid has count → halt.left ≡ left - count → IsHalted had has halt
@@ -116,13 +110,9 @@ halted_from had mid has left count buffer bytes halt size off t left_is =
     (omega (arith, size, left_is, t.few, length-append bytes (take count buffer), length-take-le count buffer t.within))
     (Consumes-trans had mid has bytes (take count buffer) off t.off))
 
-pub halted_stop : (had mid has : Option (List ℕ)) (left count : ℕ) (buffer : List ℕ) (r : Seen) (tally : Tally) (x : Names) (halt : Halt) → Reads had mid left r tally x
+pub halted_stop : {S : Type 0} (took : List ℕ → S → Type 0) (had mid has : Option (List ℕ)) (left count : ℕ) (buffer : List ℕ) (x : S) (halt : Halt) → Reads took had mid left x
     → TakesSome left buffer mid has count → halt.left ≡ left - count → IsHalted had has halt
-halted_stop had mid has left count buffer r tally x halt h t is = halted_from had mid has left count buffer h.bytes halt h.size h.off t is
-
-pub halted_kept : (had mid has : Option (List ℕ)) (left count : ℕ) (buffer kept : List ℕ) (r : Seen) (tally : Tally) (halt : Halt) → Keeping had mid left r tally kept
-    → TakesSome left buffer mid has count → halt.left ≡ left - count → IsHalted had has halt
-halted_kept had mid has left count buffer kept r tally halt h t is = halted_from had mid has left count buffer kept halt h.size h.off t is
+halted_stop took had mid has left count buffer x halt h t is = halted_from had mid has left count buffer h.bytes halt h.size h.off t is
 
 ended_from : (had mid has : Option (List ℕ)) (left : ℕ) (buffer bytes : List ℕ) (halt : Halt) → Consumes had mid bytes → TakesSome left buffer mid has 0 → IsHalted had has halt
 ended_from had mid has left buffer bytes halt off t =
@@ -133,12 +123,6 @@ ended_from had mid has left buffer bytes halt off t =
     told None done = tt
     told (Some all) done = inl done
 
-pub halted_end : (had mid has : Option (List ℕ)) (left : ℕ) (buffer : List ℕ) (r : Seen) (tally : Tally) (x : Names) (result : Result Found Halt)
-    → Reads had mid left r tally x → TakesSome left buffer mid has 0 → IfErr result (λ halt. IsHalted had has halt)
-halted_end had mid has left buffer r tally x (Ok found) h t = tt
-halted_end had mid has left buffer r tally x (Err halt) h t = ended_from had mid has left buffer h.bytes halt h.off t
-
-pub kept_end : (had mid has : Option (List ℕ)) (left : ℕ) (buffer kept : List ℕ) (r : Seen) (tally : Tally) (result : Result (Vec ℕ Global) Halt)
-    → Keeping had mid left r tally kept → TakesSome left buffer mid has 0 → IfErr result (λ halt. IsHalted had has halt)
-kept_end had mid has left buffer kept r tally (Ok whole) h t = tt
-kept_end had mid has left buffer kept r tally (Err halt) h t = ended_from had mid has left buffer kept halt h.off t
+pub halted_end : {S : Type 0} (took : List ℕ → S → Type 0) (had mid has : Option (List ℕ)) (left : ℕ) (buffer : List ℕ) (x : S) (halt : Halt) → Reads took had mid left x
+    → TakesSome left buffer mid has 0 → IsHalted had has halt
+halted_end took had mid has left buffer x halt h t = ended_from had mid has left buffer h.bytes halt h.off t

@@ -1,73 +1,58 @@
 -- The reads of a source, one after another, and its end.
-use Rattle.std.proofs.Common.{◌≡◌, ◌≢◌, ◌⊎◌, inl, inr, ℕ, ◌+◌, ◌-◌, ◌<◌, Bool, true, false, List, [], ◌++◌, length, take, drop, Option, Some, None, Result, Ok, Err, refl, sym, ◌∙◌, ap, subst, arith, append_assoc, append-nil, length-append, length-take-le}
+use Rattle.std.proofs.Common.{◌≡◌, ◌⊎◌, inl, inr, ℕ, ◌+◌, ◌-◌, ◌<◌, ◌≤◌, Bool, true, List, [], ◌++◌, length, take, drop, Option, Some, None, Err, refl, sym, ◌∙◌, ap, subst, arith, append_assoc, append-nil, length-append, length-take-le}
 use Rattle.std.proofs.KnownBytes.{Consumes-nil, Consumes-trans}
 use Rattle.std.proofs.lemmas.List.{take-append-drop}
-use Rattle.std.specs.Prelude.{IfSome, IfOk, IfErr}
+use Rattle.std.specs.Global.{Global}
+use Rattle.std.specs.Prelude.{IfSome, Vec}
 use Rattle.std.specs.Io.KnownBytes.{Consumes, IsAtEnd}
 use Rattle.jser_grammar.specs.Caps.{most_bytes}
 use Rattle.jser_reader.specs.declared.Refusal.{Refusal}
 use Rattle.jser_reader.specs.declared.Stop.{Stop}
 use Rattle.jser_reader.specs.declared.Stop.TheVariants as stop
-use Rattle.jser_reader.specs.declared.tally.Tally.{Tally}
+use Rattle.jser_reader.specs.declared.Totals.{Totals}
+use Rattle.jser_reader.specs.Answers.{PassesWith}
 use Rattle.jser_reader.specs.Gates.{open_gate}
-use Rattle.jser_reader.specs.ItemsTold.{StandsIn}
-use Rattle.jser_reader.specs.Readers.{Seen}
-use Rattle.jser_reader.specs.Streams.{AreRefused, AreTruncated}
+use Rattle.jser_reader.specs.Streams.{AreRefused}
 use Rattle.jser_shown.specs.Counting.{NameTally}
-use Rattle.jser_names.specs.Pieces.{PieceTells}
-use Rattle.jser_names.specs.Standing.{Names}
 use Rattle.jser_reader.proofs.RefusalLemmas.{front_refused}
-use Rattle.jser_names.specs.Finds.{EndsFound}
 use Rattle.jser_names.specs.Found.{HasFound}
-use Rattle.jser_names.specs.Sources.{HasNames, IsRefused, IfRefused, FailsWith, TakesSome, Ends, EndsWith, Reads}
+use Rattle.jser_names.specs.Named.{IsNamed}
+use Rattle.jser_names.specs.Sources.{HasNames, IsRefused, IfRefused, FailsWith, TakesSome, Ends, Reads}
+use Rattle.jser_names.specs.Takers.{EndCases, TookCases}
+use Rattle.jser_names.specs.Wholes.{IsStream}
 use Rattle.jser_names.specs.declared.found.Found.{Found}
-use Rattle.jser_names.specs.declared.source.Halt.{Halt}
 use Rattle.jser_names.specs.declared.source.NamesFault.{NamesFault}
 use Rattle.jser_names.specs.declared.source.NamesFault.TheVariants as fault
-use Rattle.jser_names.proofs.FoundLemmas.{nothing_taken}
 
--- ---- what is found, and its names
+-- ---- what is found
 
 pub of_found : (told : Option (List ℕ)) (found : Found) (names : List NameTally) → names ≡ found.names → IfSome told (λ bytes. HasFound bytes found)
     → IfSome told (λ bytes. HasNames bytes names)
 of_found None found names is h = tt
 of_found (Some bytes) found names is h = record { list = h.0; passes = h.1.passes; names_are = is ∙ h.1.names_are }
 
-pub ends_so : (r : Seen) (tally : Tally) (x : Names) (found : Found) → EndsFound r tally x (Ok found) → EndsWith r tally x (Ok found)
-unfolding EndsWith EndsFound
-ends_so r tally x found e = λ taken h. e taken h
+pub of_kept : (told : Option (List ℕ)) (whole : Vec ℕ Global) (totals : Totals) → IfSome told (λ bytes. (whole.items ≡ bytes) × PassesWith open_gate bytes totals)
+    → IfSome told (λ bytes. IsStream bytes whole.items)
+of_kept None whole totals h = tt
+of_kept (Some bytes) whole totals h = record { is = h.0; list = h.1.0; passes = h.1.1 }
 
-pub ends_refused : (r : Seen) (tally : Tally) (why : Stop) (x : Names) (halt : Halt) → EndsFound r tally x (Err why) → Ends why halt.fault → EndsWith r tally x (Err halt)
-unfolding EndsWith EndsFound
-ends_refused r tally (stop.Refused refusal) x halt e is = λ taken h.
-    subst (λ why. IfRefused (AreTruncated open_gate taken) why × (why ≢ fault.ReadFault)) (sym is) (e taken h, λ same. absurd (cc))
-ends_refused r tally stop.OutOfMemory x halt e is = λ taken h.
-    subst (λ why. IfRefused (AreTruncated open_gate taken) why × (why ≢ fault.ReadFault)) (sym is) (tt, λ same. absurd (cc))
-ends_refused r tally stop.Spent x halt e is = λ taken h. absurd (e taken h)
+pub of_named : (told : Option (List ℕ)) (whole : Vec ℕ Global) (found : Found) → IfSome told (λ bytes. (whole.items ≡ bytes) × HasFound bytes found)
+    → IfSome told (λ bytes. IsNamed bytes (record { bytes = whole; names = found.names }))
+of_named None whole found h = tt
+of_named (Some bytes) whole found h = (h.0, of_found (Some bytes) found found.names refl h.1)
 
 -- ---- reads
 
-pub reads_none : (had : Option (List ℕ)) (r : Seen) (tally : Tally) (x : Names) → StandsIn open_gate [] [] r tally
-    → x ≡ record { names = []; left = 0; is_open = false; text = []; longest = 0 } → Reads had had (most_bytes + 1) r tally x
-reads_none had r tally x st is = record {
-  bytes = [];
-  size = refl;
-  off = Consumes-nil had;
-  stands = nothing_taken r tally x st is;
-}
+pub reads_none : {S : Type 0} (took : List ℕ → S → Type 0) (had : Option (List ℕ)) (x : S) → took [] x → Reads took had had (most_bytes + 1) x
+reads_none took had x st = record { bytes = []; size = refl; off = Consumes-nil had; stands = st }
 
-pub reads_some : (had has : Option (List ℕ)) (left : ℕ) (r : Seen) (tally : Tally) (x : Names) → Reads had has left r tally x → 0 < left
-reads_some had has left r tally x h =
-    let a = h.size in
-    let b = h.stands.reads.within in
-    let c = ap length h.stands.split in
-    omega arith
+pub reads_some : {S : Type 0} (took : List ℕ → S → Type 0) (within : (bytes : List ℕ) (x : S) → took bytes x → length bytes ≤ most_bytes) (had has : Option (List ℕ)) (left : ℕ)
+    (x : S) → Reads took had has left x → 0 < left
+reads_some took within had has left x h = let a = h.size in let b = within h.bytes x h.stands in omega arith
 
-pub reads_more : (had mid has : Option (List ℕ)) (left count : ℕ) (buffer piece : List ℕ) (r : Seen) (tally : Tally) (x : Names) (new : Seen) (after : Tally) (y : Names)
-    → Reads had mid left r tally x → TakesSome left buffer mid has count → piece ≡ take count buffer → PieceTells piece (Ok tt) r tally x new after y
-    → Reads had has (left - count) new after y
-unfolding PieceTells
-reads_more had mid has left count buffer piece r tally x new after y h t is p =
+pub reads_more : {S : Type 0} (took : List ℕ → S → Type 0) (had mid has : Option (List ℕ)) (left count : ℕ) (buffer piece : List ℕ) (x y : S) → Reads took had mid left x
+    → TakesSome left buffer mid has count → piece ≡ take count buffer → ((taken : List ℕ) → took taken x → took (taken ++ piece) y) → Reads took had has (left - count) y
+reads_more took had mid has left count buffer piece x y h t is p =
     let size : length piece ≡ count = ap length is ∙ length-take-le count buffer t.within in
     let both = length-append h.bytes piece in
     let a = h.size in
@@ -103,16 +88,15 @@ pub failed_refused : (had : Option (List ℕ)) (why : NamesFault) → why ≡ fa
 failed_refused None why is = tt
 failed_refused (Some bytes) why is = subst (IfRefused (IsRefused bytes)) (sym is) tt
 
-pub reads_stop : (had mid has : Option (List ℕ)) (left count : ℕ) (buffer piece : List ℕ) (why : Stop) (fault_told : NamesFault) (r : Seen) (tally : Tally) (x : Names)
-    (new : Seen) (after : Tally) (y : Names) → Reads had mid left r tally x → TakesSome left buffer mid has count → piece ≡ take count buffer
-    → PieceTells piece (Err why) r tally x new after y → Ends why fault_told → IfSome had (λ bytes. IfRefused (IsRefused bytes) fault_told)
-unfolding PieceTells
-reads_stop had mid has left count buffer piece (stop.Refused refusal) told r tally x new after y h t is p e =
+pub reads_stop : {S : Type 0} (took : List ℕ → S → Type 0) (had mid has : Option (List ℕ)) (left count : ℕ) (buffer piece : List ℕ) (why : Stop) (fault_told : NamesFault) (x y : S)
+    → Reads took had mid left x → TakesSome left buffer mid has count → piece ≡ take count buffer
+    → ((taken : List ℕ) → took taken x → TookCases (λ bytes. took bytes y) taken piece (Err why)) → Ends why fault_told → IfSome had (λ bytes. IfRefused (IsRefused bytes) fault_told)
+reads_stop took had mid has left count buffer piece (stop.Refused refusal) told x y h t is p e =
     let s = p h.bytes h.stands in
     refused_as had refusal told e
     (refused_in had has h.bytes piece refusal s.0 (Consumes-trans had mid has h.bytes piece h.off (subst (Consumes mid has) (sym is) t.off)) s.2)
-reads_stop had mid has left count buffer piece stop.OutOfMemory told r tally x new after y h t is p e = none_refused had told e
-reads_stop had mid has left count buffer piece stop.Spent told r tally x new after y h t is p e = none_refused had told e
+reads_stop took had mid has left count buffer piece stop.OutOfMemory told x y h t is p e = none_refused had told e
+reads_stop took had mid has left count buffer piece stop.Spent told x y h t is p e = none_refused had told e
 
 -- a fault of the bytes is none of the source
 pub stop_fails : (why : Stop) (told : NamesFault) (before after : Bool) → Ends why told → after ≡ before → FailsWith told before after
@@ -131,42 +115,24 @@ pub at_all : (had : Option (List ℕ)) (bytes : List ℕ) (P : List ℕ → Type
 at_all None bytes P same p = tt
 at_all (Some all) bytes P same p = subst P same p
 
-ended : (had mid has : Option (List ℕ)) (left : ℕ) (buffer : List ℕ) (r : Seen) (tally : Tally) (x : Names) → (h : Reads had mid left r tally x)
+ended : {S : Type 0} (took : List ℕ → S → Type 0) (had mid has : Option (List ℕ)) (left : ℕ) (buffer : List ℕ) (x : S) → (h : Reads took had mid left x)
     → TakesSome left buffer mid has 0 → IfSome had (λ all. h.bytes ≡ all)
-ended had mid has left buffer r tally x h t =
+ended took had mid has left buffer x h t =
     whole_read had has h.bytes (subst (Consumes had has) (append-nil h.bytes) (Consumes-trans had mid has h.bytes [] h.off t.off)) (t.end refl)
 
-pub end_accepts : (had mid has : Option (List ℕ)) (left : ℕ) (buffer : List ℕ) (r : Seen) (tally : Tally) (x : Names) (result : Result Found Halt)
-    → Reads had mid left r tally x → TakesSome left buffer mid has 0 → EndsWith r tally x result
-    → IfOk result (λ found. IfSome had (λ bytes. HasFound bytes found))
-unfolding EndsWith
-end_accepts had mid has left buffer r tally x (Ok found) h t e =
-    at_all had h.bytes (λ bytes. HasFound bytes found) (ended had mid has left buffer r tally x h t) (e h.bytes h.stands)
-end_accepts had mid has left buffer r tally x (Err halt) h t e = tt
+pub end_accepts : {S F : Type 0} (took : List ℕ → S → Type 0) (finds : List ℕ → F → Type 0) (had mid has : Option (List ℕ)) (left : ℕ) (buffer : List ℕ) (x : S) (found : F)
+    → Reads took had mid left x → TakesSome left buffer mid has 0 → ((taken : List ℕ) → took taken x → finds taken found) → IfSome had (λ bytes. finds bytes found)
+end_accepts took finds had mid has left buffer x found h t e =
+    at_all had h.bytes (λ bytes. finds bytes found) (ended took had mid has left buffer x h t) (e h.bytes h.stands)
 
-pub truncated : (bytes : List ℕ) (why : NamesFault) → IfRefused (AreTruncated open_gate bytes) why → IfRefused (IsRefused bytes) why
-truncated bytes (fault.Refused refusal) h = inr h
-truncated bytes fault.ReadFault h = tt
-truncated bytes fault.OutOfMemory h = tt
-
-pub end_refuses : (had mid has : Option (List ℕ)) (left : ℕ) (buffer : List ℕ) (r : Seen) (tally : Tally) (x : Names) (result : Result Found Halt)
-    → Reads had mid left r tally x → TakesSome left buffer mid has 0 → EndsWith r tally x result
-    → IfErr result (λ halt. IfSome had (λ bytes. IfRefused (IsRefused bytes) halt.fault))
-unfolding EndsWith
-end_refuses had mid has left buffer r tally x (Ok found) h t e = tt
-end_refuses had mid has left buffer r tally x (Err halt) h t e =
-    at_all had h.bytes (λ bytes. IfRefused (IsRefused bytes) halt.fault) (ended had mid has left buffer r tally x h t) (truncated h.bytes halt.fault (e h.bytes h.stands).0)
-
-pub not_read : (why : NamesFault) (before after : Bool) → why ≢ fault.ReadFault → after ≡ before → FailsWith why before after
-not_read (fault.Refused refusal) before after other same = same
-not_read fault.ReadFault before after other same = absurd (other refl)
-not_read fault.OutOfMemory before after other same = same
-
-pub end_fails : (had mid has : Option (List ℕ)) (left : ℕ) (r : Seen) (tally : Tally) (x : Names) (result : Result Found Halt) (before after : Bool)
-    → Reads had mid left r tally x → EndsWith r tally x result → after ≡ before → IfErr result (λ halt. FailsWith halt.fault before after)
-unfolding EndsWith
-end_fails had mid has left r tally x (Ok found) before after h e same = tt
-end_fails had mid has left r tally x (Err halt) before after h e same = not_read halt.fault before after (e h.bytes h.stands).1 same
+pub end_refuses : {S F : Type 0} (took : List ℕ → S → Type 0) (finds : List ℕ → F → Type 0) (had mid has : Option (List ℕ)) (left : ℕ) (buffer : List ℕ) (x : S) (why : Stop)
+    (fault_told : NamesFault) → Reads took had mid left x → TakesSome left buffer mid has 0 → ((taken : List ℕ) → took taken x → EndCases finds taken (Err why)) → Ends why fault_told
+    → IfSome had (λ bytes. IfRefused (IsRefused bytes) fault_told)
+end_refuses took finds had mid has left buffer x (stop.Refused refusal) told h t e is =
+    refused_as had refusal told is
+    (at_all had h.bytes (λ bytes. IsRefused bytes refusal) (ended took had mid has left buffer x h t) (inr (e h.bytes h.stands)))
+end_refuses took finds had mid has left buffer x stop.OutOfMemory told h t e is = none_refused had told is
+end_refuses took finds had mid has left buffer x stop.Spent told h t e is = none_refused had told is
 
 -- ---- what is told
 

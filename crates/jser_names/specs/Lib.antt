@@ -7,3 +7,5 @@ pub mod Pieces
 pub mod Sources
 pub mod Standing
 pub mod Wholes
+pub mod Takers
+pub mod TakenSizes

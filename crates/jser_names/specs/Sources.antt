@@ -1,5 +1,5 @@
 -- The names of the stream of a source, and why there are none.
-use Rattle.std.specs.Prelude.{ℕ, ◌≡◌, ◌≢◌, ◌+◌, ◌≤◌, ◌⊎◌, Bool, true, List, [], length, take, IfSome, Option, Result, Ok, Err}
+use Rattle.std.specs.Prelude.{ℕ, ◌≡◌, ◌+◌, ◌≤◌, ◌⊎◌, Bool, true, List, [], length, take, IfSome, Option}
 use Rattle.std.specs.Io.KnownBytes.{Consumes, IsAtEnd}
 use Rattle.jser_grammar.specs.Caps.{most_bytes}
 use Rattle.jser_grammar.specs.CheckedNames.{checked_names}
@@ -8,15 +8,9 @@ use Rattle.jser_verdict.specs.Passing.{Passes}
 use Rattle.jser_reader.specs.declared.Refusal.{Refusal}
 use Rattle.jser_reader.specs.declared.Stop.{Stop}
 use Rattle.jser_reader.specs.declared.Stop.TheVariants as stop
-use Rattle.jser_reader.specs.declared.tally.Tally.{Tally}
 use Rattle.jser_reader.specs.Gates.{open_gate}
-use Rattle.jser_reader.specs.Readers.{Seen}
-use Rattle.jser_reader.specs.Streams.{AreTruncated}
 use Rattle.jser_reader.specs.Answers.{IsRightOf}
 use Rattle.jser_shown.specs.Counting.{NameTally, tally_all}
-use Rattle.jser_names.specs.Found.{HasFound}
-use Rattle.jser_names.specs.Standing.{Names, Stands}
-use Rattle.jser_names.specs.declared.found.Found.{Found}
 use Rattle.jser_names.specs.declared.source.Halt.{Halt}
 use Rattle.jser_names.specs.declared.source.NamesFault.{NamesFault}
 use Rattle.jser_names.specs.declared.source.NamesFault.TheVariants as fault
@@ -72,17 +66,9 @@ Ends (stop.Refused refusal) why = why ≡ fault.Refused refusal
 Ends stop.OutOfMemory why = why ≡ fault.OutOfMemory
 Ends stop.Spent why = why ≡ fault.OutOfMemory
 
--- the end: what was found, or the bytes end too early
-abbrev pub EndCases : (taken : List ℕ) → Result Found Halt → Type 0
-EndCases taken (Ok found) = HasFound taken found
-EndCases taken (Err halt) = IfRefused (AreTruncated open_gate taken) halt.fault × (halt.fault ≢ fault.ReadFault)
-
-unfoldable pub EndsWith : Seen → Tally → Names → Result Found Halt → Type 0
-EndsWith r tally x result = (taken : List ℕ) → Stands taken r tally x → EndCases taken result
-
 -- what came off a source was taken, and so many bytes more may come
-pub record Reads (had has : Option (List ℕ)) (left : ℕ) (r : Seen) (tally : Tally) (x : Names) : Type 0 where
+pub record Reads {S : Type 0} (took : List ℕ → S → Type 0) (had has : Option (List ℕ)) (left : ℕ) (x : S) : Type 0 where
   pub bytes : List ℕ
   pub size : length bytes + left ≡ most_bytes + 1
   pub off : Consumes had has bytes
-  pub stands : Stands bytes r tally x
+  pub stands : took bytes x

@@ -1,11 +1,14 @@
 //! What is found along the bytes of a stream: its names, its counts and the length of its longest array.
-ghost use Rattle.std.specs.Prelude.{◌≡◌};
-ghost use Rattle.jser_names.specs.Finds.{EndsFound, Finds};
+ghost use Rattle.std.specs.Prelude.{◌≡◌, []};
+ghost use Rattle.jser_names.specs.Finds.{Finds};
+ghost use Rattle.jser_names.specs.Found.{HasFound};
+ghost use Rattle.jser_names.specs.Standing.{Stands};
 
 use crate::collector::Collector;
 use crate::counts::NameCounts;
 use crate::laws::{lengths_are_measured, names_are_collected};
 use crate::piece::take_piece;
+use crate::taker::Taker;
 use jser_reader::{OpenGate, Reader, Stop, Totals};
 use jser_reading::laws::one_reading;
 use std::alloc::Global;
@@ -29,37 +32,70 @@ pub struct Found {
 /// # Errors
 ///
 /// `Refused` where the bytes are no such stream, with the first fault. `OutOfMemory` where memory ran out. Never `Spent`.
-#[tactic(auto, using(crate::proofs::FoundLemmas::finds, crate::proofs::FoundLemmas::finds_not))]
 pub fn names_in(alloc: Global, bytes: &[u8]) -> Result<Found, Stop>
     ensures { Finds bytes.now result }
 {
-    let mut reader = Reader::new(alloc, OpenGate);
-    let mut names = Collector::new(alloc);
-    match take_piece(&mut reader, &mut names, bytes) {
-        Ok(()) => end(reader, names),
+    let mut naming = Naming::new(alloc);
+    match naming.take(bytes) {
+        Ok(()) => naming.end(),
         Err(stop) => Err(stop),
     }
 }
 
-/// The end of the bytes: what was found, if they are a stream.
-#[tactic(auto, using(crate::proofs::FoundLemmas::ends_found, crate::proofs::FoundLemmas::ends_stopped, crate::proofs::FoundLemmas::ends_memory))]
-pub(crate) fn end(reader: Reader<OpenGate>, names: Collector) -> Result<Found, Stop>
-    ensures { EndsFound reader.machine reader.tally names result }
-{
-    names_are_collected();
-    lengths_are_measured();
-    one_reading();
-    let mut reader = reader;
-    let mut names = names;
-    if names.close().is_err() {
-        return Err(Stop::OutOfMemory);
+/// The names of a stream that comes in pieces, with its reader.
+#[derive(Drop)]
+pub(crate) struct Naming {
+    reader: Reader<OpenGate>,
+    names: Collector,
+}
+
+impl Naming {
+    /// No names of a stream of which nothing was taken. Takes no memory.
+    #[tactic(auto, using(crate::proofs::FoundLemmas::nothing_taken))]
+    pub(crate) fn new(alloc: Global) -> Naming
+        ensures { Stands [] result.reader.machine result.reader.tally result.names }
+    {
+        Naming {
+            reader: Reader::new(alloc, OpenGate),
+            names: Collector::new(alloc),
+        }
     }
-    match reader.finish() {
-        Ok(totals) => Ok(Found {
-            longest: names.longest(),
-            names: names.into_names(),
-            totals,
-        }),
-        Err(why) => Err(why),
+}
+
+impl Taker for Naming {
+    type Found = Found;
+
+    ghost took = { λ taken naming. Stands taken naming.reader.machine naming.reader.tally naming.names };
+
+    ghost finds = { HasFound };
+
+    #[tactic(auto, unfolding(crate::specs::Pieces::PieceTells))]
+    fn take(&mut self, piece: &[u8]) -> Result<(), Stop> {
+        take_piece(&mut self.reader, &mut self.names, piece)
     }
+
+    fn end(self) -> Result<Found, Stop> {
+        names_are_collected();
+        lengths_are_measured();
+        one_reading();
+        let Naming {
+            mut reader,
+            mut names,
+        } = self;
+        if names.close().is_err() {
+            return Err(Stop::OutOfMemory);
+        }
+        match reader.finish() {
+            Ok(totals) => Ok(Found {
+                longest: names.longest(),
+                names: names.into_names(),
+                totals,
+            }),
+            Err(why) => Err(why),
+        }
+    }
+
+    ghost use Rattle.jser_names.specs.TakenSizes.{named_within};
+
+    ghost within = { λ bytes naming st. named_within bytes naming.reader.machine naming.reader.tally naming.names st };
 }

@@ -9,6 +9,7 @@ pub mod laws;
 mod named;
 mod piece;
 mod source;
+mod taker;
 mod whole;
 
 pub use counts::{NameCount, NameCounts};

@@ -1,16 +1,13 @@
 //! The bytes of a source with their names, if they are a stream. It is read once; nothing is kept of one that is refused.
-ghost use Rattle.std.specs.Prelude.{◌≡◌, ◌<◌, length, IfOk, IfErr, IfSome, OnOk};
-ghost use Rattle.jser_names.specs.Named.{IsNamed, KeepsWith};
-ghost use Rattle.jser_names.specs.Sources.{FailsWith, IfRefused, IsHalted, IsReadOn, IsRefused};
+ghost use Rattle.std.specs.Prelude.{◌≡◌, IfOk, IfErr, IfSome, OnOk};
+ghost use Rattle.jser_names.specs.Named.{IsNamed};
+ghost use Rattle.jser_names.specs.Sources.{FailsWith, IfRefused, IsReadOn, IsRefused};
 
-use crate::collector::Collector;
 use crate::counts::NameCounts;
-use crate::found::Found;
-use crate::piece::take_piece;
-use crate::source::{Halt, NamesFault, finish, halted, new_buffer, read_some, told};
-use jser_grammar::caps::MOST_BYTES;
+use crate::found::{Found, Naming};
+use crate::source::{NamesFault, read_all};
+use crate::whole::Keeping;
 use jser_prim::Source;
-use jser_reader::{OpenGate, Reader};
 use std::alloc::Global;
 
 /// The bytes of a stream, and its checked names.
@@ -29,7 +26,7 @@ pub struct NamedStream {
 /// # Errors
 ///
 /// `NamesFault`, with the reason. A failed read is told whatever came before it, unless memory ran out.
-#[tactic(auto, using(crate::proofs::SourceLemmas::none_refused, crate::proofs::SourceLemmas::told_refused, crate::proofs::SourceLemmas::told_fails, crate::proofs::ReadOnLemmas::none_read, crate::proofs::ReadOnLemmas::reads_on))]
+#[tactic(auto, using(crate::proofs::SourceLemmas::of_named))]
 pub fn bytes_and_names_of<R: Source>(
     alloc: Global,
     source: &mut R,
@@ -40,68 +37,11 @@ pub fn bytes_and_names_of<R: Source>(
     ensures fault { IfErr result (λ why. FailsWith why (R.has_failed source.old) (R.has_failed source.new)) }
     ensures read { IfErr result (λ why. IsReadOn (R.to_come source.old) (R.to_come source.new) why) }
 {
-    let Ok(mut buffer) = new_buffer(alloc) else {
-        return Err(NamesFault::OutOfMemory);
-    };
-    match read_named(alloc, source, &mut buffer) {
-        Ok(named) => Ok(named),
-        Err(halt) => Err(told(source, &mut buffer, halt)),
-    }
-}
-
-/// Reads the source to its end, keeps its bytes and counts the names.
-#[tactic(auto, using(crate::proofs::NamedLemmas::naming_none, crate::proofs::SourceLemmas::stop_fails, crate::proofs::SourceLemmas::failed_refused, crate::proofs::SourceLemmas::none_refused, crate::proofs::ReadOnLemmas::halted_failed))]
-fn read_named<R: Source>(
-    alloc: Global,
-    source: &mut R,
-    buffer: &mut [u8],
-) -> Result<NamedStream, Halt>
-    requires { 0 < length buffer.old }
-    ensures accepted { IfOk result (λ named. IfSome (R.to_come source.old) (λ bytes. IsNamed bytes named)) }
-    ensures refused { IfErr result (λ halt. IfSome (R.to_come source.old) (λ bytes. IfRefused (IsRefused bytes) halt.fault)) }
-    ensures unbroken { OnOk result (R.has_failed source.new ≡ R.has_failed source.old) }
-    ensures fault { IfErr result (λ halt. FailsWith halt.fault (R.has_failed source.old) (R.has_failed source.new)) }
-    ensures read { IfErr result (λ halt. IsHalted (R.to_come source.old) (R.to_come source.new) halt) }
-    ensures size { length buffer.new ≡ length buffer.old }
-{
-    let mut reader = Reader::new(alloc, OpenGate);
-    let mut names = Collector::new(alloc);
-    let mut bytes = Vec::new(alloc);
-    let mut left: u64 = MOST_BYTES + 1;
-    'reads: loop {
-        match read_some(source, buffer, left) {
-            Err(_) => {
-                return Err(Halt {
-                    fault: NamesFault::ReadFault,
-                    left: 0,
-                });
-            }
-            Ok(0) => return with_bytes(finish(reader, names), bytes),
-            Ok(count) => {
-                let (piece, _) = buffer.split_at(count);
-                match take_piece(&mut reader, &mut names, piece) {
-                    Ok(()) => match bytes.extend_from_slice(piece) {
-                        Ok(()) => left -= count as u64,
-                        Err(_) => {
-                            return Err(Halt {
-                                fault: NamesFault::OutOfMemory,
-                                left: 0,
-                            });
-                        }
-                    },
-                    Err(stop) => return Err(halted(stop, left - count as u64)),
-                }
-            }
+    match read_all(alloc, source, Keeping::of(alloc, Naming::new(alloc))) {
+        Ok((bytes, found)) => {
+            let Found { names, .. } = found;
+            Ok(NamedStream { bytes, names })
         }
-    }
-}
-
-/// The names of a stream with its bytes.
-fn with_bytes(found: Result<Found, Halt>, bytes: Vec<u8>) -> Result<NamedStream, Halt>
-    ensures { KeepsWith bytes.items found result }
-{
-    match found {
-        Ok(Found { names, .. }) => Ok(NamedStream { bytes, names }),
-        Err(halt) => Err(halt),
+        Err(why) => Err(why),
     }
 }

@@ -1,16 +1,15 @@
 //! The names of the stream of a source, which is read in pieces; and what else is found along it.
-ghost use Rattle.std.specs.Prelude.{◌≡◌, ◌⊎◌, ◌<◌, ◌≤◌, length, vec_len, take, true, IfOk, IfErr, IfSome, OnOk, OnErr};
+ghost use Rattle.std.specs.Prelude.{◌≡◌, ◌⊎◌, ◌<◌, ◌≤◌, [], length, vec_len, take, true, IfOk, IfErr, IfSome, OnOk, OnErr};
 ghost use Rattle.std.specs.Io.KnownBytes.{Consumes, IsAtEnd};
 ghost use Rattle.jser_names.specs.Found.{HasFound};
-ghost use Rattle.jser_names.specs.Sources.{Ends, EndsWith, FailsWith, HasNames, IfRefused, IsHalted, IsReadOn, IsRefused, Passed, TakesSome};
+ghost use Rattle.jser_names.specs.Sources.{Ends, FailsWith, HasNames, IfRefused, IsHalted, IsReadOn, IsRefused, Passed, TakesSome};
 
-use crate::collector::Collector;
 use crate::counts::NameCounts;
-use crate::found::{Found, end};
-use crate::piece::take_piece;
+use crate::found::{Found, Naming};
+use crate::taker::Taker;
 use jser_grammar::caps::MOST_BYTES;
 use jser_prim::{Failed, Source};
-use jser_reader::{OpenGate, Reader, Refusal, Stop};
+use jser_reader::{Refusal, Stop};
 use std::alloc::{AllocError, Global};
 
 /// How many bytes a read asks for at most: 14 pages of 4 KiB, so that each read of a file begins at a page.
@@ -63,9 +62,29 @@ pub fn names_of<R: Source>(alloc: Global, source: &mut R) -> Result<NameCounts, 
 /// # Errors
 ///
 /// As `names_of`.
-#[tactic(auto, using(crate::proofs::SourceLemmas::none_refused, crate::proofs::SourceLemmas::told_refused, crate::proofs::SourceLemmas::told_fails, crate::proofs::ReadOnLemmas::none_read, crate::proofs::ReadOnLemmas::reads_on))]
 pub fn found_of<R: Source>(alloc: Global, source: &mut R) -> Result<Found, NamesFault>
     ensures accepted { IfOk result (λ found. IfSome (R.to_come source.old) (λ bytes. HasFound bytes found)) }
+    ensures refused { IfErr result (λ why. IfSome (R.to_come source.old) (λ bytes. IfRefused (IsRefused bytes) why)) }
+    ensures unbroken { OnOk result (R.has_failed source.new ≡ R.has_failed source.old) }
+    ensures fault { IfErr result (λ why. FailsWith why (R.has_failed source.old) (R.has_failed source.new)) }
+    ensures read { IfErr result (λ why. IsReadOn (R.to_come source.old) (R.to_come source.new) why) }
+{
+    read_all(alloc, source, Naming::new(alloc))
+}
+
+/// What one that takes a stream has at the end of a source. The source is read as `names_of` reads it.
+///
+/// # Errors
+///
+/// As `names_of`.
+#[tactic(auto, using(crate::proofs::SourceLemmas::none_refused, crate::proofs::SourceLemmas::told_refused, crate::proofs::SourceLemmas::told_fails, crate::proofs::ReadOnLemmas::none_read, crate::proofs::ReadOnLemmas::reads_on))]
+pub(crate) fn read_all<R: Source, T: Taker + Drop>(
+    alloc: Global,
+    source: &mut R,
+    taker: T,
+) -> Result<T::Found, NamesFault>
+    requires { T.took [] taker }
+    ensures accepted { IfOk result (λ found. IfSome (R.to_come source.old) (λ bytes. T.finds bytes found)) }
     ensures refused { IfErr result (λ why. IfSome (R.to_come source.old) (λ bytes. IfRefused (IsRefused bytes) why)) }
     ensures unbroken { OnOk result (R.has_failed source.new ≡ R.has_failed source.old) }
     ensures fault { IfErr result (λ why. FailsWith why (R.has_failed source.old) (R.has_failed source.new)) }
@@ -74,21 +93,21 @@ pub fn found_of<R: Source>(alloc: Global, source: &mut R) -> Result<Found, Names
     let Ok(mut buffer) = new_buffer(alloc) else {
         return Err(NamesFault::OutOfMemory);
     };
-    match read_found(alloc, source, &mut buffer) {
+    match take_all(source, &mut buffer, taker) {
         Ok(found) => Ok(found),
         Err(halt) => Err(told(source, &mut buffer, halt)),
     }
 }
 
 /// Room for the bytes of a read.
-pub(crate) fn new_buffer(alloc: Global) -> Result<Vec<u8>, AllocError>
+fn new_buffer(alloc: Global) -> Result<Vec<u8>, AllocError>
     ensures { IfOk result (λ buffer. 0 < vec_len buffer) }
 {
     vec![in alloc; 0u8; BUFFER_LEN]
 }
 
 /// What is told of a halt: a read that fails later goes before a refusal.
-pub(crate) fn told<R: Source>(source: &mut R, buffer: &mut [u8], halt: Halt) -> NamesFault
+fn told<R: Source>(source: &mut R, buffer: &mut [u8], halt: Halt) -> NamesFault
     requires room { 0 < length buffer.old }
     ensures is { (result ≡ halt.fault) × (R.has_failed source.new ≡ R.has_failed source.old) ⊎ ((result ≡ NamesFault.ReadFault) × (R.has_failed source.new ≡ true)) }
     ensures read { IfRefused (λ refusal. Passed halt.left 0 (R.to_come source.old) (R.to_come source.new)) result }
@@ -123,11 +142,7 @@ fn pass_rest<R: Source>(source: &mut R, buffer: &mut [u8], most: u64) -> Result<
 }
 
 /// One read of at most so many bytes, to the front of the buffer; returns how many came. None are the end.
-pub(crate) fn read_some<R: Source>(
-    source: &mut R,
-    buffer: &mut [u8],
-    most: u64,
-) -> Result<usize, Failed>
+fn read_some<R: Source>(source: &mut R, buffer: &mut [u8], most: u64) -> Result<usize, Failed>
     requires room { 0 < length buffer.old }
     requires some { 0 < most }
     ensures took { IfOk result (TakesSome most buffer.new (R.to_come source.old) (R.to_come source.new)) }
@@ -140,19 +155,23 @@ pub(crate) fn read_some<R: Source>(
     source.take(front)
 }
 
-/// Reads the source to its end, and finds what is along its bytes.
-#[tactic(auto, using(crate::proofs::SourceLemmas::reads_none, crate::proofs::SourceLemmas::reads_some, crate::proofs::SourceLemmas::reads_more, crate::proofs::SourceLemmas::reads_stop, crate::proofs::SourceLemmas::stop_fails, crate::proofs::SourceLemmas::failed_refused, crate::proofs::SourceLemmas::end_accepts, crate::proofs::SourceLemmas::end_refuses, crate::proofs::SourceLemmas::end_fails, crate::proofs::ReadOnLemmas::halted_failed, crate::proofs::ReadOnLemmas::halted_end, crate::proofs::ReadOnLemmas::halted_stop))]
-fn read_found<R: Source>(alloc: Global, source: &mut R, buffer: &mut [u8]) -> Result<Found, Halt>
-    requires { 0 < length buffer.old }
-    ensures accepted { IfOk result (λ found. IfSome (R.to_come source.old) (λ bytes. HasFound bytes found)) }
+/// Reads the source to its end, into what takes it.
+#[tactic(auto, using(crate::proofs::SourceLemmas::reads_none, crate::proofs::SourceLemmas::stop_fails, crate::proofs::SourceLemmas::failed_refused, crate::proofs::ReadOnLemmas::halted_failed))]
+fn take_all<R: Source, T: Taker + Drop>(
+    source: &mut R,
+    buffer: &mut [u8],
+    taker: T,
+) -> Result<T::Found, Halt>
+    requires room { 0 < length buffer.old }
+    requires none { T.took [] taker }
+    ensures accepted { IfOk result (λ found. IfSome (R.to_come source.old) (λ bytes. T.finds bytes found)) }
     ensures refused { IfErr result (λ halt. IfSome (R.to_come source.old) (λ bytes. IfRefused (IsRefused bytes) halt.fault)) }
     ensures unbroken { OnOk result (R.has_failed source.new ≡ R.has_failed source.old) }
     ensures fault { IfErr result (λ halt. FailsWith halt.fault (R.has_failed source.old) (R.has_failed source.new)) }
     ensures read { IfErr result (λ halt. IsHalted (R.to_come source.old) (R.to_come source.new) halt) }
     ensures size { length buffer.new ≡ length buffer.old }
 {
-    let mut reader = Reader::new(alloc, OpenGate);
-    let mut names = Collector::new(alloc);
+    let mut taker = taker;
     let mut left: u64 = MOST_BYTES + 1;
     'reads: loop {
         match read_some(source, buffer, left) {
@@ -162,10 +181,15 @@ fn read_found<R: Source>(alloc: Global, source: &mut R, buffer: &mut [u8]) -> Re
                     left: 0,
                 });
             }
-            Ok(0) => return finish(reader, names),
+            Ok(0) => {
+                return match taker.end() {
+                    Ok(found) => Ok(found),
+                    Err(stop) => Err(halted(stop, 0)),
+                };
+            }
             Ok(count) => {
                 let (piece, _) = buffer.split_at(count);
-                match take_piece(&mut reader, &mut names, piece) {
+                match taker.take(piece) {
                     Ok(()) => left -= count as u64,
                     Err(stop) => return Err(halted(stop, left - count as u64)),
                 }
@@ -175,7 +199,7 @@ fn read_found<R: Source>(alloc: Global, source: &mut R, buffer: &mut [u8]) -> Re
 }
 
 /// Where a reader stopped.
-pub(crate) fn halted(stop: Stop, left: u64) -> Halt
+fn halted(stop: Stop, left: u64) -> Halt
     ensures ends { Ends stop result.fault }
     ensures left { result.left ≡ left }
 {
@@ -185,15 +209,4 @@ pub(crate) fn halted(stop: Stop, left: u64) -> Halt
         Stop::Spent => NamesFault::OutOfMemory,
     };
     Halt { fault, left }
-}
-
-/// The end of the source: what was found, if it is a stream.
-#[tactic(auto, using(crate::proofs::SourceLemmas::ends_so, crate::proofs::SourceLemmas::ends_refused))]
-pub(crate) fn finish(reader: Reader<OpenGate>, names: Collector) -> Result<Found, Halt>
-    ensures { EndsWith reader.machine reader.tally names result }
-{
-    match end(reader, names) {
-        Ok(found) => Ok(found),
-        Err(stop) => Err(halted(stop, 0)),
-    }
 }

@@ -1,12 +1,15 @@
 //! The bytes of a source, if they are a stream. They are checked as they come, so that none is kept of one that is refused.
-ghost use Rattle.std.specs.Prelude.{◌≡◌, ◌<◌, ◌++◌, length, IfOk, IfErr, IfSome, OnOk};
-ghost use Rattle.jser_names.specs.Sources.{FailsWith, IfRefused, IsHalted, IsReadOn, IsRefused};
-ghost use Rattle.jser_names.specs.Wholes.{EndsKept, IsStream, KeepsPiece};
+ghost use Rattle.std.specs.Prelude.{◌≡◌, [], IfOk, IfErr, IfSome, OnOk};
+ghost use Rattle.jser_reader.specs.Answers.{PassesWith};
+ghost use Rattle.jser_reader.specs.Gates.{open_gate};
+ghost use Rattle.jser_reader.specs.ReaderStates.{StandsFor};
+ghost use Rattle.jser_names.specs.Sources.{FailsWith, IfRefused, IsReadOn, IsRefused};
+ghost use Rattle.jser_names.specs.Wholes.{IsStream};
 
-use crate::source::{Halt, NamesFault, halted, new_buffer, read_some, told};
-use jser_grammar::caps::MOST_BYTES;
+use crate::source::{NamesFault, read_all};
+use crate::taker::Taker;
 use jser_prim::Source;
-use jser_reader::{OpenGate, Reader, Stop};
+use jser_reader::{OpenGate, Reader, Stop, Totals};
 use std::alloc::Global;
 
 /// All the bytes of a source, if they are a stream within the greatest limits. The source is read to its end, or until one byte
@@ -15,7 +18,7 @@ use std::alloc::Global;
 /// # Errors
 ///
 /// `NamesFault`, with the reason. A failed read is told whatever came before it, unless memory ran out.
-#[tactic(auto, using(crate::proofs::SourceLemmas::none_refused, crate::proofs::SourceLemmas::told_refused, crate::proofs::SourceLemmas::told_fails, crate::proofs::ReadOnLemmas::none_read, crate::proofs::ReadOnLemmas::reads_on))]
+#[tactic(auto, using(crate::proofs::SourceLemmas::of_kept))]
 pub fn bytes_of<R: Source>(alloc: Global, source: &mut R) -> Result<Vec<u8>, NamesFault>
     ensures accepted { IfOk result (λ whole. IfSome (R.to_come source.old) (λ bytes. IsStream bytes whole.items)) }
     ensures refused { IfErr result (λ why. IfSome (R.to_come source.old) (λ bytes. IfRefused (IsRefused bytes) why)) }
@@ -23,71 +26,83 @@ pub fn bytes_of<R: Source>(alloc: Global, source: &mut R) -> Result<Vec<u8>, Nam
     ensures fault { IfErr result (λ why. FailsWith why (R.has_failed source.old) (R.has_failed source.new)) }
     ensures read { IfErr result (λ why. IsReadOn (R.to_come source.old) (R.to_come source.new) why) }
 {
-    let Ok(mut buffer) = new_buffer(alloc) else {
-        return Err(NamesFault::OutOfMemory);
-    };
-    match read_bytes(alloc, source, &mut buffer) {
-        Ok(bytes) => Ok(bytes),
-        Err(halt) => Err(told(source, &mut buffer, halt)),
+    match read_all(
+        alloc,
+        source,
+        Keeping::of(alloc, Reader::new(alloc, OpenGate)),
+    ) {
+        Ok((bytes, _)) => Ok(bytes),
+        Err(why) => Err(why),
     }
 }
 
-/// Reads the source to its end, and keeps its bytes.
-#[tactic(auto, using(crate::proofs::WholeLemmas::kept_none, crate::proofs::SourceLemmas::stop_fails, crate::proofs::SourceLemmas::failed_refused, crate::proofs::ReadOnLemmas::halted_failed, crate::proofs::ReadOnLemmas::kept_end, crate::proofs::ReadOnLemmas::halted_kept))]
-fn read_bytes<R: Source>(alloc: Global, source: &mut R, buffer: &mut [u8]) -> Result<Vec<u8>, Halt>
-    requires { 0 < length buffer.old }
-    ensures accepted { IfOk result (λ whole. IfSome (R.to_come source.old) (λ bytes. IsStream bytes whole.items)) }
-    ensures refused { IfErr result (λ halt. IfSome (R.to_come source.old) (λ bytes. IfRefused (IsRefused bytes) halt.fault)) }
-    ensures unbroken { OnOk result (R.has_failed source.new ≡ R.has_failed source.old) }
-    ensures fault { IfErr result (λ halt. FailsWith halt.fault (R.has_failed source.old) (R.has_failed source.new)) }
-    ensures read { IfErr result (λ halt. IsHalted (R.to_come source.old) (R.to_come source.new) halt) }
-    ensures size { length buffer.new ≡ length buffer.old }
-{
-    let mut reader = Reader::new(alloc, OpenGate);
-    let mut bytes = Vec::new(alloc);
-    let mut left: u64 = MOST_BYTES + 1;
-    'reads: loop {
-        match read_some(source, buffer, left) {
-            Err(_) => {
-                return Err(Halt {
-                    fault: NamesFault::ReadFault,
-                    left: 0,
-                });
-            }
-            Ok(0) => return ended(reader, bytes),
-            Ok(count) => {
-                let (piece, _) = buffer.split_at(count);
-                match keep_piece(&mut reader, &mut bytes, piece) {
-                    Ok(()) => left -= count as u64,
-                    Err(stop) => return Err(halted(stop, left - count as u64)),
-                }
-            }
+impl Taker for Reader<OpenGate> {
+    type Found = Totals;
+
+    ghost took = { λ taken reader. StandsFor open_gate taken reader.machine reader.tally };
+
+    ghost finds = { PassesWith open_gate };
+
+    #[tactic(auto, using(crate::proofs::WholeLemmas::skipped))]
+    fn take(&mut self, piece: &[u8]) -> Result<(), Stop> {
+        self.skip(piece)
+    }
+
+    #[tactic(auto, using(crate::proofs::WholeLemmas::ended))]
+    fn end(self) -> Result<Totals, Stop> {
+        let mut reader = self;
+        reader.finish()
+    }
+
+    ghost use Rattle.jser_names.specs.TakenSizes.{taken_within};
+
+    ghost within = { λ bytes reader st. taken_within bytes reader.machine reader.tally st };
+}
+
+/// What takes a stream, and the bytes that it took.
+#[derive(Drop)]
+pub(crate) struct Keeping<T: Taker> {
+    taker: T,
+    bytes: Vec<u8>,
+}
+
+impl<T: Taker + Drop> Keeping<T> {
+    /// This one, which has taken nothing.
+    pub(crate) fn of(alloc: Global, taker: T) -> Keeping<T>
+        ensures taker { result.taker ≡ taker }
+        ensures none { result.bytes.items ≡ [] }
+    {
+        Keeping {
+            taker,
+            bytes: Vec::new(alloc),
         }
     }
 }
 
-/// Takes the whole piece, and keeps it behind those before.
-#[tactic(auto, using(crate::proofs::WholeLemmas::keeps, crate::proofs::WholeLemmas::keeps_not, crate::proofs::WholeLemmas::no_room))]
-fn keep_piece(reader: &mut Reader<OpenGate>, bytes: &mut Vec<u8>, piece: &[u8]) -> Result<(), Stop>
-    ensures { KeepsPiece piece.now result reader.old.machine reader.old.tally bytes.old.items reader.new.machine reader.new.tally bytes.new.items }
-{
-    match reader.skip(piece) {
-        Ok(()) => match bytes.extend_from_slice(piece) {
-            Ok(()) => Ok(()),
-            Err(_) => Err(Stop::OutOfMemory),
-        },
-        Err(stop) => Err(stop),
-    }
-}
+impl<T: Taker + Drop> Taker for Keeping<T> {
+    type Found = (Vec<u8>, T::Found);
 
-/// The end of the source: its bytes, if they are a stream.
-#[tactic(auto, using(crate::proofs::WholeLemmas::ends_kept, crate::proofs::WholeLemmas::ends_cut))]
-fn ended(reader: Reader<OpenGate>, bytes: Vec<u8>) -> Result<Vec<u8>, Halt>
-    ensures { EndsKept reader.machine reader.tally bytes.items result }
-{
-    let mut reader = reader;
-    match reader.finish() {
-        Ok(_) => Ok(bytes),
-        Err(stop) => Err(halted(stop, 0)),
+    ghost took = { λ taken keeping. (keeping.bytes.items ≡ taken) × T.took taken keeping.taker };
+
+    ghost finds = { λ taken found. (found.0.items ≡ taken) × T.finds taken found.1 };
+
+    fn take(&mut self, piece: &[u8]) -> Result<(), Stop> {
+        match self.taker.take(piece) {
+            Ok(()) => match self.bytes.extend_from_slice(piece) {
+                Ok(()) => Ok(()),
+                Err(_) => Err(Stop::OutOfMemory),
+            },
+            Err(stop) => Err(stop),
+        }
     }
+
+    fn end(self) -> Result<(Vec<u8>, T::Found), Stop> {
+        let Keeping { taker, bytes } = self;
+        match taker.end() {
+            Ok(found) => Ok((bytes, found)),
+            Err(stop) => Err(stop),
+        }
+    }
+
+    ghost within = { λ bytes keeping st. T.within bytes keeping.taker st.1 };
 }

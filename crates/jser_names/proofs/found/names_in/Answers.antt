@@ -1,8 +1,14 @@
-use Rattle.std.proofs.Common.{rules}
-use Rattle.jser_names.proofs.FoundLemmas.{finds}
+use Rattle.std.specs.Prelude.{[]}
+use Rattle.jser_names.specs.Standing.{Stands}
+use Rattle.jser_names.proofs.FoundLemmas.{finds, finds_not}
 use Rattle.jser_names.proofs.found.names_in.Goals as goal
 
 pub returns-in-Ok : goal.returns-in-Ok
 returns-in-Ok c =
-    finds c.args.bytes.now c.new-reader.result.machine c.new-reader.result.tally c.new-names.result c.take_piece.new.reader.machine c.take_piece.new.reader.tally
-    c.take_piece.new.names c.end.result c.new-reader.ensures.begins c.new-names.ensures (search rules) c.end.ensures
+    finds (λ taken. Stands taken c.take.new.self.reader.machine c.take.new.self.reader.tally c.take.new.self.names) c.args.bytes.now c.end.result
+    (c.in-Ok.ensures [] c.new-naming.ensures) c.end.ensures
+
+pub returns-in-Err : goal.returns-in-Err
+returns-in-Err c =
+    finds_not (λ taken. Stands taken c.take.new.self.reader.machine c.take.new.self.reader.tally c.take.new.self.names) c.args.bytes.now c.in-Err.stop
+    (c.in-Err.ensures [] c.new-naming.ensures)

@@ -1,7 +1,5 @@
-use Rattle.jser_names.proofs.ReadOnLemmas.{reads_on}
+use Rattle.jser_names.proofs.SourceLemmas.{of_named}
 use Rattle.jser_names.proofs.named.bytes_and_names_of.Goals as goal
 
-pub returns-clause-read : goal.returns-clause-read
-returns-clause-read g c =
-    reads_on (g.R.Source.to_come c.args.source.now) (g.R.Source.to_come c.read_named.new.source) (g.R.Source.to_come c.told.new.source) c.in-Err.halt c.told.result _ _
-    c.told.ensures.is c.in-Err.ensures.read c.told.ensures.read
+pub returns-in-Ok-clause-accepted : goal.returns-in-Ok-clause-accepted
+returns-in-Ok-clause-accepted g c = of_named (g.R.Source.to_come c.args.source.now) c.in-Ok.bytes c.in-Ok.found c.in-Ok.ensures.accepted

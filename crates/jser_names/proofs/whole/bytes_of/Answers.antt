@@ -1,7 +1,0 @@
-use Rattle.jser_names.proofs.ReadOnLemmas.{reads_on}
-use Rattle.jser_names.proofs.whole.bytes_of.Goals as goal
-
-pub returns-clause-read : goal.returns-clause-read
-returns-clause-read g c =
-    reads_on (g.R.Source.to_come c.args.source.now) (g.R.Source.to_come c.read_bytes.new.source) (g.R.Source.to_come c.told.new.source) c.in-Err.halt c.told.result _ _
-    c.told.ensures.is c.in-Err.ensures.read c.told.ensures.read
