@@ -1,18 +1,21 @@
 -- Names that are counted, each under a number.
 use denote.Bor.{Bor}
-use Rattle.std.proofs.Common.{◌≡◌, ◌⊎◌, ℕ, zero, suc, ◌+◌, ◌<◌, Bool, true, false, cond, List, [], ◌∷◌, ◌++◌, map, length, set, slice_get, get_or, bytes_eq, Ordering, Less, Equal, Greater, Option, Some, None, option_map, refl, sym, ap, subst, ◌∙◌, arith, inl, inr}
+use Rattle.std.proofs.Common.{◌≡◌, ◌⊎◌, ℕ, zero, suc, ◌+◌, ◌<◌, Bool, true, false, cond, List, [], ◌∷◌, ◌++◌, map, length, set, slice_get, get_or, bytes_eq, Ordering, Less, Equal, Greater, Option, Some, None, option_map, Result, Ok, Err, OnOk, refl, sym, ap, subst, ◌∙◌, arith, inl, inr}
 use Rattle.std.proofs.lemmas.Cmp.{nat_list_eq_equiv}
 use Rattle.std.proofs.lemmas.Map.Text.{is_eq-slice_cmp}
 use Rattle.std.proofs.lemmas.Option.{slice_get-get_or, slice_get-map}
 use Rattle.std.proofs.lemmas.Slice.Eq.{bytes_eq-Decides}
 use Rattle.std.specs.BTreeMap.{insert_entry}
+use Rattle.std.specs.declared.alloc.AllocError.{AllocError}
 use Rattle.std.specs.Cmp.Lexicographic.{slice_cmp}
 use Rattle.std.specs.Global.{Global}
 use Rattle.std.specs.Ordering.{is_eq, match_ordering, nat_cmp}
 use Rattle.std.specs.Prelude.{Vec}
 use Rattle.jser_shown.specs.Counting.{NameTally, name_tally, tally_one}
 use Rattle.jser_names.specs.declared.counts.NameCount.{NameCount}
-use Rattle.jser_names.specs.Counts.{tally_of, IsCount, number_in, number_kept, AreNumbered}
+use Rattle.jser_prim.specs.ModifiedUtf8.{IsUnits, modified_utf8}
+use Rattle.jser_prim.proofs.TextLemmas.{one_text}
+use Rattle.jser_names.specs.Counts.{tally_of, IsCount, IsSpelledBy, AreSpelled, number_in, number_kept, AreNumbered}
 
 pub none_numbered : AreNumbered [] []
 none_numbered = record { kept = λ name. refl; first = λ number tally here. absurd (let no : None ≡ Some tally = here in cc) }
@@ -155,7 +158,7 @@ added name key number tallies old new are none is last put = record {
 -- ---- a name once more
 
 abbrev once_more : NameCount → ℕ → NameCount
-once_more count times = record { name = count.name; times = times }
+once_more count times = record count { times = times }
 
 pub raised : (name : List ℕ) (counts : List NameCount) (number : ℕ) (count : NameCount) (times : ℕ) → number_in name (map tally_of counts) ≡ Some number
     → slice_get counts number ≡ Some count → times ≡ suc count.times → map tally_of (set counts number (once_more count times)) ≡ tally_one name (map tally_of counts)
@@ -250,7 +253,7 @@ added_so name key number counts more count old new are none is same once last pu
     subst (λ ts. AreNumbered ts new) (sym tallies)
     (added name key number (map tally_of counts) old new are none is (as_many counts number last) put)
 
-inside_of : (name : List ℕ) (tallies : List NameTally) (number : ℕ) → number_in name tallies ≡ Some number → number < length tallies
+pub inside_of : (name : List ℕ) (tallies : List NameTally) (number : ℕ) → number_in name tallies ≡ Some number → number < length tallies
 inside_of name [] number e = absurd (let no : None ≡ Some number = e in cc)
 inside_of name (t ∷ ts) number e = by (λ n h. inside_of name ts n h) (bytes_eq t.name name) number e
   where
@@ -265,18 +268,40 @@ pub is_inside : (name : List ℕ) (counts : List NameCount) (tallies : List Name
 is_inside name counts tallies number same e =
     omega (arith, inside_of name tallies number e, ap length same, as_many counts (length counts) refl)
 
+pub inside_counts : (counts : List NameCount) (tallies : List NameTally) (number : ℕ) → map tally_of counts ≡ tallies → number < length tallies → number < length counts
+inside_counts counts tallies number same inside = omega (arith, inside, ap length same, as_many counts (length counts) refl)
+
 -- the count at a number, where it is read
 read_at : (counts : List NameCount) (number : ℕ) (count other : NameCount) → number < length counts → count ≡ get_or counts number other
     → slice_get counts number ≡ Some count
 read_at counts number count other inside is = slice_get-get_or counts number other inside ∙ ap Some (sym is)
 
-pub raised_numbered : (name : List ℕ) (counts : List NameCount) (tallies : List NameTally) (number times : ℕ) (count other : NameCount) (entries : List (Vec ℕ Global × ℕ))
-    → map tally_of counts ≡ tallies → AreNumbered (map tally_of counts) entries → number_in name tallies ≡ Some number → count ≡ get_or counts number other
-    → times ≡ count.times + 1 → AreNumbered (map tally_of (set counts number (once_more count times))) entries
-raised_numbered name counts tallies number times count other entries same are e read more =
-    let at = read_at counts number count other (is_inside name counts tallies number same e) read in
-    subst (λ ts. AreNumbered ts entries) (sym (raised name counts number count times (ap (number_in name) same ∙ e) at (omega (arith, more))))
-    (still_numbered name (map tally_of counts) number entries are (ap (number_in name) same ∙ e))
+raised_numbered : (name : List ℕ) (counts : List NameCount) (number times : ℕ) (count : NameCount) (entries : List (Vec ℕ Global × ℕ))
+    → AreNumbered (map tally_of counts) entries → number_in name (map tally_of counts) ≡ Some number → slice_get counts number ≡ Some count
+    → times ≡ suc count.times → AreNumbered (map tally_of (set counts number (once_more count times))) entries
+raised_numbered name counts number times count entries are e at more =
+    subst (λ ts. AreNumbered ts entries) (sym (raised name counts number count times e at more)) (still_numbered name (map tally_of counts) number entries are e)
+
+-- what the bytes of a name at a number are
+spelled_at : (counts : List NameCount) (number : ℕ) (count : NameCount) → AreSpelled counts → slice_get counts number ≡ Some count
+    → IsSpelledBy count.name.items count.spelled.items
+spelled_at [] number count are here = absurd (let no : None ≡ Some count = here in cc)
+spelled_at (c ∷ cs) zero count are here = subst (λ x. IsSpelledBy x.name.items x.spelled.items) (let same : c ≡ count = cc in same) are.0
+spelled_at (c ∷ cs) (suc n) count are here = spelled_at cs n count are.1 here
+
+raised_spelled : (counts : List NameCount) (number times : ℕ) (count : NameCount) → AreSpelled counts → slice_get counts number ≡ Some count
+    → AreSpelled (set counts number (once_more count times))
+raised_spelled [] number times count are here = tt
+raised_spelled (c ∷ cs) zero times count are here = (spelled_at (c ∷ cs) zero count are here, are.1)
+raised_spelled (c ∷ cs) (suc n) times count are here = (are.0, raised_spelled cs n times count are.1 here)
+
+pub raised_kept : (counts : List NameCount) (number times : ℕ) (count other : NameCount) (entries : List (Vec ℕ Global × ℕ))
+    → AreNumbered (map tally_of counts) entries × AreSpelled counts → number < length counts → count ≡ get_or counts number other → times ≡ count.times + 1
+    → AreNumbered (map tally_of (set counts number (once_more count times))) entries × AreSpelled (set counts number (once_more count times))
+raised_kept counts number times count other entries are inside read more =
+    let at = read_at counts number count other inside read in
+    (raised_numbered count.name.items counts number times count entries are.0 (numbered_so count.name.items counts number count entries are.0 at refl) at (omega (arith, more)),
+    raised_spelled counts number times count are.1 at)
 
 pub raised_tally : (name : List ℕ) (counts : List NameCount) (tallies : List NameTally) (number times : ℕ) (count other : NameCount)
     → map tally_of counts ≡ tallies → number_in name tallies ≡ Some number → count ≡ get_or counts number other → times ≡ count.times + 1
@@ -292,3 +317,39 @@ pub numbered_at : (name : List ℕ) (counts : List NameCount) (tallies : List Na
 numbered_at name counts tallies number count other entries same are inside read is =
     ap (number_in name) (sym same)
     ∙ numbered_so name counts number count entries are (read_at counts number count other inside read) (same_name count.name.items name is)
+
+-- a name at a number is the one that its bytes spell
+pub spelled_so : (text : List ℕ) (counts : List NameCount) (tallies : List NameTally) (number : ℕ) (count other : NameCount) (entries : List (Vec ℕ Global × ℕ))
+    → map tally_of counts ≡ tallies → AreNumbered (map tally_of counts) entries × AreSpelled counts → number < length counts → count ≡ get_or counts number other
+    → (text ≡ [] → ⊥) → bytes_eq count.spelled.items text ≡ true → (name : List ℕ) → IsUnits name → modified_utf8 name ≡ text → number_in name tallies ≡ Some number
+spelled_so text counts tallies number count other entries same are inside read some is name units spells =
+    let at = read_at counts number count other inside read in
+    let bytes : count.spelled.items ≡ text = same_name count.spelled.items text is in
+    elim (spelled_at counts number count are.1 at) [
+      inl none ↦ absurd (some (sym bytes ∙ none))
+    | inr known ↦
+        ap (number_in name) (sym same)
+        ∙ numbered_so name counts number count entries are.0 at
+        (one_text count.name.items name known.0 units (sym known.1 ∙ bytes ∙ sym spells))
+    ]
+
+-- one more behind them
+pub added_spelled : (counts more : List NameCount) (count : NameCount) (name text : List ℕ) → AreSpelled counts → IsSpelledBy name text → count.name.items ≡ name
+    → count.spelled.items ≡ text → more ≡ counts ++ count ∷ [] → AreSpelled more
+added_spelled counts more count name text are is same bytes pushed = subst AreSpelled (sym pushed) (behind_all counts are)
+  where
+    here : IsSpelledBy count.name.items count.spelled.items
+    here = subst (λ n. IsSpelledBy n count.spelled.items) (sym same) (subst (λ b. IsSpelledBy name b) (sym bytes) is)
+
+    behind_all : (cs : List NameCount) → AreSpelled cs → AreSpelled (cs ++ count ∷ [])
+    behind_all [] a = (here, tt)
+    behind_all (c ∷ cs) a = (a.0, behind_all cs a.1)
+
+-- a name that was read from bytes, and is new, comes last
+pub text_added : (units text : List ℕ) (old new : List NameTally) (X : Type 0) (result : Result X AllocError)
+    → ((told : List ℕ) → IsUnits told → modified_utf8 told ≡ text → units ≡ told) → number_in units old ≡ None
+    → OnOk result (new ≡ old ++ name_tally units 1 ∷ [])
+    → OnOk result ((name : List ℕ) → IsUnits name → modified_utf8 name ≡ text → new ≡ tally_one name old)
+text_added units text old new X (Ok x) decodes none is =
+    λ name are spells. is ∙ sym (counts_new units old none) ∙ ap (λ n. tally_one n old) (decodes name are spells)
+text_added units text old new X (Err e) decodes none is = tt

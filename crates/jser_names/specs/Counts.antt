@@ -1,11 +1,12 @@
 -- Names that are counted, each under a number.
 use denote.Bor.{Bor}
 use Rattle.std.specs.Global.{Global}
-use Rattle.std.specs.Prelude.{ℕ, suc, ◌≡◌, if◌then◌else◌, List, [], ◌∷◌, slice_get, Option, Some, None, option_map, Vec}
+use Rattle.std.specs.Prelude.{ℕ, suc, ◌≡◌, ◌⊎◌, if◌then◌else◌, List, [], ◌∷◌, slice_get, Option, Some, None, option_map, Vec}
 use Rattle.std.specs.Map.{lookup}
 use Rattle.std.specs.Ordering.{is_eq, nat_cmp}
 use Rattle.std.specs.Cmp.Lexicographic.{slice_cmp}
 use Rattle.std.specs.Str.{bytes_eq}
+use Rattle.jser_prim.specs.ModifiedUtf8.{IsUnits, modified_utf8}
 use Rattle.jser_shown.specs.Counting.{NameTally, name_tally}
 use Rattle.jser_names.specs.declared.counts.NameCount.{NameCount}
 
@@ -38,3 +39,12 @@ number_kept name entries = lookup (λ key. is_eq (slice_cmp nat_cmp name key.ite
 pub record AreNumbered (tallies : List NameTally) (entries : List (Vec ℕ Global × ℕ)) : Type 0 where
   pub kept : (name : List ℕ) → number_kept name entries ≡ number_in name tallies
   pub first : (number : ℕ) (tally : NameTally) → slice_get tallies number ≡ Some tally → number_in tally.name tallies ≡ Some number
+
+-- the bytes are the name's modified UTF-8, where there are any
+abbrev pub IsSpelledBy : (name bytes : List ℕ) → Type 0
+IsSpelledBy name bytes = (bytes ≡ []) ⊎ (IsUnits name × (bytes ≡ modified_utf8 name))
+
+-- so with each of these counts
+abbrev pub AreSpelled : List NameCount → Type 0
+AreSpelled [] = Unit {0}
+AreSpelled (count ∷ counts) = IsSpelledBy count.name.items count.spelled.items × AreSpelled counts

@@ -4,7 +4,6 @@ ghost use Rattle.jser_names.specs.Standing.{Adds, Closes, ClosesThen, Takes, beg
 
 use crate::counts::NameCounts;
 use jser_grammar::wire::TC_CLASSDESC;
-use jser_prim::read_units;
 use jser_reader::Item;
 use std::alloc::{AllocError, Global};
 use std::marker::Model;
@@ -128,8 +127,7 @@ impl Collector {
         if !self.is_open {
             return Ok(());
         }
-        let _ = read_units(&self.text, &mut self.units)?;
-        self.names.count(&self.units)?;
+        self.names.count_text(&self.text, &mut self.units)?;
         self.left = self.left.saturating_sub(1);
         self.is_open = false;
         Ok(())

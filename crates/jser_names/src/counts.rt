@@ -1,14 +1,16 @@
 //! How often each name was seen.
-ghost use Rattle.std.specs.Prelude.{◌≡◌, ◌<◌, [], ◌∷◌, ◌++◌, is_some, length, slice_get, true, Some, None, OnOk, OnErr};
+ghost use Rattle.std.specs.Prelude.{◌≡◌, ◌<◌, ℕ, List, [], ◌∷◌, ◌++◌, is_some, length, slice_get, true, Some, None, OnOk, OnErr};
+ghost use Rattle.jser_prim.specs.ModifiedUtf8.{IsUnits, modified_utf8};
 ghost use Rattle.jser_shown.specs.Counting.{name_tally, tally_one};
-ghost use Rattle.jser_names.specs.Counts.{IsCount, number_in};
+ghost use Rattle.jser_names.specs.Counts.{IsCount, IsSpelledBy, number_in};
 
+use jser_prim::read_units;
 use std::alloc::{AllocError, Global};
 use std::collections::BTreeMap;
 use std::marker::Model;
 
 /// How many of the names that were seen last are found at once.
-const RECENT: usize = 64;
+const RECENT: usize = 256;
 
 /// A name, and how often it was seen.
 #[derive(Drop)]
@@ -17,12 +19,14 @@ pub struct NameCount {
     pub name: Vec<u16>,
     /// How often it was seen.
     pub times: u64,
+    /// Its modified UTF-8, where it was read from that; else none.
+    spelled: Vec<u8>,
 }
 
 /// The different names that were seen, in the order in which they were first seen, each with how often it was.
 ///
 /// A name is looked up by its place in the order of all of them, so that nobody can choose names that are slow to tell apart.
-/// Each different name is held twice: once in each order.
+/// Each different name is held twice, once in each order, and its text in the stream.
 #[derive(Drop)]
 pub struct NameCounts {
     alloc: Global,
@@ -36,13 +40,13 @@ pub struct NameCounts {
 impl Model for NameCounts {
     ghost use Rattle.std.specs.Prelude.{List, map};
     ghost use Rattle.jser_shown.specs.Counting.{NameTally};
-    ghost use Rattle.jser_names.specs.Counts.{AreNumbered, tally_of};
+    ghost use Rattle.jser_names.specs.Counts.{AreNumbered, AreSpelled, tally_of};
 
     ghost Value = { List NameTally };
 
     ghost view = { λ a. map tally_of a.counts.items };
 
-    ghost invariant = { λ a. AreNumbered (map tally_of a.counts.items) a.numbers.entries };
+    ghost invariant = { λ a. AreNumbered (map tally_of a.counts.items) a.numbers.entries × AreSpelled a.counts.items };
 }
 
 impl NameCounts {
@@ -71,8 +75,29 @@ impl NameCounts {
         ensures kept { OnErr result (self.new ≡ self.old) }
     {
         match self.number_of(name) {
-            Some(number) => self.raise(name, number),
-            None => self.add(name),
+            Some(number) => self.raise(number),
+            None => self.add(name, &[]),
+        }
+    }
+
+    /// Counts the name once more that these bytes spell in modified UTF-8. A name that was seen lately is found by its bytes;
+    /// another one's units are put into `units`.
+    ///
+    /// # Errors
+    ///
+    /// As `count`.
+    pub(crate) fn count_text(&mut self, text: &[u8], units: &mut Vec<u16>) -> Result<(), AllocError>
+        ensures { OnOk result ((name : List ℕ) → IsUnits name → modified_utf8 name ≡ text.now → self.new ≡ tally_one name self.old) }
+    {
+        let number = self.recent[place_of_text(text)];
+        if self.is_spelled(text, number) {
+            return self.raise(number);
+        }
+        let is_text = read_units(text, units)?;
+        match self.number_of(units) {
+            Some(number) => self.raise(number),
+            None if is_text => self.add(units, text),
+            None => self.add(units, &[]),
         }
     }
 
@@ -128,10 +153,21 @@ impl NameCounts {
         }
     }
 
+    /// Whether the name with this number is the one that the bytes spell; where it is not known, it is not.
+    fn is_spelled(&self, text: &[u8], number: usize) -> bool
+        ensures inside { result ≡ true → number < length self.now }
+        ensures named { result ≡ true → (name : List ℕ) → IsUnits name → modified_utf8 name ≡ text.now → number_in name self.now ≡ Some number }
+    {
+        match self.counts.get(number) {
+            Some(count) => !text.is_empty() && count.spelled.as_slice() == text,
+            None => false,
+        }
+    }
+
     /// Counts the name once more that has this number.
-    fn raise(&mut self, name: &[u16], number: usize) -> Result<(), AllocError>
-        requires { number_in name.now self.old ≡ Some number }
-        ensures counted { OnOk result (self.new ≡ tally_one name.now self.old) }
+    fn raise(&mut self, number: usize) -> Result<(), AllocError>
+        requires { number < length self.old }
+        ensures counted { OnOk result ((name : List ℕ) → number_in name self.old ≡ Some number → self.new ≡ tally_one name self.old) }
         ensures kept { OnErr result (self.new ≡ self.old) }
     {
         let count = &mut self.counts[number];
@@ -142,9 +178,10 @@ impl NameCounts {
         Ok(())
     }
 
-    /// Puts a name that is new behind the others.
-    fn add(&mut self, name: &[u16]) -> Result<(), AllocError>
-        requires { number_in name.now self.old ≡ None }
+    /// Puts a name that is new behind the others, with the bytes that spell it, if it was read from some.
+    fn add(&mut self, name: &[u16], text: &[u8]) -> Result<(), AllocError>
+        requires new { number_in name.now self.old ≡ None }
+        requires spelled { IsSpelledBy name.now text.now }
         ensures added { OnOk result (self.new ≡ self.old ++ name_tally name.now 1 ∷ []) }
         ensures kept { OnErr result (self.new ≡ self.old) }
     {
@@ -152,6 +189,7 @@ impl NameCounts {
         let count = NameCount {
             name: name.to_vec(self.alloc)?,
             times: 1,
+            spelled: text.to_vec(self.alloc)?,
         };
         let key = name.to_vec(self.alloc)?;
         if self.numbers.insert(key, self.counts.len()).is_err() {
@@ -164,11 +202,28 @@ impl NameCounts {
 
 /// Where the number of a name is kept that was seen last.
 fn place_of(name: &[u16]) -> usize
-    ensures { result < 64 }
+    ensures { result < 256 }
 {
-    let last = match name {
-        [.., last] => *last as usize,
-        [] => 0,
-    };
-    name.len().wrapping_mul(7).wrapping_add(last) % RECENT
+    let middle = name.get(name.len() / 2).copied().unwrap_or(0);
+    let last = name.last().copied().unwrap_or(0);
+    place(name.len(), middle as usize, last as usize)
+}
+
+/// Where it is kept, from the bytes that spell the name: of ASCII that is the place by its units.
+fn place_of_text(text: &[u8]) -> usize
+    ensures { result < 256 }
+{
+    let middle = text.get(text.len() / 2).copied().unwrap_or(0);
+    let last = text.last().copied().unwrap_or(0);
+    place(text.len(), middle as usize, last as usize)
+}
+
+/// The place of a name with so many units, of which these are the middle one and the last.
+fn place(len: usize, middle: usize, last: usize) -> usize
+    ensures { result < 256 }
+{
+    len.wrapping_mul(7)
+        .wrapping_add(middle.wrapping_mul(31))
+        .wrapping_add(last)
+        % RECENT
 }
