@@ -37,7 +37,7 @@ def blocks(readme, language):
 
 
 def blocks_of(readme, language):
-    """The same of its text."""
+    """The blocks of code of a text in one language."""
     found = re.findall(r"^```(\w*)\n(.*?)^```$", readme, re.M | re.S)
     return [text for name, text in found if name == language]
 

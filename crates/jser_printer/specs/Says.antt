@@ -13,7 +13,7 @@ pub record Saying (old new : Outgoing) (before after : SinkState) (all left : Li
 abbrev pub Says : Outgoing → Outgoing → SinkState → SinkState → (List ℕ → List ℕ) → Type 0
 Says old new before after text = Saying old new before after text (λ k. k)
 
--- the same of a sink, by what it tells
+-- A text was said to a sink, by what it tells.
 abbrev pub SaysTo : {S : Type 0} → (S → Option (List ℕ)) → (S → Bool) → Outgoing → Outgoing → S → S → (List ℕ → List ℕ) → Type 0
 SaysTo gone_out has_failed old new before after text =
     Says old new (sink_state (gone_out before) (has_failed before)) (sink_state (gone_out after) (has_failed after)) text

@@ -26,7 +26,7 @@ pub record Awaits (left whole : Bool) (after_left after_whole : Entries) : Type 
   pub passes : left ≡ whole
   pub after : after_left ≡ after_whole
 
--- the same of sections: the class keeps its chain, which has a layer for each
+-- sections are awaited: the class keeps its chain, which has a layer for each
 pub record AwaitsSections (T : Entries) (number : ℕ) (chain : List Layer) (count : ℕ) (left whole : Bool) (after_left after_whole : Entries) : Type 0 where
   pub class : IsClassAt T number chain
   pub layers : count ≡ length chain

@@ -47,7 +47,7 @@ final class Body {
         return new InflaterInputStream(new ByteArrayInputStream(bytes));
     }
 
-    /** The same of a bytes message: its length stands before, and what it holds behind that is not handed out. */
+    /** What a deflated bytes message holds: its length stands before, and what it holds behind that is not handed out. */
     private static InputStream inflatedBytes(byte[] bytes) {
         if (bytes.length < LENGTH_FIELD) {
             return InputStream.nullInputStream();

@@ -77,7 +77,7 @@ final class Answer {
         wantOfFilter(wanted);
     }
 
-    /** The same of a call that refuses no bytes. */
+    /** Throws what a call answers that refuses no bytes, where it is not what is wanted. */
     void wantOfFilter(int wanted) {
         if (status() == wanted) {
             return;

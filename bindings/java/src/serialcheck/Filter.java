@@ -149,7 +149,7 @@ public final class Filter implements AutoCloseable {
     }
 
     /**
-     * The same of a part of an array.
+     * Checks a part of an array, of a copy made here.
      *
      * @param bytes where they are
      * @param from the offset of the first one
@@ -233,7 +233,7 @@ public final class Filter implements AutoCloseable {
     }
 
     /**
-     * The same with a reader of the caller's kind.
+     * Checks the bytes of an input, and opens a reader of the caller's kind over them.
      *
      * @param <S> the kind
      * @param in the input; it is not closed

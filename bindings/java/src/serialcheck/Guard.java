@@ -137,7 +137,7 @@ public final class Guard implements GuardMXBean, AutoCloseable {
     }
 
     /**
-     * The same of what comes out of a decompressor.
+     * Checks what comes out of a decompressor.
      *
      * @param what says what it is, for the log; it is asked where it is refused
      * @param zipped opens a decompressor over bytes in memory, whose faults are theirs; it is closed
@@ -216,7 +216,7 @@ public final class Guard implements GuardMXBean, AutoCloseable {
         }
     }
 
-    /** The same of an input, which `kept` then has as far as it was read. */
+    /** Why the bytes of an input are refused, or null; `kept` then has them, as far as they were read. */
     private Refused readAndJudge(InputStream in, Kept kept) throws IOException {
         byte[] piece = new byte[PIECE];
         Filter filter = this.filter.get();

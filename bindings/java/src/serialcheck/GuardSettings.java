@@ -13,7 +13,7 @@ public final class GuardSettings {
     public enum OnRefusal {
         /** They are not handed on, and their sender or reader is told. */
         REJECT,
-        /** The same, and they are kept aside, where nothing reads objects. */
+        /** They are not handed on, their sender or reader is told, and they are kept aside, where nothing reads objects. */
         QUARANTINE,
         /** They are handed on, and counted and logged as refused: to try a filter out. It guards nothing. */
         REPORT

@@ -48,7 +48,7 @@ public final class Stream implements AutoCloseable {
     }
 
     /**
-     * The same of a part of an array.
+     * Takes the next bytes, from a part of an array. Where it returns, they decide nothing.
      *
      * @param bytes where the piece is
      * @param from the offset of its first byte
