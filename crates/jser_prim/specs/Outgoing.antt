@@ -32,7 +32,7 @@ pub record Puts (old new : Outgoing) (before after : SinkState) (bytes : List �
   pub stopped : old.failed ≡ true → (new ≡ old) × (after ≡ before)
   pub going : old.failed ≡ false → Hands old new before after bytes
 
--- the same of a sink, by what it tells
+-- these bytes were put on their way to a sink, by what it tells
 abbrev pub PutsTo : {S : Type 0} → (S → Option (List ℕ)) → (S → Bool) → Outgoing → Outgoing → S → S → List ℕ → Type 0
 PutsTo gone_out has_failed old new before after bytes =
     Puts old new (sink_state (gone_out before) (has_failed before)) (sink_state (gone_out after) (has_failed after)) bytes

@@ -22,7 +22,7 @@ pub record FollowsUnits (bytes tail : List ℕ) : Type 0 where
   pub some : 0 < length front
   pub split : bytes ≡ front ++ tail
 
--- the same of any number of units
+-- these bytes are the spellings of some units, or of none, and then the tail
 pub record PassesUnits (bytes tail : List ℕ) : Type 0 where
   pub front : List ℕ
   pub units : AreUnitsSpelled front

@@ -7,5 +7,6 @@ pub mod LineLemmas
 pub mod PathLemmas
 pub mod FlagLemmas
 pub mod WalkLemmas
+pub mod StepLemmas
 pub mod FiledLemmas
 pub mod TableLemmas
