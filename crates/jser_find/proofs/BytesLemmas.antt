@@ -1,5 +1,5 @@
 -- What a text spells are bytes.
-use Rattle.std.proofs.Common.{◌≡◌, ℕ, ◌+◌, ◌-◌, ◌*◌, ◌/◌, ◌%◌, ◌<◌, ◌≤◌, Bool, true, false, ◌&&◌, ◌||◌, ◌==◌, nat_le, nat_lt, if◌then◌else◌, IfSome, IsTrue, List, [], ◌∷◌, refl, sym, subst, arith, leb-true, lt-ltb, Option, Some, None}
+use Rattle.std.proofs.Common.{◌≡◌, ℕ, ◌+◌, ◌-◌, ◌<◌, ◌≤◌, Bool, true, false, ◌&&◌, ◌||◌, ◌==◌, nat_le, nat_lt, if◌then◌else◌, IfSome, IsTrue, List, [], ◌∷◌, refl, sym, subst, arith, leb-true, lt-ltb, Option, Some, None}
 use Rattle.std.specs.List.{list_all}
 use Rattle.jser_find.specs.declared.spot.Digit.{Digit}
 use Rattle.jser_find.specs.declared.spot.Digit.TheVariants as digit
@@ -8,7 +8,7 @@ use Rattle.jser_find.specs.declared.spot.Step.{Step}
 use Rattle.jser_find.specs.declared.spot.Step.TheVariants as step
 use Rattle.jser_find.specs.Digits.{base64_value, hexadecimal_value}
 use Rattle.jser_find.specs.Spelled.{follows, spelled}
-use Rattle.jser_find.specs.Spots.{Fits, FitsStep, digit_step, escaped_step, first_read, fourth_read, high_read, low_read, second_read, step_of, third_read}
+use Rattle.jser_find.specs.Spots.{Fits, FitsStep, digit_step, digit_value, escaped_step, radix, step_of, step_with, value_step}
 use Rattle.jser_grammar.specs.Parts.{IsBytes}
 
 -- ---- digits are small
@@ -40,37 +40,28 @@ base64_small c =
 
 -- ---- a character completes a byte
 
-high_fits : (value : Option ℕ) → IfSome value (λ v. v < 16) → FitsStep (high_read value)
-high_fits None small = tt
-high_fits (Some value) small = small
+pub value_small : (next : Digit) (c : ℕ) → IfSome (digit_value next c) (λ value. value < radix next)
+value_small digit.High c = hexadecimal_small c
+value_small (digit.Low bits) c = hexadecimal_small c
+value_small digit.First c = base64_small c
+value_small (digit.Second bits) c = base64_small c
+value_small (digit.Third bits) c = base64_small c
+value_small (digit.Fourth bits) c = base64_small c
 
-low_fits : (bits : ℕ) (value : Option ℕ) → bits < 16 → IfSome value (λ v. v < 16) → FitsStep (low_read bits value)
-low_fits bits None fits small = tt
-low_fits bits (Some value) fits small = (tt, omega arith)
+value_fits : (next : Digit) (value : ℕ) → Fits next → value < radix next → FitsStep (value_step next value)
+value_fits digit.High value fits small = small
+value_fits (digit.Low bits) value fits small = (tt, omega arith)
+value_fits digit.First value fits small = small
+value_fits (digit.Second bits) value fits small = (omega arith, omega arith)
+value_fits (digit.Third bits) value fits small = (omega arith, omega arith)
+value_fits (digit.Fourth bits) value fits small = (tt, omega arith)
 
-first_fits : (value : Option ℕ) → IfSome value (λ v. v < 64) → FitsStep (first_read value)
-first_fits None small = tt
-first_fits (Some value) small = small
-
-second_fits : (bits : ℕ) (value : Option ℕ) → bits < 64 → IfSome value (λ v. v < 64) → FitsStep (second_read bits value)
-second_fits bits None fits small = tt
-second_fits bits (Some value) fits small = (omega arith, omega arith)
-
-third_fits : (bits : ℕ) (value : Option ℕ) → bits < 16 → IfSome value (λ v. v < 64) → FitsStep (third_read bits value)
-third_fits bits None fits small = tt
-third_fits bits (Some value) fits small = (omega arith, omega arith)
-
-fourth_fits : (bits : ℕ) (value : Option ℕ) → bits < 4 → IfSome value (λ v. v < 64) → FitsStep (fourth_read bits value)
-fourth_fits bits None fits small = tt
-fourth_fits bits (Some value) fits small = (tt, omega arith)
+step_with_fits : (next : Digit) (value : Option ℕ) → Fits next → IfSome value (λ v. v < radix next) → FitsStep (step_with next value)
+step_with_fits next None fits small = tt
+step_with_fits next (Some value) fits small = value_fits next value fits small
 
 digit_fits : (next : Digit) (c : ℕ) → Fits next → FitsStep (digit_step next c)
-digit_fits digit.High c fits = high_fits (hexadecimal_value c) (hexadecimal_small c)
-digit_fits (digit.Low bits) c fits = low_fits bits (hexadecimal_value c) fits (hexadecimal_small c)
-digit_fits digit.First c fits = first_fits (base64_value c) (base64_small c)
-digit_fits (digit.Second bits) c fits = second_fits bits (base64_value c) fits (base64_small c)
-digit_fits (digit.Third bits) c fits = third_fits bits (base64_value c) fits (base64_small c)
-digit_fits (digit.Fourth bits) c fits = fourth_fits bits (base64_value c) fits (base64_small c)
+digit_fits next c fits = step_with_fits next (digit_value next c) fits (value_small next c)
 
 fits_if : (test : Bool) (a b : Step) → FitsStep a → FitsStep b → FitsStep (if test then a else b)
 fits_if true a b x y = x

@@ -1,10 +1,10 @@
 -- A search that goes on behind each stream that it found.
-use Rattle.std.proofs.Common.{◌≡◌, ℕ, ◌+◌, ◌-◌, ◌<◌, ◌≤◌, max, List, [], ◌∷◌, ◌++◌, length, take, drop, get_or, Option, Some, None, refl, sym, ap, subst, ◌∙◌, arith, add_assoc, length-drop, length-take, get_or-drop, drop-drop}
-use Rattle.memchr.specs.Find.{Nowhere, NoneBefore}
+use Rattle.std.proofs.Common.{◌≡◌, ℕ, ◌+◌, ◌-◌, ◌≤◌, List, [], ◌∷◌, ◌++◌, length, take, drop, get_or, Option, Some, None, refl, sym, ap, subst, ◌∙◌, arith, add_assoc, length-drop, length-take, get_or-drop, drop-drop}
+use Rattle.memchr.specs.Find.{Nowhere}
 use Rattle.jser_reader.specs.Gates.{open_gate}
 use Rattle.jser_reader.specs.WholeContents.{IsWhole}
 use Rattle.jser_find.specs.declared.finder.Find.{Find}
-use Rattle.jser_find.specs.Finds.{FindsNext, FindsOf, HasFound, HasHeaderAt, HasNoHeaderFrom, IsFindFrom, IsFirstFrom, LeadTo, LiesIn, Searching, place_behind}
+use Rattle.jser_find.specs.Finds.{FindsNext, HasFound, HasHeaderAt, HasNoHeaderFrom, IsFindFrom, IsFirstFrom, LeadTo, LiesIn, Searching, place_behind}
 
 -- ---- places in what is left are places in all bytes
 

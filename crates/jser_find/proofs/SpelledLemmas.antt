@@ -1,11 +1,10 @@
 -- A text that is read character by character.
-use Rattle.std.proofs.Common.{◌≡◌, ℕ, suc, ◌+◌, ◌<◌, ◌≤◌, List, [], ◌∷◌, ◌++◌, length, take, drop, get_or, Option, Some, None, refl, sym, ap, subst, ◌∙◌, arith, drop-cons, drop_of_length-le}
+use Rattle.std.proofs.Common.{◌≡◌, ℕ, suc, ◌+◌, ◌<◌, ◌≤◌, List, [], ◌∷◌, length, drop, get_or, Some, None, refl, sym, ap, ◌∙◌, arith, drop-cons, drop_of_length-le}
 use Rattle.jser_find.specs.declared.spot.Spot.{Spot}
 use Rattle.jser_find.specs.declared.spot.Step.{Step}
 use Rattle.jser_find.specs.declared.spot.Step.TheVariants as step
-use Rattle.jser_find.specs.declared.spelled.Given.{Given}
 use Rattle.jser_find.specs.declared.spelled.Reading.{Reading}
-use Rattle.jser_find.specs.Spots.{Fits, FitsStep, step_of}
+use Rattle.jser_find.specs.Spots.{Fits, step_of}
 use Rattle.jser_find.specs.Spelled.{GivesNext, IsIn, bytes_from, counted, follows, place_until, spelled, until}
 
 -- from there on the text spells what all of it does, with its bytes in the same places

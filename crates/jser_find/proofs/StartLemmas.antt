@@ -1,26 +1,20 @@
 -- Where the header of a stream begins in a text.
-use Rattle.std.proofs.Common.{◌≡◌, ℕ, ◌+◌, ◌%◌, ◌<◌, ◌≤◌, ◌⊎◌, ◌==◌, ◌||◌, Bool, true, false, if◌then◌else◌, List, [], ◌∷◌, length, take, drop, get_or, refl, sym, ap, subst, ◌∙◌, arith, inl, inr, ⊎_elim, eq-or-lt_of_le, Option, Some, None}
+use Rattle.std.proofs.Common.{◌≡◌, ℕ, ◌+◌, ◌%◌, ◌<◌, ◌≤◌, ◌⊎◌, ◌==◌, ◌||◌, Bool, true, false, if◌then◌else◌, List, [], ◌∷◌, length, take, drop, get_or, IfSome, refl, sym, ap, subst, ◌∙◌, arith, inl, inr, ⊎_elim, eq-or-lt_of_le, Option, Some, None}
 use Rattle.std.proofs.lemmas.Bool.Decides.{nat_tests}
-use Rattle.memchr.specs.Find.{NoneBefore, Nowhere}
+use Rattle.memchr.specs.Find.{Nowhere}
 use Rattle.jser_find.specs.declared.spot.Digit.TheVariants as digit
 use Rattle.jser_find.specs.declared.spelled.Reading.{Reading}
-use Rattle.jser_find.specs.declared.start.Start.{Start}
 use Rattle.jser_grammar.specs.Wire.{stream_header}
 use Rattle.jser_find.specs.declared.spot.Digit.{Digit}
 use Rattle.jser_find.specs.declared.spot.Step.{Step}
 use Rattle.jser_find.specs.declared.spot.Step.TheVariants as step
 use Rattle.jser_find.specs.Digits.{base64_value, hexadecimal_value}
 use Rattle.jser_find.specs.Spelled.{follows, spelled}
-use Rattle.jser_find.specs.Spots.{before, digit_step, fourth_read, low_read, second_read, step_of, third_read}
+use Rattle.jser_find.specs.Spots.{before, digit_step, digit_value, radix, step_of, step_with, value_step}
 use Rattle.jser_find.specs.Starts.{HasHeaderTextAt, IsFirstStart, ReadsFrom, ReadsGroup, ReadsPair, SpellsHeader, StartsAt, StartsBy, leads, reading_before}
+use Rattle.jser_find.proofs.BytesLemmas.{value_small}
 
 -- ---- a header's first byte
-
-hexadecimal_small : (c value : ℕ) → hexadecimal_value c ≡ Some value → value < 16
-hexadecimal_small c value e = grind (arith, nat_tests, e)
-
-base64_small : (c value : ℕ) → base64_value c ≡ Some value → value < 64
-base64_small c value e = grind (arith, nat_tests, e)
 
 is_equal : (m n : ℕ) → m ≡ n → (m == n) ≡ true
 is_equal m n e = grind (arith, nat_tests, e)
@@ -31,29 +25,20 @@ IsLed next (step.Goes spot) = spot.next ≡ next
 IsLed next (step.Gives byte spot) = byte ≡ 0xAC → leads next ≡ true
 IsLed next step.Ends = Unit {0}
 
+led_value : (next : Digit) (value : ℕ) → value < radix next → leads next ≡ false → IsLed next (value_step next value)
+led_value digit.High value small e = absurd (let no : true ≡ false = e in cc)
+led_value digit.First value small e = absurd (let no : true ≡ false = e in cc)
+led_value (digit.Low bits) value small e = λ byte. is_equal bits 10 (omega (arith, byte, small))
+led_value (digit.Second bits) value small e = λ byte. is_equal bits 43 (omega (arith, byte, small))
+led_value (digit.Third bits) value small e = λ byte. is_equal bits 10 (omega (arith, byte, small))
+led_value (digit.Fourth bits) value small e = λ byte. is_equal bits 2 (omega (arith, byte, small))
+
+led_with : (next : Digit) (value : Option ℕ) → IfSome value (λ v. v < radix next) → leads next ≡ false → IsLed next (step_with next value)
+led_with next None small e = tt
+led_with next (Some value) small e = led_value next value small e
+
 led_digit : (next : Digit) (c : ℕ) → leads next ≡ false → IsLed next (digit_step next c)
-led_digit digit.High c e = absurd (let no : true ≡ false = e in cc)
-led_digit digit.First c e = absurd (let no : true ≡ false = e in cc)
-led_digit (digit.Low bits) c e = by (hexadecimal_value c) refl
-  where
-    by : (o : Option ℕ) → hexadecimal_value c ≡ o → IsLed (digit.Low bits) (low_read bits o)
-    by None is = tt
-    by (Some value) is = λ byte. is_equal bits 10 (omega (arith, byte, hexadecimal_small c value is))
-led_digit (digit.Second bits) c e = by (base64_value c) refl
-  where
-    by : (o : Option ℕ) → base64_value c ≡ o → IsLed (digit.Second bits) (second_read bits o)
-    by None is = tt
-    by (Some value) is = λ byte. is_equal bits 43 (omega (arith, byte, base64_small c value is))
-led_digit (digit.Third bits) c e = by (base64_value c) refl
-  where
-    by : (o : Option ℕ) → base64_value c ≡ o → IsLed (digit.Third bits) (third_read bits o)
-    by None is = tt
-    by (Some value) is = λ byte. is_equal bits 10 (omega (arith, byte, base64_small c value is))
-led_digit (digit.Fourth bits) c e = by (base64_value c) refl
-  where
-    by : (o : Option ℕ) → base64_value c ≡ o → IsLed (digit.Fourth bits) (fourth_read bits o)
-    by None is = tt
-    by (Some value) is = λ byte. is_equal bits 2 (omega (arith, byte, base64_small c value is))
+led_digit next c e = led_with next (digit_value next c) (value_small next c) e
 
 led_step : (next : Digit) (escaped : Bool) (c : ℕ) → leads next ≡ false → IsLed next (step_of (record { next = next; escaped = escaped }) c)
 led_step next true c e = by (c == 0x6E || c == 0x72) (c == 0x2F)

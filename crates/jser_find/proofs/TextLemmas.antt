@@ -1,15 +1,13 @@
 -- The longest stream that a text spells.
-use Rattle.std.proofs.Common.{◌≡◌, ℕ, ◌+◌, ◌-◌, ◌<◌, ◌≤◌, List, ◌++◌, length, take, drop, get_or, Option, Some, None, refl, sym, ap, subst, ◌∙◌, arith, inl, inr, length-take, length-take-le, take_all, take-take, take-add, take-append-drop, mod-lt}
+use Rattle.std.proofs.Common.{◌≡◌, ℕ, ◌+◌, ◌-◌, ◌<◌, ◌≤◌, List, ◌++◌, length, take, drop, Option, Some, None, sym, ap, subst, ◌∙◌, arith, length-take, length-take-le, take_all, take-take, take-add, take-append-drop}
 use Rattle.jser_grammar.specs.Parts.{IsBytes}
 use Rattle.jser_reader.specs.Gates.{open_gate}
 use Rattle.jser_reader.specs.WholeContents.{IsWhole, StaysWhole}
-use Rattle.jser_find.specs.declared.spot.Digit.TheVariants as digit
 use Rattle.jser_find.specs.declared.spelled.Reading.{Reading}
 use Rattle.jser_find.specs.declared.start.Start.{Start}
 use Rattle.jser_find.specs.declared.texts.TextFind.{TextFind}
-use Rattle.jser_find.specs.Digits.{base64_value}
 use Rattle.jser_find.specs.Spelled.{IsIn, bytes_from, place_until}
-use Rattle.jser_find.specs.Starts.{HasHeaderTextAt, IsFirstStart}
+use Rattle.jser_find.specs.Starts.{IsFirstStart}
 use Rattle.jser_find.specs.Texts.{FindsText, IsLongest, TextSearch, form_of}
 use Rattle.jser_find.proofs.BytesLemmas.{spells_bytes}
 use Rattle.jser_verdict.proofs.ByteLists.{bytes_left, bytes_right}

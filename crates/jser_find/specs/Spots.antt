@@ -25,55 +25,40 @@ FitsStep step.Ends = Unit {0}
 abbrev pub before : Digit → Spot
 before next = record { next = next; escaped = false }
 
-abbrev pub high_read : Option ℕ → Step
-high_read None = step.Ends
-high_read (Some value) = step.Goes (before (digit.Low value))
+-- the value of a character in the alphabet of the next digit
+abbrev pub digit_value : Digit → ℕ → Option ℕ
+digit_value digit.High c = hexadecimal_value c
+digit_value (digit.Low bits) c = hexadecimal_value c
+digit_value digit.First c = base64_value c
+digit_value (digit.Second bits) c = base64_value c
+digit_value (digit.Third bits) c = base64_value c
+digit_value (digit.Fourth bits) c = base64_value c
 
-abbrev pub after_high : ℕ → Step
-after_high c = high_read (hexadecimal_value c)
+-- how many values a digit of that alphabet may have
+abbrev pub radix : Digit → ℕ
+radix digit.High = 16
+radix (digit.Low bits) = 16
+radix digit.First = 64
+radix (digit.Second bits) = 64
+radix (digit.Third bits) = 64
+radix (digit.Fourth bits) = 64
 
-abbrev pub low_read : ℕ → Option ℕ → Step
-low_read bits None = step.Ends
-low_read bits (Some value) = step.Gives (bits * 16 + value) (before digit.High)
+-- what a digit of this value does: its bits go behind those that are left, and eight of them are a byte
+abbrev pub value_step : Digit → ℕ → Step
+value_step digit.High value = step.Goes (before (digit.Low value))
+value_step (digit.Low bits) value = step.Gives (bits * 16 + value) (before digit.High)
+value_step digit.First value = step.Goes (before (digit.Second value))
+value_step (digit.Second bits) value = step.Gives (bits * 4 + value / 16) (before (digit.Third (value % 16)))
+value_step (digit.Third bits) value = step.Gives (bits * 16 + value / 4) (before (digit.Fourth (value % 4)))
+value_step (digit.Fourth bits) value = step.Gives (bits * 64 + value) (before digit.First)
 
-abbrev pub after_low : ℕ → ℕ → Step
-after_low bits c = low_read bits (hexadecimal_value c)
-
-abbrev pub first_read : Option ℕ → Step
-first_read None = step.Ends
-first_read (Some value) = step.Goes (before (digit.Second value))
-
-abbrev pub after_first : ℕ → Step
-after_first c = first_read (base64_value c)
-
-abbrev pub second_read : ℕ → Option ℕ → Step
-second_read bits None = step.Ends
-second_read bits (Some value) = step.Gives (bits * 4 + value / 16) (before (digit.Third (value % 16)))
-
-abbrev pub after_second : ℕ → ℕ → Step
-after_second bits c = second_read bits (base64_value c)
-
-abbrev pub third_read : ℕ → Option ℕ → Step
-third_read bits None = step.Ends
-third_read bits (Some value) = step.Gives (bits * 16 + value / 4) (before (digit.Fourth (value % 4)))
-
-abbrev pub after_third : ℕ → ℕ → Step
-after_third bits c = third_read bits (base64_value c)
-
-abbrev pub fourth_read : ℕ → Option ℕ → Step
-fourth_read bits None = step.Ends
-fourth_read bits (Some value) = step.Gives (bits * 64 + value) (before digit.First)
-
-abbrev pub after_fourth : ℕ → ℕ → Step
-after_fourth bits c = fourth_read bits (base64_value c)
+-- the digits end before a character that is none
+abbrev pub step_with : Digit → Option ℕ → Step
+step_with next None = step.Ends
+step_with next (Some value) = value_step next value
 
 abbrev pub digit_step : Digit → ℕ → Step
-digit_step digit.High c = after_high c
-digit_step (digit.Low bits) c = after_low bits c
-digit_step digit.First c = after_first c
-digit_step (digit.Second bits) c = after_second bits c
-digit_step (digit.Third bits) c = after_third bits c
-digit_step (digit.Fourth bits) c = after_fourth bits c
+digit_step next c = step_with next (digit_value next c)
 
 -- behind a `\`: an `n` or an `r` makes a line end of it, and `\/` is `/` in JSON
 abbrev pub escaped_step : Digit → ℕ → Step

@@ -1,5 +1,5 @@
 -- Where the header of a stream begins in a text.
-use Rattle.std.specs.Prelude.{ℕ, ◌≡◌, ◌+◌, ◌%◌, ◌<◌, ◌⊎◌, ◌==◌, Bool, true, List, length, take, get_or, Option, None, Some}
+use Rattle.std.specs.Prelude.{ℕ, ◌≡◌, ◌+◌, ◌%◌, ◌⊎◌, ◌==◌, Bool, true, List, length, take, get_or, Option, None, Some}
 use Rattle.memchr.specs.Find.{NoneBefore, Nowhere}
 use Rattle.jser_grammar.specs.Wire.{stream_header}
 use Rattle.jser_find.specs.declared.spot.Digit.{Digit}

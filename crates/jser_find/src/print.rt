@@ -1,8 +1,8 @@
 //! The line or the JSON object of a stream that was found.
-ghost use Rattle.std.specs.Prelude.{◌≡◌, [], OnOk, OnErr, true};
+ghost use Rattle.std.specs.Prelude.{◌≡◌, ◌++◌, [], OnOk, OnErr, true};
 ghost use Rattle.std.specs.Io.KnownBytes.{Appends};
 ghost use Rattle.jser_printer.specs.Says.{SaysTo};
-ghost use Rattle.jser_find.specs.Lines.{find_words, form_member, form_words, line_words, object_words, place_members, place_words};
+ghost use Rattle.jser_find.specs.Lines.{find_words, form_words, line_words, object_words, place_members, place_words};
 
 use crate::form::Form;
 use jser_prim::{Failed, Outbox, Sink};
@@ -89,18 +89,7 @@ fn write_place<W: Sink>(outbox: &mut Outbox, sink: &mut W, place: Place)
 {
     write_count(outbox, sink, b": ", place.from);
     write_count(outbox, sink, b" to ", place.to);
-    write_form(outbox, sink, place.form);
-}
-
-/// Writes how a stream is spelled, if a text spells it.
-fn write_form<W: Sink>(outbox: &mut Outbox, sink: &mut W, form: Form)
-    ensures { SaysTo W.gone_out W.has_failed outbox.old outbox.new sink.old sink.new (λ k. form_words form k) }
-{
-    match form {
-        Form::Bytes => write(outbox, sink, b""),
-        Form::Base64 => write(outbox, sink, b" as base64"),
-        Form::Hexadecimal => write(outbox, sink, b" as hexadecimal"),
-    }
+    write_form(outbox, sink, b" as ", place.form, b"");
 }
 
 /// Writes the object.
@@ -126,16 +115,31 @@ fn write_place_members<W: Sink>(outbox: &mut Outbox, sink: &mut W, place: Place)
 {
     write_count(outbox, sink, b",\"start\":", place.from);
     write_count(outbox, sink, b",\"end\":", place.to);
-    write_form_member(outbox, sink, place.form);
+    write_form(outbox, sink, b",\"form\":\"", place.form, b"\"");
 }
 
-/// Writes the member of how a stream is spelled, if a text spells it.
-fn write_form_member<W: Sink>(outbox: &mut Outbox, sink: &mut W, form: Form)
-    ensures { SaysTo W.gone_out W.has_failed outbox.old outbox.new sink.old sink.new (λ k. form_member form k) }
+/// Writes how a stream is spelled between these words, if a text spells it.
+fn write_form<W: Sink>(outbox: &mut Outbox, sink: &mut W, before: &[u8], form: Form, after: &[u8])
+    ensures { SaysTo W.gone_out W.has_failed outbox.old outbox.new sink.old sink.new (λ k. form_words before.now form after.now k) }
 {
     match form {
         Form::Bytes => write(outbox, sink, b""),
-        Form::Base64 => write(outbox, sink, b",\"form\":\"base64\""),
-        Form::Hexadecimal => write(outbox, sink, b",\"form\":\"hexadecimal\""),
+        Form::Base64 => write_between(outbox, sink, before, b"base64", after),
+        Form::Hexadecimal => write_between(outbox, sink, before, b"hexadecimal", after),
     }
+}
+
+/// Writes words between two others.
+fn write_between<W: Sink>(
+    outbox: &mut Outbox,
+    sink: &mut W,
+    before: &[u8],
+    words: &[u8],
+    after: &[u8],
+)
+    ensures { SaysTo W.gone_out W.has_failed outbox.old outbox.new sink.old sink.new (λ k. before.now ++ (words.now ++ (after.now ++ k))) }
+{
+    write(outbox, sink, before);
+    write(outbox, sink, words);
+    write(outbox, sink, after);
 }

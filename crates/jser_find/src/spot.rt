@@ -1,6 +1,6 @@
 //! Where a text is between its digits, and what a character does there.
-ghost use Rattle.std.specs.Prelude.{◌≡◌, ◌<◌};
-ghost use Rattle.jser_find.specs.Spots.{Fits, FitsStep, before, step_of, digit_step, escaped_step, after_high, after_low, after_first, after_second, after_third, after_fourth};
+ghost use Rattle.std.specs.Prelude.{◌≡◌, ◌<◌, IfSome};
+ghost use Rattle.jser_find.specs.Spots.{Fits, FitsStep, before, digit_step, digit_value, escaped_step, radix, step_of, value_step};
 
 use crate::digit::{base64_value, hexadecimal_value};
 
@@ -85,13 +85,39 @@ fn digit_step(next: Digit, byte: u8) -> Step
     ensures is { result ≡ digit_step next byte }
     ensures fits { FitsStep result }
 {
+    match digit_value(next, byte) {
+        Some(value) => value_step(next, value),
+        None => Step::Ends,
+    }
+}
+
+/// The value of a character in the alphabet of the next digit.
+fn digit_value(next: Digit, byte: u8) -> Option<u8>
+    ensures is { result ≡ digit_value next byte }
+    ensures small { IfSome result (λ value. value < radix next) }
+{
     match next {
-        Digit::High => after_high(byte),
-        Digit::Low(bits) => after_low(bits, byte),
-        Digit::First => after_first(byte),
-        Digit::Second(bits) => after_second(bits, byte),
-        Digit::Third(bits) => after_third(bits, byte),
-        Digit::Fourth(bits) => after_fourth(bits, byte),
+        Digit::High | Digit::Low(_) => hexadecimal_value(byte),
+        Digit::First | Digit::Second(_) | Digit::Third(_) | Digit::Fourth(_) => base64_value(byte),
+    }
+}
+
+/// What a digit of this value does: its bits go behind those that are left, and eight of them are a byte.
+fn value_step(next: Digit, value: u8) -> Step
+    requires bits { Fits next }
+    requires small { value < radix next }
+    ensures is { result ≡ value_step next value }
+    ensures fits { FitsStep result }
+{
+    match next {
+        Digit::High => Step::Goes(before(Digit::Low(value))),
+        Digit::Low(bits) => Step::Gives(bits * 16 + value, before(Digit::High)),
+        Digit::First => Step::Goes(before(Digit::Second(value))),
+        Digit::Second(bits) => {
+            Step::Gives(bits * 4 + value / 16, before(Digit::Third(value % 16)))
+        }
+        Digit::Third(bits) => Step::Gives(bits * 16 + value / 4, before(Digit::Fourth(value % 4))),
+        Digit::Fourth(bits) => Step::Gives(bits * 64 + value, before(Digit::First)),
     }
 }
 
@@ -102,75 +128,5 @@ fn before(next: Digit) -> Spot
     Spot {
         next,
         escaped: false,
-    }
-}
-
-/// The first digit of a pair.
-fn after_high(byte: u8) -> Step
-    ensures is { result ≡ after_high byte }
-    ensures fits { FitsStep result }
-{
-    match hexadecimal_value(byte) {
-        Some(value) => Step::Goes(before(Digit::Low(value))),
-        None => Step::Ends,
-    }
-}
-
-/// The second digit of a pair, which completes a byte.
-fn after_low(bits: u8, byte: u8) -> Step
-    requires { bits < 16 }
-    ensures is { result ≡ after_low bits byte }
-    ensures fits { FitsStep result }
-{
-    match hexadecimal_value(byte) {
-        Some(value) => Step::Gives(bits * 16 + value, before(Digit::High)),
-        None => Step::Ends,
-    }
-}
-
-/// The first digit of a group.
-fn after_first(byte: u8) -> Step
-    ensures is { result ≡ after_first byte }
-    ensures fits { FitsStep result }
-{
-    match base64_value(byte) {
-        Some(value) => Step::Goes(before(Digit::Second(value))),
-        None => Step::Ends,
-    }
-}
-
-/// The second digit of a group, which completes its first byte.
-fn after_second(bits: u8, byte: u8) -> Step
-    requires { bits < 64 }
-    ensures is { result ≡ after_second bits byte }
-    ensures fits { FitsStep result }
-{
-    match base64_value(byte) {
-        Some(value) => Step::Gives(bits * 4 + value / 16, before(Digit::Third(value % 16))),
-        None => Step::Ends,
-    }
-}
-
-/// The third digit of a group, which completes its second byte.
-fn after_third(bits: u8, byte: u8) -> Step
-    requires { bits < 16 }
-    ensures is { result ≡ after_third bits byte }
-    ensures fits { FitsStep result }
-{
-    match base64_value(byte) {
-        Some(value) => Step::Gives(bits * 16 + value / 4, before(Digit::Fourth(value % 4))),
-        None => Step::Ends,
-    }
-}
-
-/// The fourth digit of a group, which completes its third byte.
-fn after_fourth(bits: u8, byte: u8) -> Step
-    requires { bits < 4 }
-    ensures is { result ≡ after_fourth bits byte }
-    ensures fits { FitsStep result }
-{
-    match base64_value(byte) {
-        Some(value) => Step::Gives(bits * 64 + value, before(Digit::First)),
-        None => Step::Ends,
     }
 }

@@ -1,4 +1,4 @@
-use Rattle.std.specs.Prelude.{codes}
+use Rattle.std.specs.Prelude.{[], codes}
 use Rattle.jser_printer.proofs.SaysLemmas.{says_three}
 use Rattle.jser_scan.specs.Answers.{count_words}
 use Rattle.jser_find.specs.Lines.{form_words}
@@ -7,4 +7,4 @@ use Rattle.jser_find.proofs.print.write_place.Goals as goal
 pub returns : goal.returns
 returns g c =
     says_three _ _ _ _ _ _ _ _ (λ k. count_words (codes ": ") c.args.place.from k) (λ k. count_words (codes " to ") c.args.place.to k)
-    (λ k. form_words c.args.place.form k) c.write_count.ensures c.write_count-2.ensures c.write_form.ensures
+    (λ k. form_words (codes " as ") c.args.place.form [] k) c.write_count.ensures c.write_count-2.ensures c.write_form.ensures
