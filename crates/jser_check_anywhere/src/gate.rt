@@ -30,9 +30,9 @@ impl<'f> Holds for Held<'f> {
     }
 }
 
-/// The filter of a gate, as the judge of the names that can be read at any place.
+/// The filter of a gate, as the judge of the names that can be read at any place: each passes that `passes` lets pass.
 #[derive(Drop)]
-pub(crate) struct NameJudge<'g, F: Holds> {
+pub struct NameJudge<'g, F: Holds> {
     gate: &'g FilterGate<F>,
 }
 
@@ -46,7 +46,7 @@ impl<'g, F: Holds> Model for NameJudge<'g, F> {
 
 impl<'g, F: Holds> NameJudge<'g, F> {
     /// The judge that asks the filter of this gate.
-    pub(crate) fn of(gate: &'g FilterGate<F>) -> NameJudge<'g, F>
+    pub fn of(gate: &'g FilterGate<F>) -> NameJudge<'g, F>
         ensures { result ≡ gate.now }
     {
         NameJudge { gate }

@@ -9,5 +9,5 @@ mod source;
 
 pub use checker::AnywhereChecker;
 pub use fault::AnywhereFault;
-pub use gate::passes;
+pub use gate::{NameJudge, passes};
 pub use source::check_anywhere;

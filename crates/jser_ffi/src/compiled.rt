@@ -10,19 +10,19 @@ use crate::misuse::{
 };
 use crate::pieces::stopped;
 use crate::way::way_of;
-use jser_check::{Options, Report, Stop, judge_bytes};
+use jser_check::{FilterGate, Holds, Options, Report, Stop, judge_bytes};
 use jser_check_anywhere::{AnywhereChecker, AnywhereFault};
 use jser_filter::{Filter, Modules};
 use jser_settings::{FileTextFault, filter_text_of};
 use jser_shared::SharedFilter;
-use std::alloc::Global;
+use std::alloc::{AllocError, Global};
 use std::str;
 
 /// A filter that was read once, and how it is asked.
 #[derive(Drop)]
 pub struct Compiled {
     /// The filter, with its table of modules and how it is applied to a name.
-    pub applied: SharedFilter,
+    pub applied: FilterGate<SharedFilter>,
     /// Whether it is asked about every class name that can be read at any place of the bytes.
     pub anywhere: bool,
     pub(crate) alloc: Global,
@@ -51,9 +51,9 @@ pub(crate) fn compile(
         Ok(filter) => filter,
         Err(answer) => return Err(answer),
     };
-    match SharedFilter::new(alloc, filter, way.options) {
-        Ok(applied) => Ok(Compiled {
-            applied,
+    match SharedFilter::new(alloc, filter) {
+        Ok(shared) => Ok(Compiled {
+            applied: FilterGate::new(shared, way.options),
             anywhere: way.anywhere,
             alloc,
         }),
@@ -144,13 +144,27 @@ fn table_of(alloc: Global, text: &[u8]) -> Result<Modules, Answer>
 }
 
 impl Compiled {
+    /// The gate of a stream, which shares the filter. It takes no memory.
+    ///
+    /// # Errors
+    ///
+    /// Where the filter has too many owners.
+    pub(crate) fn gate(&self) -> Result<FilterGate<SharedFilter>, AllocError>
+        ensures { IfOk result (λ gate. gate ≡ self.now.applied) }
+    {
+        match self.applied.holder().share() {
+            Ok(shared) => Ok(FilterGate::new(shared, self.applied.options())),
+            Err(error) => Err(error),
+        }
+    }
+
     /// The answer to a check of bytes.
     pub(crate) fn check(&self, bytes: &[u8]) -> Answer
         ensures says { Says self.now bytes.now result }
         ensures zeros { Zeros result }
     {
         let alloc = self.alloc;
-        let (filter, options) = (self.applied.filter(), self.applied.options());
+        let (filter, options) = (self.applied.holder().filter(), self.applied.options());
         if self.anywhere {
             check_anywhere(alloc, bytes, filter, options)
         } else {

@@ -7,11 +7,13 @@ ghost use Rattle.jser_ffi.specs.Pieces.{TakenAnywhere, checking, FedPlain, FedAn
 
 use crate::answer::{Answer, NO_MEMORY, SPENT, accepted, bare, hidden, more, refused};
 use jser_anywhere::{Hidden, Scan};
+use jser_check::FilterGate;
+use jser_check_anywhere::NameJudge;
 use jser_reader::{Reader, Refusal, Stop};
 use jser_shared::SharedFilter;
 
 /// What the next bytes decide.
-pub(crate) fn feed_plain(reader: &mut Reader<SharedFilter>, piece: &[u8]) -> Answer
+pub(crate) fn feed_plain(reader: &mut Reader<FilterGate<SharedFilter>>, piece: &[u8]) -> Answer
     ensures says { (taken : List ℕ) → HasTaken reader.old taken → FedPlain reader.old reader.new taken piece.now result }
     ensures whole { (taken : List ℕ) → HasTaken reader.old taken → SaysWhole reader.old.gate.filter reader.old.gate.options (taken ++ piece.now) result }
     ensures filter { reader.new.gate ≡ reader.old.gate }
@@ -24,7 +26,7 @@ pub(crate) fn feed_plain(reader: &mut Reader<SharedFilter>, piece: &[u8]) -> Ans
 }
 
 /// The answer at the end.
-pub(crate) fn end_plain(reader: &mut Reader<SharedFilter>) -> Answer
+pub(crate) fn end_plain(reader: &mut Reader<FilterGate<SharedFilter>>) -> Answer
     ensures says { (taken : List ℕ) → HasTaken reader.old taken → SaysPlain reader.old.gate.filter reader.old.gate.options taken result }
     ensures whole { (taken : List ℕ) → HasTaken reader.old taken → SaysWhole reader.old.gate.filter reader.old.gate.options taken result }
     ensures zeros { Zeros result }
@@ -37,7 +39,7 @@ pub(crate) fn end_plain(reader: &mut Reader<SharedFilter>) -> Answer
 
 /// What the next bytes decide, with every class name that can be read at any place.
 pub(crate) fn feed_anywhere(
-    reader: &mut Reader<SharedFilter>,
+    reader: &mut Reader<FilterGate<SharedFilter>>,
     scan: &mut Scan,
     piece: &[u8],
 ) -> Answer
@@ -49,12 +51,13 @@ pub(crate) fn feed_anywhere(
     ensures zeros { Zeros result }
 {
     let checked = reader.skip(piece);
-    let hidden = scan.feed(reader.gate(), piece);
+    let judge = NameJudge::of(reader.gate());
+    let hidden = scan.feed(&judge, piece);
     first(checked, hidden, reader.whole())
 }
 
 /// The answer at the end, with every class name that can be read at any place.
-pub(crate) fn end_anywhere(reader: &mut Reader<SharedFilter>, scan: &Scan) -> Answer
+pub(crate) fn end_anywhere(reader: &mut Reader<FilterGate<SharedFilter>>, scan: &Scan) -> Answer
     ensures says { (taken : List ℕ) → TakenAnywhere reader.old scan.now taken → SaysAnywhere reader.old.gate.filter reader.old.gate.options taken result }
     ensures whole { (taken : List ℕ) → TakenAnywhere reader.old scan.now taken → SaysWhole reader.old.gate.filter reader.old.gate.options taken result }
     ensures zeros { Zeros result }

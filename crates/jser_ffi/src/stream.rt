@@ -9,6 +9,7 @@ use crate::answer::{Answer, MORE};
 use crate::compiled::Compiled;
 use crate::pieces::{end_anywhere, end_plain, feed_anywhere, feed_plain};
 use jser_anywhere::Scan;
+use jser_check::FilterGate;
 use jser_reader::Reader;
 use jser_shared::SharedFilter;
 use std::alloc::AllocError;
@@ -17,9 +18,9 @@ use std::alloc::AllocError;
 #[derive(Drop)]
 pub enum Stream {
     /// It is checked, and nothing is decided yet.
-    Plain(Reader<SharedFilter>),
+    Plain(Reader<FilterGate<SharedFilter>>),
     /// It is checked, the filter is asked about every class name that can be read at any place, and nothing is decided yet.
-    Anywhere(Reader<SharedFilter>, Scan),
+    Anywhere(Reader<FilterGate<SharedFilter>>, Scan),
     /// It cannot go on: each call answers this.
     Over(Answer),
 }
@@ -33,8 +34,8 @@ impl Stream {
     pub(crate) fn new(compiled: &Compiled) -> Result<Stream, AllocError>
         ensures { IfOk result (Begins compiled.now) }
     {
-        let reader = match compiled.applied.share() {
-            Ok(filter) => Reader::new(compiled.alloc, filter),
+        let reader = match compiled.gate() {
+            Ok(gate) => Reader::new(compiled.alloc, gate),
             Err(error) => return Err(error),
         };
         if compiled.anywhere {

@@ -1,8 +1,6 @@
-//! A filter that several checks own together, as the gate of each of them and as the judge of names at any place.
+//! A filter that several checks own together, as what holds the filter of each one's gate.
 #![tactic(auto)]
 
 mod filter;
-mod gate;
-mod judge;
 
 pub use filter::SharedFilter;

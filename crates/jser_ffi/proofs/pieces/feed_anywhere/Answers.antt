@@ -1,4 +1,4 @@
-use Rattle.std.proofs.Common.{subst, arith}
+use Rattle.std.proofs.Common.{subst, ◌∙◌, arith}
 use Rattle.jser_reader.proofs.ReaderLemmas.{all_bytes}
 use Rattle.jser_anywhere.specs.Scans.{TakesBytes}
 use Rattle.jser_check_anywhere.specs.Passing.{passes_name}
@@ -10,7 +10,7 @@ pub returns-clause-says : goal.returns-clause-says
 returns-clause-says c = λ taken st.
     fed_anywhere c.args.reader.now c.skip-checked.new.self c.args.scan.now c.feed-hidden.new.self taken c.args.piece.now c.skip-checked.result c.feed-hidden.result c.first.result
     c.first.ensures.has (all_bytes c.args.piece.now (λ k. (c.type_inv.piece k).fits)) (omega arith) c.skip-checked.ensures.tells
-    (subst (λ g. TakesBytes (passes_name g.filter g.options) c.args.scan.now c.feed-hidden.new.self c.args.piece.now c.feed-hidden.result) c.gate.ensures c.feed-hidden.ensures)
+    (subst (λ g. TakesBytes (passes_name g.filter g.options) c.args.scan.now c.feed-hidden.new.self c.args.piece.now c.feed-hidden.result) (c.of-judge.ensures ∙ c.gate.ensures) c.feed-hidden.ensures)
     c.skip-checked.ensures.gate st
 
 pub returns-clause-whole : goal.returns-clause-whole
