@@ -1,3 +1,8 @@
+pub mod JudgeLemmas
+pub mod ReadingLemmas
 pub mod RoomLemmas
-pub mod WordLemmas
+pub mod SoonerLemmas
+pub mod SpareLemmas
+pub mod TextLemmas
 pub mod ToldLemmas
+pub mod WordLemmas

@@ -1,12 +1,12 @@
 -- The room in which bytes wait.
-use Rattle.std.proofs.Common.{◌≡◌, ◌≢◌, ℕ, zero, suc, ◌+◌, ◌-◌, ◌≤◌, ◌<◌, min, Bool, true, false, List, [], ◌∷◌, ◌++◌, length, take, drop, get_or, Option, Some, None, inl, inr, refl, sym, ap, subst, ◌∙◌, arith}
+use Rattle.std.proofs.Common.{◌≡◌, ℕ, ◌+◌, ◌-◌, ◌≤◌, ◌<◌, Bool, true, List, ◌∷◌, ◌++◌, length, take, drop, get_or, Option, Some, None, inl, inr, refl, sym, ap, subst, ◌∙◌, arith}
 use Rattle.std.proofs.lemmas.Bool.{cases_lt, eqb-true, eq-eqb}
-use Rattle.std.proofs.lemmas.List.{take-append-drop, append_assoc, append-nil, take_at, drop_at, drop-take, drop-append-le, take-append-le, length-append, length-take-le, length-drop, length-take, drop_more, take_all, drop-drop, get_or-drop, get_or-take, get_or_default}
-use Rattle.std.specs.List.{All, copy_within}
-use Rattle.std.specs.Prelude.{slice_index, slice_index_or}
+use Rattle.std.proofs.lemmas.List.{take-append-drop, append_assoc, take_at, drop-take, drop-append-le, take-append-le, length-append, length-take-le, length-drop, drop_more, take_all, get_or-drop, get_or-take, get_or_default}
+use Rattle.std.specs.List.{copy_within}
+use Rattle.std.specs.Prelude.{slice_index}
 use Rattle.memchr.specs.Find.{IsFirstByte, is_byte}
 use Rattle.std.specs.Io.KnownBytes.{Consumes}
-use Rattle.jser_records.specs.Arriving.{ComesMore, view_of, Fits, HasNone, IsBefore, part_from, room_size}
+use Rattle.jser_records.specs.Arriving.{ComesMore, view_of, Fits, HasNone, IsBefore, part_from}
 
 part_is : (room : List ℕ) (s e : ℕ) → s ≤ e → part_from room s e ≡ take (e - s) (drop s room)
 part_is room s e le = let n : s + (e - s) ≡ e = omega (arith, le) in ap (λ k. drop s (take k room)) (sym n) ∙ drop-take s (e - s) room

@@ -1,5 +1,5 @@
 -- What is said of records, one after another.
-use Rattle.std.proofs.Common.{◌≡◌, ℕ, Bool, true, false, List, [], ◌∷◌, ◌++◌, Option, Some, None, Result, Ok, Err, refl, sym, ap, subst, ◌∙◌, append-nil, inl, inr, ◌⊎◌, if◌then◌else◌}
+use Rattle.std.proofs.Common.{◌≡◌, ℕ, Bool, true, false, List, [], ◌∷◌, ◌++◌, Result, Ok, Err, refl, sym, ap, subst, ◌∙◌, append-nil, inl, inr, ◌⊎◌, if◌then◌else◌}
 use Rattle.std.specs.Prelude.{IfOk, MatchResult}
 use Rattle.std.specs.Io.KnownBytes.{Appends}
 use Rattle.jser_prim.specs.Outgoing.{Outgoing, SinkState, Puts}
@@ -15,7 +15,8 @@ use Rattle.jser_records.specs.declared.clerk.Clerk.{Clerk}
 use Rattle.jser_records.specs.declared.key.Key.{Key}
 use Rattle.jser_records.specs.declared.current.Record.{Record}
 use Rattle.jser_records.specs.declared.run.Trouble.{Trouble}
-use Rattle.jser_records.specs.Told.{Closes, Entry, Event, Goes, SaysAll, Written, Wrote, all_counted, all_put, all_told, behind, counted, counted_event, ended, number_after, number_at_end, passes, put_event, put_of, told_event, told_of}
+use Rattle.jser_records.specs.Readings.{Came, IsFor, Value}
+use Rattle.jser_records.specs.Told.{Closes, Event, Goes, SaysAll, Written, Wrote, all_counted, all_put, all_told, behind, counted, counted_event, ended, number_after, number_at_end, passes, put_event, put_of, told_event, told_of}
 
 -- ---- one event after another
 
@@ -118,12 +119,15 @@ pub closes : (old new : Clerk) (p q s t : SinkState) (passed : Bool) (key : Key)
     → Says old.output new.output p q (λ k. put_of old.how old.passes old.number key units result held k)
     → Says old.faults new.faults s t (λ k. told_of old.how old.passes old.number key units result k)
     → new.number ≡ one_more old.number → new.tally ≡ counted old.tally result → new.how ≡ old.how → new.passes ≡ old.passes
-    → held ≡ old.current.held.items → passed ≡ passes result → Closes old new p q s t passed
-closes old new p q s t passed key units result held put told number tally how on kept is = record {
+    → held ≡ old.current.held.items → passed ≡ passes result
+    → ((value : Value) → Came old.current.reading value → IsFor old.current.reading.judge.rules old.current.reading.most value result)
+    → Closes old new p q s t passed
+closes old new p q s t passed key units result held put told number tally how on kept is right = record {
   entry = record { key = key; units = units; answer = result; held = held };
   says = one_said old new p q s t key units result held put told number tally how on;
   held = kept;
   passed = is;
+  right = right;
 }
 
 pub goes_closed : (old new : Clerk) (p q s t : SinkState) (key : Key) (units : List ℕ) (result : Answer) (held : List ℕ)

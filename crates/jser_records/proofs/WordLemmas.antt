@@ -1,5 +1,5 @@
 -- What is said of a record.
-use Rattle.std.proofs.Common.{◌≡◌, ℕ, Bool, true, List, ◌∷◌, ◌++◌, codes, sym, ap, subst, if◌then◌else◌}
+use Rattle.std.proofs.Common.{◌≡◌, ℕ, true, List, ◌++◌, codes, sym, ap, subst, if◌then◌else◌}
 use Rattle.jser_prim.specs.Outgoing.{Outgoing, SinkState}
 use Rattle.jser_shown.specs.Words.{quoted}
 use Rattle.jser_printer.specs.Says.{Says}

@@ -1,7 +1,7 @@
 -- What came and waits, as contracts see it: the bytes that wait, those that are to come where the source tells them, the byte
 -- that is looked for, and whether the source has ended.
-use Rattle.std.specs.Prelude.{ℕ, ◌≡◌, ◌≢◌, ◌≤◌, ◌<◌, ◌-◌, ◌+◌, Bool, true, false, List, [], ◌∷◌, ◌++◌, All, length, take, drop, get_or, Option, Some, None}
-use Rattle.std.specs.Io.KnownBytes.{Consumes, IsAtEnd}
+use Rattle.std.specs.Prelude.{ℕ, ◌≡◌, ◌≢◌, ◌≤◌, ◌<◌, ◌-◌, Bool, List, ◌∷◌, ◌++◌, All, length, take, drop, Option}
+use Rattle.std.specs.Io.KnownBytes.{Consumes}
 
 pub record Arriving : Type 0 where
   pub waiting : List ℕ

@@ -1,4 +1,7 @@
 pub mod Arriving
 pub mod Fields
-pub mod Words
+pub mod Judged
+pub mod Readings
+pub mod Texts
 pub mod Told
+pub mod Words

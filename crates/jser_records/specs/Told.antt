@@ -1,5 +1,5 @@
 -- What is told of records, one after another: on standard output, and on standard error.
-use Rattle.std.specs.Prelude.{ℕ, ◌≡◌, ◌⊎◌, ◌+◌, ◌-◌, ◌^◌, min, Bool, true, false, ◌&&◌, not, if◌then◌else◌, List, [], ◌∷◌, ◌++◌, Option, Result, IfOk}
+use Rattle.std.specs.Prelude.{ℕ, ◌≡◌, ◌⊎◌, Bool, true, false, ◌&&◌, not, if◌then◌else◌, List, [], ◌∷◌, ◌++◌, Option, Result, IfOk}
 use Rattle.std.specs.Io.KnownBytes.{Appends}
 use Rattle.jser_prim.specs.Outgoing.{SinkState, sink_state}
 use Rattle.jser_printer.specs.Says.{Says}
@@ -12,6 +12,7 @@ use Rattle.jser_records.specs.declared.answer.Answer.TheVariants as answer
 use Rattle.jser_records.specs.declared.clerk.Clerk.{Clerk}
 use Rattle.jser_records.specs.declared.key.Key.{Key}
 use Rattle.jser_records.specs.declared.run.Trouble.{Trouble}
+use Rattle.jser_records.specs.Readings.{Came, IsFor, Value}
 use Rattle.jser_records.specs.Words.{line_words, object_words}
 
 -- it lets a record pass: it is accepted, or has no value
@@ -113,12 +114,13 @@ GoesTo gone_out has_failed told_out told_failed old new before after told_before
     Goes old new (sink_state (gone_out before) (has_failed before)) (sink_state (gone_out after) (has_failed after))
     (sink_state (told_out told_before) (told_failed told_before)) (sink_state (told_out told_after) (told_failed told_after))
 
--- one record ended
+-- One record ended. Its answer is right of the value that came of it, and the bytes are those that were kept.
 pub record Closes (old new : Clerk) (before after : SinkState) (told_before told_after : SinkState) (result : Bool) : Type 0 where
   pub entry : Entry
   pub says : SaysAll old new before after told_before told_after (ended entry ∷ [])
   pub held : entry.held ≡ old.current.held.items
   pub passed : result ≡ passes entry.answer
+  pub right : (value : Value) → Came old.current.reading value → IsFor old.current.reading.judge.rules old.current.reading.most value entry.answer
 
 abbrev pub ClosesTo : {S T : Type 0} → (S → Option (List ℕ)) → (S → Bool) → (T → Option (List ℕ)) → (T → Bool) → (old new : Clerk) → (before after : S) → (told_before told_after : T) → (passed : Bool) → Type 0
 ClosesTo gone_out has_failed told_out told_failed old new before after told_before told_after passed =

@@ -1,5 +1,9 @@
 //! The record that is read, and the bytes that came of it, where these may be handed on.
-ghost use Rattle.std.specs.Prelude.{◌≡◌, length};
+ghost use Rattle.std.specs.Prelude.{◌≡◌, ◌⊎◌, ◌++◌, ◌<◌, ◌^◌, ℕ, List, [], length, Some, None, IfOk};
+ghost use Rattle.jser_inputs.specs.declared.Form.{Form as ToldForm};
+ghost use Rattle.jser_records.specs.Readings.{Came, HasRead, HasSpelled, IsFor, IsOfDigits, KeepsRules};
+ghost use Rattle.jser_records.specs.Readings.{Value as ToldValue};
+ghost use Rattle.jser_records.specs.Texts.{blanked, characters_in};
 
 use crate::answer::Answer;
 use crate::inbox::ROOM;
@@ -38,26 +42,47 @@ impl<'f> Record<'f> {
         rules: &'f Rules,
         passes: bool,
         most: u64,
-    ) -> Result<Record<'f>, AllocError> {
-        let reading = Reading::new(alloc, rules, most)?;
-        let text = Vec::with_capacity(alloc, ROOM)?;
-        Ok(Record {
-            alloc,
-            passes,
-            reading,
-            held: Vec::new(alloc),
-            text,
-        })
+    ) -> Result<Record<'f>, AllocError>
+        ensures rules { IfOk result (λ made. made.reading.judge.rules ≡ rules.now) }
+        ensures most { IfOk result (λ made. made.reading.most ≡ most) }
+    {
+        match Reading::new(alloc, rules, most) {
+            Ok(reading) => Record::over(alloc, reading, passes),
+            Err(failed) => Err(failed),
+        }
+    }
+
+    /// The same with this reading.
+    fn over(alloc: Global, reading: Reading<'f>, passes: bool) -> Result<Record<'f>, AllocError>
+        ensures { IfOk result (λ made. made.reading ≡ reading.entry) }
+    {
+        match Vec::with_capacity(alloc, ROOM) {
+            Ok(text) => Ok(Record {
+                alloc,
+                passes,
+                reading,
+                held: Vec::new(alloc),
+                text,
+            }),
+            Err(failed) => Err(failed),
+        }
     }
 
     /// Begins the next record.
-    pub(crate) fn begin(&mut self, form: Form) {
+    pub(crate) fn begin(&mut self, form: Form)
+        ensures has { HasRead self.new.reading [] }
+        ensures spelled { HasSpelled self.new.reading form [] }
+        ensures open { self.new.reading.answer ≡ None }
+        ensures rules { KeepsRules self.old.reading self.new.reading }
+    {
         self.held.clear();
         self.reading.begin(form);
     }
 
     /// Keeps bytes of the record, as they came, as long as it may be handed on.
-    pub(crate) fn hold(&mut self, bytes: &[u8]) {
+    pub(crate) fn hold(&mut self, bytes: &[u8])
+        ensures { (self.new.reading ≡ self.old.reading) ⊎ (self.new.reading ≡ record self.old.reading { answer = Some (Answer.Checked Found.OutOfMemory) }) }
+    {
         if !self.passes {
             return;
         }
@@ -70,7 +95,11 @@ impl<'f> Record<'f> {
     }
 
     /// Takes more characters of the value, which become the bytes that they spell.
-    pub(crate) fn spell(&mut self, form: Form, text: &[u8]) {
+    pub(crate) fn spell(&mut self, form: Form, text: &[u8])
+        ensures spelled { (before : List ℕ) → IsOfDigits form → length (before ++ text.now) < 2 ^ 63 → HasSpelled self.old.reading form before
+            → HasSpelled self.new.reading form (before ++ characters_in form text.now) }
+        ensures rules { KeepsRules self.old.reading self.new.reading }
+    {
         if self.reading.is_answered() {
             return;
         }
@@ -79,11 +108,7 @@ impl<'f> Record<'f> {
             self.reading.decide(Answer::Checked(Found::OutOfMemory));
             return;
         }
-        match form {
-            Form::Base64 | Form::Base64Url => blank_line_feeds(self.text.as_mut_slice()),
-            _ => {}
-        }
-        self.reading.spell(self.text.as_mut_slice());
+        spell_over(&mut self.reading, form, self.text.as_mut_slice());
     }
 
     /// The bytes that were kept.
@@ -96,6 +121,8 @@ impl<'f> Record<'f> {
     /// The record has ended: its answer. Where there is no memory for the units of its KEY, that is the answer, and it has no KEY.
     pub(crate) fn finish(&mut self, json: bool) -> Ended
         ensures held { self.new.held.items ≡ self.old.held.items }
+        ensures right { (value : ToldValue) → Came self.old.reading value → IsFor self.old.reading.judge.rules self.old.reading.most value result.answer }
+        ensures rules { KeepsRules self.old.reading self.new.reading }
     {
         let answer = self.reading.finish();
         match self.units(json) {
@@ -121,17 +148,39 @@ impl<'f> Record<'f> {
     }
 }
 
+/// Takes more characters, in room where they become the bytes that they spell.
+fn spell_over(reading: &mut Reading<'_>, form: Form, text: &mut [u8])
+    ensures spelled { (before : List ℕ) → IsOfDigits form → length (before ++ text.old) < 2 ^ 63 → HasSpelled reading.old form before
+        → HasSpelled reading.new form (before ++ characters_in form text.old) }
+    ensures rules { KeepsRules reading.old reading.new }
+{
+    mark_over(form, text);
+    reading.spell(text);
+}
+
+/// Writes white space over the characters that this form passes over.
+fn mark_over(form: Form, text: &mut [u8])
+    ensures { text.new ≡ characters_in form text.old }
+{
+    match form {
+        Form::Base64 | Form::Base64Url => blank_line_feeds(text),
+        Form::Binary | Form::Hex => {}
+    }
+}
+
 /// Writes spaces over each `\n` of two characters: base64 passes over both.
 fn blank_line_feeds(text: &mut [u8])
-    ensures { length text.new ≡ length text.old }
+    ensures { text.new ≡ blanked text.old }
 {
     if memchr(b'\\', text).is_none() {
         return;
     }
-    'marks: for at in 1..text.len() {
-        if text[at - 1] == b'\\' && text[at] == b'n' {
-            text[at - 1] = b' ';
+    let mut at = 0;
+    'marks: while at + 1 < text.len() {
+        if text[at] == b'\\' && text[at + 1] == b'n' {
             text[at] = b' ';
+            text[at + 1] = b' ';
         }
+        at += 1;
     }
 }

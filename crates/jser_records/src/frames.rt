@@ -111,7 +111,7 @@ fn take_value<R: Source, W: Sink, E: Sink>(
     ensures goes { GoesTo W.gone_out W.has_failed E.gone_out E.has_failed clerk.old clerk.new output.old output.new faults.old faults.new }
 {
     if length == NULL {
-        clerk.current.reading.decide(Answer::Null);
+        clerk.current.reading.decide_null();
         return Ok(());
     }
     take_bytes(inbox, clerk, most, u64::from(length), output, faults)

@@ -1,11 +1,19 @@
 //! The check of one record after another, which keeps its memory: under the filter alone, or with names at any place.
+ghost use Rattle.std.specs.Prelude.{◌≡◌, ◌++◌, ◌<◌, ◌^◌, ℕ, List, [], length, true, false};
+ghost use Rattle.jser_scan.specs.Founds.{IsFound};
+ghost use Rattle.jser_scan.specs.LastSeen.{AreLast};
+ghost use Rattle.jser_scan.specs.Lines.{is_accepted};
+ghost use Rattle.jser_scan.specs.NamePlaces.{NameStands};
+ghost use Rattle.jser_scan.specs.declared.Rules.{Rules as ToldRules};
+ghost use Rattle.jser_records.specs.Judged.{Ends, FaultIf, FeedFinds, Feeds, HasJudged, IsSound, IsUnder, Took};
 
 use jser_check::{FilterGate, Options, Stop};
 use jser_check_anywhere::{AnywhereChecker, AnywhereFault};
 use jser_filter::Filter;
-use jser_reader::Reader;
+use jser_reader::{Reader, Totals};
 use jser_scan::{Found, LastBytes, Rules, hidden, refused};
 use std::alloc::Global;
+use std::marker::Model;
 
 /// The check of one record after another.
 #[derive(Drop)]
@@ -23,77 +31,133 @@ enum Check<'f> {
     Anywhere(AnywhereChecker<'f>),
 }
 
+impl<'f> Model for Judge<'f> {
+    ghost use Rattle.jser_records.specs.Judged.{IsUnder, Judging};
+
+    ghost Value = { Judging };
+
+    ghost view = { λ a. record { rules = a.rules.now; check = a.check; last = a.last } };
+
+    ghost invariant = { λ a. IsUnder a.rules.now a.check };
+}
+
 impl<'f> Judge<'f> {
     /// A check that has taken nothing, under these rules. Takes no memory.
-    pub(crate) fn new(alloc: Global, rules: &'f Rules) -> Judge<'f> {
-        let options = Options {
-            strict: rules.strict,
-        };
-        let check = if rules.anywhere {
-            Check::Anywhere(AnywhereChecker::lent(alloc, &rules.filter, options))
-        } else {
-            Check::Plain(Reader::new(alloc, FilterGate::new(&rules.filter, options)))
-        };
+    pub(crate) fn new(alloc: Global, rules: &'f Rules) -> Judge<'f>
+        ensures { result.rules ≡ rules.now }
+    {
         Judge {
             alloc,
             rules,
-            check,
+            check: check_under(alloc, rules),
             last: LastBytes::new(alloc),
         }
     }
 
     /// Begins the next record.
-    pub(crate) fn restart(&mut self) {
+    pub(crate) fn restart(&mut self)
+        ensures begins { HasJudged self.new [] }
+        ensures rules { self.new.rules ≡ self.old.rules }
+    {
         self.last.clear();
-        match &mut self.check {
-            Check::Plain(reader) => reader.restart(),
-            Check::Anywhere(checker) => checker.restart(),
-        }
+        restart(&mut self.check);
     }
 
     /// Takes the next bytes of the record. What is found, where they decide.
-    pub(crate) fn feed(&mut self, bytes: &[u8]) -> Option<Found> {
+    #[tactic(auto, using(crate::proofs::JudgeLemmas::judged_on, crate::proofs::JudgeLemmas::decided))]
+    pub(crate) fn feed(&mut self, bytes: &[u8]) -> Option<Found>
+        ensures finds { (taken : List ℕ) → HasJudged self.old taken → FeedFinds self.new taken bytes.now result }
+        ensures rules { self.new.rules ≡ self.old.rules }
+    {
         self.last.keep(bytes);
-        match &mut self.check {
-            Check::Plain(reader) => match reader.skip(bytes) {
-                Ok(()) => None,
-                Err(stop) => Some(self.stopped(stop)),
-            },
-            Check::Anywhere(checker) => match checker.feed(bytes) {
-                Ok(()) => None,
-                Err(fault) => Some(self.faulty(fault)),
-            },
+        match feed(&mut self.check, bytes) {
+            Ok(()) => None,
+            Err(fault) => Some(self.found(fault)),
         }
     }
 
     /// The record has ended: what is found.
-    pub(crate) fn finish(&mut self) -> Found {
-        match &mut self.check {
-            Check::Plain(reader) => match reader.finish() {
-                Ok(totals) => Found::Accepted(totals),
-                Err(stop) => self.stopped(stop),
-            },
-            Check::Anywhere(checker) => match checker.finish() {
-                Ok(totals) => Found::Accepted(totals),
-                Err(fault) => self.faulty(fault),
-            },
+    #[tactic(auto, using(crate::proofs::JudgeLemmas::sound_yes, crate::proofs::JudgeLemmas::sound_fault))]
+    pub(crate) fn finish(&mut self) -> Found
+        ensures finds { (taken : List ℕ) → HasJudged self.old taken → IsSound self.old.rules taken result }
+        ensures rules { self.new.rules ≡ self.old.rules }
+    {
+        match finish(&mut self.check) {
+            Ok(totals) => Found::Accepted(totals),
+            Err(fault) => self.found(fault),
         }
     }
 
-    fn stopped(&self, stop: Stop) -> Found {
-        match stop {
-            Stop::Refused(refusal) => refused(self.alloc, self.rules, &self.last, refusal),
-            _ => Found::OutOfMemory,
-        }
-    }
-
-    fn faulty(&self, fault: AnywhereFault) -> Found {
+    /// What is found where the check stops.
+    #[tactic(auto, using(crate::proofs::JudgeLemmas::refused_is, crate::proofs::JudgeLemmas::hidden_is, crate::proofs::JudgeLemmas::undecided_is, crate::proofs::JudgeLemmas::refusal_refuses, crate::proofs::JudgeLemmas::hidden_refuses))]
+    fn found(&self, fault: AnywhereFault) -> Found
+        ensures is { (bytes : List ℕ) → FaultIf self.now.rules.anywhere self.now.rules bytes fault → IsFound self.now.rules bytes result }
+        ensures name { (bytes : List ℕ) → AreLast self.now.last bytes → length bytes < 2 ^ 64 → NameStands bytes result }
+        ensures refuses { is_accepted result ≡ false }
+    {
         match fault {
+            AnywhereFault::Stop(Stop::Refused(refusal)) => {
+                refused(self.alloc, self.rules, &self.last, refusal)
+            }
             AnywhereFault::Hidden { from_byte, to_byte } => {
                 hidden(self.alloc, self.rules, &self.last, from_byte, to_byte)
             }
-            AnywhereFault::Stop(stop) => self.stopped(stop),
-            AnywhereFault::ReadFault => Found::OutOfMemory,
+            AnywhereFault::Stop(_) | AnywhereFault::ReadFault => Found::OutOfMemory,
         }
+    }
+}
+
+/// The check under these rules.
+fn check_under<'f>(alloc: Global, rules: &'f Rules) -> Check<'f>
+    ensures { IsUnder rules.now result }
+{
+    let options = Options {
+        strict: rules.strict,
+    };
+    if rules.anywhere {
+        Check::Anywhere(AnywhereChecker::lent(alloc, &rules.filter, options))
+    } else {
+        Check::Plain(Reader::new(alloc, FilterGate::new(&rules.filter, options)))
+    }
+}
+
+/// Begins the next record.
+fn restart(check: &mut Check<'_>)
+    ensures begins { (rules : ToldRules) → IsUnder rules check.old → Took rules check.new [] }
+    ensures under { (rules : ToldRules) → IsUnder rules check.old → IsUnder rules check.new }
+{
+    match check {
+        Check::Plain(reader) => reader.restart(),
+        Check::Anywhere(checker) => checker.restart(),
+    }
+}
+
+/// Takes the next bytes.
+#[tactic(auto, using(crate::proofs::JudgeLemmas::plain_takes, crate::proofs::JudgeLemmas::plain_stops, crate::proofs::JudgeLemmas::anywhere_feeds))]
+fn feed(check: &mut Check<'_>, bytes: &[u8]) -> Result<(), AnywhereFault>
+    ensures feeds { (rules : ToldRules) (taken : List ℕ) → IsUnder rules check.old → Took rules check.old taken → Feeds rules check.new taken bytes.now result }
+    ensures under { (rules : ToldRules) → IsUnder rules check.old → IsUnder rules check.new }
+{
+    match check {
+        Check::Plain(reader) => match reader.skip(bytes) {
+            Ok(()) => Ok(()),
+            Err(stop) => Err(AnywhereFault::Stop(stop)),
+        },
+        Check::Anywhere(checker) => checker.feed(bytes),
+    }
+}
+
+/// The end of the bytes.
+#[tactic(auto, using(crate::proofs::JudgeLemmas::plain_ends, crate::proofs::JudgeLemmas::plain_cut, crate::proofs::JudgeLemmas::anywhere_ends))]
+fn finish(check: &mut Check<'_>) -> Result<Totals, AnywhereFault>
+    ensures ends { (rules : ToldRules) (taken : List ℕ) → IsUnder rules check.old → Took rules check.old taken → Ends rules taken result }
+    ensures under { (rules : ToldRules) → IsUnder rules check.old → IsUnder rules check.new }
+{
+    match check {
+        Check::Plain(reader) => match reader.finish() {
+            Ok(totals) => Ok(totals),
+            Err(stop) => Err(AnywhereFault::Stop(stop)),
+        },
+        Check::Anywhere(checker) => checker.finish(),
     }
 }

@@ -1,6 +1,8 @@
 //! Records that are lines of text. A line is taken whole where it fits the room for what waits, else piece after piece.
 
-ghost use Rattle.std.specs.Prelude.{◌≤◌, length};
+ghost use Rattle.std.specs.Prelude.{◌≡◌, ◌≤◌, ◌<◌, ◌^◌, [], length, true, false, Some, None};
+ghost use Rattle.jser_records.specs.Readings.{HasSpelled, IsOfDigits};
+ghost use Rattle.jser_records.specs.Texts.{behind_mark, characters_in, is_null, mark_size};
 ghost use Rattle.jser_records.specs.Told.{GoesTo};
 
 use crate::answer::Answer;
@@ -107,13 +109,13 @@ fn line_end(lines: Lines) -> &'static [u8] {
 }
 
 /// Takes a whole line, without its end, which is told beside it.
-fn take_line(record: &mut Record<'_>, lines: Lines, line: &[u8], end: &[u8]) {
-    record.begin(lines.form);
-    record.hold(line);
-    record.hold(end);
+fn take_line(current: &mut Record<'_>, lines: Lines, line: &[u8], end: &[u8]) {
+    current.begin(lines.form);
+    current.hold(line);
+    current.hold(end);
     let count = without_return(lines, line);
     let (line, _) = line.split_at(count);
-    let _ = take_front(record, lines, line);
+    let _ = take_front(current, lines, line);
 }
 
 /// How many bytes a line has without the carriage return at its end.
@@ -127,53 +129,66 @@ fn without_return(lines: Lines, line: &[u8]) -> usize
 }
 
 /// Takes the first bytes of a line, all of its KEY before the value among them.
-fn take_front(record: &mut Record<'_>, lines: Lines, line: &[u8]) -> Stretch {
+fn take_front(current: &mut Record<'_>, lines: Lines, line: &[u8]) -> Stretch {
     let parts = parts_of(line, lines.field);
     let (before, rest) = line.split_at(parts.from);
     if parts.from > 0 || parts.front > 0 {
         let (front, _) = before.split_at(parts.front);
-        record.reading.add_key(front);
+        current.reading.add_key(front);
     }
     let (value, behind) = rest.split_at(parts.to - parts.from);
-    take_value_front(record, lines.form, value);
+    take_value_front(current, lines.form, value);
     match behind {
         [] if lines.field.is_none() => Stretch::LastValue,
         [] => Stretch::Value,
         _ => {
-            take_behind(record, behind, parts.from == 0);
+            take_behind(current, behind, parts.from == 0);
             Stretch::Behind
         }
     }
 }
 
 /// Takes what is behind a value, from the TAB on. It is the first of the KEY where nothing is before the value.
-fn take_behind(record: &mut Record<'_>, behind: &[u8], is_first: bool) {
+fn take_behind(current: &mut Record<'_>, behind: &[u8], is_first: bool) {
     let skipped = if is_first { 1 } else { 0 };
     if let Some(rest) = behind.get(skipped..) {
-        record.reading.add_key(rest);
+        current.reading.add_key(rest);
     }
 }
 
 /// Takes the first characters of a value: a null, or a mark before hexadecimal digits, is known by them.
-fn take_value_front(record: &mut Record<'_>, form: Form, value: &[u8]) {
-    if value == b"\\N".as_slice() {
-        if !record.reading.is_answered() {
-            record.reading.decide(Answer::Null);
-        }
+fn take_value_front(current: &mut Record<'_>, form: Form, value: &[u8])
+    ensures null { is_null value.now ≡ true → current.old.reading.answer ≡ None → current.new.reading.answer ≡ Some Answer.Null }
+    ensures text { is_null value.now ≡ false → IsOfDigits form → length value.now < 2 ^ 63 → HasSpelled current.old.reading form []
+        → HasSpelled current.new.reading form (characters_in form (behind_mark form value.now)) }
+{
+    if is_null(value) {
+        current.reading.decide_null();
         return;
     }
     let marked = match form {
         Form::Hex => mark_len(value),
-        _ => 0,
+        Form::Binary | Form::Base64 | Form::Base64Url => 0,
     };
-    record.reading.skip(marked);
+    current.reading.skip(marked);
     let (_, digits) = value.split_at(marked);
-    record.spell(form, digits);
+    current.spell(form, digits);
+}
+
+/// Whether these characters stand for no value.
+fn is_null(value: &[u8]) -> bool
+    ensures { result ≡ is_null value.now }
+{
+    match value {
+        [b'\\', b'N'] => true,
+        _ => false,
+    }
 }
 
 /// How long the mark before hexadecimal digits is.
 fn mark_len(value: &[u8]) -> usize
-    ensures { result ≤ length value.now }
+    ensures is { result ≡ mark_size value.now }
+    ensures within { result ≤ length value.now }
 {
     match value {
         [b'\\', b'\\', b'x', ..] => 3,
@@ -228,56 +243,56 @@ fn whole_count(waiting: &[u8]) -> usize {
 }
 
 /// Begins a long line by its first bytes.
-fn begin_line(record: &mut Record<'_>, lines: Lines, front: &[u8]) -> Stretch {
-    record.begin(lines.form);
-    record.hold(front);
-    take_front(record, lines, front)
+fn begin_line(current: &mut Record<'_>, lines: Lines, front: &[u8]) -> Stretch {
+    current.begin(lines.form);
+    current.hold(front);
+    take_front(current, lines, front)
 }
 
 /// Takes one more piece of a long line, or the last one.
 fn take_piece(
-    record: &mut Record<'_>,
+    current: &mut Record<'_>,
     lines: Lines,
     stretch: Stretch,
     piece: &[u8],
     is_last: bool,
 ) -> Stretch {
-    record.hold(piece);
+    current.hold(piece);
     let count = if is_last {
         without_return(lines, piece)
     } else {
         piece.len()
     };
     let (text, _) = piece.split_at(count);
-    take_text(record, lines.form, stretch, text)
+    take_text(current, lines.form, stretch, text)
 }
 
 /// Takes the text of a piece.
-fn take_text(record: &mut Record<'_>, form: Form, stretch: Stretch, text: &[u8]) -> Stretch {
+fn take_text(current: &mut Record<'_>, form: Form, stretch: Stretch, text: &[u8]) -> Stretch {
     match stretch {
         Stretch::Behind => {
-            record.reading.add_key(text);
+            current.reading.add_key(text);
             Stretch::Behind
         }
         Stretch::LastValue => {
             // One more field: so many bytes before the value are no KEY.
             if memchr(b'\t', text).is_some() {
-                record.reading.lose_key();
+                current.reading.lose_key();
             } else {
-                record.spell(form, text);
+                current.spell(form, text);
             }
             Stretch::LastValue
         }
         Stretch::Value => match memchr(b'\t', text) {
             Some(at) => {
                 let (value, behind) = text.split_at(at);
-                record.spell(form, value);
-                let is_first = !record.reading.key.is_there();
-                take_behind(record, behind, is_first);
+                current.spell(form, value);
+                let is_first = !current.reading.key.is_there();
+                take_behind(current, behind, is_first);
                 Stretch::Behind
             }
             None => {
-                record.spell(form, text);
+                current.spell(form, text);
                 Stretch::Value
             }
         },

@@ -1,4 +1,11 @@
 //! One record, as it is read: its KEY, the bytes that its value spells, and what is found of them.
+ghost use Rattle.std.specs.Prelude.{◌≡◌, ◌⊎◌, ◌++◌, ◌+◌, ◌<◌, ◌≤◌, ◌^◌, ℕ, List, [], length, take, true, false, Some, None, IfSome, IfOk};
+ghost use Rattle.std.specs.Option.{is_some};
+ghost use Rattle.jser_inputs.specs.declared.Form.{Form as ToldForm};
+ghost use Rattle.jser_scan.specs.declared.Rules.{Rules as ToldRules};
+ghost use Rattle.jser_inputs.specs.Places.{first_place, is_whole, is_wrong};
+ghost use Rattle.jser_inputs.specs.Spelled.{spelling_of};
+ghost use Rattle.jser_records.specs.Readings.{HasRead, HasSpelled, IsOfDigits, IsRight, KeepsRules};
 
 use crate::answer::Answer;
 use crate::judge::Judge;
@@ -15,95 +22,169 @@ pub(crate) struct Reading<'f> {
     pub(crate) key: Key,
     most: u64,
     decoder: Decoder,
-    taken: u64,
+    /// How many more bytes are read at most.
+    room: u64,
     answer: Option<Answer>,
 }
 
 impl<'f> Reading<'f> {
     /// No record so far.
-    pub(crate) fn new(
-        alloc: Global,
-        rules: &'f Rules,
-        most: u64,
-    ) -> Result<Reading<'f>, AllocError> {
-        let key = Key::new(alloc)?;
-        Ok(Reading {
-            judge: Judge::new(alloc, rules),
-            key,
-            most,
-            decoder: Decoder::new(Form::Binary),
-            taken: 0,
-            answer: None,
-        })
+    pub(crate) fn new(alloc: Global, rules: &'f Rules, most: u64) -> Result<Reading<'f>, AllocError>
+        ensures rules { IfOk result (λ reading. reading.judge.rules ≡ rules.now) }
+        ensures most { IfOk result (λ reading. reading.most ≡ most) }
+    {
+        match Key::new(alloc) {
+            Ok(key) => Ok(Reading {
+                judge: Judge::new(alloc, rules),
+                key,
+                most,
+                decoder: Decoder::new(Form::Binary),
+                room: most,
+                answer: None,
+            }),
+            Err(failed) => Err(failed),
+        }
     }
 
     /// Begins the next record, whose value has this form.
-    pub(crate) fn begin(&mut self, form: Form) {
+    #[tactic(auto, using(crate::proofs::ReadingLemmas::begins, crate::proofs::ReadingLemmas::spells_none))]
+    pub(crate) fn begin(&mut self, form: Form)
+        ensures has { HasRead self.new [] }
+        ensures spelled { HasSpelled self.new form [] }
+        ensures open { self.new.answer ≡ None }
+        ensures rules { KeepsRules self.old self.new }
+    {
         self.judge.restart();
         self.key.clear();
         self.decoder = Decoder::new(form);
-        self.taken = 0;
+        self.room = self.most;
         self.answer = None;
     }
 
     /// Adds to its KEY.
-    pub(crate) fn add_key(&mut self, bytes: &[u8]) {
+    pub(crate) fn add_key(&mut self, bytes: &[u8])
+        ensures { (self.new ≡ record self.old { key = self.new.key }) ⊎ (self.new ≡ record self.old { key = self.new.key; answer = Some Answer.LongKey }) }
+    {
         if !self.key.add(bytes) {
             self.decide(Answer::LongKey);
         }
     }
 
     /// Its KEY is too long.
-    pub(crate) fn lose_key(&mut self) {
+    pub(crate) fn lose_key(&mut self)
+        ensures { self.new ≡ record self.old { key = self.new.key; answer = Some Answer.LongKey } }
+    {
         self.key.lose();
         self.decide(Answer::LongKey);
     }
 
     /// Whether it is answered, whatever its value has besides.
-    pub(crate) fn is_answered(&self) -> bool {
+    pub(crate) fn is_answered(&self) -> bool
+        ensures { result ≡ is_some self.now.answer }
+    {
         self.answer.is_some()
     }
 
     /// The answer, whatever was found so far.
-    pub(crate) fn decide(&mut self, answer: Answer) {
+    pub(crate) fn decide(&mut self, answer: Answer)
+        ensures { self.new ≡ record self.old { answer = Some answer } }
+    {
         self.answer = Some(answer);
     }
 
+    /// It has no value: that is the answer, unless there is one.
+    pub(crate) fn decide_null(&mut self)
+        ensures null { self.old.answer ≡ None → self.new.answer ≡ Some Answer.Null }
+        ensures kept { IfSome self.old.answer (λ a. self.new.answer ≡ Some a) }
+        ensures rest { self.new ≡ record self.old { answer = self.new.answer } }
+    {
+        if !self.is_answered() {
+            self.decide(Answer::Null);
+        }
+    }
+
     /// Goes over characters of the value that spell nothing.
-    pub(crate) fn skip(&mut self, count: usize) {
+    pub(crate) fn skip(&mut self, count: usize)
+        ensures rest { self.new ≡ record self.old { decoder = self.new.decoder } }
+        ensures spot { self.new.decoder.spot ≡ self.old.decoder.spot }
+    {
         self.decoder.skip(count);
     }
 
     /// The next characters of the value, which become the bytes that they spell.
-    pub(crate) fn spell(&mut self, text: &mut [u8]) {
+    pub(crate) fn spell(&mut self, text: &mut [u8])
+        ensures spelled { (form : ToldForm) (before : List ℕ) → IsOfDigits form → length (before ++ text.old) < 2 ^ 63 → HasSpelled self.old form before
+            → HasSpelled self.new form (before ++ text.old) }
+        ensures rules { KeepsRules self.old self.new }
+        ensures key { self.new.key ≡ self.old.key }
+    {
         if self.is_answered() {
             return;
         }
         let given = self.decoder.decode(text);
-        if let Some(bytes) = text.get(..given) {
-            self.take(bytes);
-        }
+        let (bytes, _) = text.split_at(given);
+        self.take(bytes);
         self.look_at_text();
     }
 
     /// The next bytes of the record.
-    pub(crate) fn take(&mut self, bytes: &[u8]) {
+    #[tactic(auto, using(crate::proofs::ReadingLemmas::took_none))]
+    pub(crate) fn take(&mut self, bytes: &[u8])
+        ensures has { (taken : List ℕ) → HasRead self.old taken → HasRead self.new (taken ++ bytes.now) }
+        ensures rules { KeepsRules self.old self.new }
+        ensures key { self.new.key ≡ self.old.key }
+        ensures decoder { self.new.decoder ≡ self.old.decoder }
+    {
         if self.is_answered() {
             return;
         }
-        let room = self.most.saturating_sub(self.taken);
-        let fits = bytes.len() as u64 <= room;
-        let front = if fits { bytes } else { front_of(bytes, room) };
-        self.taken = self.taken.saturating_add(front.len() as u64);
-        if let Some(found) = self.judge.feed(front) {
+        if bytes.len() as u64 <= self.room {
+            self.take_all(bytes);
+        } else {
+            self.take_first(bytes);
+        }
+    }
+
+    /// The next bytes, for which there is room.
+    fn take_all(&mut self, bytes: &[u8])
+        requires open { self.old.answer ≡ None }
+        requires fits { length bytes.now ≤ self.old.room }
+        ensures has { (taken : List ℕ) → HasRead self.old taken → HasRead self.new (taken ++ bytes.now) }
+        ensures rules { KeepsRules self.old self.new }
+        ensures key { self.new.key ≡ self.old.key }
+        ensures decoder { self.new.decoder ≡ self.old.decoder }
+    {
+        self.room -= bytes.len() as u64;
+        if let Some(found) = self.judge.feed(bytes) {
             self.decide(Answer::Checked(found));
-        } else if !fits {
-            self.decide(Answer::Longer { most: self.most });
+        }
+    }
+
+    /// The next bytes, for which there is no room: as many as there is room for.
+    fn take_first(&mut self, bytes: &[u8])
+        requires open { self.old.answer ≡ None }
+        requires longer { self.old.room < length bytes.now }
+        ensures has { (taken : List ℕ) → HasRead self.old taken → HasRead self.new (taken ++ bytes.now) }
+        ensures rules { KeepsRules self.old self.new }
+        ensures key { self.new.key ≡ self.old.key }
+        ensures decoder { self.new.decoder ≡ self.old.decoder }
+    {
+        let (first, _) = bytes.split_at(self.room as usize);
+        match self.judge.feed(first) {
+            Some(found) => self.decide(Answer::Checked(found)),
+            None => self.decide(Answer::Longer { most: self.most }),
         }
     }
 
     /// Where the text has gone wrong, that is the answer.
-    fn look_at_text(&mut self) {
+    #[tactic(auto, using(crate::proofs::ReadingLemmas::unread_right))]
+    fn look_at_text(&mut self)
+        ensures has { (taken : List ℕ) → HasRead self.old taken → HasRead self.new taken }
+        ensures rest { self.new ≡ record self.old { answer = self.new.answer } }
+        ensures kept { IfSome self.old.answer (λ a. self.new.answer ≡ Some a) }
+        ensures unread { self.old.answer ≡ None → (rules : ToldRules) (most : ℕ) (bytes : List ℕ) → IfSome self.new.answer (λ a. IsRight rules most bytes a) }
+        ensures open { self.new.answer ≡ None → (self.old.answer ≡ None) × (is_wrong self.old.decoder.spot.place ≡ false) }
+    {
         if self.is_answered() {
             return;
         }
@@ -113,20 +194,18 @@ impl<'f> Reading<'f> {
     }
 
     /// The record has ended: its answer.
-    pub(crate) fn finish(&mut self) -> Answer {
+    pub(crate) fn finish(&mut self) -> Answer
+        ensures right { (bytes : List ℕ) → HasRead self.old bytes → IsRight self.old.judge.rules self.old.most bytes result }
+        ensures spelled { (form : ToldForm) (text : List ℕ) → HasSpelled self.old form text → IsRight self.old.judge.rules self.old.most (spelling_of form text) result }
+        ensures kept { IfSome self.old.answer (λ a. result ≡ a) }
+        ensures rules { KeepsRules self.old self.new }
+        ensures key { self.new.key ≡ self.old.key }
+    {
         self.decoder.end();
         self.look_at_text();
         match self.answer.take() {
             Some(answer) => answer,
             None => Answer::Checked(self.judge.finish()),
         }
-    }
-}
-
-/// The first bytes, as many as there is room for.
-fn front_of(bytes: &[u8], room: u64) -> &[u8] {
-    match bytes.get(..room as usize) {
-        Some(front) => front,
-        None => bytes,
     }
 }

@@ -135,9 +135,7 @@ fn take_record<R: Source, W: Sink, E: Sink>(
         }
         Header::Null { key } => {
             begin_record(inbox, &mut clerk.current, key, size);
-            if !clerk.current.reading.is_answered() {
-                clerk.current.reading.decide(Answer::Null);
-            }
+            clerk.current.reading.decide_null();
             clerk.close(output, faults);
             Ok(true)
         }

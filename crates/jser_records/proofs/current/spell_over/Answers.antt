@@ -1,0 +1,10 @@
+use Rattle.std.proofs.Common.{◌++◌, subst}
+use Rattle.jser_records.specs.Readings.{HasSpelled}
+use Rattle.jser_records.proofs.TextLemmas.{few_marked}
+use Rattle.jser_records.proofs.current.spell_over.Goals as goal
+
+pub returns-clause-spelled : goal.returns-clause-spelled
+returns-clause-spelled c = λ before digits few had.
+    let marked = c.mark_over.new.text in
+    subst (λ xs. HasSpelled c.spell.new.self c.args.form (before ++ xs)) c.mark_over.ensures
+    (c.spell.ensures.spelled c.args.form before digits (few_marked c.args.form before c.args.text.now marked c.mark_over.ensures few) had)

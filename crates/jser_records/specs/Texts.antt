@@ -1,0 +1,41 @@
+-- The text of a value. In base64 a line feed may be written as two characters.
+use Rattle.std.specs.Prelude.{ℕ, ◌==◌, ◌&&◌, ◌||◌, Bool, false, drop, if◌then◌else◌, List, [], ◌∷◌}
+use Rattle.jser_inputs.specs.declared.Form.{Form}
+use Rattle.jser_inputs.specs.declared.Form.TheVariants as form
+
+-- `\n` is passed over: both characters are as white space
+abbrev pub blanked : List ℕ → List ℕ
+blanked [] = []
+blanked (c ∷ []) = c ∷ []
+blanked (c ∷ d ∷ text) = if c == 0x5C && d == 0x6E then 0x20 ∷ 0x20 ∷ blanked text else c ∷ blanked (d ∷ text)
+
+-- the characters of a text in this form
+abbrev pub characters_in : Form → List ℕ → List ℕ
+characters_in form.Binary text = text
+characters_in form.Hex text = text
+characters_in form.Base64 text = blanked text
+characters_in form.Base64Url text = blanked text
+
+-- `\N` stands for no value
+abbrev pub is_null : List ℕ → Bool
+is_null [] = false
+is_null (a ∷ []) = false
+is_null (a ∷ b ∷ []) = a == 0x5C && b == 0x4E
+is_null (a ∷ b ∷ c ∷ text) = false
+
+-- Hexadecimal digits may begin with `\\x`, `\x` or `0x`: how long that is.
+abbrev pub short_mark : (a b : ℕ) → ℕ
+short_mark a b = if (a == 0x5C || a == 0x30) && b == 0x78 then 2 else 0
+
+abbrev pub mark_size : List ℕ → ℕ
+mark_size [] = 0
+mark_size (a ∷ []) = 0
+mark_size (a ∷ b ∷ []) = short_mark a b
+mark_size (a ∷ b ∷ c ∷ text) = if a == 0x5C && b == 0x5C && c == 0x78 then 3 else short_mark a b
+
+-- the characters behind it
+abbrev pub behind_mark : Form → List ℕ → List ℕ
+behind_mark form.Binary text = text
+behind_mark form.Hex text = drop (mark_size text) text
+behind_mark form.Base64 text = text
+behind_mark form.Base64Url text = text
