@@ -1,9 +1,12 @@
 -- Fields of a descriptor of which all bytes are in a piece.
-use Rattle.std.specs.Prelude.{◌≡◌, ℕ, ◌-◌, ◌^◌, ◌<◌, ◌++◌, ◌∷◌, [], ◌||◌, Bool, true, List, get_or, slice_get, None, option_map}
+use Rattle.std.specs.Prelude.{◌≡◌, ℕ, ◌-◌, ◌^◌, ◌<◌, ◌≤◌, ◌++◌, ◌∷◌, [], ◌||◌, Bool, true, List, length, drop, get_or, slice_get, Option, Some, None, option_map}
 use Rattle.jser_table.specs.Codes.{is_object_code}
 use Rattle.jser_table.specs.Entries.{is_text}
 use Rattle.jser_grammar.specs.Wire.{TC_REFERENCE}
+use Rattle.jser_verdict.specs.Gates.{Gate}
 use Rattle.jser_verdict.specs.Verdicts.{code_reason}
+use Rattle.jser_reader.specs.declared.tally.Tally.{Tally}
+use Rattle.jser_reader.specs.Passes.{Passes, CanPass}
 use Rattle.jser_reader.specs.Reasons.{named}
 use Rattle.jser_reader.specs.Readers.{Header, Seen}
 use Rattle.jser_reader.specs.Wholes.{HasNumber}
@@ -29,3 +32,15 @@ pub record BeginsMember (code : ℕ) (is_object : Bool) (old new : Seen) : Type 
   pub codes : 0 < old.header.fields → new.header.codes ≡ old.header.codes ++ (code ∷ [])
   pub fields : 0 < old.header.fields → new.header.fields ≡ old.header.fields - 1
   pub seen : 0 < old.header.fields → new.header.seen ≡ (old.header.seen || is_object)
+
+-- So many bytes were taken of the piece, all of which may be taken, and no count of tokens changed.
+pub record TakesMember (piece : List ℕ) (used : ℕ) (old new : Seen) : Type 0 where
+  pub passes : (gate : Gate) (tally : Tally) → Passes gate piece (Some used) old tally new tally
+  pub some : 0 < used
+  pub within : used ≤ length piece
+  pub can : CanPass new (drop used piece)
+
+-- what was whole in the piece was taken; or nothing was done
+abbrev pub MemberCases : (piece : List ℕ) → Option ℕ → Seen → Seen → Type 0
+MemberCases piece (Some used) old new = TakesMember piece used old new
+MemberCases piece None old new = new ≡ old

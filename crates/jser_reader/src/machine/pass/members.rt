@@ -1,12 +1,12 @@
 //! Fields of a descriptor of which all bytes are in the piece: the type code, the name, and the type where that is a
 //! reference, in one step; a type that is a new string in another. As many as come are taken one after another.
-ghost use Rattle.std.specs.Prelude.{◌≡◌, ◌+◌, ◌^◌, ◌<◌, ◌≤◌, true, false, get_or, length, drop, IfSome, Some, None};
+ghost use Rattle.std.specs.Prelude.{◌≡◌, ◌+◌, ◌^◌, ◌<◌, ◌≤◌, true, false, get_or, length, IfSome, Some};
 ghost use Rattle.jser_table.specs.Codes.{is_object_code};
 ghost use Rattle.jser_verdict.specs.Gates.{Gate as ToldGate};
 ghost use Rattle.jser_reader.specs.Passes.{Passes, CanPass};
 ghost use Rattle.jser_reader.specs.Takes.{farther};
 ghost use Rattle.jser_reader.specs.Wholes.{AssignsText, HasText};
-ghost use Rattle.jser_reader.specs.Members.{BeginsMember, HasType};
+ghost use Rattle.jser_reader.specs.Members.{BeginsMember, HasType, MemberCases};
 
 use crate::machine::Machine;
 use crate::machine::fields::is_object_code;
@@ -73,10 +73,7 @@ impl Machine {
         requires code { code ≡ get_or piece.now 0 0 }
         requires raw { false ≡ is_object_code code }
         requires name { HasText piece.now len }
-        ensures passes { IfSome result (λ used. (gate : ToldGate) (tally : Tally) → Passes gate piece.now (Some used) self.old tally self.new tally) }
-        ensures within { IfSome result (λ used. (0 < used) × (used ≤ length piece.now)) }
-        ensures can { IfSome result (λ used. CanPass self.new (drop used piece.now)) }
-        ensures nothing { result ≡ None → self.new ≡ self.old }
+        ensures { MemberCases piece.now result self.old self.new }
     {
         let _ = piece;
         if !self.begin_member(code, false) {
@@ -95,10 +92,7 @@ impl Machine {
         requires code { code ≡ get_or piece.now 0 0 }
         requires object { true ≡ is_object_code code }
         requires name { HasText piece.now len }
-        ensures passes { IfSome result (λ used. (gate : ToldGate) (tally : Tally) → Passes gate piece.now (Some used) self.old tally self.new tally) }
-        ensures within { IfSome result (λ used. (0 < used) × (used ≤ length piece.now)) }
-        ensures can { IfSome result (λ used. CanPass self.new (drop used piece.now)) }
-        ensures nothing { result ≡ None → self.new ≡ self.old }
+        ensures { MemberCases piece.now result self.old self.new }
     {
         let _ = piece;
         if !self.begin_member(code, true) {
@@ -118,10 +112,7 @@ impl Machine {
         requires code { code ≡ get_or piece.now 0 0 }
         requires object { true ≡ is_object_code code }
         requires name { HasText piece.now len }
-        ensures passes { IfSome result (λ used. (gate : ToldGate) (tally : Tally) → Passes gate piece.now (Some used) self.old tally self.new tally) }
-        ensures within { IfSome result (λ used. (0 < used) × (used ≤ length piece.now)) }
-        ensures can { IfSome result (λ used. CanPass self.new (drop used piece.now)) }
-        ensures nothing { result ≡ None → self.new ≡ self.old }
+        ensures { MemberCases piece.now result self.old self.new }
     {
         let (_, rest) = piece.split_at(len + 3);
         let Some(_) = self.type_here(rest) else {
@@ -140,10 +131,7 @@ impl Machine {
     fn whole_member(&mut self, piece: &[u8]) -> Option<usize>
         requires can { CanPass self.old piece.now }
         requires phase { self.old.phase ≡ Phase.TypeCode }
-        ensures passes { IfSome result (λ used. (gate : ToldGate) (tally : Tally) → Passes gate piece.now (Some used) self.old tally self.new tally) }
-        ensures within { IfSome result (λ used. (0 < used) × (used ≤ length piece.now)) }
-        ensures can { IfSome result (λ used. CanPass self.new (drop used piece.now)) }
-        ensures nothing { result ≡ None → self.new ≡ self.old }
+        ensures { MemberCases piece.now result self.old self.new }
     {
         let Some(len) = name_after(piece) else {
             return None;
@@ -178,10 +166,7 @@ impl Machine {
     fn whole_type(&mut self, piece: &[u8]) -> Option<usize>
         requires can { CanPass self.old piece.now }
         requires phase { self.old.phase ≡ Phase.TextTag }
-        ensures passes { IfSome result (λ used. (gate : ToldGate) (tally : Tally) → Passes gate piece.now (Some used) self.old tally self.new tally) }
-        ensures within { IfSome result (λ used. (0 < used) × (used ≤ length piece.now)) }
-        ensures can { IfSome result (λ used. CanPass self.new (drop used piece.now)) }
-        ensures nothing { result ≡ None → self.new ≡ self.old }
+        ensures { MemberCases piece.now result self.old self.new }
     {
         let Some(len) = name_after(piece) else {
             return None;
@@ -201,10 +186,7 @@ impl Machine {
     #[inline(always)]
     fn next_member(&mut self, piece: &[u8]) -> Option<usize>
         requires can { CanPass self.old piece.now }
-        ensures passes { IfSome result (λ used. (gate : ToldGate) (tally : Tally) → Passes gate piece.now (Some used) self.old tally self.new tally) }
-        ensures within { IfSome result (λ used. (0 < used) × (used ≤ length piece.now)) }
-        ensures can { IfSome result (λ used. CanPass self.new (drop used piece.now)) }
-        ensures nothing { result ≡ None → self.new ≡ self.old }
+        ensures { MemberCases piece.now result self.old self.new }
     {
         match self.phase {
             Phase::TypeCode => self.whole_member(piece),

@@ -1,12 +1,12 @@
 //! Values that are lent at once: a reference with its handle, a string with its text, and the beginning of what has a
 //! class, where that is a reference; where all these bytes are in the piece.
-ghost use Rattle.std.specs.Prelude.{◌≡◌, ◌+◌, ◌<◌, ◌≤◌, get_or, length, take, drop, IfSome, None};
+ghost use Rattle.std.specs.Prelude.{◌≡◌, ◌+◌, ◌<◌, ◌≤◌, get_or, length, take, drop};
 ghost use Rattle.jser_grammar.specs.Wire.{TC_REFERENCE, TC_STRING};
 ghost use Rattle.jser_verdict.specs.Gates.{Gate as ToldGate, IsGate};
 ghost use Rattle.jser_reader.specs.Passes.{CanPass};
 ghost use Rattle.jser_reader.specs.Tags.{view_tag};
 ghost use Rattle.jser_reader.specs.Wholes.{IsPlace, HasPlace, HasReference, tag_of_owner};
-ghost use Rattle.jser_reader.specs.WholesTold.{TellsReference, TellsString, LentCases, OwnerCases};
+ghost use Rattle.jser_reader.specs.WholesTold.{LentCases, OwnerCases};
 ghost use Rattle.jser_reading.specs.TokenBytes.{tag_byte};
 
 use super::{number_after, reference_after, text_after};
@@ -20,54 +20,52 @@ use jser_grammar::wire::{
 };
 
 impl Machine {
-    /// Takes a reference, its tag and its handle, and returns the handle; or does nothing.
+    /// Takes a reference, its tag and its handle, and lends the handle; or does nothing.
     #[inline(always)]
-    fn lend_reference(&mut self, tally: &mut Tally, piece: &[u8]) -> Option<u32>
+    fn lend_reference<'p>(&mut self, tally: &mut Tally, piece: &'p [u8]) -> Lent<'p>
         requires can { CanPass self.old piece.now }
         requires place { IsPlace self.old.phase }
         requires tag { TC_REFERENCE ≡ get_or piece.now 0 0 }
-        ensures tells { IfSome result (λ handle. (gate : ToldGate) → IsGate gate → TellsReference gate piece.now handle self.old tally.old self.new tally.new) }
-        ensures nothing { result ≡ None → (self.new ≡ self.old) × (tally.new ≡ tally.old) }
+        ensures { (gate : ToldGate) → IsGate gate → LentCases gate piece.now result self.old tally.old self.new tally.new }
     {
         let Some(n) = number_after(piece) else {
-            return None;
+            return Lent::Nothing;
         };
         if n < BASE_WIRE_HANDLE || n - BASE_WIRE_HANDLE >= self.table.count() {
-            return None;
+            return Lent::Nothing;
         }
         if !self.has_place() {
-            return None;
+            return Lent::Nothing;
         }
         let before = self.mark();
         self.begin_place(5);
         tally.count(before, self.mark());
         self.ended_in_line();
-        Some(n)
+        Lent::Value(Whole::Reference(n))
     }
 
-    /// Takes a string, its tag, its length and its text, and returns the bytes of the text; or does nothing.
+    /// Takes a string, its tag, its length and its text, and lends the bytes of the text; or does nothing.
     #[inline(always)]
-    fn lend_string<'p>(&mut self, tally: &mut Tally, piece: &'p [u8]) -> Option<&'p [u8]>
+    fn lend_string<'p>(&mut self, tally: &mut Tally, piece: &'p [u8]) -> Lent<'p>
         requires can { CanPass self.old piece.now }
         requires place { IsPlace self.old.phase }
         requires tag { TC_STRING ≡ get_or piece.now 0 0 }
-        ensures tells { IfSome result (λ text. (gate : ToldGate) → IsGate gate → TellsString gate piece.now text.now self.old tally.old self.new tally.new) }
-        ensures nothing { result ≡ None → (self.new ≡ self.old) × (tally.new ≡ tally.old) }
+        ensures { (gate : ToldGate) → IsGate gate → LentCases gate piece.now result self.old tally.old self.new tally.new }
     {
         let Some(len) = text_after(piece) else {
-            return None;
+            return Lent::Nothing;
         };
         if !self.has_place() {
-            return None;
+            return Lent::Nothing;
         }
         let before = self.mark();
         if !self.assign_text() {
-            return None;
+            return Lent::Nothing;
         }
         self.begin_place(len as u64 + 3);
         tally.count(before, self.mark());
         self.ended_in_line();
-        Some(text_in(piece, len))
+        Lent::Value(Whole::String(text_in(piece, len)))
     }
 
     /// Takes the tag of what has a class, and the reference that is its class: its handle is `n`. False where the machine
@@ -138,14 +136,8 @@ impl Machine {
         ensures { (gate : ToldGate) → IsGate gate → LentCases gate piece.now result self.old tally.old self.new tally.new }
     {
         match piece[0] {
-            TC_REFERENCE => match self.lend_reference(tally, piece) {
-                Some(handle) => Lent::Value(Whole::Reference(handle)),
-                None => Lent::Nothing,
-            },
-            TC_STRING => match self.lend_string(tally, piece) {
-                Some(text) => Lent::Value(Whole::String(text)),
-                None => Lent::Nothing,
-            },
+            TC_REFERENCE => self.lend_reference(tally, piece),
+            TC_STRING => self.lend_string(tally, piece),
             TC_OBJECT => self.lend_owner(tally, piece, Owner::Object),
             TC_ARRAY => self.lend_owner(tally, piece, Owner::Array),
             TC_ENUM => self.lend_owner(tally, piece, Owner::EnumConst),

@@ -1,13 +1,14 @@
-use Rattle.std.proofs.Common.{rules, ◌+◌}
+use Rattle.std.proofs.Common.{rules, ◌+◌, arith}
 use Rattle.jser_reader.proofs.MemberLemmas.{named_member_passes, named_can}
 use Rattle.jser_reader.proofs.machine.Machine.named_member.Goals as goal
 
-pub returns-clause-passes : goal.returns-clause-passes
-returns-clause-passes c = λ gate tally.
-    named_member_passes gate c.args.code c.args.len c.args.piece.now _ _ _ _ tally c.requires.can c.requires.phase c.requires.code c.requires.name
-    (c.begin_member.ensures.begins (search rules)) (search rules) c.next_type.ensures.next
-
-pub returns-clause-can : goal.returns-clause-can
-returns-clause-can c =
-    named_can c.args.piece.now (c.args.len + 3) c.args.self.now _ _ _ c.args.code c.requires.can (search rules) (c.begin_member.ensures.begins (search rules))
-    c.next_type.ensures.next (search rules)
+pub returns : goal.returns
+returns c = record {
+  passes = λ gate tally.
+      named_member_passes gate c.args.code c.args.len c.args.piece.now _ _ _ _ tally c.requires.can c.requires.phase c.requires.code c.requires.name
+      (c.begin_member.ensures.begins (search rules)) (search rules) c.next_type.ensures.next;
+  some = omega arith;
+  within = search rules;
+  can = named_can c.args.piece.now (c.args.len + 3) c.args.self.now _ _ _ c.args.code c.requires.can (search rules) (c.begin_member.ensures.begins (search rules))
+      c.next_type.ensures.next (search rules);
+}

@@ -17,8 +17,8 @@ members-preserved c =
     let piece = c.args.piece.now in
     let used = c.members.used in
     let more = c.in-Some.more in
-    let some = c.in-Some.ensures.within.0 in
-    let le = c.in-Some.ensures.within.1 in
+    let some = c.in-Some.ensures.some in
+    let le = c.in-Some.ensures.within in
     let left = c.split_at.ensures.back_len in
     let within = c.members.invariant.within in
     record {
