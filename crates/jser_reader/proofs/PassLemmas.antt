@@ -1,7 +1,8 @@
 -- A step of `skip`: what was taken of a piece, token after token.
-use Rattle.std.proofs.Common.{◌≡◌, ℕ, zero, suc, ◌+◌, ◌-◌, ◌^◌, ◌<◌, ◌≤◌, ◌==◌, Bool, true, false, nat_lt, max, ◌&&◌, if◌then◌else◌, List, ◌∷◌, ◌++◌, length, take, drop, Option, Some, None, Result, Ok, Err, refl, sym, ◌∙◌, ap, subst, arith, append_assoc, append-nil, length-append}
+use Rattle.std.proofs.Common.{◌≡◌, ℕ, zero, suc, ◌+◌, ◌-◌, ◌^◌, ◌<◌, ◌≤◌, ◌==◌, Bool, true, false, nat_lt, max, ◌&&◌, if◌then◌else◌, List, [], ◌∷◌, ◌++◌, length, take, drop, Option, Some, None, Result, Ok, Err, refl, sym, ◌∙◌, ap, subst, arith, append_assoc, append-nil, length-append}
 use Rattle.std.proofs.lemmas.Bool.Decides.{nat_tests}
 use Rattle.std.proofs.lemmas.List.{length-take-le, take-append-drop}
+use Rattle.jser_table.specs.declared.layer.Layer.{Layer}
 use Rattle.jser_grammar.specs.Parts.{IsBytes}
 use Rattle.jser_reading.specs.Labels.{StreamToken, Position, Label, Piece}
 use Rattle.jser_reading.specs.TokenBytes.{joined}
@@ -20,6 +21,8 @@ use Rattle.jser_reader.specs.declared.item.Step.TheVariants as step
 use Rattle.jser_reader.specs.declared.machine.pass.passed.Passed.{Passed}
 use Rattle.jser_reader.specs.declared.machine.take.taken.Taken.{Taken}
 use Rattle.jser_reader.specs.declared.machine.take.taken.Taken.TheVariants as taken
+use Rattle.jser_reader.specs.declared.frame.Frame.{Frame}
+use Rattle.jser_reader.specs.declared.frame.Frame.TheVariants as frame
 use Rattle.jser_reader.specs.declared.phase.Phase.{Phase}
 use Rattle.jser_reader.specs.declared.phase.Phase.TheVariants as phase
 use Rattle.jser_reader.specs.declared.phase.TextFor.{TextFor}
@@ -29,8 +32,9 @@ use Rattle.jser_reader.specs.declared.refusal.Stop.TheVariants as stop
 use Rattle.jser_reader.specs.declared.tally.Tally.{Tally}
 use Rattle.jser_reader.specs.declared.tally.Mark.{Mark}
 use Rattle.jser_reader.specs.Memory.{IsCheckedName, EndsInside, MayRunOut}
-use Rattle.jser_reader.specs.Readers.{Seen, moment_of, top_role, top_number, fields_goals, text_goal, text_rest}
-use Rattle.jser_reader.specs.Walks.{StandsAt, HasTaken, StopTold, Takes, Keeps}
+use Rattle.jser_reader.specs.Fitting.{HasDescriptor}
+use Rattle.jser_reader.specs.Readers.{Seen, moment_of, top_role, top_number, fields_goals, text_goal, text_rest, superclass_handle_goals, ReadyAt}
+use Rattle.jser_reader.specs.Walks.{size_of_phase, StandsAt, HasTaken, StopTold, Takes, Keeps}
 use Rattle.jser_reader.specs.Takes.{TakenCases, TakesFromFor}
 use Rattle.jser_reader.specs.Tallies.{is_top, mark_of, tally_after, tally_stopped, CountsTaken, HasCounted}
 use Rattle.jser_reader.specs.Handlers.{StopsWith}
@@ -192,26 +196,57 @@ BeginsNone s token = begins_place (label_of s).position token ≡ false
 of_state : (s t : State) (token : StreamToken) → s ≡ t → BeginsNone t token → BeginsNone s token
 of_state s t token e h = subst (λ s. BeginsNone s token) (sym e) h
 
+quiet_super : (C : List (List Layer)) (L : List Layer) (m : Moment) (frames : List Frame) (token : StreamToken) → HasDescriptor frames → BeginsNone (m, superclass_handle_goals C L frames) token
+quiet_super C L m (frame.Descriptor number role ∷ fs) token h = refl
+quiet_super C L m (frame.Elements left ∷ fs) token h = absurd h
+quiet_super C L m (frame.Fields last section pos prims values ∷ fs) token h = absurd h
+quiet_super C L m (frame.Notes last section ∷ fs) token h = absurd h
+quiet_super C L m (frame.ExternalNotes ∷ fs) token h = absurd h
+quiet_super C L m [] token h = absurd h
+
+quiet_ready : (p : Phase) (r : Seen) (s : State) (token : StreamToken) → IsQuiet p → ReadyAt p r s → BeginsNone s token
+quiet_ready phase.Header r s token q h = of_state s _ token h.1 refl
+quiet_ready phase.ClassTag r s token q h = of_state s _ token h refl
+quiet_ready phase.TextTag r s token q h = of_state s _ token h.2 refl
+quiet_ready phase.BackHandle r s token q h = of_state s _ token h refl
+quiet_ready phase.ClassHandle r s token q h = of_state s _ token h refl
+quiet_ready phase.SuperHandle r s token q h = of_state s _ token h.1 (quiet_super r.table.chains r.layers (moment_of r) r.frames token h.0)
+quiet_ready phase.TextHandle r s token q h = of_state s _ token h.2 refl
+quiet_ready phase.Length2 r s token q h = of_state s _ token h.1 (quiet_text r r.text false (text_rest r r.text) token)
+quiet_ready phase.Length8 r s token q h = of_state s _ token h.2 (quiet_text r r.text true (text_rest r r.text) token)
+quiet_ready phase.Suid r s token q h = of_state s _ token h refl
+quiet_ready phase.Flags r s token q h = of_state s _ token h.1 refl
+quiet_ready phase.FieldCount r s token q h = of_state s _ token h.1 refl
+quiet_ready phase.TypeCode r s token q h = of_state s _ token h.2 (quiet_fields r r.header.fields token)
+quiet_ready phase.InterfaceCount r s token q h = of_state s _ token h.1 refl
+quiet_ready phase.ArrayLength r s token q h = of_state s _ token h.is refl
+quiet_ready phase.BlockLength1 r s token q h = of_state s _ token h refl
+quiet_ready phase.BlockLength4 r s token q h = of_state s _ token h refl
+quiet_ready phase.Prims r s token q h = of_state s _ token h.is refl
+quiet_ready phase.Bytes r s token q h = of_state s _ token h.is refl
+quiet_ready phase.Text r s token q h = absurd h
+quiet_ready phase.Cut r s token q h = absurd h
+quiet_ready _ r s token q h = absurd q
+
+-- the tags with which counts change have one byte each, so that none of them is cut
+long_is_quiet : (p : Phase) → 1 < size_of_phase p → IsQuiet p
+long_is_quiet phase.Top h = absurd (omega arith)
+long_is_quiet phase.Note h = absurd (omega arith)
+long_is_quiet phase.Value h = absurd (omega arith)
+long_is_quiet phase.SuperTag h = absurd (omega arith)
+long_is_quiet phase.Stopped h = absurd (omega arith)
+long_is_quiet _ h = tt
+
 quiet_place : (p : Phase) (r : Seen) (s : State) (cut : List ℕ) (token : StreamToken) → IsQuiet p → StandsAt p r s cut → BeginsNone s token
-quiet_place phase.ClassTag r s cut token q h = of_state s _ token h.0 refl
-quiet_place phase.TextTag r s cut token q h = of_state s _ token h.0.2 refl
-quiet_place phase.BackHandle r s cut token q h = of_state s _ token h.0 refl
-quiet_place phase.ClassHandle r s cut token q h = of_state s _ token h.0 refl
-quiet_place phase.TextHandle r s cut token q h = of_state s _ token h.0.2 refl
-quiet_place phase.Length8 r s cut token q h = of_state s _ token h.0.2 (quiet_text r r.text true (text_rest r r.text) token)
-quiet_place phase.Suid r s cut token q h = of_state s _ token h.0 refl
-quiet_place phase.Flags r s cut token q h = of_state s _ token h.0.1 refl
-quiet_place phase.FieldCount r s cut token q h = of_state s _ token h.0.1 refl
-quiet_place phase.TypeCode r s cut token q h = of_state s _ token h.0.2 (quiet_fields r r.header.fields token)
-quiet_place phase.Length2 r s cut token q h = of_state s _ token h.0.1 (quiet_text r r.text false (text_rest r r.text) token)
 quiet_place phase.Text r s cut token q h = of_state s _ token h.is (quiet_text r r.text h.long (text_rest r r.text) token)
-quiet_place phase.ArrayLength r s cut token q h = of_state s _ token h.0.is refl
-quiet_place phase.BlockLength1 r s cut token q h = of_state s _ token h.0 refl
-quiet_place phase.InterfaceCount r s cut token q h = of_state s _ token h.0.1 refl
-quiet_place phase.BlockLength4 r s cut token q h = of_state s _ token h.0 refl
 quiet_place phase.Prims r s cut token q h = of_state s _ token h.is refl
 quiet_place phase.Bytes r s cut token q h = of_state s _ token h.is refl
-quiet_place _ r s cut token q h = absurd q
+quiet_place phase.Cut r s cut token q h =
+    let some = h.some in
+    let short = h.short in
+    quiet_ready r.meter.cut_phase r s token (long_is_quiet r.meter.cut_phase (omega arith)) h.ready
+quiet_place phase.Stopped r s cut token q h = absurd q
+quiet_place p r s cut token q h = quiet_ready p r s token q h.0
 
 pub quiet_refs : (gate : Gate) (old new : Seen) (bytes taken : List ℕ) → Takes gate taken true old new → IsBytes taken → HasTaken gate bytes old → IsQuiet old.phase
     → new.refs ≡ old.refs

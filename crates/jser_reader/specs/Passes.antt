@@ -77,25 +77,12 @@ HasPassed piece None = Unit {0}
 
 -- a token where no place begins, and which is not at the top: no count changes with it
 abbrev pub IsQuiet : Phase → Type 0
-IsQuiet phase.ClassTag = Unit {0}
-IsQuiet phase.TextTag = Unit {0}
-IsQuiet phase.BackHandle = Unit {0}
-IsQuiet phase.ClassHandle = Unit {0}
-IsQuiet phase.TextHandle = Unit {0}
-IsQuiet phase.Length2 = Unit {0}
-IsQuiet phase.Text = Unit {0}
-IsQuiet phase.Length8 = Unit {0}
-IsQuiet phase.Suid = Unit {0}
-IsQuiet phase.Flags = Unit {0}
-IsQuiet phase.FieldCount = Unit {0}
-IsQuiet phase.TypeCode = Unit {0}
-IsQuiet phase.InterfaceCount = Unit {0}
-IsQuiet phase.ArrayLength = Unit {0}
-IsQuiet phase.BlockLength1 = Unit {0}
-IsQuiet phase.BlockLength4 = Unit {0}
-IsQuiet phase.Prims = Unit {0}
-IsQuiet phase.Bytes = Unit {0}
-IsQuiet _ = ⊥
+IsQuiet phase.Top = ⊥
+IsQuiet phase.Note = ⊥
+IsQuiet phase.Value = ⊥
+IsQuiet phase.SuperTag = ⊥
+IsQuiet phase.Stopped = ⊥
+IsQuiet _ = Unit {0}
 
 -- all of the piece may be taken: it is within the limit of bytes
 pub record CanPass (r : Seen) (piece : List ℕ) : Type 0 where

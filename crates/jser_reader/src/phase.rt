@@ -1,6 +1,7 @@
 //! The token that comes next or is being read.
-ghost use Rattle.std.specs.Prelude.{◌≡◌, true};
+ghost use Rattle.std.specs.Prelude.{◌≡◌, true, false};
 ghost use Rattle.jser_reader.specs.Passes.{IsQuiet};
+ghost use Rattle.jser_reader.specs.Takes.{IsOne};
 ghost use Rattle.jser_reader.specs.Wholes.{IsPlace};
 ghost use Rattle.jser_reader.specs.Walks.{size_of_phase};
 
@@ -105,27 +106,12 @@ impl Phase {
     /// Whether no count changes with the token: it is not at the top, and no place begins there.
     #[inline(always)]
     pub(crate) fn is_quiet(self) -> bool
-        ensures { result ≡ true → IsQuiet self }
+        ensures quiet { result ≡ true → IsQuiet self }
+        ensures tag { result ≡ false → (self ≡ Phase.Stopped → ⊥) → IsOne self }
     {
-        matches!(
-            self,
-            Phase::ClassTag
-                | Phase::TextTag
-                | Phase::BackHandle
-                | Phase::ClassHandle
-                | Phase::TextHandle
-                | Phase::Length2
-                | Phase::Length8
-                | Phase::Text
-                | Phase::Suid
-                | Phase::Flags
-                | Phase::FieldCount
-                | Phase::TypeCode
-                | Phase::InterfaceCount
-                | Phase::ArrayLength
-                | Phase::BlockLength1
-                | Phase::BlockLength4
-                | Phase::Bytes
-        )
+        match self {
+            Phase::Top | Phase::Note | Phase::Value | Phase::SuperTag | Phase::Stopped => false,
+            _ => true,
+        }
     }
 }

@@ -19,26 +19,6 @@ mod members;
 pub(crate) mod passed;
 
 impl Machine {
-    /// Takes bytes of the token that is open, whichever it is.
-    #[inline(never)]
-    pub(crate) fn pass_token<G: Gate>(
-        &mut self,
-        gate: &G,
-        tally: &mut Tally,
-        piece: &[u8],
-    ) -> Passed
-        requires can { CanPass self.old piece.now }
-        requires some { 0 < length piece.now }
-        requires goes_on { self.old.phase ≡ Phase.Stopped → ⊥ }
-        ensures passes { Passes (G.told gate.now) piece.now (bytes_passed result) self.old tally.old self.new tally.new }
-        ensures progress { HasPassed piece.now (bytes_passed result) }
-    {
-        let before = self.mark();
-        let taken = self.take(gate, piece);
-        tally.count_taken(taken, before, self.mark());
-        taken.passed(piece.len())
-    }
-
     /// Takes some of a piece that reaches over the limit of bytes.
     #[inline(never)]
     fn pass_to_limit<G: Gate>(&mut self, gate: &G, tally: &mut Tally, piece: &[u8]) -> Passed
@@ -100,6 +80,21 @@ impl Machine {
         self.take(gate, piece).passed(piece.len())
     }
 
+    /// Takes bytes of the token that is open, whichever it is.
+    #[inline(always)]
+    fn pass_token<G: Gate>(&mut self, gate: &G, tally: &mut Tally, piece: &[u8]) -> Passed
+        requires can { CanPass self.old piece.now }
+        requires some { 0 < length piece.now }
+        requires goes_on { self.old.phase ≡ Phase.Stopped → ⊥ }
+        ensures passes { Passes (G.told gate.now) piece.now (bytes_passed result) self.old tally.old self.new tally.new }
+        ensures progress { HasPassed piece.now (bytes_passed result) }
+    {
+        if self.phase.is_quiet() {
+            return self.pass_quiet(gate, piece);
+        }
+        self.pass_tag(tally, piece)
+    }
+
     /// Takes some of the front of a piece that is not empty: a token or several, or all of the piece.
     #[tactic(auto, using(crate::proofs::PassLemmas::pass_stopped))]
     #[inline(always)]
@@ -120,12 +115,7 @@ impl Machine {
             Phase::TypeCode | Phase::Length2 | Phase::Text | Phase::Suid => {
                 self.pass_classes(gate, tally, piece)
             }
-            _ => {
-                if self.phase.is_quiet() {
-                    return self.pass_quiet(gate, piece);
-                }
-                self.pass_token(gate, tally, piece)
-            }
+            _ => self.pass_token(gate, tally, piece),
         }
     }
 }
