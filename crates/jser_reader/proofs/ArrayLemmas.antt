@@ -1,10 +1,12 @@
 -- The length of an array, and the elements that come after it.
-use Rattle.std.proofs.Common.{◌≡◌, ℕ, zero, suc, ◌-◌, ◌*◌, ◌^◌, ◌<◌, ◌≤◌, Bool, true, false, nat_lt, nat_le, [], ◌∷◌, length, Option, Some, None, option_map, refl, sym, ◌∙◌, ap, subst, arith}
+use Rattle.std.proofs.Common.{◌≡◌, ℕ, zero, suc, ◌-◌, ◌*◌, ◌^◌, ◌<◌, ◌≤◌, true, false, nat_lt, nat_le, [], ◌∷◌, length, Option, Some, None, option_map, refl, sym, ◌∙◌, ap, subst, arith}
 use Rattle.std.proofs.lemmas.Bool.Decides.{nat_tests}
 use Rattle.jser_table.specs.Codes.{PrimCode, size_of}
 use Rattle.jser_reading.specs.Goals.{State, settle, parts_goal, body_parts, raw_part, value_part, value_parts}
 use Rattle.jser_verdict.specs.Reasons.{negative_length, array_exceeded}
 use Rattle.jser_verdict.specs.Verdicts.{array_reason}
+use Rattle.jser_reader.specs.declared.machine.flow.Flow.{Flow}
+use Rattle.jser_reader.specs.declared.machine.flow.Flow.TheVariants as flow
 use Rattle.jser_reader.specs.declared.frame.Frame.TheVariants as frame
 use Rattle.jser_reader.specs.declared.phase.Phase.TheVariants as phase
 use Rattle.jser_reader.specs.declared.refusal.Stop.TheVariants as stop
@@ -22,7 +24,7 @@ unfolding after_length
 raw_state r c zero some = absurd (omega arith)
 raw_state r c (suc n) some = let e : n ≡ suc n - 1 = omega arith in ap (λ k. (moment_of r, parts_goal (depth_of r) (raw_part c (suc k) ∷ []) ∷ goals_of r)) e
 
-pub raw_elements : (size n : ℕ) (elements : Option PrimCode) (b : Bool) (old mid new : Seen) → IsNext phase.Prims mid.owner mid.elements mid.header mid.text mid new → b ≡ true → mid.left ≡ n * size → 0 < n
+pub raw_elements : (size n : ℕ) (elements : Option PrimCode) (b : Flow) (old mid new : Seen) → IsNext phase.Prims mid.owner mid.elements mid.header mid.text mid new → b ≡ flow.On → mid.left ≡ n * size → 0 < n
     → option_map size_of elements ≡ Some size
     → mid.frames ≡ old.frames → mid.layers ≡ old.layers → mid.table ≡ old.table → mid.refs ≡ old.refs → mid.meter ≡ old.meter
     → Tells None (after_length old elements n) b old new
@@ -45,7 +47,7 @@ unfolding after_length
 value_state r zero some = absurd (omega arith)
 value_state r (suc n) some = let e : n ≡ suc n - 1 = omega arith in ap (λ k. (moment_of r, parts_goal (depth_of r) (value_part ∷ value_parts k []) ∷ goals_of r)) e
 
-pub value_elements : (n : ℕ) (b : Bool) (old mid new : Seen) → IsNext phase.Value mid.owner mid.elements mid.header mid.text mid new → b ≡ true → 0 < n
+pub value_elements : (n : ℕ) (b : Flow) (old mid new : Seen) → IsNext phase.Value mid.owner mid.elements mid.header mid.text mid new → b ≡ flow.On → 0 < n
     → mid.frames ≡ frame.Elements (n - 1) ∷ old.frames → mid.layers ≡ old.layers → mid.table ≡ old.table → mid.refs ≡ old.refs → mid.meter ≡ old.meter
     → Tells None (after_length old None n) b old new
 unfolding Ready
@@ -55,17 +57,17 @@ value_elements n b old mid new k e some ef ey et er em =
     (rw (next_is phase.Value mid.owner mid.elements mid.header mid.text mid new k) (rw ef (rw ey (rw et (rw er (tt, refl)))))) in
     tells_next None (after_length old None n) b old new (record { ready = ready; meter = k.meter ∙ ap moved em; max = ap (λ t. t.max) (k.table ∙ et) }) e refl
 
-pub no_room : (s : State) (b : Bool) (old new : Seen) → StopsWith stop.OutOfMemory old new → b ≡ false → Tells None s b old new
+pub no_room : (s : State) (b : Flow) (old new : Seen) → StopsWith stop.OutOfMemory old new → b ≡ flow.Stopped → Tells None s b old new
 unfolding Tells
 no_room s b old new h e = rw e h
 
 -- the length itself
 
-pub negative : (n : ℕ) (b : Bool) (s : State) (old new : Seen) → StopsWith (refusal old.meter (named negative_length)) old new → b ≡ false → 0x80000000 ≤ n → Tells (array_reason (plain_gate old) n) s b old new
+pub negative : (n : ℕ) (b : Flow) (s : State) (old new : Seen) → StopsWith (refusal old.meter (named negative_length)) old new → b ≡ flow.Stopped → 0x80000000 ≤ n → Tells (array_reason (plain_gate old) n) s b old new
 negative n b s old new h e l =
     let is : nat_le (2 ^ 31) n ≡ true = grind (arith, nat_tests) in tells_refusal negative_length (array_reason (plain_gate old) n) s b old new h e (rw is refl)
 
-pub too_long : (n : ℕ) (b : Bool) (s : State) (old new : Seen) → StopsWith (refusal old.meter (named array_exceeded)) old new → b ≡ false → (0x80000000 ≤ n → ⊥) → old.meter.limits.array < n → Tells (array_reason (plain_gate old) n) s b old new
+pub too_long : (n : ℕ) (b : Flow) (s : State) (old new : Seen) → StopsWith (refusal old.meter (named array_exceeded)) old new → b ≡ flow.Stopped → (0x80000000 ≤ n → ⊥) → old.meter.limits.array < n → Tells (array_reason (plain_gate old) n) s b old new
 too_long n b s old new h e small l =
     let is : nat_le (2 ^ 31) n ≡ false = grind (arith, nat_tests) in
     let long : nat_lt old.meter.limits.array n ≡ true = grind (arith, nat_tests) in
@@ -76,7 +78,7 @@ quiet n r small short =
     let is : nat_le (2 ^ 31) n ≡ false = grind (arith, nat_tests) in
     let long : nat_lt r.meter.limits.array n ≡ false = grind (arith, nat_tests) in rw is (rw long refl)
 
-pub no_elements : (n : ℕ) (elements : Option PrimCode) (b : Bool) (old new : Seen) → Comes old new (after_value old) → b ≡ true → n ≡ 0 → (0x80000000 ≤ n → ⊥) → (old.meter.limits.array < n → ⊥)
+pub no_elements : (n : ℕ) (elements : Option PrimCode) (b : Flow) (old new : Seen) → Comes old new (after_value old) → b ≡ flow.On → n ≡ 0 → (0x80000000 ≤ n → ⊥) → (old.meter.limits.array < n → ⊥)
     → Tells (array_reason (plain_gate old) n) (after_length old elements n) b old new
 unfolding after_length after_value
 no_elements n None b old new h e none small short =
@@ -86,13 +88,13 @@ no_elements n (Some c) b old new h e none small short =
     tells_next (array_reason (plain_gate old) n) (after_length old (Some c) n) b old new
     (subst (Comes old new) (sym (ap (λ k. settle (moment_of old) (parts_goal (depth_of old) (body_parts (Some c) k) ∷ goals_of old)) none)) h) e (quiet n old small short)
 
-pub some_raw : (n size : ℕ) (b : Bool) (old new : Seen) → ((elements : Option PrimCode) → option_map size_of elements ≡ Some size → Tells None (after_length old elements n) b old new)
+pub some_raw : (n size : ℕ) (b : Flow) (old new : Seen) → ((elements : Option PrimCode) → option_map size_of elements ≡ Some size → Tells None (after_length old elements n) b old new)
     → old.elements ≡ Some size → (0x80000000 ≤ n → ⊥) → (old.meter.limits.array < n → ⊥)
     → (elements : Option PrimCode) → old.elements ≡ option_map size_of elements → Tells (array_reason (plain_gate old) n) (after_length old elements n) b old new
 some_raw n size b old new h kept small short elements is =
     subst (λ t. Tells t (after_length old elements n) b old new) (sym (quiet n old small short)) (h elements (sym is ∙ kept))
 
-pub some_values : (n : ℕ) (b : Bool) (old new : Seen) → Tells None (after_length old None n) b old new → old.elements ≡ None → (0x80000000 ≤ n → ⊥) → (old.meter.limits.array < n → ⊥)
+pub some_values : (n : ℕ) (b : Flow) (old new : Seen) → Tells None (after_length old None n) b old new → old.elements ≡ None → (0x80000000 ≤ n → ⊥) → (old.meter.limits.array < n → ⊥)
     → (elements : Option PrimCode) → old.elements ≡ option_map size_of elements → Tells (array_reason (plain_gate old) n) (after_length old elements n) b old new
 some_values n b old new h kept small short None is = subst (λ t. Tells t (after_length old None n) b old new) (sym (quiet n old small short)) h
 some_values n b old new h kept small short (Some c) is = absurd (let e = sym kept ∙ is in cc)

@@ -18,6 +18,8 @@ use Rattle.jser_verdict.specs.TagRows.{is_known_tag}
 use Rattle.jser_verdict.specs.HandleRows.{is_no_handle, entry_named, is_no_descriptor}
 use Rattle.jser_verdict.specs.ClassRows.{fit_of_owner, fit_at, is_wrong, is_raw, is_unserial}
 use Rattle.jser_verdict.specs.Verdicts.{told_if, class_tag_reason, class_handle_reason}
+use Rattle.jser_reader.specs.declared.machine.flow.Flow.{Flow}
+use Rattle.jser_reader.specs.declared.machine.flow.Flow.TheVariants as flow
 use Rattle.jser_reader.specs.declared.frame.Owner.{Owner}
 use Rattle.jser_reader.specs.declared.frame.Owner.TheVariants as owner
 use Rattle.jser_reader.specs.declared.frame.Role.TheVariants as role
@@ -40,32 +42,32 @@ tag_reason r o b = class_tag_reason (plain_gate r) (label_at (class_place_at o) 
 
 -- tags that are refused
 
-refused : (reason : Reason) (o : GoalOwner) (b : ℕ) (s : State) (found : Bool) (old new : Seen) → tag_reason old o b ≡ Some reason
-    → StopsWith (refusal old.meter (named reason)) old new → found ≡ false → Tells (tag_reason old o b) s found old new
+refused : (reason : Reason) (o : GoalOwner) (b : ℕ) (s : State) (found : Flow) (old new : Seen) → tag_reason old o b ≡ Some reason
+    → StopsWith (refusal old.meter (named reason)) old new → found ≡ flow.Stopped → Tells (tag_reason old o b) s found old new
 refused reason o b s found old new e h ef = tells_refusal reason (tag_reason old o b) s found old new h ef e
 
 not_known : (b : ℕ) (o : GoalOwner) → (b < 0x70) ⊎ (0x7E < b) → is_known_tag (class_place_at o) b ≡ false
 not_known b o (inl h) = grind (arith, nat_tests)
 not_known b o (inr h) = grind (arith, nat_tests)
 
-pub no_class_tag : (b : ℕ) (s : State) (found : Bool) (old new : Seen) → IsTagOf b None → StopsWith (refusal old.meter (named bad_tag)) old new → found ≡ false
+pub no_class_tag : (b : ℕ) (s : State) (found : Flow) (old new : Seen) → IsTagOf b None → StopsWith (refusal old.meter (named bad_tag)) old new → found ≡ flow.Stopped
     → Tells (tag_reason old (goal_owner old.owner) b) s found old new
 no_class_tag b s found old new t h ef =
     let k = not_known b (goal_owner old.owner) t in
     refused bad_tag (goal_owner old.owner) b s found old new (rw k refl) h ef
 
-pub class_block : (long : Bool) (b : ℕ) (s : State) (found : Bool) (old new : Seen) → b ≡ block_byte long → StopsWith (refusal old.meter (named bad_tag)) old new → found ≡ false
+pub class_block : (long : Bool) (b : ℕ) (s : State) (found : Flow) (old new : Seen) → b ≡ block_byte long → StopsWith (refusal old.meter (named bad_tag)) old new → found ≡ flow.Stopped
     → Tells (tag_reason old (goal_owner old.owner) b) s found old new
 class_block false b s found old new e h ef = rw e (refused bad_tag (goal_owner old.owner) 0x77 s found old new refl h ef)
 class_block true b s found old new e h ef = rw e (refused bad_tag (goal_owner old.owner) 0x7A s found old new refl h ef)
 
-pub class_other : (b : ℕ) (s : State) (found : Bool) (old new : Seen) → (b ≡ 0x78) ⊎ ((b ≡ 0x79) ⊎ (b ≡ 0x7B)) → StopsWith (refusal old.meter (named bad_tag)) old new → found ≡ false
+pub class_other : (b : ℕ) (s : State) (found : Flow) (old new : Seen) → (b ≡ 0x78) ⊎ ((b ≡ 0x79) ⊎ (b ≡ 0x7B)) → StopsWith (refusal old.meter (named bad_tag)) old new → found ≡ flow.Stopped
     → Tells (tag_reason old (goal_owner old.owner) b) s found old new
 class_other b s found old new (inl e) h ef = rw e (refused bad_tag (goal_owner old.owner) 0x78 s found old new refl h ef)
 class_other b s found old new (inr (inl e)) h ef = rw e (refused bad_tag (goal_owner old.owner) 0x79 s found old new refl h ef)
 class_other b s found old new (inr (inr e)) h ef = rw e (refused bad_tag (goal_owner old.owner) 0x7B s found old new refl h ef)
 
-pub null_class_tag : (s : State) (found : Bool) (old new : Seen) → StopsWith (refusal old.meter (named null_class)) old new → found ≡ false
+pub null_class_tag : (s : State) (found : Flow) (old new : Seen) → StopsWith (refusal old.meter (named null_class)) old new → found ≡ flow.Stopped
     → Tells (tag_reason old (goal_owner old.owner) (tag_byte (view_tag value.Null))) s found old new
 null_class_tag s found old new h ef = refused null_class (goal_owner old.owner) 0x70 s found old new refl h ef
 
@@ -88,11 +90,11 @@ no_class_reason value.Reference o r i = absurd i
 no_class_reason value.ClassDesc o r i = absurd i
 no_class_reason value.ProxyClassDesc o r i = absurd i
 
-pub no_class_value : (t : ValueTag) (s : State) (found : Bool) (old new : Seen) → StopsWith (refusal old.meter (named bad_tag)) old new → found ≡ false → IsNoClass t
+pub no_class_value : (t : ValueTag) (s : State) (found : Flow) (old new : Seen) → StopsWith (refusal old.meter (named bad_tag)) old new → found ≡ flow.Stopped → IsNoClass t
     → Tells (tag_reason old (goal_owner old.owner) (tag_byte (view_tag t))) s found old new
 no_class_value t s found old new h ef i = refused bad_tag (goal_owner old.owner) (tag_byte (view_tag t)) s found old new (no_class_reason t (goal_owner old.owner) old i) h ef
 
-pub value_tag : (t : ValueTag) (b : ℕ) (found : Bool) (old new : Seen) → b ≡ tag_byte (view_tag t)
+pub value_tag : (t : ValueTag) (b : ℕ) (found : Flow) (old new : Seen) → b ≡ tag_byte (view_tag t)
     → Tells (tag_reason old (goal_owner old.owner) (tag_byte (view_tag t))) (after_class_tag old (tag_from (tag_byte (view_tag t)))) found old new
     → Tells (tag_reason old (goal_owner old.owner) b) (after_class_tag old (tag_from b)) found old new
 value_tag t b found old new e h = rw e h
@@ -113,43 +115,43 @@ quiet_class array_owner r = refl
 quiet_class enum_owner r = refl
 quiet_class class_owner r = refl
 
-pub class_reference : (found : Bool) (old new : Seen) → IsNext phase.ClassHandle old.owner old.elements old.header old.text old new → found ≡ true
+pub class_reference : (found : Flow) (old new : Seen) → IsNext phase.ClassHandle old.owner old.elements old.header old.text old new → found ≡ flow.On
     → Tells (tag_reason old (goal_owner old.owner) (tag_byte (view_tag value.Reference))) (after_class_tag old (tag_from (tag_byte (view_tag value.Reference)))) found old new
 unfolding tag_from Ready
 class_reference found old new n ef =
     let ready : Ready new (after_class_tag old (tag_from 0x71)) = rw (next_is phase.ClassHandle old.owner old.elements old.header old.text old new n) refl in
     tells_next (tag_reason old (goal_owner old.owner) 0x71) (after_class_tag old (tag_from 0x71)) found old new (record { ready = ready; meter = n.meter; max = ap (λ t. t.max) n.table }) ef (quiet_reference (goal_owner old.owner) old)
 
-pub new_class : (found : Bool) (old new : Seen) → Tells None (opens_class old (role.ClassOf old.owner)) found old new
+pub new_class : (found : Flow) (old new : Seen) → Tells None (opens_class old (role.ClassOf old.owner)) found old new
     → Tells (tag_reason old (goal_owner old.owner) (tag_byte (view_tag value.ClassDesc))) (after_class_tag old (tag_from (tag_byte (view_tag value.ClassDesc)))) found old new
 unfolding tag_from
 new_class found old new h =
     subst (λ k. Tells k (after_class_tag old (tag_from 0x72)) found old new) (sym (quiet_class (goal_owner old.owner) old)) h
 
-pub proxy_tag : (found : Bool) (old new : Seen) → Tells (tag_reason old (goal_owner old.owner) 0x7D) (after_class_tag old (tag_from 0x7D)) found old new
+pub proxy_tag : (found : Flow) (old new : Seen) → Tells (tag_reason old (goal_owner old.owner) 0x7D) (after_class_tag old (tag_from 0x7D)) found old new
     → Tells (tag_reason old (goal_owner old.owner) (tag_byte (view_tag value.ProxyClassDesc))) (after_class_tag old (tag_from (tag_byte (view_tag value.ProxyClassDesc)))) found old new
 proxy_tag found old new h = h
 
-at_owner : (o : Owner) (found : Bool) (old new : Seen) → old.owner ≡ o → Tells (tag_reason old (goal_owner o) 0x7D) (opens_proxy old (role.ClassOf o)) found old new
+at_owner : (o : Owner) (found : Flow) (old new : Seen) → old.owner ≡ o → Tells (tag_reason old (goal_owner o) 0x7D) (opens_proxy old (role.ClassOf o)) found old new
     → Tells (tag_reason old (goal_owner old.owner) 0x7D) (after_class_tag old (tag_from 0x7D)) found old new
 unfolding tag_from
 at_owner o found old new e h = subst (λ w. Tells (tag_reason old (goal_owner w) 0x7D) (opens_proxy old (role.ClassOf w)) found old new) (sym e) h
 
-pub object_proxy : (found : Bool) (old new : Seen) → Tells (told_if (is_full old) handle_space None) (opens_proxy old (role.ClassOf owner.Object)) found old new → old.owner ≡ owner.Object
+pub object_proxy : (found : Flow) (old new : Seen) → Tells (told_if (is_full old) handle_space None) (opens_proxy old (role.ClassOf owner.Object)) found old new → old.owner ≡ owner.Object
     → Tells (tag_reason old (goal_owner old.owner) 0x7D) (after_class_tag old (tag_from 0x7D)) found old new
 unfolding tag_from
 object_proxy found old new h e = at_owner owner.Object found old new e h
 
-pub class_proxy : (found : Bool) (old new : Seen) → Tells (told_if (is_full old) handle_space None) (opens_proxy old (role.ClassOf owner.ClassObject)) found old new → old.owner ≡ owner.ClassObject
+pub class_proxy : (found : Flow) (old new : Seen) → Tells (told_if (is_full old) handle_space None) (opens_proxy old (role.ClassOf owner.ClassObject)) found old new → old.owner ≡ owner.ClassObject
     → Tells (tag_reason old (goal_owner old.owner) 0x7D) (after_class_tag old (tag_from 0x7D)) found old new
 unfolding tag_from
 class_proxy found old new h e = at_owner owner.ClassObject found old new e h
 
-pub array_proxy : (found : Bool) (old new : Seen) → StopsWith (refusal old.meter (named wrong_class)) old new → found ≡ false → old.owner ≡ owner.Array
+pub array_proxy : (found : Flow) (old new : Seen) → StopsWith (refusal old.meter (named wrong_class)) old new → found ≡ flow.Stopped → old.owner ≡ owner.Array
     → Tells (tag_reason old (goal_owner old.owner) 0x7D) (after_class_tag old (tag_from 0x7D)) found old new
 array_proxy found old new h ef e = at_owner owner.Array found old new e (refused wrong_class array_owner 0x7D (opens_proxy old (role.ClassOf owner.Array)) found old new refl h ef)
 
-pub enum_proxy : (found : Bool) (old new : Seen) → StopsWith (refusal old.meter (named wrong_class)) old new → found ≡ false → old.owner ≡ owner.EnumConst
+pub enum_proxy : (found : Flow) (old new : Seen) → StopsWith (refusal old.meter (named wrong_class)) old new → found ≡ flow.Stopped → old.owner ≡ owner.EnumConst
     → Tells (tag_reason old (goal_owner old.owner) 0x7D) (after_class_tag old (tag_from 0x7D)) found old new
 enum_proxy found old new h ef e = at_owner owner.EnumConst found old new e (refused wrong_class enum_owner 0x7D (opens_proxy old (role.ClassOf owner.EnumConst)) found old new refl h ef)
 
@@ -184,13 +186,13 @@ at_entry r o n e low h =
     let named_is : entry_named r.table.entries n ≡ Some e = let t : nat_le 0x7E0000 n ≡ true = grind (arith, nat_tests) in rw t h in
     rw is (ap (entry_reason r o) named_is)
 
-pub low_class : (n : ℕ) (s : State) (found : Bool) (old new : Seen) → StopsWith (refusal old.meter (named no_such_handle)) old new → found ≡ false → n < 0x7E0000
+pub low_class : (n : ℕ) (s : State) (found : Flow) (old new : Seen) → StopsWith (refusal old.meter (named no_such_handle)) old new → found ≡ flow.Stopped → n < 0x7E0000
     → Tells (handle_reason old (goal_owner old.owner) n) s found old new
 low_class n s found old new h ef l =
     let is : is_no_handle old.table.entries n ≡ true = grind (arith, nat_tests) in
     tells_refusal no_such_handle (handle_reason old (goal_owner old.owner) n) s found old new h ef (rw is refl)
 
-pub no_such_class : (n : ℕ) (s : State) (found : Bool) (old new : Seen) → StopsWith (refusal old.meter (named no_such_handle)) old new → found ≡ false
+pub no_such_class : (n : ℕ) (s : State) (found : Flow) (old new : Seen) → StopsWith (refusal old.meter (named no_such_handle)) old new → found ≡ flow.Stopped
     → IsClass old.table.chains (slice_get old.table.entries (n - 0x7E0000)) class.NotThere → (n < 0x7E0000 → ⊥)
     → Tells (handle_reason old (goal_owner old.owner) n) s found old new
 no_such_class n s found old new h ef none low =
@@ -198,7 +200,7 @@ no_such_class n s found old new h ef none low =
     let is : is_no_handle old.table.entries n ≡ true = grind (arith, nat_tests) in
     tells_refusal no_such_handle (handle_reason old (goal_owner old.owner) n) s found old new h ef (rw is refl)
 
-pub no_class : (n : ℕ) (s : State) (found : Bool) (old new : Seen) → StopsWith (refusal old.meter (named wrong_kind)) old new → found ≡ false
+pub no_class : (n : ℕ) (s : State) (found : Flow) (old new : Seen) → StopsWith (refusal old.meter (named wrong_kind)) old new → found ≡ flow.Stopped
     → IsClass old.table.chains (slice_get old.table.entries (n - 0x7E0000)) class.NoClass → (n < 0x7E0000 → ⊥)
     → Tells (handle_reason old (goal_owner old.owner) n) s found old new
 no_class n s found old new h ef (inl t) low =
@@ -206,7 +208,7 @@ no_class n s found old new h ef (inl t) low =
 no_class n s found old new h ef (inr t) low =
     tells_refusal wrong_kind (handle_reason old (goal_owner old.owner) n) s found old new h ef (at_entry old (goal_owner old.owner) n other_entry (omega arith) t)
 
-pub open_class : (n : ℕ) (s : State) (found : Bool) (old new : Seen) → StopsWith (refusal old.meter (named open_descriptor)) old new → found ≡ false
+pub open_class : (n : ℕ) (s : State) (found : Flow) (old new : Seen) → StopsWith (refusal old.meter (named open_descriptor)) old new → found ≡ flow.Stopped
     → IsClass old.table.chains (slice_get old.table.entries (n - 0x7E0000)) class.Open → (n < 0x7E0000 → ⊥)
     → Tells (handle_reason old (goal_owner old.owner) n) s found old new
 open_class n s found old new h ef t low =
@@ -215,7 +217,7 @@ open_class n s found old new h ef t low =
 abbrev fit_told : Fit → Option Reason → Option Reason
 fit_told f others = told_if (is_wrong f) wrong_class (told_if (is_raw f) external_raw (told_if (is_unserial f) not_serializable others))
 
-pub wrong_class_handle : (n chain : ℕ) (why : CodeReason) (s : State) (found : Bool) (old new : Seen) → StopsWith (refusal old.meter why) old new → found ≡ false
+pub wrong_class_handle : (n chain : ℕ) (why : CodeReason) (s : State) (found : Flow) (old new : Seen) → StopsWith (refusal old.meter why) old new → found ≡ flow.Stopped
     → IsClass old.table.chains (slice_get old.table.entries (n - 0x7E0000)) (class.Closed chain) → (n < 0x7E0000 → ⊥)
     → Some why ≡ fit_reason (fit_of_owner (goal_owner old.owner) (chain_in old.table.chains chain))
     → Tells (handle_reason old (goal_owner old.owner) n) s found old new
@@ -229,7 +231,7 @@ wrong_class_handle n chain why s found old new h ef t low e =
     go fit.ExternalRaw e = let w : why ≡ reason.ExternalRaw = cc in tells_refusal external_raw (Some external_raw) s found old new (subst (λ k. StopsWith (refusal old.meter k) old new) w h) ef refl
     go fit.NotSerializable e = let w : why ≡ reason.NotSerializable = cc in tells_refusal not_serializable (Some not_serializable) s found old new (subst (λ k. StopsWith (refusal old.meter k) old new) w h) ef refl
 
-pub right_class : (n chain : ℕ) (found : Bool) (old new : Seen)
+pub right_class : (n chain : ℕ) (found : Flow) (old new : Seen)
     → Tells (told_if (is_full old) handle_space None) (owner_state old (chain_in old.table.chains chain)) found old new
     → IsClass old.table.chains (slice_get old.table.entries (n - 0x7E0000)) (class.Closed chain) → (n < 0x7E0000 → ⊥)
     → None ≡ fit_reason (fit_of_owner (goal_owner old.owner) (chain_in old.table.chains chain))

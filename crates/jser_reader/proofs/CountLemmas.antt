@@ -23,6 +23,7 @@ use Rattle.jser_reading.proofs.SpelledTokens.{spelled_law}
 use Rattle.jser_reading.proofs.TotalsObserved.{totalled_law}
 use Rattle.jser_verdict.specs.Gates.{Gate}
 use Rattle.jser_verdict.proofs.ByteLists.{bytes_both, bytes_right}
+use Rattle.jser_reader.specs.declared.machine.flow.Flow.TheVariants as flow
 use Rattle.jser_reader.specs.declared.phase.Phase.TheVariants as phase
 use Rattle.jser_reader.specs.declared.tally.Tally.{Tally}
 use Rattle.jser_reader.specs.Readers.{Seen, moment_of}
@@ -127,7 +128,7 @@ new_counts gate r n e = record {
 }
 
 -- the open token has ended
-unfoldable pub took_counts : (gate : Gate) (old new : Seen) (bytes taken : List ℕ) (tally : Tally) → Takes gate taken true old new → IsBytes taken
+unfoldable pub took_counts : (gate : Gate) (old new : Seen) (bytes taken : List ℕ) (tally : Tally) → Takes gate taken flow.On old new → IsBytes taken
     → HasCounted gate bytes old tally → HasCounted gate (bytes ++ taken) new (tally_after (mark_of old) (mark_of new) tally)
 unfolding Takes took_stands
 took_counts gate old new bytes taken tally h bt c =

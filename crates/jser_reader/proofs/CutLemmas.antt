@@ -5,6 +5,7 @@ use Rattle.jser_prim.specs.Bytes.{big_bytes}
 use Rattle.jser_reading.specs.TokensFromBytes.{head_size}
 use Rattle.jser_reading.proofs.Decoding.{length-big_bytes}
 use Rattle.jser_verdict.specs.Gates.{Gate}
+use Rattle.jser_reader.specs.declared.machine.flow.Flow.{Flow}
 use Rattle.jser_reader.specs.declared.machine.take.taken.Taken.{Taken}
 use Rattle.jser_reader.specs.declared.machine.take.taken.Taken.TheVariants as taken
 use Rattle.jser_reader.specs.declared.phase.Phase.{Phase}
@@ -143,7 +144,7 @@ whole_length phase.Top bytes e = tt
 whole_length _ bytes e = tt
 
 -- one of which it has
-number_came : (gate : Gate) (size n count : ℕ) (found : Bool) (result : Taken) (piece : List ℕ) (old new : Seen)
+number_came : (gate : Gate) (size n count : ℕ) (found : Flow) (result : Taken) (piece : List ℕ) (old new : Seen)
     → TakesNumberFor gate size n count found old new → result ≡ taken_by count found → 0 < count → count ≤ length piece
     → big_bytes size n ≡ cut_of old ++ take count piece → size_of_phase (open_phase old) ≡ size → TakesFromFor gate result piece old new
 unfolding TakesNumberFor
@@ -152,7 +153,7 @@ number_came gate size n count found result piece old new h er some within spelle
     (whole_length (open_phase old) (cut_of old ++ take count piece) (ap length (sym spelled) ∙ length-big_bytes size n ∙ sym es))
 
 -- as one gate judges it
-pub number_for : (gate : Gate) (size n count : ℕ) (found : Bool) (old new : Seen) → TakesNumber size n count found old new
+pub number_for : (gate : Gate) (size n count : ℕ) (found : Flow) (old new : Seen) → TakesNumber size n count found old new
     → TakesNumberFor gate size n count found old new
 unfolding TakesNumber
 number_for gate size n count found old new h = h gate
@@ -166,7 +167,7 @@ first_kept gate size piece old new c f some short =
     let w = whole_open old.phase old refl (omega arith) in
     number_open gate size old.phase piece old new c f w.0 some (rw w.1 short)
 
-pub all_taken : (gate : Gate) (size n : ℕ) (found : Bool) (result : Taken) (piece : List ℕ) (old new : Seen)
+pub all_taken : (gate : Gate) (size n : ℕ) (found : Flow) (result : Taken) (piece : List ℕ) (old new : Seen)
     → TakesNumberFor gate size n size found old new → result ≡ taken_by size found → IsNumberOf size old.phase → 0 < size
     → big_bytes size n ≡ take size piece → size ≤ length piece → TakesFromFor gate result piece old new
 all_taken gate size n found result piece old new h er f some spelled long =
@@ -186,7 +187,7 @@ rest_kept gate size missing piece old new c f e all some short =
     let n : length (old.meter.kept ++ piece) ≡ length old.meter.kept + length piece = length-append old.meter.kept piece in
     number_open gate size old.meter.cut_phase piece old new c f w.0 some (rw w.1 (omega arith))
 
-pub rest_taken : (gate : Gate) (size n missing : ℕ) (found : Bool) (result : Taken) (piece last : List ℕ) (old new : Seen)
+pub rest_taken : (gate : Gate) (size n missing : ℕ) (found : Flow) (result : Taken) (piece last : List ℕ) (old new : Seen)
     → TakesNumberFor gate size n missing found old new → result ≡ taken_by missing found → IsNumberOf size old.meter.cut_phase → old.phase ≡ phase.Cut
     → big_bytes size n ≡ old.meter.kept ++ last → last ≡ take missing piece → 0 < missing → missing ≤ length piece
     → TakesFromFor gate result piece old new
@@ -203,7 +204,7 @@ cut_kept gate missing piece old new c i h e all some short =
     rest_kept gate (size_of_phase old.meter.cut_phase) missing piece old new c (cut_is old.meter.cut_phase i h) e all some short
 
 -- the last of them came
-pub cut_taken : (gate : Gate) (size n missing : ℕ) (found : Bool) (result : Taken) (p : Phase) (piece last : List ℕ) (old new : Seen)
+pub cut_taken : (gate : Gate) (size n missing : ℕ) (found : Flow) (result : Taken) (p : Phase) (piece last : List ℕ) (old new : Seen)
     → TakesNumber size n missing found old new → result ≡ taken_by missing found → IsNumberOf size p → old.meter.cut_phase ≡ p → old.phase ≡ phase.Cut
     → big_bytes size n ≡ old.meter.kept ++ last → last ≡ take missing piece → 0 < missing → missing ≤ length piece
     → TakesFromFor gate result piece old new
@@ -217,7 +218,7 @@ pub two_kept : (piece : List ℕ) (old new : Seen) → CutsOff piece old new →
     → TakesFrom taken.Open piece old new
 two_kept piece old new c e some short = λ gate. first_kept gate 2 piece old new c (subst (IsNumberOf 2) (sym e) field_count_is) some short
 
-pub two_taken : (n : ℕ) (found : Bool) (result : Taken) (piece number : List ℕ) (old new : Seen) → TakesNumber 2 n 2 found old new → result ≡ taken_by 2 found
+pub two_taken : (n : ℕ) (found : Flow) (result : Taken) (piece number : List ℕ) (old new : Seen) → TakesNumber 2 n 2 found old new → result ≡ taken_by 2 found
     → old.phase ≡ phase.FieldCount → big_bytes 2 n ≡ number → number ≡ take 2 piece → 2 ≤ length piece → TakesFrom result piece old new
 unfolding TakesNumber
 two_taken n found result piece number old new h er e spelled en long =
@@ -227,7 +228,7 @@ pub four_kept : (piece : List ℕ) (old new : Seen) → CutsOff piece old new �
     → TakesFrom taken.Open piece old new
 four_kept piece old new c i some short = λ gate. first_kept gate 4 piece old new c (four_is old.phase i) some short
 
-pub four_taken : (n : ℕ) (found : Bool) (result : Taken) (piece number : List ℕ) (old new : Seen) → TakesNumber 4 n 4 found old new → result ≡ taken_by 4 found
+pub four_taken : (n : ℕ) (found : Flow) (result : Taken) (piece number : List ℕ) (old new : Seen) → TakesNumber 4 n 4 found old new → result ≡ taken_by 4 found
     → IsFour old.phase → big_bytes 4 n ≡ number → number ≡ take 4 piece → 4 ≤ length piece → TakesFrom result piece old new
 unfolding TakesNumber
 four_taken n found result piece number old new h er i spelled en long =
@@ -237,7 +238,7 @@ pub eight_kept : (piece : List ℕ) (old new : Seen) → CutsOff piece old new �
     → TakesFrom taken.Open piece old new
 eight_kept piece old new c e some short = λ gate. first_kept gate 8 piece old new c (subst (IsNumberOf 8) (sym e) suid_is) some short
 
-pub eight_taken : (n : ℕ) (found : Bool) (result : Taken) (piece number : List ℕ) (old new : Seen) → TakesNumber 8 n 8 found old new → result ≡ taken_by 8 found
+pub eight_taken : (n : ℕ) (found : Flow) (result : Taken) (piece number : List ℕ) (old new : Seen) → TakesNumber 8 n 8 found old new → result ≡ taken_by 8 found
     → old.phase ≡ phase.Suid → big_bytes 8 n ≡ number → number ≡ take 8 piece → 8 ≤ length piece → TakesFrom result piece old new
 unfolding TakesNumber
 eight_taken n found result piece number old new h er e spelled en long =

@@ -1,7 +1,9 @@
 -- How the handler of a token ends.
-use Rattle.std.proofs.Common.{◌≡◌, ℕ, Bool, true, false, Option, Some, None, refl, ◌∙◌, ap, subst}
+use Rattle.std.proofs.Common.{◌≡◌, ℕ, Option, Some, None, refl, ◌∙◌, ap, subst}
 use Rattle.jser_reading.specs.Goals.{State}
 use Rattle.jser_verdict.specs.Reasons.{Reason}
+use Rattle.jser_reader.specs.declared.machine.flow.Flow.{Flow}
+use Rattle.jser_reader.specs.declared.machine.flow.Flow.TheVariants as flow
 use Rattle.jser_reader.specs.declared.frame.Owner.{Owner}
 use Rattle.jser_reader.specs.declared.phase.Phase.{Phase}
 use Rattle.jser_reader.specs.declared.phase.TextFor.{TextFor}
@@ -28,25 +30,25 @@ next_is p o chain h t old new n =
 
 -- a handler that refuses, runs out of memory, or goes on
 
-pub tells_refusal : (reason : Reason) (told : Option Reason) (s : State) (b : Bool) (old new : Seen) → StopsWith (refusal old.meter (named reason)) old new → b ≡ false → told ≡ Some reason → Tells told s b old new
+pub tells_refusal : (reason : Reason) (told : Option Reason) (s : State) (b : Flow) (old new : Seen) → StopsWith (refusal old.meter (named reason)) old new → b ≡ flow.Stopped → told ≡ Some reason → Tells told s b old new
 unfolding Tells
 tells_refusal reason told s b old new h eb et = rw eb (rw et h)
 
-pub tells_next : (told : Option Reason) (s : State) (b : Bool) (old new : Seen) → Comes old new s → b ≡ true → told ≡ None → Tells told s b old new
+pub tells_next : (told : Option Reason) (s : State) (b : Flow) (old new : Seen) → Comes old new s → b ≡ flow.On → told ≡ None → Tells told s b old new
 unfolding Tells
 tells_next told s b old new h eb et = rw eb (rw et h)
 
 -- what a handler tells, said of a machine that was as far
-pub tells_from : (told : Option Reason) (s t : State) (b : Bool) (old mid new : Seen) → Tells told s b mid new → mid.meter ≡ old.meter → mid.table.max ≡ old.table.max → s ≡ t → Tells told t b old new
+pub tells_from : (told : Option Reason) (s t : State) (b : Flow) (old mid new : Seen) → Tells told s b mid new → mid.meter ≡ old.meter → mid.table.max ≡ old.table.max → s ≡ t → Tells told t b old new
 unfolding Tells
-tells_from None s t true old mid new h em ex e = record { ready = subst (Ready new) e h.ready; meter = h.meter ∙ ap moved em; max = h.max ∙ ex }
-tells_from None s t false old mid new h em ex e = record { phase = h.phase; stop = h.stop }
-tells_from (Some r) s t true old mid new h em ex e = h
-tells_from (Some r) s t false old mid new h em ex e = record { phase = h.phase; stop = h.stop ∙ ap (λ m. refusal m (named r)) em }
+tells_from None s t flow.On old mid new h em ex e = record { ready = subst (Ready new) e h.ready; meter = h.meter ∙ ap moved em; max = h.max ∙ ex }
+tells_from None s t flow.Stopped old mid new h em ex e = record { phase = h.phase; stop = h.stop }
+tells_from (Some r) s t flow.On old mid new h em ex e = h
+tells_from (Some r) s t flow.Stopped old mid new h em ex e = record { phase = h.phase; stop = h.stop ∙ ap (λ m. refusal m (named r)) em }
 
-pub surely_from : (told : Option Reason) (s t : State) (b : Bool) (old mid new : Seen) → TellsSurely told s b mid new → mid.meter ≡ old.meter → mid.table.max ≡ old.table.max → s ≡ t → TellsSurely told t b old new
+pub surely_from : (told : Option Reason) (s t : State) (b : Flow) (old mid new : Seen) → TellsSurely told s b mid new → mid.meter ≡ old.meter → mid.table.max ≡ old.table.max → s ≡ t → TellsSurely told t b old new
 unfolding TellsSurely
-surely_from None s t true old mid new h em ex e = record { ready = subst (Ready new) e h.ready; meter = h.meter ∙ ap moved em; max = h.max ∙ ex }
-surely_from None s t false old mid new h em ex e = h
-surely_from (Some r) s t true old mid new h em ex e = h
-surely_from (Some r) s t false old mid new h em ex e = record { phase = h.phase; stop = h.stop ∙ ap (λ m. refusal m (named r)) em }
+surely_from None s t flow.On old mid new h em ex e = record { ready = subst (Ready new) e h.ready; meter = h.meter ∙ ap moved em; max = h.max ∙ ex }
+surely_from None s t flow.Stopped old mid new h em ex e = h
+surely_from (Some r) s t flow.On old mid new h em ex e = h
+surely_from (Some r) s t flow.Stopped old mid new h em ex e = record { phase = h.phase; stop = h.stop ∙ ap (λ m. refusal m (named r)) em }

@@ -12,6 +12,8 @@ use Rattle.jser_reading.specs.Goals.{State, Goal, field_count_goal, in_order, re
 use Rattle.jser_verdict.specs.Reasons.{Reason, bad_flags, negative_length}
 use Rattle.jser_verdict.specs.Rows.{are_bad_flags}
 use Rattle.jser_verdict.specs.Verdicts.{told_if, flags_reason, count_reason, code_reason}
+use Rattle.jser_reader.specs.declared.machine.flow.Flow.{Flow}
+use Rattle.jser_reader.specs.declared.machine.flow.Flow.TheVariants as flow
 use Rattle.jser_reader.specs.declared.frame.Frame.{Frame}
 use Rattle.jser_reader.specs.declared.frame.Frame.TheVariants as frame
 use Rattle.jser_reader.specs.declared.frame.Role.TheVariants as role
@@ -40,7 +42,7 @@ opened_below C L M (frame.ExternalNotes ∷ fs) e = refl
 
 -- the reason that the code found is the one that is told
 
-pub told_refusal : (reason : NamedReason) (told : Option Reason) (s : State) (b : Bool) (old new : Seen) → StopsWith (refusal old.meter reason) old new → b ≡ false
+pub told_refusal : (reason : NamedReason) (told : Option Reason) (s : State) (b : Flow) (old new : Seen) → StopsWith (refusal old.meter reason) old new → b ≡ flow.Stopped
     → Some reason ≡ option_map named told → Tells told s b old new
 told_refusal reason None s b old new h e et = absurd (cc)
 told_refusal reason (Some k) s b old new h e et =
@@ -53,14 +55,14 @@ not_told (Some k) e = absurd (cc)
 
 -- flags
 
-pub high_flags : (flags : ℕ) (b : Bool) (old new : Seen) → StopsWith (refusal old.meter (named bad_flags)) old new → b ≡ false → 32 ≤ flags
+pub high_flags : (flags : ℕ) (b : Flow) (old new : Seen) → StopsWith (refusal old.meter (named bad_flags)) old new → b ≡ flow.Stopped → 32 ≤ flags
     → HasDescriptor old.frames → Tells (flags_reason (top_role old.frames) flags) (field_count_state old flags) b old new
 high_flags flags b old new h e le d =
     let bad : nat_le 32 flags ≡ true = grind (arith, nat_tests) in
     tells_refusal bad_flags (flags_reason (top_role old.frames) flags) (field_count_state old flags) b old new h e
     (ap (λ k. told_if (k || (is_serializable flags && is_externalizable flags)) bad_flags (role_reason (top_role old.frames) flags)) bad)
 
-pub both_flags : (flags : ℕ) (b : Bool) (old mid new : Seen) → StopsWith (refusal mid.meter (named bad_flags)) mid new → b ≡ false → mid.meter ≡ old.meter
+pub both_flags : (flags : ℕ) (b : Flow) (old mid new : Seen) → StopsWith (refusal mid.meter (named bad_flags)) mid new → b ≡ flow.Stopped → mid.meter ≡ old.meter
     → (is_serializable flags && is_externalizable flags) ≡ true
     → HasDescriptor old.frames → Tells (flags_reason (top_role old.frames) flags) (field_count_state old flags) b old new
 both_flags flags b old mid new h e em both d =
@@ -78,7 +80,7 @@ sound_flags flags others low both =
     let few : nat_le 32 flags ≡ false = grind (arith, nat_tests) in
     ap (λ k. told_if (k || (is_serializable flags && is_externalizable flags)) bad_flags others) few ∙ ap (λ k. told_if k bad_flags others) both
 
-pub flags_fault : (flags : ℕ) (reason : NamedReason) (b : Bool) (old mid new : Seen) → StopsWith (refusal mid.meter reason) mid new → b ≡ false
+pub flags_fault : (flags : ℕ) (reason : NamedReason) (b : Flow) (old mid new : Seen) → StopsWith (refusal mid.meter reason) mid new → b ≡ flow.Stopped
     → Some reason ≡ option_map named (role_reason (top_role mid.frames) (head_layer mid.layers).flags)
     → mid.meter ≡ old.meter → mid.frames ≡ old.frames → (head_layer mid.layers).flags ≡ flags
     → (32 ≤ flags → ⊥) → (is_serializable flags && is_externalizable flags) ≡ false
@@ -90,7 +92,7 @@ flags_fault flags reason b old mid new h e told em ef el low both d =
     told_refusal reason (flags_reason (top_role old.frames) flags) (field_count_state old flags) b old new stops e
     (told ∙ ap (option_map named) (here ∙ sym (sound_flags flags (role_reason (top_role old.frames) flags) low both)))
 
-pub flags_go : (flags : ℕ) (b : Bool) (old mid new : Seen) → IsNext phase.FieldCount mid.owner mid.elements mid.header mid.text mid new → b ≡ true
+pub flags_go : (flags : ℕ) (b : Flow) (old mid new : Seen) → IsNext phase.FieldCount mid.owner mid.elements mid.header mid.text mid new → b ≡ flow.On
     → None ≡ option_map named (role_reason (top_role mid.frames) (head_layer mid.layers).flags)
     → mid.meter ≡ old.meter → mid.frames ≡ old.frames → mid.table ≡ old.table → mid.refs ≡ old.refs → mid.header ≡ old.header
     → (head_layer mid.layers).flags ≡ flags → tail_layers mid.layers ≡ tail_layers old.layers
@@ -158,7 +160,7 @@ notes_of (frame.Fields last section pos prims values ∷ fs) d = absurd d
 notes_of (frame.Notes last section ∷ fs) d = tt
 notes_of (frame.ExternalNotes ∷ fs) d = tt
 
-surely : (s : State) (b : Bool) (old new : Seen) → Comes old new s → b ≡ true → TellsSurely None s b old new
+surely : (s : State) (b : Flow) (old new : Seen) → Comes old new s → b ≡ flow.On → TellsSurely None s b old new
 unfolding TellsSurely
 surely s b old new h e = rw e h
 
@@ -185,7 +187,7 @@ ending_comes layer old mid new n h d =
 
 -- fields
 
-pub next_field : (b : Bool) (old new : Seen) → IsNext phase.TypeCode old.owner old.elements old.header old.text old new → b ≡ true → 0 < old.header.fields
+pub next_field : (b : Flow) (old new : Seen) → IsNext phase.TypeCode old.owner old.elements old.header old.text old new → b ≡ flow.On → 0 < old.header.fields
     → GoesOnFields b old new
 unfolding Ready GoesOnFields
 next_field b old new n e some = λ d.
@@ -200,7 +202,7 @@ next_field b old new n e some = λ d.
     go zero h = absurd (omega arith)
     go (suc k) h = refl
 
-pub fields_end : (b : Bool) (old mid new : Seen) → IsNext phase.Note mid.owner mid.elements mid.header mid.text mid new → b ≡ true
+pub fields_end : (b : Flow) (old mid new : Seen) → IsNext phase.Note mid.owner mid.elements mid.header mid.text mid new → b ≡ flow.On
     → SetsLayer (read_layer (name_kind_of old.header.kind) (head_layer old.layers).flags (reverse old.header.codes)) old mid → old.header.fields ≡ 0
     → GoesOnFields b old new
 unfolding GoesOnFields
@@ -208,13 +210,13 @@ fields_end b old mid new n e h none = λ d.
     let l = read_layer (name_kind_of old.header.kind) (head_layer old.layers).flags (reverse old.header.codes) in
     surely (settle (moment_of old) (fields_goals old old.header.fields)) b old new (subst (λ k. Comes old new (settle (moment_of old) (fields_goals old k))) (sym none) (ending_comes l old mid new n h d)) e
 
-pub negative_count : (n : ℕ) (b : Bool) (old new : Seen) → StopsWith (refusal old.meter (named negative_length)) old new → b ≡ false → 0x8000 ≤ n
+pub negative_count : (n : ℕ) (b : Flow) (old new : Seen) → StopsWith (refusal old.meter (named negative_length)) old new → b ≡ flow.Stopped → 0x8000 ≤ n
     → HasDescriptor old.frames → Tells (count_reason (2 ^ 15) n) (after_field_count old n) b old new
 negative_count n b old new h e le d =
     let many : nat_le (2 ^ 15) n ≡ true = grind (arith, nat_tests) in
     tells_refusal negative_length (count_reason (2 ^ 15) n) (after_field_count old n) b old new h e (ap (λ k. told_if k negative_length None) many)
 
-pub fields_begin : (n : ℕ) (b : Bool) (old mid new : Seen)
+pub fields_begin : (n : ℕ) (b : Flow) (old mid new : Seen)
     → GoesOnFields b mid new
     → mid.meter ≡ old.meter → mid.frames ≡ old.frames → mid.layers ≡ old.layers → mid.table ≡ old.table → mid.refs ≡ old.refs
     → mid.header.kind ≡ old.header.kind → mid.header.seen ≡ false → mid.header.codes ≡ [] → mid.header.fields ≡ n → (0x8000 ≤ n → ⊥)
@@ -227,7 +229,7 @@ fields_begin n b old mid new h em ef ey et er ek es ec en low d =
     subst (λ t. Tells t (after_field_count old n) b old new) (sym (ap (λ k. told_if k negative_length None) few))
     (tells_from None next (after_field_count old n) b old mid new (tells_surely None next b mid new (h (subst HasDescriptor (sym ef) d))) em (ap (λ t. t.max) et) same)
 
-pub begins_field : (code : ℕ) (is_object : Bool) (b : Bool) (old mid new : Seen) → IsNext phase.Length2 mid.owner mid.elements mid.header (text.FieldName is_object) mid new → b ≡ true
+pub begins_field : (code : ℕ) (is_object : Bool) (b : Flow) (old mid new : Seen) → IsNext phase.Length2 mid.owner mid.elements mid.header (text.FieldName is_object) mid new → b ≡ flow.On
     → is_object ≡ is_object_code code → mid.meter ≡ old.meter → mid.frames ≡ old.frames → mid.layers ≡ old.layers → mid.table ≡ old.table → mid.refs ≡ old.refs
     → mid.header.kind ≡ old.header.kind
     → (0 < old.header.fields → (mid.header.codes ≡ old.header.codes ++ (code ∷ [])) × (mid.header.fields ≡ old.header.fields - 1) × (mid.header.seen ≡ (old.header.seen || is_object)))
@@ -240,18 +242,18 @@ begins_field code is_object b old mid new n e eo em ef ey et er ek h d some =
     (rw ef (rw ey (rw et (rw er (rw ek (rw last (rw (h some).1 (rw (h some).2 (rw eo (d, refl)))))))))) in
     tells_next None (after_code old code) b old new (record { ready = ready; meter = n.meter ∙ ap moved em; max = ap (λ t. t.max) (n.table ∙ et) }) e refl
 
-pub no_field : (code : ℕ) (b : Bool) (old mid new : Seen) → StopsWith stop.OutOfMemory mid new → b ≡ false
+pub no_field : (code : ℕ) (b : Flow) (old mid new : Seen) → StopsWith stop.OutOfMemory mid new → b ≡ flow.Stopped
     → HasDescriptor old.frames → 0 < old.header.fields → Tells None (after_code old code) b old new
 unfolding Tells
 no_field code b old mid new h e d some = rw e (record { phase = h.phase; stop = h.stop })
 
-pub wrong_code : (code : ℕ) (reason : NamedReason) (b : Bool) (old new : Seen) → StopsWith (refusal old.meter reason) old new → b ≡ false
+pub wrong_code : (code : ℕ) (reason : NamedReason) (b : Flow) (old new : Seen) → StopsWith (refusal old.meter reason) old new → b ≡ flow.Stopped
     → Some reason ≡ option_map named (code_reason old.header.seen code)
     → HasDescriptor old.frames → 0 < old.header.fields → Tells (code_reason old.header.seen code) (after_code old code) b old new
 wrong_code code reason b old new h e told d some =
     told_refusal reason (code_reason old.header.seen code) (after_code old code) b old new h e told
 
-pub right_code : (code : ℕ) (b : Bool) (old new : Seen) → (HasDescriptor old.frames → 0 < old.header.fields → Tells None (after_code old code) b old new)
+pub right_code : (code : ℕ) (b : Flow) (old new : Seen) → (HasDescriptor old.frames → 0 < old.header.fields → Tells None (after_code old code) b old new)
     → None ≡ option_map named (code_reason old.header.seen code)
     → HasDescriptor old.frames → 0 < old.header.fields → Tells (code_reason old.header.seen code) (after_code old code) b old new
 right_code code b old new h told d some =
@@ -259,7 +261,7 @@ right_code code b old new h told d some =
 
 -- interfaces
 
-pub next_interface : (b : Bool) (old new : Seen) → IsNext phase.Length2 old.owner old.elements old.header text.InterfaceName old new → b ≡ true → 0 < old.header.interfaces
+pub next_interface : (b : Flow) (old new : Seen) → IsNext phase.Length2 old.owner old.elements old.header text.InterfaceName old new → b ≡ flow.On → 0 < old.header.interfaces
     → GoesOnInterfaces b old new
 unfolding Ready GoesOnInterfaces
 next_interface b old new n e some = λ d.
@@ -274,7 +276,7 @@ next_interface b old new n e some = λ d.
     go zero h = absurd (omega arith)
     go (suc k) h = refl
 
-pub interfaces_end : (b : Bool) (old mid new : Seen) → IsNext phase.Note mid.owner mid.elements mid.header mid.text mid new → b ≡ true
+pub interfaces_end : (b : Flow) (old mid new : Seen) → IsNext phase.Note mid.owner mid.elements mid.header mid.text mid new → b ≡ flow.On
     → mid.layers ≡ proxy_layer ∷ tail_layers old.layers → mid.frames ≡ old.frames → mid.table ≡ old.table → mid.refs ≡ old.refs → mid.meter ≡ old.meter
     → old.header.interfaces ≡ 0
     → GoesOnInterfaces b old new
@@ -284,13 +286,13 @@ interfaces_end b old mid new n e el ef et er em none = λ d.
     (subst (λ k. Comes old new (settle (moment_of old) (interfaces_goals old k))) (sym none)
     (ending_comes proxy_layer old mid new n (record { layers = el; frames = ef; table = et; refs = er; meter = em }) d)) e
 
-pub negative_interfaces : (n : ℕ) (b : Bool) (old new : Seen) → StopsWith (refusal old.meter (named negative_length)) old new → b ≡ false → 0x80000000 ≤ n
+pub negative_interfaces : (n : ℕ) (b : Flow) (old new : Seen) → StopsWith (refusal old.meter (named negative_length)) old new → b ≡ flow.Stopped → 0x80000000 ≤ n
     → HasDescriptor old.frames → Tells (count_reason (2 ^ 31) n) (after_interfaces old n) b old new
 negative_interfaces n b old new h e le d =
     let many : nat_le (2 ^ 31) n ≡ true = grind (arith, nat_tests) in
     tells_refusal negative_length (count_reason (2 ^ 31) n) (after_interfaces old n) b old new h e (ap (λ k. told_if k negative_length None) many)
 
-pub interfaces_begin : (n : ℕ) (b : Bool) (old mid new : Seen)
+pub interfaces_begin : (n : ℕ) (b : Flow) (old mid new : Seen)
     → GoesOnInterfaces b mid new
     → mid.meter ≡ old.meter → mid.frames ≡ old.frames → mid.layers ≡ old.layers → mid.table ≡ old.table → mid.refs ≡ old.refs
     → mid.header.interfaces ≡ n → (0x80000000 ≤ n → ⊥)

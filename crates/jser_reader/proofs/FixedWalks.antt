@@ -1,5 +1,5 @@
 -- A tag, a number or the header, whole or cut, and the walk over its bytes.
-use Rattle.std.proofs.Common.{◌≡◌, ℕ, ◌+◌, ◌<◌, ◌≤◌, Bool, false, List, [], ◌∷◌, ◌++◌, length, Option, None, refl, sym, ◌∙◌, ap, subst, arith, length-append, append-nil, inl, inr}
+use Rattle.std.proofs.Common.{◌≡◌, ℕ, ◌+◌, ◌<◌, ◌≤◌, false, List, [], ◌∷◌, ◌++◌, length, Option, None, refl, sym, ◌∙◌, ap, subst, arith, length-append, append-nil, inl, inr}
 use Rattle.jser_reading.specs.Labels.{header_token, Label}
 use Rattle.jser_reading.specs.TokensFromBytes.{size_in, token_in}
 use Rattle.jser_reading.specs.Goals.{top_goal, State, settled}
@@ -10,6 +10,7 @@ use Rattle.jser_verdict.specs.Reasons.{Reason, bad_header}
 use Rattle.jser_verdict.specs.Gates.{Gate}
 use Rattle.jser_verdict.specs.BytesSoFar.{differs}
 use Rattle.jser_verdict.specs.Verdicts.{told_if, reason_at, verdict}
+use Rattle.jser_reader.specs.declared.machine.flow.Flow.{Flow}
 use Rattle.jser_reader.specs.declared.phase.Phase.{Phase}
 use Rattle.jser_reader.specs.declared.phase.Phase.TheVariants as phase
 use Rattle.jser_reader.specs.Readers.{Seen, moment_of, ReadyAt}
@@ -41,7 +42,7 @@ pub record IsJudged (gate : Gate) (told : Option Reason) (next s : State) (bytes
   pub leads : told ≡ None → LeadsTo s bytes next
 
 -- a number or a tag ends, as its handler told
-pub fixed_took : (gate : Gate) (p : Phase) (told : Option Reason) (next : State) (found : Bool) (old mid new : Seen) (taken : List ℕ) (s : State) (cut : List ℕ)
+pub fixed_took : (gate : Gate) (p : Phase) (told : Option Reason) (next : State) (found : Flow) (old mid new : Seen) (taken : List ℕ) (s : State) (cut : List ℕ)
     → Stands gate old (settled s) cut → (ReadyAt p mid (settled s) → Tells told next found mid new)
     → (ReadyAt p mid (settled s) → gate_with mid gate.answer ≡ gate → IsJudged gate told next (settled s) (cut_of old ++ taken))
     → open_phase old ≡ p → IsFixed p → 0 < length taken → length (cut_of old ++ taken) ≤ size_of_phase p
@@ -61,7 +62,7 @@ fixed_took gate p told next found old mid new taken s cut st h j eo i some size 
     (fixed_undecided gate p old (settled s) (cut_of old ++ taken) i o.ready size (right (subst (IsRightSoFar p) o.cut_is o.right)))
     k.reason (λ e. k.leads e)
 
-pub fixed_taken : (gate : Gate) (p : Phase) (told : Option Reason) (next : State) (found : Bool) (old mid new : Seen) (taken : List ℕ)
+pub fixed_taken : (gate : Gate) (p : Phase) (told : Option Reason) (next : State) (found : Flow) (old mid new : Seen) (taken : List ℕ)
     → ((s : State) → ReadyAt p mid s → Tells told next found mid new)
     → ((s : State) → ReadyAt p mid s → gate_with mid gate.answer ≡ gate → IsJudged gate told next s (cut_of old ++ taken))
     → open_phase old ≡ p → IsFixed p → 0 < length taken → length (cut_of old ++ taken) ≤ size_of_phase p
@@ -79,7 +80,7 @@ right_but_header phase.Top a h = tt
 right_but_header _ a h = tt
 
 -- a tag, of one byte
-pub byte_taken : (gate : Gate) (p : Phase) (told : Option Reason) (next : State) (found : Bool) (old mid new : Seen) (b : ℕ)
+pub byte_taken : (gate : Gate) (p : Phase) (told : Option Reason) (next : State) (found : Flow) (old mid new : Seen) (b : ℕ)
     → ((s : State) → ReadyAt p mid s → Tells told next found mid new)
     → ((s : State) → ReadyAt p mid s → gate_with mid gate.answer ≡ gate → IsJudged gate told next s (b ∷ []))
     → open_phase old ≡ p → cut_of old ≡ [] → IsFixed p → (p ≡ phase.Header → ⊥) → Counts (b ∷ []) old mid
@@ -210,7 +211,7 @@ header_judged gate r s bytes h whole = record {
 }
 
 -- the byte is the last of the header, or it differs
-pub header_taken : (gate : Gate) (b : ℕ) (found : Bool) (old mid new : Seen)
+pub header_taken : (gate : Gate) (b : ℕ) (found : Flow) (old mid new : Seen)
     → (differs header_bytes (cut_of old) ≡ false → mid.frames ≡ [] → Tells (header_reason (cut_of old ++ (b ∷ []))) (moment_of mid, top_goal ∷ []) found mid new)
     → open_phase old ≡ phase.Header → length (cut_of old ++ (b ∷ [])) ≤ 4
     → (differs header_bytes (cut_of old) ≡ false → header_reason (cut_of old ++ (b ∷ [])) ≡ None → length (cut_of old ++ (b ∷ [])) ≡ 4)

@@ -5,6 +5,8 @@ use Rattle.std.proofs.lemmas.List.{take_more, take_all}
 use Rattle.jser_reading.specs.Goals.{top_goal}
 use Rattle.jser_verdict.specs.Reasons.{bad_header}
 use Rattle.jser_verdict.specs.BytesSoFar.{differs}
+use Rattle.jser_reader.specs.declared.machine.flow.Flow.{Flow}
+use Rattle.jser_reader.specs.declared.machine.flow.Flow.TheVariants as flow
 use Rattle.jser_reader.specs.declared.phase.Phase.TheVariants as phase
 use Rattle.jser_reader.specs.declared.machine.take.taken.Taken.{Taken}
 use Rattle.jser_reader.specs.declared.machine.take.taken.Taken.TheVariants as taken
@@ -43,7 +45,7 @@ header_next : (kept : List ℕ) (b place : ℕ) → place ≡ length kept → pl
 header_next kept b place e short right =
     differs_next header_bytes kept b (omega arith) right ∙ ap (λ k. not (nat_eq b (get_or header_bytes k 0))) (sym e)
 
-pub wrong_byte : (b place : ℕ) (found : Bool) (old mid new : Seen) → StopsWith (refusal mid.meter (named bad_header)) mid new → found ≡ false
+pub wrong_byte : (b place : ℕ) (found : Flow) (old mid new : Seen) → StopsWith (refusal mid.meter (named bad_header)) mid new → found ≡ flow.Stopped
     → mid ≡ farther old 1 → open_phase old ≡ phase.Header → place ≡ length (cut_of old) → place < 4 → (b ≡ get_or header_bytes place 0 → ⊥)
     → TakesHeaderByte (Some found) b old new
 unfolding TakesHeaderByte TakesByte
@@ -56,7 +58,7 @@ wrong_byte b place found old mid new h ef m eo ep short wrong = λ gate.
     eo (omega arith) (λ right quiet. absurd (let k = rw (header_next (cut_of old) b place ep short right) at quiet in let k2 = rw e at k in cc))
     (counts_bytes (b ∷ []) 1 old mid m refl)
 
-pub last_byte : (b place : ℕ) (found : Bool) (old mid new : Seen) → IsNext phase.Top mid.owner mid.elements mid.header mid.text mid new → found ≡ true
+pub last_byte : (b place : ℕ) (found : Flow) (old mid new : Seen) → IsNext phase.Top mid.owner mid.elements mid.header mid.text mid new → found ≡ flow.On
     → mid ≡ farther old 1 → open_phase old ≡ phase.Header → place ≡ length (cut_of old) → place ≡ 3 → b ≡ get_or header_bytes place 0
     → TakesHeaderByte (Some found) b old new
 unfolding TakesHeaderByte TakesByte Ready
@@ -105,7 +107,7 @@ header_goes piece b i old mid new h on within is =
       at = omega arith;
     }
 
-pub header_ends : (piece : List ℕ) (b i : ℕ) (found : Bool) (result : Taken) (old mid new : Seen) → TakesHeaderByte (Some found) b mid new
+pub header_ends : (piece : List ℕ) (b i : ℕ) (found : Flow) (result : Taken) (old mid new : Seen) → TakesHeaderByte (Some found) b mid new
     → HeaderOn piece i old mid → i < length piece → b ≡ get_or piece i 0 → result ≡ taken_by (i + 1) found → open_phase old ≡ phase.Header
     → TakesFrom result piece old new
 unfolding TakesHeaderByte TakesByte

@@ -1,5 +1,5 @@
 -- Items are the tokens: what a reader's calls say of the tokens that it took and the item that it lends.
-use Rattle.std.proofs.Common.{◌≡◌, ◌⊎◌, inl, inr, ℕ, zero, suc, ◌<◌, ◌≤◌, true, List, [], ◌∷◌, ◌++◌, length, take, Ok, Err, refl, sym, ◌∙◌, ap, ap₂, subst, arith, append_assoc, append-nil, length-append, length-take-le}
+use Rattle.std.proofs.Common.{◌≡◌, ◌⊎◌, inl, inr, ℕ, zero, suc, ◌<◌, ◌≤◌, List, [], ◌∷◌, ◌++◌, length, take, Ok, Err, refl, sym, ◌∙◌, ap, ap₂, subst, arith, append_assoc, append-nil, length-append, length-take-le}
 use Rattle.jser_grammar.specs.Parts.{IsBytes}
 use Rattle.jser_reading.specs.TokensFromBytes.{number_of}
 use Rattle.jser_reading.specs.Labels.{Piece, piece}
@@ -12,6 +12,7 @@ use Rattle.jser_reading.proofs.Next.{next_law}
 use Rattle.jser_verdict.specs.Gates.{Gate, IsGate}
 use Rattle.jser_verdict.specs.Passing.{Passes}
 use Rattle.jser_verdict.proofs.ByteLists.{bytes_both, bytes_right}
+use Rattle.jser_reader.specs.declared.machine.flow.Flow.TheVariants as flow
 use Rattle.jser_reader.specs.declared.item.Item.{Item}
 use Rattle.jser_reader.specs.declared.item.Step.{Step}
 use Rattle.jser_reader.specs.declared.item.Step.TheVariants as step
@@ -66,7 +67,7 @@ comes_next gate front cut r tally h =
 -- ---- a token ends, or goes on
 
 pub token_ended : (gate : Gate) (given front : List ℕ) (n : ℕ) (old new : Seen) (before after : Tally) (tokens : List Piece) (cut : List ℕ)
-    → StandsIn gate tokens cut old before → IsWithin old given front → n ≤ length front → IsBytes given → Takes gate (take n front) true old new
+    → StandsIn gate tokens cut old before → IsWithin old given front → n ≤ length front → IsBytes given → Takes gate (take n front) flow.On old new
     → after ≡ tally_after (mark_of old) (mark_of new) before
     → TokenEnds gate tokens (label_of (settled (left begin_state tokens))) (cut ++ take n given) new after
 unfolding Takes took_stands took_counts
@@ -74,7 +75,7 @@ token_ended gate given front n old new before after tokens cut h w le hb t same 
     let c = h.counted in
     let st = c.taken in
     let some = take n given in
-    let t2 : Takes gate (take n given) true old new = subst (λ xs. Takes gate xs true old new) (front_of_front old given front n w le) t in
+    let t2 : Takes gate (take n given) flow.On old new = subst (λ xs. Takes gate xs flow.On old new) (front_of_front old given front n w le) t in
     let bt = bytes_front n given hb in
     let s = left begin_state st.tokens in
     let l = label_of (settled s) in
@@ -119,7 +120,7 @@ made p kept old given front used count lent ep ek et h =
     (subst (λ c. MakesItem (open_phase old) c (take used front) lent) ek (subst (λ q. MakesItem q kept (take used front) lent) ep h))
 
 pub lends_end : (gate : Gate) (given front : List ℕ) (used : ℕ) (lent : Item) (old new : Seen) (before after : Tally) (tokens : List Piece) (cut : List ℕ)
-    → StandsIn gate tokens cut old before → IsWithin old given front → used ≤ length front → IsBytes given → Takes gate (take used front) true old new
+    → StandsIn gate tokens cut old before → IsWithin old given front → used ≤ length front → IsBytes given → Takes gate (take used front) flow.On old new
     → IsWholeLength (open_phase old) (cut_of old ++ take used front)
     → after ≡ tally_after (mark_of old) (mark_of new) before → MakesItem (open_phase old) (cut_of old) (take used given) lent
     → Lends gate tokens cut given lent used new after

@@ -1,5 +1,5 @@
 -- Bytes of a token that were kept, and others after them.
-use Rattle.std.proofs.Common.{◌≡◌, ℕ, ◌+◌, Bool, true, false, List, [], ◌++◌, length, sym, ◌∙◌, ap, subst, arith, append_assoc, append-nil, length-append}
+use Rattle.std.proofs.Common.{◌≡◌, ℕ, ◌+◌, List, [], ◌++◌, length, sym, ◌∙◌, ap, subst, arith, append_assoc, append-nil, length-append}
 use Rattle.jser_reading.specs.TokensFromBytes.{size_in}
 use Rattle.jser_reading.specs.Goals.{State, settled}
 use Rattle.jser_reading.specs.Accepts.{label_of}
@@ -7,6 +7,8 @@ use Rattle.jser_reading.specs.Scanner.{walk, refused, ended}
 use Rattle.jser_verdict.specs.Reasons.{turn}
 use Rattle.jser_verdict.specs.Gates.{Gate}
 use Rattle.jser_verdict.specs.Verdicts.{verdict}
+use Rattle.jser_reader.specs.declared.machine.flow.Flow.{Flow}
+use Rattle.jser_reader.specs.declared.machine.flow.Flow.TheVariants as flow
 use Rattle.jser_reader.specs.declared.refusal.Stop.{Stop}
 use Rattle.jser_reader.specs.declared.refusal.Stop.TheVariants as stop
 use Rattle.jser_reader.specs.Readers.{Seen}
@@ -57,7 +59,7 @@ told_on gate s cut front back old_from mid_from stop.OutOfMemory w e x =
     subst (MayRunOut (label_of (settled s)).position) (append_assoc cut front back) x
 told_on gate s cut front back old_from mid_from stop.Spent w e x = absurd x
 
-pub taken_on : (gate : Gate) (front back : List ℕ) (found : Bool) (old mid new : Seen) → Keeps gate front old mid → Takes gate back found mid new
+pub taken_on : (gate : Gate) (front back : List ℕ) (found : Flow) (old mid new : Seen) → Keeps gate front old mid → Takes gate back found mid new
     → Takes gate (front ++ back) found old new
 unfolding Keeps Takes
 taken_on gate front back found old mid new h k = λ s cut st.
@@ -76,9 +78,9 @@ taken_on gate front back found old mid new h k = λ s cut st.
         let c = x.stands.counts in
         omega arith
 
-    go : (b : Bool) (s : State) (cut : List ℕ) → Stands gate old (settled s) cut → StaysOpen gate s cut front old mid
+    go : (b : Flow) (s : State) (cut : List ℕ) → Stands gate old (settled s) cut → StaysOpen gate s cut front old mid
         → Took gate s (cut ++ front) back b mid new → Took gate s cut (front ++ back) b old new
-    go true s cut st x y =
+    go flow.On s cut st x y =
         let n : length (front ++ back) ≡ length front + length back = length-append front back in
         let a = x.at in
         let b = y.at in
@@ -92,5 +94,5 @@ taken_on gate front back found old mid new h k = λ s cut st.
           stands = y.stands;
           at = omega arith;
         }
-    go false s cut st x y =
+    go flow.Stopped s cut st x y =
         (y.0, told_on gate s cut front back old.meter.from mid.meter.from new.meter.stop (on s cut x) (from s cut st x) y.1)

@@ -1,5 +1,5 @@
 -- A value that is lent at once: its items, one after another.
-use Rattle.std.proofs.Common.{◌≡◌, ℕ, suc, ◌+◌, ◌-◌, ◌^◌, ◌<◌, ◌≤◌, Bool, true, false, List, [], ◌∷◌, ◌++◌, length, get_or, take, drop, Some, None, Ok, Err, refl, sym, ◌∙◌, ap, subst, arith, length-append}
+use Rattle.std.proofs.Common.{◌≡◌, ℕ, suc, ◌+◌, ◌-◌, ◌^◌, ◌<◌, ◌≤◌, true, List, [], ◌∷◌, ◌++◌, length, get_or, take, drop, Some, None, Ok, Err, refl, sym, ◌∙◌, ap, subst, arith, length-append}
 use Rattle.std.proofs.lemmas.List.{length-drop, length-take-le}
 use Rattle.jser_prim.specs.Bytes.{big_bytes}
 use Rattle.jser_table.specs.Entries.{text_entry}
@@ -11,6 +11,8 @@ use Rattle.jser_reading.specs.Accepts.{label_of}
 use Rattle.jser_reading.specs.Machine.{begin_state, left}
 use Rattle.jser_reading.proofs.Decoding.{number_4}
 use Rattle.jser_verdict.specs.Gates.{Gate, IsGate}
+use Rattle.jser_reader.specs.declared.machine.flow.Flow.{Flow}
+use Rattle.jser_reader.specs.declared.machine.flow.Flow.TheVariants as flow
 use Rattle.jser_reader.specs.declared.frame.Owner.{Owner}
 use Rattle.jser_reader.specs.declared.item.Item.{Item}
 use Rattle.jser_reader.specs.declared.item.Item.TheVariants as item
@@ -77,17 +79,17 @@ makes_tag _ piece b r i e is some = absurd i
 
 tag_tells : (gate : Gate) (t : ValueTag) (piece : List ℕ) (r m : Seen) (before after : Tally) → IsGate gate → CanPass r piece → IsPlace r.phase
     → 0 < length piece → tag_byte (view_tag t) ≡ get_or piece 0 0
-    → Tells (place_reason (farther r 1) (view_tag t)) (after_tag (farther r 1) (view_tag t)) true (farther r 1) m
+    → Tells (place_reason (farther r 1) (view_tag t)) (after_tag (farther r 1) (view_tag t)) flow.On (farther r 1) m
     → CountsToken r m before after → TellsItems gate piece (Ok (step.Item (item.Tag (tag_byte (view_tag t))) 1)) r before m after
 tag_tells gate t piece r m before after g can i some first h c =
     tells_end (step.Item (item.Tag (tag_byte (view_tag t))) 1) (open_phase r) (cut_of r) 1 (taken.Ended 1) piece piece gate r m before after
-    (one_taken (tag_byte (view_tag t)) true (taken.Ended 1) piece r m (tag_taken r.phase t r m i refl h) refl first some (place_is_one r.phase i) gate)
+    (one_taken (tag_byte (view_tag t)) flow.On (taken.Ended 1) piece r m (tag_taken r.phase t r m i refl h) refl first some (place_is_one r.phase i) gate)
     refl c g can.within can.all_bytes refl refl refl (makes_tag r.phase piece (tag_byte (view_tag t)) r i refl first some)
 
 -- ---- a token with which no count changes
 
 pub same_tally : (gate : Gate) (used : ℕ) (given : List ℕ) (old new : Seen) (tally : Tally) (tokens : List Piece) (cut : List ℕ) → StandsIn gate tokens cut old tally
-    → Takes gate (take used given) true old new → IsQuiet old.phase → CanPass old given → tally ≡ tally_after (mark_of old) (mark_of new) tally
+    → Takes gate (take used given) flow.On old new → IsQuiet old.phase → CanPass old given → tally ≡ tally_after (mark_of old) (mark_of new) tally
 same_tally gate used given old new tally tokens cut st t q can =
     sym (quiet_tally (mark_of old) (mark_of new) tally (quiet_top old.phase q)
     (quiet_refs gate old new (joined tokens ++ cut) (take used given) t (bytes_front used given can.all_bytes) st.counted.taken q))
@@ -126,8 +128,8 @@ reference_tells gate n piece old far new m1 m2 before after g can i first h smal
       assigned = are_assigned gate (length old.table.entries) m after refl;
       number =
           quiet_tells gate (item.Handle n) 4 rest m new after
-          (four_taken n true (taken.Ended 4) rest (take 4 rest) m new
-          (takes_back_handle n 4 true m (farther m 4) new (right_handle n true (farther m 4) new ends refl low high) refl refl (omega arith) small)
+          (four_taken n flow.On (taken.Ended 4) rest (take 4 rest) m new
+          (takes_back_handle n 4 flow.On m (farther m 4) new (right_handle n flow.On (farther m 4) new ends refl low high) refl refl (omega arith) small)
           refl tt h.spelled refl (omega arith) gate)
           tt (rest_can piece old m can (omega arith) refl refl) (makes_handle rest n small h.spelled);
       tells = (reference_passes gate n piece old far new m1 m2 before after g can i first h small p low high ef end e1 e2 count).tells;
@@ -141,7 +143,7 @@ text_bytes (a ∷ []) len enough = absurd (omega arith)
 text_bytes (a ∷ b ∷ []) len enough = absurd (omega arith)
 text_bytes (a ∷ b ∷ c ∷ piece) len enough = ap (λ k. drop 2 (take k (b ∷ c ∷ piece))) (let e : suc (suc len) ≡ 2 + len = omega arith in e)
 
-text_tells : (gate : Gate) (text given : List ℕ) (m new : Seen) (tally : Tally) → Takes gate (take (2 + length text) given) true m new
+text_tells : (gate : Gate) (text given : List ℕ) (m new : Seen) (tally : Tally) → Takes gate (take (2 + length text) given) flow.On m new
     → 2 + length text ≤ length given → text ≡ drop 2 (take (2 + length text) given) → m.phase ≡ phase.Length2 → CanPass m given
     → TellsText gate given text m tally new tally
 unfolding TellsText
@@ -185,9 +187,9 @@ string_tells gate len piece text old mid far new m1 m2 before after g can i firs
     let ends : Comes (farther m (2 + len)) new (after_value (farther m (2 + len))) =
     same_end (placed k (2 + len + 1)) (farther m (2 + len)) new come (same_meter old (2 + len)) refl refl refl refl in
     let count : CountsToken old m before after = subst (λ r. CountsMarks (mark_of old) (mark_of (placed r (len + 3))) before after) assigns.1 counts in
-    let body : Takes gate (take (2 + len) rest) true m new =
+    let body : Takes gate (take (2 + len) rest) flow.On m new =
     short_text_taken gate m (farther m (2 + len)) new (take (2 + len) rest) h.units
-    (λ inside. value_ends gate true (farther m (2 + len)) new ends refl refl h.units (record { inside = inside; kept = λ checked. absurd (cc) }))
+    (λ inside. value_ends gate flow.On (farther m (2 + len)) new ends refl refl h.units (record { inside = inside; kept = λ checked. absurd (cc) }))
     refl (omega arith) (counts_bytes (take (2 + len) rest) (2 + len) m (farther m (2 + len)) refl size) h.are_text h.spelled in
     let all = length-append old.table.entries (text_entry ∷ []) in
     record {
@@ -196,7 +198,7 @@ string_tells gate len piece text old mid far new m1 m2 before after g can i firs
       tag = tag_tells gate value.String piece old m before after g can i (omega arith) first (string_begins old p assigns.0) count;
       assigned = are_assigned gate (suc (length old.table.entries)) m after (omega arith);
       body =
-          text_tells gate text rest m new after (subst (λ j. Takes gate (take (2 + j) rest) true m new) (sym long) body) (omega arith)
+          text_tells gate text rest m new after (subst (λ j. Takes gate (take (2 + j) rest) flow.On m new) (sym long) body) (omega arith)
           (is ∙ text_bytes piece len (omega arith) ∙ ap (λ j. drop 2 (take (2 + j) rest)) (sym long)) refl (rest_can piece old m can (omega arith) refl refl);
       tells =
           subst (λ j. PassTells gate piece (Some (j + 3)) old before new after) (sym long)
@@ -213,13 +215,13 @@ makes_class_handle : (piece : List ℕ) (n : ℕ) → n < 2 ^ 32 → big_bytes 4
 unfolding MakesItem
 makes_class_handle piece n small spelled = λ _. ap item.Handle (sym (number_4 n small) ∙ ap number_of spelled)
 
-pub owner_told : (gate : Gate) (o : Owner) (n : ℕ) (found : Bool) (piece : List ℕ) (old mid new : Seen) (m1 m2 : Mark) (before after : Tally) → IsGate gate → CanPass old piece
+pub owner_told : (gate : Gate) (o : Owner) (n : ℕ) (found : Flow) (piece : List ℕ) (old mid new : Seen) (m1 m2 : Mark) (before after : Tally) → IsGate gate → CanPass old piece
     → IsPlace old.phase → tag_byte (view_tag (tag_of_owner o)) ≡ get_or piece 0 0 → HasReference piece n → n < 2 ^ 32 → HasPlace old
     → mid ≡ with_class o old → TellsClass n found mid new → m1 ≡ mark_of old → m2 ≡ mark_of mid → CountsMarks m1 m2 before after
     → OwnerCases gate piece (get_or piece 0 0) n found old before new after
-owner_told gate o n false piece old mid new m1 m2 before after g can i first h small p em told e1 e2 count =
-    owner_passes gate o n false piece old mid new m1 m2 before after g can i first h small p em told e1 e2 count
-owner_told gate o n true piece old mid new m1 m2 before after g can i first h small p em told e1 e2 count =
+owner_told gate o n flow.Stopped piece old mid new m1 m2 before after g can i first h small p em told e1 e2 count =
+    owner_passes gate o n flow.Stopped piece old mid new m1 m2 before after g can i first h small p em told e1 e2 count
+owner_told gate o n flow.On piece old mid new m1 m2 before after g can i first h small p em told e1 e2 count =
     let counts = of_marks m1 m2 (mark_of old) (mark_of (with_class o old)) before after e1 (e2 ∙ ap mark_of em) count in
     let enough = h.within in
     let m : Seen = begun_owner o old in
@@ -231,7 +233,7 @@ owner_told gate o n true piece old mid new m1 m2 before after g can i first h sm
     let can_m : CanPass m rest = rest_can piece old m can (omega arith) refl refl in
     let can_k : CanPass k last = rest_can rest m k can_m (omega arith) refl refl in
     let spelled : big_bytes 4 n ≡ take 4 last = h.spelled ∙ ap (take 4) (two_on piece) in
-    let class : TellsClass n true (farther k 4) new = subst (λ r. TellsClass n true r new) (em ∙ same_class o old) told in
+    let class : TellsClass n flow.On (farther k 4) new = subst (λ r. TellsClass n flow.On r new) (em ∙ same_class o old) told in
     record {
       within = h.within;
       first = m;
@@ -242,16 +244,16 @@ owner_told gate o n true piece old mid new m1 m2 before after g can i first h sm
       assigned = are_assigned gate (length old.table.entries) m after refl;
       place =
           quiet_tells gate (item.Tag 0x71) 1 rest m k after
-          (one_taken 0x71 true (taken.Ended 1) rest m k (class_tag_taken m refl) refl (second_is piece 0x71 h.tag) (omega arith) tt gate)
+          (one_taken 0x71 flow.On (taken.Ended 1) rest m k (class_tag_taken m refl) refl (second_is piece 0x71 h.tag) (omega arith) tt gate)
           tt can_m (makes_class_tag rest (second_is piece 0x71 h.tag) (omega arith));
       assigned_then = are_assigned gate (length old.table.entries) k after refl;
       number =
           quiet_tells gate (item.Handle n) 4 last k new after
-          (four_taken n true (taken.Ended 4) last (take 4 last) k new
-          (takes_class_handle n 4 true k (farther k 4) new class refl refl (omega arith) small)
+          (four_taken n flow.On (taken.Ended 4) last (take 4 last) k new
+          (takes_class_handle n 4 flow.On k (farther k 4) new class refl refl (omega arith) small)
           refl tt spelled refl (omega arith) gate)
           tt can_k (makes_class_handle last n small spelled);
-      tells = (owner_passes gate o n true piece old mid new m1 m2 before after g can i first h small p em told e1 e2 count).tells;
+      tells = (owner_passes gate o n flow.On piece old mid new m1 m2 before after g can i first h small p em told e1 e2 count).tells;
     }
 
 -- ---- the machine stops within it

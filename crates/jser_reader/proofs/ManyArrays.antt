@@ -1,5 +1,5 @@
 -- The loop over whole values: arrays.
-use Rattle.std.proofs.Common.{◌≡◌, ℕ, zero, suc, ◌+◌, ◌-◌, ◌*◌, ◌^◌, ◌<◌, ◌≤◌, true, false, List, ◌∷◌, length, get_or, take, drop, slice_get, Option, Some, None, option_map, refl, sym, ◌∙◌, ap, ap₂, subst, arith}
+use Rattle.std.proofs.Common.{◌≡◌, ℕ, zero, suc, ◌+◌, ◌-◌, ◌*◌, ◌^◌, ◌<◌, ◌≤◌, false, List, ◌∷◌, length, get_or, take, drop, slice_get, Option, Some, None, option_map, refl, sym, ◌∙◌, ap, ap₂, subst, arith}
 use Rattle.std.proofs.lemmas.List.{length-drop, drop-drop}
 use Rattle.jser_prim.specs.Bytes.{big_bytes}
 use Rattle.jser_table.specs.declared.class.Class.TheVariants as class
@@ -12,6 +12,7 @@ use Rattle.jser_table.specs.Fits.{fit_of}
 use Rattle.jser_table.specs.Tables.{IsClass}
 use Rattle.jser_verdict.specs.Gates.{Gate, IsGate}
 use Rattle.jser_verdict.specs.Verdicts.{array_reason}
+use Rattle.jser_reader.specs.declared.machine.flow.Flow.TheVariants as flow
 use Rattle.jser_reader.specs.declared.frame.Frame.TheVariants as frame
 use Rattle.jser_reader.specs.declared.frame.Owner.TheVariants as owner
 use Rattle.jser_reader.specs.declared.machine.many.counts.Counts.{Counts}
@@ -53,12 +54,12 @@ is_array_class r n chain low is_class fits = record { low = low; is_class = is_c
 abbrev at_length : Seen → (chain : ℕ) → Seen
 at_length r chain = record { meter = moved (with_class owner.Array r).meter; phase = phase.ArrayLength; frames = r.frames; layers = r.layers; table = with_entry r.table other_entry; refs = suc r.refs; owner = owner.Array; elements = option_map size_of (elements_of (chain_in r.table.chains chain)); header = r.header; text = r.text; left = r.left; scan = r.scan; name = r.name }
 
-class_told : (r : Seen) (n chain : ℕ) → IsArrayClass r n chain → is_full r ≡ false → TellsClass n true (with_class owner.Array r) (at_length r chain)
+class_told : (r : Seen) (n chain : ℕ) → IsArrayClass r n chain → is_full r ≡ false → TellsClass n flow.On (with_class owner.Array r) (at_length r chain)
 class_told r n chain c full =
     let mid : Seen = with_class owner.Array r in
     let new : Seen = at_length r chain in
-    right_class n chain true mid new
-    (array_owned (length r.table.entries) chain true mid (added mid other_entry) new
+    right_class n chain flow.On mid new
+    (array_owned (length r.table.entries) chain flow.On mid (added mid other_entry) new
     (record { phase_is = refl; frames = refl; layers = refl; table = refl; refs = refl; owner_is = refl; chain_is = refl; header_is = refl; text_is = refl; left = refl; meter = refl })
     refl (assigned_other mid full) refl)
     c.is_class c.low (sym (ap fit_reason c.fits))
@@ -66,7 +67,7 @@ class_told r n chain c full =
 -- the length ends, and this machine comes after it
 length_passes : (gate : Gate) (piece : List ℕ) (n chain count : ℕ) (old : Seen) (k : Counts) (before : Tally) (next : Seen) → ArrayBegins piece n chain count old k → is_full old ≡ false → IsGate gate
     → (let r : Seen = farther (at_length (seen_at old k) chain) 4 in
-    (elements : Option PrimCode) → r.elements ≡ option_map size_of elements → Tells (array_reason (plain_gate r) count) (after_length r elements count) true r next)
+    (elements : Option PrimCode) → r.elements ≡ option_map size_of elements → Tells (array_reason (plain_gate r) count) (after_length r elements count) flow.On r next)
     → Passes gate (drop k.used piece) (Some 10) (seen_at old k) (tally_at old.meter.at before k) next (tally_at old.meter.at before (with_place k 10))
 length_passes gate piece n chain count old k before next b full g told =
     let room = b.room in
@@ -82,12 +83,12 @@ length_passes gate piece n chain count old k before next b full g told =
     let at : m.meter.at ≡ r.meter.at + 6 = omega arith in
     let is : IsArrayClass r n chain = record { low = b.is.low; is_class = b.is.is_class; fits = b.is.fits } in
     then_passes gate rest last 6 4 r m next (tally_at old.meter.at before k) (tally_at old.meter.at before (with_place k 10)) (tally_at old.meter.at before (with_place k 10))
-    (owner_passes gate owner.Array n true rest r mid m (mark_of r) (mark_of mid) (tally_at old.meter.at before k) (tally_at old.meter.at before (with_place k 10)) g
+    (owner_passes gate owner.Array n flow.On rest r mid m (mark_of r) (mark_of mid) (tally_at old.meter.at before k) (tally_at old.meter.at before (with_place k 10)) g
     can (place_on old.frames) (tag_there piece k.used 0x75 b.tag) b.class b.small b.place refl (class_told r n chain is full) refl refl
     (λ _ _. place_counted piece before old mid k 10 b.holds refl (λ none. none)))
     (quiet_end gate 4 (taken.Ended 4) last m next (tally_at old.meter.at before (with_place k 10))
-    (four_taken count true (taken.Ended 4) last (take 4 last) m next
-    (takes_array_length count 4 true m (farther m 4) next told refl refl (omega arith) (omega arith))
+    (four_taken count flow.On (taken.Ended 4) last (take 4 last) m next
+    (takes_array_length count 4 flow.On m (farther m 4) next told refl refl (omega arith) (omega arith))
     refl tt (b.spelled ∙ ap (take 4) (sym (drop-drop 6 k.used piece))) refl (omega arith) gate)
     refl tt (can_after rest 6 r m can (omega arith) (omega arith) at refl))
     refl
@@ -118,7 +119,7 @@ empty_turn piece n chain count old new k j b none assigns ej =
                 same_end (seen_at a i) r next comes
                 (ap (λ x. record { at = x; from = x; limits = old.meter.limits; stop = old.meter.stop; cut_phase = old.meter.cut_phase; kept = old.meter.kept }) (sym at)) refl refl refl refl in
                 length_passes gate piece n chain count old k before next b assigns.0 g
-                (λ elements es. no_elements count elements true r next end refl none (λ over. let low = b.low in omega arith) (λ over. let short = b.short in omega arith));
+                (λ elements es. no_elements count elements flow.On r next end refl none (λ over. let low = b.low in omega arith) (λ over. let short = b.short in omega arith));
           })),
       place_holds piece old new k j 10 b.holds.holds b.place (omega arith) (omega arith) (ap (λ r. r.meter) en) (ap (λ r. r.frames) en) ej,
       omega arith,
@@ -165,8 +166,8 @@ raw_turn piece n chain count size bytes old new k j b some elements eb any enoug
                 (ap (λ x. record { at = x; from = x; limits = old.meter.limits; stop = old.meter.stop; cut_phase = old.meter.cut_phase; kept = old.meter.kept }) (sym at)) refl refl refl refl in
                 then_passes gate rest (drop 10 rest) 10 bytes (seen_at old k) m next (tally_at old.meter.at before k) (tally_at old.meter.at before i) (tally_at old.meter.at before i)
                 (length_passes gate piece n chain count old k before m b assigns.0 g
-                (some_raw count size true r m
-                (λ codes es. raw_elements size count codes true r (with_left r bytes) m
+                (some_raw count size flow.On r m
+                (λ codes es. raw_elements size count codes flow.On r (with_left r bytes) m
                 (record { phase_is = refl; frames = refl; layers = refl; table = refl; refs = refl; owner_is = refl; chain_is = refl; header_is = refl; text_is = refl; left = refl; meter = refl })
                 refl eb some es refl refl refl refl refl)
                 elements (λ over. let low = b.low in omega arith) (λ over. let short = b.short in omega arith)))
@@ -223,8 +224,8 @@ values_turn piece n chain count old new k i j b some elements assigns ei ej =
             subst (λ t. Passes gate (drop k.used piece) (Some 10) (seen_at old k) (tally_at old.meter.at before k) (seen_at new j) t)
             (ap₂ (tally_with old.meter.at before) (sym items) (sym deepest))
             (length_passes gate piece n chain count old k before (seen_at new j) b assigns.0 g
-            (some_values count true r (seen_at new j)
-            (tells_next None (after_length r None count) true r (seen_at new j)
+            (some_values count flow.On r (seen_at new j)
+            (tells_next None (after_length r None count) flow.On r (seen_at new j)
             (record {
               ready = elements_ready r (seen_at new j) count some (ap phase_on (ap (λ r. r.frames) en)) (ap (λ r. r.frames) en) (ap (λ r. r.layers) en) (ap (λ r. r.table) en) er;
               meter = meter;

@@ -9,6 +9,7 @@ use Rattle.jser_table.specs.Entries.{other_entry}
 use Rattle.jser_table.specs.Fits.{fit_of}
 use Rattle.jser_table.specs.Sections.{AreSections}
 use Rattle.jser_table.specs.Tables.{IsClass}
+use Rattle.jser_reader.specs.declared.machine.flow.Flow.TheVariants as flow
 use Rattle.jser_reader.specs.declared.frame.Frame.TheVariants as frame
 use Rattle.jser_reader.specs.declared.frame.Owner.TheVariants as owner
 use Rattle.jser_reader.specs.declared.machine.many.counts.Counts.{Counts}
@@ -50,14 +51,14 @@ sections_of r n chain sections is plain are = record { chain = chain; low = is.l
 abbrev begins : Seen → Seen
 begins r = let o : Seen = added (with_class owner.Object r) other_entry in record o { meter = moved o.meter }
 
-class_told : (r next : Seen) (n chain : ℕ) → IsObjectClass r n chain → is_full r ≡ false → BeginsObject (chain_in r.table.chains chain) true (begins r) next
-    → TellsClass n true (with_class owner.Object r) next
+class_told : (r next : Seen) (n chain : ℕ) → IsObjectClass r n chain → is_full r ≡ false → BeginsObject (chain_in r.table.chains chain) flow.On (begins r) next
+    → TellsClass n flow.On (with_class owner.Object r) next
 class_told r next n chain c full object =
     let mid : Seen = with_class owner.Object r in
     let with_other : Seen = added mid other_entry in
-    right_class n chain true mid next
-    (object_owned (length r.table.entries) chain true mid with_other next
-    (object_begins (chain_in r.table.chains chain) true with_other (begins r) next object refl refl refl refl refl) (assigned_other mid full) refl)
+    right_class n chain flow.On mid next
+    (object_owned (length r.table.entries) chain flow.On mid with_other next
+    (object_begins (chain_in r.table.chains chain) flow.On with_other (begins r) next object refl refl refl refl refl) (assigned_other mid full) refl)
     c.is_class c.low (sym (ap fit_reason c.fits))
 
 same_meter : (old : Seen) (k : Counts) → moved (counted_on old.meter (k.used + 6)) ≡ moved (with_class owner.Object (seen_at old k)).meter
@@ -84,10 +85,10 @@ bare_leads piece n chain old k b full plain none =
       can = rest_can piece old k b.holds.holds more;
       meter = refl;
       to = λ gate g before next comes kept.
-          owner_passes gate owner.Object n true (drop k.used piece) r mid next (mark_of r) (mark_of mid) (tally_at old.meter.at before k) (tally_at old.meter.at before (with_place k 6)) g
+          owner_passes gate owner.Object n flow.On (drop k.used piece) r mid next (mark_of r) (mark_of mid) (tally_at old.meter.at before k) (tally_at old.meter.at before (with_place k 6)) g
           (rest_can piece old k b.holds.holds more) (place_on old.frames) (tag_there piece k.used 0x73 b.tag) b.class b.small b.place refl
           (class_told r next n chain is full
-          (bare_object old.table.chains (chain_in old.table.chains chain) true (begins r) next none refl plain comes.ready (comes.meter ∙ same_meter old k)
+          (bare_object old.table.chains (chain_in old.table.chains chain) flow.On (begins r) next none refl plain comes.ready (comes.meter ∙ same_meter old k)
           (record { table = kept.table; layers = kept.layers; refs = kept.refs })))
           refl refl (λ _ _. place_counted piece before old mid k 6 b.holds refl (λ none. none));
     }
@@ -108,7 +109,7 @@ bare_turn piece n chain old new k j b plain none assigns ej =
 
 -- ---- an annotation alone
 
-pushed_frame : (r : Seen) → Pushes frame.ExternalNotes true r (pushed r frame.ExternalNotes)
+pushed_frame : (r : Seen) → Pushes frame.ExternalNotes flow.On r (pushed r frame.ExternalNotes)
 unfolding Pushes
 pushed_frame r = refl
 
@@ -147,10 +148,10 @@ external_turn piece n chain old new k i j b external assigns ei ej =
         passes = λ gate g before.
             subst (λ t. Passes gate (drop k.used piece) (Some 6) (seen_at old k) (tally_at old.meter.at before k) (seen_at new j) t)
             (ap₂ (tally_with old.meter.at before) (sym items) (sym deepest))
-            (owner_passes gate owner.Object n true (drop k.used piece) r mid (seen_at new j) (mark_of r) (mark_of mid) (tally_at old.meter.at before k) (tally_at old.meter.at before (with_place k 6)) g
+            (owner_passes gate owner.Object n flow.On (drop k.used piece) r mid (seen_at new j) (mark_of r) (mark_of mid) (tally_at old.meter.at before k) (tally_at old.meter.at before (with_place k 6)) g
             (rest_can piece old k b.holds.holds more) (place_on old.frames) (tag_there piece k.used 0x73 b.tag) b.class b.small b.place refl
             (class_told r (seen_at new j) n chain is assigns.0
-            (external_object (chain_in old.table.chains chain) true true (begins r) (pushed (begins r) frame.ExternalNotes) (seen_at new j) (pushed_frame (begins r)) refl refl external
+            (external_object (chain_in old.table.chains chain) flow.On flow.On (begins r) (pushed (begins r) frame.ExternalNotes) (seen_at new j) (pushed_frame (begins r)) refl refl external
             (ap phase_on (ap (λ r. r.frames) en)) (ap (λ r. r.frames) en) (ap (λ r. r.layers) en) (ap (λ r. r.table) en) (ap (λ x. x.refs) e) meter))
             refl refl (λ _ _. place_counted piece before old mid k 6 b.holds refl (λ none. none)));
         nothing = λ none. absurd (omega arith);

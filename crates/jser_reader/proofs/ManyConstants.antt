@@ -10,6 +10,7 @@ use Rattle.jser_table.specs.Chains.{chain_in}
 use Rattle.jser_table.specs.Entries.{TableEntry, is_text, other_entry}
 use Rattle.jser_table.specs.Fits.{fit_of}
 use Rattle.jser_table.specs.Tables.{IsClass}
+use Rattle.jser_reader.specs.declared.machine.flow.Flow.TheVariants as flow
 use Rattle.jser_reader.specs.declared.frame.Owner.TheVariants as owner
 use Rattle.jser_reader.specs.declared.machine.many.counts.Counts.{Counts}
 use Rattle.jser_reader.specs.declared.machine.many.counts.Turn.TheVariants as turn
@@ -59,11 +60,11 @@ constant_begins piece n name r k h p room le tag class small is name_is name_sma
 abbrev at_name : Seen → Seen
 at_name r = record { meter = moved (with_class owner.EnumConst r).meter; phase = phase.TextTag; frames = r.frames; layers = r.layers; table = with_entry r.table other_entry; refs = suc r.refs; owner = owner.EnumConst; elements = r.elements; header = r.header; text = text.Value; left = r.left; scan = r.scan; name = r.name }
 
-class_told : (r : Seen) (n : ℕ) (c : IsConstantClass r n) → is_full r ≡ false → TellsClass n true (with_class owner.EnumConst r) (at_name r)
+class_told : (r : Seen) (n : ℕ) (c : IsConstantClass r n) → is_full r ≡ false → TellsClass n flow.On (with_class owner.EnumConst r) (at_name r)
 class_told r n c full =
     let mid : Seen = with_class owner.EnumConst r in
-    right_class n c.chain true mid (at_name r)
-    (constant_owned (length r.table.entries) (chain_in r.table.chains c.chain) true mid (added mid other_entry) (at_name r)
+    right_class n c.chain flow.On mid (at_name r)
+    (constant_owned (length r.table.entries) (chain_in r.table.chains c.chain) flow.On mid (added mid other_entry) (at_name r)
     (record { phase_is = refl; frames = refl; layers = refl; table = refl; refs = refl; owner_is = refl; chain_is = refl; header_is = refl; text_is = refl; left = refl; meter = refl })
     refl (assigned_other mid full) refl)
     c.is_class c.low (sym (ap fit_reason c.fits))
@@ -128,21 +129,21 @@ constant_leads piece n name old k b full =
           same_end (seen_at (added old other_entry) (with_place k 11)) far next comes
           (ap (λ x. record { at = x; from = x; limits = old.meter.limits; stop = old.meter.stop; cut_phase = old.meter.cut_phase; kept = old.meter.kept }) (sym at)) refl refl refl refl in
           then_passes gate rest last 6 5 r m next (tally_at old.meter.at before k) told told
-          (owner_passes gate owner.EnumConst n true rest r mid m (mark_of r) (mark_of mid) (tally_at old.meter.at before k) told g can (place_on old.frames) (tag_there piece k.used 0x7E b.tag) b.class b.small b.place
+          (owner_passes gate owner.EnumConst n flow.On rest r mid m (mark_of r) (mark_of mid) (tally_at old.meter.at before k) told g can (place_on old.frames) (tag_there piece k.used 0x7E b.tag) b.class b.small b.place
           refl (class_told r n is full) refl refl (λ _ _. place_counted piece before old mid k 11 b.holds refl (λ none. none)))
           (then_passes gate last (drop 1 last) 1 4 m q next told told told
           (quiet_end gate 1 (taken.Ended 1) last m q told
-          (one_taken 0x71 true (taken.Ended 1) last m q
-          (takes_text_tag 0x71 true m (farther m 1) q
-          (text_reference true (farther m 1) q
+          (one_taken 0x71 flow.On (taken.Ended 1) last m q
+          (takes_text_tag 0x71 flow.On m (farther m 1) q
+          (text_reference flow.On (farther m 1) q
           (record { phase_is = refl; frames = refl; layers = refl; table = refl; refs = refl; owner_is = refl; chain_is = refl; header_is = refl; text_is = refl; left = refl; meter = refl }) refl)
           refl refl)
           refl (name_tag piece k.used name b.name_is) (omega arith) tt gate)
           refl tt can_m)
           (quiet_end gate 4 (taken.Ended 4) (drop 1 last) q next told
-          (four_taken name true (taken.Ended 4) (drop 1 last) (take 4 (drop 1 last)) q next
-          (takes_text_handle name 4 true q far next
-          (right_text name _ true far next (constant_named true far next end refl (not_type far refl))
+          (four_taken name flow.On (taken.Ended 4) (drop 1 last) (take 4 (drop 1 last)) q next
+          (takes_text_handle name 4 flow.On q far next
+          (right_text name _ flow.On far next (constant_named flow.On far next end refl (not_type far refl))
           (still_text old.table.entries (other_entry ∷ []) (name - 0x7E0000) b.text.is) b.text.low)
           refl refl (omega arith) b.name_small)
           refl tt (name_spelled piece k.used name b.name_is) refl (omega arith) gate)

@@ -1,11 +1,12 @@
 -- The loop over whole values: blocks, and the ends of annotations.
-use Rattle.std.proofs.Common.{if◌then◌else◌, ◌≡◌, ℕ, suc, ◌+◌, ◌-◌, ◌<◌, ◌≤◌, ◌==◌, true, false, nat_lt, max, List, [], ◌∷◌, length, get_or, drop, refl, sym, ◌∙◌, ap, subst, arith}
+use Rattle.std.proofs.Common.{◌≡◌, ℕ, suc, ◌+◌, ◌-◌, ◌<◌, ◌≤◌, ◌==◌, false, nat_lt, max, List, [], ◌∷◌, length, get_or, drop, refl, sym, ◌∙◌, ap, subst, arith}
 use Rattle.std.proofs.Common.{get_or-drop}
 use Rattle.std.proofs.lemmas.Bool.Decides.{nat_tests}
 use Rattle.std.proofs.lemmas.List.{length-drop}
 use Rattle.jser_reading.specs.Goals.{Part, section_parts, settle}
 use Rattle.jser_reading.specs.Totals.{one_more_if, number_if}
 use Rattle.jser_table.specs.Sections.{under}
+use Rattle.jser_reader.specs.declared.machine.flow.Flow.TheVariants as flow
 use Rattle.jser_reader.specs.declared.frame.Frame.{Frame}
 use Rattle.jser_reader.specs.declared.frame.Frame.TheVariants as frame
 use Rattle.jser_reader.specs.declared.machine.many.counts.Counts.{Counts}
@@ -141,8 +142,8 @@ notes_lead piece old k f parts h room tag e ep left =
       meter = refl;
       to = λ gate g before next comes kept.
           passes_end gate 1 (taken.Ended 1) (drop k.used piece) r next (tally_at old.meter.at before k) (tally_at old.meter.at before (with_used k 1))
-          (one_taken 0x78 true (taken.Ended 1) (drop k.used piece) r next
-          (takes_note 0x78 true r (farther r 1) next (λ _. note_end 0x78 true (farther r 1) next refl (one_byte old next k parts left comes) refl) refl ep)
+          (one_taken 0x78 flow.On (taken.Ended 1) (drop k.used piece) r next
+          (takes_note 0x78 flow.On r (farther r 1) next (λ _. note_end 0x78 flow.On (farther r 1) next refl (one_byte old next k parts left comes) refl) refl ep)
           refl (tag_there piece k.used 0x78 tag) (omega arith) (subst IsOne (sym ep) tt) gate)
           refl (λ _ _. notes_counted piece before old next k f h e kept.refs kept.table) g (rest_can piece old k h.holds more);
     }

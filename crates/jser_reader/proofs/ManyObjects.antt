@@ -9,6 +9,7 @@ use Rattle.jser_table.specs.Chains.{chain_in}
 use Rattle.jser_table.specs.Entries.{other_entry}
 use Rattle.jser_table.specs.Sections.{layer_of, under}
 use Rattle.jser_reading.specs.Goals.{Part, section_parts, settle}
+use Rattle.jser_reader.specs.declared.machine.flow.Flow.TheVariants as flow
 use Rattle.jser_reader.specs.declared.frame.Frame.{Frame}
 use Rattle.jser_reader.specs.declared.frame.Frame.TheVariants as frame
 use Rattle.jser_reader.specs.declared.frame.Owner.TheVariants as owner
@@ -99,7 +100,7 @@ was_assigned false old new h e = absurd (cc)
 
 -- ---- the class
 
-pushed_frame : (r : Seen) → Pushes frame.ExternalNotes true r (pushed r frame.ExternalNotes)
+pushed_frame : (r : Seen) → Pushes frame.ExternalNotes flow.On r (pushed r frame.ExternalNotes)
 unfolding Pushes
 pushed_frame r = refl
 
@@ -108,7 +109,7 @@ data_parts r sections = section_parts (layer_of r.table.chains sections.first �
 
 class_told : (r next : Seen) (n : ℕ) (meter_at : ℕ) (sections : Sections) → HasSections r n sections → is_full r ≡ false
     → Ready next (before_parts (added (record r { refs = suc r.refs }) other_entry) r.frames (data_parts r sections)) → Kept (added (record r { refs = suc r.refs }) other_entry) next
-    → next.meter ≡ moved (with_class owner.Object r).meter → TellsClass n true (with_class owner.Object r) next
+    → next.meter ≡ moved (with_class owner.Object r).meter → TellsClass n flow.On (with_class owner.Object r) next
 unfolding PartGives before_parts
 class_told r next n meter_at sections c full ready kept meter =
     let mid : Seen = with_class owner.Object r in
@@ -118,11 +119,11 @@ class_told r next n meter_at sections c full ready kept meter =
     let chain : List Layer = chain_in r.table.chains c.chain in
     let part : PartGives true opened next (section_parts (layer_of opened.table.chains sections.first ∷ under opened.table.chains sections.last sections.first)) =
     (ready, record { table = kept.table; layers = kept.layers; refs = kept.refs }) in
-    let object : BeginsObject chain true begins next =
-    filled_object chain sections true true begins opened next part (pushed_frame begins) refl refl c.plain c.are meter in
-    right_class n c.chain true mid next
-    (object_owned (length r.table.entries) c.chain true mid with_other next
-    (object_begins chain true with_other begins next object refl refl refl refl refl) (assigned_other mid full) refl)
+    let object : BeginsObject chain flow.On begins next =
+    filled_object chain sections flow.On flow.On begins opened next part (pushed_frame begins) refl refl c.plain c.are meter in
+    right_class n c.chain flow.On mid next
+    (object_owned (length r.table.entries) c.chain flow.On mid with_other next
+    (object_begins chain flow.On with_other begins next object refl refl refl refl refl) (assigned_other mid full) refl)
     c.is_class c.low (sym (ap fit_reason c.fits))
 
 abbrev with_other : Seen → Seen
@@ -146,7 +147,7 @@ object_leads piece n old k sections h p room tag class small c full =
       can = rest_can piece old k h.holds more;
       meter = refl;
       to = λ gate g before next comes kept.
-          owner_passes gate owner.Object n true (drop k.used piece) r mid next (mark_of r) (mark_of mid) (tally_at old.meter.at before k) (tally_at old.meter.at before (with_place k 6)) g
+          owner_passes gate owner.Object n flow.On (drop k.used piece) r mid next (mark_of r) (mark_of mid) (tally_at old.meter.at before k) (tally_at old.meter.at before (with_place k 6)) g
           (rest_can piece old k h.holds more) (place_on old.frames) (tag_there piece k.used 0x73 tag) class small p refl
           (class_told r next n 0 sections
           (record { chain = c.chain; low = c.low; is_class = c.is_class; fits = c.fits; plain = c.plain; are = c.are }) full comes.ready

@@ -5,6 +5,7 @@ use Rattle.std.proofs.lemmas.List.{length-drop, length-append, drop-drop}
 use Rattle.jser_prim.specs.Bytes.{big_bytes}
 use Rattle.jser_table.specs.Entries.{text_entry}
 use Rattle.jser_reading.specs.Labels.{null_tag}
+use Rattle.jser_reader.specs.declared.machine.flow.Flow.TheVariants as flow
 use Rattle.jser_reader.specs.declared.machine.many.counts.Counts.{Counts}
 use Rattle.jser_reader.specs.declared.machine.many.counts.Turn.TheVariants as turn
 use Rattle.jser_reader.specs.declared.tag.ValueTag.TheVariants as value
@@ -68,8 +69,8 @@ null_ends piece old k j h p more tag ej = subst (λ j. LeadsTo piece old k old j
       let l = length-drop k.used piece in
       tag_passes gate value.Null (drop k.used piece) r next (tally_at old.meter.at before k) (tally_at old.meter.at before (with_place k 1)) g (rest_can piece old k h.holds more) (place_on old.frames)
       (omega arith) (tag_there piece k.used 0x70 tag)
-      (counted_tag null_tag true (farther r 1) far next
-      (null_begun true far next (ends_there old far old next k (with_place k 1) 1 refl refl refl refl refl refl refl comes) refl) refl (λ over. absurd (omega arith)) (λ over. absurd (omega arith)))
+      (counted_tag null_tag flow.On (farther r 1) far next
+      (null_begun flow.On far next (ends_there old far old next k (with_place k 1) 1 refl refl refl refl refl refl refl comes) refl) refl (λ over. absurd (omega arith)) (λ over. absurd (omega arith)))
       (λ _ _. place_counted piece before old next k 1 h kept.refs (λ none. sym (ap (λ t. length t.entries) kept.table) ∙ none));
 })
 

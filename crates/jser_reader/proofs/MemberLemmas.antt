@@ -6,6 +6,8 @@ use Rattle.std.proofs.lemmas.List.{length-drop, length-take-le}
 use Rattle.jser_table.specs.Entries.{text_entry}
 use Rattle.jser_reading.specs.Goals.{settle}
 use Rattle.jser_verdict.specs.Gates.{Gate}
+use Rattle.jser_reader.specs.declared.machine.flow.Flow.{Flow}
+use Rattle.jser_reader.specs.declared.machine.flow.Flow.TheVariants as flow
 use Rattle.jser_reader.specs.declared.machine.take.taken.Taken.TheVariants as taken
 use Rattle.jser_reader.specs.declared.phase.Phase.TheVariants as phase
 use Rattle.jser_reader.specs.declared.phase.TextFor.{TextFor}
@@ -51,11 +53,11 @@ begun_member r header is_object = record {
 }
 
 code_taken : (code : ℕ) (is_object : Bool) (r mid : Seen) → r.phase ≡ phase.TypeCode → BeginsMember code is_object r mid
-    → TakesByte code true r (begun_member r mid.header is_object)
+    → TakesByte code flow.On r (begun_member r mid.header is_object)
 code_taken code is_object r mid ep b =
-    takes_type_code code true r (farther r 1) (begun_member r mid.header is_object)
-    (right_code code true (farther r 1) (begun_member r mid.header is_object)
-    (begins_field code is_object true (farther r 1) (with_header (farther r 1) mid.header) (begun_member r mid.header is_object)
+    takes_type_code code flow.On r (farther r 1) (begun_member r mid.header is_object)
+    (right_code code flow.On (farther r 1) (begun_member r mid.header is_object)
+    (begins_field code is_object flow.On (farther r 1) (with_header (farther r 1) mid.header) (begun_member r mid.header is_object)
     (record { phase_is = refl; frames = refl; layers = refl; table = refl; refs = refl; owner_is = refl; chain_is = refl; header_is = refl; text_is = refl; left = refl; meter = refl })
     refl b.object refl refl refl refl refl b.kind (λ some. (b.codes some, b.fields some, b.seen some)))
     b.sound)
@@ -65,14 +67,14 @@ code_passes : (gate : Gate) (code : ℕ) (is_object : Bool) (piece : List ℕ) (
     → code ≡ get_or piece 0 0 → BeginsMember code is_object r mid → Passes gate piece (Some 1) r tally (begun_member r mid.header is_object) tally
 code_passes gate code is_object piece r mid tally can ep some ec b =
     quiet_end gate 1 (taken.Ended 1) piece r (begun_member r mid.header is_object) tally
-    (one_taken code true (taken.Ended 1) piece r (begun_member r mid.header is_object) (code_taken code is_object r mid ep b) refl ec some (rw ep tt) gate)
+    (one_taken code flow.On (taken.Ended 1) piece r (begun_member r mid.header is_object) (code_taken code is_object r mid ep b) refl ec some (rw ep tt) gate)
     refl (rw ep tt) can
 
 -- ---- what comes after a field
 
 -- what comes after a declared field, said of a machine that was as far and has the same
-goes_as : (a k new : Seen) → GoesOnFields true a new → moved k.meter ≡ moved a.meter → k.frames ≡ a.frames → k.layers ≡ a.layers → k.table ≡ a.table → k.refs ≡ a.refs
-    → k.header ≡ a.header → GoesOnFields true k new
+goes_as : (a k new : Seen) → GoesOnFields flow.On a new → moved k.meter ≡ moved a.meter → k.frames ≡ a.frames → k.layers ≡ a.layers → k.table ≡ a.table → k.refs ≡ a.refs
+    → k.header ≡ a.header → GoesOnFields flow.On k new
 unfolding GoesOnFields TellsSurely
 goes_as a k new h em ef ey et er eh = λ d.
     let c : Comes a new (settle (moment_of a) (fields_goals a a.header.fields)) = h (subst HasDescriptor ef d) in
@@ -86,11 +88,11 @@ goes_as a k new h em ef ey et er eh = λ d.
 
 -- ---- a field of a primitive type
 
-pub raw_member_passes : (gate : Gate) (code len : ℕ) (found : Bool) (piece : List ℕ) (old mid far new : Seen) (tally : Tally) → CanPass old piece
-    → old.phase ≡ phase.TypeCode → code ≡ get_or piece 0 0 → HasText piece len → BeginsMember code false old mid → GoesOnFields found far new → found ≡ true
+pub raw_member_passes : (gate : Gate) (code len : ℕ) (found : Flow) (piece : List ℕ) (old mid far new : Seen) (tally : Tally) → CanPass old piece
+    → old.phase ≡ phase.TypeCode → code ≡ get_or piece 0 0 → HasText piece len → BeginsMember code false old mid → GoesOnFields found far new → found ≡ flow.On
     → far ≡ farther mid (len + 3) → Passes gate piece (Some (len + 3)) old tally new tally
 raw_member_passes gate code len found piece old mid far new tally can ep ec t b goes_on true_is ef =
-    let goes : GoesOnFields true far new = subst (λ x. GoesOnFields x far new) true_is goes_on in
+    let goes : GoesOnFields flow.On far new = subst (λ x. GoesOnFields x far new) true_is goes_on in
     let m : Seen = begun_member old mid.header false in
     let k : Seen = farther m (2 + len) in
     let rest : List ℕ = drop 1 piece in
@@ -99,13 +101,13 @@ raw_member_passes gate code len found piece old mid far new tally can ep ec t b 
     let size : length (take (2 + len) rest) ≡ 2 + len = length-take-le (2 + len) rest (omega arith) in
     let far_is : far ≡ farther (with_header old mid.header) (len + 3) = ef ∙ ap (λ r. farther r (len + 3)) b.rest in
     let e : 2 + len + 1 ≡ len + 3 = omega arith in
-    let ends : GoesOnFields true k new =
-    goes_as (farther (with_header old mid.header) (len + 3)) k new (subst (λ r. GoesOnFields true r new) far_is goes)
+    let ends : GoesOnFields flow.On k new =
+    goes_as (farther (with_header old mid.header) (len + 3)) k new (subst (λ r. GoesOnFields flow.On r new) far_is goes)
     (same_meter old (2 + len) ∙ ap (λ j. moved (counted_on old.meter j)) e) refl refl refl refl refl in
     let body : Passes gate rest (Some (2 + len)) m tally new tally =
     quiet_takes gate (2 + len) rest m new tally (omega arith)
     (short_text_taken gate m k new (take (2 + len) rest) t.units
-    (λ inside. field_named gate true k new ends refl t.units (record { inside = inside; kept = λ checked. absurd (cc) }))
+    (λ inside. field_named gate flow.On k new ends refl t.units (record { inside = inside; kept = λ checked. absurd (cc) }))
     refl (omega arith) (counts_bytes (take (2 + len) rest) (2 + len) m k refl size) t.are_text t.spelled)
     tt (rest_can piece old m can (omega arith) refl refl) in
     subst (λ u. Passes gate piece (Some u) old tally new tally) (let s : 1 + (2 + len) ≡ len + 3 = omega arith in s)
@@ -146,7 +148,7 @@ named_goes gate code len piece old mid new tally can ep ec t b next =
     let body : Passes gate rest (Some (2 + len)) m tally new tally =
     quiet_takes gate (2 + len) rest m new tally (omega arith)
     (short_text_taken gate m k new (take (2 + len) rest) t.units
-    (λ inside. object_field_named gate true k new next refl refl t.units (record { inside = inside; kept = λ checked. absurd (cc) }))
+    (λ inside. object_field_named gate flow.On k new next refl refl t.units (record { inside = inside; kept = λ checked. absurd (cc) }))
     refl (omega arith) (counts_bytes (take (2 + len) rest) (2 + len) m k refl size) t.are_text t.spelled)
     tt (rest_can piece old m can (omega arith) refl refl) in
     subst (λ u. Passes gate piece (Some u) old tally new tally) (let s : 1 + (2 + len) ≡ len + 3 = omega arith in s)
@@ -204,17 +206,17 @@ at_type r = record {
   name = r.name;
 }
 
-type_tag_taken : (r : Seen) → r.phase ≡ phase.TextTag → TakesByte 0x71 true r (at_type r)
+type_tag_taken : (r : Seen) → r.phase ≡ phase.TextTag → TakesByte 0x71 flow.On r (at_type r)
 type_tag_taken r ep =
-    takes_text_tag 0x71 true r (farther r 1) (at_type r)
-    (text_value_tag value.Reference 0x71 true (farther r 1) (at_type r) refl
-    (text_reference true (farther r 1) (at_type r)
+    takes_text_tag 0x71 flow.On r (farther r 1) (at_type r)
+    (text_value_tag value.Reference 0x71 flow.On (farther r 1) (at_type r) refl
+    (text_reference flow.On (farther r 1) (at_type r)
     (record { phase_is = refl; frames = refl; layers = refl; table = refl; refs = refl; owner_is = refl; chain_is = refl; header_is = refl; text_is = refl; left = refl; meter = refl })
     refl))
     refl ep
 
 type_passes : (gate : Gate) (n : ℕ) (piece : List ℕ) (r new : Seen) (tally : Tally) → CanPass r piece → r.phase ≡ phase.TextTag → r.text ≡ text.FieldType
-    → HasType piece n r → GoesOnFields true (farther (at_type r) 4) new → Passes gate piece (Some 5) r tally new tally
+    → HasType piece n r → GoesOnFields flow.On (farther (at_type r) 4) new → Passes gate piece (Some 5) r tally new tally
 type_passes gate n piece r new tally can ep et t goes =
     let m : Seen = at_type r in
     let far : Seen = farther m 4 in
@@ -223,23 +225,23 @@ type_passes gate n piece r new tally can ep et t goes =
     let enough = t.is.within in
     let tag : Passes gate piece (Some 1) r tally m tally =
     quiet_end gate 1 (taken.Ended 1) piece r m tally
-    (one_taken 0x71 true (taken.Ended 1) piece r m (type_tag_taken r ep) refl t.tag (omega arith) (rw ep tt) gate)
+    (one_taken 0x71 flow.On (taken.Ended 1) piece r m (type_tag_taken r ep) refl t.tag (omega arith) (rw ep tt) gate)
     refl (rw ep tt) can in
     let handle : Passes gate rest (Some 4) m tally new tally =
     quiet_end gate 4 (taken.Ended 4) rest m new tally
-    (four_taken n true (taken.Ended 4) rest (take 4 rest) m new
-    (takes_text_handle n 4 true m far new
-    (right_text n (settle (moment_of far) (text_rest far far.text)) true far new (type_named true far new goes et) t.is_string t.low)
+    (four_taken n flow.On (taken.Ended 4) rest (take 4 rest) m new
+    (takes_text_handle n 4 flow.On m far new
+    (right_text n (settle (moment_of far) (text_rest far far.text)) flow.On far new (type_named flow.On far new goes et) t.is_string t.low)
     refl refl (omega arith) t.few)
     refl tt t.is.spelled refl (omega arith) gate)
     refl tt (rest_can piece r m can (omega arith) refl refl) in
     then_passes gate piece rest 1 4 r m new tally tally tally tag handle refl
 
-pub typed_member_passes : (gate : Gate) (code len n : ℕ) (found : Bool) (piece rest : List ℕ) (old mid far new : Seen) (tally : Tally) → CanPass old piece
+pub typed_member_passes : (gate : Gate) (code len n : ℕ) (found : Flow) (piece rest : List ℕ) (old mid far new : Seen) (tally : Tally) → CanPass old piece
     → old.phase ≡ phase.TypeCode → code ≡ get_or piece 0 0 → HasText piece len → rest ≡ drop (len + 3) piece → HasType rest n old
-    → BeginsMember code true old mid → GoesOnFields found far new → found ≡ true → far ≡ farther mid (len + 8) → Passes gate piece (Some (len + 8)) old tally new tally
+    → BeginsMember code true old mid → GoesOnFields found far new → found ≡ flow.On → far ≡ farther mid (len + 8) → Passes gate piece (Some (len + 8)) old tally new tally
 typed_member_passes gate code len n found piece rest old mid far new tally can ep ec t er y b goes_on true_is ef =
-    let goes : GoesOnFields true far new = subst (λ x. GoesOnFields x far new) true_is goes_on in
+    let goes : GoesOnFields flow.On far new = subst (λ x. GoesOnFields x far new) true_is goes_on in
     let m : Seen = named_member old mid.header len in
     let k : Seen = farther (at_type m) 4 in
     let enough = t.within in
@@ -247,8 +249,8 @@ typed_member_passes gate code len n found piece rest old mid far new tally can e
     let e : old.meter.at + 1 + (2 + len) + 1 + 4 ≡ old.meter.at + (len + 8) = omega arith in
     let meter : moved k.meter ≡ moved (farther (with_header old mid.header) (len + 8)).meter =
     ap (λ j. record { at = j; from = j; limits = old.meter.limits; stop = old.meter.stop; cut_phase = old.meter.cut_phase; kept = old.meter.kept }) e in
-    let ends : GoesOnFields true k new =
-    goes_as (farther (with_header old mid.header) (len + 8)) k new (subst (λ r. GoesOnFields true r new) far_is goes) meter refl refl refl refl refl in
+    let ends : GoesOnFields flow.On k new =
+    goes_as (farther (with_header old mid.header) (len + 8)) k new (subst (λ r. GoesOnFields flow.On r new) far_is goes) meter refl refl refl refl refl in
     let there : m.meter ≡ moved (counted_on old.meter (len + 3)) = same_meter old (2 + len) ∙ ap (λ j. moved (counted_on old.meter j)) (let s : 2 + len + 1 ≡ len + 3 = omega arith in s) in
     let can_m : CanPass m rest = subst (CanPass m) (sym er) (can_go_on piece (len + 3) old m can (omega arith) there) in
     subst (λ u. Passes gate piece (Some u) old tally new tally) (let s : len + 3 + 5 ≡ len + 8 = omega arith in s)
@@ -256,7 +258,7 @@ typed_member_passes gate code len n found piece rest old mid far new tally can e
     (type_passes gate n rest m new tally can_m refl refl (record { tag = y.tag; is = y.is; few = y.few; low = y.low; is_string = y.is_string }) ends) er)
 
 -- what is left of the piece may be taken too
-pub member_can : (piece : List ℕ) (used : ℕ) (found : Bool) (old mid far new : Seen) (code : ℕ) (is_object : Bool) → CanPass old piece → used ≤ length piece
+pub member_can : (piece : List ℕ) (used : ℕ) (found : Flow) (old mid far new : Seen) (code : ℕ) (is_object : Bool) → CanPass old piece → used ≤ length piece
     → BeginsMember code is_object old mid → GoesOnFields found far new → new.meter ≡ moved far.meter → far ≡ farther mid used → CanPass new (drop used piece)
 member_can piece used found old mid far new code is_object can le b goes em ef =
     can_go_on piece used old new can le (em ∙ ap (λ r. moved r.meter) (ef ∙ ap (λ r. farther r used) b.rest))
@@ -281,12 +283,12 @@ begun_type r = record {
   name = r.name;
 }
 
-new_type_tag_taken : (r : Seen) → r.phase ≡ phase.TextTag → is_full r ≡ false → TakesByte 0x74 true r (begun_type r)
+new_type_tag_taken : (r : Seen) → r.phase ≡ phase.TextTag → is_full r ≡ false → TakesByte 0x74 flow.On r (begun_type r)
 new_type_tag_taken r ep full =
-    takes_text_tag 0x74 true r (farther r 1) (begun_type r)
-    (text_value_tag value.String 0x74 true (farther r 1) (begun_type r) refl
-    (short_text true (farther r 1) (begun_type r)
-    (λ form inside. new_text (length r.table.entries) false r.text true (farther r 1) (added (farther r 1) text_entry) (begun_type r) (assigned_text (farther r 1) full)
+    takes_text_tag 0x74 flow.On r (farther r 1) (begun_type r)
+    (text_value_tag value.String 0x74 flow.On (farther r 1) (begun_type r) refl
+    (short_text flow.On (farther r 1) (begun_type r)
+    (λ form inside. new_text (length r.table.entries) false r.text flow.On (farther r 1) (added (farther r 1) text_entry) (begun_type r) (assigned_text (farther r 1) full)
     (record { phase_is = refl; frames = refl; layers = refl; table = refl; refs = refl; owner_is = refl; chain_is = refl; header_is = refl; text_is = refl; left = refl; meter = refl })
     refl form inside)))
     refl ep
@@ -295,12 +297,12 @@ new_type_tag_taken r ep full =
 unchecked_type : (t : TextFor) → t ≡ text.FieldType → is_checked t ≡ true → ⊥
 unchecked_type t e checked = false≢true (ap is_checked (sym e) ∙ checked)
 
-pub new_type_passes : (gate : Gate) (len : ℕ) (found : Bool) (piece : List ℕ) (old mid far new : Seen) (tally : Tally) → CanPass old piece
+pub new_type_passes : (gate : Gate) (len : ℕ) (found : Flow) (piece : List ℕ) (old mid far new : Seen) (tally : Tally) → CanPass old piece
     → old.phase ≡ phase.TextTag → old.text ≡ text.FieldType → 0x74 ≡ get_or piece 0 0 → HasText piece len → AssignsText true old mid
-    → GoesOnFields found far new → found ≡ true → far ≡ farther mid (len + 3) → Passes gate piece (Some (len + 3)) old tally new tally
+    → GoesOnFields found far new → found ≡ flow.On → far ≡ farther mid (len + 3) → Passes gate piece (Some (len + 3)) old tally new tally
 unfolding AssignsText
 new_type_passes gate len found piece old mid far new tally can ep et first t assigns goes_on true_is ef =
-    let goes : GoesOnFields true far new = subst (λ x. GoesOnFields x far new) true_is goes_on in
+    let goes : GoesOnFields flow.On far new = subst (λ x. GoesOnFields x far new) true_is goes_on in
     let m : Seen = begun_type old in
     let k : Seen = farther m (2 + len) in
     let rest : List ℕ = drop 1 piece in
@@ -309,24 +311,24 @@ new_type_passes gate len found piece old mid far new tally can ep et first t ass
     let size : length (take (2 + len) rest) ≡ 2 + len = length-take-le (2 + len) rest (omega arith) in
     let far_is : far ≡ farther (added old text_entry) (len + 3) = ef ∙ ap (λ r. farther r (len + 3)) assigns.1 in
     let e : 2 + len + 1 ≡ len + 3 = omega arith in
-    let ends : GoesOnFields true k new =
-    goes_as (farther (added old text_entry) (len + 3)) k new (subst (λ r. GoesOnFields true r new) far_is goes)
+    let ends : GoesOnFields flow.On k new =
+    goes_as (farther (added old text_entry) (len + 3)) k new (subst (λ r. GoesOnFields flow.On r new) far_is goes)
     (same_meter old (2 + len) ∙ ap (λ j. moved (counted_on old.meter j)) e) refl refl refl refl refl in
     let tag : Passes gate piece (Some 1) old tally m tally =
     quiet_end gate 1 (taken.Ended 1) piece old m tally
-    (one_taken 0x74 true (taken.Ended 1) piece old m (new_type_tag_taken old ep assigns.0) refl first (omega arith) (rw ep tt) gate)
+    (one_taken 0x74 flow.On (taken.Ended 1) piece old m (new_type_tag_taken old ep assigns.0) refl first (omega arith) (rw ep tt) gate)
     refl (rw ep tt) can in
     let body : Passes gate rest (Some (2 + len)) m tally new tally =
     quiet_takes gate (2 + len) rest m new tally (omega arith)
     (short_text_taken gate m k new (take (2 + len) rest) t.units
-    (λ inside. type_ends gate true k new ends et t.units (record { inside = inside; kept = λ checked. absurd (unchecked_type old.text et checked) }))
+    (λ inside. type_ends gate flow.On k new ends et t.units (record { inside = inside; kept = λ checked. absurd (unchecked_type old.text et checked) }))
     refl (omega arith) (counts_bytes (take (2 + len) rest) (2 + len) m k refl size) t.are_text t.spelled)
     tt (rest_can piece old m can (omega arith) refl refl) in
     subst (λ u. Passes gate piece (Some u) old tally new tally) (let s : 1 + (2 + len) ≡ len + 3 = omega arith in s)
     (then_passes gate piece rest 1 (2 + len) old m new tally tally tally tag body refl)
 
 -- what is left of the piece may be taken too
-pub type_can : (piece : List ℕ) (used : ℕ) (found : Bool) (old mid far new : Seen) → CanPass old piece → used ≤ length piece → AssignsText true old mid
+pub type_can : (piece : List ℕ) (used : ℕ) (found : Flow) (old mid far new : Seen) → CanPass old piece → used ≤ length piece → AssignsText true old mid
     → GoesOnFields found far new → new.meter ≡ moved far.meter → far ≡ farther mid used → CanPass new (drop used piece)
 unfolding AssignsText
 type_can piece used found old mid far new can le assigns goes em ef =

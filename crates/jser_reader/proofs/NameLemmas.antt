@@ -11,6 +11,8 @@ use Rattle.jser_verdict.specs.Gates.{Answer as ToldAnswer}
 use Rattle.jser_verdict.specs.Reasons.{Reason, bad_array_name, wrong_class}
 use Rattle.jser_verdict.specs.ClassRows.{is_wrong_name, is_array_kind_name}
 use Rattle.jser_verdict.specs.Verdicts.{told_if, checked_reason, class_name_reason, interface_reason}
+use Rattle.jser_reader.specs.declared.machine.flow.Flow.{Flow}
+use Rattle.jser_reader.specs.declared.machine.flow.Flow.TheVariants as flow
 use Rattle.jser_reader.specs.declared.frame.Owner.TheVariants as owner
 use Rattle.jser_reader.specs.declared.frame.Role.{Role}
 use Rattle.jser_reader.specs.declared.frame.Role.TheVariants as role
@@ -140,15 +142,15 @@ right_class_name g r name k e w h =
 
 -- ---- what comes after a name
 
-fault_told : (told : Option Reason) (why : CodeReason) (s : State) (b : Bool) (old new : Seen) → StopsWith (refusal old.meter why) old new → b ≡ false
+fault_told : (told : Option Reason) (why : CodeReason) (s : State) (b : Flow) (old new : Seen) → StopsWith (refusal old.meter why) old new → b ≡ flow.Stopped
     → option_map named told ≡ Some why → TellsSurely told s b old new
 unfolding TellsSurely
 fault_told None why s b old new h eb e = absurd (cc)
 fault_told (Some k) why s b old new h eb e =
     let w : why ≡ named k = cc in rw eb (subst (λ y. StopsWith (refusal old.meter y) old new) w h)
 
-pub class_refused : (told : Option Reason) (why : CodeReason) (name : List ℕ) (s : State) (b : Bool) (old new : Seen)
-    → StopsWith (refusal old.meter why) old new → b ≡ false → IsKindOf (Err why) told name → TellsSurely told s b old new
+pub class_refused : (told : Option Reason) (why : CodeReason) (name : List ℕ) (s : State) (b : Flow) (old new : Seen)
+    → StopsWith (refusal old.meter why) old new → b ≡ flow.Stopped → IsKindOf (Err why) told name → TellsSurely told s b old new
 unfolding IsKindOf
 class_refused told why name s b old new h eb e = fault_told told why s b old new h eb e
 
@@ -156,8 +158,8 @@ class_refused told why name s b old new h eb e = fault_told told why s b old new
 abbrev of_kind : Header → LayerKind → Header
 of_kind h k = record { role = h.role; kind = k; seen = h.seen; codes = h.codes; fields = h.fields; interfaces = h.interfaces }
 
-pub class_named : (told : Option Reason) (k : LayerKind) (name : List ℕ) (b : Bool) (old mid new : Seen)
-    → IsNext phase.Suid mid.owner mid.elements mid.header mid.text mid new → b ≡ true → IsKindOf (Ok k) told name
+pub class_named : (told : Option Reason) (k : LayerKind) (name : List ℕ) (b : Flow) (old mid new : Seen)
+    → IsNext phase.Suid mid.owner mid.elements mid.header mid.text mid new → b ≡ flow.On → IsKindOf (Ok k) told name
     → mid.header ≡ of_kind old.header k → mid.meter ≡ old.meter → mid.frames ≡ old.frames → mid.layers ≡ old.layers → mid.table ≡ old.table → mid.refs ≡ old.refs
     → TellsSurely told (named_state old name) b old new
 unfolding IsKindOf Ready
@@ -176,8 +178,8 @@ pub judged_interface : (g : Gate) (name : List ℕ) (k : LayerKind) (fault : Opt
 judged_interface g name k fault h e =
     h ∙ sym (ap (λ b. option_map named (told_if b bad_array_name (checked_reason g name))) (is_kind (name_kind name) k e).0)
 
-pub interface_refused : (told : Option Reason) (why : CodeReason) (s : State) (b : Bool) (old new : Seen)
-    → StopsWith (refusal old.meter why) old new → b ≡ false → Some why ≡ option_map named told → TellsSurely told s b old new
+pub interface_refused : (told : Option Reason) (why : CodeReason) (s : State) (b : Flow) (old new : Seen)
+    → StopsWith (refusal old.meter why) old new → b ≡ flow.Stopped → Some why ≡ option_map named told → TellsSurely told s b old new
 interface_refused told why s b old new h eb e = fault_told told why s b old new h eb (sym e)
 
 abbrev with_interfaces : Seen → ℕ → Seen
@@ -197,7 +199,7 @@ with_interfaces r n = record {
   name = r.name;
 }
 
-pub interface_named : (told : Option Reason) (b : Bool) (old mid new : Seen)
+pub interface_named : (told : Option Reason) (b : Flow) (old mid new : Seen)
     → GoesOnInterfaces b mid new
     → None ≡ option_map named told → mid ≡ with_interfaces old (old.header.interfaces - 1) → HasDescriptor old.frames
     → TellsSurely told (settle (moment_of old) (interfaces_goals old (old.header.interfaces - 1))) b old new

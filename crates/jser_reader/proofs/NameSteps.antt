@@ -1,5 +1,5 @@
 -- The name of a class that is taken in one step with its length.
-use Rattle.std.proofs.Common.{◌≡◌, ℕ, ◌+◌, ◌^◌, ◌<◌, ◌≤◌, Bool, true, false, List, [], ◌++◌, length, get_or, take, drop, Some, None, refl, sym, ◌∙◌, ap, ap₂, subst, arith, get_or-take, get_or-drop}
+use Rattle.std.proofs.Common.{◌≡◌, ℕ, ◌+◌, ◌^◌, ◌<◌, ◌≤◌, List, [], ◌++◌, length, get_or, take, drop, Some, None, refl, sym, ◌∙◌, ap, ap₂, subst, arith, get_or-take, get_or-drop}
 use Rattle.std.specs.Prelude.{slice_index}
 use Rattle.std.proofs.lemmas.List.{length-drop, length-take-le, take-append-drop}
 use Rattle.jser_prim.specs.Bytes.{big_bytes}
@@ -7,6 +7,8 @@ use Rattle.jser_prim.specs.ModifiedUtf8.{modified_utf8}
 use Rattle.jser_prim.specs.WholeUnits.{IsAsciiBetween}
 use Rattle.jser_verdict.specs.Gates.{Gate}
 use Rattle.jser_verdict.specs.Verdicts.{class_name_reason}
+use Rattle.jser_reader.specs.declared.machine.flow.Flow.{Flow}
+use Rattle.jser_reader.specs.declared.machine.flow.Flow.TheVariants as flow
 use Rattle.jser_reader.specs.declared.machine.take.taken.Taken.TheVariants as taken
 use Rattle.jser_reader.specs.declared.phase.Phase.TheVariants as phase
 use Rattle.jser_reader.specs.declared.phase.TextFor.TheVariants as text
@@ -47,7 +49,7 @@ plain_name len piece number enough en eb small plain within =
     }
 
 -- the name was kept and its bytes were counted, and it is judged
-pub name_passes : (gate : Gate) (len : ℕ) (found : Bool) (piece : List ℕ) (old mid new : Seen) (tally : Tally) → CanPass old piece → old.phase ≡ phase.Length2
+pub name_passes : (gate : Gate) (len : ℕ) (found : Flow) (piece : List ℕ) (old mid new : Seen) (tally : Tally) → CanPass old piece → old.phase ≡ phase.Length2
     → old.text ≡ text.ClassName → HasName piece len
     → TellsSurely (class_name_reason gate (head_role mid) mid.name) (named_state mid mid.name) found mid new
     → mid ≡ with_name (farther old (2 + len)) (name_in piece len) → Passes gate piece (all_or_none found (2 + len)) old tally new tally
@@ -72,32 +74,32 @@ name_passes gate len found piece old mid new tally can ep et h told em = go foun
         (let c = counts_bytes (take (2 + len) piece) (2 + len) old (farther old (2 + len)) refl size in
         record { at = c.at; from = c.from; limits = c.limits; frames = c.frames; layers = c.layers; table = c.table; refs = c.refs; owner = c.owner; elements = c.elements; header = c.header; text = c.text })
 
-    taken_whole : (found : Bool) → TellsSurely (class_name_reason gate (head_role mid) mid.name) (named_state mid mid.name) found mid new
+    taken_whole : (found : Flow) → TellsSurely (class_name_reason gate (head_role mid) mid.name) (named_state mid mid.name) found mid new
         → Takes gate (take (2 + len) piece) found old new
     taken_whole found told =
         short_text_found gate found old mid new (take (2 + len) piece) (name_in piece len)
         (λ inside. class_name_ends gate found mid new told text_is (name_in piece len) (record { inside = inside; kept = λ checked. name_is }))
         ep (omega (arith, size)) counts h.are_text h.spelled
 
-    go : (found : Bool) → TellsSurely (class_name_reason gate (head_role mid) mid.name) (named_state mid mid.name) found mid new
+    go : (found : Flow) → TellsSurely (class_name_reason gate (head_role mid) mid.name) (named_state mid mid.name) found mid new
         → Passes gate piece (all_or_none found (2 + len)) old tally new tally
-    go true told = quiet_takes gate (2 + len) piece old new tally enough (taken_whole true told) (rw ep tt) can
-    go false told = passes_stop gate (2 + len) (taken.Stopped (2 + len)) piece old new tally tally (stops told) refl can (quiet_stopped old tally (rw ep tt))
+    go flow.On told = quiet_takes gate (2 + len) piece old new tally enough (taken_whole flow.On told) (rw ep tt) can
+    go flow.Stopped told = passes_stop gate (2 + len) (taken.Stopped (2 + len)) piece old new tally tally (stops told) refl can (quiet_stopped old tally (rw ep tt))
       where
-        stops : TellsSurely (class_name_reason gate (head_role mid) mid.name) (named_state mid mid.name) false mid new
+        stops : TellsSurely (class_name_reason gate (head_role mid) mid.name) (named_state mid mid.name) flow.Stopped mid new
             → TakesFromFor gate (taken.Stopped (2 + len)) piece old new
-        stops told = (omega arith, enough, taken_whole false told)
+        stops told = (omega arith, enough, taken_whole flow.Stopped told)
 
-pub name_ends : (gate : Gate) (len : ℕ) (found : Bool) (piece : List ℕ) (old mid new : Seen) (tally : Tally) → CanPass old piece → old.phase ≡ phase.Length2
+pub name_ends : (gate : Gate) (len : ℕ) (found : Flow) (piece : List ℕ) (old mid new : Seen) (tally : Tally) → CanPass old piece → old.phase ≡ phase.Length2
     → HasName piece len × (old.text ≡ text.ClassName) → JudgesName gate found mid new → mid ≡ with_name (farther old (2 + len)) (name_in piece len)
-    → found ≡ true → Passes gate piece (Some (2 + len)) old tally new tally
+    → found ≡ flow.On → Passes gate piece (Some (2 + len)) old tally new tally
 unfolding JudgesName
 name_ends gate len found piece old mid new tally can ep h told em e =
     subst (λ b. Passes gate piece (all_or_none b (2 + len)) old tally new tally) e (name_passes gate len found piece old mid new tally can ep h.1 h.0 told em)
 
-pub name_stops : (gate : Gate) (len : ℕ) (found : Bool) (piece : List ℕ) (old mid new : Seen) (tally : Tally) → CanPass old piece → old.phase ≡ phase.Length2
+pub name_stops : (gate : Gate) (len : ℕ) (found : Flow) (piece : List ℕ) (old mid new : Seen) (tally : Tally) → CanPass old piece → old.phase ≡ phase.Length2
     → HasName piece len × (old.text ≡ text.ClassName) → JudgesName gate found mid new → mid ≡ with_name (farther old (2 + len)) (name_in piece len)
-    → found ≡ false → Passes gate piece None old tally new tally
+    → found ≡ flow.Stopped → Passes gate piece None old tally new tally
 unfolding JudgesName
 name_stops gate len found piece old mid new tally can ep h told em e =
     subst (λ b. Passes gate piece (all_or_none b (2 + len)) old tally new tally) e (name_passes gate len found piece old mid new tally can ep h.1 h.0 told em)

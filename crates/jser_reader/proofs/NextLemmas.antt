@@ -1,9 +1,10 @@
 -- What a reader answers to a piece, and at the end.
-use Rattle.std.proofs.Common.{◌≡◌, ℕ, suc, ◌+◌, ◌<◌, ◌≤◌, ◌^◌, true, false, List, [], ◌∷◌, ◌++◌, length, take, Result, Ok, Err, refl, sym, ◌∙◌, ap, subst, arith, append-nil, length-append, length-take-le}
+use Rattle.std.proofs.Common.{◌≡◌, ℕ, suc, ◌+◌, ◌<◌, ◌≤◌, ◌^◌, List, [], ◌∷◌, ◌++◌, length, take, Result, Ok, Err, refl, sym, ◌∙◌, ap, subst, arith, append-nil, length-append, length-take-le}
 use Rattle.jser_grammar.specs.Parts.{IsBytes}
 use Rattle.jser_reading.specs.Machine.{left, begin_state}
 use Rattle.jser_reading.specs.Goals.{settled}
 use Rattle.jser_verdict.specs.Gates.{Gate, IsGate}
+use Rattle.jser_reader.specs.declared.machine.flow.Flow.TheVariants as flow
 use Rattle.jser_reader.specs.declared.item.Step.{Step}
 use Rattle.jser_reader.specs.declared.item.Totals.{Totals}
 use Rattle.jser_reader.specs.declared.item.Step.TheVariants as step
@@ -16,7 +17,7 @@ use Rattle.jser_reader.specs.Readers.{Seen}
 use Rattle.jser_reader.specs.Handlers.{StopsWith, refusal}
 use Rattle.jser_reader.specs.declared.gate.Limits.{Limits}
 use Rattle.jser_reader.specs.Gates.{AreLimitsOf}
-use Rattle.jser_reader.specs.Walks.{IsNew, gate_with, HasTaken, Takes, Keeps, StandsAt}
+use Rattle.jser_reader.specs.Walks.{IsNew, gate_with, Takes, Keeps, StandsAt}
 use Rattle.jser_reader.specs.declared.tally.Tally.{Tally}
 use Rattle.jser_reader.specs.Tallies.{no_tally, mark_of, tally_after, tally_stopped, whole_of, HasCounted, totals_of, AreTotals}
 use Rattle.jser_reader.specs.Takes.{TakenCases, TakesFromFor}
@@ -49,7 +50,7 @@ CountsToken old new before after =
     before.contents + 1 < 2 ^ 64 → before.earlier + (mark_of old).entries < 2 ^ 64 → after ≡ tally_after (mark_of old) (mark_of new) before
 
 pub next_item : (result : Step) (used : ℕ) (piece front : List ℕ) (gate : Gate) (old new : Seen) (before after : Tally) → IsWithin old piece front → IsBytes piece → 0 < used
-    → used ≤ length front → Takes gate (take used front) true old new → CountsToken old new before after → IsGate gate → IsItem used result
+    → used ≤ length front → Takes gate (take used front) flow.On old new → CountsToken old new before after → IsGate gate → IsItem used result
     → NextTells gate piece (Ok result) old before new after
 unfolding NextTells StandsFor
 next_item step.More used piece front gate old new before after w h some le t k g i = absurd i
@@ -99,7 +100,7 @@ spent_after : (r : Seen) (why : Stop) → r.phase ≡ phase.Stopped → r.meter.
 spent_after r why ep es e = (ep, es ∙ ap stop_after e)
 
 pub next_stops : (why : Stop) (used : ℕ) (piece front : List ℕ) (gate : Gate) (old mid new : Seen) (before after : Tally) → IsWithin old piece front → IsBytes piece → 0 < used → used ≤ length front
-    → Takes gate (take used front) false old mid → AnswersStop why mid new → after ≡ tally_stopped (mark_of old) before → NextTells gate piece (Err why) old before new after
+    → Takes gate (take used front) flow.Stopped old mid → AnswersStop why mid new → after ≡ tally_stopped (mark_of old) before → NextTells gate piece (Err why) old before new after
 unfolding NextTells StandsFor HasRefused IsSpent
 next_stops why used piece front gate old mid new before after w h some le t a ea = λ bytes st. go bytes st.0 st.1 why refl
   where
@@ -110,7 +111,7 @@ next_stops why used piece front gate old mid new before after w h some le t a ea
         let x = token_stops gate bytes piece front used refusal old mid w le h t st.taken room es in
         let s = w.short in
         let whole : StaysWhole gate (bytes ++ take used piece) after.begun =
-        stopped_whole gate old mid bytes (take used piece) refusal after.begun (subst (λ xs. Takes gate xs false old mid) (front_of_front old piece front used w le) t) es
+        stopped_whole gate old mid bytes (take used piece) refusal after.begun (subst (λ xs. Takes gate xs flow.Stopped old mid) (front_of_front old piece front used w le) t) es
         (bytes_front used piece h) st.taken (subst (λ x. IsWhole gate bytes x.begun) (sym ea) (st.whole room)) in (
           used,
           omega arith,

@@ -1,10 +1,12 @@
 -- Handles and lengths, and where they lead.
-use Rattle.std.proofs.Common.{◌≡◌, ℕ, zero, suc, ◌-◌, ◌^◌, ◌<◌, ◌≤◌, Bool, true, false, nat_le, ◌∷◌, length, Option, Some, None, refl, sym, ◌∙◌, ap, subst, arith}
+use Rattle.std.proofs.Common.{◌≡◌, ℕ, zero, suc, ◌-◌, ◌^◌, ◌<◌, ◌≤◌, true, false, nat_le, ◌∷◌, length, Option, Some, None, refl, sym, ◌∙◌, ap, subst, arith}
 use Rattle.std.proofs.lemmas.Bool.Decides.{nat_tests}
 use Rattle.jser_reading.specs.Goals.{State, settle, block_goal}
 use Rattle.jser_verdict.specs.Reasons.{Reason, no_such_handle, negative_length}
 use Rattle.jser_verdict.specs.HandleRows.{is_no_handle}
 use Rattle.jser_verdict.specs.Verdicts.{count_reason}
+use Rattle.jser_reader.specs.declared.machine.flow.Flow.{Flow}
+use Rattle.jser_reader.specs.declared.machine.flow.Flow.TheVariants as flow
 use Rattle.jser_reader.specs.declared.phase.Phase.TheVariants as phase
 use Rattle.jser_reader.specs.Reasons.{named}
 use Rattle.jser_reader.specs.Readers.{Seen, Ready, moment_of, goals_of}
@@ -13,31 +15,31 @@ use Rattle.jser_reader.specs.Handlers.{StopsWith, refusal, moved, Comes, TellsSu
 use Rattle.jser_reader.specs.Numbers.{back_reason, after_block_length}
 use Rattle.jser_reader.proofs.EndLemmas.{next_is}
 
-pub surely_refused : (reason : Reason) (told : Option Reason) (s : State) (b : Bool) (old new : Seen) → StopsWith (refusal old.meter (named reason)) old new → b ≡ false → told ≡ Some reason → TellsSurely told s b old new
+pub surely_refused : (reason : Reason) (told : Option Reason) (s : State) (b : Flow) (old new : Seen) → StopsWith (refusal old.meter (named reason)) old new → b ≡ flow.Stopped → told ≡ Some reason → TellsSurely told s b old new
 unfolding TellsSurely
 surely_refused reason told s b old new h eb et = rw eb (rw et h)
 
-pub surely_next : (told : Option Reason) (s : State) (b : Bool) (old new : Seen) → Comes old new s → b ≡ true → told ≡ None → TellsSurely told s b old new
+pub surely_next : (told : Option Reason) (s : State) (b : Flow) (old new : Seen) → Comes old new s → b ≡ flow.On → told ≡ None → TellsSurely told s b old new
 unfolding TellsSurely
 surely_next told s b old new h eb et = rw eb (rw et h)
 
 -- the handle of a reference
 
-pub low_handle : (n : ℕ) (s : State) (b : Bool) (old new : Seen) → StopsWith (refusal old.meter (named no_such_handle)) old new → b ≡ false → n < 0x7E0000 → TellsSurely (back_reason old n) s b old new
+pub low_handle : (n : ℕ) (s : State) (b : Flow) (old new : Seen) → StopsWith (refusal old.meter (named no_such_handle)) old new → b ≡ flow.Stopped → n < 0x7E0000 → TellsSurely (back_reason old n) s b old new
 low_handle n s b old new h e l =
     let is : is_no_handle old.table.entries n ≡ true = grind (arith, nat_tests) in surely_refused no_such_handle (back_reason old n) s b old new h e (rw is refl)
 
-pub high_handle : (n : ℕ) (s : State) (b : Bool) (old new : Seen) → StopsWith (refusal old.meter (named no_such_handle)) old new → b ≡ false → length old.table.entries ≤ n - 0x7E0000 → (n < 0x7E0000 → ⊥) → TellsSurely (back_reason old n) s b old new
+pub high_handle : (n : ℕ) (s : State) (b : Flow) (old new : Seen) → StopsWith (refusal old.meter (named no_such_handle)) old new → b ≡ flow.Stopped → length old.table.entries ≤ n - 0x7E0000 → (n < 0x7E0000 → ⊥) → TellsSurely (back_reason old n) s b old new
 high_handle n s b old new h e l low =
     let is : is_no_handle old.table.entries n ≡ true = grind (arith, nat_tests) in surely_refused no_such_handle (back_reason old n) s b old new h e (rw is refl)
 
-pub right_handle : (n : ℕ) (b : Bool) (old new : Seen) → Comes old new (after_value old) → b ≡ true → (n < 0x7E0000 → ⊥) → (length old.table.entries ≤ n - 0x7E0000 → ⊥) → TellsSurely (back_reason old n) (after_value old) b old new
+pub right_handle : (n : ℕ) (b : Flow) (old new : Seen) → Comes old new (after_value old) → b ≡ flow.On → (n < 0x7E0000 → ⊥) → (length old.table.entries ≤ n - 0x7E0000 → ⊥) → TellsSurely (back_reason old n) (after_value old) b old new
 right_handle n b old new h e low high =
     let is : is_no_handle old.table.entries n ≡ false = grind (arith, nat_tests) in surely_next (back_reason old n) (after_value old) b old new h e (rw is refl)
 
 -- blocks
 
-pub no_bytes : (n : ℕ) (b : Bool) (old new : Seen) → Comes old new (after_value old) → b ≡ true → n ≡ 0 → TellsSurely None (after_block_length old n) b old new
+pub no_bytes : (n : ℕ) (b : Flow) (old new : Seen) → Comes old new (after_value old) → b ≡ flow.On → n ≡ 0 → TellsSurely None (after_block_length old n) b old new
 unfolding after_block_length after_value
 no_bytes n b old new h e none =
     surely_next None (after_block_length old n) b old new
@@ -48,7 +50,7 @@ unfolding after_block_length
 block_state r zero some = absurd (omega arith)
 block_state r (suc n) some = let e : n ≡ suc n - 1 = omega arith in ap (λ k. (moment_of r, block_goal (length r.frames) (suc k) ∷ goals_of r)) e
 
-pub some_bytes : (n : ℕ) (b : Bool) (old mid new : Seen) → IsNext phase.Bytes mid.owner mid.elements mid.header mid.text mid new → b ≡ true → new.left ≡ n → (n ≡ 0 → ⊥)
+pub some_bytes : (n : ℕ) (b : Flow) (old mid new : Seen) → IsNext phase.Bytes mid.owner mid.elements mid.header mid.text mid new → b ≡ flow.On → new.left ≡ n → (n ≡ 0 → ⊥)
     → mid.frames ≡ old.frames → mid.layers ≡ old.layers → mid.table ≡ old.table → mid.refs ≡ old.refs → mid.meter ≡ old.meter
     → TellsSurely None (after_block_length old n) b old new
 unfolding Ready
@@ -62,11 +64,11 @@ some_bytes n b old mid new k e el some ef ey et er em =
     (rw at (rw ef (rw ey (rw et (rw er (record { more = n - 1; is = refl; size = size })))))) in
     surely_next None (after_block_length old n) b old new (record { ready = ready; meter = k.meter ∙ ap moved em; max = ap (λ t. t.max) (k.table ∙ et) }) e refl
 
-pub long_negative : (n : ℕ) (s : State) (b : Bool) (old new : Seen) → StopsWith (refusal old.meter (named negative_length)) old new → b ≡ false → 0x80000000 ≤ n → TellsSurely (count_reason (2 ^ 31) n) s b old new
+pub long_negative : (n : ℕ) (s : State) (b : Flow) (old new : Seen) → StopsWith (refusal old.meter (named negative_length)) old new → b ≡ flow.Stopped → 0x80000000 ≤ n → TellsSurely (count_reason (2 ^ 31) n) s b old new
 long_negative n s b old new h e l =
     let is : nat_le (2 ^ 31) n ≡ true = grind (arith, nat_tests) in surely_refused negative_length (count_reason (2 ^ 31) n) s b old new h e (rw is refl)
 
-pub long_block : (n : ℕ) (b : Bool) (old new : Seen) → TellsSurely None (after_block_length old n) b old new → (0x80000000 ≤ n → ⊥) → TellsSurely (count_reason (2 ^ 31) n) (after_block_length old n) b old new
+pub long_block : (n : ℕ) (b : Flow) (old new : Seen) → TellsSurely None (after_block_length old n) b old new → (0x80000000 ≤ n → ⊥) → TellsSurely (count_reason (2 ^ 31) n) (after_block_length old n) b old new
 long_block n b old new h l =
     let is : nat_le (2 ^ 31) n ≡ false = grind (arith, nat_tests) in
     let told : count_reason (2 ^ 31) n ≡ None = rw is refl in subst (λ t. TellsSurely t (after_block_length old n) b old new) (sym told) h

@@ -1,5 +1,5 @@
 -- Numbers: what the verdict tells of the bytes of a number, and the state to which it leads.
-use Rattle.std.proofs.Common.{◌≡◌, ℕ, zero, suc, ◌+◌, ◌-◌, ◌*◌, ◌^◌, ◌<◌, Bool, true, false, if◌then◌else◌, List, [], ◌∷◌, ◌++◌, length, Option, Some, None, refl, sym, ◌∙◌, ap, subst, arith, option_map}
+use Rattle.std.proofs.Common.{◌≡◌, ℕ, zero, suc, ◌+◌, ◌-◌, ◌*◌, ◌^◌, ◌<◌, true, false, if◌then◌else◌, List, [], ◌∷◌, ◌++◌, length, Option, Some, None, refl, sym, ◌∙◌, ap, subst, arith, option_map}
 use Rattle.jser_prim.specs.Bytes.{big_bytes}
 use Rattle.jser_table.specs.Codes.{PrimCode, size_of}
 use Rattle.jser_table.specs.Entries.{chain_at}
@@ -13,6 +13,7 @@ use Rattle.jser_verdict.specs.Reasons.{Reason, handle_space}
 use Rattle.jser_verdict.specs.Gates.{Gate}
 use Rattle.jser_verdict.specs.Verdicts.{told_if, on_number, class_handle_reason, text_handle_reason, count_reason, array_reason, flags_reason, code_reason, reason_at}
 use Rattle.jser_verdict.proofs.Fronts.{same_equal}
+use Rattle.jser_reader.specs.declared.machine.flow.Flow.{Flow}
 use Rattle.jser_reader.specs.declared.frame.Frame.{Frame}
 use Rattle.jser_reader.specs.declared.frame.Frame.TheVariants as frame
 use Rattle.jser_reader.specs.declared.frame.Owner.{Owner}
@@ -103,7 +104,7 @@ byte_judged gate p r s b told next f i h e one er ef goes =
     }
 
 -- a number ends, whole in a piece or after what was kept of it
-pub number_taken : (gate : Gate) (p : Phase) (n : ℕ) (told : Option Reason) (next : State) (found : Bool) (old mid new : Seen) (taken : List ℕ)
+pub number_taken : (gate : Gate) (p : Phase) (n : ℕ) (told : Option Reason) (next : State) (found : Flow) (old mid new : Seen) (taken : List ℕ)
     → ((s : State) → ReadyAt p mid s → Tells told next found mid new)
     → ((s : State) → ReadyAt p mid s → gate_with mid gate.answer ≡ gate → IsJudged gate told next s (cut_of old ++ taken))
     → open_phase old ≡ p → IsFixed p → (p ≡ phase.Header → ⊥) → 0 < length taken → IsNumber (size_of_phase p) n (cut_of old ++ taken)
@@ -117,7 +118,7 @@ number_taken gate p n told next found old mid new taken h j eo i other some b c 
 -- ---- handles
 
 -- the handle of a reference in a value place
-pub back_handle_taken : (gate : Gate) (n : ℕ) (found : Bool) (old mid new : Seen) (taken : List ℕ)
+pub back_handle_taken : (gate : Gate) (n : ℕ) (found : Flow) (old mid new : Seen) (taken : List ℕ)
     → TellsSurely (back_reason mid n) (after_value mid) found mid new
     → open_phase old ≡ phase.BackHandle → 0 < length taken → IsNumber 4 n (cut_of old ++ taken)
     → Counts taken old mid → Takes gate taken found old new
@@ -139,7 +140,7 @@ class_handle_goes r owner.Array k e = rw e refl
 class_handle_goes r owner.EnumConst k e = rw e refl
 class_handle_goes r owner.ClassObject k e = rw e refl
 
-pub class_handle_taken : (gate : Gate) (n : ℕ) (found : Bool) (old mid new : Seen) (taken : List ℕ)
+pub class_handle_taken : (gate : Gate) (n : ℕ) (found : Flow) (old mid new : Seen) (taken : List ℕ)
     → Tells (class_handle_reason (plain_gate mid) (label_at (class_handle_at (goal_owner mid.owner)) (suc (length mid.frames)) mid) (goal_owner mid.owner) n)
     (owner_state mid (chain_at mid.table.entries (n - 0x7E0000))) found mid new
     → open_phase old ≡ phase.ClassHandle → 0 < length taken → IsNumber 4 n (cut_of old ++ taken)
@@ -166,7 +167,7 @@ super_handle_goes r (frame.Notes last section ∷ fs) k n e = absurd n
 super_handle_goes r (frame.ExternalNotes ∷ fs) k n e = absurd n
 super_handle_goes r [] k n e = absurd n
 
-pub super_handle_taken : (gate : Gate) (n : ℕ) (found : Bool) (old mid new : Seen) (taken : List ℕ)
+pub super_handle_taken : (gate : Gate) (n : ℕ) (found : Flow) (old mid new : Seen) (taken : List ℕ)
     → (HasDescriptor mid.frames → Tells (super_handle_reason mid n) (closed_state mid (Some (n - 0x7E0000))) found mid new)
     → open_phase old ≡ phase.SuperHandle → 0 < length taken → IsNumber 4 n (cut_of old ++ taken)
     → Counts taken old mid → Takes gate taken found old new
@@ -181,7 +182,7 @@ super_handle_taken gate n found old mid new taken h ep some b c =
     ep tt (λ e. absurd (cc)) some b c
 
 -- the handle of a reference in a text place
-pub text_handle_taken : (gate : Gate) (n : ℕ) (found : Bool) (old mid new : Seen) (taken : List ℕ)
+pub text_handle_taken : (gate : Gate) (n : ℕ) (found : Flow) (old mid new : Seen) (taken : List ℕ)
     → (IsForm mid.text true → IsInside mid.text mid.frames
     → TellsSurely (text_handle_reason (label_at text_handle_at (text_depth mid mid.text) mid) n) (settle (moment_of mid) (text_rest mid mid.text)) found mid new)
     → open_phase old ≡ phase.TextHandle → 0 < length taken → IsNumber 4 n (cut_of old ++ taken)
@@ -199,7 +200,7 @@ text_handle_taken gate n found old mid new taken h ep some b c =
 -- ---- lengths and counts
 
 -- the length of an array, of elements with this type, if they are raw values
-pub array_length_taken : (gate : Gate) (n : ℕ) (found : Bool) (old mid new : Seen) (taken : List ℕ)
+pub array_length_taken : (gate : Gate) (n : ℕ) (found : Flow) (old mid new : Seen) (taken : List ℕ)
     → ((elements : Option PrimCode) → mid.elements ≡ option_map size_of elements → Tells (array_reason (plain_gate mid) n) (after_length mid elements n) found mid new)
     → open_phase old ≡ phase.ArrayLength → 0 < length taken → IsNumber 4 n (cut_of old ++ taken)
     → Counts taken old mid → Takes gate taken found old new
@@ -215,7 +216,7 @@ array_length_taken gate n found old mid new taken h ep some b c = λ s cut st.
     ep tt some (let l = number_long 4 n (cut_of old ++ taken) b in omega arith) (λ _ a c d e. tt) c
 
 -- the length of a block
-pub block_length_taken : (gate : Gate) (n : ℕ) (found : Bool) (old mid new : Seen) (taken : List ℕ)
+pub block_length_taken : (gate : Gate) (n : ℕ) (found : Flow) (old mid new : Seen) (taken : List ℕ)
     → TellsSurely (count_reason (2 ^ 31) n) (after_block_length mid n) found mid new
     → open_phase old ≡ phase.BlockLength4 → 0 < length taken → IsNumber 4 n (cut_of old ++ taken)
     → Counts taken old mid → Takes gate taken found old new
@@ -230,7 +231,7 @@ block_length_taken gate n found old mid new taken h ep some b c =
     ep tt (λ e. absurd (cc)) some b c
 
 -- the length of a short block, of one byte
-pub byte_length_taken : (gate : Gate) (n : ℕ) (found : Bool) (old mid new : Seen)
+pub byte_length_taken : (gate : Gate) (n : ℕ) (found : Flow) (old mid new : Seen)
     → TellsSurely None (after_block_length mid n) found mid new
     → old.phase ≡ phase.BlockLength1 → Counts (n ∷ []) old mid → Takes gate (n ∷ []) found old new
 unfolding after_block_length
@@ -245,7 +246,7 @@ byte_length_taken gate n found old mid new h ep c =
 -- ---- a descriptor
 
 -- the suid of a plain descriptor, whose handle it assigns
-pub suid_taken : (gate : Gate) (n : ℕ) (found : Bool) (old mid new : Seen) (taken : List ℕ)
+pub suid_taken : (gate : Gate) (n : ℕ) (found : Flow) (old mid new : Seen) (taken : List ℕ)
     → Tells (told_if (is_full mid) handle_space None) (after_suid mid) found mid new
     → open_phase old ≡ phase.Suid → 0 < length taken → IsNumber 8 n (cut_of old ++ taken)
     → Counts taken old mid → Takes gate taken found old new
@@ -260,7 +261,7 @@ suid_taken gate n found old mid new taken h ep some b c =
     ep tt (λ e. absurd (cc)) some b c
 
 -- its flags
-pub flags_taken : (gate : Gate) (n : ℕ) (found : Bool) (old mid new : Seen)
+pub flags_taken : (gate : Gate) (n : ℕ) (found : Flow) (old mid new : Seen)
     → (HasDescriptor mid.frames → Tells (flags_reason (top_role mid.frames) n) (field_count_state mid n) found mid new)
     → old.phase ≡ phase.Flags → Counts (n ∷ []) old mid → Takes gate (n ∷ []) found old new
 flags_taken gate n found old mid new h ep c =
@@ -271,7 +272,7 @@ flags_taken gate n found old mid new h ep c =
     (ap (λ q. open_in q old.meter.cut_phase) ep) (ap (λ q. cut_in q old.meter.kept) ep) tt (λ e. absurd (cc)) c
 
 -- the number of its fields
-pub field_count_taken : (gate : Gate) (n : ℕ) (found : Bool) (old mid new : Seen) (taken : List ℕ)
+pub field_count_taken : (gate : Gate) (n : ℕ) (found : Flow) (old mid new : Seen) (taken : List ℕ)
     → (HasDescriptor mid.frames → Tells (count_reason (2 ^ 15) n) (after_field_count mid n) found mid new)
     → open_phase old ≡ phase.FieldCount → 0 < length taken → IsNumber 2 n (cut_of old ++ taken)
     → Counts taken old mid → Takes gate taken found old new
@@ -291,7 +292,7 @@ unfolding after_code
 code_goes r zero b e h = absurd (omega arith)
 code_goes r (suc n) b e h = let d : suc n - 1 ≡ n = omega arith in rw e (rw d refl)
 
-pub type_code_taken : (gate : Gate) (b : ℕ) (found : Bool) (old mid new : Seen)
+pub type_code_taken : (gate : Gate) (b : ℕ) (found : Flow) (old mid new : Seen)
     → (HasDescriptor mid.frames → 0 < mid.header.fields → Tells (code_reason mid.header.seen b) (after_code mid b) found mid new)
     → old.phase ≡ phase.TypeCode → Counts (b ∷ []) old mid → Takes gate (b ∷ []) found old new
 type_code_taken gate b found old mid new h ep c =
@@ -303,7 +304,7 @@ type_code_taken gate b found old mid new h ep c =
     (ap (λ q. open_in q old.meter.cut_phase) ep) (ap (λ q. cut_in q old.meter.kept) ep) tt (λ e. absurd (cc)) c
 
 -- the number of interfaces of a proxy descriptor
-pub interface_count_taken : (gate : Gate) (n : ℕ) (found : Bool) (old mid new : Seen) (taken : List ℕ)
+pub interface_count_taken : (gate : Gate) (n : ℕ) (found : Flow) (old mid new : Seen) (taken : List ℕ)
     → (HasDescriptor mid.frames → Tells (count_reason (2 ^ 31) n) (after_interfaces mid n) found mid new)
     → open_phase old ≡ phase.InterfaceCount → 0 < length taken → IsNumber 4 n (cut_of old ++ taken)
     → Counts taken old mid → Takes gate taken found old new

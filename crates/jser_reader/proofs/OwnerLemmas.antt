@@ -10,6 +10,8 @@ use Rattle.jser_reading.specs.Moments.{assign}
 use Rattle.jser_reading.specs.Goals.{State, Part, prim_parts, value_parts, annotation_if, section_parts, object_parts, parts_goal, settle}
 use Rattle.jser_verdict.specs.Reasons.{handle_space}
 use Rattle.jser_verdict.specs.Verdicts.{told_if}
+use Rattle.jser_reader.specs.declared.machine.flow.Flow.{Flow}
+use Rattle.jser_reader.specs.declared.machine.flow.Flow.TheVariants as flow
 use Rattle.jser_reader.specs.declared.frame.Frame.{Frame}
 use Rattle.jser_reader.specs.declared.frame.Frame.TheVariants as frame
 use Rattle.jser_reader.specs.declared.frame.Owner.{Owner}
@@ -29,11 +31,11 @@ use Rattle.jser_reader.proofs.ValueLemmas.{no_entry}
 
 -- the stack
 
-pub pushes : (old new : Seen) (f : Frame) (b : Bool) → new ≡ pushed old f → b ≡ true → Pushes f b old new
+pub pushes : (old new : Seen) (f : Frame) (b : Flow) → new ≡ pushed old f → b ≡ flow.On → Pushes f b old new
 unfolding Pushes
 pushes old new f b h e = rw e h
 
-pub pushes_nothing : (old new : Seen) (f : Frame) (b : Bool) → StopsWith stop.OutOfMemory old new → b ≡ false → Pushes f b old new
+pub pushes_nothing : (old new : Seen) (f : Frame) (b : Flow) → StopsWith stop.OutOfMemory old new → b ≡ flow.Stopped → Pushes f b old new
 unfolding Pushes
 pushes_nothing old new f b h e = rw e h
 
@@ -68,22 +70,22 @@ same_object old mid chain ef ey et er =
     ∙ ap (λ T. settle (record { table = T.entries; places = mid.refs }) (parts_goal (suc (length old.frames)) (object_parts (is_external chain) chain) ∷ frame_goals T.chains old.layers old.frames)) et
     ∙ ap (λ k. settle (record { table = old.table.entries; places = k }) (parts_goal (suc (length old.frames)) (object_parts (is_external chain) chain) ∷ frame_goals old.table.chains old.layers old.frames)) er
 
-pub no_room : (chain : List Layer) (f : Frame) (b found : Bool) (old new : Seen) → Pushes f b old new → b ≡ false → found ≡ false → BeginsObject chain found old new
+pub no_room : (chain : List Layer) (f : Frame) (b found : Flow) (old new : Seen) → Pushes f b old new → b ≡ flow.Stopped → found ≡ flow.Stopped → BeginsObject chain found old new
 unfolding Pushes BeginsObject
-no_room chain f true found old new h e ef = absurd (cc)
-no_room chain f false found old new h e ef = rw ef h
+no_room chain f flow.On found old new h e ef = absurd (cc)
+no_room chain f flow.Stopped found old new h e ef = rw ef h
 
-pub external_object : (chain : List Layer) (b found : Bool) (old mid new : Seen) → Pushes frame.ExternalNotes b old mid → b ≡ true → found ≡ true → is_external chain ≡ true
+pub external_object : (chain : List Layer) (b found : Flow) (old mid new : Seen) → Pushes frame.ExternalNotes b old mid → b ≡ flow.On → found ≡ flow.On → is_external chain ≡ true
     → new.phase ≡ phase.Note → new.frames ≡ mid.frames → new.layers ≡ mid.layers → new.table ≡ mid.table → new.refs ≡ mid.refs → new.meter ≡ mid.meter
     → BeginsObject chain found old new
 unfolding Pushes BeginsObject object_state Ready
-external_object chain false found old mid new h e et x ep ef ey eb er em = absurd (cc)
-external_object chain true found old mid new h e et x ep ef ey eb er em =
+external_object chain flow.Stopped found old mid new h e et x ep ef ey eb er em = absurd (cc)
+external_object chain flow.On found old mid new h e et x ep ef ey eb er em =
     let made_new = made new phase.Note (frame.ExternalNotes ∷ old.frames) old.layers old.table old.refs new.left ep
     (ef ∙ ap (λ r. r.frames) h) (ey ∙ ap (λ r. r.layers) h) (eb ∙ ap (λ r. r.table) h) (er ∙ ap (λ r. r.refs) h) refl in
     rw et (rw x (rw made_new (tt, refl), em ∙ ap (λ r. r.meter) h, ap (λ t. t.max) eb ∙ ap (λ r. r.table.max) h))
 
-pub bare_object : (C : List (List Layer)) (chain : List Layer) (found : Bool) (old new : Seen) → AreSections C chain None → found ≡ true → is_external chain ≡ false
+pub bare_object : (C : List (List Layer)) (chain : List Layer) (found : Flow) (old new : Seen) → AreSections C chain None → found ≡ flow.On → is_external chain ≡ false
     → Ready new (after_value old) → new.meter ≡ old.meter → Kept old new → BeginsObject chain found old new
 unfolding BeginsObject object_state after_value
 bare_object C chain found old new none et x ready em kept =
@@ -93,13 +95,13 @@ bare_object C chain found old new none et x ready em kept =
     sym (ap (λ ps. settle (moment_of old) (parts_goal (depth_of old) ps ∷ goals_of old)) parts) in
     rw et (subst (Ready new) same ready, em, ap (λ t. t.max) kept.table)
 
-pub filled_object : (chain : List Layer) (sections : Sections) (b found : Bool) (old mid new : Seen)
+pub filled_object : (chain : List Layer) (sections : Sections) (b found : Flow) (old mid new : Seen)
     → PartGives true mid new (section_parts (layer_of mid.table.chains sections.first ∷ under mid.table.chains sections.last sections.first))
-    → Pushes frame.ExternalNotes b old mid → b ≡ true → found ≡ true → is_external chain ≡ false
+    → Pushes frame.ExternalNotes b old mid → b ≡ flow.On → found ≡ flow.On → is_external chain ≡ false
     → AreSections old.table.chains chain (Some sections) → new.meter ≡ mid.meter → BeginsObject chain found old new
 unfolding Pushes BeginsObject PartGives before_parts object_state
-filled_object chain sections false found old mid new p h e et x are em = absurd (cc)
-filled_object chain sections true found old mid new p h e et x are em =
+filled_object chain sections flow.Stopped found old mid new p h e et x are em = absurd (cc)
+filled_object chain sections flow.On found old mid new p h e et x are em =
     let C = old.table.chains in
     let parts : object_parts (is_external chain) chain ≡ section_parts (layer_of C sections.first ∷ under C sections.last sections.first) =
     ap (λ b. object_parts b chain) x ∙ sym (filled_parts chain) ∙ ap section_parts are.1 in
@@ -109,19 +111,19 @@ filled_object chain sections true found old mid new p h e et x are em =
     let same = at_mid ∙ sym (ap (λ ps. settle (moment_of old) (parts_goal (depth_of old) ps ∷ goals_of old)) parts) in
     rw et (subst (Ready new) same p.0, em ∙ ap (λ r. r.meter) h, ap (λ t. t.max) p.1.table ∙ ap (λ r. r.table.max) h)
 
-pub object_begins : (chain : List Layer) (b : Bool) (old mid new : Seen) → BeginsObject chain b mid new
+pub object_begins : (chain : List Layer) (b : Flow) (old mid new : Seen) → BeginsObject chain b mid new
     → mid.frames ≡ old.frames → mid.layers ≡ old.layers → mid.table ≡ old.table → mid.refs ≡ old.refs → mid.meter ≡ moved old.meter
     → Tells None (object_state old chain) b old new
 unfolding BeginsObject Tells
-object_begins chain false old mid new h ef ey et er em = record { phase = h.phase; stop = h.stop }
-object_begins chain true old mid new h ef ey et er em = record { ready = subst (Ready new) (same_object old mid chain ef ey et er) h.0; meter = h.1 ∙ em; max = h.2 ∙ ap (λ t. t.max) et }
+object_begins chain flow.Stopped old mid new h ef ey et er em = record { phase = h.phase; stop = h.stop }
+object_begins chain flow.On old mid new h ef ey et er em = record { ready = subst (Ready new) (same_object old mid chain ef ey et er) h.0; meter = h.1 ∙ em; max = h.2 ∙ ap (λ t. t.max) et }
 
 -- owners
 
-pub no_owner : (s : State) (b : Bool) (old new : Seen) → Assigns other_entry None old new → b ≡ false → Tells (told_if (is_full old) handle_space None) s b old new
+pub no_owner : (s : State) (b : Flow) (old new : Seen) → Assigns other_entry None old new → b ≡ flow.Stopped → Tells (told_if (is_full old) handle_space None) s b old new
 no_owner s b old new h e = no_entry other_entry s b old new h e
 
-owned : (o : Owner) (number : ℕ) (chain : List Layer) (b : Bool) (old mid new : Seen) → Assigns other_entry (Some number) old mid → old.owner ≡ o
+owned : (o : Owner) (number : ℕ) (chain : List Layer) (b : Flow) (old mid new : Seen) → Assigns other_entry (Some number) old mid → old.owner ≡ o
     → Tells None (owner_state_at o old chain) b mid new → Tells (told_if (is_full old) handle_space None) (owner_state old chain) b old new
 unfolding Assigns owner_state Tells
 owned o number chain b old mid new h eo k =
@@ -129,11 +131,11 @@ owned o number chain b old mid new h eo k =
     let same : owner_state_at o old chain ≡ owner_state_at old.owner old chain = ap (λ w. owner_state_at w old chain) (sym eo) in
     subst (λ t. TellCases t (owner_state_at old.owner old chain) b old new) (sym told) (subst (λ s. TellCases None s b old new) same (from_old b k))
   where
-    from_old : (b : Bool) → TellCases None (owner_state_at o old chain) b mid new → TellCases None (owner_state_at o old chain) b old new
-    from_old true k = record { ready = k.ready; meter = k.meter ∙ ap (λ r. moved r.meter) h.2; max = k.max ∙ ap (λ r. r.table.max) h.2 }
-    from_old false k = record { phase = k.phase; stop = k.stop }
+    from_old : (b : Flow) → TellCases None (owner_state_at o old chain) b mid new → TellCases None (owner_state_at o old chain) b old new
+    from_old flow.On k = record { ready = k.ready; meter = k.meter ∙ ap (λ r. moved r.meter) h.2; max = k.max ∙ ap (λ r. r.table.max) h.2 }
+    from_old flow.Stopped k = record { phase = k.phase; stop = k.stop }
 
-pub object_owned : (number n : ℕ) (b : Bool) (old mid new : Seen) → Tells None (object_state mid (chain_in mid.table.chains n)) b mid new
+pub object_owned : (number n : ℕ) (b : Flow) (old mid new : Seen) → Tells None (object_state mid (chain_in mid.table.chains n)) b mid new
     → Assigns other_entry (Some number) old mid → old.owner ≡ owner.Object
     → Tells (told_if (is_full old) handle_space None) (owner_state old (chain_in old.table.chains n)) b old new
 unfolding Assigns
@@ -142,7 +144,7 @@ object_owned number n b old mid new k h eo =
     ap (λ r. object_state r (chain_in r.table.chains n)) h.2 in
     owned owner.Object number (chain_in old.table.chains n) b old mid new h eo (subst (λ s. Tells None s b mid new) same k)
 
-pub array_owned : (number n : ℕ) (b : Bool) (old mid new : Seen) → IsNext phase.ArrayLength mid.owner (option_map size_of (elements_of (chain_in mid.table.chains n))) mid.header mid.text mid new → b ≡ true
+pub array_owned : (number n : ℕ) (b : Flow) (old mid new : Seen) → IsNext phase.ArrayLength mid.owner (option_map size_of (elements_of (chain_in mid.table.chains n))) mid.header mid.text mid new → b ≡ flow.On
     → Assigns other_entry (Some number) old mid → old.owner ≡ owner.Array
     → Tells (told_if (is_full old) handle_space None) (owner_state old (chain_in old.table.chains n)) b old new
 unfolding Assigns Ready
@@ -154,7 +156,7 @@ array_owned number n b old mid new k e h eo =
     owned owner.Array number (chain_in old.table.chains n) b old mid new h eo
     (tells_next None (owner_state_at owner.Array old (chain_in old.table.chains n)) b mid new (record { ready = ready; meter = k.meter; max = ap (λ t. t.max) k.table }) e refl)
 
-pub constant_owned : (number : ℕ) (chain : List Layer) (b : Bool) (old mid new : Seen) → IsNext phase.TextTag mid.owner mid.elements mid.header text.Value mid new → b ≡ true
+pub constant_owned : (number : ℕ) (chain : List Layer) (b : Flow) (old mid new : Seen) → IsNext phase.TextTag mid.owner mid.elements mid.header text.Value mid new → b ≡ flow.On
     → Assigns other_entry (Some number) old mid → old.owner ≡ owner.EnumConst
     → Tells (told_if (is_full old) handle_space None) (owner_state old chain) b old new
 unfolding Assigns Ready
@@ -164,7 +166,7 @@ constant_owned number chain b old mid new k e h eo =
     owned owner.EnumConst number chain b old mid new h eo
     (tells_next None (owner_state_at owner.EnumConst old chain) b mid new (record { ready = ready; meter = k.meter; max = ap (λ t. t.max) k.table }) e refl)
 
-pub class_owned : (number : ℕ) (chain : List Layer) (b : Bool) (old mid new : Seen) → Comes mid new (after_value mid) → b ≡ true
+pub class_owned : (number : ℕ) (chain : List Layer) (b : Flow) (old mid new : Seen) → Comes mid new (after_value mid) → b ≡ flow.On
     → Assigns other_entry (Some number) old mid → old.owner ≡ owner.ClassObject
     → Tells (told_if (is_full old) handle_space None) (owner_state old chain) b old new
 unfolding Assigns after_value

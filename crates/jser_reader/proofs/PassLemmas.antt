@@ -16,6 +16,7 @@ use Rattle.jser_reading.specs.ComesNext.{ComesNext}
 use Rattle.jser_reading.specs.GateLimits.{begins_place}
 use Rattle.jser_reading.specs.Totals.{one_more_if, count_of, number_if}
 use Rattle.jser_verdict.specs.Gates.{Gate, IsGate, pass}
+use Rattle.jser_reader.specs.declared.machine.flow.Flow.TheVariants as flow
 use Rattle.jser_reader.specs.declared.item.Item.TheVariants as item
 use Rattle.jser_reader.specs.declared.item.Step.TheVariants as step
 use Rattle.jser_reader.specs.declared.machine.pass.passed.Passed.{Passed}
@@ -146,7 +147,7 @@ pass_stopped gate piece r tally e = record {
 
 -- then the piece does not end inside it
 ended_inside : (gate : Gate) (piece : List ℕ) (used : ℕ) (old new : Seen) (tally : Tally) (front : List Piece) (cut : List ℕ) (label : Label)
-    → Takes gate (take used piece) true old new → StandsIn gate front cut old tally → ComesNext front label → EndsInside label.position (cut ++ piece) → ⊥
+    → Takes gate (take used piece) flow.On old new → StandsIn gate front cut old tally → ComesNext front label → EndsInside label.position (cut ++ piece) → ⊥
 unfolding Takes
 ended_inside gate piece used old new tally front cut label t st comes inside =
     let s = left begin_state front in
@@ -248,7 +249,7 @@ quiet_place phase.Cut r s cut token q h =
 quiet_place phase.Stopped r s cut token q h = absurd q
 quiet_place p r s cut token q h = quiet_ready p r s token q h.0
 
-pub quiet_refs : (gate : Gate) (old new : Seen) (bytes taken : List ℕ) → Takes gate taken true old new → IsBytes taken → HasTaken gate bytes old → IsQuiet old.phase
+pub quiet_refs : (gate : Gate) (old new : Seen) (bytes taken : List ℕ) → Takes gate taken flow.On old new → IsBytes taken → HasTaken gate bytes old → IsQuiet old.phase
     → new.refs ≡ old.refs
 unfolding Takes took_stands
 quiet_refs gate old new bytes taken t hb st q =
@@ -300,7 +301,7 @@ quiet_tally old new tally et er =
 pub quiet_stopped : (old : Seen) (tally : Tally) → IsQuiet old.phase → tally ≡ tally_stopped (mark_of old) tally
 quiet_stopped old tally q = ap (λ n. record tally { begun = n }) (sym (ap (λ b. if b then old.meter.at else tally.begun) (quiet_top old.phase q)))
 
-pub quiet_takes : (gate : Gate) (used : ℕ) (piece : List ℕ) (old new : Seen) (tally : Tally) → used ≤ length piece → Takes gate (take used piece) true old new
+pub quiet_takes : (gate : Gate) (used : ℕ) (piece : List ℕ) (old new : Seen) (tally : Tally) → used ≤ length piece → Takes gate (take used piece) flow.On old new
     → IsQuiet old.phase → CanPass old piece → Passes gate piece (Some used) old tally new tally
 unfolding PassTells PassInside StandsFor
 quiet_takes gate used piece old new tally le t q can = record {
@@ -353,7 +354,7 @@ passes_stop gate used took piece old new before after k e can ea =
       inside = λ front cut label st comes inside other none. runs_out t.1 t.2 front cut label st comes inside other none;
     }
   where
-    halts : 0 < used → used ≤ length piece → Takes gate (take used piece) false old new → (bytes : List ℕ) → HasCounted gate bytes old before → length bytes ≤ gate.bytes
+    halts : 0 < used → used ≤ length piece → Takes gate (take used piece) flow.Stopped old new → (bytes : List ℕ) → HasCounted gate bytes old before → length bytes ≤ gate.bytes
         → (why : Stop) → new.meter.stop ≡ why → HaltCases gate bytes piece after why
     halts some le t bytes st room (stop.Refused refusal) es = (
       used,
@@ -366,7 +367,7 @@ passes_stop gate used took piece old new before after k e can ea =
     halts some le t bytes st room stop.OutOfMemory es = tt
     halts some le t bytes st room stop.Spent es = never_spent gate bytes (take used piece) old new t st.taken es
 
-    runs_out : used ≤ length piece → Takes gate (take used piece) false old new → (front : List Piece) (cut : List ℕ) (label : Label) → StandsIn gate front cut old before
+    runs_out : used ≤ length piece → Takes gate (take used piece) flow.Stopped old new → (front : List Piece) (cut : List ℕ) (label : Label) → StandsIn gate front cut old before
         → ComesNext front label → EndsInside label.position (cut ++ piece) → (IsCheckedName label.position → ⊥) → new.meter.stop ≡ stop.OutOfMemory → ⊥
     runs_out le t front cut label st comes inside other none =
         let s : State = left begin_state front in

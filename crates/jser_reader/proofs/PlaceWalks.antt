@@ -1,5 +1,5 @@
 -- Tags: what the verdict tells of the byte at a place, and the state to which it leads.
-use Rattle.std.proofs.Common.{◌≡◌, ℕ, suc, Bool, true, List, [], ◌∷◌, length, Option, Some, None, refl, sym, ◌∙◌, ap, arith}
+use Rattle.std.proofs.Common.{◌≡◌, ℕ, suc, true, List, [], ◌∷◌, length, Option, Some, None, refl, sym, ◌∙◌, ap, arith}
 use Rattle.jser_reading.specs.Roles.{object_owner, array_owner, enum_owner, class_owner}
 use Rattle.jser_reading.specs.Roles.{Owner as GoalOwner}
 use Rattle.jser_reading.specs.Moments.{Moment, tick}
@@ -12,6 +12,7 @@ use Rattle.jser_reading.proofs.PlainVerdict.{whole}
 use Rattle.jser_verdict.specs.Gates.{Gate}
 use Rattle.jser_verdict.specs.Verdicts.{content_reason, inner_reason, class_tag_reason, other_tag_reason}
 use Rattle.jser_verdict.proofs.Completes.{IsToken, top_byte, annotation_byte, value_byte, object_byte, array_byte, enum_byte, class_byte, superclass_byte, text_place_byte}
+use Rattle.jser_reader.specs.declared.machine.flow.Flow.{Flow}
 use Rattle.jser_reader.specs.declared.frame.Frame.{Frame}
 use Rattle.jser_reader.specs.declared.frame.Frame.TheVariants as frame
 use Rattle.jser_reader.specs.declared.phase.Phase.TheVariants as phase
@@ -83,7 +84,7 @@ top_judged gate r b s h e = record {
     state : s ≡ (moment_of r, goals_of r)
     state = rw h.0 h.1
 
-pub top_taken : (gate : Gate) (b : ℕ) (found : Bool) (old mid new : Seen)
+pub top_taken : (gate : Gate) (b : ℕ) (found : Flow) (old mid new : Seen)
     → (mid.frames ≡ [] → Tells (content_reason (plain_gate mid) (label_at top_at 1 mid) b) (after_content mid (tag_from b)) found mid new)
     → old.phase ≡ phase.Top → Counts (b ∷ []) old mid
     → Takes gate (b ∷ []) found old new
@@ -123,7 +124,7 @@ note_judged gate r b s h e = record {
       (λ f a. ap (λ t. settled (advance t f)) h.1 ∙ note_goes r r.frames f h.0 refl a) refl (λ _. refl);
 }
 
-pub note_taken : (gate : Gate) (b : ℕ) (found : Bool) (old mid new : Seen)
+pub note_taken : (gate : Gate) (b : ℕ) (found : Flow) (old mid new : Seen)
     → (HasNotes mid.frames → Tells (inner_reason (plain_gate mid) (label_at annotation_at (suc (length mid.frames)) mid) b) (after_content mid (tag_from b)) found mid new)
     → old.phase ≡ phase.Note → Counts (b ∷ []) old mid
     → Takes gate (b ∷ []) found old new
@@ -155,7 +156,7 @@ value_judged gate r b s h e = record {
       (λ f a. ap (λ t. settled (advance t f)) h.1 ∙ value_goes r r.frames f h.0 refl a) refl (λ _. refl);
 }
 
-pub value_taken : (gate : Gate) (b : ℕ) (found : Bool) (old mid new : Seen)
+pub value_taken : (gate : Gate) (b : ℕ) (found : Flow) (old mid new : Seen)
     → Tells (inner_reason (plain_gate mid) (label_at value_at (suc (length mid.frames)) mid) b) (after_content mid (tag_from b)) found mid new
     → old.phase ≡ phase.Value → Counts (b ∷ []) old mid
     → Takes gate (b ∷ []) found old new
@@ -196,7 +197,7 @@ class_judged gate r b s h e = record {
       (λ f a. ap (λ t. settled (advance t f)) h ∙ class_goes r (goal_owner r.owner) f refl a) refl (λ _. refl);
 }
 
-pub class_tag_taken : (gate : Gate) (b : ℕ) (found : Bool) (old mid new : Seen)
+pub class_tag_taken : (gate : Gate) (b : ℕ) (found : Flow) (old mid new : Seen)
     → Tells (class_tag_reason (plain_gate mid) (label_at (class_place_at (goal_owner mid.owner)) (suc (length mid.frames)) mid) (goal_owner mid.owner) b)
     (after_class_tag mid (tag_from b)) found mid new
     → old.phase ≡ phase.ClassTag → Counts (b ∷ []) old mid
@@ -235,7 +236,7 @@ super_judged gate r b s h e = record {
       (λ f a. ap (λ t. settled (advance t f)) h.1 ∙ super_goes r r.frames f h.0 refl a) refl (λ _. refl);
 }
 
-pub super_tag_taken : (gate : Gate) (b : ℕ) (found : Bool) (old mid new : Seen)
+pub super_tag_taken : (gate : Gate) (b : ℕ) (found : Flow) (old mid new : Seen)
     → (HasDescriptor mid.frames → Tells (super_reason mid b) (after_super_tag mid (tag_from b)) found mid new)
     → old.phase ≡ phase.SuperTag → Counts (b ∷ []) old mid
     → Takes gate (b ∷ []) found old new
@@ -271,7 +272,7 @@ text_tag_judged gate r b s h e = record {
       (λ f a. ap (λ t. settled (advance t f)) h.2 ∙ text_place_goes r r.text f h.0 refl a) refl (λ _. refl);
 }
 
-pub text_tag_taken : (gate : Gate) (b : ℕ) (found : Bool) (old mid new : Seen)
+pub text_tag_taken : (gate : Gate) (b : ℕ) (found : Flow) (old mid new : Seen)
     → (IsForm mid.text true → IsInside mid.text mid.frames
     → Tells (other_tag_reason (plain_gate mid) (label_at text_place_at (text_depth mid mid.text) mid) b) (after_text_tag mid (tag_from b)) found mid new)
     → old.phase ≡ phase.TextTag → Counts (b ∷ []) old mid

@@ -1,5 +1,5 @@
 -- Raw values, the bytes of a block, and the walk over them: any bytes, so many.
-use Rattle.std.proofs.Common.{◌≡◌, ℕ, suc, ◌+◌, ◌*◌, ◌<◌, ◌≤◌, true, List, ◌∷◌, ◌++◌, length, Some, None, refl, sym, ◌∙◌, ap, ap₂, subst, arith, length-append}
+use Rattle.std.proofs.Common.{◌≡◌, ℕ, suc, ◌+◌, ◌*◌, ◌<◌, ◌≤◌, List, ◌∷◌, ◌++◌, length, Some, None, refl, sym, ◌∙◌, ap, ap₂, subst, arith, length-append}
 use Rattle.jser_table.specs.Codes.{PrimCode, size_of}
 use Rattle.jser_reading.specs.Labels.{StreamToken, prims_token, bytes_token, Label}
 use Rattle.jser_reading.specs.TokensFromBytes.{size_in, token_in, prims_in}
@@ -9,6 +9,7 @@ use Rattle.jser_reading.specs.Machine.{advance}
 use Rattle.jser_reading.specs.Scanner.{more, IsUndecided}
 use Rattle.jser_verdict.specs.Gates.{Gate}
 use Rattle.jser_verdict.specs.Verdicts.{reason_at, verdict}
+use Rattle.jser_reader.specs.declared.machine.flow.Flow.TheVariants as flow
 use Rattle.jser_reader.specs.declared.phase.Phase.TheVariants as phase
 use Rattle.jser_reader.specs.Stacks.{FitsDepth}
 use Rattle.jser_reader.specs.Readers.{Seen, moment_of, goals_of}
@@ -68,12 +69,12 @@ same_block s bytes old mid c n e = rw c.frames (rw c.layers (rw c.table (rw c.re
 -- the last raw bytes end the token
 raw_taken : (gate : Gate) (old mid new : Seen) (s : State) (cut taken : List ℕ) (size : ℕ) (token : List ℕ → StreamToken)
     → IsRaw (label_of (settled s)) size token
-    → Tells None (after_value mid) true mid new → Stands gate old (settled s) cut → Counts taken old mid
+    → Tells None (after_value mid) flow.On mid new → Stands gate old (settled s) cut → Counts taken old mid
     → 0 < length taken → length (cut ++ taken) ≡ size
     → settled (advance (settled s) (token (cut ++ taken))) ≡ after_value mid
-    → Took gate s cut taken true old new
+    → Took gate s cut taken flow.On old new
 raw_taken gate old mid new s cut taken size token i h st c some n goes =
-    judged gate None (after_value mid) true old mid new s cut taken h st c some
+    judged gate None (after_value mid) flow.On old mid new s cut taken h st c some
     (raw_undecided gate (label_of (settled s)) size token (cut ++ taken) i (omega arith)) (i.quiet gate (cut ++ taken))
     (λ _. record {
       token = token (cut ++ taken);
@@ -83,9 +84,9 @@ raw_taken gate old mid new s cut taken size token i h st c some n goes =
     })
     (λ stops. absurd (cc))
 
-pub prims_taken : (gate : Gate) (old mid new : Seen) (taken : List ℕ) → Tells None (after_value mid) true mid new
+pub prims_taken : (gate : Gate) (old mid new : Seen) (taken : List ℕ) → Tells None (after_value mid) flow.On mid new
     → old.phase ≡ phase.Prims → 0 < length taken → length taken ≡ old.left → Counts taken old mid
-    → Takes gate taken true old new
+    → Takes gate taken flow.On old new
 unfolding Takes
 prims_taken gate old mid new taken h ep some n c = λ s cut st.
     let x : PrimsStands old (settled s) cut = subst (λ p. StandsAt p old (settled s) cut) ep st.stands in
@@ -95,9 +96,9 @@ prims_taken gate old mid new taken h ep some n c = λ s cut st.
     (prims_raw (settled s) old x.depth x.type_code x.more x.parts x.goals x.is) h st c some (l ∙ ap (λ k. length cut + k) n ∙ z)
     (ap (λ t. settled (advance t (prims_token (prims_in x.type_code (suc x.more) (cut ++ taken))))) x.is ∙ x.after ∙ same_after taken old mid c)
 
-pub block_taken : (gate : Gate) (old mid new : Seen) (taken : List ℕ) → Tells None (after_value mid) true mid new
+pub block_taken : (gate : Gate) (old mid new : Seen) (taken : List ℕ) → Tells None (after_value mid) flow.On mid new
     → old.phase ≡ phase.Bytes → 0 < length taken → length taken ≡ old.left → Counts taken old mid
-    → Takes gate taken true old new
+    → Takes gate taken flow.On old new
 unfolding Takes
 block_taken gate old mid new taken h ep some n c = λ s cut st.
     let x : BytesStands old (settled s) cut = subst (λ p. StandsAt p old (settled s) cut) ep st.stands in

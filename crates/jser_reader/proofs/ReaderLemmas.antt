@@ -5,6 +5,7 @@ use Rattle.jser_grammar.specs.Parts.{IsBytes}
 use Rattle.jser_reading.specs.Machine.{begin_state, left}
 use Rattle.jser_verdict.specs.Gates.{Gate}
 use Rattle.jser_verdict.proofs.ByteLists.{bytes_both, bytes_right}
+use Rattle.jser_reader.specs.declared.machine.flow.Flow.TheVariants as flow
 use Rattle.jser_reader.specs.declared.phase.Phase.TheVariants as phase
 use Rattle.jser_reader.specs.declared.refusal.Refusal.{Refusal}
 use Rattle.jser_reader.specs.declared.refusal.Reason.TheVariants as reason
@@ -61,7 +62,7 @@ within_room r piece front w some = w.room some
 -- ---- a token ends, or goes on
 
 pub token_ends : (gate : Gate) (bytes piece front : List ℕ) (n : ℕ) (old new : Seen) → IsWithin old piece front → n ≤ length front → IsBytes piece
-    → Takes gate (take n front) true old new → HasTaken gate bytes old → length bytes ≤ gate.bytes
+    → Takes gate (take n front) flow.On old new → HasTaken gate bytes old → length bytes ≤ gate.bytes
     → HasTaken gate (bytes ++ take n piece) new × (length (bytes ++ take n piece) ≤ gate.bytes)
 token_ends gate bytes piece front n old new w le h t st room =
     let e = front_of_front old piece front n w le in
@@ -70,7 +71,7 @@ token_ends gate bytes piece front n old new w le h t st room =
     let a = st.taken in
     let k = length-append bytes (take n piece) in
     let j = length-take-le n piece (let s = w.short in omega arith) in
-    (took_stands gate old new bytes (take n piece) (subst (λ xs. Takes gate xs true old new) e t) (bytes_front n piece h) st, omega arith)
+    (took_stands gate old new bytes (take n piece) (subst (λ xs. Takes gate xs flow.On old new) e t) (bytes_front n piece h) st, omega arith)
 
 pub token_goes_on : (gate : Gate) (bytes piece front : List ℕ) (n : ℕ) (old new : Seen) → IsWithin old piece front → n ≤ length front → IsBytes piece
     → Keeps gate (take n front) old new → HasTaken gate bytes old → length bytes ≤ gate.bytes
@@ -87,7 +88,7 @@ token_goes_on gate bytes piece front n old new w le h t st room =
 -- ---- the machine stops
 
 pub token_stops : (gate : Gate) (bytes piece front : List ℕ) (n : ℕ) (refusal : Refusal) (old new : Seen) → IsWithin old piece front → n ≤ length front → IsBytes piece
-    → Takes gate (take n front) false old new → HasTaken gate bytes old → length bytes ≤ gate.bytes → new.meter.stop ≡ stop.Refused refusal
+    → Takes gate (take n front) flow.Stopped old new → HasTaken gate bytes old → length bytes ≤ gate.bytes → new.meter.stop ≡ stop.Refused refusal
     → AreRefused gate (bytes ++ take n piece) refusal
 token_stops gate bytes piece front n refusal old new w le h t st room es =
     let e = front_of_front old piece front n w le in
@@ -97,11 +98,11 @@ token_stops gate bytes piece front n refusal old new w le h t st room es =
     let k = length-append bytes (take n piece) in
     let j = length-take-le n piece (let s = w.short in omega arith) in
     let x : StopsFor gate (bytes ++ take n piece) (stop.Refused refusal) =
-    subst (StopsFor gate (bytes ++ take n piece)) es (stop_stands gate old new bytes (take n piece) (subst (λ xs. Takes gate xs false old new) e t) st) in
+    subst (StopsFor gate (bytes ++ take n piece)) es (stop_stands gate old new bytes (take n piece) (subst (λ xs. Takes gate xs flow.Stopped old new) e t) st) in
     refuses gate (bytes ++ take n piece) refusal (bytes_both bytes (take n piece) st.all_bytes (bytes_front n piece h)) (omega arith) x
 
 -- a machine that stands for bytes does not stop as if it were spent
-pub never_spent : (gate : Gate) (bytes taken : List ℕ) (old new : Seen) → Takes gate taken false old new → HasTaken gate bytes old → new.meter.stop ≡ stop.Spent → ⊥
+pub never_spent : (gate : Gate) (bytes taken : List ℕ) (old new : Seen) → Takes gate taken flow.Stopped old new → HasTaken gate bytes old → new.meter.stop ≡ stop.Spent → ⊥
 unfolding Takes
 never_spent gate bytes taken old new h st e =
     subst (λ w. StopsFor gate (bytes ++ taken) w) e (stop_stands gate old new bytes taken h st)
@@ -131,6 +132,6 @@ over_whole gate bytes piece k n more full i =
     subst (λ xs. StaysWhole gate xs n) (sym all) (limit_whole gate (bytes ++ take k piece) (x.0 ∷ []) n full i)
 
 -- it has stopped then
-pub has_stopped : (gate : Gate) (bytes taken : List ℕ) (old new : Seen) → Takes gate taken false old new → HasTaken gate bytes old → new.phase ≡ phase.Stopped
+pub has_stopped : (gate : Gate) (bytes taken : List ℕ) (old new : Seen) → Takes gate taken flow.Stopped old new → HasTaken gate bytes old → new.phase ≡ phase.Stopped
 unfolding Takes
 has_stopped gate bytes taken old new h st = (h (left begin_state st.tokens) st.cut st.stands).0

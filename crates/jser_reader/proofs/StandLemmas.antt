@@ -1,5 +1,5 @@
 -- From the contract of a handler to the walk over bytes: what the machine stands for before and after a token.
-use Rattle.std.proofs.Common.{◌≡◌, ℕ, suc, ◌+◌, ◌*◌, ◌<◌, Bool, true, false, List, [], ◌∷◌, ◌++◌, length, Option, Some, None, refl, sym, ◌∙◌, ap, ap₂, subst, arith, append_assoc, append-nil, length-append, inr}
+use Rattle.std.proofs.Common.{◌≡◌, ℕ, suc, ◌+◌, ◌*◌, ◌<◌, List, [], ◌∷◌, ◌++◌, length, Option, Some, None, refl, sym, ◌∙◌, ap, ap₂, subst, arith, append_assoc, append-nil, length-append, inr}
 use Rattle.jser_table.specs.Codes.{PrimCode, byte_code, char_code, double_code, float_code, int_code, long_code, short_code, boolean_code, size_of}
 use Rattle.jser_grammar.specs.Parts.{IsBytes}
 use Rattle.jser_reading.specs.Labels.{StreamToken, Piece, piece}
@@ -21,6 +21,8 @@ use Rattle.jser_verdict.proofs.Scans.{verdict_scans}
 use Rattle.jser_verdict.proofs.ToldRows.{same_verdict}
 use Rattle.jser_verdict.proofs.ByteLists.{bytes_both, bytes_right}
 use Rattle.jser_verdict.proofs.ReadTokens.{read_next}
+use Rattle.jser_reader.specs.declared.machine.flow.Flow.{Flow}
+use Rattle.jser_reader.specs.declared.machine.flow.Flow.TheVariants as flow
 use Rattle.jser_reader.specs.declared.phase.Phase.{Phase}
 use Rattle.jser_reader.specs.declared.phase.Phase.TheVariants as phase
 use Rattle.jser_reader.specs.Readers.{Seen, Ready, ReadyAt, PrimsReady, BytesReady}
@@ -97,28 +99,28 @@ pub record LeadsTo (s : State) (bytes : List ℕ) (next : State) : Type 0 where
   pub goes : settled (advance s token) ≡ next
 
 -- what a handler that takes no memory tells, or one that cannot fail
-pub tells_surely : (told : Option ToldReason) (s : State) (found : Bool) (old new : Seen) → TellsSurely told s found old new → Tells told s found old new
+pub tells_surely : (told : Option ToldReason) (s : State) (found : Flow) (old new : Seen) → TellsSurely told s found old new → Tells told s found old new
 unfolding Tells TellsSurely
-tells_surely None s true old new h = h
-tells_surely None s false old new h = absurd h
-tells_surely (Some k) s true old new h = absurd h
-tells_surely (Some k) s false old new h = h
+tells_surely None s flow.On old new h = h
+tells_surely None s flow.Stopped old new h = absurd h
+tells_surely (Some k) s flow.On old new h = absurd h
+tells_surely (Some k) s flow.Stopped old new h = h
 
 -- where it refuses nothing, it goes on
-pub surely_goes_on : (told : Option ToldReason) (s : State) (found : Bool) (old new : Seen) → TellsSurely told s found old new → found ≡ false → told ≡ None → ⊥
+pub surely_goes_on : (told : Option ToldReason) (s : State) (found : Flow) (old new : Seen) → TellsSurely told s found old new → found ≡ flow.Stopped → told ≡ None → ⊥
 unfolding TellsSurely
-surely_goes_on None s true old new h stops none = absurd (cc)
-surely_goes_on None s false old new h stops none = h
+surely_goes_on None s flow.On old new h stops none = absurd (cc)
+surely_goes_on None s flow.Stopped old new h stops none = h
 surely_goes_on (Some k) s found old new h stops none = absurd (cc)
 
-took_token : (gate : Gate) (told : Option ToldReason) (next : State) (found : Bool) (old mid new : Seen) (s : State) (cut taken : List ℕ)
+took_token : (gate : Gate) (told : Option ToldReason) (next : State) (found : Flow) (old mid new : Seen) (s : State) (cut taken : List ℕ)
     → TellCases told next found mid new → Stands gate old (settled s) cut → Counts taken old mid
     → ((rest : List ℕ) → walk (verdict gate) s cut (taken ++ rest) ≡ judged_by (verdict gate) s (cut ++ taken) rest)
     → reason_at gate (label_of (settled s)) (label_of (settled s)).position (cut ++ taken) ≡ told
     → (told ≡ None → LeadsTo (settled s) (cut ++ taken) next)
-    → (found ≡ false → told ≡ None → IsForgotten (label_of (settled s)).position → ⊥)
+    → (found ≡ flow.Stopped → told ≡ None → IsForgotten (label_of (settled s)).position → ⊥)
     → Took gate s cut taken found old new
-took_token gate None next true old mid new s cut taken h st c w e leads keeps =
+took_token gate None next flow.On old mid new s cut taken h st c w e leads keeps =
     let x = leads refl in
     let v : verdict gate (label_of (settled s)) (cut ++ taken) ≡ good x.token =
     verdict_good gate (label_of (settled s)) (cut ++ taken) x.token e (let w = x.enough in omega arith) x.found in
@@ -137,9 +139,9 @@ took_token gate None next true old mid new s cut taken h st c w e leads keeps =
           (ap (λ m. m.at) h.meter ∙ sym (ap (λ m. m.from) h.meter)));
       at = ap (λ m. m.at) h.meter ∙ c.at;
     }
-took_token gate (Some k) next true old mid new s cut taken h st c w e leads keeps = absurd h
-took_token gate None next false old mid new s cut taken h st c w e leads keeps = (h.phase, rw h.stop (inr (keeps refl refl, (leads refl).enough)))
-took_token gate (Some k) next false old mid new s cut taken h st c w e leads keeps =
+took_token gate (Some k) next flow.On old mid new s cut taken h st c w e leads keeps = absurd h
+took_token gate None next flow.Stopped old mid new s cut taken h st c w e leads keeps = (h.phase, rw h.stop (inr (keeps refl refl, (leads refl).enough)))
+took_token gate (Some k) next flow.Stopped old mid new s cut taken h st c w e leads keeps =
     let v : verdict gate (label_of (settled s)) (cut ++ taken) ≡ bad (turn k) = verdict_bad gate (label_of (settled s)) (cut ++ taken) k e in (
       h.phase,
       rw h.stop (record {
@@ -159,12 +161,12 @@ took_token gate (Some k) next false old mid new s cut taken h st c w e leads kee
     )
 
 -- the bytes of a token of which no front decides, as its handler judged them
-pub judged : (gate : Gate) (told : Option ToldReason) (next : State) (found : Bool) (old mid new : Seen) (s : State) (cut taken : List ℕ)
+pub judged : (gate : Gate) (told : Option ToldReason) (next : State) (found : Flow) (old mid new : Seen) (s : State) (cut taken : List ℕ)
     → Tells told next found mid new → Stands gate old (settled s) cut → Counts taken old mid → 0 < length taken
     → IsUndecided (verdict gate) (label_of (settled s)) (cut ++ taken)
     → reason_at gate (label_of (settled s)) (label_of (settled s)).position (cut ++ taken) ≡ told
     → (told ≡ None → LeadsTo (settled s) (cut ++ taken) next)
-    → (found ≡ false → told ≡ None → IsForgotten (label_of (settled s)).position → ⊥)
+    → (found ≡ flow.Stopped → told ≡ None → IsForgotten (label_of (settled s)).position → ⊥)
     → Took gate s cut taken found old new
 unfolding Tells
 judged gate told next found old mid new s cut taken h st c some u e leads keeps =
@@ -183,7 +185,7 @@ token_read gate tokens bytes token r v e h =
     same_verdict gate l bytes (read_next tokens l ((next_law tokens l).1 (r, refl))) h (omega arith) in
     let g = (verdict_scans gate).good_is l bytes token (sym same ∙ v) in (g.0, g.1)
 
-unfoldable pub took_stands : (gate : Gate) (old new : Seen) (bytes taken : List ℕ) → Takes gate taken true old new → IsBytes taken → HasTaken gate bytes old
+unfoldable pub took_stands : (gate : Gate) (old new : Seen) (bytes taken : List ℕ) → Takes gate taken flow.On old new → IsBytes taken → HasTaken gate bytes old
     → HasTaken gate (bytes ++ taken) new
 unfolding Takes
 took_stands gate old new bytes taken h bt st =

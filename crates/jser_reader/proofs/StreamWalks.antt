@@ -5,6 +5,7 @@ use Rattle.jser_reading.specs.Machine.{begin_state, left, IsDone}
 use Rattle.jser_reading.specs.Scanner.{walk}
 use Rattle.jser_verdict.specs.Gates.{Gate}
 use Rattle.jser_verdict.specs.Verdicts.{verdict}
+use Rattle.jser_reader.specs.declared.machine.flow.Flow.TheVariants as flow
 use Rattle.jser_reader.specs.declared.frame.Frame.{Frame}
 use Rattle.jser_reader.specs.declared.frame.Frame.TheVariants as frame
 use Rattle.jser_reader.specs.declared.phase.Phase.{Phase}
@@ -40,7 +41,7 @@ new_stands gate r n e =
     }
 
 -- the machine stops, and says why
-pub stop_stands : (gate : Gate) (old new : Seen) (bytes taken : List ℕ) → Takes gate taken false old new → HasTaken gate bytes old
+pub stop_stands : (gate : Gate) (old new : Seen) (bytes taken : List ℕ) → Takes gate taken flow.Stopped old new → HasTaken gate bytes old
     → StopsFor gate (bytes ++ taken) new.meter.stop
 unfolding Takes
 stop_stands gate old new bytes taken h st = go new.meter.stop (h (left begin_state st.tokens) st.cut st.stands).1

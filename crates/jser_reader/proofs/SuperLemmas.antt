@@ -1,5 +1,5 @@
 -- The end of a descriptor, and of those round it.
-use Rattle.std.proofs.Common.{◌≡◌, ℕ, zero, suc, ◌<◌, inl, inr, Bool, true, ◌&&◌, nat_le, List, [], ◌∷◌, ◌++◌, length, slice_get, slice_set, Option, Some, None, is_some, IsTrue, refl, sym, ◌∙◌, ap, ap₂, subst, arith}
+use Rattle.std.proofs.Common.{◌≡◌, ℕ, zero, suc, ◌<◌, inl, inr, Bool, ◌&&◌, nat_le, List, [], ◌∷◌, ◌++◌, length, slice_get, slice_set, Option, Some, None, is_some, IsTrue, refl, sym, ◌∙◌, ap, ap₂, subst, arith}
 use Rattle.std.specs.Option.{ForSome}
 use Rattle.jser_table.specs.declared.layer.Layer.{Layer}
 use Rattle.jser_table.specs.declared.class.Class.TheVariants as class
@@ -10,6 +10,8 @@ use Rattle.jser_reading.specs.Moments.{closing}
 use Rattle.jser_reading.specs.Goals.{State, settle, made_goal}
 use Rattle.jser_verdict.specs.Reasons.{Reason, handle_space}
 use Rattle.jser_verdict.specs.Verdicts.{told_if}
+use Rattle.jser_reader.specs.declared.machine.flow.Flow.{Flow}
+use Rattle.jser_reader.specs.declared.machine.flow.Flow.TheVariants as flow
 use Rattle.jser_reader.specs.declared.frame.Frame.{Frame}
 use Rattle.jser_reader.specs.declared.frame.Frame.TheVariants as frame
 use Rattle.jser_reader.specs.declared.frame.Owner.{Owner}
@@ -29,7 +31,7 @@ use Rattle.jser_reader.proofs.OwnerLemmas.{same_owner_state}
 use Rattle.jser_reader.proofs.CloseLemmas.{goals_of_rest, goals_grow, closes}
 
 -- a class that was closed
-pub owner_found : (chain number : ℕ) (o : Owner) (b : Bool) (old mid new : Seen) → Tells (told_if (is_full mid) handle_space None) (owner_state mid (chain_in mid.table.chains chain)) b mid new
+pub owner_found : (chain number : ℕ) (o : Owner) (b : Flow) (old mid new : Seen) → Tells (told_if (is_full mid) handle_space None) (owner_state mid (chain_in mid.table.chains chain)) b mid new
     → IsClass mid.table.chains (slice_get mid.table.entries number) (class.Closed chain)
     → mid.owner ≡ o → mid.frames ≡ old.frames → mid.layers ≡ old.layers → mid.table ≡ old.table → mid.refs ≡ old.refs → mid.meter ≡ old.meter
     → Tells (told_if (is_full old) handle_space None) (made_state old o (chain_at old.table.entries number)) b old new
@@ -55,14 +57,14 @@ closed_is T n h = go (slice_get T n) h
     go (Some pending_entry) h = absurd (cc)
     go (Some (closed_entry chain)) h = (chain, refl)
 
-pub not_there : (T : List TableEntry) (C : List (List Layer)) (n : ℕ) (s : State) (told : Option Reason) (b : Bool) (old new : Seen) → IsTrue (is_closed (slice_get T n)) → IsClass C (slice_get T n) class.NotThere → Tells told s b old new
+pub not_there : (T : List TableEntry) (C : List (List Layer)) (n : ℕ) (s : State) (told : Option Reason) (b : Flow) (old new : Seen) → IsTrue (is_closed (slice_get T n)) → IsClass C (slice_get T n) class.NotThere → Tells told s b old new
 not_there T C n s told b old new h t = let x = closed_is T n h in absurd (let e = x.1 in cc)
 
-pub not_class : (T : List TableEntry) (C : List (List Layer)) (n : ℕ) (s : State) (told : Option Reason) (b : Bool) (old new : Seen) → IsTrue (is_closed (slice_get T n)) → IsClass C (slice_get T n) class.NoClass → Tells told s b old new
+pub not_class : (T : List TableEntry) (C : List (List Layer)) (n : ℕ) (s : State) (told : Option Reason) (b : Flow) (old new : Seen) → IsTrue (is_closed (slice_get T n)) → IsClass C (slice_get T n) class.NoClass → Tells told s b old new
 not_class T C n s told b old new h (inl t) = let x = closed_is T n h in absurd (let e = x.1 in cc)
 not_class T C n s told b old new h (inr t) = let x = closed_is T n h in absurd (let e = x.1 in cc)
 
-pub not_open : (T : List TableEntry) (C : List (List Layer)) (n : ℕ) (s : State) (told : Option Reason) (b : Bool) (old new : Seen) → IsTrue (is_closed (slice_get T n)) → IsClass C (slice_get T n) class.Open → Tells told s b old new
+pub not_open : (T : List TableEntry) (C : List (List Layer)) (n : ℕ) (s : State) (told : Option Reason) (b : Flow) (old new : Seen) → IsTrue (is_closed (slice_get T n)) → IsClass C (slice_get T n) class.Open → Tells told s b old new
 not_open T C n s told b old new h t = let x = closed_is T n h in absurd (let e = x.1 in cc)
 
 -- the descriptor on top has been closed: its entry, and what waited for it
@@ -140,8 +142,8 @@ reason_by : (old : Seen) (number : ℕ) (w : Role) → old.frames ≡ frame.Desc
     → closing_reason old ≡ told_if (is_some (owner_in (chain_owner (tail_of old.frames)) w) && is_full old) handle_space None
 reason_by old number w e = ap (λ fs. told_if (is_some (chain_owner fs) && is_full old) handle_space None) e
 
-pub value_closed : (old mid new : Seen) (parent : Option ℕ) (number : ℕ) (b : Bool) → ClosesTop number role.Value parent old mid → old.frames ≡ frame.Descriptor number role.Value ∷ tail_of old.frames
-    → Comes mid new (after_value mid) → b ≡ true → ClosesOne (closing_is.Ended b) parent old new
+pub value_closed : (old mid new : Seen) (parent : Option ℕ) (number : ℕ) (b : Flow) → ClosesTop number role.Value parent old mid → old.frames ≡ frame.Descriptor number role.Value ∷ tail_of old.frames
+    → Comes mid new (after_value mid) → b ≡ flow.On → ClosesOne (closing_is.Ended b) parent old new
 unfolding ClosesOne after_value
 value_closed old mid new parent number b c e h eb =
     let r : closing_reason old ≡ None = reason_by old number role.Value e in
@@ -156,7 +158,7 @@ made_settles owner.Array r number = refl
 made_settles owner.EnumConst r number = refl
 made_settles owner.ClassObject r number = refl
 
-pub owner_closed : (old mid new : Seen) (parent : Option ℕ) (number : ℕ) (o : Owner) (b : Bool) → ClosesTop number (role.ClassOf o) parent old mid → old.frames ≡ frame.Descriptor number (role.ClassOf o) ∷ tail_of old.frames
+pub owner_closed : (old mid new : Seen) (parent : Option ℕ) (number : ℕ) (o : Owner) (b : Flow) → ClosesTop number (role.ClassOf o) parent old mid → old.frames ≡ frame.Descriptor number (role.ClassOf o) ∷ tail_of old.frames
     → Tells (told_if (is_full mid) handle_space None) (made_state mid o (chain_at mid.table.entries number)) b mid new → ClosesOne (closing_is.Ended b) parent old new
 unfolding ClosesOne
 owner_closed old mid new parent number o b c e h =
@@ -210,7 +212,7 @@ closes_at old mid new parent number w p fit top ee ec ex ef ey er em =
 pub closing_starts : (start : Seen) (parent : Option ℕ) → ForSome parent (λ p. IsTrue (is_closed (slice_get start.table.entries p))) → ClosingOn start parent start parent
 closing_starts start parent h = record { state = refl; reason = refl; meter = refl; max = refl; is_read = h }
 
-pub closes_last : (start old new : Seen) (parent above : Option ℕ) (b : Bool) → ClosesOne (closing_is.Ended b) above old new → ClosingOn start parent old above
+pub closes_last : (start old new : Seen) (parent above : Option ℕ) (b : Flow) → ClosesOne (closing_is.Ended b) above old new → ClosingOn start parent old above
     → Tells (closing_reason start) (closed_state start parent) b start new
 unfolding ClosesOne
 closes_last start old new parent above b h on =
@@ -237,14 +239,14 @@ closes_open start old parent above on = on.is_read
 
 -- where no descriptor is on top, nothing is left to close
 
-ended_there : (start old new : Seen) (parent above : Option ℕ) (b : Bool) → ClosingOn start parent old above → Comes old new (after_value old) → b ≡ true
+ended_there : (start old new : Seen) (parent above : Option ℕ) (b : Flow) → ClosingOn start parent old above → Comes old new (after_value old) → b ≡ flow.On
     → closing_reason old ≡ None → closed_state old above ≡ after_value old → Tells (closing_reason start) (closed_state start parent) b start new
 ended_there start old new parent above b on h e none same =
     subst (λ t. Tells t (closed_state start parent) b start new) on.reason
     (tells_from (closing_reason old) (closed_state old above) (closed_state start parent) b start old new
     (tells_next (closing_reason old) (closed_state old above) b old new (subst (Comes old new) (sym same) h) e none) on.meter on.max on.state)
 
-pub none_open : (start old new : Seen) (parent above : Option ℕ) (b : Bool) → ClosingOn start parent old above → old.frames ≡ [] → Comes old new (after_value old) → b ≡ true
+pub none_open : (start old new : Seen) (parent above : Option ℕ) (b : Flow) → ClosingOn start parent old above → old.frames ≡ [] → Comes old new (after_value old) → b ≡ flow.On
     → Tells (closing_reason start) (closed_state start parent) b start new
 unfolding closed_state
 none_open start old new parent above b on none h e =
@@ -257,8 +259,8 @@ other_closed r above (frame.Fields last section pos prims values) fs d = (refl, 
 other_closed r above (frame.Notes last section) fs d = (refl, refl)
 other_closed r above frame.ExternalNotes fs d = (refl, refl)
 
-pub other_open : (start old new : Seen) (f : Frame) (parent above : Option ℕ) (b : Bool) → ClosingOn start parent old above → old.frames ≡ f ∷ tail_of old.frames → ((n : ℕ) (w : Role) → f ≡ frame.Descriptor n w → ⊥)
-    → Comes old new (after_value old) → b ≡ true → Tells (closing_reason start) (closed_state start parent) b start new
+pub other_open : (start old new : Seen) (f : Frame) (parent above : Option ℕ) (b : Flow) → ClosingOn start parent old above → old.frames ≡ f ∷ tail_of old.frames → ((n : ℕ) (w : Role) → f ≡ frame.Descriptor n w → ⊥)
+    → Comes old new (after_value old) → b ≡ flow.On → Tells (closing_reason start) (closed_state start parent) b start new
 unfolding closed_state
 other_open start old new f parent above b on top d h e =
     let k = other_closed old above f (tail_of old.frames) d in

@@ -16,6 +16,8 @@ use Rattle.jser_verdict.specs.TagRows.{is_known_tag}
 use Rattle.jser_verdict.specs.HandleRows.{is_no_handle, entry_named, is_no_descriptor}
 use Rattle.jser_verdict.specs.ClassRows.{is_unserial_superclass}
 use Rattle.jser_verdict.specs.Verdicts.{told_if, other_tag_reason}
+use Rattle.jser_reader.specs.declared.machine.flow.Flow.{Flow}
+use Rattle.jser_reader.specs.declared.machine.flow.Flow.TheVariants as flow
 use Rattle.jser_reader.specs.declared.phase.Phase.TheVariants as phase
 use Rattle.jser_reader.specs.declared.tag.ValueTag.{ValueTag}
 use Rattle.jser_reader.specs.declared.tag.ValueTag.TheVariants as value
@@ -105,27 +107,27 @@ proxy_reason r = go (chain_owner r.frames)
     go None = refl
     go (Some w) = refl
 
-fails : (r : Reason) (k : Option Reason) (told : Option Reason) (b found : Bool) (s : State) (old new : Seen) → told ≡ with_limits old k → CountsPlace b old new → b ≡ false → found ≡ false → Tells told s found old new
+fails : (r : Reason) (k : Option Reason) (told : Option Reason) (b found : Flow) (s : State) (old new : Seen) → told ≡ with_limits old k → CountsPlace b old new → b ≡ flow.Stopped → found ≡ flow.Stopped → Tells told s found old new
 fails r k told b found s old new e h eb ef = subst (λ t. Tells t s found old new) (sym e) (not_counted b found k s old new h eb ef)
 
-pub null_fails : (b found : Bool) (s : State) (old new : Seen) → CountsPlace b old new → b ≡ false → found ≡ false → Tells (super_reason old 0x70) s found old new
+pub null_fails : (b found : Flow) (s : State) (old new : Seen) → CountsPlace b old new → b ≡ flow.Stopped → found ≡ flow.Stopped → Tells (super_reason old 0x70) s found old new
 null_fails b found s old new h eb ef = fails handle_space (closing_reason old) (super_reason old 0x70) b found s old new (none_reason old) h eb ef
 
-pub back_fails : (b found : Bool) (s : State) (old new : Seen) → CountsPlace b old new → b ≡ false → found ≡ false → Tells (super_reason old 0x71) s found old new
+pub back_fails : (b found : Flow) (s : State) (old new : Seen) → CountsPlace b old new → b ≡ flow.Stopped → found ≡ flow.Stopped → Tells (super_reason old 0x71) s found old new
 back_fails b found s old new h eb ef = fails handle_space None (super_reason old 0x71) b found s old new (back_reason old) h eb ef
 
-pub plain_fails : (b found : Bool) (s : State) (old new : Seen) → CountsPlace b old new → b ≡ false → found ≡ false → Tells (super_reason old 0x72) s found old new
+pub plain_fails : (b found : Flow) (s : State) (old new : Seen) → CountsPlace b old new → b ≡ flow.Stopped → found ≡ flow.Stopped → Tells (super_reason old 0x72) s found old new
 plain_fails b found s old new h eb ef = fails handle_space None (super_reason old 0x72) b found s old new (plain_reason old) h eb ef
 
-pub proxy_fails : (b found : Bool) (s : State) (old new : Seen) → CountsPlace b old new → b ≡ false → found ≡ false → Tells (super_reason old 0x7D) s found old new
+pub proxy_fails : (b found : Flow) (s : State) (old new : Seen) → CountsPlace b old new → b ≡ flow.Stopped → found ≡ flow.Stopped → Tells (super_reason old 0x7D) s found old new
 proxy_fails b found s old new h eb ef = fails handle_space (told_if (is_full old) handle_space None) (super_reason old 0x7D) b found s old new (proxy_reason old) h eb ef
 
-is_counted : (b : Bool) (old mid : Seen) → CountsPlace b old mid → b ≡ true → mid ≡ counted old
+is_counted : (b : Flow) (old mid : Seen) → CountsPlace b old mid → b ≡ flow.On → mid ≡ counted old
 unfolding CountsPlace
-is_counted true old mid h e = h.0
-is_counted false old mid h e = absurd (cc)
+is_counted flow.On old mid h e = h.0
+is_counted flow.Stopped old mid h e = absurd (cc)
 
-pub null_closes : (b found : Bool) (old mid new : Seen) → CountsPlace b old mid → b ≡ true → (HasDescriptor mid.frames → Tells (closing_reason mid) (closed_state mid None) found mid new)
+pub null_closes : (b found : Flow) (old mid new : Seen) → CountsPlace b old mid → b ≡ flow.On → (HasDescriptor mid.frames → Tells (closing_reason mid) (closed_state mid None) found mid new)
     → HasDescriptor old.frames → Tells (super_reason old 0x70) (after_super_tag old (tag_from 0x70)) found old new
 unfolding tag_from
 null_closes b found old mid new h eb k d =
@@ -134,7 +136,7 @@ null_closes b found old mid new h eb k d =
     let here : Tells (closing_reason old) (closed_state (counted old) None) found mid new = subst (λ r. Tells (closing_reason r) (closed_state r None) found mid new) c told in
     subst (λ t. Tells t (closed_state (counted old) None) found old new) (sym (none_reason old)) (after_count b found (closing_reason old) (closed_state (counted old) None) old mid new h eb here)
 
-pub back_goes : (b found : Bool) (old mid new : Seen) → CountsPlace b old mid → b ≡ true → IsNext phase.SuperHandle mid.owner mid.elements mid.header mid.text mid new → found ≡ true
+pub back_goes : (b found : Flow) (old mid new : Seen) → CountsPlace b old mid → b ≡ flow.On → IsNext phase.SuperHandle mid.owner mid.elements mid.header mid.text mid new → found ≡ flow.On
     → HasDescriptor old.frames → Tells (super_reason old 0x71) (after_super_tag old (tag_from 0x71)) found old new
 unfolding tag_from Ready
 back_goes b found old mid new h eb n ef d =
@@ -143,7 +145,7 @@ back_goes b found old mid new h eb n ef d =
     let here = tells_next None (after_super_tag old (tag_from 0x71)) found mid new (record { ready = ready; meter = n.meter; max = ap (λ t. t.max) n.table }) ef refl in
     subst (λ t. Tells t (after_super_tag old (tag_from 0x71)) found old new) (sym (back_reason old)) (after_count b found None (after_super_tag old (tag_from 0x71)) old mid new h eb here)
 
-pub plain_goes : (b found strict : Bool) (old mid new : Seen) → CountsPlace b old mid → b ≡ true → Tells None (opens_class mid (role.Superclass strict)) found mid new → strict ≡ strict_in mid.layers mid.frames
+pub plain_goes : (b found : Flow) (strict : Bool) (old mid new : Seen) → CountsPlace b old mid → b ≡ flow.On → Tells None (opens_class mid (role.Superclass strict)) found mid new → strict ≡ strict_in mid.layers mid.frames
     → Tells (super_reason old 0x72) (after_super_tag old (tag_from 0x72)) found old new
 unfolding tag_from
 plain_goes b found strict old mid new h eb k es =
@@ -152,7 +154,7 @@ plain_goes b found strict old mid new h eb k es =
     subst (λ r. Tells None (opens_class r (role.Superclass (strict_in r.layers r.frames))) found mid new) c (subst (λ w. Tells None (opens_class mid (role.Superclass w)) found mid new) es k) in
     subst (λ t. Tells t (after_super_tag old (tag_from 0x72)) found old new) (sym (plain_reason old)) (after_count b found None (after_super_tag old (tag_from 0x72)) old mid new h eb here)
 
-pub proxy_goes : (b found strict : Bool) (old mid new : Seen) → CountsPlace b old mid → b ≡ true → Tells (told_if (is_full mid) handle_space None) (opens_proxy mid (role.Superclass strict)) found mid new
+pub proxy_goes : (b found : Flow) (strict : Bool) (old mid new : Seen) → CountsPlace b old mid → b ≡ flow.On → Tells (told_if (is_full mid) handle_space None) (opens_proxy mid (role.Superclass strict)) found mid new
     → strict ≡ strict_in mid.layers mid.frames → Tells (super_reason old 0x7D) (after_super_tag old (tag_from 0x7D)) found old new
 unfolding tag_from
 proxy_goes b found strict old mid new h eb k es =
@@ -168,15 +170,15 @@ not_known : (b : ℕ) (o : ChainOwner) (s : Bool) → (b < 0x70) ⊎ (0x7E < b) 
 not_known b o s (inl h) = grind (arith, nat_tests)
 not_known b o s (inr h) = grind (arith, nat_tests)
 
-pub no_super_tag : (b : ℕ) (s : State) (found : Bool) (old new : Seen) → IsTagOf b None → StopsWith (refusal old.meter (named bad_tag)) old new → found ≡ false → Tells (super_reason old b) s found old new
+pub no_super_tag : (b : ℕ) (s : State) (found : Flow) (old new : Seen) → IsTagOf b None → StopsWith (refusal old.meter (named bad_tag)) old new → found ≡ flow.Stopped → Tells (super_reason old b) s found old new
 no_super_tag b s found old new t h ef =
     let k = not_known b (chain_owner old.frames) (strict_in old.layers old.frames) t in tells_refusal bad_tag (super_reason old b) s found old new h ef (rw k refl)
 
-pub super_block : (long : Bool) (b : ℕ) (s : State) (found : Bool) (old new : Seen) → b ≡ block_byte long → StopsWith (refusal old.meter (named bad_tag)) old new → found ≡ false → Tells (super_reason old b) s found old new
+pub super_block : (long : Bool) (b : ℕ) (s : State) (found : Flow) (old new : Seen) → b ≡ block_byte long → StopsWith (refusal old.meter (named bad_tag)) old new → found ≡ flow.Stopped → Tells (super_reason old b) s found old new
 super_block false b s found old new e h ef = rw e (tells_refusal bad_tag (Some bad_tag) s found old new h ef refl)
 super_block true b s found old new e h ef = rw e (tells_refusal bad_tag (Some bad_tag) s found old new h ef refl)
 
-pub super_other : (b : ℕ) (s : State) (found : Bool) (old new : Seen) → (b ≡ 0x78) ⊎ ((b ≡ 0x79) ⊎ (b ≡ 0x7B)) → StopsWith (refusal old.meter (named bad_tag)) old new → found ≡ false → Tells (super_reason old b) s found old new
+pub super_other : (b : ℕ) (s : State) (found : Flow) (old new : Seen) → (b ≡ 0x78) ⊎ ((b ≡ 0x79) ⊎ (b ≡ 0x7B)) → StopsWith (refusal old.meter (named bad_tag)) old new → found ≡ flow.Stopped → Tells (super_reason old b) s found old new
 super_other b s found old new (inl e) h ef = rw e (tells_refusal bad_tag (Some bad_tag) s found old new h ef refl)
 super_other b s found old new (inr (inl e)) h ef = rw e (tells_refusal bad_tag (Some bad_tag) s found old new h ef refl)
 super_other b s found old new (inr (inr e)) h ef = rw e (tells_refusal bad_tag (Some bad_tag) s found old new h ef refl)
@@ -188,7 +190,7 @@ IsNoClass value.ClassDesc = ⊥
 IsNoClass value.ProxyClassDesc = ⊥
 IsNoClass _ = Unit {0}
 
-pub no_super_value : (t : ValueTag) (s : State) (found : Bool) (old new : Seen) → StopsWith (refusal old.meter (named bad_tag)) old new → found ≡ false → IsNoClass t → Tells (super_reason old (tag_byte (view_tag t))) s found old new
+pub no_super_value : (t : ValueTag) (s : State) (found : Flow) (old new : Seen) → StopsWith (refusal old.meter (named bad_tag)) old new → found ≡ flow.Stopped → IsNoClass t → Tells (super_reason old (tag_byte (view_tag t))) s found old new
 no_super_value value.Object s found old new h ef i = tells_refusal bad_tag (Some bad_tag) s found old new h ef refl
 no_super_value value.String s found old new h ef i = tells_refusal bad_tag (Some bad_tag) s found old new h ef refl
 no_super_value value.LongString s found old new h ef i = tells_refusal bad_tag (Some bad_tag) s found old new h ef refl
@@ -200,7 +202,7 @@ no_super_value value.Reference s found old new h ef i = absurd i
 no_super_value value.ClassDesc s found old new h ef i = absurd i
 no_super_value value.ProxyClassDesc s found old new h ef i = absurd i
 
-pub super_value_tag : (t : ValueTag) (b : ℕ) (found : Bool) (old new : Seen) → b ≡ tag_byte (view_tag t)
+pub super_value_tag : (t : ValueTag) (b : ℕ) (found : Flow) (old new : Seen) → b ≡ tag_byte (view_tag t)
     → (HasDescriptor old.frames → Tells (super_reason old (tag_byte (view_tag t))) (after_super_tag old (tag_from (tag_byte (view_tag t)))) found old new)
     → HasDescriptor old.frames → Tells (super_reason old b) (after_super_tag old (tag_from b)) found old new
 super_value_tag t b found old new e h d = rw e (h d)
@@ -219,22 +221,22 @@ at_entry r n e low h =
     let named_is : entry_named r.table.entries n ≡ Some e = let t : nat_le 0x7E0000 n ≡ true = grind (arith, nat_tests) in rw t h in
     rw is (ap (entry_reason r) named_is)
 
-pub low_super : (n : ℕ) (s : State) (found : Bool) (old new : Seen) → StopsWith (refusal old.meter (named no_such_handle)) old new → found ≡ false → n < 0x7E0000 → Tells (super_handle_reason old n) s found old new
+pub low_super : (n : ℕ) (s : State) (found : Flow) (old new : Seen) → StopsWith (refusal old.meter (named no_such_handle)) old new → found ≡ flow.Stopped → n < 0x7E0000 → Tells (super_handle_reason old n) s found old new
 low_super n s found old new h ef l =
     let is : is_no_handle old.table.entries n ≡ true = grind (arith, nat_tests) in tells_refusal no_such_handle (super_handle_reason old n) s found old new h ef (rw is refl)
 
-pub no_such_super : (n : ℕ) (s : State) (found : Bool) (old new : Seen) → StopsWith (refusal old.meter (named no_such_handle)) old new → found ≡ false
+pub no_such_super : (n : ℕ) (s : State) (found : Flow) (old new : Seen) → StopsWith (refusal old.meter (named no_such_handle)) old new → found ≡ flow.Stopped
     → IsClass old.table.chains (slice_get old.table.entries (n - 0x7E0000)) class.NotThere → (n < 0x7E0000 → ⊥) → Tells (super_handle_reason old n) s found old new
 no_such_super n s found old new h ef none low =
     let l = beyond old.table.entries (n - 0x7E0000) none in
     let is : is_no_handle old.table.entries n ≡ true = grind (arith, nat_tests) in tells_refusal no_such_handle (super_handle_reason old n) s found old new h ef (rw is refl)
 
-pub no_class_super : (n : ℕ) (s : State) (found : Bool) (old new : Seen) → StopsWith (refusal old.meter (named wrong_kind)) old new → found ≡ false
+pub no_class_super : (n : ℕ) (s : State) (found : Flow) (old new : Seen) → StopsWith (refusal old.meter (named wrong_kind)) old new → found ≡ flow.Stopped
     → IsClass old.table.chains (slice_get old.table.entries (n - 0x7E0000)) class.NoClass → (n < 0x7E0000 → ⊥) → Tells (super_handle_reason old n) s found old new
 no_class_super n s found old new h ef (inl t) low = tells_refusal wrong_kind (super_handle_reason old n) s found old new h ef (at_entry old n text_entry (omega arith) t)
 no_class_super n s found old new h ef (inr t) low = tells_refusal wrong_kind (super_handle_reason old n) s found old new h ef (at_entry old n other_entry (omega arith) t)
 
-pub open_super : (n : ℕ) (s : State) (found : Bool) (old new : Seen) → StopsWith (refusal old.meter (named open_descriptor)) old new → found ≡ false
+pub open_super : (n : ℕ) (s : State) (found : Flow) (old new : Seen) → StopsWith (refusal old.meter (named open_descriptor)) old new → found ≡ flow.Stopped
     → IsClass old.table.chains (slice_get old.table.entries (n - 0x7E0000)) class.Open → (n < 0x7E0000 → ⊥) → Tells (super_handle_reason old n) s found old new
 open_super n s found old new h ef t low = tells_refusal open_descriptor (super_handle_reason old n) s found old new h ef (at_entry old n pending_entry (omega arith) t)
 
@@ -246,7 +248,7 @@ by_loose r chain false serial es ea e = rw es refl
 by_loose r chain true true es ea e = rw es (rw ea refl)
 by_loose r chain true false es ea e = absurd (cc)
 
-pub unserial_super : (n chain : ℕ) (s : State) (found : Bool) (old new : Seen) → StopsWith (refusal old.meter (named not_serializable)) old new → found ≡ false
+pub unserial_super : (n chain : ℕ) (s : State) (found : Flow) (old new : Seen) → StopsWith (refusal old.meter (named not_serializable)) old new → found ≡ flow.Stopped
     → IsClass old.table.chains (slice_get old.table.entries (n - 0x7E0000)) (class.Closed chain) → (n < 0x7E0000 → ⊥)
     → strict_in old.layers old.frames ≡ true → all_serial (chain_at old.table.entries (n - 0x7E0000)) ≡ false → Tells (super_handle_reason old n) s found old new
 unserial_super n chain s found old new h ef t low strict unserial =
@@ -254,7 +256,7 @@ unserial_super n chain s found old new h ef t low strict unserial =
     let chain_is : all_serial (chain_in old.table.chains chain) ≡ false = sym (ap (λ x. all_serial (chain_of x)) t.0) ∙ unserial in
     tells_refusal not_serializable (super_handle_reason old n) s found old new h ef (e ∙ by_strict old (chain_in old.table.chains chain) strict chain_is)
 
-pub right_super : (n chain : ℕ) (found : Bool) (old new : Seen) → (HasDescriptor old.frames → Tells (closing_reason old) (closed_state old (Some (n - 0x7E0000))) found old new)
+pub right_super : (n chain : ℕ) (found : Flow) (old new : Seen) → (HasDescriptor old.frames → Tells (closing_reason old) (closed_state old (Some (n - 0x7E0000))) found old new)
     → IsClass old.table.chains (slice_get old.table.entries (n - 0x7E0000)) (class.Closed chain) → (n < 0x7E0000 → ⊥)
     → (strict_in old.layers old.frames && not (all_serial (chain_at old.table.entries (n - 0x7E0000)))) ≡ false
     → HasDescriptor old.frames → Tells (super_handle_reason old n) (closed_state old (Some (n - 0x7E0000))) found old new

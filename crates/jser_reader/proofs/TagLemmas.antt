@@ -9,6 +9,8 @@ use Rattle.jser_reading.specs.Goals.{State, section_parts, settle, parts_goal}
 use Rattle.jser_verdict.specs.Reasons.{bad_tag, exception_tag, reset_inside}
 use Rattle.jser_verdict.specs.TagRows.{is_known_tag}
 use Rattle.jser_verdict.specs.Verdicts.{content_reason, inner_reason}
+use Rattle.jser_reader.specs.declared.machine.flow.Flow.{Flow}
+use Rattle.jser_reader.specs.declared.machine.flow.Flow.TheVariants as flow
 use Rattle.jser_reader.specs.declared.frame.Frame.TheVariants as frame
 use Rattle.jser_reader.specs.declared.frame.Role.{Role}
 use Rattle.jser_reader.specs.declared.phase.Phase.TheVariants as phase
@@ -28,19 +30,19 @@ not_known : (b : ℕ) (l : Label) → (b < 0x70) ⊎ (0x7E < b) → (is_known_ta
 not_known b l (inl h) = (grind (arith, nat_tests), grind (arith, nat_tests), grind (arith, nat_tests))
 not_known b l (inr h) = (grind (arith, nat_tests), grind (arith, nat_tests), grind (arith, nat_tests))
 
-pub no_top_tag : (b : ℕ) (found : Bool) (old new : Seen) (s : State) → IsTagOf b None → StopsWith (refusal old.meter (named bad_tag)) old new → found ≡ false
+pub no_top_tag : (b : ℕ) (found : Flow) (old new : Seen) (s : State) → IsTagOf b None → StopsWith (refusal old.meter (named bad_tag)) old new → found ≡ flow.Stopped
     → Tells (content_reason (plain_gate old) (label_at top_at 1 old) b) s found old new
 no_top_tag b found old new s t h e =
     let k = (not_known b (label_at top_at 1 old) t).0 in
     tells_refusal bad_tag (content_reason (plain_gate old) (label_at top_at 1 old) b) s found old new h e (rw k refl)
 
-pub no_note_tag : (b : ℕ) (found : Bool) (old new : Seen) (s : State) → IsTagOf b None → StopsWith (refusal old.meter (named bad_tag)) old new → found ≡ false
+pub no_note_tag : (b : ℕ) (found : Flow) (old new : Seen) (s : State) → IsTagOf b None → StopsWith (refusal old.meter (named bad_tag)) old new → found ≡ flow.Stopped
     → Tells (inner_reason (plain_gate old) (label_at annotation_at (suc (length old.frames)) old) b) s found old new
 no_note_tag b found old new s t h e =
     let k = (not_known b (label_at annotation_at (suc (length old.frames)) old) t).1 in
     tells_refusal bad_tag (inner_reason (plain_gate old) (label_at annotation_at (suc (length old.frames)) old) b) s found old new h e (rw k refl)
 
-pub no_value_tag : (b : ℕ) (found : Bool) (old new : Seen) (s : State) → IsTagOf b None → StopsWith (refusal old.meter (named bad_tag)) old new → found ≡ false
+pub no_value_tag : (b : ℕ) (found : Flow) (old new : Seen) (s : State) → IsTagOf b None → StopsWith (refusal old.meter (named bad_tag)) old new → found ≡ flow.Stopped
     → Tells (inner_reason (plain_gate old) (label_at value_at (suc (length old.frames)) old) b) s found old new
 no_value_tag b found old new s t h e =
     let k = (not_known b (label_at value_at (suc (length old.frames)) old) t).2 in
@@ -100,17 +102,17 @@ value_reason value.Class r = refl
 value_reason value.ProxyClassDesc r = refl
 value_reason value.Enum r = refl
 
-pub top_value : (t : ValueTag) (b : ℕ) (found : Bool) (old new : Seen) → b ≡ tag_byte (view_tag t) → old.frames ≡ []
+pub top_value : (t : ValueTag) (b : ℕ) (found : Flow) (old new : Seen) → b ≡ tag_byte (view_tag t) → old.frames ≡ []
     → Tells (place_reason old (view_tag t)) (after_tag old (view_tag t)) found old new
     → Tells (content_reason (plain_gate old) (label_at top_at 1 old) b) (after_content old (tag_from b)) found old new
 top_value t b found old new e f h = rw e (rw (top_reason t old f) (rw (tag_told t) h))
 
-pub note_value : (t : ValueTag) (b : ℕ) (found : Bool) (old new : Seen) → b ≡ tag_byte (view_tag t)
+pub note_value : (t : ValueTag) (b : ℕ) (found : Flow) (old new : Seen) → b ≡ tag_byte (view_tag t)
     → Tells (place_reason old (view_tag t)) (after_tag old (view_tag t)) found old new
     → Tells (inner_reason (plain_gate old) (label_at annotation_at (suc (length old.frames)) old) b) (after_content old (tag_from b)) found old new
 note_value t b found old new e h = rw e (rw (note_reason t old) (rw (tag_told t) h))
 
-pub value_value : (t : ValueTag) (b : ℕ) (found : Bool) (old new : Seen) → b ≡ tag_byte (view_tag t)
+pub value_value : (t : ValueTag) (b : ℕ) (found : Flow) (old new : Seen) → b ≡ tag_byte (view_tag t)
     → Tells (place_reason old (view_tag t)) (after_tag old (view_tag t)) found old new
     → Tells (inner_reason (plain_gate old) (label_at value_at (suc (length old.frames)) old) b) (after_content old (tag_from b)) found old new
 value_value t b found old new e h = rw e (rw (value_reason t old) (rw (tag_told t) h))
@@ -122,57 +124,57 @@ unfolding Ready
 block_comes false old new n = record { ready = rw (next_is phase.BlockLength1 old.owner old.elements old.header old.text old new n) refl; meter = n.meter; max = ap (λ t. t.max) n.table }
 block_comes true old new n = record { ready = rw (next_is phase.BlockLength4 old.owner old.elements old.header old.text old new n) refl; meter = n.meter; max = ap (λ t. t.max) n.table }
 
-pub top_block : (long : Bool) (b : ℕ) (found : Bool) (old new : Seen) → b ≡ block_byte long → IsNext (block_phase long) old.owner old.elements old.header old.text old new → found ≡ true
+pub top_block : (long : Bool) (b : ℕ) (found : Flow) (old new : Seen) → b ≡ block_byte long → IsNext (block_phase long) old.owner old.elements old.header old.text old new → found ≡ flow.On
     → Tells (content_reason (plain_gate old) (label_at top_at 1 old) b) (after_content old (tag_from b)) found old new
 unfolding tag_from
 top_block false b found old new e n ef = rw e (tells_next None (after_block_tag old false) found old new (block_comes false old new n) ef refl)
 top_block true b found old new e n ef = rw e (tells_next None (after_block_tag old true) found old new (block_comes true old new n) ef refl)
 
-pub note_block : (long : Bool) (b : ℕ) (found : Bool) (old new : Seen) → b ≡ block_byte long → IsNext (block_phase long) old.owner old.elements old.header old.text old new → found ≡ true
+pub note_block : (long : Bool) (b : ℕ) (found : Flow) (old new : Seen) → b ≡ block_byte long → IsNext (block_phase long) old.owner old.elements old.header old.text old new → found ≡ flow.On
     → Tells (inner_reason (plain_gate old) (label_at annotation_at (suc (length old.frames)) old) b) (after_content old (tag_from b)) found old new
 unfolding tag_from
 note_block false b found old new e n ef = rw e (tells_next None (after_block_tag old false) found old new (block_comes false old new n) ef refl)
 note_block true b found old new e n ef = rw e (tells_next None (after_block_tag old true) found old new (block_comes true old new n) ef refl)
 
-pub value_block : (long : Bool) (b : ℕ) (found : Bool) (s : State) (old new : Seen) → b ≡ block_byte long → StopsWith (refusal old.meter (named bad_tag)) old new → found ≡ false
+pub value_block : (long : Bool) (b : ℕ) (found : Flow) (s : State) (old new : Seen) → b ≡ block_byte long → StopsWith (refusal old.meter (named bad_tag)) old new → found ≡ flow.Stopped
     → Tells (inner_reason (plain_gate old) (label_at value_at (suc (length old.frames)) old) b) s found old new
 value_block false b found s old new e h ef = rw e (tells_refusal bad_tag (Some bad_tag) s found old new h ef refl)
 value_block true b found s old new e h ef = rw e (tells_refusal bad_tag (Some bad_tag) s found old new h ef refl)
 
-pub top_end : (b : ℕ) (found : Bool) (s : State) (old new : Seen) → b ≡ 0x78 → StopsWith (refusal old.meter (named bad_tag)) old new → found ≡ false
+pub top_end : (b : ℕ) (found : Flow) (s : State) (old new : Seen) → b ≡ 0x78 → StopsWith (refusal old.meter (named bad_tag)) old new → found ≡ flow.Stopped
     → Tells (content_reason (plain_gate old) (label_at top_at 1 old) b) s found old new
 top_end b found s old new e h ef = rw e (tells_refusal bad_tag (Some bad_tag) s found old new h ef refl)
 
-pub value_end : (b : ℕ) (found : Bool) (s : State) (old new : Seen) → b ≡ 0x78 → StopsWith (refusal old.meter (named bad_tag)) old new → found ≡ false
+pub value_end : (b : ℕ) (found : Flow) (s : State) (old new : Seen) → b ≡ 0x78 → StopsWith (refusal old.meter (named bad_tag)) old new → found ≡ flow.Stopped
     → Tells (inner_reason (plain_gate old) (label_at value_at (suc (length old.frames)) old) b) s found old new
 value_end b found s old new e h ef = rw e (tells_refusal bad_tag (Some bad_tag) s found old new h ef refl)
 
-pub top_exception : (b : ℕ) (found : Bool) (s : State) (old new : Seen) → b ≡ 0x7B → StopsWith (refusal old.meter (named exception_tag)) old new → found ≡ false
+pub top_exception : (b : ℕ) (found : Flow) (s : State) (old new : Seen) → b ≡ 0x7B → StopsWith (refusal old.meter (named exception_tag)) old new → found ≡ flow.Stopped
     → Tells (content_reason (plain_gate old) (label_at top_at 1 old) b) s found old new
 top_exception b found s old new e h ef = rw e (tells_refusal exception_tag (Some exception_tag) s found old new h ef refl)
 
-pub note_exception : (b : ℕ) (found : Bool) (s : State) (old new : Seen) → b ≡ 0x7B → StopsWith (refusal old.meter (named exception_tag)) old new → found ≡ false
+pub note_exception : (b : ℕ) (found : Flow) (s : State) (old new : Seen) → b ≡ 0x7B → StopsWith (refusal old.meter (named exception_tag)) old new → found ≡ flow.Stopped
     → Tells (inner_reason (plain_gate old) (label_at annotation_at (suc (length old.frames)) old) b) s found old new
 note_exception b found s old new e h ef = rw e (tells_refusal exception_tag (Some exception_tag) s found old new h ef refl)
 
-pub value_exception : (b : ℕ) (found : Bool) (s : State) (old new : Seen) → b ≡ 0x7B → StopsWith (refusal old.meter (named exception_tag)) old new → found ≡ false
+pub value_exception : (b : ℕ) (found : Flow) (s : State) (old new : Seen) → b ≡ 0x7B → StopsWith (refusal old.meter (named exception_tag)) old new → found ≡ flow.Stopped
     → Tells (inner_reason (plain_gate old) (label_at value_at (suc (length old.frames)) old) b) s found old new
 value_exception b found s old new e h ef = rw e (tells_refusal exception_tag (Some exception_tag) s found old new h ef refl)
 
-pub note_reset : (b : ℕ) (found : Bool) (s : State) (old new : Seen) → b ≡ 0x79 → StopsWith (refusal old.meter (named reset_inside)) old new → found ≡ false
+pub note_reset : (b : ℕ) (found : Flow) (s : State) (old new : Seen) → b ≡ 0x79 → StopsWith (refusal old.meter (named reset_inside)) old new → found ≡ flow.Stopped
     → Tells (inner_reason (plain_gate old) (label_at annotation_at (suc (length old.frames)) old) b) s found old new
 note_reset b found s old new e h ef = rw e (tells_refusal reset_inside (Some reset_inside) s found old new h ef refl)
 
-pub value_reset : (b : ℕ) (found : Bool) (s : State) (old new : Seen) → b ≡ 0x79 → StopsWith (refusal old.meter (named reset_inside)) old new → found ≡ false
+pub value_reset : (b : ℕ) (found : Flow) (s : State) (old new : Seen) → b ≡ 0x79 → StopsWith (refusal old.meter (named reset_inside)) old new → found ≡ flow.Stopped
     → Tells (inner_reason (plain_gate old) (label_at value_at (suc (length old.frames)) old) b) s found old new
 value_reset b found s old new e h ef = rw e (tells_refusal reset_inside (Some reset_inside) s found old new h ef refl)
 
-pub top_reset : (b : ℕ) (found : Bool) (old new : Seen) → b ≡ 0x79 → Comes old new (after_content old (Some reset_tag_token)) → found ≡ true
+pub top_reset : (b : ℕ) (found : Flow) (old new : Seen) → b ≡ 0x79 → Comes old new (after_content old (Some reset_tag_token)) → found ≡ flow.On
     → Tells (content_reason (plain_gate old) (label_at top_at 1 old) b) (after_content old (tag_from b)) found old new
 unfolding tag_from
 top_reset b found old new e h ef = rw e (tells_next None (after_content old (Some reset_tag_token)) found old new h ef refl)
 
-pub note_end : (b : ℕ) (found : Bool) (old new : Seen) → b ≡ 0x78 → Comes old new (after_end old) → found ≡ true
+pub note_end : (b : ℕ) (found : Flow) (old new : Seen) → b ≡ 0x78 → Comes old new (after_end old) → found ≡ flow.On
     → Tells (inner_reason (plain_gate old) (label_at annotation_at (suc (length old.frames)) old) b) (after_content old (tag_from b)) found old new
 unfolding tag_from
 note_end b found old new e h ef = rw e (tells_next None (after_end old) found old new h ef refl)

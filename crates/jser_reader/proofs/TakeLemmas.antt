@@ -1,5 +1,5 @@
 -- Tags and numbers that are taken: from the handler's clause to the walk over their bytes.
-use Rattle.std.proofs.Common.{◌≡◌, ℕ, suc, ◌+◌, ◌-◌, ◌^◌, ◌<◌, ◌≤◌, Bool, true, false, List, [], ◌∷◌, ◌++◌, length, get_or, take, Option, Some, None, option_map, refl, sym, ◌∙◌, ap, subst, arith}
+use Rattle.std.proofs.Common.{◌≡◌, ℕ, suc, ◌+◌, ◌-◌, ◌^◌, ◌<◌, ◌≤◌, true, List, [], ◌∷◌, ◌++◌, length, get_or, take, Option, Some, None, option_map, refl, sym, ◌∙◌, ap, subst, arith}
 use Rattle.jser_table.specs.Codes.{PrimCode, size_of}
 use Rattle.jser_table.specs.Entries.{chain_at}
 use Rattle.jser_reading.specs.Labels.{top_at, annotation_at, value_at, class_place_at, class_handle_at}
@@ -7,6 +7,8 @@ use Rattle.jser_reading.specs.TokensFromBytes.{tag_from}
 use Rattle.jser_verdict.specs.Reasons.{handle_space}
 use Rattle.jser_verdict.specs.Gates.{Gate}
 use Rattle.jser_verdict.specs.Verdicts.{told_if, content_reason, inner_reason, class_tag_reason, class_handle_reason, array_reason, count_reason, flags_reason, code_reason}
+use Rattle.jser_reader.specs.declared.machine.flow.Flow.{Flow}
+use Rattle.jser_reader.specs.declared.machine.flow.Flow.TheVariants as flow
 use Rattle.jser_reader.specs.declared.machine.take.taken.Taken.{Taken}
 use Rattle.jser_reader.specs.declared.phase.Phase.{Phase}
 use Rattle.jser_reader.specs.declared.phase.Phase.TheVariants as phase
@@ -46,45 +48,45 @@ counts_one b old mid e = counts_bytes (b ∷ []) 1 old mid e refl
 
 -- ---- tags, and the length of a short block
 
-pub takes_top : (b : ℕ) (found : Bool) (old mid new : Seen)
+pub takes_top : (b : ℕ) (found : Flow) (old mid new : Seen)
     → (mid.frames ≡ [] → Tells (content_reason (plain_gate mid) (label_at top_at 1 mid) b) (after_content mid (tag_from b)) found mid new)
     → mid ≡ farther old 1 → old.phase ≡ phase.Top → TakesByte b found old new
 unfolding TakesByte
 takes_top b found old mid new h m ep = λ gate. top_taken gate b found old mid new h ep (counts_one b old mid m)
 
-pub takes_note : (b : ℕ) (found : Bool) (old mid new : Seen)
+pub takes_note : (b : ℕ) (found : Flow) (old mid new : Seen)
     → (HasNotes mid.frames → Tells (inner_reason (plain_gate mid) (label_at annotation_at (suc (length mid.frames)) mid) b) (after_content mid (tag_from b)) found mid new)
     → mid ≡ farther old 1 → old.phase ≡ phase.Note → TakesByte b found old new
 unfolding TakesByte
 takes_note b found old mid new h m ep = λ gate. note_taken gate b found old mid new h ep (counts_one b old mid m)
 
-pub takes_value : (b : ℕ) (found : Bool) (old mid new : Seen)
+pub takes_value : (b : ℕ) (found : Flow) (old mid new : Seen)
     → Tells (inner_reason (plain_gate mid) (label_at value_at (suc (length mid.frames)) mid) b) (after_content mid (tag_from b)) found mid new
     → mid ≡ farther old 1 → old.phase ≡ phase.Value → TakesByte b found old new
 unfolding TakesByte
 takes_value b found old mid new h m ep = λ gate. value_taken gate b found old mid new h ep (counts_one b old mid m)
 
-pub takes_class_tag : (b : ℕ) (found : Bool) (old mid new : Seen)
+pub takes_class_tag : (b : ℕ) (found : Flow) (old mid new : Seen)
     → Tells (class_tag_reason (plain_gate mid) (label_at (class_place_at (goal_owner mid.owner)) (suc (length mid.frames)) mid) (goal_owner mid.owner) b)
     (after_class_tag mid (tag_from b)) found mid new
     → mid ≡ farther old 1 → old.phase ≡ phase.ClassTag → TakesByte b found old new
 unfolding TakesByte
 takes_class_tag b found old mid new h m ep = λ gate. class_tag_taken gate b found old mid new h ep (counts_one b old mid m)
 
-pub takes_super_tag : (b : ℕ) (found : Bool) (old mid new : Seen)
+pub takes_super_tag : (b : ℕ) (found : Flow) (old mid new : Seen)
     → (HasDescriptor mid.frames → Tells (super_reason mid b) (after_super_tag mid (tag_from b)) found mid new)
     → mid ≡ farther old 1 → old.phase ≡ phase.SuperTag → TakesByte b found old new
 unfolding TakesByte
 takes_super_tag b found old mid new h m ep = λ gate. super_tag_taken gate b found old mid new h ep (counts_one b old mid m)
 
-pub takes_block_length : (n : ℕ) (found : Bool) (old mid new : Seen) → TellsSurely None (after_block_length mid n) found mid new
+pub takes_block_length : (n : ℕ) (found : Flow) (old mid new : Seen) → TellsSurely None (after_block_length mid n) found mid new
     → mid ≡ farther old 1 → old.phase ≡ phase.BlockLength1 → TakesByte n found old new
 unfolding TakesByte
 takes_block_length n found old mid new h m ep = λ gate. byte_length_taken gate n found old mid new h ep (counts_one n old mid m)
 
 -- ---- the tag of a text place
 
-pub takes_text_tag : (b : ℕ) (found : Bool) (old mid new : Seen)
+pub takes_text_tag : (b : ℕ) (found : Flow) (old mid new : Seen)
     → (IsForm mid.text true → IsInside mid.text mid.frames → Tells (text_tag_reason mid b) (after_text_tag mid (tag_from b)) found mid new)
     → mid ≡ farther old 1 → old.phase ≡ phase.TextTag → TakesByte b found old new
 unfolding TakesByte
@@ -92,13 +94,13 @@ takes_text_tag b found old mid new h m ep = λ gate. text_tag_taken gate b found
 
 -- ---- a descriptor: its flags, and the type code of a field
 
-pub takes_flags : (n : ℕ) (found : Bool) (old mid new : Seen)
+pub takes_flags : (n : ℕ) (found : Flow) (old mid new : Seen)
     → (HasDescriptor mid.frames → Tells (flags_reason (top_role mid.frames) n) (field_count_state mid n) found mid new)
     → mid ≡ farther old 1 → old.phase ≡ phase.Flags → TakesByte n found old new
 unfolding TakesByte
 takes_flags n found old mid new h m ep = λ gate. flags_taken gate n found old mid new h ep (counts_one n old mid m)
 
-pub takes_type_code : (b : ℕ) (found : Bool) (old mid new : Seen)
+pub takes_type_code : (b : ℕ) (found : Flow) (old mid new : Seen)
     → (HasDescriptor mid.frames → 0 < mid.header.fields → Tells (code_reason mid.header.seen b) (after_code mid b) found mid new)
     → mid ≡ farther old 1 → old.phase ≡ phase.TypeCode → TakesByte b found old new
 unfolding TakesByte
@@ -120,12 +122,12 @@ no_other_one phase.BlockLength1 i t n v c s x f k b = b refl
 no_other_one _ i t n v c s x f k b = absurd i
 
 -- bytes of a piece end the open token, or the machine stops at them
-pub taken_so_far : (gate : Gate) (count : ℕ) (found : Bool) (result : Taken) (piece : List ℕ) (old new : Seen)
+pub taken_so_far : (gate : Gate) (count : ℕ) (found : Flow) (result : Taken) (piece : List ℕ) (old new : Seen)
     → Takes gate (take count piece) found old new → result ≡ taken_by count found → 0 < count → count ≤ length piece
     → IsWholeLength (open_phase old) (cut_of old ++ take count piece) → TakesFromFor gate result piece old new
 unfolding TakesFromFor
-taken_so_far gate count true result piece old new h er some within whole = rw er (some, within, h, whole)
-taken_so_far gate count false result piece old new h er some within whole = rw er (some, within, h)
+taken_so_far gate count flow.On result piece old new h er some within whole = rw er (some, within, h, whole)
+taken_so_far gate count flow.Stopped result piece old new h er some within whole = rw er (some, within, h)
 
 -- a token of one byte is no length
 one_is_whole : (p : Phase) (cut_phase : Phase) (bytes : List ℕ) → IsOne p → IsWholeLength (open_in p cut_phase) bytes
@@ -141,7 +143,7 @@ one_is_whole phase.BlockLength1 cut_phase bytes i = tt
 one_is_whole _ cut_phase bytes i = absurd i
 
 -- the first byte of a piece
-pub one_taken : (b : ℕ) (found : Bool) (result : Taken) (piece : List ℕ) (old new : Seen) → TakesByte b found old new → result ≡ taken_by 1 found
+pub one_taken : (b : ℕ) (found : Flow) (result : Taken) (piece : List ℕ) (old new : Seen) → TakesByte b found old new → result ≡ taken_by 1 found
     → b ≡ get_or piece 0 0 → 0 < length piece → IsOne old.phase → TakesFrom result piece old new
 unfolding TakesByte
 one_taken b found result piece old new h er is some one =
@@ -154,13 +156,13 @@ one_taken b found result piece old new h er is some one =
 
 -- ---- numbers
 
-pub takes_back_handle : (n count : ℕ) (found : Bool) (old mid new : Seen) → TellsSurely (back_reason mid n) (after_value mid) found mid new
+pub takes_back_handle : (n count : ℕ) (found : Flow) (old mid new : Seen) → TellsSurely (back_reason mid n) (after_value mid) found mid new
     → mid ≡ farther old count → open_phase old ≡ phase.BackHandle → 0 < count → n < 2 ^ 32 → TakesNumber 4 n count found old new
 unfolding TakesNumber TakesNumberFor
 takes_back_handle n count found old mid new h m eo some small = λ gate taken size spelled.
     back_handle_taken gate n found old mid new taken h eo (omega arith) (number_in_4 n _ spelled small) (counts_bytes taken count old mid m size)
 
-pub takes_class_handle : (n count : ℕ) (found : Bool) (old mid new : Seen)
+pub takes_class_handle : (n count : ℕ) (found : Flow) (old mid new : Seen)
     → Tells (class_handle_reason (plain_gate mid) (label_at (class_handle_at (goal_owner mid.owner)) (suc (length mid.frames)) mid) (goal_owner mid.owner) n)
     (owner_state mid (chain_at mid.table.entries (n - 0x7E0000))) found mid new
     → mid ≡ farther old count → open_phase old ≡ phase.ClassHandle → 0 < count → n < 2 ^ 32 → TakesNumber 4 n count found old new
@@ -168,41 +170,41 @@ unfolding TakesNumber TakesNumberFor
 takes_class_handle n count found old mid new h m eo some small = λ gate taken size spelled.
     class_handle_taken gate n found old mid new taken h eo (omega arith) (number_in_4 n _ spelled small) (counts_bytes taken count old mid m size)
 
-pub takes_super_handle : (n count : ℕ) (found : Bool) (old mid new : Seen)
+pub takes_super_handle : (n count : ℕ) (found : Flow) (old mid new : Seen)
     → (HasDescriptor mid.frames → Tells (super_handle_reason mid n) (closed_state mid (Some (n - 0x7E0000))) found mid new)
     → mid ≡ farther old count → open_phase old ≡ phase.SuperHandle → 0 < count → n < 2 ^ 32 → TakesNumber 4 n count found old new
 unfolding TakesNumber TakesNumberFor
 takes_super_handle n count found old mid new h m eo some small = λ gate taken size spelled.
     super_handle_taken gate n found old mid new taken h eo (omega arith) (number_in_4 n _ spelled small) (counts_bytes taken count old mid m size)
 
-pub takes_array_length : (n count : ℕ) (found : Bool) (old mid new : Seen)
+pub takes_array_length : (n count : ℕ) (found : Flow) (old mid new : Seen)
     → ((elements : Option PrimCode) → mid.elements ≡ option_map size_of elements → Tells (array_reason (plain_gate mid) n) (after_length mid elements n) found mid new)
     → mid ≡ farther old count → open_phase old ≡ phase.ArrayLength → 0 < count → n < 2 ^ 32 → TakesNumber 4 n count found old new
 unfolding TakesNumber TakesNumberFor
 takes_array_length n count found old mid new h m eo some small = λ gate taken size spelled.
     array_length_taken gate n found old mid new taken h eo (omega arith) (number_in_4 n _ spelled small) (counts_bytes taken count old mid m size)
 
-pub takes_long_block_length : (n count : ℕ) (found : Bool) (old mid new : Seen)
+pub takes_long_block_length : (n count : ℕ) (found : Flow) (old mid new : Seen)
     → TellsSurely (count_reason (2 ^ 31) n) (after_block_length mid n) found mid new
     → mid ≡ farther old count → open_phase old ≡ phase.BlockLength4 → 0 < count → n < 2 ^ 32 → TakesNumber 4 n count found old new
 unfolding TakesNumber TakesNumberFor
 takes_long_block_length n count found old mid new h m eo some small = λ gate taken size spelled.
     block_length_taken gate n found old mid new taken h eo (omega arith) (number_in_4 n _ spelled small) (counts_bytes taken count old mid m size)
 
-pub takes_interface_count : (n count : ℕ) (found : Bool) (old mid new : Seen)
+pub takes_interface_count : (n count : ℕ) (found : Flow) (old mid new : Seen)
     → (HasDescriptor mid.frames → Tells (count_reason (2 ^ 31) n) (after_interfaces mid n) found mid new)
     → mid ≡ farther old count → open_phase old ≡ phase.InterfaceCount → 0 < count → n < 2 ^ 32 → TakesNumber 4 n count found old new
 unfolding TakesNumber TakesNumberFor
 takes_interface_count n count found old mid new h m eo some small = λ gate taken size spelled.
     interface_count_taken gate n found old mid new taken h eo (omega arith) (number_in_4 n _ spelled small) (counts_bytes taken count old mid m size)
 
-pub takes_suid : (count : ℕ) (found : Bool) (old mid new : Seen) → Tells (told_if (is_full mid) handle_space None) (after_suid mid) found mid new
+pub takes_suid : (count : ℕ) (found : Flow) (old mid new : Seen) → Tells (told_if (is_full mid) handle_space None) (after_suid mid) found mid new
     → mid ≡ farther old count → open_phase old ≡ phase.Suid → 0 < count → (n : ℕ) → n < 2 ^ 64 → TakesNumber 8 n count found old new
 unfolding TakesNumber TakesNumberFor
 takes_suid count found old mid new h m eo some n small = λ gate taken size spelled.
     suid_taken gate n found old mid new taken h eo (omega arith) (number_in_8 n _ spelled small) (counts_bytes taken count old mid m size)
 
-pub takes_field_count : (n count : ℕ) (found : Bool) (old mid new : Seen)
+pub takes_field_count : (n count : ℕ) (found : Flow) (old mid new : Seen)
     → (HasDescriptor mid.frames → Tells (count_reason (2 ^ 15) n) (after_field_count mid n) found mid new)
     → mid ≡ farther old count → open_phase old ≡ phase.FieldCount → 0 < count → n < 2 ^ 16 → TakesNumber 2 n count found old new
 unfolding TakesNumber TakesNumberFor

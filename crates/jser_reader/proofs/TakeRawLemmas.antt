@@ -1,7 +1,8 @@
 -- Bytes of raw tokens that are taken, and the walk over them.
-use Rattle.std.proofs.Common.{◌≡◌, ℕ, ◌+◌, ◌<◌, ◌≤◌, max, min, true, List, ◌++◌, length, take, refl, sym, ◌∙◌, ap, subst, arith}
+use Rattle.std.proofs.Common.{◌≡◌, ℕ, ◌+◌, ◌<◌, ◌≤◌, max, min, List, ◌++◌, length, take, refl, sym, ◌∙◌, ap, subst, arith}
 use Rattle.std.proofs.lemmas.List.{length-take-le, take_all}
 use Rattle.jser_reading.specs.Goals.{settled}
+use Rattle.jser_reader.specs.declared.machine.flow.Flow.TheVariants as flow
 use Rattle.jser_reader.specs.declared.machine.take.taken.Taken.{Taken}
 use Rattle.jser_reader.specs.declared.machine.take.taken.Taken.TheVariants as taken
 use Rattle.jser_reader.specs.declared.phase.Phase.TheVariants as phase
@@ -49,7 +50,7 @@ takes_prims (taken.Ended count) piece old new h ep some = λ gate. (
       let x : PrimsStands old (settled s) cut = subst (λ p. StandsAt p old (settled s) cut) ep st.stands in
       let n = length-take-le count piece h.1 in
       prims_taken gate old (farther old count) new (take count piece)
-      (tells_next _ (after_value (farther old count)) true (farther old count) new h.3 refl refl) ep (let z = h.0 in omega arith) (n ∙ h.2 x.goes_on)
+      (tells_next _ (after_value (farther old count)) flow.On (farther old count) new h.3 refl refl) ep (let z = h.0 in omega arith) (n ∙ h.2 x.goes_on)
       (counts_bytes (take count piece) count old (farther old count) refl n) s cut st,
   subst (λ p. IsWholeLength (open_in p old.meter.cut_phase) (cut_of old ++ take count piece)) (sym ep) tt,
 )
@@ -73,7 +74,7 @@ takes_block (taken.Ended count) piece old new h ep some = λ gate. (
       let x : BytesStands old (settled s) cut = subst (λ p. StandsAt p old (settled s) cut) ep st.stands in
       let n = length-take-le count piece h.1 in
       block_taken gate old (farther old count) new (take count piece)
-      (tells_next _ (after_value (farther old count)) true (farther old count) new h.3 refl refl) ep (let z = h.0 in omega arith) (n ∙ h.2 x.goes_on)
+      (tells_next _ (after_value (farther old count)) flow.On (farther old count) new h.3 refl refl) ep (let z = h.0 in omega arith) (n ∙ h.2 x.goes_on)
       (counts_bytes (take count piece) count old (farther old count) refl n) s cut st,
   subst (λ p. IsWholeLength (open_in p old.meter.cut_phase) (cut_of old ++ take count piece)) (sym ep) tt,
 )

@@ -11,6 +11,8 @@ use Rattle.jser_verdict.specs.TagRows.{is_known_tag}
 use Rattle.jser_verdict.specs.HandleRows.{is_no_handle, entry_named, is_no_text}
 use Rattle.jser_verdict.specs.Gates.{Gate}
 use Rattle.jser_verdict.specs.Verdicts.{told_if, class_name_reason, interface_reason}
+use Rattle.jser_reader.specs.declared.machine.flow.Flow.{Flow}
+use Rattle.jser_reader.specs.declared.machine.flow.Flow.TheVariants as flow
 use Rattle.jser_reader.specs.declared.phase.Phase.TheVariants as phase
 use Rattle.jser_reader.specs.declared.phase.TextFor.{TextFor}
 use Rattle.jser_reader.specs.declared.phase.TextFor.TheVariants as text
@@ -34,20 +36,20 @@ not_known : (b : ℕ) → (b < 0x70) ⊎ (0x7E < b) → is_known_tag text_place_
 not_known b (inl h) = grind (arith, nat_tests)
 not_known b (inr h) = grind (arith, nat_tests)
 
-refused : (b : ℕ) (s : State) (found : Bool) (old new : Seen) → text_tag_reason old b ≡ Some bad_tag
-    → StopsWith (refusal old.meter (named bad_tag)) old new → found ≡ false → Tells (text_tag_reason old b) s found old new
+refused : (b : ℕ) (s : State) (found : Flow) (old new : Seen) → text_tag_reason old b ≡ Some bad_tag
+    → StopsWith (refusal old.meter (named bad_tag)) old new → found ≡ flow.Stopped → Tells (text_tag_reason old b) s found old new
 refused b s found old new e h ef = tells_refusal bad_tag (text_tag_reason old b) s found old new h ef e
 
-pub no_text_tag : (b : ℕ) (s : State) (found : Bool) (old new : Seen) → IsTagOf b None → StopsWith (refusal old.meter (named bad_tag)) old new → found ≡ false
+pub no_text_tag : (b : ℕ) (s : State) (found : Flow) (old new : Seen) → IsTagOf b None → StopsWith (refusal old.meter (named bad_tag)) old new → found ≡ flow.Stopped
     → Tells (text_tag_reason old b) s found old new
 no_text_tag b s found old new t h ef = let k = not_known b t in refused b s found old new (rw k refl) h ef
 
-pub text_block : (long : Bool) (b : ℕ) (s : State) (found : Bool) (old new : Seen) → b ≡ block_byte long → StopsWith (refusal old.meter (named bad_tag)) old new → found ≡ false
+pub text_block : (long : Bool) (b : ℕ) (s : State) (found : Flow) (old new : Seen) → b ≡ block_byte long → StopsWith (refusal old.meter (named bad_tag)) old new → found ≡ flow.Stopped
     → Tells (text_tag_reason old b) s found old new
 text_block false b s found old new e h ef = rw e (refused 0x77 s found old new refl h ef)
 text_block true b s found old new e h ef = rw e (refused 0x7A s found old new refl h ef)
 
-pub text_other : (b : ℕ) (s : State) (found : Bool) (old new : Seen) → (b ≡ 0x78) ⊎ ((b ≡ 0x79) ⊎ (b ≡ 0x7B)) → StopsWith (refusal old.meter (named bad_tag)) old new → found ≡ false
+pub text_other : (b : ℕ) (s : State) (found : Flow) (old new : Seen) → (b ≡ 0x78) ⊎ ((b ≡ 0x79) ⊎ (b ≡ 0x7B)) → StopsWith (refusal old.meter (named bad_tag)) old new → found ≡ flow.Stopped
     → Tells (text_tag_reason old b) s found old new
 text_other b s found old new (inl e) h ef = rw e (refused 0x78 s found old new refl h ef)
 text_other b s found old new (inr (inl e)) h ef = rw e (refused 0x79 s found old new refl h ef)
@@ -71,7 +73,7 @@ no_text_reason value.Reference r i = absurd i
 no_text_reason value.String r i = absurd i
 no_text_reason value.LongString r i = absurd i
 
-pub no_text_value : (t : ValueTag) (s : State) (found : Bool) (old new : Seen) → StopsWith (refusal old.meter (named bad_tag)) old new → found ≡ false → IsNoText t
+pub no_text_value : (t : ValueTag) (s : State) (found : Flow) (old new : Seen) → StopsWith (refusal old.meter (named bad_tag)) old new → found ≡ flow.Stopped → IsNoText t
     → Tells (text_tag_reason old (tag_byte (view_tag t))) s found old new
 no_text_value t s found old new h ef i = refused (tag_byte (view_tag t)) s found old new (no_text_reason t old i) h ef
 
@@ -89,7 +91,7 @@ long_told : (r : Seen) → text_tag_reason r 0x7C ≡ told_if (is_full r) handle
 unfolding tag_from
 long_told r = refl
 
-pub text_reference : (found : Bool) (old new : Seen) → IsNext phase.TextHandle old.owner old.elements old.header old.text old new → found ≡ true
+pub text_reference : (found : Flow) (old new : Seen) → IsNext phase.TextHandle old.owner old.elements old.header old.text old new → found ≡ flow.On
     → IsForm old.text true → IsInside old.text old.frames
     → Tells (text_tag_reason old (tag_byte (view_tag value.Reference))) (after_text_tag old (tag_from (tag_byte (view_tag value.Reference)))) found old new
 unfolding tag_from Ready
@@ -98,7 +100,7 @@ text_reference found old new n ef form inside =
     tells_next (text_tag_reason old 0x71) (after_text_tag old (tag_from 0x71)) found old new
     (record { ready = ready; meter = n.meter; max = ap (λ t. t.max) n.table }) ef (quiet_reference old)
 
-pub short_text : (found : Bool) (old new : Seen)
+pub short_text : (found : Flow) (old new : Seen)
     → (IsForm old.text true → IsInside old.text old.frames → Tells (told_if (is_full old) handle_space None) (opens_text old old.text false) found old new)
     → IsForm old.text true → IsInside old.text old.frames
     → Tells (text_tag_reason old (tag_byte (view_tag value.String))) (after_text_tag old (tag_from (tag_byte (view_tag value.String)))) found old new
@@ -106,7 +108,7 @@ unfolding tag_from
 short_text found old new h form inside =
     subst (λ k. Tells k (after_text_tag old (tag_from 0x74)) found old new) (sym (string_told old)) (h form inside)
 
-pub long_text : (found : Bool) (old new : Seen)
+pub long_text : (found : Flow) (old new : Seen)
     → (IsForm old.text true → IsInside old.text old.frames → Tells (told_if (is_full old) handle_space None) (opens_text old old.text true) found old new)
     → IsForm old.text true → IsInside old.text old.frames
     → Tells (text_tag_reason old (tag_byte (view_tag value.LongString))) (after_text_tag old (tag_from (tag_byte (view_tag value.LongString)))) found old new
@@ -114,7 +116,7 @@ unfolding tag_from
 long_text found old new h form inside =
     subst (λ k. Tells k (after_text_tag old (tag_from 0x7C)) found old new) (sym (long_told old)) (h form inside)
 
-pub text_value_tag : (t : ValueTag) (b : ℕ) (found : Bool) (old new : Seen) → b ≡ tag_byte (view_tag t)
+pub text_value_tag : (t : ValueTag) (b : ℕ) (found : Flow) (old new : Seen) → b ≡ tag_byte (view_tag t)
     → (IsForm old.text true → IsInside old.text old.frames
     → Tells (text_tag_reason old (tag_byte (view_tag t))) (after_text_tag old (tag_from (tag_byte (view_tag t)))) found old new)
     → IsForm old.text true → IsInside old.text old.frames
@@ -123,7 +125,7 @@ text_value_tag t b found old new e h form inside = rw e (h form inside)
 
 -- ---- the end of a text place
 
-pub constant_named : (found : Bool) (old new : Seen) → Comes old new (after_value old) → found ≡ true → (old.text ≡ text.FieldType → ⊥)
+pub constant_named : (found : Flow) (old new : Seen) → Comes old new (after_value old) → found ≡ flow.On → (old.text ≡ text.FieldType → ⊥)
     → IsForm old.text true → IsInside old.text old.frames
     → TellsSurely None (settle (moment_of old) (text_rest old old.text)) found old new
 unfolding after_value
@@ -138,7 +140,7 @@ constant_named found old new h ef other form inside = go old.text refl form
     go text.ClassName e form = absurd form
     go text.InterfaceName e form = absurd form
 
-pub type_named : (found : Bool) (old new : Seen)
+pub type_named : (found : Flow) (old new : Seen)
     → GoesOnFields found old new
     → old.text ≡ text.FieldType → IsForm old.text true → IsInside old.text old.frames
     → TellsSurely None (settle (moment_of old) (text_rest old old.text)) found old new
@@ -159,13 +161,13 @@ at_entry r n e low h =
     let named_is : entry_named r.table.entries n ≡ Some e = let t : nat_le 0x7E0000 n ≡ true = grind (arith, nat_tests) in rw t h in
     rw is (ap entry_reason named_is)
 
-pub low_text : (n : ℕ) (s : State) (found : Bool) (old new : Seen) → StopsWith (refusal old.meter (named no_such_handle)) old new → found ≡ false → n < 0x7E0000
+pub low_text : (n : ℕ) (s : State) (found : Flow) (old new : Seen) → StopsWith (refusal old.meter (named no_such_handle)) old new → found ≡ flow.Stopped → n < 0x7E0000
     → TellsSurely (handle_reason old n) s found old new
 low_text n s found old new h ef l =
     let is : is_no_handle old.table.entries n ≡ true = grind (arith, nat_tests) in
     surely_refused no_such_handle (handle_reason old n) s found old new h ef (rw is refl)
 
-pub no_such_text : (n : ℕ) (s : State) (found : Bool) (old new : Seen) → StopsWith (refusal old.meter (named no_such_handle)) old new → found ≡ false
+pub no_such_text : (n : ℕ) (s : State) (found : Flow) (old new : Seen) → StopsWith (refusal old.meter (named no_such_handle)) old new → found ≡ flow.Stopped
     → false ≡ is_some (slice_get old.table.entries (n - 0x7E0000)) → (n < 0x7E0000 → ⊥)
     → TellsSurely (handle_reason old n) s found old new
 no_such_text n s found old new h ef none low = go (slice_get old.table.entries (n - 0x7E0000)) refl none
@@ -177,7 +179,7 @@ no_such_text n s found old new h ef none low = go (slice_get old.table.entries (
         let is : is_no_handle old.table.entries n ≡ true = grind (arith, nat_tests) in
         surely_refused no_such_handle (handle_reason old n) s found old new h ef (rw is refl)
 
-pub wrong_text : (n : ℕ) (s : State) (found : Bool) (old new : Seen) → StopsWith (refusal old.meter (named wrong_kind)) old new → found ≡ false
+pub wrong_text : (n : ℕ) (s : State) (found : Flow) (old new : Seen) → StopsWith (refusal old.meter (named wrong_kind)) old new → found ≡ flow.Stopped
     → true ≡ is_some (slice_get old.table.entries (n - 0x7E0000)) → false ≡ is_text (slice_get old.table.entries (n - 0x7E0000)) → (n < 0x7E0000 → ⊥)
     → TellsSurely (handle_reason old n) s found old new
 wrong_text n s found old new h ef some other low = go (slice_get old.table.entries (n - 0x7E0000)) refl some other
@@ -192,7 +194,7 @@ wrong_text n s found old new h ef some other low = go (slice_get old.table.entri
     go None k some other = absurd (cc)
     go (Some e) k some other = surely_refused wrong_kind (handle_reason old n) s found old new h ef (at_entry old n e (omega arith) k ∙ wrong e other)
 
-pub right_text : (n : ℕ) (s : State) (found : Bool) (old new : Seen) → (IsForm old.text true → IsInside old.text old.frames → TellsSurely None s found old new)
+pub right_text : (n : ℕ) (s : State) (found : Flow) (old new : Seen) → (IsForm old.text true → IsInside old.text old.frames → TellsSurely None s found old new)
     → true ≡ is_text (slice_get old.table.entries (n - 0x7E0000)) → (n < 0x7E0000 → ⊥) → IsForm old.text true → IsInside old.text old.frames
     → TellsSurely (handle_reason old n) s found old new
 right_text n s found old new h is low form inside = go (slice_get old.table.entries (n - 0x7E0000)) refl is
@@ -206,7 +208,7 @@ right_text n s found old new h is low form inside = go (slice_get old.table.entr
 
 -- ---- the end of a text, by what it is read for
 
-ends_as : (gate : Gate) (t : TextFor) (units : List ℕ) (found : Bool) (old new : Seen) → old.text ≡ t
+ends_as : (gate : Gate) (t : TextFor) (units : List ℕ) (found : Flow) (old new : Seen) → old.text ≡ t
     → TellsSurely (text_reason_of gate old t units) (text_state_of old t units) found old new
     → TellsSurely (text_reason gate old units) (after_text old units) found old new
 unfolding after_text
@@ -219,13 +221,13 @@ inside_as t units r e h = subst (λ t. IsInside t r.frames) e h.inside
 name_is : (t : TextFor) (units : List ℕ) (r : Seen) → r.text ≡ t → is_checked t ≡ true → EndsText r units → r.name ≡ units
 name_is t units r e checked h = h.kept (ap is_checked e ∙ checked)
 
-pub value_ends : (gate : Gate) (found : Bool) (old new : Seen) → Comes old new (after_value old) → found ≡ true → old.text ≡ text.Value
+pub value_ends : (gate : Gate) (found : Flow) (old new : Seen) → Comes old new (after_value old) → found ≡ flow.On → old.text ≡ text.Value
     → (units : List ℕ) → EndsText old units → TellsSurely (text_reason gate old units) (after_text old units) found old new
 unfolding after_value
 value_ends gate found old new h ef e = λ units ends.
     ends_as gate text.Value units found old new e (surely_next None (text_state_of old text.Value units) found old new h ef refl)
 
-pub type_ends : (gate : Gate) (found : Bool) (old new : Seen)
+pub type_ends : (gate : Gate) (found : Flow) (old new : Seen)
     → GoesOnFields found old new
     → old.text ≡ text.FieldType
     → (units : List ℕ) → EndsText old units → TellsSurely (text_reason gate old units) (after_text old units) found old new
@@ -233,7 +235,7 @@ unfolding GoesOnFields
 type_ends gate found old new h e = λ units ends.
     ends_as gate text.FieldType units found old new e (h (inside_as text.FieldType units old e ends))
 
-pub field_named : (gate : Gate) (found : Bool) (old new : Seen)
+pub field_named : (gate : Gate) (found : Flow) (old new : Seen)
     → GoesOnFields found old new
     → old.text ≡ text.FieldName false
     → (units : List ℕ) → EndsText old units → TellsSurely (text_reason gate old units) (after_text old units) found old new
@@ -241,8 +243,8 @@ unfolding GoesOnFields
 field_named gate found old new h e = λ units ends.
     ends_as gate (text.FieldName false) units found old new e (h (inside_as (text.FieldName false) units old e ends))
 
-pub object_field_named : (gate : Gate) (found : Bool) (old new : Seen)
-    → IsNext phase.TextTag old.owner old.elements old.header text.FieldType old new → found ≡ true
+pub object_field_named : (gate : Gate) (found : Flow) (old new : Seen)
+    → IsNext phase.TextTag old.owner old.elements old.header text.FieldType old new → found ≡ flow.On
     → old.text ≡ text.FieldName true
     → (units : List ℕ) → EndsText old units → TellsSurely (text_reason gate old units) (after_text old units) found old new
 unfolding Ready
@@ -254,7 +256,7 @@ object_field_named gate found old new n ef e = λ units ends.
     (surely_next None (text_state_of old (text.FieldName true) units) found old new
     (record { ready = ready; meter = n.meter; max = ap (λ t. t.max) n.table }) ef refl)
 
-pub class_name_ends : (gate : Gate) (found : Bool) (old new : Seen)
+pub class_name_ends : (gate : Gate) (found : Flow) (old new : Seen)
     → TellsSurely (class_name_reason gate (head_role old) old.name) (named_state old old.name) found old new
     → old.text ≡ text.ClassName
     → (units : List ℕ) → EndsText old units → TellsSurely (text_reason gate old units) (after_text old units) found old new
@@ -263,7 +265,7 @@ class_name_ends gate found old new h e = λ units ends.
     (subst (λ name. TellsSurely (class_name_reason gate (head_role old) name) (named_state old name) found old new)
     (name_is text.ClassName units old e refl ends) h)
 
-pub interface_name_ends : (gate : Gate) (found : Bool) (old new : Seen)
+pub interface_name_ends : (gate : Gate) (found : Flow) (old new : Seen)
     → (HasDescriptor old.frames → TellsSurely (interface_reason gate old.name) (settle (moment_of old) (interfaces_goals old (old.header.interfaces - 1))) found old new)
     → old.text ≡ text.InterfaceName
     → (units : List ℕ) → EndsText old units → TellsSurely (text_reason gate old units) (after_text old units) found old new

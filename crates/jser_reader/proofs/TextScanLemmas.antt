@@ -7,6 +7,8 @@ use Rattle.jser_reading.specs.Goals.{State, settled}
 use Rattle.jser_reading.specs.Accepts.{label_of}
 use Rattle.jser_verdict.specs.Reasons.{bad_text}
 use Rattle.jser_verdict.specs.Gates.{Gate}
+use Rattle.jser_reader.specs.declared.machine.flow.Flow.{Flow}
+use Rattle.jser_reader.specs.declared.machine.flow.Flow.TheVariants as flow
 use Rattle.jser_reader.specs.declared.machine.take.taken.Taken.TheVariants as taken
 use Rattle.jser_reader.specs.declared.phase.Phase.TheVariants as phase
 use Rattle.jser_reader.specs.declared.refusal.Reason.TheVariants as reason
@@ -27,16 +29,16 @@ use Rattle.jser_reader.proofs.TextSteps.{text_kept, text_taken, bad_text_taken}
 
 -- ---- a unit that is kept
 
-pub keeps_none : (unit : Option ℕ) (b : Bool) (old new : Seen) → new ≡ old → b ≡ true → unit ≡ None → KeepsUnit unit b old new
+pub keeps_none : (unit : Option ℕ) (b : Flow) (old new : Seen) → new ≡ old → b ≡ flow.On → unit ≡ None → KeepsUnit unit b old new
 unfolding KeepsUnit
 keeps_none unit b old new e eb none =
     rw eb (rw none (e ∙ ap (λ name. record { meter = old.meter; phase = old.phase; frames = old.frames; layers = old.layers; table = old.table; refs = old.refs; owner = old.owner; elements = old.elements; header = old.header; text = old.text; left = old.left; scan = old.scan; name = name }) (sym (append-nil old.name))))
 
-pub keeps_unit : (unit : Option ℕ) (u : ℕ) (b : Bool) (old new : Seen) → new ≡ with_unit old (Some u) → b ≡ true → unit ≡ Some u → KeepsUnit unit b old new
+pub keeps_unit : (unit : Option ℕ) (u : ℕ) (b : Flow) (old new : Seen) → new ≡ with_unit old (Some u) → b ≡ flow.On → unit ≡ Some u → KeepsUnit unit b old new
 unfolding KeepsUnit
 keeps_unit unit u b old new e eb some = rw eb (rw some e)
 
-pub no_room : (unit : Option ℕ) (b : Bool) (old new : Seen) → StopsWith stop.OutOfMemory old new → b ≡ false → KeepsUnit unit b old new
+pub no_room : (unit : Option ℕ) (b : Flow) (old new : Seen) → StopsWith stop.OutOfMemory old new → b ≡ flow.Stopped → KeepsUnit unit b old new
 unfolding KeepsUnit
 no_room unit b old new h eb = rw eb h
 
@@ -84,17 +86,17 @@ unit_scanned : (b : ℕ) (unit : Option ℕ) (old new : Seen) (scan : Scan) → 
     → scan.left + 1 ≡ old.scan.left → Scanned (b ∷ []) old new
 unit_scanned b unit old new scan e push left = units_scanned (b ∷ []) (option_to_list unit) old new scan e push left
 
-pub name_goes_on : (b : ℕ) (unit : Option ℕ) (scan : Scan) (found : Bool) (old mid new : Seen) → KeepsUnit unit found mid new → mid ≡ scanned_on old 1 mid.scan
+pub name_goes_on : (b : ℕ) (unit : Option ℕ) (scan : Scan) (found : Flow) (old mid new : Seen) → KeepsUnit unit found mid new → mid ≡ scanned_on old 1 mid.scan
     → ((len : ℕ) (bytes units : List ℕ) → HasAccepted len bytes units scan → HasAccepted len (bytes ++ (b ∷ [])) (units ++ option_to_list unit) mid.scan)
     → mid.scan.left + 1 ≡ scan.left → scan ≡ old.scan → is_checked old.text ≡ true → ScansByte b found old new
 unfolding KeepsUnit ScansByte
-name_goes_on b unit scan true old mid new h m push left e checked =
+name_goes_on b unit scan flow.On old mid new h m push left e checked =
     unit_scanned b unit old new mid.scan (h ∙ ap (λ r. with_unit r unit) m)
     (λ len bytes units a. push len bytes units (subst (HasAccepted len bytes units) (sym e) a)) (left ∙ ap (λ k. k.left) e)
-name_goes_on b unit scan false old mid new h m push left e checked =
+name_goes_on b unit scan flow.Stopped old mid new h m push left e checked =
     inr (record { some = omega arith; within = omega arith; checked = checked; stops = record { phase = h.phase; stop = h.stop } })
 
-pub name_fault : (b : ℕ) (scan : Scan) (found : Bool) (old mid new : Seen) → StopsWith (refusal mid.meter reason.BadText) mid new → found ≡ false
+pub name_fault : (b : ℕ) (scan : Scan) (found : Flow) (old mid new : Seen) → StopsWith (refusal mid.meter reason.BadText) mid new → found ≡ flow.Stopped
     → mid.meter ≡ counted_on old.meter 1
     → ((len : ℕ) (bytes units : List ℕ) → HasAccepted len bytes units scan → BeginsText len (bytes ++ (b ∷ [])) → ⊥)
     → scan ≡ old.scan → ScansByte b found old new
@@ -162,11 +164,11 @@ scanned_after xs ys old mid new p q =
           };
     }
 
-pub one_more : (part : List ℕ) (i b : ℕ) (found : Bool) (old mid new : Seen) → Scanned (take i part) old mid → ScansByte b found mid new → found ≡ true
+pub one_more : (part : List ℕ) (i b : ℕ) (found : Flow) (old mid new : Seen) → Scanned (take i part) old mid → ScansByte b found mid new → found ≡ flow.On
     → take (i + 1) part ≡ take i part ++ (b ∷ []) → Scanned (take (i + 1) part) old new
 unfolding ScansByte
-one_more part i b true old mid new p q ef e = subst (λ xs. Scanned xs old new) (sym e) (scanned_after (take i part) (b ∷ []) old mid new p q)
-one_more part i b false old mid new p q ef e = absurd (cc)
+one_more part i b flow.On old mid new p q ef e = subst (λ xs. Scanned xs old new) (sym e) (scanned_after (take i part) (b ∷ []) old mid new p q)
+one_more part i b flow.Stopped old mid new p q ef e = absurd (cc)
 
 pub all_scanned : (part : List ℕ) (i : ℕ) (result : Option ℕ) (old new : Seen) → Scanned (take i part) old new → length part ≤ i → result ≡ None → Scans part result old new
 unfolding Scans
@@ -221,12 +223,12 @@ fault_after part i b old mid new p f inside e =
           };
     }
 
-pub stops_at : (part : List ℕ) (i b : ℕ) (found : Bool) (result : Option ℕ) (old mid new : Seen) → Scanned (take i part) old mid → ScansByte b found mid new → found ≡ false
+pub stops_at : (part : List ℕ) (i b : ℕ) (found : Flow) (result : Option ℕ) (old mid new : Seen) → Scanned (take i part) old mid → ScansByte b found mid new → found ≡ flow.Stopped
     → result ≡ Some (i + 1) → i < length part → take (i + 1) part ≡ take i part ++ (b ∷ []) → Scans part result old new
 unfolding ScansByte Scans
-stops_at part i b true result old mid new p q ef er inside e = absurd (cc)
-stops_at part i b false result old mid new p (inl f) ef er inside e = rw er (inl (fault_after part i b old mid new p f inside e))
-stops_at part i b false result old mid new p (inr r) ef er inside e =
+stops_at part i b flow.On result old mid new p q ef er inside e = absurd (cc)
+stops_at part i b flow.Stopped result old mid new p (inl f) ef er inside e = rw er (inl (fault_after part i b old mid new p f inside e))
+stops_at part i b flow.Stopped result old mid new p (inr r) ef er inside e =
     rw er (inr (record {
       some = omega arith;
       within = omega arith;
@@ -295,9 +297,9 @@ fault_taken gate piece part used count old new f e ep room within =
     let mid : Seen = farther old count in (
       omega arith,
       omega arith,
-      subst (λ xs. Takes gate xs false old new) same
-          (bad_text_taken gate (moment_of old, []) false old mid new part f.accepted
-          (tells_refusal bad_text (Some bad_text) (moment_of old, []) false mid new (record { phase = f.stops.phase; stop = f.stops.stop }) refl refl)
+      subst (λ xs. Takes gate xs flow.Stopped old new) same
+          (bad_text_taken gate (moment_of old, []) flow.Stopped old mid new part f.accepted
+          (tells_refusal bad_text (Some bad_text) (moment_of old, []) flow.Stopped mid new (record { phase = f.stops.phase; stop = f.stops.stop }) refl refl)
           ep room f.faults (counts_bytes (take (f.accepted + 1) part) count old mid refl size)),
     )
 
@@ -361,7 +363,7 @@ text_stays_open gate piece part used result old new h er e ep size left some =
     )
 
 -- while a text is open at least one byte of it is left
-one_left : (gate : Gate) (piece : List ℕ) (used : ℕ) (found : Bool) (old new : Seen) → Takes gate (take used piece) found old new → old.phase ≡ phase.Text
+one_left : (gate : Gate) (piece : List ℕ) (used : ℕ) (found : Flow) (old new : Seen) → Takes gate (take used piece) found old new → old.phase ≡ phase.Text
     → (0 < old.scan.left → 0 < used) → Takes gate (take (max used 1) piece) found old new
 unfolding Takes
 one_left gate piece used found old new h ep some = λ s cut st.
@@ -372,13 +374,13 @@ one_left gate piece used found old new h ep some = λ s cut st.
     let same : used ≡ max used 1 = omega arith in
     subst (λ k. Took gate s cut (take k piece) found old new) same (h s cut st)
 
-taken_cases : (gate : Gate) (piece : List ℕ) (count : ℕ) (found : Bool) (old new : Seen) → 0 < count → count ≤ length piece
+taken_cases : (gate : Gate) (piece : List ℕ) (count : ℕ) (found : Flow) (old new : Seen) → 0 < count → count ≤ length piece
     → Takes gate (take count piece) found old new → old.phase ≡ phase.Text → TakenCases gate (taken_by count found) piece old new
-taken_cases gate piece count true old new some within h ep =
+taken_cases gate piece count flow.On old new some within h ep =
     (some, within, h, subst (λ p. IsWholeLength (open_in p old.meter.cut_phase) (cut_of old ++ take count piece)) (sym ep) tt)
-taken_cases gate piece count false old new some within h ep = (some, within, h)
+taken_cases gate piece count flow.Stopped old new some within h ep = (some, within, h)
 
-pub text_ends : (gate : Gate) (piece part : List ℕ) (used : ℕ) (result : Option ℕ) (found : Bool) (old mid new : Seen)
+pub text_ends : (gate : Gate) (piece part : List ℕ) (used : ℕ) (result : Option ℕ) (found : Flow) (old mid new : Seen)
     → ((units : List ℕ) → EndsText mid units → TellsSurely (text_reason gate mid units) (after_text mid units) found mid new)
     → Scans part result old mid → result ≡ None → part ≡ take used piece → old.phase ≡ phase.Text → used ≡ min old.scan.left (length piece)
     → (0 < mid.scan.left → ⊥) → 0 < length piece → TakesFromFor gate (taken_by (max used 1) found) piece old new

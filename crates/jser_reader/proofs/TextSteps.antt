@@ -15,6 +15,8 @@ use Rattle.jser_reading.proofs.Decoding.{length-big_bytes}
 use Rattle.jser_verdict.specs.Reasons.{bad_text, negative_length}
 use Rattle.jser_verdict.specs.Gates.{Gate}
 use Rattle.jser_verdict.specs.Verdicts.{reason_at, verdict}
+use Rattle.jser_reader.specs.declared.machine.flow.Flow.{Flow}
+use Rattle.jser_reader.specs.declared.machine.flow.Flow.TheVariants as flow
 use Rattle.jser_reader.specs.declared.phase.Phase.TheVariants as phase
 use Rattle.jser_reader.specs.declared.phase.TextFor.{TextFor}
 use Rattle.jser_reader.specs.declared.phase.TextFor.TheVariants as text
@@ -79,7 +81,7 @@ same_reason gate r text.InterfaceName long units = refl
 
 -- ---- a whole text
 
-whole_taken : (gate : Gate) (found : Bool) (old mid new : Seen) (s : State) (cut taken : List ℕ) (long : Bool) (units : List ℕ)
+whole_taken : (gate : Gate) (found : Flow) (old mid new : Seen) (s : State) (cut taken : List ℕ) (long : Bool) (units : List ℕ)
     → (IsInside mid.text mid.frames → TellsSurely (text_reason gate mid units) (after_text mid units) found mid new)
     → Stands gate old (settled s) cut → Counts taken old mid → 0 < length taken
     → TextOpen old s long → IsText long units → spelled long units ≡ cut ++ taken
@@ -156,7 +158,7 @@ length_kept gate long old new piece ep ec ek eo some short c = λ s cut st.
     }
 
 -- the length of a text with no bytes ends it
-pub empty_text_taken : (gate : Gate) (long : Bool) (found : Bool) (old mid new : Seen) (taken : List ℕ)
+pub empty_text_taken : (gate : Gate) (long : Bool) (found : Flow) (old mid new : Seen) (taken : List ℕ)
     → (IsInside mid.text mid.frames → TellsSurely (text_reason gate mid []) (after_text mid []) found mid new)
     → open_phase old ≡ length_phase long → 0 < length taken → big_bytes (head_size long) 0 ≡ cut_of old ++ taken
     → Counts taken old mid
@@ -172,7 +174,7 @@ empty_text_taken gate long found old mid new taken h eo some e c = λ s cut st.
     empty true = (refl, omega arith)
 
 -- the length of a text and its bytes, all at once
-pub short_text_found : (gate : Gate) (found : Bool) (old mid new : Seen) (taken units : List ℕ)
+pub short_text_found : (gate : Gate) (found : Flow) (old mid new : Seen) (taken units : List ℕ)
     → (IsInside mid.text mid.frames → TellsSurely (text_reason gate mid units) (after_text mid units) found mid new)
     → old.phase ≡ phase.Length2 → 0 < length taken → Counts taken old mid → IsText false units → spelled false units ≡ taken → Takes gate taken found old new
 unfolding Takes
@@ -183,9 +185,9 @@ short_text_found gate found old mid new taken units h ep some c t e = λ s cut s
     (e ∙ ap (λ xs. xs ++ taken) (sym (o.cut_is ∙ w.1)))
 
 pub short_text_taken : (gate : Gate) (old mid new : Seen) (taken units : List ℕ)
-    → (IsInside mid.text mid.frames → TellsSurely (text_reason gate mid units) (after_text mid units) true mid new)
-    → old.phase ≡ phase.Length2 → 0 < length taken → Counts taken old mid → IsText false units → spelled false units ≡ taken → Takes gate taken true old new
-short_text_taken gate old mid new taken units h ep some c t e = short_text_found gate true old mid new taken units h ep some c t e
+    → (IsInside mid.text mid.frames → TellsSurely (text_reason gate mid units) (after_text mid units) flow.On mid new)
+    → old.phase ≡ phase.Length2 → 0 < length taken → Counts taken old mid → IsText false units → spelled false units ≡ taken → Takes gate taken flow.On old new
+short_text_taken gate old mid new taken units h ep some c t e = short_text_found gate flow.On old mid new taken units h ep some c t e
 
 -- the bytes of a text come next
 pub text_opened : (gate : Gate) (long : Bool) (len : ℕ) (old new : Seen) (taken : List ℕ)
@@ -232,7 +234,7 @@ text_opened gate long len old new taken ep read some bound eo e c = λ s cut st.
     }
 
 -- a long length whose highest bit is set
-pub negative_taken : (gate : Gate) (n : ℕ) (next : State) (found : Bool) (old mid new : Seen) (taken : List ℕ)
+pub negative_taken : (gate : Gate) (n : ℕ) (next : State) (found : Flow) (old mid new : Seen) (taken : List ℕ)
     → Tells (Some negative_length) next found mid new → 2 ^ 63 ≤ n → n < 2 ^ 64
     → open_phase old ≡ phase.Length8 → 0 < length taken → big_bytes 8 n ≡ cut_of old ++ taken
     → Counts taken old mid
@@ -307,7 +309,7 @@ text_kept gate old new piece ep en push left c = λ s cut st.
     }
 
 -- they end the text
-pub text_taken : (gate : Gate) (found : Bool) (old mid new : Seen) (taken : List ℕ)
+pub text_taken : (gate : Gate) (found : Flow) (old mid new : Seen) (taken : List ℕ)
     → ((units : List ℕ) → EndsText mid units → TellsSurely (text_reason gate mid units) (after_text mid units) found mid new)
     → old.phase ≡ phase.Text → (0 < old.scan.left → 0 < length taken)
     → ((len : ℕ) (before units : List ℕ) → HasRead old len before units → HasReadAfter mid len (before ++ taken) units)
@@ -345,7 +347,7 @@ last_undecided g l long len body b i k t short a c d e =
       | inr h ↦ begun_undecided g l long len body i k t a c h.0 h.1
     ]
 
-bad_text_last : (gate : Gate) (next : State) (found : Bool) (old mid new : Seen) (s : State) (cut front taken : List ℕ) (b : ℕ) (x : TextStands old (settled s) cut)
+bad_text_last : (gate : Gate) (next : State) (found : Flow) (old mid new : Seen) (s : State) (cut front taken : List ℕ) (b : ℕ) (x : TextStands old (settled s) cut)
     → Tells (Some bad_text) next found mid new → Stands gate old (settled s) cut → Counts taken old mid
     → taken ≡ front ++ (b ∷ []) → length (x.before ++ taken) ≤ x.len → BeginsText x.len (x.before ++ front) → (BeginsText x.len (x.before ++ taken) → ⊥)
     → Took gate s cut taken found old new
@@ -362,7 +364,7 @@ bad_text_last gate next found old mid new s cut front taken b x h st c et size t
     (fault_reason gate (label_of (settled s)) x.long x.len (x.before ++ taken) i.is_text x.bound size none))
     (λ e. absurd (cc)) (λ _ refused. absurd (cc))
 
-pub bad_text_taken : (gate : Gate) (next : State) (found : Bool) (old mid new : Seen) (piece : List ℕ) (accepted : ℕ)
+pub bad_text_taken : (gate : Gate) (next : State) (found : Flow) (old mid new : Seen) (piece : List ℕ) (accepted : ℕ)
     → Tells (Some bad_text) next found mid new
     → old.phase ≡ phase.Text → length piece ≤ old.scan.left
     → ((len : ℕ) (before units : List ℕ) → HasRead old len before units → FaultsAfter len before piece accepted)

@@ -8,6 +8,8 @@ use Rattle.jser_reading.specs.TokensFromBytes.{head_size}
 use Rattle.jser_reading.specs.Goals.{settle}
 use Rattle.jser_verdict.specs.Reasons.{negative_length}
 use Rattle.jser_verdict.specs.Gates.{Gate}
+use Rattle.jser_reader.specs.declared.machine.flow.Flow.{Flow}
+use Rattle.jser_reader.specs.declared.machine.flow.Flow.TheVariants as flow
 use Rattle.jser_reader.specs.declared.machine.take.texts.Progress.{Progress}
 use Rattle.jser_reader.specs.declared.machine.take.texts.Progress.TheVariants as progress
 use Rattle.jser_reader.specs.declared.phase.Phase.TheVariants as phase
@@ -27,7 +29,7 @@ use Rattle.jser_reader.proofs.TextSteps.{empty_text_taken, text_opened, negative
 
 -- ---- the handle of a reference to a text
 
-pub takes_text_handle : (n count : ℕ) (found : Bool) (old mid new : Seen)
+pub takes_text_handle : (n count : ℕ) (found : Flow) (old mid new : Seen)
     → (IsForm mid.text true → IsInside mid.text mid.frames
     → TellsSurely (handle_reason mid n) (settle (moment_of mid) (text_rest mid mid.text)) found mid new)
     → mid ≡ farther old count → open_phase old ≡ phase.TextHandle → 0 < count → n < 2 ^ 32 → TakesNumber 4 n count found old new
@@ -72,7 +74,7 @@ same_state text.ClassName r scan units = refl
 same_state text.InterfaceName r scan units = refl
 
 -- what is told of a machine that was as far
-as_far : (gate : Gate) (found : Bool) (old new : Seen) (scan : Scan)
+as_far : (gate : Gate) (found : Flow) (old new : Seen) (scan : Scan)
     → TellsSurely (text_reason gate (scanning old scan) []) (after_text (scanning old scan) []) found (scanning old scan) new
     → TellsSurely (text_reason gate old []) (after_text old []) found old new
 unfolding after_text
@@ -81,7 +83,7 @@ as_far gate found old new scan h =
     (subst (λ k. TellsSurely k (text_state_of (scanning old scan) old.text []) found (scanning old scan) new) (same_told gate old.text old scan []) h)
     refl refl (same_state old.text old scan [])
 
-empty_ends : (gate : Gate) (n : ℕ) (found : Bool) (old mid new : Seen)
+empty_ends : (gate : Gate) (n : ℕ) (found : Flow) (old mid new : Seen)
     → ((units : List ℕ) → EndsText mid units → TellsSurely (text_reason gate mid units) (after_text mid units) found mid new)
     → mid ≡ scanning old mid.scan → (0 < n → ⊥) → EndsEmpty gate n found old new
 empty_ends gate n found old mid new h m none = record {
@@ -92,15 +94,15 @@ empty_ends gate n found old mid new h m none = record {
       (record { inside = inside; kept = λ _. refl }));
 }
 
-pub ends_empty : (gate : Gate) (n : ℕ) (found : Bool) (old mid new : Seen)
+pub ends_empty : (gate : Gate) (n : ℕ) (found : Flow) (old mid new : Seen)
     → ((units : List ℕ) → EndsText mid units → TellsSurely (text_reason gate mid units) (after_text mid units) found mid new)
-    → mid ≡ scanning old mid.scan → found ≡ true → (0 < n → ⊥) → TellsLength gate n progress.Ended old new
+    → mid ≡ scanning old mid.scan → found ≡ flow.On → (0 < n → ⊥) → TellsLength gate n progress.Ended old new
 unfolding TellsLength
 ends_empty gate n found old mid new h m ef none = subst (λ b. EndsEmpty gate n b old new) ef (empty_ends gate n found old mid new h m none)
 
-pub stops_empty : (gate : Gate) (n : ℕ) (found : Bool) (old mid new : Seen)
+pub stops_empty : (gate : Gate) (n : ℕ) (found : Flow) (old mid new : Seen)
     → ((units : List ℕ) → EndsText mid units → TellsSurely (text_reason gate mid units) (after_text mid units) found mid new)
-    → mid ≡ scanning old mid.scan → found ≡ false → (0 < n → ⊥) → TellsLength gate n progress.Stopped old new
+    → mid ≡ scanning old mid.scan → found ≡ flow.Stopped → (0 < n → ⊥) → TellsLength gate n progress.Stopped old new
 unfolding TellsLength
 stops_empty gate n found old mid new h m ef none = subst (λ b. EndsEmpty gate n b old new) ef (empty_ends gate n found old mid new h m none)
 
@@ -159,7 +161,7 @@ counts_no_more bytes old mid new c d = record {
   text = d.text ∙ c.text;
 }
 
-length_ends : (gate : Gate) (long : Bool) (n : ℕ) (found : Bool) (old mid new : Seen) (taken : List ℕ) → EndsEmpty gate n found mid new
+length_ends : (gate : Gate) (long : Bool) (n : ℕ) (found : Flow) (old mid new : Seen) (taken : List ℕ) → EndsEmpty gate n found mid new
     → Counts taken old mid → open_phase old ≡ length_phase long → 0 < length taken → big_bytes (head_size long) n ≡ cut_of old ++ taken
     → Takes gate taken found old new
 length_ends gate long n found old mid new taken h c eo some spelled =
@@ -174,9 +176,9 @@ takes_length gate long n count progress.Open old mid new h m eo some bound = λ 
     text_opened gate long n old new taken h.phase_is h.read h.some bound eo spelled
     (counts_no_more taken old mid new (counts_bytes taken count old mid m size) h.counts)
 takes_length gate long n count progress.Ended old mid new h m eo some bound = λ taken size spelled.
-    length_ends gate long n true old mid new taken h (counts_bytes taken count old mid m size) eo (omega arith) spelled
+    length_ends gate long n flow.On old mid new taken h (counts_bytes taken count old mid m size) eo (omega arith) spelled
 takes_length gate long n count progress.Stopped old mid new h m eo some bound = λ taken size spelled.
-    length_ends gate long n false old mid new taken h (counts_bytes taken count old mid m size) eo (omega arith) spelled
+    length_ends gate long n flow.Stopped old mid new taken h (counts_bytes taken count old mid m size) eo (omega arith) spelled
 
 pub takes_short_length : (gate : Gate) (n count : ℕ) (p : Progress) (old mid new : Seen) → TellsLength gate n p mid new → mid ≡ farther old count
     → open_phase old ≡ phase.Length2 → 0 < count → n < 2 ^ 16 → TakesLength gate 2 n count p old new
@@ -194,6 +196,6 @@ pub takes_negative_length : (gate : Gate) (n count : ℕ) (found : Bool) (old mi
     → TakesLength gate 8 n count progress.Stopped old new
 unfolding TakesLength
 takes_negative_length gate n count found old mid new h m eo some lo hi = λ taken size spelled.
-    negative_taken gate n (moment_of mid, []) false old mid new taken
-    (tells_refusal negative_length (Some negative_length) (moment_of mid, []) false mid new h refl refl)
+    negative_taken gate n (moment_of mid, []) flow.Stopped old mid new taken
+    (tells_refusal negative_length (Some negative_length) (moment_of mid, []) flow.Stopped mid new h refl refl)
     (omega arith) hi eo (omega arith) spelled (counts_bytes taken count old mid m size)

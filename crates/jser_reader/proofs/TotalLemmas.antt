@@ -1,5 +1,5 @@
 -- What a reader that keeps a tally knows after a piece, and at the end.
-use Rattle.std.proofs.Common.{◌≡◌, ℕ, ◌≤◌, true, List, ◌++◌, length, take, ◌∙◌, ap, subst}
+use Rattle.std.proofs.Common.{◌≡◌, ℕ, ◌≤◌, List, ◌++◌, length, take, ◌∙◌, ap, subst}
 use Rattle.jser_grammar.specs.Trees.{ContentTrees}
 use Rattle.jser_grammar.specs.Parts.{IsBytes}
 use Rattle.jser_reading.specs.Goals.{settled}
@@ -7,6 +7,7 @@ use Rattle.jser_reading.specs.Machine.{begin_state, left}
 use Rattle.jser_reading.specs.Scanner.{ended}
 use Rattle.jser_verdict.specs.Gates.{Gate}
 use Rattle.jser_verdict.specs.Passing.{Passes}
+use Rattle.jser_reader.specs.declared.machine.flow.Flow.TheVariants as flow
 use Rattle.jser_reader.specs.declared.phase.Phase.TheVariants as phase
 use Rattle.jser_reader.specs.declared.tally.Tally.{Tally}
 use Rattle.jser_reader.specs.Readers.{Seen}
@@ -20,11 +21,11 @@ use Rattle.jser_reader.proofs.StreamWalks.{ends_at_top}
 
 -- a token has ended within the piece
 pub token_counts : (gate : Gate) (bytes piece front : List ℕ) (n : ℕ) (old new : Seen) (tally : Tally) → IsWithin old piece front → n ≤ length front
-    → IsBytes piece → Takes gate (take n front) true old new → HasCounted gate bytes old tally → length bytes ≤ gate.bytes
+    → IsBytes piece → Takes gate (take n front) flow.On old new → HasCounted gate bytes old tally → length bytes ≤ gate.bytes
     → HasCounted gate (bytes ++ take n piece) new (tally_after (mark_of old) (mark_of new) tally)
     × (length (bytes ++ take n piece) ≤ gate.bytes)
 token_counts gate bytes piece front n old new tally w le h t c room = (
-  took_counts gate old new bytes (take n piece) tally (subst (λ xs. Takes gate xs true old new) (front_of_front old piece front n w le) t)
+  took_counts gate old new bytes (take n piece) tally (subst (λ xs. Takes gate xs flow.On old new) (front_of_front old piece front n w le) t)
       (bytes_front n piece h) c,
   (token_ends gate bytes piece front n old new w le h t c.taken room).1,
 )

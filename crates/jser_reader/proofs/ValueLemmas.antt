@@ -6,6 +6,8 @@ use Rattle.jser_reading.specs.Labels.{Tag, null_tag, reference_tag, class_desc_t
 use Rattle.jser_reading.specs.Goals.{State}
 use Rattle.jser_verdict.specs.Reasons.{Reason, handle_space, depth_exceeded, refs_exceeded}
 use Rattle.jser_verdict.specs.Verdicts.{told_if}
+use Rattle.jser_reader.specs.declared.machine.flow.Flow.{Flow}
+use Rattle.jser_reader.specs.declared.machine.flow.Flow.TheVariants as flow
 use Rattle.jser_reader.specs.declared.frame.Owner.TheVariants as owner
 use Rattle.jser_reader.specs.declared.frame.Role.{Role}
 use Rattle.jser_reader.specs.declared.frame.Role.TheVariants as role
@@ -19,89 +21,89 @@ use Rattle.jser_reader.specs.Handlers.{StopsWith, refusal, moved, Comes, Tells, 
 use Rattle.jser_reader.proofs.EndLemmas.{next_is, tells_next}
 
 -- nothing is refused and the state comes
-goes : (s : State) (b : Bool) (old new : Seen) → Comes old new s → b ≡ true → Tells None s b old new
+goes : (s : State) (b : Flow) (old new : Seen) → Comes old new s → b ≡ flow.On → Tells None s b old new
 goes s b old new h e = tells_next None s b old new h e refl
 
-pub null_begun : (b : Bool) (old new : Seen) → Comes old new (after_value old) → b ≡ true → Tells (handle_reason old null_tag) (begun old null_tag) b old new
+pub null_begun : (b : Flow) (old new : Seen) → Comes old new (after_value old) → b ≡ flow.On → Tells (handle_reason old null_tag) (begun old null_tag) b old new
 unfolding begun after_value
 null_begun b old new h e = goes (begun old null_tag) b old new h e
 
-pub back_begun : (b : Bool) (old new : Seen) → IsNext phase.BackHandle old.owner old.elements old.header old.text old new → b ≡ true
+pub back_begun : (b : Flow) (old new : Seen) → IsNext phase.BackHandle old.owner old.elements old.header old.text old new → b ≡ flow.On
     → Tells (handle_reason old reference_tag) (begun old reference_tag) b old new
 unfolding begun Ready
 back_begun b old new n e =
     let r : Ready new (begun old reference_tag) = rw (next_is phase.BackHandle old.owner old.elements old.header old.text old new n) refl in
     goes (begun old reference_tag) b old new (record { ready = r; meter = n.meter; max = ap (λ t. t.max) n.table }) e
 
-pub object_begun : (b : Bool) (old new : Seen) → IsNext phase.ClassTag owner.Object old.elements old.header old.text old new → b ≡ true
+pub object_begun : (b : Flow) (old new : Seen) → IsNext phase.ClassTag owner.Object old.elements old.header old.text old new → b ≡ flow.On
     → Tells (handle_reason old object_tag) (begun old object_tag) b old new
 unfolding begun Ready
 object_begun b old new n e =
     let r : Ready new (begun old object_tag) = rw (next_is phase.ClassTag owner.Object old.elements old.header old.text old new n) refl in
     goes (begun old object_tag) b old new (record { ready = r; meter = n.meter; max = ap (λ t. t.max) n.table }) e
 
-pub array_begun : (b : Bool) (old new : Seen) → IsNext phase.ClassTag owner.Array old.elements old.header old.text old new → b ≡ true
+pub array_begun : (b : Flow) (old new : Seen) → IsNext phase.ClassTag owner.Array old.elements old.header old.text old new → b ≡ flow.On
     → Tells (handle_reason old array_tag) (begun old array_tag) b old new
 unfolding begun Ready
 array_begun b old new n e =
     let r : Ready new (begun old array_tag) = rw (next_is phase.ClassTag owner.Array old.elements old.header old.text old new n) refl in
     goes (begun old array_tag) b old new (record { ready = r; meter = n.meter; max = ap (λ t. t.max) n.table }) e
 
-pub class_begun : (b : Bool) (old new : Seen) → IsNext phase.ClassTag owner.ClassObject old.elements old.header old.text old new → b ≡ true
+pub class_begun : (b : Flow) (old new : Seen) → IsNext phase.ClassTag owner.ClassObject old.elements old.header old.text old new → b ≡ flow.On
     → Tells (handle_reason old class_tag) (begun old class_tag) b old new
 unfolding begun Ready
 class_begun b old new n e =
     let r : Ready new (begun old class_tag) = rw (next_is phase.ClassTag owner.ClassObject old.elements old.header old.text old new n) refl in
     goes (begun old class_tag) b old new (record { ready = r; meter = n.meter; max = ap (λ t. t.max) n.table }) e
 
-pub enum_begun : (b : Bool) (old new : Seen) → IsNext phase.ClassTag owner.EnumConst old.elements old.header old.text old new → b ≡ true
+pub enum_begun : (b : Flow) (old new : Seen) → IsNext phase.ClassTag owner.EnumConst old.elements old.header old.text old new → b ≡ flow.On
     → Tells (handle_reason old enum_tag) (begun old enum_tag) b old new
 unfolding begun Ready
 enum_begun b old new n e =
     let r : Ready new (begun old enum_tag) = rw (next_is phase.ClassTag owner.EnumConst old.elements old.header old.text old new n) refl in
     goes (begun old enum_tag) b old new (record { ready = r; meter = n.meter; max = ap (λ t. t.max) n.table }) e
 
-pub desc_begun : (b : Bool) (old new : Seen) → Tells None (opens_class old role.Value) b old new → Tells (handle_reason old class_desc_tag) (begun old class_desc_tag) b old new
+pub desc_begun : (b : Flow) (old new : Seen) → Tells None (opens_class old role.Value) b old new → Tells (handle_reason old class_desc_tag) (begun old class_desc_tag) b old new
 unfolding begun opens_class
 desc_begun b old new h = h
 
-pub proxy_begun : (b : Bool) (old new : Seen) → Tells (told_if (is_full old) handle_space None) (opens_proxy old role.Value) b old new
+pub proxy_begun : (b : Flow) (old new : Seen) → Tells (told_if (is_full old) handle_space None) (opens_proxy old role.Value) b old new
     → Tells (handle_reason old proxy_desc_tag) (begun old proxy_desc_tag) b old new
 unfolding begun opens_proxy
 proxy_begun b old new h = h
 
-pub string_begun : (b : Bool) (old new : Seen) → (Unit {0} → Unit {0} → Tells (told_if (is_full old) handle_space None) (opens_text old text.Value false) b old new)
+pub string_begun : (b : Flow) (old new : Seen) → (Unit {0} → Unit {0} → Tells (told_if (is_full old) handle_space None) (opens_text old text.Value false) b old new)
     → Tells (handle_reason old string_tag) (begun old string_tag) b old new
 unfolding begun opens_text
 string_begun b old new h = h tt tt
 
-pub long_string_begun : (b : Bool) (old new : Seen) → (Unit {0} → Unit {0} → Tells (told_if (is_full old) handle_space None) (opens_text old text.Value true) b old new)
+pub long_string_begun : (b : Flow) (old new : Seen) → (Unit {0} → Unit {0} → Tells (told_if (is_full old) handle_space None) (opens_text old text.Value true) b old new)
     → Tells (handle_reason old long_string_tag) (begun old long_string_tag) b old new
 unfolding begun opens_text
 long_string_begun b old new h = h tt tt
 
 -- handles
 
-pub no_entry : (entry : TableEntry) (s : State) (b : Bool) (old new : Seen) → Assigns entry None old new → b ≡ false → Tells (told_if (is_full old) handle_space None) s b old new
+pub no_entry : (entry : TableEntry) (s : State) (b : Flow) (old new : Seen) → Assigns entry None old new → b ≡ flow.Stopped → Tells (told_if (is_full old) handle_space None) s b old new
 unfolding Assigns Tells
 no_entry entry s b old new h e = rw e (by_room (is_full old) h)
   where
-    by_room : (full : Bool) → AssignCases entry None full old new → TellCases (told_if full handle_space None) s false old new
+    by_room : (full : Bool) → AssignCases entry None full old new → TellCases (told_if full handle_space None) s flow.Stopped old new
     by_room true k = k
     by_room false k = k
 
-pub no_text : (s : State) (b : Bool) (old new : Seen) → Assigns text_entry None old new → b ≡ false → Tells (told_if (is_full old) handle_space None) s b old new
+pub no_text : (s : State) (b : Flow) (old new : Seen) → Assigns text_entry None old new → b ≡ flow.Stopped → Tells (told_if (is_full old) handle_space None) s b old new
 no_text s b old new h e = no_entry text_entry s b old new h e
 
-pub after_entry : (entry : TableEntry) (number : ℕ) (s : State) (b : Bool) (old mid new : Seen) → Assigns entry (Some number) old mid → Comes mid new s → b ≡ true
+pub after_entry : (entry : TableEntry) (number : ℕ) (s : State) (b : Flow) (old mid new : Seen) → Assigns entry (Some number) old mid → Comes mid new s → b ≡ flow.On
     → Tells (told_if (is_full old) handle_space None) s b old new
 unfolding Assigns
 after_entry entry number s b old mid new h k e =
     tells_next (told_if (is_full old) handle_space None) s b old new
     (record { ready = k.ready; meter = k.meter ∙ ap (λ r. moved r.meter) h.2; max = k.max ∙ ap (λ r. r.table.max) h.2 }) e (ap (λ f. told_if f handle_space None) h.1)
 
-pub new_text : (number : ℕ) (long : Bool) (t : TextFor) (b : Bool) (old mid new : Seen) → Assigns text_entry (Some number) old mid
-    → IsNext (length_phase long) mid.owner mid.elements mid.header t mid new → b ≡ true → IsForm t true → IsInside t old.frames
+pub new_text : (number : ℕ) (long : Bool) (t : TextFor) (b : Flow) (old mid new : Seen) → Assigns text_entry (Some number) old mid
+    → IsNext (length_phase long) mid.owner mid.elements mid.header t mid new → b ≡ flow.On → IsForm t true → IsInside t old.frames
     → Tells (told_if (is_full old) handle_space None) (opens_text old t long) b old new
 unfolding Assigns opens_text Ready
 new_text number long t b old mid new h n e form inside =
@@ -116,7 +118,7 @@ new_text number long t b old mid new h n e form inside =
     by_form l text.ClassName form inside n = absurd form
     by_form l text.InterfaceName form inside n = absurd form
 
-pub new_class : (r : Role) (b : Bool) (old mid new : Seen) → IsNext phase.Length2 mid.owner mid.elements mid.header text.ClassName mid new → b ≡ true
+pub new_class : (r : Role) (b : Flow) (old mid new : Seen) → IsNext phase.Length2 mid.owner mid.elements mid.header text.ClassName mid new → b ≡ flow.On
     → mid.header ≡ in_role old.header r → mid.meter ≡ old.meter → mid.frames ≡ old.frames → mid.layers ≡ old.layers → mid.table ≡ old.table → mid.refs ≡ old.refs
     → Tells None (opens_class old r) b old new
 unfolding opens_class Ready
@@ -127,13 +129,13 @@ new_class r b old mid new n e eh em ef ey et er =
 
 -- the tag of a place
 
-pub too_deep : (tag : Tag) (s : State) (b : Bool) (old new : Seen) → StopsWith (refusal old.meter (named depth_exceeded)) old new → b ≡ false
+pub too_deep : (tag : Tag) (s : State) (b : Flow) (old new : Seen) → StopsWith (refusal old.meter (named depth_exceeded)) old new → b ≡ flow.Stopped
     → old.meter.limits.depth ≤ length old.frames → Tells (place_reason old tag) s b old new
 unfolding Tells
 too_deep tag s b old new h e le =
     let deep : nat_lt old.meter.limits.depth (suc (length old.frames)) ≡ true = grind (arith, nat_tests) in rw e (rw deep h)
 
-pub too_many : (tag : Tag) (s : State) (b : Bool) (old mid new : Seen) → StopsWith (refusal mid.meter (named refs_exceeded)) mid new → b ≡ false → mid.meter ≡ old.meter
+pub too_many : (tag : Tag) (s : State) (b : Flow) (old mid new : Seen) → StopsWith (refusal mid.meter (named refs_exceeded)) mid new → b ≡ flow.Stopped → mid.meter ≡ old.meter
     → (old.meter.limits.depth ≤ length old.frames → ⊥) → old.meter.limits.refs ≤ old.refs → Tells (place_reason old tag) s b old new
 unfolding Tells
 too_many tag s b old mid new h e em shallow le =
@@ -141,7 +143,7 @@ too_many tag s b old mid new h e em shallow le =
     let many : nat_le old.meter.limits.refs old.refs ≡ true = grind (arith, nat_tests) in
     rw e (rw deep (rw many (record { phase = h.phase; stop = h.stop ∙ ap (λ m. refusal m (named refs_exceeded)) em })))
 
-pub counted_tag : (tag : Tag) (b : Bool) (old mid new : Seen) → Tells (handle_reason mid tag) (begun mid tag) b mid new → mid ≡ counted old
+pub counted_tag : (tag : Tag) (b : Flow) (old mid new : Seen) → Tells (handle_reason mid tag) (begun mid tag) b mid new → mid ≡ counted old
     → (old.meter.limits.depth ≤ length old.frames → ⊥) → (old.meter.limits.refs ≤ old.refs → ⊥) → Tells (place_reason old tag) (after_tag old tag) b old new
 unfolding Tells after_tag
 counted_tag tag b old mid new h em shallow few =
@@ -149,8 +151,8 @@ counted_tag tag b old mid new h em shallow few =
     let many : nat_le old.meter.limits.refs old.refs ≡ false = grind (arith, nat_tests) in
     rw deep (rw many (by_case (handle_reason old tag) b (subst (λ r. TellCases (handle_reason r tag) (begun r tag) b r new) em h)))
   where
-    by_case : (told : Option Reason) (b : Bool) → TellCases told (begun (counted old) tag) b (counted old) new → TellCases told (begun (counted old) tag) b old new
-    by_case None true k = record { ready = k.ready; meter = k.meter; max = k.max }
-    by_case None false k = record { phase = k.phase; stop = k.stop }
-    by_case (Some r) true k = k
-    by_case (Some r) false k = record { phase = k.phase; stop = k.stop }
+    by_case : (told : Option Reason) (b : Flow) → TellCases told (begun (counted old) tag) b (counted old) new → TellCases told (begun (counted old) tag) b old new
+    by_case None flow.On k = record { ready = k.ready; meter = k.meter; max = k.max }
+    by_case None flow.Stopped k = record { phase = k.phase; stop = k.stop }
+    by_case (Some r) flow.On k = k
+    by_case (Some r) flow.Stopped k = record { phase = k.phase; stop = k.stop }

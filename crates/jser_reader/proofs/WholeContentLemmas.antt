@@ -1,5 +1,5 @@
 -- Which fronts of the bytes taken are streams: those behind which the walk stands at the top. Within a token it does not.
-use Rattle.std.proofs.Common.{◌≡◌, ℕ, zero, suc, ◌+◌, ◌-◌, ◌<◌, ◌≤◌, ◌⊎◌, true, false, if◌then◌else◌, List, [], ◌∷◌, ◌++◌, length, take, drop, refl, sym, ◌∙◌, ap, subst, arith, append_assoc, append-nil, length-append, take-append-drop, length-take-le, inl, inr}
+use Rattle.std.proofs.Common.{◌≡◌, ℕ, zero, suc, ◌+◌, ◌-◌, ◌<◌, ◌≤◌, ◌⊎◌, false, if◌then◌else◌, List, [], ◌∷◌, ◌++◌, length, take, drop, refl, sym, ◌∙◌, ap, subst, arith, append_assoc, append-nil, length-append, take-append-drop, length-take-le, inl, inr}
 use Rattle.std.proofs.lemmas.Bool.{cases_lt}
 use Rattle.std.proofs.lemmas.List.{take-append-le}
 use Rattle.jser_grammar.specs.Trees.{ContentTrees}
@@ -24,13 +24,14 @@ use Rattle.jser_verdict.proofs.Scanning.{scanning_verdict}
 use Rattle.jser_verdict.proofs.Scans.{verdict_scans}
 use Rattle.jser_verdict.proofs.ToldRows.{same_verdict}
 use Rattle.jser_verdict.proofs.WalkFaults.{taken}
+use Rattle.jser_reader.specs.declared.machine.flow.Flow.TheVariants as flow
 use Rattle.jser_reader.specs.declared.phase.Phase.{Phase}
 use Rattle.jser_reader.specs.declared.phase.Phase.TheVariants as phase
 use Rattle.jser_reader.specs.declared.refusal.Refusal.{Refusal}
 use Rattle.jser_reader.specs.declared.refusal.Stop.TheVariants as stop
 use Rattle.jser_reader.specs.declared.tally.Tally.{Tally}
 use Rattle.jser_reader.specs.Readers.{Seen}
-use Rattle.jser_reader.specs.Tallies.{is_top, mark_of, tally_after, tally_stopped, whole_of}
+use Rattle.jser_reader.specs.Tallies.{is_top, mark_of, tally_after, whole_of}
 use Rattle.jser_reader.specs.Walks.{HasTaken, Takes, Keeps, StopTold}
 use Rattle.jser_reader.specs.WholeContents.{IsWhole, StaysWhole, OneIsWhole}
 use Rattle.jser_reader.proofs.AnswerLemmas.{passes}
@@ -281,7 +282,7 @@ kept_whole gate old new bytes came tally h bt st room i = elim (top_or_not new.p
 
 -- ---- a refusal
 
-stopped_n : (gate : Gate) (old new : Seen) (bytes came after : List ℕ) (refusal : Refusal) (n : ℕ) → Takes gate came false old new → new.meter.stop ≡ stop.Refused refusal
+stopped_n : (gate : Gate) (old new : Seen) (bytes came after : List ℕ) (refusal : Refusal) (n : ℕ) → Takes gate came flow.Stopped old new → new.meter.stop ≡ stop.Refused refusal
     → IsBytes came → IsBytes after → HasTaken gate bytes old → IsWhole gate bytes n → IsWhole gate (bytes ++ (came ++ after)) n
 unfolding Takes
 stopped_n gate old new bytes came after refusal n h er bt ba st i =
@@ -307,7 +308,7 @@ stopped_n gate old new bytes came after refusal n h er bt ba st i =
     ])
 
 -- bytes are refused, whatever comes after them
-pub stopped_whole : (gate : Gate) (old new : Seen) (bytes came : List ℕ) (refusal : Refusal) (n : ℕ) → Takes gate came false old new → new.meter.stop ≡ stop.Refused refusal
+pub stopped_whole : (gate : Gate) (old new : Seen) (bytes came : List ℕ) (refusal : Refusal) (n : ℕ) → Takes gate came flow.Stopped old new → new.meter.stop ≡ stop.Refused refusal
     → IsBytes came → HasTaken gate bytes old → IsWhole gate bytes n → StaysWhole gate (bytes ++ came) n
 stopped_whole gate old new bytes came refusal n h er bt st i = λ after ba.
     subst (λ z. IsWhole gate z n) (sym (append_assoc bytes came after)) (stopped_n gate old new bytes came after refusal n h er bt ba st i)
@@ -355,7 +356,7 @@ front_of_token gate bytes cut front s c rest hb hf w u =
     ∙ open_scanned (scanning_verdict gate) s cut front c rest u
 
 -- the open token has ended
-pub took_whole : (gate : Gate) (old new : Seen) (bytes came : List ℕ) (tally : Tally) → Takes gate came true old new → IsBytes came → HasTaken gate bytes old → length (bytes ++ came) ≤ gate.bytes
+pub took_whole : (gate : Gate) (old new : Seen) (bytes came : List ℕ) (tally : Tally) → Takes gate came flow.On old new → IsBytes came → HasTaken gate bytes old → length (bytes ++ came) ≤ gate.bytes
     → IsWhole gate bytes (whole_of old tally) → IsWhole gate (bytes ++ came) (whole_of new (tally_after (mark_of old) (mark_of new) tally))
 unfolding Takes
 took_whole gate old new bytes came tally h bt st room i = elim (top_or_not new.phase) [

@@ -13,6 +13,8 @@ use Rattle.jser_reading.specs.Labels.{reference_tag, string_tag, class_handle_at
 use Rattle.jser_reading.specs.TokenBytes.{tag_byte}
 use Rattle.jser_verdict.specs.Gates.{Gate, IsGate}
 use Rattle.jser_verdict.specs.Verdicts.{class_handle_reason}
+use Rattle.jser_reader.specs.declared.machine.flow.Flow.{Flow}
+use Rattle.jser_reader.specs.declared.machine.flow.Flow.TheVariants as flow
 use Rattle.jser_reader.specs.declared.frame.Owner.{Owner}
 use Rattle.jser_reader.specs.declared.frame.Owner.TheVariants as owner
 use Rattle.jser_reader.specs.declared.machine.take.taken.Taken.TheVariants as taken
@@ -56,23 +58,23 @@ place_is_one phase.Value i = tt
 place_is_one _ i = absurd i
 
 pub tag_taken : (p : Phase) (t : ValueTag) (r m : Seen) → IsPlace p → r.phase ≡ p
-    → Tells (place_reason (farther r 1) (view_tag t)) (after_tag (farther r 1) (view_tag t)) true (farther r 1) m
-    → TakesByte (tag_byte (view_tag t)) true r m
+    → Tells (place_reason (farther r 1) (view_tag t)) (after_tag (farther r 1) (view_tag t)) flow.On (farther r 1) m
+    → TakesByte (tag_byte (view_tag t)) flow.On r m
 tag_taken phase.Top t r m i e h =
-    takes_top (tag_byte (view_tag t)) true r (farther r 1) m (λ none. top_value t (tag_byte (view_tag t)) true (farther r 1) m refl none h) refl e
+    takes_top (tag_byte (view_tag t)) flow.On r (farther r 1) m (λ none. top_value t (tag_byte (view_tag t)) flow.On (farther r 1) m refl none h) refl e
 tag_taken phase.Note t r m i e h =
-    takes_note (tag_byte (view_tag t)) true r (farther r 1) m (λ _. note_value t (tag_byte (view_tag t)) true (farther r 1) m refl h) refl e
+    takes_note (tag_byte (view_tag t)) flow.On r (farther r 1) m (λ _. note_value t (tag_byte (view_tag t)) flow.On (farther r 1) m refl h) refl e
 tag_taken phase.Value t r m i e h =
-    takes_value (tag_byte (view_tag t)) true r (farther r 1) m (value_value t (tag_byte (view_tag t)) true (farther r 1) m refl h) refl e
+    takes_value (tag_byte (view_tag t)) flow.On r (farther r 1) m (value_value t (tag_byte (view_tag t)) flow.On (farther r 1) m refl h) refl e
 tag_taken _ t r m i e h = absurd i
 
 pub tag_passes : (gate : Gate) (t : ValueTag) (piece : List ℕ) (r m : Seen) (before after : Tally) → IsGate gate → CanPass r piece → IsPlace r.phase
     → 0 < length piece → tag_byte (view_tag t) ≡ get_or piece 0 0
-    → Tells (place_reason (farther r 1) (view_tag t)) (after_tag (farther r 1) (view_tag t)) true (farther r 1) m
+    → Tells (place_reason (farther r 1) (view_tag t)) (after_tag (farther r 1) (view_tag t)) flow.On (farther r 1) m
     → CountsToken r m before after → Passes gate piece (Some 1) r before m after
 tag_passes gate t piece r m before after g can i some first h c =
     passes_end gate 1 (taken.Ended 1) piece r m before after
-    (one_taken (tag_byte (view_tag t)) true (taken.Ended 1) piece r m (tag_taken r.phase t r m i refl h) refl first some (place_is_one r.phase i) gate)
+    (one_taken (tag_byte (view_tag t)) flow.On (taken.Ended 1) piece r m (tag_taken r.phase t r m i refl h) refl first some (place_is_one r.phase i) gate)
     refl c g can
 
 -- what is left of the piece may be taken as well
@@ -176,12 +178,12 @@ begun_reference r = record {
 }
 
 pub reference_begins : (r : Seen) → HasPlace r
-    → Tells (place_reason (farther r 1) reference_tag) (after_tag (farther r 1) reference_tag) true (farther r 1) (begun_reference r)
+    → Tells (place_reason (farther r 1) reference_tag) (after_tag (farther r 1) reference_tag) flow.On (farther r 1) (begun_reference r)
 reference_begins r h =
     let deep = h.shallow in
     let few = h.few in
-    counted_tag reference_tag true (farther r 1) (counted (farther r 1)) (begun_reference r)
-    (back_begun true (counted (farther r 1)) (begun_reference r)
+    counted_tag reference_tag flow.On (farther r 1) (counted (farther r 1)) (begun_reference r)
+    (back_begun flow.On (counted (farther r 1)) (begun_reference r)
     (record { phase_is = refl; frames = refl; layers = refl; table = refl; refs = refl; owner_is = refl; chain_is = refl; header_is = refl; text_is = refl; left = refl; meter = refl })
     refl)
     refl (λ over. absurd (omega arith)) (λ over. absurd (omega arith))
@@ -203,8 +205,8 @@ reference_passes gate n piece old far new m1 m2 before after g can i first h sma
     tag_passes gate value.Reference piece old m before after g can i (omega arith) first (reference_begins old p) counts in
     let handle : Passes gate rest (Some 4) m after new after =
     quiet_end gate 4 (taken.Ended 4) rest m new after
-    (four_taken n true (taken.Ended 4) rest (take 4 rest) m new
-    (takes_back_handle n 4 true m (farther m 4) new (right_handle n true (farther m 4) new ends refl low high) refl refl (omega arith) small)
+    (four_taken n flow.On (taken.Ended 4) rest (take 4 rest) m new
+    (takes_back_handle n 4 flow.On m (farther m 4) new (right_handle n flow.On (farther m 4) new ends refl low high) refl refl (omega arith) small)
     refl tt h.spelled refl (omega arith) gate)
     refl tt (rest_can piece old m can (omega arith) refl refl) in
     then_passes gate piece rest 1 4 old m new before after after tag handle refl
@@ -230,30 +232,30 @@ begun_owner o r = record {
 }
 
 owner_counted : (o : Owner) (r : Seen)
-    → Tells (handle_reason (counted (farther r 1)) (view_tag (tag_of_owner o))) (begun (counted (farther r 1)) (view_tag (tag_of_owner o))) true (counted (farther r 1)) (begun_owner o r)
+    → Tells (handle_reason (counted (farther r 1)) (view_tag (tag_of_owner o))) (begun (counted (farther r 1)) (view_tag (tag_of_owner o))) flow.On (counted (farther r 1)) (begun_owner o r)
 owner_counted owner.Object r =
-    object_begun true (counted (farther r 1)) (begun_owner owner.Object r)
+    object_begun flow.On (counted (farther r 1)) (begun_owner owner.Object r)
     (record { phase_is = refl; frames = refl; layers = refl; table = refl; refs = refl; owner_is = refl; chain_is = refl; header_is = refl; text_is = refl; left = refl; meter = refl })
     refl
 owner_counted owner.Array r =
-    array_begun true (counted (farther r 1)) (begun_owner owner.Array r)
+    array_begun flow.On (counted (farther r 1)) (begun_owner owner.Array r)
     (record { phase_is = refl; frames = refl; layers = refl; table = refl; refs = refl; owner_is = refl; chain_is = refl; header_is = refl; text_is = refl; left = refl; meter = refl })
     refl
 owner_counted owner.EnumConst r =
-    enum_begun true (counted (farther r 1)) (begun_owner owner.EnumConst r)
+    enum_begun flow.On (counted (farther r 1)) (begun_owner owner.EnumConst r)
     (record { phase_is = refl; frames = refl; layers = refl; table = refl; refs = refl; owner_is = refl; chain_is = refl; header_is = refl; text_is = refl; left = refl; meter = refl })
     refl
 owner_counted owner.ClassObject r =
-    class_begun true (counted (farther r 1)) (begun_owner owner.ClassObject r)
+    class_begun flow.On (counted (farther r 1)) (begun_owner owner.ClassObject r)
     (record { phase_is = refl; frames = refl; layers = refl; table = refl; refs = refl; owner_is = refl; chain_is = refl; header_is = refl; text_is = refl; left = refl; meter = refl })
     refl
 
 pub owner_begins : (o : Owner) (r : Seen) → HasPlace r
-    → Tells (place_reason (farther r 1) (view_tag (tag_of_owner o))) (after_tag (farther r 1) (view_tag (tag_of_owner o))) true (farther r 1) (begun_owner o r)
+    → Tells (place_reason (farther r 1) (view_tag (tag_of_owner o))) (after_tag (farther r 1) (view_tag (tag_of_owner o))) flow.On (farther r 1) (begun_owner o r)
 owner_begins o r h =
     let deep = h.shallow in
     let few = h.few in
-    counted_tag (view_tag (tag_of_owner o)) true (farther r 1) (counted (farther r 1)) (begun_owner o r) (owner_counted o r) refl
+    counted_tag (view_tag (tag_of_owner o)) flow.On (farther r 1) (counted (farther r 1)) (begun_owner o r) (owner_counted o r) refl
     (λ over. absurd (omega arith)) (λ over. absurd (omega arith))
 
 -- after the tag of the reference that is its class
@@ -274,11 +276,11 @@ at_class r = record {
   name = r.name;
 }
 
-pub class_tag_taken : (r : Seen) → r.phase ≡ phase.ClassTag → TakesByte 0x71 true r (at_class r)
+pub class_tag_taken : (r : Seen) → r.phase ≡ phase.ClassTag → TakesByte 0x71 flow.On r (at_class r)
 class_tag_taken r ep =
-    takes_class_tag 0x71 true r (farther r 1) (at_class r)
-    (value_tag value.Reference 0x71 true (farther r 1) (at_class r) refl
-    (class_reference true (farther r 1) (at_class r)
+    takes_class_tag 0x71 flow.On r (farther r 1) (at_class r)
+    (value_tag value.Reference 0x71 flow.On (farther r 1) (at_class r) refl
+    (class_reference flow.On (farther r 1) (at_class r)
     (record { phase_is = refl; frames = refl; layers = refl; table = refl; refs = refl; owner_is = refl; chain_is = refl; header_is = refl; text_is = refl; left = refl; meter = refl })
     refl))
     refl ep
@@ -321,12 +323,12 @@ same_class o r =
     }) e
 
 -- what is told of the handle of a class
-abbrev pub TellsClass : ℕ → Bool → (mid new : Seen) → Type 0
+abbrev pub TellsClass : ℕ → Flow → (mid new : Seen) → Type 0
 TellsClass n found mid new =
     Tells (class_handle_reason (plain_gate mid) (label_at (class_handle_at (goal_owner mid.owner)) (suc (length mid.frames)) mid) (goal_owner mid.owner) n)
     (owner_state mid (chain_at mid.table.entries (n - 0x7E0000))) found mid new
 
-class_passes : (gate : Gate) (n : ℕ) (found : Bool) (piece : List ℕ) (r new : Seen) (tally : Tally) → CanPass r piece → r.phase ≡ phase.ClassHandle → 4 ≤ length piece
+class_passes : (gate : Gate) (n : ℕ) (found : Flow) (piece : List ℕ) (r new : Seen) (tally : Tally) → CanPass r piece → r.phase ≡ phase.ClassHandle → 4 ≤ length piece
     → big_bytes 4 n ≡ take 4 piece → n < 2 ^ 32 → TellsClass n found (farther r 4) new → Passes gate piece (all_or_none found 4) r tally new tally
 class_passes gate n found piece r new tally can ep enough spelled small told =
     go found
@@ -334,16 +336,16 @@ class_passes gate n found piece r new tally can ep enough spelled small told =
     (takes_class_handle n 4 found r (farther r 4) new told refl (whole_open phase.ClassHandle r ep (omega arith)).0 (omega arith) small)
     refl (rw ep tt) spelled refl enough gate)
   where
-    go : (found : Bool) → TakesFromFor gate (taken_by 4 found) piece r new → Passes gate piece (all_or_none found 4) r tally new tally
-    go true h = quiet_end gate 4 (taken.Ended 4) piece r new tally h refl (rw ep tt) can
-    go false h = passes_stop gate 4 (taken.Stopped 4) piece r new tally tally h refl can (quiet_stopped r tally (rw ep tt))
+    go : (found : Flow) → TakesFromFor gate (taken_by 4 found) piece r new → Passes gate piece (all_or_none found 4) r tally new tally
+    go flow.On h = quiet_end gate 4 (taken.Ended 4) piece r new tally h refl (rw ep tt) can
+    go flow.Stopped h = passes_stop gate 4 (taken.Stopped 4) piece r new tally tally h refl can (quiet_stopped r tally (rw ep tt))
 
 -- one step after another, where the second may stop
-pub then_all : (gate : Gate) (piece rest : List ℕ) (used k all : ℕ) (found : Bool) (old mid new : Seen) (before between after : Tally) → Passes gate piece (Some used) old before mid between
+pub then_all : (gate : Gate) (piece rest : List ℕ) (used k all : ℕ) (found : Flow) (old mid new : Seen) (before between after : Tally) → Passes gate piece (Some used) old before mid between
     → Passes gate rest (all_or_none found k) mid between new after → rest ≡ drop used piece → used + k ≡ all → Passes gate piece (all_or_none found all) old before new after
-then_all gate piece rest used k all true old mid new before between after h g e ea =
+then_all gate piece rest used k all flow.On old mid new before between after h g e ea =
     subst (λ u. Passes gate piece (Some u) old before new after) ea (then_passes gate piece rest used k old mid new before between after h g e)
-then_all gate piece rest used k all false old mid new before between after h g e ea = then_halts gate piece rest used old mid new before between after h g e
+then_all gate piece rest used k all flow.Stopped old mid new before between after h g e ea = then_halts gate piece rest used old mid new before between after h g e
 
 pub second_is : (piece : List ℕ) (b : ℕ) → b ≡ get_or piece 1 0 → b ≡ get_or (drop 1 piece) 0 0
 second_is [] b e = e
@@ -355,7 +357,7 @@ two_on [] = refl
 two_on (x ∷ []) = refl
 two_on (x ∷ y ∷ piece) = refl
 
-pub owner_passes : (gate : Gate) (o : Owner) (n : ℕ) (found : Bool) (piece : List ℕ) (old mid new : Seen) (m1 m2 : Mark) (before after : Tally) → IsGate gate → CanPass old piece
+pub owner_passes : (gate : Gate) (o : Owner) (n : ℕ) (found : Flow) (piece : List ℕ) (old mid new : Seen) (m1 m2 : Mark) (before after : Tally) → IsGate gate → CanPass old piece
     → IsPlace old.phase → tag_byte (view_tag (tag_of_owner o)) ≡ get_or piece 0 0 → HasReference piece n → n < 2 ^ 32 → HasPlace old
     → mid ≡ with_class o old → TellsClass n found mid new → m1 ≡ mark_of old → m2 ≡ mark_of mid → CountsMarks m1 m2 before after
     → Passes gate piece (all_or_none found 6) old before new after
@@ -374,7 +376,7 @@ owner_passes gate o n found piece old mid new m1 m2 before after g can i first h
     tag_passes gate (tag_of_owner o) piece old m before after g can i (omega arith) first (owner_begins o old p) counts in
     let class : Passes gate rest (Some 1) m after k after =
     quiet_end gate 1 (taken.Ended 1) rest m k after
-    (one_taken 0x71 true (taken.Ended 1) rest m k (class_tag_taken m refl) refl (second_is piece 0x71 h.tag) (omega arith) tt gate)
+    (one_taken 0x71 flow.On (taken.Ended 1) rest m k (class_tag_taken m refl) refl (second_is piece 0x71 h.tag) (omega arith) tt gate)
     refl tt can_m in
     let handle : Passes gate last (all_or_none found 4) k after new after =
     class_passes gate n found last k new after can_k refl (omega arith) (h.spelled ∙ ap (take 4) (two_on piece)) small
@@ -407,14 +409,14 @@ unfolding Assigns
 assigned_text r full = (refl, full, refl)
 
 pub string_begins : (r : Seen) → HasPlace r → is_full r ≡ false
-    → Tells (place_reason (farther r 1) string_tag) (after_tag (farther r 1) string_tag) true (farther r 1) (begun_string r)
+    → Tells (place_reason (farther r 1) string_tag) (after_tag (farther r 1) string_tag) flow.On (farther r 1) (begun_string r)
 string_begins r h full =
     let deep = h.shallow in
     let few = h.few in
     let mid : Seen = counted (farther r 1) in
-    counted_tag string_tag true (farther r 1) mid (begun_string r)
-    (string_begun true mid (begun_string r)
-    (λ form inside. new_text (length mid.table.entries) false text.Value true mid (added mid text_entry) (begun_string r) (assigned_text mid full)
+    counted_tag string_tag flow.On (farther r 1) mid (begun_string r)
+    (string_begun flow.On mid (begun_string r)
+    (λ form inside. new_text (length mid.table.entries) false text.Value flow.On mid (added mid text_entry) (begun_string r) (assigned_text mid full)
     (record { phase_is = refl; frames = refl; layers = refl; table = refl; refs = refl; owner_is = refl; chain_is = refl; header_is = refl; text_is = refl; left = refl; meter = refl })
     refl tt tt))
     refl (λ over. absurd (omega arith)) (λ over. absurd (omega arith))
@@ -464,7 +466,7 @@ string_passes gate len piece old mid far new m1 m2 before after g can i first h 
     let body : Passes gate rest (Some (2 + len)) m after new after =
     quiet_takes gate (2 + len) rest m new after (omega arith)
     (short_text_taken gate m (farther m (2 + len)) new (take (2 + len) rest) h.units
-    (λ inside. value_ends gate true (farther m (2 + len)) new ends refl refl h.units (record { inside = inside; kept = λ checked. absurd (cc) }))
+    (λ inside. value_ends gate flow.On (farther m (2 + len)) new ends refl refl h.units (record { inside = inside; kept = λ checked. absurd (cc) }))
     refl (omega arith) (counts_bytes (take (2 + len) rest) (2 + len) m (farther m (2 + len)) refl size) h.are_text h.spelled)
     tt (rest_can piece old m can (omega arith) refl refl) in
     subst (λ u. Passes gate piece (Some u) old before new after) (let s : 1 + (2 + len) ≡ len + 3 = omega arith in s)
@@ -490,16 +492,16 @@ begun_block r = record {
   name = r.name;
 }
 
-block_begins : (p : Phase) (r : Seen) → IsPlace p → (p ≡ phase.Value → ⊥) → r.phase ≡ p → TakesByte 0x77 true r (begun_block r)
+block_begins : (p : Phase) (r : Seen) → IsPlace p → (p ≡ phase.Value → ⊥) → r.phase ≡ p → TakesByte 0x77 flow.On r (begun_block r)
 block_begins phase.Top r i other e =
-    takes_top 0x77 true r (farther r 1) (begun_block r)
-    (λ none. top_block false 0x77 true (farther r 1) (begun_block r) refl
+    takes_top 0x77 flow.On r (farther r 1) (begun_block r)
+    (λ none. top_block false 0x77 flow.On (farther r 1) (begun_block r) refl
     (record { phase_is = refl; frames = refl; layers = refl; table = refl; refs = refl; owner_is = refl; chain_is = refl; header_is = refl; text_is = refl; left = refl; meter = refl })
     refl)
     refl e
 block_begins phase.Note r i other e =
-    takes_note 0x77 true r (farther r 1) (begun_block r)
-    (λ _. note_block false 0x77 true (farther r 1) (begun_block r) refl
+    takes_note 0x77 flow.On r (farther r 1) (begun_block r)
+    (λ _. note_block false 0x77 flow.On (farther r 1) (begun_block r) refl
     (record { phase_is = refl; frames = refl; layers = refl; table = refl; refs = refl; owner_is = refl; chain_is = refl; header_is = refl; text_is = refl; left = refl; meter = refl })
     refl)
     refl e
@@ -542,10 +544,10 @@ opened_block r n = record {
   name = r.name;
 }
 
-block_opens : (n : ℕ) (r : Seen) → 0 < n → r.phase ≡ phase.BlockLength1 → TakesByte n true r (opened_block r n)
+block_opens : (n : ℕ) (r : Seen) → 0 < n → r.phase ≡ phase.BlockLength1 → TakesByte n flow.On r (opened_block r n)
 block_opens n r some ep =
-    takes_block_length n true r (farther r 1) (opened_block r n)
-    (some_bytes n true (farther r 1) (with_left (farther r 1) n) (opened_block r n)
+    takes_block_length n flow.On r (farther r 1) (opened_block r n)
+    (some_bytes n flow.On (farther r 1) (with_left (farther r 1) n) (opened_block r n)
     (record { phase_is = refl; frames = refl; layers = refl; table = refl; refs = refl; owner_is = refl; chain_is = refl; header_is = refl; text_is = refl; left = refl; meter = refl })
     refl refl (λ none. absurd (omega arith)) refl refl refl refl refl)
     refl ep
@@ -566,7 +568,7 @@ pub block_passes : (gate : Gate) (n : ℕ) (piece : List ℕ) (old far new : See
     → far ≡ farther old (n + 2) → Comes far new (after_value far) → m1 ≡ mark_of old → m2 ≡ mark_of far → CountsMarks m1 m2 before after
     → Passes gate piece (Some (n + 2)) old before new after
 block_passes gate n piece old far new m1 m2 before after g can i other first second enough ef end e1 e2 count =
-    then_all gate piece rest 1 (n + 1) (n + 2) true old m new before after after tag (body n refl) refl (omega arith)
+    then_all gate piece rest 1 (n + 1) (n + 2) flow.On old m new before after after tag (body n refl) refl (omega arith)
   where
     comes : Comes (farther old (n + 2)) new (after_value (farther old (n + 2)))
     comes = subst (λ r. Comes r new (after_value r)) ef end
@@ -589,7 +591,7 @@ block_passes gate n piece old far new m1 m2 before after g can i other first sec
     tag : Passes gate piece (Some 1) old before m after
     tag =
         passes_end gate 1 (taken.Ended 1) piece old m before after
-        (one_taken 0x77 true (taken.Ended 1) piece old m (block_begins old.phase old i other refl) refl first some (place_is_one old.phase i) gate) refl counts g can
+        (one_taken 0x77 flow.On (taken.Ended 1) piece old m (block_begins old.phase old i other refl) refl first some (place_is_one old.phase i) gate) refl counts g can
 
     left : length rest + 1 ≡ length piece
     left = omega (arith, length-drop 1 piece)
@@ -602,8 +604,8 @@ block_passes gate n piece old far new m1 m2 before after g can i other first sec
         same_end (farther old 2) (farther m 1) new (subst (λ k. Comes (farther old k) new (after_value (farther old k))) none comes) (same_meter old 1) refl refl refl refl in
         subst (λ k. Passes gate rest (Some k) m after new after) one
         (quiet_end gate 1 (taken.Ended 1) rest m new after
-        (one_taken n true (taken.Ended 1) rest m new
-        (takes_block_length n true m (farther m 1) new (no_bytes n true (farther m 1) new ends refl e) refl refl)
+        (one_taken n flow.On (taken.Ended 1) rest m new
+        (takes_block_length n flow.On m (farther m 1) new (no_bytes n flow.On (farther m 1) new ends refl e) refl refl)
         refl (second_is piece n second) (omega (arith, left)) tt gate)
         refl tt can_m)
     body (suc k) e =
@@ -615,13 +617,13 @@ block_passes gate n piece old far new m1 m2 before after g can i other first sec
         same_end (farther old (n + 2)) (farther m2 n) new comes (same_meter_twice old n) refl refl refl refl in
         let len : Passes gate rest (Some 1) m after m2 after =
         quiet_end gate 1 (taken.Ended 1) rest m m2 after
-        (one_taken n true (taken.Ended 1) rest m m2 (block_opens n m (omega arith) refl) refl (second_is piece n second) (omega arith) tt gate)
+        (one_taken n flow.On (taken.Ended 1) rest m m2 (block_opens n m (omega arith) refl) refl (second_is piece n second) (omega arith) tt gate)
         refl tt can_m in
         let raw : Passes gate last (Some n) m2 after new after =
         quiet_end gate n (taken.Ended n) last m2 new after
         (takes_block (taken.Ended n) last m2 new (raw_is_whole n last m2 new (omega arith) (omega arith) refl ends) refl (omega arith) gate)
         refl tt (rest_can rest m m2 can_m (omega arith) refl refl) in
-        then_all gate rest last 1 n (n + 1) true m m2 new after after after len raw refl (omega arith)
+        then_all gate rest last 1 n (n + 1) flow.On m m2 new after after after len raw refl (omega arith)
 
 -- ---- ---- a raw value
 

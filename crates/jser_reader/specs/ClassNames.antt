@@ -1,10 +1,11 @@
 -- Names of classes of which all bytes are in a piece.
-use Rattle.std.specs.Prelude.{◌≡◌, ℕ, Bool, ◌+◌, ◌≤◌, false, List, ◌++◌, length, take, drop}
+use Rattle.std.specs.Prelude.{◌≡◌, ℕ, ◌+◌, ◌≤◌, false, List, ◌++◌, length, take, drop}
 use Rattle.jser_prim.specs.Bytes.{big_bytes}
 use Rattle.jser_prim.specs.ModifiedUtf8.{modified_utf8}
 use Rattle.jser_grammar.specs.Parts.{IsText}
 use Rattle.jser_verdict.specs.Gates.{Gate}
 use Rattle.jser_verdict.specs.Verdicts.{class_name_reason}
+use Rattle.jser_reader.specs.declared.machine.flow.Flow.{Flow}
 use Rattle.jser_reader.specs.Readers.{Seen, head_role}
 use Rattle.jser_reader.specs.Handlers.{TellsSurely}
 use Rattle.jser_reader.specs.TextStates.{named_state}
@@ -24,5 +25,5 @@ abbrev pub with_name : Seen → List ℕ → Seen
 with_name r name = record { meter = r.meter; phase = r.phase; frames = r.frames; layers = r.layers; table = r.table; refs = r.refs; owner = r.owner; elements = r.elements; header = r.header; text = r.text; left = r.left; scan = r.scan; name = name }
 
 -- the name that was kept is that of a class, and it is judged
-unfoldable pub JudgesName : Gate → Bool → Seen → Seen → Type 0
+unfoldable pub JudgesName : Gate → Flow → Seen → Seen → Type 0
 JudgesName gate result old new = TellsSurely (class_name_reason gate (head_role old) old.name) (named_state old old.name) result old new

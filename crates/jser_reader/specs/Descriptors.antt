@@ -11,6 +11,8 @@ use Rattle.jser_reading.specs.Roles.{Role as GoalRole}
 use Rattle.jser_verdict.specs.Reasons.{Reason, wrong_class, external_raw, not_serializable, handle_space}
 use Rattle.jser_verdict.specs.ClassRows.{has_wrong_flags, has_raw_flags, has_unserial_flags}
 use Rattle.jser_verdict.specs.Verdicts.{told_if}
+use Rattle.jser_reader.specs.declared.machine.flow.Flow.{Flow}
+use Rattle.jser_reader.specs.declared.machine.flow.Flow.TheVariants as flow
 use Rattle.jser_reader.specs.declared.frame.Frame.{Frame}
 use Rattle.jser_reader.specs.declared.frame.Frame.TheVariants as frame
 use Rattle.jser_reader.specs.declared.frame.Role.{Role}
@@ -65,20 +67,20 @@ pub record CanOpen (T : List TableEntry) (C : List (List Layer)) (number : ℕ) 
 abbrev pub opened : Seen → Role → (number : ℕ) → Seen
 opened r role number = record { meter = r.meter; phase = r.phase; frames = frame.Descriptor number role ∷ r.frames; layers = no_layer ∷ r.layers; table = r.table; refs = r.refs; owner = r.owner; elements = r.elements; header = r.header; text = r.text; left = r.left; scan = r.scan; name = r.name }
 
-abbrev pub OpenCases : Role → (number : ℕ) → Bool → Seen → Seen → Type 0
-OpenCases role number true old new = new ≡ opened old role number
-OpenCases role number false old new = StopsWith stop.OutOfMemory old new
+abbrev pub OpenCases : Role → (number : ℕ) → Flow → Seen → Seen → Type 0
+OpenCases role number flow.On old new = new ≡ opened old role number
+OpenCases role number flow.Stopped old new = StopsWith stop.OutOfMemory old new
 
-unfoldable pub Opens : Role → (number : ℕ) → Bool → Seen → Seen → Type 0
+unfoldable pub Opens : Role → (number : ℕ) → Flow → Seen → Seen → Type 0
 Opens role number b old new = OpenCases role number b old new
 
 -- a new descriptor got its handle and was put on the stack; or there is no handle left, or no memory
-abbrev pub NewCases : Role → Bool → (full : Bool) → Seen → Seen → Type 0
-NewCases role true full old new = (full ≡ false) × (new ≡ opened (added old pending_entry) role (length old.table.entries))
-NewCases role false true old new = StopsWith (refusal old.meter (named handle_space)) old new
-NewCases role false false old new = StopsWith stop.OutOfMemory old new
+abbrev pub NewCases : Role → Flow → (full : Bool) → Seen → Seen → Type 0
+NewCases role flow.On full old new = (full ≡ false) × (new ≡ opened (added old pending_entry) role (length old.table.entries))
+NewCases role flow.Stopped true old new = StopsWith (refusal old.meter (named handle_space)) old new
+NewCases role flow.Stopped false old new = StopsWith stop.OutOfMemory old new
 
-unfoldable pub OpensNew : Role → Bool → Seen → Seen → Type 0
+unfoldable pub OpensNew : Role → Flow → Seen → Seen → Type 0
 OpensNew role b old new = NewCases role b (is_full old) old new
 
 -- the layer on top was replaced, and the fields of the descriptor were taken out
@@ -90,8 +92,8 @@ pub record SetsLayer (layer : Layer) (old new : Seen) : Type 0 where
   pub meter : new.meter ≡ old.meter
 
 -- what comes after a field or an interface of the descriptor on top, of which so many are still to come
-unfoldable pub GoesOnFields : Bool → Seen → Seen → Type 0
+unfoldable pub GoesOnFields : Flow → Seen → Seen → Type 0
 GoesOnFields b old new = HasDescriptor old.frames → TellsSurely None (settle (moment_of old) (fields_goals old old.header.fields)) b old new
 
-unfoldable pub GoesOnInterfaces : Bool → Seen → Seen → Type 0
+unfoldable pub GoesOnInterfaces : Flow → Seen → Seen → Type 0
 GoesOnInterfaces b old new = HasDescriptor old.frames → TellsSurely None (settle (moment_of old) (interfaces_goals old old.header.interfaces)) b old new

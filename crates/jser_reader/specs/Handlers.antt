@@ -14,6 +14,8 @@ use Rattle.jser_verdict.specs.Reasons.{depth_exceeded, refs_exceeded, handle_spa
 use Rattle.jser_verdict.specs.Reasons.{Reason as ToldReason}
 use Rattle.jser_verdict.specs.Gates.{Gate, pass}
 use Rattle.jser_verdict.specs.Verdicts.{told_if}
+use Rattle.jser_reader.specs.declared.machine.flow.Flow.{Flow}
+use Rattle.jser_reader.specs.declared.machine.flow.Flow.TheVariants as flow
 use Rattle.jser_reader.specs.declared.frame.Frame.{Frame}
 use Rattle.jser_reader.specs.declared.frame.Owner.{Owner}
 use Rattle.jser_reader.specs.declared.frame.Owner.TheVariants as owner
@@ -47,23 +49,23 @@ pub record Comes (old new : Seen) (s : State) : Type 0 where
   pub meter : new.meter ≡ moved old.meter
   pub max : new.table.max ≡ old.table.max
 
-abbrev pub TellCases : Option ToldReason → State → Bool → Seen → Seen → Type 0
-TellCases None s true old new = Comes old new s
-TellCases None s false old new = StopsWith stop.OutOfMemory old new
-TellCases (Some k) s true old new = ⊥
-TellCases (Some k) s false old new = StopsWith (refusal old.meter (named k)) old new
+abbrev pub TellCases : Option ToldReason → State → Flow → Seen → Seen → Type 0
+TellCases None s flow.On old new = Comes old new s
+TellCases None s flow.Stopped old new = StopsWith stop.OutOfMemory old new
+TellCases (Some k) s flow.On old new = ⊥
+TellCases (Some k) s flow.Stopped old new = StopsWith (refusal old.meter (named k)) old new
 
-unfoldable pub Tells : Option ToldReason → State → Bool → Seen → Seen → Type 0
+unfoldable pub Tells : Option ToldReason → State → Flow → Seen → Seen → Type 0
 Tells k s b old new = TellCases k s b old new
 
 -- what a handler tells that takes no memory
-abbrev pub SureCases : Option ToldReason → State → Bool → Seen → Seen → Type 0
-SureCases None s true old new = Comes old new s
-SureCases None s false old new = ⊥
-SureCases (Some k) s true old new = ⊥
-SureCases (Some k) s false old new = StopsWith (refusal old.meter (named k)) old new
+abbrev pub SureCases : Option ToldReason → State → Flow → Seen → Seen → Type 0
+SureCases None s flow.On old new = Comes old new s
+SureCases None s flow.Stopped old new = ⊥
+SureCases (Some k) s flow.On old new = ⊥
+SureCases (Some k) s flow.Stopped old new = StopsWith (refusal old.meter (named k)) old new
 
-unfoldable pub TellsSurely : Option ToldReason → State → Bool → Seen → Seen → Type 0
+unfoldable pub TellsSurely : Option ToldReason → State → Flow → Seen → Seen → Type 0
 TellsSurely k s b old new = SureCases k s b old new
 
 -- this token comes next; the frames, the table and the counters are as they were
@@ -197,22 +199,22 @@ after_class_tag r _ = (moment_of r, [])
 unfoldable pub object_state : Seen → List Layer → State
 object_state r chain = settle (moment_of r) (parts_goal (depth_of r) (object_parts (is_external chain) chain) ∷ goals_of r)
 
-abbrev pub ObjectCases : Bool → Seen → Seen → State → Type 0
-ObjectCases true old new s = Ready new s × (new.meter ≡ old.meter) × (new.table.max ≡ old.table.max)
-ObjectCases false old new s = StopsWith stop.OutOfMemory old new
+abbrev pub ObjectCases : Flow → Seen → Seen → State → Type 0
+ObjectCases flow.On old new s = Ready new s × (new.meter ≡ old.meter) × (new.table.max ≡ old.table.max)
+ObjectCases flow.Stopped old new s = StopsWith stop.OutOfMemory old new
 
-unfoldable pub BeginsObject : List Layer → Bool → Seen → Seen → Type 0
+unfoldable pub BeginsObject : List Layer → Flow → Seen → Seen → Type 0
 BeginsObject chain b old new = ObjectCases b old new (object_state old chain)
 
 -- a frame was put on the stack, if there was memory
 abbrev pub pushed : Seen → Frame → Seen
 pushed r f = record { meter = r.meter; phase = r.phase; frames = f ∷ r.frames; layers = r.layers; table = r.table; refs = r.refs; owner = r.owner; elements = r.elements; header = r.header; text = r.text; left = r.left; scan = r.scan; name = r.name }
 
-abbrev pub PushCases : Frame → Bool → Seen → Seen → Type 0
-PushCases f true old new = new ≡ pushed old f
-PushCases f false old new = StopsWith stop.OutOfMemory old new
+abbrev pub PushCases : Frame → Flow → Seen → Seen → Type 0
+PushCases f flow.On old new = new ≡ pushed old f
+PushCases f flow.Stopped old new = StopsWith stop.OutOfMemory old new
 
-unfoldable pub Pushes : Frame → Bool → Seen → Seen → Type 0
+unfoldable pub Pushes : Frame → Flow → Seen → Seen → Type 0
 Pushes f b old new = PushCases f b old new
 
 -- what comes after the class of this owner, whose chain this is: its handle is assigned

@@ -6,6 +6,8 @@ use Rattle.jser_reading.specs.Goals.{State}
 use Rattle.jser_table.specs.declared.layer.Layer.{Layer}
 use Rattle.jser_verdict.specs.Reasons.{Reason, depth_exceeded, refs_exceeded}
 use Rattle.jser_verdict.specs.Verdicts.{told_if, other_tag_reason, superclass_handle_reason}
+use Rattle.jser_reader.specs.declared.machine.flow.Flow.{Flow}
+use Rattle.jser_reader.specs.declared.machine.flow.Flow.TheVariants as flow
 use Rattle.jser_reader.specs.declared.frame.Frame.{Frame}
 use Rattle.jser_reader.specs.declared.frame.Frame.TheVariants as frame
 use Rattle.jser_reader.specs.declared.frame.Role.TheVariants as role
@@ -50,11 +52,11 @@ is_one_too_many r = nat_le r.meter.limits.refs r.refs
 abbrev pub with_limits : Seen → Option Reason → Option Reason
 with_limits r others = told_if (is_deep r) depth_exceeded (told_if (is_one_too_many r) refs_exceeded others)
 
-abbrev pub CountCases : Bool → (deep many : Bool) → Seen → Seen → Type 0
-CountCases true deep many old new = (new ≡ counted old) × (deep ≡ false) × (many ≡ false)
-CountCases false true many old new = StopsWith (refusal old.meter (named depth_exceeded)) old new
-CountCases false false true old new = StopsWith (refusal old.meter (named refs_exceeded)) old new
-CountCases false false false old new = ⊥
+abbrev pub CountCases : Flow → (deep many : Bool) → Seen → Seen → Type 0
+CountCases flow.On deep many old new = (new ≡ counted old) × (deep ≡ false) × (many ≡ false)
+CountCases flow.Stopped true many old new = StopsWith (refusal old.meter (named depth_exceeded)) old new
+CountCases flow.Stopped false true old new = StopsWith (refusal old.meter (named refs_exceeded)) old new
+CountCases flow.Stopped false false old new = ⊥
 
-unfoldable pub CountsPlace : Bool → Seen → Seen → Type 0
+unfoldable pub CountsPlace : Flow → Seen → Seen → Type 0
 CountsPlace b old new = CountCases b (is_deep old) (is_one_too_many old) old new

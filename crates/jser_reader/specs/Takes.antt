@@ -1,7 +1,9 @@
 -- What the functions that take bytes do: the bytes are counted, and the token that they end is judged.
-use Rattle.std.specs.Prelude.{◌≡◌, ℕ, ◌+◌, ◌<◌, ◌≤◌, Bool, true, false, List, [], ◌∷◌, ◌++◌, length, take, Option, Some, None}
+use Rattle.std.specs.Prelude.{◌≡◌, ℕ, ◌+◌, ◌<◌, ◌≤◌, List, [], ◌∷◌, ◌++◌, length, take, Option, Some, None}
 use Rattle.jser_prim.specs.Bytes.{big_bytes}
 use Rattle.jser_verdict.specs.Gates.{Gate}
+use Rattle.jser_reader.specs.declared.machine.flow.Flow.{Flow}
+use Rattle.jser_reader.specs.declared.machine.flow.Flow.TheVariants as flow
 use Rattle.jser_reader.specs.declared.machine.take.taken.Taken.{Taken}
 use Rattle.jser_reader.specs.declared.machine.take.taken.Taken.TheVariants as taken
 use Rattle.jser_reader.specs.declared.phase.Phase.{Phase}
@@ -19,7 +21,7 @@ abbrev pub farther : Seen → ℕ → Seen
 farther r k = record { meter = counted_on r.meter k; phase = r.phase; frames = r.frames; layers = r.layers; table = r.table; refs = r.refs; owner = r.owner; elements = r.elements; header = r.header; text = r.text; left = r.left; scan = r.scan; name = r.name }
 
 -- this byte ends the open token, or the machine stops at it
-unfoldable pub TakesByte : ℕ → Bool → Seen → Seen → Type 0
+unfoldable pub TakesByte : ℕ → Flow → Seen → Seen → Type 0
 TakesByte byte result old new = (gate : Gate) → Takes gate (byte ∷ []) result old new
 
 -- a token of one byte
@@ -37,11 +39,11 @@ IsOne _ = ⊥
 
 -- The last bytes of the number `n` of `size` bytes, so many, end the open token, or the machine stops at them: as one
 -- gate judges it, and as any does.
-unfoldable pub TakesNumberFor : Gate → (size n count : ℕ) → Bool → Seen → Seen → Type 0
+unfoldable pub TakesNumberFor : Gate → (size n count : ℕ) → Flow → Seen → Seen → Type 0
 TakesNumberFor gate size n count result old new =
     (taken : List ℕ) → length taken ≡ count → big_bytes size n ≡ cut_of old ++ taken → Takes gate taken result old new
 
-unfoldable pub TakesNumber : (size n count : ℕ) → Bool → Seen → Seen → Type 0
+unfoldable pub TakesNumber : (size n count : ℕ) → Flow → Seen → Seen → Type 0
 TakesNumber size n count result old new = (gate : Gate) → TakesNumberFor gate size n count result old new
 
 -- these bytes of the open token were kept, which is cut after them
@@ -75,9 +77,9 @@ pub record StillOpen (old new : Seen) : Type 0 where
 -- lent of the token, which stays open; or the whole piece is of the header or a number, which stays open: as one gate
 -- judges it, and as any does.
 abbrev pub TakenCases : Gate → Taken → List ℕ → Seen → Seen → Type 0
-TakenCases gate (taken.Ended count) piece old new = (0 < count) × (count ≤ length piece) × Takes gate (take count piece) true old new
+TakenCases gate (taken.Ended count) piece old new = (0 < count) × (count ≤ length piece) × Takes gate (take count piece) flow.On old new
     × IsWholeLength (open_phase old) (cut_of old ++ take count piece)
-TakenCases gate (taken.Stopped count) piece old new = (0 < count) × (count ≤ length piece) × Takes gate (take count piece) false old new
+TakenCases gate (taken.Stopped count) piece old new = (0 < count) × (count ≤ length piece) × Takes gate (take count piece) flow.Stopped old new
 TakenCases gate (taken.Part count) piece old new = (0 < count) × (count ≤ length piece) × Keeps gate (take count piece) old new
     × IsPart (open_phase old) (cut_of old) piece count
 TakenCases gate taken.Open piece old new = Keeps gate piece old new × StillOpen old new
@@ -89,12 +91,12 @@ abbrev pub TakesFrom : Taken → List ℕ → Seen → Seen → Type 0
 TakesFrom result piece old new = (gate : Gate) → TakesFromFor gate result piece old new
 
 -- one byte of the header: it is wrong or the last one, or others are to come
-abbrev pub HeaderCases : Option Bool → ℕ → Seen → Seen → Type 0
+abbrev pub HeaderCases : Option Flow → ℕ → Seen → Seen → Type 0
 HeaderCases (Some found) byte old new = TakesByte byte found old new
 HeaderCases None byte old new =
     ((gate : Gate) → Keeps gate (byte ∷ []) old new) × (open_phase new ≡ phase.Header) × (new.meter.at ≡ old.meter.at + 1)
 
-unfoldable pub TakesHeaderByte : Option Bool → ℕ → Seen → Seen → Type 0
+unfoldable pub TakesHeaderByte : Option Flow → ℕ → Seen → Seen → Type 0
 TakesHeaderByte result byte old new = HeaderCases result byte old new
 
 -- so many bytes of the piece were kept, and the header is open still
@@ -104,9 +106,9 @@ pub record HeaderOn (piece : List ℕ) (count : ℕ) (old now : Seen) : Type 0 w
   pub at : now.meter.at ≡ old.meter.at + count
 
 -- what came of a handler's answer
-abbrev pub taken_by : ℕ → Bool → Taken
-taken_by count true = taken.Ended count
-taken_by count false = taken.Stopped count
+abbrev pub taken_by : ℕ → Flow → Taken
+taken_by count flow.On = taken.Ended count
+taken_by count flow.Stopped = taken.Stopped count
 
 -- Bytes of a raw token: it ends, with as many as were left of it, or all are of it and others are still to come. (While it
 -- is open at least one is left.)

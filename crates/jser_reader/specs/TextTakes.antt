@@ -1,9 +1,11 @@
 -- The bytes of a text as they are taken: its length, and then its bytes. The text goes on, it ends, or the machine stops.
-use Rattle.std.specs.Prelude.{◌≡◌, ◌⊎◌, ℕ, ◌+◌, ◌<◌, ◌≤◌, Bool, true, false, List, [], ◌∷◌, ◌++◌, length, Option, Some, None}
+use Rattle.std.specs.Prelude.{◌≡◌, ◌⊎◌, ℕ, ◌+◌, ◌<◌, ◌≤◌, true, List, [], ◌∷◌, ◌++◌, length, Option, Some, None}
 use Rattle.std.specs.Option.{option_to_list}
 use Rattle.jser_prim.specs.Bytes.{big_bytes}
 use Rattle.jser_prim.specs.Texts.{FaultsAfter}
 use Rattle.jser_verdict.specs.Gates.{Gate}
+use Rattle.jser_reader.specs.declared.machine.flow.Flow.{Flow}
+use Rattle.jser_reader.specs.declared.machine.flow.Flow.TheVariants as flow
 use Rattle.jser_reader.specs.declared.phase.Phase.TheVariants as phase
 use Rattle.jser_reader.specs.declared.refusal.Reason.TheVariants as reason
 use Rattle.jser_reader.specs.declared.refusal.Stop.TheVariants as stop
@@ -27,22 +29,22 @@ pub record OpensBytes (n : ℕ) (old new : Seen) : Type 0 where
   pub counts : Counts [] old new
 
 -- a text with no bytes ends at once
-pub record EndsEmpty (gate : Gate) (n : ℕ) (found : Bool) (old new : Seen) : Type 0 where
+pub record EndsEmpty (gate : Gate) (n : ℕ) (found : Flow) (old new : Seen) : Type 0 where
   pub none : n ≡ 0
   pub ends : IsInside old.text old.frames → TellsSurely (text_reason gate old []) (after_text old []) found old new
 
 abbrev pub LengthCases : Gate → ℕ → Progress → Seen → Seen → Type 0
 LengthCases gate n progress.Open old new = OpensBytes n old new
-LengthCases gate n progress.Ended old new = EndsEmpty gate n true old new
-LengthCases gate n progress.Stopped old new = EndsEmpty gate n false old new
+LengthCases gate n progress.Ended old new = EndsEmpty gate n flow.On old new
+LengthCases gate n progress.Stopped old new = EndsEmpty gate n flow.Stopped old new
 
 unfoldable pub TellsLength : Gate → ℕ → Progress → Seen → Seen → Type 0
 TellsLength gate n p old new = LengthCases gate n p old new
 
 abbrev pub ProgressCases : Gate → List ℕ → Progress → Seen → Seen → Type 0
 ProgressCases gate taken progress.Open old new = Keeps gate taken old new
-ProgressCases gate taken progress.Ended old new = Takes gate taken true old new
-ProgressCases gate taken progress.Stopped old new = Takes gate taken false old new
+ProgressCases gate taken progress.Ended old new = Takes gate taken flow.On old new
+ProgressCases gate taken progress.Stopped old new = Takes gate taken flow.Stopped old new
 
 -- the last bytes of the length `n` of `size` bytes, so many, are taken
 unfoldable pub TakesLength : Gate → (size n count : ℕ) → Progress → Seen → Seen → Type 0
@@ -77,18 +79,18 @@ pub record RunsOut (part : List ℕ) (count : ℕ) (old new : Seen) : Type 0 whe
 abbrev pub with_unit : Seen → Option ℕ → Seen
 with_unit r unit = record { meter = r.meter; phase = r.phase; frames = r.frames; layers = r.layers; table = r.table; refs = r.refs; owner = r.owner; elements = r.elements; header = r.header; text = r.text; left = r.left; scan = r.scan; name = r.name ++ option_to_list unit }
 
-abbrev pub UnitCases : Option ℕ → Bool → Seen → Seen → Type 0
-UnitCases unit true old new = new ≡ with_unit old unit
-UnitCases unit false old new = StopsWith stop.OutOfMemory old new
+abbrev pub UnitCases : Option ℕ → Flow → Seen → Seen → Type 0
+UnitCases unit flow.On old new = new ≡ with_unit old unit
+UnitCases unit flow.Stopped old new = StopsWith stop.OutOfMemory old new
 
-unfoldable pub KeepsUnit : Option ℕ → Bool → Seen → Seen → Type 0
+unfoldable pub KeepsUnit : Option ℕ → Flow → Seen → Seen → Type 0
 KeepsUnit unit b old new = UnitCases unit b old new
 
-abbrev pub ByteCases : ℕ → Bool → Seen → Seen → Type 0
-ByteCases byte true old new = Scanned (byte ∷ []) old new
-ByteCases byte false old new = Faults (byte ∷ []) 1 old new ⊎ RunsOut (byte ∷ []) 1 old new
+abbrev pub ByteCases : ℕ → Flow → Seen → Seen → Type 0
+ByteCases byte flow.On old new = Scanned (byte ∷ []) old new
+ByteCases byte flow.Stopped old new = Faults (byte ∷ []) 1 old new ⊎ RunsOut (byte ∷ []) 1 old new
 
-unfoldable pub ScansByte : ℕ → Bool → Seen → Seen → Type 0
+unfoldable pub ScansByte : ℕ → Flow → Seen → Seen → Type 0
 ScansByte byte b old new = ByteCases byte b old new
 
 abbrev pub ScanCases : List ℕ → Option ℕ → Seen → Seen → Type 0

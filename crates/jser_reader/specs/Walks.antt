@@ -18,6 +18,8 @@ use Rattle.jser_verdict.specs.Reasons.{Reason as ToldReason}
 use Rattle.jser_verdict.specs.Gates.{Gate, Answer}
 use Rattle.jser_verdict.specs.BytesSoFar.{differs}
 use Rattle.jser_verdict.specs.Verdicts.{verdict}
+use Rattle.jser_reader.specs.declared.machine.flow.Flow.{Flow}
+use Rattle.jser_reader.specs.declared.machine.flow.Flow.TheVariants as flow
 use Rattle.jser_reader.specs.declared.phase.Phase.{Phase}
 use Rattle.jser_reader.specs.declared.phase.Phase.TheVariants as phase
 use Rattle.jser_reader.specs.declared.refusal.Refusal.{Refusal}
@@ -193,12 +195,12 @@ pub record Ends (gate : Gate) (s : State) (cut taken : List ℕ) (old new : Seen
   pub stands : Stands gate new (settled (advance (settled s) token)) []
   pub at : new.meter.at ≡ old.meter.at + length taken
 
-abbrev pub Took : Gate → State → (cut taken : List ℕ) → Bool → Seen → Seen → Type 0
-Took gate s cut taken true old new = Ends gate s cut taken old new
-Took gate s cut taken false old new = (new.phase ≡ phase.Stopped) × StopTold gate s cut taken old.meter.from new.meter.stop
+abbrev pub Took : Gate → State → (cut taken : List ℕ) → Flow → Seen → Seen → Type 0
+Took gate s cut taken flow.On old new = Ends gate s cut taken old new
+Took gate s cut taken flow.Stopped old new = (new.phase ≡ phase.Stopped) × StopTold gate s cut taken old.meter.from new.meter.stop
 
 -- these bytes end the open token, or the machine stops at the last of them
-unfoldable pub Takes : Gate → List ℕ → Bool → Seen → Seen → Type 0
+unfoldable pub Takes : Gate → List ℕ → Flow → Seen → Seen → Type 0
 Takes gate taken result old new =
     (s : State) (cut : List ℕ) → Stands gate old (settled s) cut → Took gate s cut taken result old new
 

@@ -5,6 +5,8 @@ use Rattle.jser_prim.specs.ModifiedUtf8.{modified_utf8}
 use Rattle.jser_table.specs.Entries.{text_entry, other_entry}
 use Rattle.jser_grammar.specs.Parts.{IsText}
 use Rattle.jser_grammar.specs.Wire.{TC_REFERENCE}
+use Rattle.jser_reader.specs.declared.machine.flow.Flow.{Flow}
+use Rattle.jser_reader.specs.declared.machine.flow.Flow.TheVariants as flow
 use Rattle.jser_reader.specs.declared.frame.Owner.{Owner}
 use Rattle.jser_reader.specs.declared.frame.Owner.TheVariants as owner
 use Rattle.jser_reader.specs.declared.phase.Phase.{Phase}
@@ -73,6 +75,6 @@ unfoldable pub AssignsOther : Bool → Seen → Seen → Type 0
 AssignsOther result old new = OtherCases result old new
 
 -- so many bytes were taken, or the machine stopped within them
-abbrev pub all_or_none : Bool → ℕ → Option ℕ
-all_or_none true n = Some n
-all_or_none false n = None
+abbrev pub all_or_none : Flow → ℕ → Option ℕ
+all_or_none flow.On n = Some n
+all_or_none flow.Stopped n = None

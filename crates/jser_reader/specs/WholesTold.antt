@@ -1,10 +1,12 @@
 -- What a reader says of a value that it lends at once: the same as if its items were lent one after another, and which
 -- handles are assigned between them.
-use Rattle.std.specs.Prelude.{◌≡◌, ℕ, suc, ◌+◌, ◌≤◌, Bool, true, false, List, [], length, take, drop, Option, Some, None, Result, Ok, Err}
+use Rattle.std.specs.Prelude.{◌≡◌, ℕ, suc, ◌+◌, ◌≤◌, false, List, [], length, take, drop, Option, Some, None, Result, Ok, Err}
 use Rattle.jser_grammar.specs.Wire.{TC_REFERENCE, TC_STRING}
 use Rattle.jser_reading.specs.Labels.{Label, Piece}
 use Rattle.jser_reading.specs.ComesNext.{ComesNext}
 use Rattle.jser_verdict.specs.Gates.{Gate}
+use Rattle.jser_reader.specs.declared.machine.flow.Flow.{Flow}
+use Rattle.jser_reader.specs.declared.machine.flow.Flow.TheVariants as flow
 use Rattle.jser_reader.specs.declared.item.Item.TheVariants as item
 use Rattle.jser_reader.specs.declared.item.Step.TheVariants as step
 use Rattle.jser_reader.specs.declared.item.Whole.{Whole}
@@ -80,6 +82,6 @@ LentCases gate given (lent.Value w) old before new after = TellsWhole gate given
 LentCases gate given lent.Nothing old before new after = (new ≡ old) × (after ≡ before)
 LentCases gate given lent.Stopped old before new after = Passes gate given None old before new after
 
-abbrev pub OwnerCases : Gate → (given : List ℕ) → (tag class : ℕ) → Bool → Seen → Tally → Seen → Tally → Type 0
-OwnerCases gate given tag class true old before new after = TellsOwner gate given tag class old before new after
-OwnerCases gate given tag class false old before new after = Passes gate given None old before new after
+abbrev pub OwnerCases : Gate → (given : List ℕ) → (tag class : ℕ) → Flow → Seen → Tally → Seen → Tally → Type 0
+OwnerCases gate given tag class flow.On old before new after = TellsOwner gate given tag class old before new after
+OwnerCases gate given tag class flow.Stopped old before new after = Passes gate given None old before new after

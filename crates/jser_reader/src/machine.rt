@@ -1,7 +1,7 @@
 //! The reader's machine: what is open, in few bytes, and the token that comes next.
 //!
 //! There is a frame for each array, object and descriptor that is open, so the depth is the length of the stack.
-//! A handler of a token answers false where the machine has stopped; `stop` then says why.
+//! A handler of a token answers whether the machine goes on; where it has stopped, `stop` says why.
 
 use crate::cut::Cut;
 use crate::field_list::FieldList;
@@ -19,6 +19,7 @@ mod classes;
 mod descriptors;
 mod ends;
 mod fields;
+pub(crate) mod flow;
 pub(crate) mod items;
 mod many;
 mod names;

@@ -15,6 +15,7 @@ ghost use Rattle.jser_reader.specs.Tags.{view_tag};
 
 use crate::frame::{Owner, Role};
 use crate::machine::Machine;
+use crate::machine::flow::Flow;
 use crate::phase::Phase;
 use crate::refusal::Reason;
 use crate::tag::{Tag, ValueTag, tag_of};
@@ -24,7 +25,7 @@ use jser_table::{ChainNumber, Class, Fit, Purpose};
 impl Machine {
     /// A new proxy descriptor as the class of the owner.
     #[tactic(auto, using(crate::proofs::ClassLemmas::object_proxy, crate::proofs::ClassLemmas::array_proxy, crate::proofs::ClassLemmas::enum_proxy, crate::proofs::ClassLemmas::class_proxy))]
-    fn proxy_class(&mut self) -> bool
+    fn proxy_class(&mut self) -> Flow
         ensures { Tells (class_tag_reason (plain_gate self.old) (label_at (class_place_at (goal_owner self.old.owner)) (suc (length self.old.frames)) self.old) (goal_owner self.old.owner) TC_PROXYCLASSDESC)
             (after_class_tag self.old (tag_from TC_PROXYCLASSDESC)) result self.old self.new }
     {
@@ -38,7 +39,7 @@ impl Machine {
 
     /// A value's tag in a class place.
     #[tactic(auto, using(crate::proofs::ClassLemmas::class_reference, crate::proofs::ClassLemmas::new_class, crate::proofs::ClassLemmas::null_class_tag, crate::proofs::ClassLemmas::proxy_tag, crate::proofs::ClassLemmas::no_class_value))]
-    fn class_value(&mut self, tag: ValueTag) -> bool
+    fn class_value(&mut self, tag: ValueTag) -> Flow
         ensures { Tells (class_tag_reason (plain_gate self.old) (label_at (class_place_at (goal_owner self.old.owner)) (suc (length self.old.frames)) self.old) (goal_owner self.old.owner) (tag_byte (view_tag tag)))
             (after_class_tag self.old (tag_from (tag_byte (view_tag tag)))) result self.old self.new }
     {
@@ -58,7 +59,7 @@ impl Machine {
 
     /// A tag in a class place.
     #[tactic(auto, using(crate::proofs::ClassLemmas::no_class_tag, crate::proofs::ClassLemmas::value_tag, crate::proofs::ClassLemmas::class_block, crate::proofs::ClassLemmas::class_other))]
-    pub(super) fn class_tag(&mut self, byte: u8) -> bool
+    pub(super) fn class_tag(&mut self, byte: u8) -> Flow
         ensures { Tells (class_tag_reason (plain_gate self.old) (label_at (class_place_at (goal_owner self.old.owner)) (suc (length self.old.frames)) self.old) (goal_owner self.old.owner) byte)
             (after_class_tag self.old (tag_from byte)) result self.old self.new }
     {
@@ -96,7 +97,7 @@ impl Machine {
     /// The handle of a reference that is the class of this owner.
     #[tactic(auto, using(crate::proofs::ClassLemmas::low_class, crate::proofs::ClassLemmas::no_such_class, crate::proofs::ClassLemmas::no_class, crate::proofs::ClassLemmas::open_class, crate::proofs::ClassLemmas::wrong_class_handle, crate::proofs::ClassLemmas::right_class))]
     #[inline(always)]
-    fn known_class_handle(&mut self, owner: Owner, n: u32) -> bool
+    fn known_class_handle(&mut self, owner: Owner, n: u32) -> Flow
         requires owner { self.old.owner ≡ owner }
         ensures { Tells (class_handle_reason (plain_gate self.old) (label_at (class_handle_at (goal_owner self.old.owner)) (suc (length self.old.frames)) self.old) (goal_owner self.old.owner) n)
             (owner_state self.old (chain_at self.old.table.entries (n - BASE_WIRE_HANDLE))) result self.old self.new }
@@ -117,7 +118,7 @@ impl Machine {
 
     /// The handle of a reference in a class place.
     #[inline(never)]
-    pub(super) fn class_handle(&mut self, n: u32) -> bool
+    pub(super) fn class_handle(&mut self, n: u32) -> Flow
         ensures { Tells (class_handle_reason (plain_gate self.old) (label_at (class_handle_at (goal_owner self.old.owner)) (suc (length self.old.frames)) self.old) (goal_owner self.old.owner) n)
             (owner_state self.old (chain_at self.old.table.entries (n - BASE_WIRE_HANDLE))) result self.old self.new }
     {

@@ -14,6 +14,7 @@ ghost use Rattle.jser_reader.specs.Descriptors.{CanOpen, Opens, OpensNew, role_r
 
 use crate::frame::{Frame, Owner, Role};
 use crate::machine::Machine;
+use crate::machine::flow::Flow;
 use crate::phase::Phase;
 use crate::refusal::Reason;
 use jser_table::{KeptLayer, Kind, LayerKind};
@@ -22,7 +23,7 @@ impl Machine {
     /// Puts the descriptor with this number on the stack, and then a layer in which nothing is yet: where memory runs
     /// out between the two, there is no layer without its frame.
     #[tactic(auto, using(crate::proofs::DescriptorLemmas::fits_opened, crate::proofs::LayerLemmas::frame_opened, crate::proofs::LayerLemmas::layer_opened, crate::proofs::DescriptorLemmas::opens_nothing, crate::proofs::DescriptorLemmas::opens))]
-    fn push_descriptor(&mut self, role: Role, number: u32) -> bool
+    fn push_descriptor(&mut self, role: Role, number: u32) -> Flow
         requires { CanOpen self.old.table.entries self.old.table.chains number self.old.frames }
         ensures { Opens role number result self.old self.new }
     {
@@ -38,30 +39,30 @@ impl Machine {
         if self.outer.push(outer).is_err() {
             return self.no_memory();
         }
-        true
+        Flow::On
     }
 
     /// A new descriptor, which is read in this role: its handle is assigned.
     #[tactic(auto, using(crate::proofs::DescriptorLemmas::can_open, crate::proofs::DescriptorLemmas::not_new, crate::proofs::DescriptorLemmas::opens_new))]
-    pub(super) fn new_descriptor(&mut self, role: Role) -> bool
+    pub(super) fn new_descriptor(&mut self, role: Role) -> Flow
         ensures { OpensNew role result self.old self.new }
     {
         let _ = &self.alloc;
         match self.assign(Kind::Pending) {
-            None => false,
+            None => Flow::Stopped,
             Some(number) => self.push_descriptor(role, number),
         }
     }
 
     /// The suid of a plain descriptor: its handle is assigned there, and its flags come next.
     #[tactic(auto, using(crate::proofs::DescriptorLemmas::no_descriptor, crate::proofs::DescriptorLemmas::suid_goes))]
-    pub(super) fn suid(&mut self) -> bool
+    pub(super) fn suid(&mut self) -> Flow
         ensures { Tells (told_if (is_full self.old) handle_space None) (after_suid self.old) result self.old self.new }
     {
-        if !self.new_descriptor(self.role) {
-            return false;
+        match self.new_descriptor(self.role) {
+            Flow::On => self.done(Phase::Flags),
+            Flow::Stopped => Flow::Stopped,
         }
-        self.done(Phase::Flags)
     }
 
     /// What is wrong with the flags of an object's class.
@@ -109,7 +110,7 @@ impl Machine {
     /// The flags of the plain descriptor on top.
     #[tactic(auto, using(crate::proofs::FieldLemmas::high_flags, crate::proofs::FieldLemmas::both_flags, crate::proofs::FieldLemmas::flags_fault, crate::proofs::FieldLemmas::flags_go))]
     #[inline(always)]
-    pub(super) fn flags(&mut self, flags: u8) -> bool
+    pub(super) fn flags(&mut self, flags: u8) -> Flow
         ensures { HasDescriptor self.old.frames → Tells (flags_reason (top_role self.old.frames) flags) (field_count_state self.old flags) result self.old self.new }
     {
         if flags >= 0x20 {

@@ -13,6 +13,7 @@ ghost use Rattle.jser_reader.specs.Handlers.{Tells, moved};
 ghost use Rattle.jser_reader.specs.Descriptors.{SetsLayer, GoesOnFields, GoesOnInterfaces, after_field_count, after_code, after_interfaces};
 
 use crate::machine::Machine;
+use crate::machine::flow::Flow;
 use crate::phase::{Phase, TextFor};
 use crate::refusal::Reason;
 use jser_table::{KeptLayer, LayerKind, size_of_code};
@@ -47,9 +48,9 @@ impl Machine {
 
     /// What comes after a field: the next one, or after the last one the annotation of the descriptor.
     #[tactic(auto, using(crate::proofs::FieldLemmas::next_field))]
-    pub(super) fn fields_done(&mut self) -> bool
+    pub(super) fn fields_done(&mut self) -> Flow
         ensures goes { GoesOnFields result self.old self.new }
-        ensures result { result ≡ true }
+        ensures result { result ≡ Flow.On }
         ensures meter { self.new.meter ≡ moved self.old.meter }
     {
         if self.fields.left() > 0 {
@@ -62,7 +63,7 @@ impl Machine {
     /// The number of fields of the plain descriptor on top.
     #[tactic(auto, using(crate::proofs::FieldLemmas::negative_count, crate::proofs::FieldLemmas::fields_begin))]
     #[inline(always)]
-    pub(super) fn field_count(&mut self, n: u16) -> bool
+    pub(super) fn field_count(&mut self, n: u16) -> Flow
         ensures { HasDescriptor self.old.frames → Tells (count_reason (2 ^ 15) n) (after_field_count self.old n) result self.old self.new }
     {
         if n >= 0x8000 {
@@ -88,7 +89,7 @@ impl Machine {
 
     /// A field with this type code begins: its name comes next.
     #[tactic(auto, using(crate::proofs::FieldLemmas::no_field, crate::proofs::FieldLemmas::begins_field))]
-    fn begin_field(&mut self, code: u8) -> bool
+    fn begin_field(&mut self, code: u8) -> Flow
         ensures { HasDescriptor self.old.frames → 0 < self.old.header.fields → Tells None (after_code self.old code) result self.old self.new }
     {
         let is_object = is_object_code(code);
@@ -100,7 +101,7 @@ impl Machine {
 
     /// The type code of a field.
     #[tactic(auto, using(crate::proofs::FieldLemmas::wrong_code, crate::proofs::FieldLemmas::right_code))]
-    pub(super) fn type_code(&mut self, code: u8) -> bool
+    pub(super) fn type_code(&mut self, code: u8) -> Flow
         ensures { HasDescriptor self.old.frames → 0 < self.old.header.fields → Tells (code_reason self.old.header.seen code) (after_code self.old code) result self.old self.new }
     {
         match self.code_fault(code) {
@@ -111,7 +112,7 @@ impl Machine {
 
     /// What comes after an interface: the name of the next one, or after the last one the annotation of the proxy.
     #[tactic(auto, using(crate::proofs::FieldLemmas::next_interface))]
-    pub(super) fn interfaces_done(&mut self) -> bool
+    pub(super) fn interfaces_done(&mut self) -> Flow
         ensures { GoesOnInterfaces result self.old self.new }
     {
         if self.interfaces > 0 {
@@ -123,7 +124,7 @@ impl Machine {
 
     /// The number of interfaces of the proxy descriptor on top.
     #[tactic(auto, using(crate::proofs::FieldLemmas::negative_interfaces, crate::proofs::FieldLemmas::interfaces_begin))]
-    pub(super) fn interface_count(&mut self, n: u32) -> bool
+    pub(super) fn interface_count(&mut self, n: u32) -> Flow
         ensures { HasDescriptor self.old.frames → Tells (count_reason (2 ^ 31) n) (after_interfaces self.old n) result self.old self.new }
     {
         if n >= 0x8000_0000 {

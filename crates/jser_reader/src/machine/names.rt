@@ -15,6 +15,7 @@ ghost use Rattle.jser_reader.specs.TextStates.{IsKindOf, named_state};
 use crate::frame::{Owner, Role};
 use crate::gate::{Answer, Gate};
 use crate::machine::Machine;
+use crate::machine::flow::Flow;
 use crate::phase::Phase;
 use crate::refusal::Reason;
 use jser_table::{LayerKind, layer_kind_of};
@@ -75,7 +76,7 @@ impl Machine {
 
     /// The name of a class has ended. If it may stand there, the suid comes next.
     #[tactic(auto, using(crate::proofs::NameLemmas::class_refused, crate::proofs::NameLemmas::class_named))]
-    pub(super) fn class_name<G: Gate>(&mut self, gate: &G) -> bool
+    pub(super) fn class_name<G: Gate>(&mut self, gate: &G) -> Flow
         ensures { TellsSurely (class_name_reason (G.told gate.now) (head_role self.old) self.old.name) (named_state self.old self.old.name) result self.old self.new }
     {
         match self.class_kind(gate) {
@@ -100,7 +101,7 @@ impl Machine {
 
     /// The name of an interface has ended. If it may stand there, the next one comes, or what is after the last.
     #[tactic(auto, using(crate::proofs::NameLemmas::interface_refused, crate::proofs::NameLemmas::interface_named))]
-    pub(super) fn interface_name<G: Gate>(&mut self, gate: &G) -> bool
+    pub(super) fn interface_name<G: Gate>(&mut self, gate: &G) -> Flow
         ensures { HasDescriptor self.old.frames
             → TellsSurely (interface_reason (G.told gate.now) self.old.name) (settle (moment_of self.old) (interfaces_goals self.old (self.old.header.interfaces - 1))) result self.old self.new }
     {

@@ -8,6 +8,7 @@ ghost use Rattle.jser_reader.specs.Numbers.{back_reason, after_length, after_blo
 
 use crate::frame::Frame;
 use crate::machine::Machine;
+use crate::machine::flow::Flow;
 use crate::phase::Phase;
 use crate::refusal::Reason;
 use jser_grammar::wire::BASE_WIRE_HANDLE;
@@ -16,7 +17,7 @@ impl Machine {
     /// The handle of a reference in a value place.
     #[tactic(auto, using(crate::proofs::NumberLemmas::low_handle, crate::proofs::NumberLemmas::high_handle, crate::proofs::NumberLemmas::right_handle))]
     #[inline(always)]
-    pub(super) fn back_handle(&mut self, n: u32) -> bool
+    pub(super) fn back_handle(&mut self, n: u32) -> Flow
         ensures { TellsSurely (back_reason self.old n) (after_value self.old) result self.old self.new }
     {
         if n < BASE_WIRE_HANDLE || n - BASE_WIRE_HANDLE >= self.table.count() {
@@ -28,7 +29,7 @@ impl Machine {
     /// The length of a block: so many bytes come, if there are any.
     #[tactic(auto, using(crate::proofs::NumberLemmas::no_bytes, crate::proofs::NumberLemmas::some_bytes))]
     #[inline(always)]
-    pub(super) fn block_length(&mut self, n: u32) -> bool
+    pub(super) fn block_length(&mut self, n: u32) -> Flow
         ensures { TellsSurely None (after_block_length self.old n) result self.old self.new }
     {
         if n == 0 {
@@ -40,7 +41,7 @@ impl Machine {
 
     /// The length of a block in the long form.
     #[tactic(auto, using(crate::proofs::NumberLemmas::long_negative, crate::proofs::NumberLemmas::long_block))]
-    pub(super) fn long_block_length(&mut self, n: u32) -> bool
+    pub(super) fn long_block_length(&mut self, n: u32) -> Flow
         ensures { TellsSurely (count_reason (2 ^ 31) n) (after_block_length self.old n) result self.old self.new }
     {
         if n >= 0x8000_0000 {
@@ -51,7 +52,7 @@ impl Machine {
 
     /// So many raw elements of this size come.
     #[tactic(auto, using(crate::proofs::ArrayLemmas::raw_elements))]
-    fn raw_elements(&mut self, size: u8, n: u32) -> bool
+    fn raw_elements(&mut self, size: u8, n: u32) -> Flow
         requires { 0 < n }
         ensures { (elements : Option PrimCode) → option_map size_of elements ≡ Some size → Tells None (after_length self.old elements n) result self.old self.new }
     {
@@ -61,7 +62,7 @@ impl Machine {
 
     /// So many elements come that are values.
     #[tactic(auto, using(crate::proofs::ArrayLemmas::value_elements, crate::proofs::ArrayLemmas::no_room, crate::proofs::LayerLemmas::layers_under_part))]
-    fn value_elements(&mut self, n: u32) -> bool
+    fn value_elements(&mut self, n: u32) -> Flow
         requires { 0 < n }
         ensures { Tells None (after_length self.old None n) result self.old self.new }
     {
@@ -73,7 +74,7 @@ impl Machine {
 
     /// The length of an array: so many elements come, if there are any.
     #[tactic(auto, using(crate::proofs::ArrayLemmas::negative, crate::proofs::ArrayLemmas::too_long, crate::proofs::ArrayLemmas::no_elements, crate::proofs::ArrayLemmas::some_raw, crate::proofs::ArrayLemmas::some_values))]
-    pub(super) fn array_length(&mut self, n: u32) -> bool
+    pub(super) fn array_length(&mut self, n: u32) -> Flow
         ensures { (elements : Option PrimCode) → self.old.elements ≡ option_map size_of elements → Tells (array_reason (plain_gate self.old) n) (after_length self.old elements n) result self.old self.new }
     {
         if n >= 0x8000_0000 {

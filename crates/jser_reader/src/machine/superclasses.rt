@@ -11,6 +11,7 @@ ghost use Rattle.jser_reader.specs.Superclasses.{CountsPlace, strict_in, super_r
 
 use crate::frame::{Frame, Owner, Role};
 use crate::machine::Machine;
+use crate::machine::flow::Flow;
 use crate::phase::Phase;
 use crate::refusal::Reason;
 use crate::tag::{Tag, ValueTag, tag_of};
@@ -20,7 +21,7 @@ use jser_table::Class;
 impl Machine {
     /// Counts a place, if it is not too deep and not one too many.
     #[tactic(auto, using(crate::proofs::PlaceLemmas::too_deep, crate::proofs::PlaceLemmas::too_many, crate::proofs::PlaceLemmas::counts))]
-    fn count_place(&mut self) -> bool
+    fn count_place(&mut self) -> Flow
         ensures { CountsPlace result self.old self.new }
     {
         if self.frames.len() >= self.limits.depth as usize {
@@ -30,7 +31,7 @@ impl Machine {
             return self.refuse(Reason::RefsExceeded);
         }
         self.refs += 1;
-        true
+        Flow::On
     }
 
     /// Whether the superclass of the descriptor on top must be a proxy or serializable.
@@ -56,53 +57,53 @@ impl Machine {
 
     /// NULL in a superclass place, a class with no superclass.
     #[tactic(auto, using(crate::proofs::SuperTagLemmas::null_fails, crate::proofs::SuperTagLemmas::null_closes))]
-    fn null_super(&mut self) -> bool
+    fn null_super(&mut self) -> Flow
         ensures { HasDescriptor self.old.frames → Tells (super_reason self.old TC_NULL) (after_super_tag self.old (tag_from TC_NULL)) result self.old self.new }
     {
-        if !self.count_place() {
-            return false;
+        match self.count_place() {
+            Flow::On => self.close(None),
+            Flow::Stopped => Flow::Stopped,
         }
-        self.close(None)
     }
 
     /// A reference in a superclass place.
     #[tactic(auto, using(crate::proofs::SuperTagLemmas::back_fails, crate::proofs::SuperTagLemmas::back_goes))]
-    fn back_super(&mut self) -> bool
+    fn back_super(&mut self) -> Flow
         ensures { HasDescriptor self.old.frames → Tells (super_reason self.old TC_REFERENCE) (after_super_tag self.old (tag_from TC_REFERENCE)) result self.old self.new }
     {
-        if !self.count_place() {
-            return false;
+        match self.count_place() {
+            Flow::On => self.done(Phase::SuperHandle),
+            Flow::Stopped => Flow::Stopped,
         }
-        self.done(Phase::SuperHandle)
     }
 
     /// A new plain descriptor in a superclass place.
     #[tactic(auto, using(crate::proofs::SuperTagLemmas::plain_fails, crate::proofs::SuperTagLemmas::plain_goes))]
-    fn plain_super(&mut self) -> bool
+    fn plain_super(&mut self) -> Flow
         ensures { Tells (super_reason self.old TC_CLASSDESC) (after_super_tag self.old (tag_from TC_CLASSDESC)) result self.old self.new }
     {
-        if !self.count_place() {
-            return false;
-        }
+        let Flow::On = self.count_place() else {
+            return Flow::Stopped;
+        };
         let strict = self.is_strict();
         self.new_class(Role::Superclass { strict })
     }
 
     /// A new proxy descriptor in a superclass place.
     #[tactic(auto, using(crate::proofs::SuperTagLemmas::proxy_fails, crate::proofs::SuperTagLemmas::proxy_goes))]
-    fn proxy_super(&mut self) -> bool
+    fn proxy_super(&mut self) -> Flow
         ensures { Tells (super_reason self.old TC_PROXYCLASSDESC) (after_super_tag self.old (tag_from TC_PROXYCLASSDESC)) result self.old self.new }
     {
-        if !self.count_place() {
-            return false;
-        }
+        let Flow::On = self.count_place() else {
+            return Flow::Stopped;
+        };
         let strict = self.is_strict();
         self.new_proxy(Role::Superclass { strict })
     }
 
     /// A value's tag in a superclass place.
     #[tactic(auto, using(crate::proofs::SuperTagLemmas::no_super_value))]
-    fn super_value(&mut self, tag: ValueTag) -> bool
+    fn super_value(&mut self, tag: ValueTag) -> Flow
         ensures { HasDescriptor self.old.frames → Tells (super_reason self.old (tag_byte (view_tag tag))) (after_super_tag self.old (tag_from (tag_byte (view_tag tag)))) result self.old self.new }
     {
         match tag {
@@ -121,7 +122,7 @@ impl Machine {
 
     /// A tag in a superclass place.
     #[tactic(auto, using(crate::proofs::SuperTagLemmas::no_super_tag, crate::proofs::SuperTagLemmas::super_value_tag, crate::proofs::SuperTagLemmas::super_block, crate::proofs::SuperTagLemmas::super_other))]
-    pub(super) fn super_tag(&mut self, byte: u8) -> bool
+    pub(super) fn super_tag(&mut self, byte: u8) -> Flow
         ensures { HasDescriptor self.old.frames → Tells (super_reason self.old byte) (after_super_tag self.old (tag_from byte)) result self.old self.new }
     {
         match tag_of(byte) {
@@ -136,7 +137,7 @@ impl Machine {
 
     /// The handle of a reference in a superclass place.
     #[tactic(auto, using(crate::proofs::SuperTagLemmas::low_super, crate::proofs::SuperTagLemmas::no_such_super, crate::proofs::SuperTagLemmas::no_class_super, crate::proofs::SuperTagLemmas::open_super, crate::proofs::SuperTagLemmas::unserial_super, crate::proofs::SuperTagLemmas::right_super, crate::proofs::SuperTagLemmas::is_read))]
-    pub(super) fn super_handle(&mut self, n: u32) -> bool
+    pub(super) fn super_handle(&mut self, n: u32) -> Flow
         ensures { HasDescriptor self.old.frames → Tells (super_handle_reason self.old n) (closed_state self.old (Some (n - BASE_WIRE_HANDLE))) result self.old self.new }
     {
         if n < BASE_WIRE_HANDLE {

@@ -13,13 +13,14 @@ ghost use Rattle.jser_reader.specs.Closing.{ClosesTop, ClosesOne, PopsLayer, clo
 
 use crate::frame::{Frame, Owner, Role};
 use crate::machine::Machine;
+use crate::machine::flow::Flow;
 use jser_table::{Class, KeptLayer, LayerKind};
 
 /// What came of closing a descriptor.
 #[derive(Clone, Copy)]
 enum Closing {
     /// What waited for it has begun, or the machine has stopped: a handler's answer.
-    Ended(bool),
+    Ended(Flow),
     /// It is the superclass of the descriptor that is on top now.
     Superclass(u32),
 }
@@ -53,7 +54,7 @@ impl Machine {
 
     /// The class with this number has been read: its owner's handle is assigned.
     #[tactic(auto, using(crate::proofs::SuperLemmas::owner_found, crate::proofs::SuperLemmas::not_there, crate::proofs::SuperLemmas::not_class, crate::proofs::SuperLemmas::not_open))]
-    fn owner_of(&mut self, number: u32, owner: Owner) -> bool
+    fn owner_of(&mut self, number: u32, owner: Owner) -> Flow
         requires closed { IsTrue (is_closed (slice_get self.old.table.entries number)) }
         ensures { Tells (told_if (is_full self.old) handle_space None) (made_state self.old owner (chain_at self.old.table.entries number)) result self.old self.new }
     {
@@ -84,7 +85,7 @@ impl Machine {
     /// The superclass place of the descriptor on top has ended, with this class in it, or with NULL: the descriptor is
     /// closed, and those round it whose superclass it is; and what waited for them goes on.
     #[tactic(auto, using(crate::proofs::SuperLemmas::closes_last, crate::proofs::SuperLemmas::closes_more, crate::proofs::SuperLemmas::closes_shorter, crate::proofs::SuperLemmas::closes_open, crate::proofs::SuperLemmas::closing_starts, crate::proofs::SuperLemmas::none_open, crate::proofs::SuperLemmas::other_open))]
-    pub(super) fn close(&mut self, parent: Option<u32>) -> bool
+    pub(super) fn close(&mut self, parent: Option<u32>) -> Flow
         requires { ForSome parent (λ p. IsTrue (is_closed (slice_get self.old.table.entries p))) }
         ensures { Tells (closing_reason self.old) (closed_state self.old parent) result self.old self.new }
     {
@@ -94,7 +95,7 @@ impl Machine {
                 return self.ended();
             };
             match self.close_one(number, role, above) {
-                Closing::Ended(goes_on) => return goes_on,
+                Closing::Ended(flow) => return flow,
                 Closing::Superclass(closed) => above = Some(closed),
             }
         }

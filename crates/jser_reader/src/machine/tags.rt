@@ -9,6 +9,7 @@ ghost use Rattle.jser_reader.specs.Steps.{after_value};
 
 use crate::frame::Frame;
 use crate::machine::Machine;
+use crate::machine::flow::Flow;
 use crate::phase::Phase;
 use crate::refusal::Reason;
 use crate::tag::{Tag, tag_of};
@@ -16,9 +17,9 @@ use crate::tag::{Tag, tag_of};
 impl Machine {
     /// The length of a block comes next, in one byte, or in four in the long form.
     #[inline(always)]
-    fn next_block(&mut self, long: bool) -> bool
+    fn next_block(&mut self, long: bool) -> Flow
         ensures next { IsNext (block_phase long) self.old.owner self.old.elements self.old.header self.old.text self.old self.new }
-        ensures result { result ≡ true }
+        ensures result { result ≡ Flow.On }
     {
         if long {
             return self.done(Phase::BlockLength4);
@@ -29,7 +30,7 @@ impl Machine {
     /// A tag at the top of the stream.
     #[tactic(auto, using(crate::proofs::TagLemmas::no_top_tag, crate::proofs::TagLemmas::top_value, crate::proofs::TagLemmas::top_block, crate::proofs::TagLemmas::top_reset, crate::proofs::TagLemmas::top_end, crate::proofs::TagLemmas::top_exception))]
     #[inline(always)]
-    pub(super) fn top(&mut self, byte: u8) -> bool
+    pub(super) fn top(&mut self, byte: u8) -> Flow
         ensures { self.old.frames ≡ [] → Tells (content_reason (plain_gate self.old) (label_at top_at 1 self.old) byte) (after_content self.old (tag_from byte)) result self.old self.new }
     {
         match tag_of(byte) {
@@ -45,7 +46,7 @@ impl Machine {
     /// A tag in an annotation.
     #[tactic(auto, using(crate::proofs::TagLemmas::no_note_tag, crate::proofs::TagLemmas::note_value, crate::proofs::TagLemmas::note_block, crate::proofs::TagLemmas::note_end, crate::proofs::TagLemmas::note_reset, crate::proofs::TagLemmas::note_exception))]
     #[inline(always)]
-    pub(super) fn note(&mut self, byte: u8) -> bool
+    pub(super) fn note(&mut self, byte: u8) -> Flow
         ensures { HasNotes self.old.frames → Tells (inner_reason (plain_gate self.old) (label_at annotation_at (suc (length self.old.frames)) self.old) byte) (after_content self.old (tag_from byte)) result self.old self.new }
     {
         match tag_of(byte) {
@@ -61,7 +62,7 @@ impl Machine {
     /// A tag in a value place: a field of an object, an element of an array.
     #[tactic(auto, using(crate::proofs::TagLemmas::no_value_tag, crate::proofs::TagLemmas::value_value, crate::proofs::TagLemmas::value_block, crate::proofs::TagLemmas::value_end, crate::proofs::TagLemmas::value_reset, crate::proofs::TagLemmas::value_exception))]
     #[inline(always)]
-    pub(super) fn value(&mut self, byte: u8) -> bool
+    pub(super) fn value(&mut self, byte: u8) -> Flow
         ensures { Tells (inner_reason (plain_gate self.old) (label_at value_at (suc (length self.old.frames)) self.old) byte) (after_content self.old (tag_from byte)) result self.old self.new }
     {
         match tag_of(byte) {
@@ -76,9 +77,9 @@ impl Machine {
 
     /// `TC_RESET`: the table of handles is emptied. Nothing is open there.
     #[tactic(auto, using(crate::proofs::TagLemmas::resets, crate::proofs::LayerLemmas::no_layers))]
-    fn reset(&mut self) -> bool
+    fn reset(&mut self) -> Flow
         ensures reset { self.old.frames ≡ [] → Comes self.old self.new (after_content self.old (Some reset_tag_token)) }
-        ensures result { result ≡ true }
+        ensures result { result ≡ Flow.On }
     {
         self.frames.clear();
         self.outer.clear();
@@ -88,9 +89,9 @@ impl Machine {
 
     /// `TC_ENDBLOCKDATA`: the annotation on top has ended.
     #[tactic(auto, using(crate::proofs::TagLemmas::descriptor_ends, crate::proofs::TagLemmas::external_ends, crate::proofs::TagLemmas::section_ends, crate::proofs::TagLemmas::sections_end, crate::proofs::PartLemmas::fits_tail, crate::proofs::LayerLemmas::other_is_part, crate::proofs::LayerLemmas::layers_of_tail))]
-    fn end_notes(&mut self) -> bool
+    fn end_notes(&mut self) -> Flow
         ensures end { HasNotes self.old.frames → Comes self.old self.new (after_end self.old) }
-        ensures result { result ≡ true }
+        ensures result { result ≡ Flow.On }
     {
         let Some(frame) = self.frames.top() else {
             return self.ended();
@@ -103,7 +104,7 @@ impl Machine {
                     self.frames.pop();
                     self.value_done();
                 }
-                true
+                Flow::On
             }
             _ => {
                 self.frames.pop();

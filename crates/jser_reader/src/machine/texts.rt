@@ -11,6 +11,7 @@ ghost use Rattle.jser_reader.specs.TextStates.{text_tag_reason, handle_reason, a
 
 use crate::gate::Gate;
 use crate::machine::Machine;
+use crate::machine::flow::Flow;
 use crate::phase::{Phase, TextFor};
 use crate::refusal::Reason;
 use crate::tag::{Tag, ValueTag, tag_of};
@@ -21,7 +22,7 @@ impl Machine {
     /// A value's tag in a text place.
     #[tactic(auto, using(crate::proofs::TextLemmas::text_reference, crate::proofs::TextLemmas::short_text, crate::proofs::TextLemmas::long_text, crate::proofs::TextLemmas::no_text_value))]
     #[inline(always)]
-    fn text_value(&mut self, tag: ValueTag) -> bool
+    fn text_value(&mut self, tag: ValueTag) -> Flow
         ensures { IsForm self.old.text true → IsInside self.old.text self.old.frames
             → Tells (text_tag_reason self.old (tag_byte (view_tag tag))) (after_text_tag self.old (tag_from (tag_byte (view_tag tag)))) result self.old self.new }
     {
@@ -41,7 +42,7 @@ impl Machine {
 
     /// A tag in a text place.
     #[tactic(auto, using(crate::proofs::TextLemmas::no_text_tag, crate::proofs::TextLemmas::text_value_tag, crate::proofs::TextLemmas::text_block, crate::proofs::TextLemmas::text_other))]
-    pub(super) fn text_tag(&mut self, byte: u8) -> bool
+    pub(super) fn text_tag(&mut self, byte: u8) -> Flow
         ensures { IsForm self.old.text true → IsInside self.old.text self.old.frames
             → Tells (text_tag_reason self.old byte) (after_text_tag self.old (tag_from byte)) result self.old self.new }
     {
@@ -57,7 +58,7 @@ impl Machine {
 
     /// The text of a text place has ended.
     #[tactic(auto, using(crate::proofs::TextLemmas::constant_named, crate::proofs::TextLemmas::type_named))]
-    fn place_done(&mut self) -> bool
+    fn place_done(&mut self) -> Flow
         ensures { IsForm self.old.text true → IsInside self.old.text self.old.frames
             → TellsSurely None (settle (moment_of self.old) (text_rest self.old self.old.text)) result self.old self.new }
     {
@@ -69,7 +70,7 @@ impl Machine {
 
     /// The handle of a reference in a text place.
     #[tactic(auto, using(crate::proofs::TextLemmas::low_text, crate::proofs::TextLemmas::no_such_text, crate::proofs::TextLemmas::right_text, crate::proofs::TextLemmas::wrong_text))]
-    pub(super) fn text_handle(&mut self, n: u32) -> bool
+    pub(super) fn text_handle(&mut self, n: u32) -> Flow
         ensures { IsForm self.old.text true → IsInside self.old.text self.old.frames
             → TellsSurely (handle_reason self.old n) (settle (moment_of self.old) (text_rest self.old self.old.text)) result self.old self.new }
     {
@@ -84,9 +85,9 @@ impl Machine {
     }
 
     /// A text place comes next, of the type of the field whose name has been read.
-    pub(super) fn next_type(&mut self) -> bool
+    pub(super) fn next_type(&mut self) -> Flow
         ensures next { IsNext Phase.TextTag self.old.owner self.old.elements self.old.header TextFor.FieldType self.old self.new }
-        ensures result { result ≡ true }
+        ensures result { result ≡ Flow.On }
     {
         self.text = TextFor::FieldType;
         self.done(Phase::TextTag)
@@ -95,7 +96,7 @@ impl Machine {
     /// The text has ended whose bytes are being read, and all of them have been counted: mostly it is a string.
     #[tactic(auto, using(crate::proofs::TextLemmas::value_ends))]
     #[inline(always)]
-    pub(super) fn text_ended<G: Gate>(&mut self, gate: &G) -> bool
+    pub(super) fn text_ended<G: Gate>(&mut self, gate: &G) -> Flow
         ensures { (units : List ℕ) → EndsText self.old units → TellsSurely (text_reason (G.told gate.now) self.old units) (after_text self.old units) result self.old self.new }
     {
         if self.text == TextFor::Value {
@@ -106,7 +107,7 @@ impl Machine {
 
     /// A text that is no string has ended, and all its bytes have been counted.
     #[inline(never)]
-    pub(super) fn text_done<G: Gate>(&mut self, gate: &G) -> bool
+    pub(super) fn text_done<G: Gate>(&mut self, gate: &G) -> Flow
         ensures { (units : List ℕ) → EndsText self.old units → TellsSurely (text_reason (G.told gate.now) self.old units) (after_text self.old units) result self.old self.new }
     {
         self.text_done_in_line(gate)
@@ -115,7 +116,7 @@ impl Machine {
     /// A text that is no string has ended; what comes after it is found in line.
     #[inline(always)]
     #[tactic(auto, using(crate::proofs::TextLemmas::value_ends, crate::proofs::TextLemmas::type_ends, crate::proofs::TextLemmas::object_field_named, crate::proofs::TextLemmas::field_named, crate::proofs::TextLemmas::class_name_ends, crate::proofs::TextLemmas::interface_name_ends))]
-    pub(super) fn text_done_in_line<G: Gate>(&mut self, gate: &G) -> bool
+    pub(super) fn text_done_in_line<G: Gate>(&mut self, gate: &G) -> Flow
         ensures { (units : List ℕ) → EndsText self.old units → TellsSurely (text_reason (G.told gate.now) self.old units) (after_text self.old units) result self.old self.new }
     {
         match self.text {

@@ -9,6 +9,7 @@ ghost use Rattle.jser_reader.specs.Handlers.{Tells, Assigns, IsNext, is_full, ha
 
 use crate::frame::{Owner, Role};
 use crate::machine::Machine;
+use crate::machine::flow::Flow;
 use crate::phase::{Phase, TextFor};
 use crate::refusal::Reason;
 use crate::tag::ValueTag;
@@ -37,9 +38,9 @@ impl Machine {
 
     /// A class place comes next.
     #[inline(always)]
-    fn next_class(&mut self, owner: Owner) -> bool
+    fn next_class(&mut self, owner: Owner) -> Flow
         ensures next { IsNext Phase.ClassTag owner self.old.elements self.old.header self.old.text self.old self.new }
-        ensures result { result ≡ true }
+        ensures result { result ≡ Flow.On }
     {
         self.owner = owner;
         self.done(Phase::ClassTag)
@@ -47,9 +48,9 @@ impl Machine {
 
     /// The length of a text comes next, in two bytes, or in eight in the long form.
     #[inline(always)]
-    pub(super) fn next_text(&mut self, text: TextFor, long: bool) -> bool
+    pub(super) fn next_text(&mut self, text: TextFor, long: bool) -> Flow
         ensures next { IsNext (length_phase long) self.old.owner self.old.elements self.old.header text self.old self.new }
-        ensures result { result ≡ true }
+        ensures result { result ≡ Flow.On }
     {
         self.text = text;
         if long {
@@ -60,18 +61,18 @@ impl Machine {
 
     /// A new string: its handle is assigned at its tag.
     #[tactic(auto, using(crate::proofs::ValueLemmas::no_text, crate::proofs::ValueLemmas::new_text))]
-    pub(super) fn new_text(&mut self, text: TextFor, long: bool) -> bool
+    pub(super) fn new_text(&mut self, text: TextFor, long: bool) -> Flow
         ensures { IsForm text true → IsInside text self.old.frames → Tells (told_if (is_full self.old) handle_space None) (opens_text self.old text long) result self.old self.new }
     {
         if self.assign(Kind::Text).is_none() {
-            return false;
+            return Flow::Stopped;
         }
         self.next_text(text, long)
     }
 
     /// The name of a new plain descriptor comes next, which is read in this role.
     #[tactic(auto, using(crate::proofs::ValueLemmas::new_class))]
-    pub(super) fn new_class(&mut self, role: Role) -> bool
+    pub(super) fn new_class(&mut self, role: Role) -> Flow
         ensures { Tells None (opens_class self.old role) result self.old self.new }
     {
         self.role = role;
@@ -80,19 +81,19 @@ impl Machine {
 
     /// A new proxy descriptor, read in this role: its handle is assigned at its tag.
     #[tactic(auto, using(crate::proofs::DescriptorLemmas::no_descriptor, crate::proofs::DescriptorLemmas::new_proxy))]
-    pub(super) fn new_proxy(&mut self, role: Role) -> bool
+    pub(super) fn new_proxy(&mut self, role: Role) -> Flow
         ensures { Tells (told_if (is_full self.old) handle_space None) (opens_proxy self.old role) result self.old self.new }
     {
-        if !self.new_descriptor(role) {
-            return false;
+        match self.new_descriptor(role) {
+            Flow::On => self.done(Phase::InterfaceCount),
+            Flow::Stopped => Flow::Stopped,
         }
-        self.done(Phase::InterfaceCount)
     }
 
     /// The tag of a value whose place has been counted.
     #[tactic(auto, using(crate::proofs::ValueLemmas::null_begun, crate::proofs::ValueLemmas::back_begun, crate::proofs::ValueLemmas::object_begun, crate::proofs::ValueLemmas::array_begun, crate::proofs::ValueLemmas::class_begun, crate::proofs::ValueLemmas::enum_begun, crate::proofs::ValueLemmas::desc_begun, crate::proofs::ValueLemmas::proxy_begun, crate::proofs::ValueLemmas::string_begun, crate::proofs::ValueLemmas::long_string_begun))]
     #[inline(always)]
-    fn begin(&mut self, tag: ValueTag) -> bool
+    fn begin(&mut self, tag: ValueTag) -> Flow
         ensures { Tells (handle_reason self.old (view_tag tag)) (begun self.old (view_tag tag)) result self.old self.new }
     {
         match tag {
@@ -112,7 +113,7 @@ impl Machine {
     /// The tag of a value, of which nothing has been counted.
     #[tactic(auto, using(crate::proofs::ValueLemmas::too_deep, crate::proofs::ValueLemmas::too_many, crate::proofs::ValueLemmas::counted_tag))]
     #[inline(always)]
-    pub(super) fn place(&mut self, tag: ValueTag) -> bool
+    pub(super) fn place(&mut self, tag: ValueTag) -> Flow
         ensures { Tells (place_reason self.old (view_tag tag)) (after_tag self.old (view_tag tag)) result self.old self.new }
     {
         if self.frames.len() >= self.limits.depth as usize {

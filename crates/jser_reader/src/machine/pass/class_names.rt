@@ -5,6 +5,7 @@ ghost use Rattle.jser_reader.specs.ClassNames.{HasName, JudgesName};
 
 use crate::gate::Gate;
 use crate::machine::Machine;
+use crate::machine::flow::Flow;
 use crate::machine::pass::passed::Passed;
 use crate::machine::take::text_bytes::add_units;
 use crate::phase::{Phase, TextFor};
@@ -43,7 +44,7 @@ impl Machine {
     /// The name of a class that has been kept is judged.
     #[tactic(auto, unfolding(crate::specs::ClassNames::JudgesName))]
     #[inline(always)]
-    fn judge_name<G: Gate>(&mut self, gate: &G) -> bool
+    fn judge_name<G: Gate>(&mut self, gate: &G) -> Flow
         ensures { JudgesName (G.told gate.now) result self.old self.new }
     {
         self.class_name(gate)
@@ -69,10 +70,9 @@ impl Machine {
         self.name.clear();
         add_units(&mut self.name, part);
         self.at += 2 + len as u64;
-        if self.judge_name(gate) {
-            Passed::Took(2 + len)
-        } else {
-            Passed::Stopped
+        match self.judge_name(gate) {
+            Flow::On => Passed::Took(2 + len),
+            Flow::Stopped => Passed::Stopped,
         }
     }
 }

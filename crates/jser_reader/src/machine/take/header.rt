@@ -4,6 +4,7 @@ ghost use Rattle.jser_reader.specs.Walks.{open_phase, cut_of};
 ghost use Rattle.jser_reader.specs.Takes.{CutsOff, TakesHeaderByte, TakesFrom};
 
 use crate::machine::Machine;
+use crate::machine::flow::Flow;
 use crate::machine::take::taken::Taken;
 use crate::phase::Phase;
 use crate::refusal::Reason;
@@ -41,7 +42,7 @@ impl Machine {
 
     /// Takes one byte of the header. Nothing is answered where others are to come; else whether the machine goes on.
     #[tactic(auto, using(crate::proofs::HeaderLemmas::wrong_byte, crate::proofs::HeaderLemmas::last_byte, crate::proofs::HeaderLemmas::right_byte))]
-    fn header_byte(&mut self, byte: u8) -> Option<bool>
+    fn header_byte(&mut self, byte: u8) -> Option<Flow>
         requires open { open_phase self.old ≡ Phase.Header }
         requires room { self.old.meter.at + 1 < 2 ^ 64 }
         ensures { TakesHeaderByte result byte self.old self.new }
@@ -68,8 +69,8 @@ impl Machine {
         ensures { TakesFrom result piece.now self.old self.new }
     {
         'bytes: for (i, byte) in piece.iter().enumerate() {
-            if let Some(goes_on) = self.header_byte(*byte) {
-                return Taken::after(i + 1, goes_on);
+            if let Some(flow) = self.header_byte(*byte) {
+                return Taken::after(i + 1, flow);
             }
         }
         Taken::Open

@@ -6,6 +6,7 @@ ghost use Rattle.jser_reader.specs.Cuts.{IsFour};
 ghost use Rattle.jser_reader.specs.Takes.{TakesNumber, TakesFrom};
 
 use crate::machine::Machine;
+use crate::machine::flow::Flow;
 use crate::machine::take::taken::Taken;
 use crate::phase::Phase;
 use jser_prim::{read_u16, read_u32, read_u64};
@@ -14,7 +15,7 @@ impl Machine {
     /// Takes the last `count` bytes of the number of fields of a descriptor.
     #[tactic(auto, using(crate::proofs::TakeLemmas::takes_field_count))]
     #[inline(always)]
-    pub(crate) fn take_field_count(&mut self, n: u16, count: u64) -> bool
+    pub(crate) fn take_field_count(&mut self, n: u16, count: u64) -> Flow
         requires phase { open_phase self.old ≡ Phase.FieldCount }
         requires some { 0 < count }
         requires room { self.old.meter.at + count < 2 ^ 64 }
@@ -38,14 +39,14 @@ impl Machine {
             return Taken::Open;
         }
         let (number, _) = piece.split_at(2);
-        let goes_on = self.take_field_count(read_u16(number), 2);
-        Taken::after(2, goes_on)
+        let flow = self.take_field_count(read_u16(number), 2);
+        Taken::after(2, flow)
     }
 
     /// Takes the last `count` bytes of a number of four bytes, the token that is open.
     #[tactic(auto, using(crate::proofs::CutLemmas::no_other_four, crate::proofs::TakeLemmas::takes_back_handle, crate::proofs::TakeLemmas::takes_class_handle, crate::proofs::TakeLemmas::takes_super_handle, crate::proofs::TextTakeLemmas::takes_text_handle, crate::proofs::TakeLemmas::takes_interface_count, crate::proofs::TakeLemmas::takes_array_length, crate::proofs::TakeLemmas::takes_long_block_length))]
     #[inline(always)]
-    pub(crate) fn end_four(&mut self, phase: Phase, n: u32, count: u64) -> bool
+    pub(crate) fn end_four(&mut self, phase: Phase, n: u32, count: u64) -> Flow
         requires four { IsFour phase }
         requires open { open_phase self.old ≡ phase }
         requires some { 0 < count }
@@ -80,14 +81,14 @@ impl Machine {
         }
         let (number, _) = piece.split_at(4);
         let phase = self.phase;
-        let goes_on = self.end_four(phase, read_u32(number), 4);
-        Taken::after(4, goes_on)
+        let flow = self.end_four(phase, read_u32(number), 4);
+        Taken::after(4, flow)
     }
 
     /// Takes the last `count` bytes of the suid of a descriptor, which may be any number.
     #[tactic(auto, using(crate::proofs::TakeLemmas::takes_suid))]
     #[inline(always)]
-    pub(crate) fn take_suid(&mut self, n: u64, count: u64) -> bool
+    pub(crate) fn take_suid(&mut self, n: u64, count: u64) -> Flow
         requires phase { open_phase self.old ≡ Phase.Suid }
         requires some { 0 < count }
         requires room { self.old.meter.at + count < 2 ^ 64 }
@@ -112,7 +113,7 @@ impl Machine {
             return Taken::Open;
         }
         let (number, _) = piece.split_at(8);
-        let goes_on = self.take_suid(read_u64(number), 8);
-        Taken::after(8, goes_on)
+        let flow = self.take_suid(read_u64(number), 8);
+        Taken::after(8, flow)
     }
 }

@@ -3,6 +3,7 @@ ghost use Rattle.std.specs.Prelude.{◌≡◌, ◌+◌, ◌<◌, ◌^◌, length
 ghost use Rattle.jser_reader.specs.Takes.{TakesByte, IsOne, TakesFrom};
 
 use crate::machine::Machine;
+use crate::machine::flow::Flow;
 use crate::machine::take::taken::Taken;
 use crate::phase::Phase;
 
@@ -10,7 +11,7 @@ impl Machine {
     /// Takes the one byte of the token that comes next.
     #[tactic(auto, using(crate::proofs::TakeLemmas::no_other_one, crate::proofs::TakeLemmas::takes_top, crate::proofs::TakeLemmas::takes_note, crate::proofs::TakeLemmas::takes_value, crate::proofs::TakeLemmas::takes_class_tag, crate::proofs::TakeLemmas::takes_super_tag, crate::proofs::TakeLemmas::takes_text_tag, crate::proofs::TakeLemmas::takes_flags, crate::proofs::TakeLemmas::takes_type_code, crate::proofs::TakeLemmas::takes_block_length))]
     #[inline(always)]
-    fn end_one(&mut self, byte: u8) -> bool
+    fn end_one(&mut self, byte: u8) -> Flow
         requires one { IsOne self.old.phase }
         requires room { self.old.meter.at + 1 < 2 ^ 64 }
         ensures { TakesByte byte result self.old self.new }
@@ -39,7 +40,7 @@ impl Machine {
         requires room { self.old.meter.at + length piece.now < 2 ^ 64 }
         ensures { TakesFrom result piece.now self.old self.new }
     {
-        let goes_on = self.end_one(piece[0]);
-        Taken::after(1, goes_on)
+        let flow = self.end_one(piece[0]);
+        Taken::after(1, flow)
     }
 }

@@ -3,6 +3,7 @@ ghost use Rattle.std.specs.Prelude.{◌≡◌};
 ghost use Rattle.jser_reader.specs.Passes.{passed_of};
 ghost use Rattle.jser_reader.specs.Takes.{taken_by};
 
+use crate::machine::flow::Flow;
 use crate::machine::pass::passed::Passed;
 
 /// What came of the bytes of a piece that a token was handed.
@@ -20,15 +21,15 @@ pub(crate) enum Taken {
 }
 
 impl Taken {
-    /// A handler judged a token after so many bytes, and says whether the machine goes on.
+    /// A handler judged a token after so many bytes, and this is its answer.
     #[inline(always)]
-    pub(crate) fn after(count: usize, goes_on: bool) -> Taken
-        ensures { result ≡ taken_by count goes_on }
+    pub(crate) fn after(count: usize, flow: Flow) -> Taken
+        ensures { result ≡ taken_by count flow }
     {
-        if goes_on {
-            return Taken::Ended(count);
+        match flow {
+            Flow::On => Taken::Ended(count),
+            Flow::Stopped => Taken::Stopped(count),
         }
-        Taken::Stopped(count)
     }
 
     /// How much was taken of a piece of this length.

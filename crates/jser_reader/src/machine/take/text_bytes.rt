@@ -7,6 +7,7 @@ ghost use Rattle.jser_reader.specs.TextTakes.{KeepsUnit, ScansByte, Scanned, Sca
 
 use crate::gate::Gate;
 use crate::machine::Machine;
+use crate::machine::flow::Flow;
 use crate::machine::take::taken::Taken;
 use crate::phase::{Phase, TextFor};
 use crate::refusal::Reason;
@@ -83,21 +84,21 @@ pub(crate) fn add_units(name: &mut Vec<u16>, bytes: &[u8])
 impl Machine {
     /// Keeps the unit of a checked name that a byte ended, if it ended one.
     #[tactic(auto, using(crate::proofs::TextScanLemmas::keeps_none, crate::proofs::TextScanLemmas::keeps_unit, crate::proofs::TextScanLemmas::no_room))]
-    fn keep_unit(&mut self, unit: Option<u16>) -> bool
+    fn keep_unit(&mut self, unit: Option<u16>) -> Flow
         ensures { KeepsUnit unit result self.old self.new }
     {
         let Some(unit) = unit else {
-            return true;
+            return Flow::On;
         };
         if self.name.push(unit).is_err() {
             return self.no_memory();
         }
-        true
+        Flow::On
     }
 
     /// Scans the next byte of a checked name, counts it, and keeps the unit that it ends, if it ends one.
     #[tactic(auto, using(crate::proofs::TextScanLemmas::name_fault, crate::proofs::TextScanLemmas::name_goes_on))]
-    fn scan_byte(&mut self, byte: u8) -> bool
+    fn scan_byte(&mut self, byte: u8) -> Flow
         requires checked { is_checked self.old.text ≡ true }
         requires within { 0 < self.old.scan.left }
         requires room { self.old.meter.at + 1 < 2 ^ 64 }
@@ -120,8 +121,9 @@ impl Machine {
         ensures { Scans part.now result self.old self.new }
     {
         'bytes: for (index, byte) in part.iter().enumerate() {
-            if !self.scan_byte(*byte) {
-                return Some(index + 1);
+            match self.scan_byte(*byte) {
+                Flow::On => {}
+                Flow::Stopped => return Some(index + 1),
             }
         }
         None
@@ -216,8 +218,8 @@ impl Machine {
         if self.scan.left() > 0 {
             return Taken::Part(piece.len());
         }
-        let goes_on = self.text_ended(gate);
-        Taken::after(used.max(1), goes_on)
+        let flow = self.text_ended(gate);
+        Taken::after(used.max(1), flow)
     }
 
     /// Takes bytes of the open text: as many as are left of it, or all of the piece. Where the units of the text are not
@@ -241,7 +243,7 @@ impl Machine {
         if self.scan.left() > 0 {
             return Taken::Part(piece.len());
         }
-        let goes_on = self.text_done_in_line(gate);
-        Taken::after(used.max(1), goes_on)
+        let flow = self.text_done_in_line(gate);
+        Taken::after(used.max(1), flow)
     }
 }

@@ -5,6 +5,7 @@ ghost use Rattle.jser_reader.specs.TextTakes.{TellsLength, TakesLength};
 
 use crate::gate::Gate;
 use crate::machine::Machine;
+use crate::machine::flow::Flow;
 use crate::phase::Phase;
 use crate::refusal::Reason;
 use jser_prim::TextScan;
@@ -32,10 +33,9 @@ impl Machine {
             self.phase = Phase::Text;
             return Progress::Open;
         }
-        if self.text_done(gate) {
-            Progress::Ended
-        } else {
-            Progress::Stopped
+        match self.text_done(gate) {
+            Flow::On => Progress::Ended,
+            Flow::Stopped => Progress::Stopped,
         }
     }
 

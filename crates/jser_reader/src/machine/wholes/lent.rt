@@ -13,6 +13,7 @@ use super::{number_after, reference_after, text_after};
 use crate::frame::Owner;
 use crate::item::Whole;
 use crate::machine::Machine;
+use crate::machine::flow::Flow;
 use crate::phase::Phase;
 use crate::tally::Tally;
 use jser_grammar::wire::{
@@ -68,10 +69,9 @@ impl Machine {
         Lent::Value(Whole::String(text_in(piece, len)))
     }
 
-    /// Takes the tag of what has a class, and the reference that is its class: its handle is `n`. False where the machine
-    /// has stopped.
+    /// Takes the tag of what has a class, and the reference that is its class: its handle is `n`.
     #[inline(always)]
-    fn lend_class(&mut self, tally: &mut Tally, piece: &[u8], owner: Owner, n: u32) -> bool
+    fn lend_class(&mut self, tally: &mut Tally, piece: &[u8], owner: Owner, n: u32) -> Flow
         requires can { CanPass self.old piece.now }
         requires place { IsPlace self.old.phase }
         requires tag { tag_byte (view_tag (tag_of_owner owner)) ≡ get_or piece.now 0 0 }
@@ -106,10 +106,10 @@ impl Machine {
             return Lent::Nothing;
         }
         let tag = piece[0];
-        if self.lend_class(tally, piece, owner, class) {
-            return Lent::Value(Whole::Owner { tag, class });
+        match self.lend_class(tally, piece, owner, class) {
+            Flow::On => Lent::Value(Whole::Owner { tag, class }),
+            Flow::Stopped => Lent::Stopped,
         }
-        Lent::Stopped
     }
 
     /// Takes a value that is lent at once, or does nothing.

@@ -4,8 +4,8 @@ use Rattle.jser_table.specs.Sections.{AreSections}
 use Rattle.jser_reader.proofs.OwnerLemmas.{bare_object}
 use Rattle.jser_reader.proofs.machine.Machine.begin_object.Goals as goal
 
-pub returns-in_default : goal.returns-in_default
-returns-in_default c =
+pub returns-in_default-sections : goal.returns-in_default-sections
+returns-in_default-sections c =
     let chain = chain_in c.args.self.now.table.chains c.args.chain in
     let none : AreSections c.args.self.now.table.chains chain None = search rules in
     let bare : is_external chain ≡ false = search rules in

@@ -1,6 +1,5 @@
-use Rattle.std.proofs.Common.{rules, true, false, sym, ◌∙◌, subst}
-use Rattle.jser_reader.specs.Cuts.{IsFour}
-use Rattle.jser_reader.proofs.CutLemmas.{field_count_is, suid_is, four_is, cut_four, cut_taken}
+use Rattle.std.proofs.Common.{rules, true, false}
+use Rattle.jser_reader.proofs.CutLemmas.{field_count_is, suid_is, four_is, cut_taken}
 use Rattle.jser_reader.proofs.LengthLemmas.{rest_of_length_taken}
 use Rattle.jser_reader.proofs.machine.Machine.end_cut.Goals as goal
 

@@ -1,4 +1,4 @@
-use Rattle.std.proofs.Common.{rules, [], subst, sym}
+use Rattle.std.proofs.Common.{[], subst, sym}
 use Rattle.jser_reader.specs.ReaderStates.{StandsFor}
 use Rattle.jser_reader.proofs.NextLemmas.{reader_begins}
 use Rattle.jser_reader.specs.ItemsTold.{StandsIn}
