@@ -5,15 +5,13 @@ use Rattle.jser_prim.specs.Bytes.{big_bytes}
 use Rattle.jser_reading.specs.TokensFromBytes.{head_size}
 use Rattle.jser_reading.proofs.Decoding.{length-big_bytes}
 use Rattle.jser_verdict.specs.Gates.{Gate}
-use Rattle.jser_reader.specs.declared.machine.take.texts.Progress.{Progress}
-use Rattle.jser_reader.specs.declared.machine.take.texts.Progress.TheVariants as progress
 use Rattle.jser_reader.specs.declared.machine.take.taken.Taken.{Taken}
 use Rattle.jser_reader.specs.declared.machine.take.taken.Taken.TheVariants as taken
 use Rattle.jser_reader.specs.declared.phase.Phase.TheVariants as phase
 use Rattle.jser_reader.specs.Readers.{Seen, length_phase}
 use Rattle.jser_reader.specs.Walks.{size_of_phase, open_phase, cut_of}
 use Rattle.jser_reader.specs.Takes.{CutsOff, IsWholeLength, IsPart, TakesFromFor}
-use Rattle.jser_reader.specs.TextTakes.{TakesLength, ProgressCases, by_progress}
+use Rattle.jser_reader.specs.TextTakes.{TakesLength, LastCases}
 use Rattle.jser_reader.proofs.PhaseLemmas.{whole_open, cut_open}
 use Rattle.jser_reader.proofs.CutLemmas.{first_kept, rest_kept, length_number}
 
@@ -27,22 +25,23 @@ whole_length false bytes e = e
 whole_length true bytes e = e
 
 -- it came, whole or after what was kept of it
-length_came : (gate : Gate) (long : Bool) (n count : ℕ) (p : Progress) (result : Taken) (piece : List ℕ) (old new : Seen)
-    → TakesLength gate (head_size long) n count p old new → result ≡ by_progress count p → 0 < count → count ≤ length piece
+length_came : (gate : Gate) (long : Bool) (n count : ℕ) (result : Taken) (piece : List ℕ) (old new : Seen)
+    → TakesLength gate (head_size long) n count result old new → 0 < count → count ≤ length piece
     → big_bytes (head_size long) n ≡ cut_of old ++ take count piece → open_phase old ≡ length_phase long → TakesFromFor gate result piece old new
 unfolding TakesLength TakesFromFor
-length_came gate long n count p result piece old new h er some within spelled eo =
-    subst (λ r. TakesFromFor gate r piece old new) (sym er) (go p (h (take count piece) (length-take-le count piece within) spelled))
+length_came gate long n count result piece old new h some within spelled eo =
+    go result (h (take count piece) (length-take-le count piece within) spelled)
   where
     size : length (cut_of old ++ take count piece) ≡ head_size long
     size = ap length (sym spelled) ∙ length-big_bytes (head_size long) n
 
-    go : (p : Progress) → ProgressCases gate (take count piece) p old new → TakesFromFor gate (by_progress count p) piece old new
-    go progress.Open k =
-        (some, within, k, subst (λ q. IsPart q (cut_of old) piece count) (sym eo) (part_of_length long (cut_of old) piece count size))
-    go progress.Ended k =
-        (some, within, k, subst (λ q. IsWholeLength q (cut_of old ++ take count piece)) (sym eo) (whole_length long (cut_of old ++ take count piece) size))
-    go progress.Stopped k = (some, within, k)
+    go : (r : Taken) → LastCases gate (take count piece) count r old new → TakesFromFor gate r piece old new
+    go (taken.Part k) x =
+        rw x.0 (some, within, x.1, subst (λ q. IsPart q (cut_of old) piece count) (sym eo) (part_of_length long (cut_of old) piece count size))
+    go (taken.Ended k) x =
+        rw x.0 (some, within, x.1, subst (λ q. IsWholeLength q (cut_of old ++ take count piece)) (sym eo) (whole_length long (cut_of old ++ take count piece) size))
+    go (taken.Stopped k) x = rw x.0 (some, within, x.1)
+    go taken.Open x = absurd x
 
 -- a length that comes next
 
@@ -50,23 +49,23 @@ pub short_kept : (gate : Gate) (piece : List ℕ) (old new : Seen) → CutsOff p
     → TakesFromFor gate taken.Open piece old new
 short_kept gate piece old new c e some short = first_kept gate 2 piece old new c (rw e (length_number false)) some short
 
-pub short_taken : (gate : Gate) (n : ℕ) (p : Progress) (result : Taken) (piece number : List ℕ) (old new : Seen) → TakesLength gate 2 n 2 p old new
-    → result ≡ by_progress 2 p → old.phase ≡ phase.Length2 → big_bytes 2 n ≡ number → number ≡ take 2 piece → 2 ≤ length piece
+pub short_taken : (gate : Gate) (n : ℕ) (result : Taken) (piece number : List ℕ) (old new : Seen) → TakesLength gate 2 n 2 result old new
+    → old.phase ≡ phase.Length2 → big_bytes 2 n ≡ number → number ≡ take 2 piece → 2 ≤ length piece
     → TakesFromFor gate result piece old new
-short_taken gate n p result piece number old new h er e spelled en long =
+short_taken gate n result piece number old new h e spelled en long =
     let w = whole_open phase.Length2 old e (omega arith) in
-    length_came gate false n 2 p result piece old new h er (omega arith) long (spelled ∙ en ∙ sym (ap (λ xs. xs ++ take 2 piece) w.1)) w.0
+    length_came gate false n 2 result piece old new h (omega arith) long (spelled ∙ en ∙ sym (ap (λ xs. xs ++ take 2 piece) w.1)) w.0
 
 pub long_kept : (gate : Gate) (piece : List ℕ) (old new : Seen) → CutsOff piece old new → old.phase ≡ phase.Length8 → 0 < length piece → length piece < 8
     → TakesFromFor gate taken.Open piece old new
 long_kept gate piece old new c e some short = first_kept gate 8 piece old new c (rw e (length_number true)) some short
 
-pub long_taken : (gate : Gate) (n : ℕ) (p : Progress) (result : Taken) (piece number : List ℕ) (old new : Seen) → TakesLength gate 8 n 8 p old new
-    → result ≡ by_progress 8 p → old.phase ≡ phase.Length8 → big_bytes 8 n ≡ number → number ≡ take 8 piece → 8 ≤ length piece
+pub long_taken : (gate : Gate) (n : ℕ) (result : Taken) (piece number : List ℕ) (old new : Seen) → TakesLength gate 8 n 8 result old new
+    → old.phase ≡ phase.Length8 → big_bytes 8 n ≡ number → number ≡ take 8 piece → 8 ≤ length piece
     → TakesFromFor gate result piece old new
-long_taken gate n p result piece number old new h er e spelled en long =
+long_taken gate n result piece number old new h e spelled en long =
     let w = whole_open phase.Length8 old e (omega arith) in
-    length_came gate true n 8 p result piece old new h er (omega arith) long (spelled ∙ en ∙ sym (ap (λ xs. xs ++ take 8 piece) w.1)) w.0
+    length_came gate true n 8 result piece old new h (omega arith) long (spelled ∙ en ∙ sym (ap (λ xs. xs ++ take 8 piece) w.1)) w.0
 
 -- a length that was cut
 
@@ -76,11 +75,11 @@ pub rest_of_length_kept : (gate : Gate) (long : Bool) (missing : ℕ) (piece : L
 rest_of_length_kept gate long missing piece old new c el e all some short =
     rest_kept gate (head_size long) missing piece old new c (rw el (length_number long)) e all some short
 
-pub rest_of_length_taken : (gate : Gate) (text : Bool) (n missing : ℕ) (p : Progress) (result : Taken) (piece last : List ℕ) (old new : Seen)
-    → TakesLength gate (head_size text) n missing p old new → result ≡ by_progress missing p → old.meter.cut_phase ≡ length_phase text → old.phase ≡ phase.Cut
+pub rest_of_length_taken : (gate : Gate) (text : Bool) (n missing : ℕ) (result : Taken) (piece last : List ℕ) (old new : Seen)
+    → TakesLength gate (head_size text) n missing result old new → old.meter.cut_phase ≡ length_phase text → old.phase ≡ phase.Cut
     → big_bytes (head_size text) n ≡ old.meter.kept ++ last → last ≡ take missing piece → 0 < missing → missing ≤ length piece
     → TakesFromFor gate result piece old new
-rest_of_length_taken gate text n missing p result piece last old new h er ec e spelled el some long =
+rest_of_length_taken gate text n missing result piece last old new h ec e spelled el some long =
     let w = cut_open old e in
-    length_came gate text n missing p result piece old new h er some long
+    length_came gate text n missing result piece old new h some long
     (spelled ∙ ap (λ xs. old.meter.kept ++ xs) el ∙ sym (ap (λ xs. xs ++ take missing piece) w.1)) (w.0 ∙ ec)

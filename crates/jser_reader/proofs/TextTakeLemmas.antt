@@ -10,8 +10,8 @@ use Rattle.jser_verdict.specs.Reasons.{negative_length}
 use Rattle.jser_verdict.specs.Gates.{Gate}
 use Rattle.jser_reader.specs.declared.machine.flow.Flow.{Flow}
 use Rattle.jser_reader.specs.declared.machine.flow.Flow.TheVariants as flow
-use Rattle.jser_reader.specs.declared.machine.take.texts.Progress.{Progress}
-use Rattle.jser_reader.specs.declared.machine.take.texts.Progress.TheVariants as progress
+use Rattle.jser_reader.specs.declared.machine.take.taken.Taken.{Taken}
+use Rattle.jser_reader.specs.declared.machine.take.taken.Taken.TheVariants as taken_is
 use Rattle.jser_reader.specs.declared.phase.Phase.TheVariants as phase
 use Rattle.jser_reader.specs.declared.phase.TextFor.{TextFor}
 use Rattle.jser_reader.specs.declared.phase.TextFor.TheVariants as text
@@ -20,8 +20,8 @@ use Rattle.jser_reader.specs.Readers.{Seen, moment_of, text_rest, IsForm, IsInsi
 use Rattle.jser_reader.specs.Handlers.{StopsWith, refusal, TellsSurely}
 use Rattle.jser_reader.specs.TextStates.{handle_reason, text_reason_of, text_reason, text_state_of, after_text, EndsText}
 use Rattle.jser_reader.specs.Walks.{Counts, Takes, open_phase, cut_of}
-use Rattle.jser_reader.specs.Takes.{farther, TakesNumberFor, TakesNumber}
-use Rattle.jser_reader.specs.TextTakes.{EndsEmpty, TellsLength, ProgressCases, TakesLength}
+use Rattle.jser_reader.specs.Takes.{farther, TakesNumberFor, TakesNumber, taken_by}
+use Rattle.jser_reader.specs.TextTakes.{EndsEmpty, TellsLength, LastCases, TakesLength}
 use Rattle.jser_reader.proofs.EndLemmas.{tells_refusal, surely_from}
 use Rattle.jser_reader.proofs.NumberWalks.{number_in_4, text_handle_taken}
 use Rattle.jser_reader.proofs.TakeLemmas.{counts_bytes}
@@ -94,17 +94,15 @@ empty_ends gate n found old mid new h m none = record {
       (record { inside = inside; kept = λ _. refl }));
 }
 
-pub ends_empty : (gate : Gate) (n : ℕ) (found : Flow) (old mid new : Seen)
+pub ends_empty : (gate : Gate) (n count : ℕ) (found : Flow) (result : Taken) (old mid new : Seen)
     → ((units : List ℕ) → EndsText mid units → TellsSurely (text_reason gate mid units) (after_text mid units) found mid new)
-    → mid ≡ scanning old mid.scan → found ≡ flow.On → (0 < n → ⊥) → TellsLength gate n progress.Ended old new
+    → mid ≡ scanning old mid.scan → result ≡ taken_by count found → (0 < n → ⊥) → TellsLength gate n count result old new
 unfolding TellsLength
-ends_empty gate n found old mid new h m ef none = subst (λ b. EndsEmpty gate n b old new) ef (empty_ends gate n found old mid new h m none)
-
-pub stops_empty : (gate : Gate) (n : ℕ) (found : Flow) (old mid new : Seen)
-    → ((units : List ℕ) → EndsText mid units → TellsSurely (text_reason gate mid units) (after_text mid units) found mid new)
-    → mid ≡ scanning old mid.scan → found ≡ flow.Stopped → (0 < n → ⊥) → TellsLength gate n progress.Stopped old new
-unfolding TellsLength
-stops_empty gate n found old mid new h m ef none = subst (λ b. EndsEmpty gate n b old new) ef (empty_ends gate n found old mid new h m none)
+ends_empty gate n count found result old mid new h m er none = rw er (go found (empty_ends gate n found old mid new h m none))
+  where
+    go : (b : Flow) → EndsEmpty gate n b old new → TellsLength gate n count (taken_by count b) old new
+    go flow.On x = (refl, x)
+    go flow.Stopped x = (refl, x)
 
 -- the machine in which the bytes of a text come next
 abbrev opened : Seen → Scan → Seen
@@ -124,10 +122,10 @@ opened r scan = record {
   name = [];
 }
 
-pub opens_bytes : (gate : Gate) (n : ℕ) (old new : Seen) → new ≡ opened old new.scan → HasAccepted n [] [] new.scan → 0 < n
-    → TellsLength gate n progress.Open old new
+pub opens_bytes : (gate : Gate) (n count : ℕ) (old new : Seen) → new ≡ opened old new.scan → HasAccepted n [] [] new.scan → 0 < n
+    → TellsLength gate n count (taken_is.Part count) old new
 unfolding TellsLength
-opens_bytes gate n old new e acc some = record {
+opens_bytes gate n count old new e acc some = (refl, record {
   phase_is = ap (λ r. r.phase) e;
   some = some;
   read = record { accepted = acc; kept = λ _. ap (λ r. r.name) e };
@@ -144,7 +142,7 @@ opens_bytes gate n old new e acc some = record {
     header = ap (λ r. r.header) e;
     text = ap (λ r. r.text) e;
   };
-}
+})
 
 counts_no_more : (bytes : List ℕ) (old mid new : Seen) → Counts bytes old mid → Counts [] mid new → Counts bytes old new
 counts_no_more bytes old mid new c d = record {
@@ -168,34 +166,38 @@ length_ends gate long n found old mid new taken h c eo some spelled =
     empty_text_taken gate long found old mid new taken h.ends eo some
     (ap (big_bytes (head_size long)) (sym h.none) ∙ spelled) c
 
-takes_length : (gate : Gate) (long : Bool) (n count : ℕ) (p : Progress) (old mid new : Seen) → TellsLength gate n p mid new → mid ≡ farther old count
+takes_length : (gate : Gate) (long : Bool) (n count : ℕ) (result : Taken) (old mid new : Seen) → TellsLength gate n count result mid new → mid ≡ farther old count
     → open_phase old ≡ length_phase long → 0 < count → n < text_bound long
-    → (taken : List ℕ) → length taken ≡ count → big_bytes (head_size long) n ≡ cut_of old ++ taken → ProgressCases gate taken p old new
+    → (last : List ℕ) → length last ≡ count → big_bytes (head_size long) n ≡ cut_of old ++ last → LastCases gate last count result old new
 unfolding TellsLength
-takes_length gate long n count progress.Open old mid new h m eo some bound = λ taken size spelled.
-    text_opened gate long n old new taken h.phase_is h.read h.some bound eo spelled
-    (counts_no_more taken old mid new (counts_bytes taken count old mid m size) h.counts)
-takes_length gate long n count progress.Ended old mid new h m eo some bound = λ taken size spelled.
-    length_ends gate long n flow.On old mid new taken h (counts_bytes taken count old mid m size) eo (omega arith) spelled
-takes_length gate long n count progress.Stopped old mid new h m eo some bound = λ taken size spelled.
-    length_ends gate long n flow.Stopped old mid new taken h (counts_bytes taken count old mid m size) eo (omega arith) spelled
+takes_length gate long n count (taken_is.Part k) old mid new h m eo some bound = λ last size spelled. (
+  h.0,
+  text_opened gate long n old new last h.1.phase_is h.1.read h.1.some bound eo spelled (counts_no_more last old mid new (counts_bytes last count old mid m size) h.1.counts),
+)
+takes_length gate long n count (taken_is.Ended k) old mid new h m eo some bound = λ last size spelled.
+    (h.0, length_ends gate long n flow.On old mid new last h.1 (counts_bytes last count old mid m size) eo (omega arith) spelled)
+takes_length gate long n count (taken_is.Stopped k) old mid new h m eo some bound = λ last size spelled.
+    (h.0, length_ends gate long n flow.Stopped old mid new last h.1 (counts_bytes last count old mid m size) eo (omega arith) spelled)
+takes_length gate long n count taken_is.Open old mid new h m eo some bound = absurd h
 
-pub takes_short_length : (gate : Gate) (n count : ℕ) (p : Progress) (old mid new : Seen) → TellsLength gate n p mid new → mid ≡ farther old count
-    → open_phase old ≡ phase.Length2 → 0 < count → n < 2 ^ 16 → TakesLength gate 2 n count p old new
+pub takes_short_length : (gate : Gate) (n count : ℕ) (result : Taken) (old mid new : Seen) → TellsLength gate n count result mid new → mid ≡ farther old count
+    → open_phase old ≡ phase.Length2 → 0 < count → n < 2 ^ 16 → TakesLength gate 2 n count result old new
 unfolding TakesLength
-takes_short_length gate n count p old mid new h m eo some bound = takes_length gate false n count p old mid new h m eo some bound
+takes_short_length gate n count result old mid new h m eo some bound = takes_length gate false n count result old mid new h m eo some bound
 
-pub takes_long_length : (gate : Gate) (n count : ℕ) (p : Progress) (old mid new : Seen) → TellsLength gate n p mid new → mid ≡ farther old count
-    → open_phase old ≡ phase.Length8 → 0 < count → (0x8000000000000000 ≤ n → ⊥) → TakesLength gate 8 n count p old new
+pub takes_long_length : (gate : Gate) (n count : ℕ) (result : Taken) (old mid new : Seen) → TellsLength gate n count result mid new → mid ≡ farther old count
+    → open_phase old ≡ phase.Length8 → 0 < count → (0x8000000000000000 ≤ n → ⊥) → TakesLength gate 8 n count result old new
 unfolding TakesLength
-takes_long_length gate n count p old mid new h m eo some bound =
-    takes_length gate true n count p old mid new h m eo some (let low : n < 2 ^ 63 = omega arith in low)
+takes_long_length gate n count result old mid new h m eo some bound =
+    takes_length gate true n count result old mid new h m eo some (let low : n < 2 ^ 63 = omega arith in low)
 
-pub takes_negative_length : (gate : Gate) (n count : ℕ) (found : Bool) (old mid new : Seen) → StopsWith (refusal mid.meter (named negative_length)) mid new
+pub takes_negative_length : (gate : Gate) (n count : ℕ) (old mid new : Seen) → StopsWith (refusal mid.meter (named negative_length)) mid new
     → mid ≡ farther old count → open_phase old ≡ phase.Length8 → 0 < count → 0x8000000000000000 ≤ n → n < 2 ^ 64
-    → TakesLength gate 8 n count progress.Stopped old new
+    → TakesLength gate 8 n count (taken_is.Stopped count) old new
 unfolding TakesLength
-takes_negative_length gate n count found old mid new h m eo some lo hi = λ taken size spelled.
-    negative_taken gate n (moment_of mid, []) flow.Stopped old mid new taken
-    (tells_refusal negative_length (Some negative_length) (moment_of mid, []) flow.Stopped mid new h refl refl)
-    (omega arith) hi eo (omega arith) spelled (counts_bytes taken count old mid m size)
+takes_negative_length gate n count old mid new h m eo some lo hi = λ last size spelled. (
+  refl,
+  negative_taken gate n (moment_of mid, []) flow.Stopped old mid new last
+      (tells_refusal negative_length (Some negative_length) (moment_of mid, []) flow.Stopped mid new h refl refl)
+      (omega arith) hi eo (omega arith) spelled (counts_bytes last count old mid m size),
+)

@@ -9,8 +9,6 @@ use Rattle.jser_reader.specs.declared.machine.flow.Flow.TheVariants as flow
 use Rattle.jser_reader.specs.declared.phase.Phase.TheVariants as phase
 use Rattle.jser_reader.specs.declared.refusal.Reason.TheVariants as reason
 use Rattle.jser_reader.specs.declared.refusal.Stop.TheVariants as stop
-use Rattle.jser_reader.specs.declared.machine.take.texts.Progress.{Progress}
-use Rattle.jser_reader.specs.declared.machine.take.texts.Progress.TheVariants as progress
 use Rattle.jser_reader.specs.declared.machine.take.taken.Taken.{Taken}
 use Rattle.jser_reader.specs.declared.machine.take.taken.Taken.TheVariants as taken
 use Rattle.jser_reader.specs.Readers.{Seen, is_checked, IsInside}
@@ -33,23 +31,26 @@ pub record EndsEmpty (gate : Gate) (n : ℕ) (found : Flow) (old new : Seen) : T
   pub none : n ≡ 0
   pub ends : IsInside old.text old.frames → TellsSurely (text_reason gate old []) (after_text old []) found old new
 
-abbrev pub LengthCases : Gate → ℕ → Progress → Seen → Seen → Type 0
-LengthCases gate n progress.Open old new = OpensBytes n old new
-LengthCases gate n progress.Ended old new = EndsEmpty gate n flow.On old new
-LengthCases gate n progress.Stopped old new = EndsEmpty gate n flow.Stopped old new
+-- so many bytes of the length were taken: others of the text come, or it has ended, or the machine has stopped
+abbrev pub LengthCases : Gate → (n count : ℕ) → Taken → Seen → Seen → Type 0
+LengthCases gate n count (taken.Part k) old new = (k ≡ count) × OpensBytes n old new
+LengthCases gate n count (taken.Ended k) old new = (k ≡ count) × EndsEmpty gate n flow.On old new
+LengthCases gate n count (taken.Stopped k) old new = (k ≡ count) × EndsEmpty gate n flow.Stopped old new
+LengthCases gate n count taken.Open old new = ⊥
 
-unfoldable pub TellsLength : Gate → ℕ → Progress → Seen → Seen → Type 0
-TellsLength gate n p old new = LengthCases gate n p old new
+unfoldable pub TellsLength : Gate → (n count : ℕ) → Taken → Seen → Seen → Type 0
+TellsLength gate n count result old new = LengthCases gate n count result old new
 
-abbrev pub ProgressCases : Gate → List ℕ → Progress → Seen → Seen → Type 0
-ProgressCases gate taken progress.Open old new = Keeps gate taken old new
-ProgressCases gate taken progress.Ended old new = Takes gate taken flow.On old new
-ProgressCases gate taken progress.Stopped old new = Takes gate taken flow.Stopped old new
+abbrev pub LastCases : Gate → (last : List ℕ) (count : ℕ) → Taken → Seen → Seen → Type 0
+LastCases gate last count (taken.Part k) old new = (k ≡ count) × Keeps gate last old new
+LastCases gate last count (taken.Ended k) old new = (k ≡ count) × Takes gate last flow.On old new
+LastCases gate last count (taken.Stopped k) old new = (k ≡ count) × Takes gate last flow.Stopped old new
+LastCases gate last count taken.Open old new = ⊥
 
 -- the last bytes of the length `n` of `size` bytes, so many, are taken
-unfoldable pub TakesLength : Gate → (size n count : ℕ) → Progress → Seen → Seen → Type 0
-TakesLength gate size n count p old new =
-    (taken : List ℕ) → length taken ≡ count → big_bytes size n ≡ cut_of old ++ taken → ProgressCases gate taken p old new
+unfoldable pub TakesLength : Gate → (size n count : ℕ) → Taken → Seen → Seen → Type 0
+TakesLength gate size n count result old new =
+    (last : List ℕ) → length last ≡ count → big_bytes size n ≡ cut_of old ++ last → LastCases gate last count result old new
 
 -- ---- the bytes
 
@@ -100,9 +101,3 @@ ScanCases part (Some count) old new = Faults part count old new ⊎ RunsOut part
 -- the bytes are scanned; or the machine stops at the last of so many
 unfoldable pub Scans : List ℕ → Option ℕ → Seen → Seen → Type 0
 Scans part result old new = ScanCases part result old new
-
--- what came of the length of a text, after so many bytes
-abbrev pub by_progress : ℕ → Progress → Taken
-by_progress count progress.Open = taken.Part count
-by_progress count progress.Ended = taken.Ended count
-by_progress count progress.Stopped = taken.Stopped count

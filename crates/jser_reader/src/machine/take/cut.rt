@@ -7,7 +7,6 @@ ghost use Rattle.jser_reader.specs.Takes.{CutsOff, TakesFromFor};
 
 use crate::gate::Gate;
 use crate::machine::Machine;
-use crate::machine::take::lengths::after_length;
 use crate::machine::take::taken::Taken;
 use crate::phase::Phase;
 
@@ -53,11 +52,11 @@ impl Machine {
         match self.cut.phase() {
             Phase::Length2 => {
                 let n = self.cut.two(last);
-                after_length(missing, self.take_length2(gate, n, missing as u64))
+                self.take_length2(gate, n, missing)
             }
             Phase::Length8 => {
                 let n = self.cut.eight(last);
-                after_length(missing, self.take_length8(gate, n, missing as u64))
+                self.take_length8(gate, n, missing)
             }
             Phase::FieldCount => {
                 let n = self.cut.two(last);

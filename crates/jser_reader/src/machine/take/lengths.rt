@@ -1,25 +1,12 @@
 //! The lengths of texts, which may be cut: they open a text of so many bytes, or end one that has none.
 ghost use Rattle.std.specs.Prelude.{◌≡◌, ◌+◌, ◌<◌, ◌^◌, length};
 ghost use Rattle.jser_reader.specs.Takes.{TakesFromFor};
-ghost use Rattle.jser_reader.specs.TextTakes.{by_progress};
 
 use crate::gate::Gate;
 use crate::machine::Machine;
 use crate::machine::take::taken::Taken;
-use crate::machine::take::texts::Progress;
 use crate::phase::Phase;
 use jser_prim::{read_u16, read_u64};
-
-/// What came of the length of a text, after so many bytes of a piece.
-pub(crate) fn after_length(count: usize, progress: Progress) -> Taken
-    ensures { result ≡ by_progress count progress }
-{
-    match progress {
-        Progress::Open => Taken::Part(count),
-        Progress::Ended => Taken::Ended(count),
-        Progress::Stopped => Taken::Stopped(count),
-    }
-}
 
 impl Machine {
     /// Takes the length of a text in two bytes, which comes next, or as many of its bytes as there are.
@@ -35,8 +22,7 @@ impl Machine {
             return Taken::Open;
         }
         let (number, _) = piece.split_at(2);
-        let progress = self.take_length2(gate, read_u16(number), 2);
-        after_length(2, progress)
+        self.take_length2(gate, read_u16(number), 2)
     }
 
     /// Takes the length of a text in eight bytes, which comes next, or as many of its bytes as there are.
@@ -52,7 +38,6 @@ impl Machine {
             return Taken::Open;
         }
         let (number, _) = piece.split_at(8);
-        let progress = self.take_length8(gate, read_u64(number), 8);
-        after_length(8, progress)
+        self.take_length8(gate, read_u64(number), 8)
     }
 }

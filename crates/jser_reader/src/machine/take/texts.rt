@@ -5,65 +5,52 @@ ghost use Rattle.jser_reader.specs.TextTakes.{TellsLength, TakesLength};
 
 use crate::gate::Gate;
 use crate::machine::Machine;
-use crate::machine::flow::Flow;
+use crate::machine::take::taken::Taken;
 use crate::phase::Phase;
 use crate::refusal::Reason;
 use jser_prim::TextScan;
 
-/// What became of a text whose length was read.
-#[derive(Clone, Copy)]
-pub(crate) enum Progress {
-    /// Its bytes come next.
-    Open,
-    /// It has no bytes, and has ended.
-    Ended,
-    /// The machine has stopped.
-    Stopped,
-}
-
 impl Machine {
-    /// The length of a text, whose bytes have been counted: so many bytes come, if there are any.
-    #[tactic(auto, using(crate::proofs::TextTakeLemmas::opens_bytes, crate::proofs::TextTakeLemmas::ends_empty, crate::proofs::TextTakeLemmas::stops_empty))]
-    fn text_length<G: Gate>(&mut self, gate: &G, n: u64) -> Progress
-        ensures { TellsLength (G.told gate.now) n result self.old self.new }
+    /// The length of a text, whose last `count` bytes have been counted: so many bytes come, or the text has none and ends.
+    #[tactic(auto, using(crate::proofs::TextTakeLemmas::opens_bytes, crate::proofs::TextTakeLemmas::ends_empty))]
+    fn text_length<G: Gate>(&mut self, gate: &G, n: u64, count: usize) -> Taken
+        ensures { TellsLength (G.told gate.now) n count result self.old self.new }
     {
         self.scan = TextScan::new(n);
         self.name.clear();
         if n > 0 {
             self.phase = Phase::Text;
-            return Progress::Open;
+            return Taken::Part(count);
         }
-        match self.text_done(gate) {
-            Flow::On => Progress::Ended,
-            Flow::Stopped => Progress::Stopped,
-        }
+        let flow = self.text_done(gate);
+        Taken::after(count, flow)
     }
 
     /// Takes the last `count` bytes of the length of a text, of two bytes.
     #[tactic(auto, using(crate::proofs::TextTakeLemmas::takes_short_length))]
-    pub(crate) fn take_length2<G: Gate>(&mut self, gate: &G, n: u16, count: u64) -> Progress
+    pub(crate) fn take_length2<G: Gate>(&mut self, gate: &G, n: u16, count: usize) -> Taken
         requires phase { open_phase self.old ≡ Phase.Length2 }
         requires some { 0 < count }
         requires room { self.old.meter.at + count < 2 ^ 64 }
         ensures { TakesLength (G.told gate.now) 2 n count result self.old self.new }
     {
-        self.at += count;
-        self.text_length(gate, u64::from(n))
+        self.at += count as u64;
+        self.text_length(gate, u64::from(n), count)
     }
 
     /// Takes the last `count` bytes of the length of a text, of eight bytes.
     #[tactic(auto, using(crate::proofs::TextTakeLemmas::takes_negative_length, crate::proofs::TextTakeLemmas::takes_long_length))]
-    pub(crate) fn take_length8<G: Gate>(&mut self, gate: &G, n: u64, count: u64) -> Progress
+    pub(crate) fn take_length8<G: Gate>(&mut self, gate: &G, n: u64, count: usize) -> Taken
         requires phase { open_phase self.old ≡ Phase.Length8 }
         requires some { 0 < count }
         requires room { self.old.meter.at + count < 2 ^ 64 }
         ensures { TakesLength (G.told gate.now) 8 n count result self.old self.new }
     {
-        self.at += count;
+        self.at += count as u64;
         if n >= 0x8000_0000_0000_0000 {
             self.refuse(Reason::NegativeLength);
-            return Progress::Stopped;
+            return Taken::Stopped(count);
         }
-        self.text_length(gate, n)
+        self.text_length(gate, n, count)
     }
 }

@@ -5,12 +5,12 @@ use Rattle.jser_reader.proofs.machine.Machine.end_cut.Goals as goal
 
 pub returns-in-Length2 : goal.returns-in-Length2
 returns-in-Length2 g c =
-    rest_of_length_taken _ false c.two-n.result c.args.missing c.take_length2.result _ c.args.piece.now c.split_at.result.0.now c.args.self.now _ c.take_length2.ensures c.after_length.ensures
+    rest_of_length_taken _ false c.two-n.result c.args.missing _ c.args.piece.now c.split_at.result.0.now c.args.self.now _ c.take_length2.ensures
     (search rules) c.requires.phase (search rules) (search rules) c.requires.some c.requires.there
 
 pub returns-in-Length8 : goal.returns-in-Length8
 returns-in-Length8 g c =
-    rest_of_length_taken _ true c.eight-n.result c.args.missing c.take_length8.result _ c.args.piece.now c.split_at.result.0.now c.args.self.now _ c.take_length8.ensures c.after_length-in-Length8.ensures
+    rest_of_length_taken _ true c.eight-n.result c.args.missing _ c.args.piece.now c.split_at.result.0.now c.args.self.now _ c.take_length8.ensures
     (search rules) c.requires.phase (search rules) (search rules) c.requires.some c.requires.there
 
 pub returns-in-FieldCount : goal.returns-in-FieldCount
