@@ -7,6 +7,8 @@ use Rattle.jser_reading.specs.Goals.{State, settled}
 use Rattle.jser_reading.specs.Accepts.{label_of}
 use Rattle.jser_verdict.specs.Reasons.{bad_text}
 use Rattle.jser_verdict.specs.Gates.{Gate}
+use Rattle.jser_reader.specs.declared.machine.take.text_bytes.ScanEnd.{ScanEnd}
+use Rattle.jser_reader.specs.declared.machine.take.text_bytes.ScanEnd.TheVariants as scan_end
 use Rattle.jser_reader.specs.declared.machine.flow.Flow.{Flow}
 use Rattle.jser_reader.specs.declared.machine.flow.Flow.TheVariants as flow
 use Rattle.jser_reader.specs.declared.machine.take.taken.Taken.TheVariants as taken
@@ -170,7 +172,7 @@ unfolding ScansByte
 one_more part i b flow.On old mid new p q ef e = subst (λ xs. Scanned xs old new) (sym e) (scanned_after (take i part) (b ∷ []) old mid new p q)
 one_more part i b flow.Stopped old mid new p q ef e = absurd (cc)
 
-pub all_scanned : (part : List ℕ) (i : ℕ) (result : Option ℕ) (old new : Seen) → Scanned (take i part) old new → length part ≤ i → result ≡ None → Scans part result old new
+pub all_scanned : (part : List ℕ) (i : ℕ) (result : ScanEnd) (old new : Seen) → Scanned (take i part) old new → length part ≤ i → result ≡ scan_end.All → Scans part result old new
 unfolding Scans
 all_scanned part i result old new p all er = rw er (subst (λ xs. Scanned xs old new) (take_all i part all) p)
 
@@ -187,7 +189,7 @@ units_kept part scan old new e en push left es =
     units_scanned part part old new new.scan (e ∙ ap (renamed_on old (length part) new.scan) en)
     (λ len before units a. push len before units (subst (HasAccepted len before units) (sym es) a)) (left ∙ ap (λ k. k.left) es)
 
-pub units_scan : (part : List ℕ) (result : Option ℕ) (old new : Seen) → Scanned part old new → result ≡ None → Scans part result old new
+pub units_scan : (part : List ℕ) (result : ScanEnd) (old new : Seen) → Scanned part old new → result ≡ scan_end.All → Scans part result old new
 unfolding Scans
 units_scan part result old new h er = rw er h
 
@@ -223,8 +225,8 @@ fault_after part i b old mid new p f inside e =
           };
     }
 
-pub stops_at : (part : List ℕ) (i b : ℕ) (found : Flow) (result : Option ℕ) (old mid new : Seen) → Scanned (take i part) old mid → ScansByte b found mid new → found ≡ flow.Stopped
-    → result ≡ Some (i + 1) → i < length part → take (i + 1) part ≡ take i part ++ (b ∷ []) → Scans part result old new
+pub stops_at : (part : List ℕ) (i b : ℕ) (found : Flow) (result : ScanEnd) (old mid new : Seen) → Scanned (take i part) old mid → ScansByte b found mid new → found ≡ flow.Stopped
+    → result ≡ scan_end.Stopped (i + 1) → i < length part → take (i + 1) part ≡ take i part ++ (b ∷ []) → Scans part result old new
 unfolding ScansByte Scans
 stops_at part i b flow.On result old mid new p q ef er inside e = absurd (cc)
 stops_at part i b flow.Stopped result old mid new p (inl f) ef er inside e = rw er (inl (fault_after part i b old mid new p f inside e))
@@ -238,9 +240,9 @@ stops_at part i b flow.Stopped result old mid new p (inr r) ef er inside e =
 
 -- ---- a text whose units are not kept
 
-pub plain_scanned : (part : List ℕ) (scan : Scan) (result : Option ℕ) (old new : Seen) → new ≡ scanned_on old (length part) new.scan
+pub plain_scanned : (part : List ℕ) (scan : Scan) (result : ScanEnd) (old new : Seen) → new ≡ scanned_on old (length part) new.scan
     → ((len : ℕ) (before units : List ℕ) → HasAccepted len before units scan → HasAcceptedAfter len (before ++ part) units new.scan)
-    → new.scan.left + length part ≡ scan.left → scan ≡ old.scan → is_checked old.text ≡ false → result ≡ None → Scans part result old new
+    → new.scan.left + length part ≡ scan.left → scan ≡ old.scan → is_checked old.text ≡ false → result ≡ scan_end.All → Scans part result old new
 unfolding Scans
 plain_scanned part scan result old new e push left es plain er =
     rw er (record {
@@ -268,8 +270,8 @@ plain_scanned part scan result old new e push left es plain er =
           };
     })
 
-pub plain_fault : (part : List ℕ) (accepted : ℕ) (scan : Scan) (result : Option ℕ) (old mid new : Seen) → StopsWith (refusal mid.meter reason.BadText) mid new
-    → result ≡ Some (accepted + 1) → mid.meter ≡ counted_on old.meter (accepted + 1) → accepted < length part
+pub plain_fault : (part : List ℕ) (accepted : ℕ) (scan : Scan) (result : ScanEnd) (old mid new : Seen) → StopsWith (refusal mid.meter reason.BadText) mid new
+    → result ≡ scan_end.Stopped (accepted + 1) → mid.meter ≡ counted_on old.meter (accepted + 1) → accepted < length part
     → ((len : ℕ) (before units : List ℕ) → HasAccepted len before units scan → FaultsAfter len before part accepted)
     → scan ≡ old.scan → Scans part result old new
 unfolding Scans
@@ -328,11 +330,11 @@ no_memory_taken gate piece part used count old new r e within ep =
           (r.stops.phase, subst (λ why. StopTold gate s cut (take count piece) old.meter.from why) (sym r.stops.stop) (inl (open_name old s cut x r.checked))),
     )
 
-pub text_stops : (gate : Gate) (piece part : List ℕ) (used count : ℕ) (result : Option ℕ) (old new : Seen) → Scans part result old new → result ≡ Some count
+pub text_stops : (gate : Gate) (piece part : List ℕ) (used count : ℕ) (result : ScanEnd) (old new : Seen) → Scans part result old new → result ≡ scan_end.Stopped count
     → part ≡ take used piece → old.phase ≡ phase.Text → used ≡ min old.scan.left (length piece) → TakesFromFor gate (taken.Stopped count) piece old new
 unfolding Scans TakesFromFor
-text_stops gate piece part used count None old new h er e ep size = absurd (cc)
-text_stops gate piece part used count (Some k) old new h er e ep size =
+text_stops gate piece part used count scan_end.All old new h er e ep size = absurd (cc)
+text_stops gate piece part used count (scan_end.Stopped k) old new h er e ep size =
     let same : k ≡ count = cc in
     let within : used ≤ length piece = omega arith in
     let n : length part ≡ used = ap length e ∙ length-take-le used piece within in
@@ -341,12 +343,12 @@ text_stops gate piece part used count (Some k) old new h er e ep size =
       | inr r ↦ no_memory_taken gate piece part used k old new r e within ep
     ])
 
-is_scanned : (part : List ℕ) (result : Option ℕ) (old new : Seen) → Scans part result old new → result ≡ None → Scanned part old new
+is_scanned : (part : List ℕ) (result : ScanEnd) (old new : Seen) → Scans part result old new → result ≡ scan_end.All → Scanned part old new
 unfolding Scans
-is_scanned part None old new h er = h
-is_scanned part (Some count) old new h er = absurd (cc)
+is_scanned part scan_end.All old new h er = h
+is_scanned part (scan_end.Stopped count) old new h er = absurd (cc)
 
-pub text_stays_open : (gate : Gate) (piece part : List ℕ) (used : ℕ) (result : Option ℕ) (old new : Seen) → Scans part result old new → result ≡ None
+pub text_stays_open : (gate : Gate) (piece part : List ℕ) (used : ℕ) (result : ScanEnd) (old new : Seen) → Scans part result old new → result ≡ scan_end.All
     → part ≡ take used piece → old.phase ≡ phase.Text → used ≡ min old.scan.left (length piece) → 0 < new.scan.left → 0 < length piece
     → TakesFromFor gate (taken.Part (length piece)) piece old new
 unfolding TakesFromFor
@@ -380,9 +382,9 @@ taken_cases gate piece count flow.On old new some within h ep =
     (some, within, h, subst (λ p. IsWholeLength (open_in p old.meter.cut_phase) (cut_of old ++ take count piece)) (sym ep) tt)
 taken_cases gate piece count flow.Stopped old new some within h ep = (some, within, h)
 
-pub text_ends : (gate : Gate) (piece part : List ℕ) (used : ℕ) (result : Option ℕ) (found : Flow) (old mid new : Seen)
+pub text_ends : (gate : Gate) (piece part : List ℕ) (used : ℕ) (result : ScanEnd) (found : Flow) (old mid new : Seen)
     → ((units : List ℕ) → EndsText mid units → TellsSurely (text_reason gate mid units) (after_text mid units) found mid new)
-    → Scans part result old mid → result ≡ None → part ≡ take used piece → old.phase ≡ phase.Text → used ≡ min old.scan.left (length piece)
+    → Scans part result old mid → result ≡ scan_end.All → part ≡ take used piece → old.phase ≡ phase.Text → used ≡ min old.scan.left (length piece)
     → (0 < mid.scan.left → ⊥) → 0 < length piece → TakesFromFor gate (taken_by (max used 1) found) piece old new
 unfolding TakesFromFor
 text_ends gate piece part used result found old mid new t h er e ep size none some =

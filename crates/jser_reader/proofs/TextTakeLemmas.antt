@@ -125,24 +125,27 @@ opened r scan = record {
 pub opens_bytes : (gate : Gate) (n count : ℕ) (old new : Seen) → new ≡ opened old new.scan → HasAccepted n [] [] new.scan → 0 < n
     → TellsLength gate n count (taken_is.Part count) old new
 unfolding TellsLength
-opens_bytes gate n count old new e acc some = (refl, record {
-  phase_is = ap (λ r. r.phase) e;
-  some = some;
-  read = record { accepted = acc; kept = λ _. ap (λ r. r.name) e };
-  counts = record {
-    at = let same : new.meter.at ≡ old.meter.at = ap (λ r. r.meter.at) e in omega arith;
-    from = ap (λ r. r.meter.from) e;
-    limits = ap (λ r. r.meter.limits) e;
-    frames = ap (λ r. r.frames) e;
-    layers = ap (λ r. r.layers) e;
-    table = ap (λ r. r.table) e;
-    refs = ap (λ r. r.refs) e;
-    owner = ap (λ r. r.owner) e;
-    elements = ap (λ r. r.elements) e;
-    header = ap (λ r. r.header) e;
-    text = ap (λ r. r.text) e;
-  };
-})
+opens_bytes gate n count old new e acc some = (
+  refl,
+  record {
+    phase_is = ap (λ r. r.phase) e;
+    some = some;
+    read = record { accepted = acc; kept = λ _. ap (λ r. r.name) e };
+    counts = record {
+      at = let same : new.meter.at ≡ old.meter.at = ap (λ r. r.meter.at) e in omega arith;
+      from = ap (λ r. r.meter.from) e;
+      limits = ap (λ r. r.meter.limits) e;
+      frames = ap (λ r. r.frames) e;
+      layers = ap (λ r. r.layers) e;
+      table = ap (λ r. r.table) e;
+      refs = ap (λ r. r.refs) e;
+      owner = ap (λ r. r.owner) e;
+      elements = ap (λ r. r.elements) e;
+      header = ap (λ r. r.header) e;
+      text = ap (λ r. r.text) e;
+    };
+  },
+)
 
 counts_no_more : (bytes : List ℕ) (old mid new : Seen) → Counts bytes old mid → Counts [] mid new → Counts bytes old new
 counts_no_more bytes old mid new c d = record {

@@ -4,6 +4,8 @@ use Rattle.std.specs.Option.{option_to_list}
 use Rattle.jser_prim.specs.Bytes.{big_bytes}
 use Rattle.jser_prim.specs.Texts.{FaultsAfter}
 use Rattle.jser_verdict.specs.Gates.{Gate}
+use Rattle.jser_reader.specs.declared.machine.take.text_bytes.ScanEnd.{ScanEnd}
+use Rattle.jser_reader.specs.declared.machine.take.text_bytes.ScanEnd.TheVariants as scan_end
 use Rattle.jser_reader.specs.declared.machine.flow.Flow.{Flow}
 use Rattle.jser_reader.specs.declared.machine.flow.Flow.TheVariants as flow
 use Rattle.jser_reader.specs.declared.phase.Phase.TheVariants as phase
@@ -94,10 +96,10 @@ ByteCases byte flow.Stopped old new = Faults (byte ∷ []) 1 old new ⊎ RunsOut
 unfoldable pub ScansByte : ℕ → Flow → Seen → Seen → Type 0
 ScansByte byte b old new = ByteCases byte b old new
 
-abbrev pub ScanCases : List ℕ → Option ℕ → Seen → Seen → Type 0
-ScanCases part None old new = Scanned part old new
-ScanCases part (Some count) old new = Faults part count old new ⊎ RunsOut part count old new
+abbrev pub ScanCases : List ℕ → ScanEnd → Seen → Seen → Type 0
+ScanCases part scan_end.All old new = Scanned part old new
+ScanCases part (scan_end.Stopped count) old new = Faults part count old new ⊎ RunsOut part count old new
 
 -- the bytes are scanned; or the machine stops at the last of so many
-unfoldable pub Scans : List ℕ → Option ℕ → Seen → Seen → Type 0
+unfoldable pub Scans : List ℕ → ScanEnd → Seen → Seen → Type 0
 Scans part result old new = ScanCases part result old new

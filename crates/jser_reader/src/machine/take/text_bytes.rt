@@ -13,6 +13,15 @@ use crate::phase::{Phase, TextFor};
 use crate::refusal::Reason;
 use std::simd::prelude::*;
 
+/// What came of the scan of some bytes.
+#[derive(Clone, Copy)]
+pub(crate) enum ScanEnd {
+    /// All were scanned.
+    All,
+    /// The machine stopped at the last of so many.
+    Stopped(usize),
+}
+
 /// How many units of a name are kept together.
 const LANES: usize = 16;
 
@@ -114,7 +123,7 @@ impl Machine {
     /// Scans these bytes of a checked name: all of them, or up to the one at which the machine stops.
     #[tactic(auto, using(crate::proofs::TextScanLemmas::none_scanned, crate::proofs::TextScanLemmas::one_more, crate::proofs::TextScanLemmas::stops_at, crate::proofs::TextScanLemmas::all_scanned))]
     #[inline(never)]
-    fn scan_name(&mut self, part: &[u8]) -> Option<usize>
+    fn scan_name(&mut self, part: &[u8]) -> ScanEnd
         requires checked { is_checked self.old.text ≡ true }
         requires within { length part.now ≤ self.old.scan.left }
         requires room { self.old.meter.at + length part.now < 2 ^ 64 }
@@ -123,10 +132,10 @@ impl Machine {
         'bytes: for (index, byte) in part.iter().enumerate() {
             match self.scan_byte(*byte) {
                 Flow::On => {}
-                Flow::Stopped => return Some(index + 1),
+                Flow::Stopped => return ScanEnd::Stopped(index + 1),
             }
         }
-        None
+        ScanEnd::All
     }
 
     /// Scans these bytes of a checked name, where each of them is a unit of one byte and there is memory for them; else it
@@ -153,7 +162,7 @@ impl Machine {
         requires plain { is_checked self.old.text ≡ false }
         requires within { length part.now ≤ self.old.scan.left }
         requires room { self.old.meter.at + length part.now < 2 ^ 64 }
-        ensures scanned { result ≡ true → Scans part.now None self.old self.new }
+        ensures scanned { result ≡ true → Scans part.now ScanEnd.All self.old self.new }
         ensures nothing { result ≡ false → self.new ≡ self.old }
     {
         if !self.scan.push_plain(part) {
@@ -165,7 +174,7 @@ impl Machine {
 
     /// Scans these bytes of a text whose units are not kept: all of them, or up to the one at which the machine stops.
     #[tactic(auto, using(crate::proofs::TextScanLemmas::plain_scanned, crate::proofs::TextScanLemmas::plain_fault))]
-    fn scan_plain(&mut self, part: &[u8]) -> Option<usize>
+    fn scan_plain(&mut self, part: &[u8]) -> ScanEnd
         requires plain { is_checked self.old.text ≡ false }
         requires within { length part.now ≤ self.old.scan.left }
         requires room { self.old.meter.at + length part.now < 2 ^ 64 }
@@ -174,20 +183,20 @@ impl Machine {
         match self.scan.push_all(part) {
             Ok(()) => {
                 self.at += part.len() as u64;
-                None
+                ScanEnd::All
             }
             Err(fault) => {
                 let count = fault.accepted + 1;
                 self.at += count as u64;
                 self.refuse(Reason::BadText);
-                Some(count)
+                ScanEnd::Stopped(count)
             }
         }
     }
 
     /// Scans the next bytes of the open text, and counts them: all of them, or up to the one at which the machine stops.
     #[tactic(auto, using(crate::proofs::TextScanLemmas::units_scan))]
-    fn scan_part(&mut self, part: &[u8]) -> Option<usize>
+    fn scan_part(&mut self, part: &[u8]) -> ScanEnd
         requires within { length part.now ≤ self.old.scan.left }
         requires room { self.old.meter.at + length part.now < 2 ^ 64 }
         ensures { Scans part.now result self.old self.new }
@@ -196,7 +205,7 @@ impl Machine {
             return self.scan_plain(part);
         }
         if self.scan_units(part) {
-            return None;
+            return ScanEnd::All;
         }
         self.scan_name(part)
     }
@@ -212,7 +221,7 @@ impl Machine {
     {
         let used = self.scan.left().min(piece.len() as u64) as usize;
         let (part, _) = piece.split_at(used);
-        if let Some(count) = self.scan_part(part) {
+        if let ScanEnd::Stopped(count) = self.scan_part(part) {
             return Taken::Stopped(count);
         }
         if self.scan.left() > 0 {
