@@ -1,14 +1,15 @@
 -- A tally goes on from token to token, and at the end of a stream it tells the counts of its list.
-use Rattle.std.proofs.Common.{◌≡◌, ℕ, zero, suc, ◌+◌, ◌<◌, ◌≤◌, ◌==◌, ◌&&◌, max, nat_lt, Bool, true, false, List, [], ◌∷◌, ◌++◌, length, refl, sym, ◌∙◌, ap, ap₂, subst, arith, append_assoc, append-nil, length-append}
-use Rattle.std.proofs.lemmas.Bool.Decides.{nat_tests}
+use Rattle.std.proofs.Common.{◌≡◌, ℕ, zero, suc, ◌+◌, ◌^◌, ◌<◌, ◌≤◌, ◌&&◌, max, Bool, true, false, List, [], ◌∷◌, ◌++◌, length, get_or, if◌then◌else◌, Option, Some, refl, sym, ◌∙◌, ap, ap₂, subst, arith, append_assoc, append-nil, length-append}
 use Rattle.jser_grammar.specs.Parts.{IsBytes}
+use Rattle.jser_grammar.specs.TableAfter.{Entries}
 use Rattle.jser_grammar.specs.Trees.{ContentTrees}
 use Rattle.jser_grammar.specs.Spelling.{spelling}
 use Rattle.jser_grammar.specs.Streams.{IsStreamOf}
 use Rattle.jser_reading.specs.Moments.{Moment}
-use Rattle.jser_reading.specs.Labels.{StreamToken, reset_tag_token, Position, top_at, string_at, block_length_at, raw_at, bytes_at, Label, Piece, piece}
+use Rattle.jser_reading.specs.Labels.{StreamToken, tag_token, reset_tag_token, Position, top_at, string_at, block_length_at, raw_at, bytes_at, Label, Piece, piece}
 use Rattle.jser_reading.specs.Tokens.{tokens_of}
 use Rattle.jser_reading.specs.TokenBytes.{bytes_of, joined}
+use Rattle.jser_reading.specs.TokensFromBytes.{tag_from, size_in}
 use Rattle.jser_reading.specs.Goals.{State, settled}
 use Rattle.jser_reading.specs.Accepts.{label_of, AcceptsAt, Accepts}
 use Rattle.jser_reading.specs.Machine.{begin_state, Runs, Reads, IsDone, left, advance}
@@ -21,17 +22,18 @@ use Rattle.jser_reading.proofs.OneReading.{one_reading_law}
 use Rattle.jser_reading.proofs.PlainVerdict.{plain_verdict, scanner}
 use Rattle.jser_reading.proofs.SpelledTokens.{spelled_law}
 use Rattle.jser_reading.proofs.TotalsObserved.{totalled_law}
-use Rattle.jser_verdict.specs.Gates.{Gate}
+use Rattle.jser_verdict.specs.Gates.{Gate, IsGate}
 use Rattle.jser_verdict.proofs.ByteLists.{bytes_both, bytes_right}
 use Rattle.jser_reader.specs.declared.machine.flow.Flow.TheVariants as flow
+use Rattle.jser_reader.specs.declared.phase.Phase.{Phase}
 use Rattle.jser_reader.specs.declared.phase.Phase.TheVariants as phase
 use Rattle.jser_reader.specs.declared.tally.Tally.{Tally}
-use Rattle.jser_reader.specs.Readers.{Seen, moment_of}
+use Rattle.jser_reader.specs.Readers.{Seen}
 use Rattle.jser_reader.specs.Walks.{gate_with, Stands, HasTaken, Takes, Keeps, IsNew}
 use Rattle.jser_reader.specs.WholeContents.{IsWhole}
-use Rattle.jser_reader.specs.Tallies.{ended_by, earlier_handles, no_tally, is_top, Tallied, mark_of, tally_after, HasCounted, totals_of, AreTotals}
-use Rattle.jser_reader.proofs.GoalCounts.{entries_after, Has, one_token, counted_from_start, label_moment}
-use Rattle.jser_reader.proofs.MarkLemmas.{moment_is, tells_is}
+use Rattle.jser_reader.specs.Tallies.{ended_by, earlier_handles, no_tally, is_top, may_count, Tallied, begun_next, content_begun, with_token, with_tag, tally_next, EpochFits, HasCounted, totals_of, AreTotals}
+use Rattle.jser_reader.proofs.GoalCounts.{counted_from_start, label_moment}
+use Rattle.jser_reader.proofs.LabelLemmas.{is_tag, moment_is, tells_is, tag_is}
 use Rattle.jser_reader.proofs.StandLemmas.{token_read, took_stands, kept_stands}
 use Rattle.jser_reader.proofs.StreamWalks.{new_stands, ends_at_top}
 use Rattle.jser_reader.proofs.WholeContentLemmas.{whole_of_none, whole_inside, whole_top, took_whole, kept_whole}
@@ -61,57 +63,93 @@ earlier_one_more : (tokens : List Piece) (l : Label) (f : StreamToken)
 earlier_one_more [] l f = omega arith
 earlier_one_more (piece k g ∷ tokens) l f = let e = earlier_one_more tokens l f in omega arith
 
--- ---- what the marks tell
+-- ---- what the next token counts
 
-grew : (b : Bool) (n k : ℕ) → k ≡ one_more_if b n → nat_lt n k ≡ b
-grew true n k e = grind (arith, nat_tests)
-grew false n k e = grind (arith, nat_tests)
+-- a reset is taken at the top alone
+ended_at_top : (f : StreamToken) (position : Position) (m : Moment) → AcceptsAt position m f → begins_content position f ≡ false → ended_by f m.table ≡ 0
+ended_at_top reset_tag_token top_at m a e = absurd (cc)
+ended_at_top reset_tag_token (string_at true) m a e = absurd a
+ended_at_top reset_tag_token (block_length_at true) m a e = absurd a
+ended_at_top reset_tag_token (raw_at c zero) m a e = absurd a
+ended_at_top reset_tag_token (bytes_at zero) m a e = absurd a
+ended_at_top reset_tag_token _ m a e = absurd a
+ended_at_top f position m a e = refl
 
-none_ended : (at_top assigns : Bool) (n k : ℕ) → k ≡ one_more_if assigns n → number_if (at_top && k == 0) n ≡ 0
-none_ended false assigns n k e = refl
-none_ended true true n k e = let z : (k == 0) ≡ false = grind (arith, nat_tests) in ap (λ b. number_if b n) z
-none_ended true false zero k e = let z : (k == 0) ≡ true = grind (arith, nat_tests) in ap (λ b. number_if b 0) z
-none_ended true false (suc n) k e = let z : (k == 0) ≡ false = grind (arith, nat_tests) in ap (λ b. number_if b (suc n)) z
+-- what the token counts
 
--- an epoch has ended where the token is a reset, which is taken at the top alone
-epoch : (f : StreamToken) (position : Position) (m : Moment) (k : ℕ) → AcceptsAt position m f → k ≡ entries_after position f (length m.table)
-    → number_if (begins_content position f && k == 0) (length m.table) ≡ ended_by f m.table
-epoch reset_tag_token top_at m k a e = ap (λ k. number_if (k == 0) (length m.table)) e
-epoch reset_tag_token (string_at true) m k a e = absurd a
-epoch reset_tag_token (block_length_at true) m k a e = absurd a
-epoch reset_tag_token (raw_at c zero) m k a e = absurd a
-epoch reset_tag_token (bytes_at zero) m k a e = absurd a
-epoch reset_tag_token _ m k a e = absurd a
-epoch f position m k a e = none_ended (begins_content position f) (assigns_handle position f) (length m.table) k e
+same_contents : (r : Seen) (f : StreamToken) (tally : Tally) → (with_token r (Some f) tally).contents ≡ tally.contents
+same_contents r (tag_token tag) tally = refl
+same_contents r reset_tag_token tally = refl
+same_contents r _ tally = refl
+
+ended_with : (r : Seen) (f : StreamToken) (T : Entries) (tally : Tally) → length r.table.entries ≡ length T → (with_token r (Some f) tally).earlier ≡ tally.earlier + ended_by f T
+ended_with r (tag_token tag) T tally e = omega arith
+ended_with r reset_tag_token T tally e = omega arith
+ended_with r _ T tally e = omega arith
+
+deep_with : (r : Seen) (f : StreamToken) (tally : Tally) → (with_token r (Some f) tally).depth ≡ max tally.depth (number_if (is_tag f) (suc (length r.frames)))
+deep_with r (tag_token tag) tally = refl
+deep_with r reset_tag_token tally = omega arith
+deep_with r _ tally = omega arith
+
+below_top : (p : Phase) → may_count p ≡ false → is_top p ≡ false
+below_top phase.Top e = absurd (cc)
+below_top _ e = refl
 
 -- the tally tells one token more
-pub tallied_on : (gate : Gate) (old new : Seen) (s t : State) (cut : List ℕ) (tokens : List Piece) (token : StreamToken) (tally : Tally)
-    → Stands gate old s cut → Stands gate new t [] → Accepts (label_of s) token
-    → Has t (one_more_if (begins_place (label_of s).position token) s.0.places) (entries_after (label_of s).position token (length s.0.table))
-    → Tallied tokens tally → Tallied (tokens ++ (piece (label_of s) token ∷ [])) (tally_after (mark_of old) (mark_of new) tally)
-tallied_on gate old new s t cut tokens token tally so sn a h c =
-    let l = label_of s in
-    let x = tells_is gate old s cut token so in
-    let before : s.0 ≡ moment_of old = moment_is gate old s cut so in
-    let after : t.0 ≡ moment_of new = moment_is gate new t [] sn in
-    let entries : length old.table.entries ≡ length s.0.table = ap (λ m. length m.table) (sym before) in
-    let lm : l.moment ≡ s.0 = label_moment s in
-    let places : new.refs ≡ one_more_if (begins_place l.position token) old.refs =
-    ap (λ m. m.places) (sym after) ∙ h.0 ∙ ap (λ m. one_more_if (begins_place l.position token) m.places) before in
-    let left_over : length new.table.entries ≡ entries_after l.position token (length l.moment.table) =
-    ap (λ m. length m.table) (sym after) ∙ h.1 ∙ ap (λ m. entries_after l.position token (length m.table)) (sym lm) in
-    record {
-      contents = ap₂ one_more_if (sym x.0) c.contents ∙ sym (count_one_more begins_content tokens l token);
-      earlier =
-          ap₂ (λ k n. k + n) c.earlier
-          (ap₂ (λ b n. number_if (b && length new.table.entries == 0) n) (sym x.0) (entries ∙ ap (λ m. length m.table) (sym lm))
-          ∙ epoch token l.position l.moment (length new.table.entries) a left_over)
-          ∙ sym (earlier_one_more tokens l token);
-      depth =
-          ap₂ (λ k n. max k n) c.depth
-          (ap (λ b. number_if b (suc (length old.frames))) (grew (begins_place l.position token) old.refs new.refs places) ∙ sym x.1)
-          ∙ sym (deepest_one_more tokens l token);
-    }
+pub tallied_on : (gate : Gate) (old : Seen) (s : State) (cut taken : List ℕ) (tokens : List Piece) (token : StreamToken) (tally : Tally)
+    → Stands gate old s cut → Accepts (label_of s) token → cut ++ taken ≡ bytes_of token → size_in (label_of s).position (cut ++ taken) ≡ length (cut ++ taken)
+    → Tallied tokens tally → Tallied (tokens ++ (piece (label_of s) token ∷ [])) (tally_next old (get_or taken 0 0) tally)
+tallied_on gate old s cut taken tokens token tally st a spelled size c = go (may_count old.phase) refl
+  where
+    l : Label
+    l = label_of s
+
+    x : (begins_content l.position token ≡ is_top old.phase)
+        × (number_if (begins_place l.position token) l.depth ≡ number_if (begins_place l.position token) (suc (length old.frames)))
+        × (begins_place l.position token ≡ (may_count old.phase && is_tag token))
+    x = tells_is gate old s cut token st
+
+    entries : length old.table.entries ≡ length l.moment.table
+    entries = ap (λ m. length m.table) (sym (moment_is gate old s cut st)) ∙ ap (λ m. length m.table) (sym (label_moment s))
+
+    -- but for a content
+    one : Tally
+    one = with_token old (Some token) tally
+
+    earlier : one.earlier ≡ earlier_handles (tokens ++ (piece l token ∷ []))
+    earlier = ended_with old token l.moment.table tally entries ∙ ap (λ n. n + ended_by token l.moment.table) c.earlier ∙ sym (earlier_one_more tokens l token)
+
+    depth : begins_place l.position token ≡ is_tag token → one.depth ≡ deepest (tokens ++ (piece l token ∷ []))
+    depth place =
+        deep_with old token tally ∙ ap₂ (λ k n. max k n) c.depth (ap (λ b. number_if b (suc (length old.frames))) (sym place) ∙ sym x.1)
+        ∙ sym (deepest_one_more tokens l token)
+
+    contents : (b : Bool) → is_top old.phase ≡ b → one_more_if b one.contents ≡ count_of begins_content (tokens ++ (piece l token ∷ []))
+    contents b top = ap₂ one_more_if (sym (x.0 ∙ top)) (same_contents old token tally ∙ c.contents) ∙ sym (count_one_more begins_content tokens l token)
+
+    at_top : (b : Bool) → is_top old.phase ≡ b → begins_place l.position token ≡ is_tag token
+        → Tallied (tokens ++ (piece l token ∷ [])) (if b then content_begun one old.meter.at else one)
+    at_top true top place = record { contents = contents true top; earlier = earlier; depth = depth place }
+    at_top false top place = record { contents = contents false top; earlier = earlier; depth = depth place }
+
+    go : (b : Bool) → may_count old.phase ≡ b → Tallied (tokens ++ (piece l token ∷ [])) (if b then with_tag old (tag_from (get_or taken 0 0)) tally else tally)
+    go false e =
+        let outside : begins_content l.position token ≡ false = x.0 ∙ below_top old.phase e in
+        let none : begins_place l.position token ≡ false = x.2 ∙ ap (λ b. b && is_tag token) e in
+        let same = ended_at_top token l.position l.moment a outside in
+        let q = c.earlier in
+        let z = earlier_one_more tokens l token in
+        let p = c.depth in
+        let y = deepest_one_more tokens l token ∙ ap (λ b. max (deepest tokens) (number_if b l.depth)) none in
+        record {
+          contents = c.contents ∙ sym (count_one_more begins_content tokens l token ∙ ap (λ b. one_more_if b (count_of begins_content tokens)) outside);
+          earlier = omega arith;
+          depth = omega arith;
+        }
+    go true e =
+        subst (λ found. Tallied (tokens ++ (piece l token ∷ [])) (with_tag old found tally)) (sym (tag_is gate old s cut taken token st e a spelled size))
+        (at_top (is_top old.phase) refl (x.2 ∙ ap (λ b. b && is_tag token) e))
 
 -- ---- a machine with its tally
 
@@ -127,9 +165,26 @@ new_counts gate r n e = record {
   whole = λ room. subst (IsWhole gate []) (sym (whole_inside r no_tally (ap is_top n.phase_is))) (whole_of_none gate);
 }
 
+-- where the last content begins after it
+pub begun_is : (r : Seen) (byte : ℕ) (tally : Tally) → (tally_next r byte tally).begun ≡ begun_next r tally
+begun_is r byte tally = go (may_count r.phase) refl
+  where
+    same : (found : Option StreamToken) → (with_token r found tally).begun ≡ tally.begun
+    same (Some (tag_token tag)) = refl
+    same (Some reset_tag_token) = refl
+    same _ = refl
+
+    at_top : (b : Bool) (found : Option StreamToken) → (if b then content_begun (with_token r found tally) r.meter.at else with_token r found tally).begun ≡ (if b then r.meter.at else tally.begun)
+    at_top true found = refl
+    at_top false found = same found
+
+    go : (b : Bool) → may_count r.phase ≡ b → (if b then with_tag r (tag_from byte) tally else tally).begun ≡ begun_next r tally
+    go true e = at_top (is_top r.phase) (tag_from byte)
+    go false e = sym (ap (λ b. if b then r.meter.at else tally.begun) (below_top r.phase e))
+
 -- the open token has ended
 unfoldable pub took_counts : (gate : Gate) (old new : Seen) (bytes taken : List ℕ) (tally : Tally) → Takes gate taken flow.On old new → IsBytes taken
-    → HasCounted gate bytes old tally → HasCounted gate (bytes ++ taken) new (tally_after (mark_of old) (mark_of new) tally)
+    → HasCounted gate bytes old tally → HasCounted gate (bytes ++ taken) new (tally_next old (get_or taken 0 0) tally)
 unfolding Takes took_stands
 took_counts gate old new bytes taken tally h bt c =
     let st = c.taken in
@@ -139,13 +194,10 @@ took_counts gate old new bytes taken tally h bt c =
     let all : IsBytes (bytes ++ taken) = bytes_both bytes taken st.all_bytes bt in
     let of_token : IsBytes (st.cut ++ taken) = bytes_right (joined st.tokens) (st.cut ++ taken) (subst IsBytes is all) in
     let f = token_read gate st.tokens (st.cut ++ taken) x.token st.runs x.is_good x.whole of_token in
-    let o = (counted_from_start st.tokens st.runs).orderly in
     record {
       taken = took_stands gate old new bytes taken h bt st;
-      tallied =
-          tallied_on gate old new s (settled (advance s x.token)) st.cut st.tokens x.token tally st.stands x.stands f.1
-          (one_token s x.token o f.1) c.tallied;
-      whole = λ room. took_whole gate old new bytes taken tally h bt st room (c.whole (shorter bytes taken gate.bytes room));
+      tallied = tallied_on gate old s st.cut taken st.tokens x.token tally st.stands f.1 f.0 x.whole c.tallied;
+      whole = λ room. took_whole gate old new bytes taken tally (tally_next old (get_or taken 0 0) tally) (begun_is old (get_or taken 0 0) tally) h bt st room (c.whole (shorter bytes taken gate.bytes room));
     }
 
 -- the same token is still open
@@ -220,6 +272,18 @@ counts_within gate bytes r tally h =
     let ep = places_are gate bytes r st in
     let eh = handles_are gate bytes r st in
     (omega arith, omega arith, omega arith)
+
+-- so none of them wraps with the next token
+pub counts_fit : (gate : Gate) (bytes : List ℕ) (r : Seen) (tally : Tally) → HasCounted gate bytes r tally → length bytes ≤ gate.bytes → IsGate gate
+    → (tally.contents + 1 < 2 ^ 64) × ((found : Option StreamToken) → EpochFits r found tally)
+counts_fit gate bytes r tally h room g = (omega (arith, n.0, g.0), fits)
+  where
+    n : (tally.contents ≤ length bytes) × (tally.earlier + length r.table.entries ≤ length bytes) × (r.refs ≤ length bytes)
+    n = counts_within gate bytes r tally h
+
+    fits : (found : Option StreamToken) → EpochFits r found tally
+    fits (Some reset_tag_token) = omega (arith, n.1, g.0)
+    fits _ = tt
 
 -- ---- the end
 

@@ -152,12 +152,6 @@ number_came gate size n count found result piece old new h er some within spelle
     taken_so_far gate count found result piece old new (h (take count piece) (length-take-le count piece within) spelled) er some within
     (whole_length (open_phase old) (cut_of old ++ take count piece) (ap length (sym spelled) ∙ length-big_bytes size n ∙ sym es))
 
--- as one gate judges it
-pub number_for : (gate : Gate) (size n count : ℕ) (found : Flow) (old new : Seen) → TakesNumber size n count found old new
-    → TakesNumberFor gate size n count found old new
-unfolding TakesNumber
-number_for gate size n count found old new h = h gate
-
 -- a number that comes next
 
 pub first_kept : (gate : Gate) (size : ℕ) (piece : List ℕ) (old new : Seen) → CutsOff piece old new → IsNumberOf size old.phase

@@ -1,5 +1,5 @@
 -- Items are the tokens: what a reader's calls say of the tokens that it took and the item that it lends.
-use Rattle.std.proofs.Common.{◌≡◌, ◌⊎◌, inl, inr, ℕ, zero, suc, ◌<◌, ◌≤◌, List, [], ◌∷◌, ◌++◌, length, take, Ok, Err, refl, sym, ◌∙◌, ap, ap₂, subst, arith, append_assoc, append-nil, length-append, length-take-le}
+use Rattle.std.proofs.Common.{◌≡◌, ◌⊎◌, inl, inr, ℕ, zero, suc, ◌<◌, ◌≤◌, List, [], ◌∷◌, ◌++◌, length, take, get_or, Ok, Err, refl, sym, ◌∙◌, ap, ap₂, subst, arith, append_assoc, append-nil, length-append, length-take-le}
 use Rattle.jser_grammar.specs.Parts.{IsBytes}
 use Rattle.jser_reading.specs.TokensFromBytes.{number_of}
 use Rattle.jser_reading.specs.Labels.{Piece, piece}
@@ -28,16 +28,17 @@ use Rattle.jser_reader.specs.declared.tally.Tally.{Tally}
 use Rattle.jser_reader.specs.Readers.{Seen}
 use Rattle.jser_reader.specs.States.{HasLimits, IsWithin}
 use Rattle.jser_reader.specs.Walks.{size_of_phase, open_phase, cut_of, Stands, Takes, Keeps, IsNew}
-use Rattle.jser_reader.specs.Tallies.{no_tally, mark_of, tally_after, HasCounted}
+use Rattle.jser_reader.specs.Tallies.{no_tally, tally_next, CountsNext, HasCounted}
 use Rattle.jser_reader.specs.Takes.{IsWholeLength, TakenCases, TakesFromFor}
 use Rattle.jser_reader.specs.ReaderStates.{IsItem}
 use Rattle.jser_reader.specs.ItemsMade.{MakesItem, MakesStep}
 use Rattle.jser_reader.specs.ItemsTold.{StandsIn, TokenEnds, IsFull, Lends, TellsItems, TellsTokens}
 use Rattle.jser_reader.proofs.StandLemmas.{token_read, took_stands, kept_stands}
-use Rattle.jser_reader.proofs.CountLemmas.{new_counts, took_counts, kept_counts, counts_within, tokens_are}
+use Rattle.jser_reader.proofs.CountLemmas.{new_counts, took_counts, kept_counts, counts_fit, tokens_are}
 use Rattle.jser_reader.proofs.PhaseLemmas.{is_open}
 use Rattle.jser_reader.proofs.ReaderLemmas.{take_whole, front_of_front, bytes_front, limit_is, token_ends, token_goes_on}
-use Rattle.jser_reader.proofs.NextLemmas.{CountsToken, limits_are}
+use Rattle.jser_reader.proofs.NextLemmas.{limits_are}
+use Rattle.jser_reader.proofs.TotalLemmas.{first_taken}
 use Rattle.jser_reader.proofs.StreamWalks.{new_stands, ends_at_top}
 use Rattle.jser_reader.proofs.TotalLemmas.{finish_totals}
 use Rattle.jser_reader.proofs.ItemStands.{stands_items, first_size_is, text_goes, whole_size, part_size, is_lent, goes_on}
@@ -68,7 +69,7 @@ comes_next gate front cut r tally h =
 
 pub token_ended : (gate : Gate) (given front : List ℕ) (n : ℕ) (old new : Seen) (before after : Tally) (tokens : List Piece) (cut : List ℕ)
     → StandsIn gate tokens cut old before → IsWithin old given front → n ≤ length front → IsBytes given → Takes gate (take n front) flow.On old new
-    → after ≡ tally_after (mark_of old) (mark_of new) before
+    → after ≡ tally_next old (get_or (take n given) 0 0) before
     → TokenEnds gate tokens (label_of (settled (left begin_state tokens))) (cut ++ take n given) new after
 unfolding Takes took_stands took_counts
 token_ended gate given front n old new before after tokens cut h w le hb t same =
@@ -86,17 +87,17 @@ token_ended gate given front n old new before after tokens cut h w le hb t same 
     let of_token : IsBytes (st.cut ++ take n given) = bytes_right (joined st.tokens) (st.cut ++ take n given) (subst IsBytes is all) in
     let f = token_read gate st.tokens (st.cut ++ take n given) x.token st.runs x.is_good x.whole of_token in
     let room = (token_ends gate (joined tokens ++ cut) given front n old new w le hb t st h.within).1 in
-    let own : TokenEnds gate st.tokens l (st.cut ++ take n given) new (tally_after (mark_of old) (mark_of new) before) = record {
+    let own : TokenEnds gate st.tokens l (st.cut ++ take n given) new (tally_next old (get_or (take n given) 0 0) before) = record {
       token = x.token;
       spelled = sym f.0;
       accepted = f.1;
       stands =
           stands_in gate ((joined tokens ++ cut) ++ take n given) (st.tokens ++ (piece l x.token ∷ [])) [] new
-          (tally_after (mark_of old) (mark_of new) before) (took_counts gate old new (joined tokens ++ cut) (take n given) before t2 bt c) refl refl room;
+          (tally_next old (get_or (take n given) 0 0) before) (took_counts gate old new (joined tokens ++ cut) (take n given) before t2 bt c) refl refl room;
     } in
     subst (λ a. TokenEnds gate tokens (label_of (settled (left begin_state tokens))) (cut ++ take n given) new a) (sym same)
-    (subst (λ b. TokenEnds gate tokens (label_of (settled (left begin_state tokens))) (b ++ take n given) new (tally_after (mark_of old) (mark_of new) before)) h.cut_is
-    (subst (λ g. TokenEnds gate g (label_of (settled (left begin_state g))) (st.cut ++ take n given) new (tally_after (mark_of old) (mark_of new) before)) h.tokens_are own))
+    (subst (λ b. TokenEnds gate tokens (label_of (settled (left begin_state tokens))) (b ++ take n given) new (tally_next old (get_or (take n given) 0 0) before)) h.cut_is
+    (subst (λ g. TokenEnds gate g (label_of (settled (left begin_state g))) (st.cut ++ take n given) new (tally_next old (get_or (take n given) 0 0) before)) h.tokens_are own))
 
 pub token_open : (gate : Gate) (given front : List ℕ) (n : ℕ) (old new : Seen) (tally : Tally) (tokens : List Piece) (cut : List ℕ)
     → StandsIn gate tokens cut old tally → IsWithin old given front → n ≤ length front → IsBytes given → Keeps gate (take n front) old new
@@ -122,7 +123,7 @@ made p kept old given front used count lent ep ek et h =
 pub lends_end : (gate : Gate) (given front : List ℕ) (used : ℕ) (lent : Item) (old new : Seen) (before after : Tally) (tokens : List Piece) (cut : List ℕ)
     → StandsIn gate tokens cut old before → IsWithin old given front → used ≤ length front → IsBytes given → Takes gate (take used front) flow.On old new
     → IsWholeLength (open_phase old) (cut_of old ++ take used front)
-    → after ≡ tally_after (mark_of old) (mark_of new) before → MakesItem (open_phase old) (cut_of old) (take used given) lent
+    → after ≡ tally_next old (get_or (take used given) 0 0) before → MakesItem (open_phase old) (cut_of old) (take used given) lent
     → Lends gate tokens cut given lent used new after
 unfolding Takes
 lends_end gate given front used lent old new before after tokens cut st w le hb t whole same m =
@@ -147,19 +148,16 @@ lends_end gate given front used lent old new before after tokens cut st w le hb 
     }
 
 pub tells_end : (result : Step) (p : Phase) (kept : List ℕ) (used : ℕ) (took : Taken) (given front : List ℕ) (gate : Gate) (old new : Seen) (before after : Tally)
-    → TakesFromFor gate took front old new → took ≡ taken.Ended used → CountsToken old new before after → IsGate gate → IsWithin old given front
+    → TakesFromFor gate took front old new → took ≡ taken.Ended used → CountsNext old (get_or front 0 0) before after → IsGate gate → IsWithin old given front
     → IsBytes given → IsItem used result → p ≡ open_phase old → kept ≡ cut_of old → MakesStep p kept (take used front) result
     → TellsItems gate given (Ok result) old before new after
 unfolding TakesFromFor TellsItems MakesStep
 tells_end step.More p kept used took given front gate old new before after k e c g w hb i ep ek m = absurd i
 tells_end (step.Item lent count) p kept used took given front gate old new before after k e c g w hb i ep ek m = λ tokens cut st.
     let t = subst (λ x. TakenCases gate x front old new) e k in
-    let n = counts_within gate (joined tokens ++ cut) old before st.counted in
-    let contents = n.0 in
-    let entries = n.1 in
-    let l = st.within in
-    let cap = g.0 in
-    let same : after ≡ tally_after (mark_of old) (mark_of new) before = c (omega arith) (omega arith) in
+    let fit = counts_fit gate (joined tokens ++ cut) old before st.counted st.within g in
+    let same : after ≡ tally_next old (get_or (take used given) 0 0) before =
+    c fit.0 (fit.1 _) ∙ ap (λ b. tally_next old b before) (sym (first_taken old given front used w t.1 t.0)) in
     subst (λ j. Lends gate tokens cut given lent j new after) (sym i)
     (lends_end gate given front used lent old new before after tokens cut st w t.1 hb t.2 t.3 same
     (made p kept old given front used count lent ep ek (front_of_front old given front used w t.1) m))
@@ -245,7 +243,8 @@ tells_more took given front gate old new tally k e w hb long = λ tokens cut st.
     let sn : StandsIn gate tokens (cut ++ given) new tally = subst (λ xs. StandsIn gate tokens (cut ++ xs) new tally) whole open_now in
     let s = left begin_state tokens in
     let so = machine_stands gate tokens (cut ++ given) new tally sn in
-    let some : 0 < size_of_phase (open_phase new) = subst (λ p. 0 < size_of_phase p) (sym t.1.same) t.1.some in
+    let long = t.1.some in
+    let some : 0 < size_of_phase (open_phase new) = subst (λ p. 0 < size_of_phase p) (sym t.1.same) (omega arith) in
     let o = is_open (open_phase new) new (settled s) (cut ++ given) so.stands refl some in
     let f = first_size_is (open_phase new) (cut ++ given) _ (stands_items new.phase new s (cut ++ given) so.stands) some in
     record {

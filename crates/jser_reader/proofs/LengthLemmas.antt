@@ -69,12 +69,6 @@ long_taken gate n result piece number old new h e spelled en long =
 
 -- a length that was cut
 
-pub rest_of_length_kept : (gate : Gate) (long : Bool) (missing : ℕ) (piece : List ℕ) (old new : Seen) → CutsOff piece old new
-    → old.meter.cut_phase ≡ length_phase long → old.phase ≡ phase.Cut → length old.meter.kept + missing ≡ size_of_phase old.meter.cut_phase
-    → 0 < length piece → length piece < missing → TakesFromFor gate taken.Open piece old new
-rest_of_length_kept gate long missing piece old new c el e all some short =
-    rest_kept gate (head_size long) missing piece old new c (rw el (length_number long)) e all some short
-
 pub rest_of_length_taken : (gate : Gate) (text : Bool) (n missing : ℕ) (result : Taken) (piece last : List ℕ) (old new : Seen)
     → TakesLength gate (head_size text) n missing result old new → old.meter.cut_phase ≡ length_phase text → old.phase ≡ phase.Cut
     → big_bytes (head_size text) n ≡ old.meter.kept ++ last → last ≡ take missing piece → 0 < missing → missing ≤ length piece

@@ -3,9 +3,8 @@ use Rattle.std.proofs.Common.{◌≡◌, ℕ, suc, ◌+◌, ◌-◌, ◌^◌, �
 use Rattle.std.proofs.lemmas.List.{length-drop, length-take-le}
 use Rattle.jser_prim.specs.Bytes.{big_bytes}
 use Rattle.jser_table.specs.Entries.{text_entry}
-use Rattle.jser_reading.specs.Labels.{Piece}
-use Rattle.jser_reading.specs.TokenBytes.{tag_byte, joined}
-use Rattle.jser_reading.specs.TokensFromBytes.{number_of}
+use Rattle.jser_reading.specs.TokenBytes.{tag_byte}
+use Rattle.jser_reading.specs.TokensFromBytes.{tag_from, number_of}
 use Rattle.jser_reading.specs.Goals.{State, settled}
 use Rattle.jser_reading.specs.Accepts.{label_of}
 use Rattle.jser_reading.specs.Machine.{begin_state, left}
@@ -24,7 +23,6 @@ use Rattle.jser_reader.specs.declared.refusal.Stop.{Stop}
 use Rattle.jser_reader.specs.declared.refusal.Stop.TheVariants as stop
 use Rattle.jser_reader.specs.declared.tag.ValueTag.{ValueTag}
 use Rattle.jser_reader.specs.declared.tag.ValueTag.TheVariants as value
-use Rattle.jser_reader.specs.declared.tally.Mark.{Mark}
 use Rattle.jser_reader.specs.declared.tally.Tally.{Tally}
 use Rattle.jser_reader.specs.Tags.{view_tag}
 use Rattle.jser_reader.specs.Readers.{Seen}
@@ -32,10 +30,10 @@ use Rattle.jser_reader.specs.Steps.{after_value}
 use Rattle.jser_reader.specs.Handlers.{Comes, Tells, added, place_reason, after_tag}
 use Rattle.jser_reader.specs.Walks.{Takes, open_in, cut_in, open_phase, cut_of}
 use Rattle.jser_reader.specs.Takes.{farther, TakesFromFor}
-use Rattle.jser_reader.specs.Tallies.{mark_of, tally_after}
+use Rattle.jser_reader.specs.Tallies.{CountsNext}
 use Rattle.jser_reader.specs.Items.{items_at}
 use Rattle.jser_reader.specs.ItemsMade.{MakesItem, MakesStep}
-use Rattle.jser_reader.specs.ItemsTold.{StandsIn, TokenEnds, TellsItems}
+use Rattle.jser_reader.specs.ItemsTold.{TokenEnds, TellsItems}
 use Rattle.jser_reader.specs.Passes.{HaltCases, PassTells, Passes, IsQuiet, CanPass}
 use Rattle.jser_reader.specs.ReaderStates.{HasRefused, IsSpent, NextCases, NextTells}
 use Rattle.jser_reader.specs.States.{AnswersStop, stop_after}
@@ -49,13 +47,11 @@ use Rattle.jser_reader.proofs.CutLemmas.{four_taken}
 use Rattle.jser_reader.proofs.TextLemmas.{value_ends}
 use Rattle.jser_reader.proofs.TextSteps.{short_text_taken}
 use Rattle.jser_reader.proofs.PhaseLemmas.{is_open, whole_open}
-use Rattle.jser_reader.proofs.ReaderLemmas.{bytes_front}
-use Rattle.jser_reader.proofs.NextLemmas.{CountsToken}
 use Rattle.jser_reader.proofs.MemoryLemmas.{are_assigned}
 use Rattle.jser_reader.proofs.ItemStands.{OpenItems, stands_items}
 use Rattle.jser_reader.proofs.ItemCalls.{machine_stands, comes_next, token_ended, lends_end, tells_end}
-use Rattle.jser_reader.proofs.PassLemmas.{quiet_refs, quiet_top, quiet_tally}
-use Rattle.jser_reader.proofs.WholeLemmas.{place_is_one, tag_taken, rest_can, CountsMarks, of_marks, same_end, same_meter, begun_reference, reference_begins, reference_passes, begun_string, string_begins, string_passes, begun_owner, owner_begins, at_class, class_tag_taken, with_class, same_class, TellsClass, second_is, two_on, owner_passes}
+use Rattle.jser_reader.proofs.PassLemmas.{quiet_next}
+use Rattle.jser_reader.proofs.WholeLemmas.{place_is_one, tag_taken, rest_can, same_end, same_meter, begun_reference, reference_begins, reference_passes, begun_string, string_begins, string_passes, begun_owner, owner_begins, at_class, class_tag_taken, with_class, same_class, TellsClass, second_is, two_on, owner_passes}
 
 -- ---- the tag
 
@@ -80,19 +76,13 @@ makes_tag _ piece b r i e is some = absurd i
 tag_tells : (gate : Gate) (t : ValueTag) (piece : List ℕ) (r m : Seen) (before after : Tally) → IsGate gate → CanPass r piece → IsPlace r.phase
     → 0 < length piece → tag_byte (view_tag t) ≡ get_or piece 0 0
     → Tells (place_reason (farther r 1) (view_tag t)) (after_tag (farther r 1) (view_tag t)) flow.On (farther r 1) m
-    → CountsToken r m before after → TellsItems gate piece (Ok (step.Item (item.Tag (tag_byte (view_tag t))) 1)) r before m after
+    → CountsNext r (tag_byte (view_tag t)) before after → TellsItems gate piece (Ok (step.Item (item.Tag (tag_byte (view_tag t))) 1)) r before m after
 tag_tells gate t piece r m before after g can i some first h c =
     tells_end (step.Item (item.Tag (tag_byte (view_tag t))) 1) (open_phase r) (cut_of r) 1 (taken.Ended 1) piece piece gate r m before after
     (one_taken (tag_byte (view_tag t)) flow.On (taken.Ended 1) piece r m (tag_taken r.phase t r m i refl h) refl first some (place_is_one r.phase i) gate)
-    refl c g can.within can.all_bytes refl refl refl (makes_tag r.phase piece (tag_byte (view_tag t)) r i refl first some)
+    refl (subst (λ b. CountsNext r b before after) first c) g can.within can.all_bytes refl refl refl (makes_tag r.phase piece (tag_byte (view_tag t)) r i refl first some)
 
 -- ---- a token with which no count changes
-
-pub same_tally : (gate : Gate) (used : ℕ) (given : List ℕ) (old new : Seen) (tally : Tally) (tokens : List Piece) (cut : List ℕ) → StandsIn gate tokens cut old tally
-    → Takes gate (take used given) flow.On old new → IsQuiet old.phase → CanPass old given → tally ≡ tally_after (mark_of old) (mark_of new) tally
-same_tally gate used given old new tally tokens cut st t q can =
-    sym (quiet_tally (mark_of old) (mark_of new) tally (quiet_top old.phase q)
-    (quiet_refs gate old new (joined tokens ++ cut) (take used given) t (bytes_front used given can.all_bytes) st.counted.taken q))
 
 quiet_tells : (gate : Gate) (lent : Item) (used : ℕ) (given : List ℕ) (old new : Seen) (tally : Tally) → TakesFromFor gate (taken.Ended used) given old new
     → IsQuiet old.phase → CanPass old given → MakesItem (open_phase old) (cut_of old) (take used given) lent
@@ -100,7 +90,7 @@ quiet_tells : (gate : Gate) (lent : Item) (used : ℕ) (given : List ℕ) (old n
 unfolding TakesFromFor TellsItems
 quiet_tells gate lent used given old new tally k q can m = λ tokens cut st.
     lends_end gate given given used lent old new tally tally tokens cut st can.within k.1 can.all_bytes k.2 k.3
-    (same_tally gate used given old new tally tokens cut st k.2 q can) m
+    (sym (quiet_next old (get_or (take used given) 0 0) tally q)) m
 
 -- ---- a reference
 
@@ -108,13 +98,12 @@ makes_handle : (piece : List ℕ) (n : ℕ) → n < 2 ^ 32 → big_bytes 4 n ≡
 unfolding MakesItem
 makes_handle piece n small spelled = λ _. ap item.Handle (sym (number_4 n small) ∙ ap number_of spelled)
 
-pub reference_tells : (gate : Gate) (n : ℕ) (piece : List ℕ) (old far new : Seen) (m1 m2 : Mark) (before after : Tally) → IsGate gate → CanPass old piece → IsPlace old.phase
+pub reference_tells : (gate : Gate) (n : ℕ) (piece : List ℕ) (old far new : Seen) (before after : Tally) → IsGate gate → CanPass old piece → IsPlace old.phase
     → 0x71 ≡ get_or piece 0 0 → HasNumber piece n → n < 2 ^ 32 → HasPlace old → (n < 0x7E0000 → ⊥) → (length old.table.entries ≤ n - 0x7E0000 → ⊥)
-    → far ≡ placed old 5 → Comes far new (after_value far) → m1 ≡ mark_of old → m2 ≡ mark_of far → CountsMarks m1 m2 before after
+    → far ≡ placed old 5 → Comes far new (after_value far) → CountsNext old 0x71 before after
     → TellsReference gate piece n old before new after
-reference_tells gate n piece old far new m1 m2 before after g can i first h small p low high ef end e1 e2 count =
+reference_tells gate n piece old far new before after g can i first h small p low high ef end count =
     let comes : Comes (placed old 5) new (after_value (placed old 5)) = subst (λ r. Comes r new (after_value r)) ef end in
-    let counts = of_marks m1 m2 (mark_of old) (mark_of (placed old 5)) before after e1 (e2 ∙ ap mark_of ef) count in
     let enough = h.within in
     let m : Seen = begun_reference old in
     let rest : List ℕ = drop 1 piece in
@@ -124,7 +113,7 @@ reference_tells gate n piece old far new m1 m2 before after g can i first h smal
     record {
       within = h.within;
       between = m;
-      tag = tag_tells gate value.Reference piece old m before after g can i (omega arith) first (reference_begins old p) counts;
+      tag = tag_tells gate value.Reference piece old m before after g can i (omega arith) first (reference_begins old p) count;
       assigned = are_assigned gate (length old.table.entries) m after refl;
       number =
           quiet_tells gate (item.Handle n) 4 rest m new after
@@ -132,7 +121,7 @@ reference_tells gate n piece old far new m1 m2 before after g can i first h smal
           (takes_back_handle n 4 flow.On m (farther m 4) new (right_handle n flow.On (farther m 4) new ends refl low high) refl refl (omega arith) small)
           refl tt h.spelled refl (omega arith) gate)
           tt (rest_can piece old m can (omega arith) refl refl) (makes_handle rest n small h.spelled);
-      tells = (reference_passes gate n piece old far new m1 m2 before after g can i first h small p low high ef end e1 e2 count).tells;
+      tells = (reference_passes gate n piece old far new before after g can i first h small p low high ef end count).tells;
     }
 
 -- ---- a string
@@ -162,17 +151,21 @@ text_tells gate text given m new tally t enough bytes ep can = λ tokens cut st.
       ends =
           subst (λ c. TokenEnds gate tokens (label_of s) (c ++ take (2 + length text) given) new tally) none
           (token_ended gate given given (2 + length text) m new tally tally tokens cut st can.within enough can.all_bytes t
-          (same_tally gate (2 + length text) given m new tally tokens cut st t (subst IsQuiet (sym ep) tt) can));
+          (sym (quiet_next m (get_or (take (2 + length text) given) 0 0) tally (subst IsQuiet (sym ep) tt))));
     }
 
-pub string_tells : (gate : Gate) (len : ℕ) (piece text : List ℕ) (old mid far new : Seen) (m1 m2 : Mark) (before after : Tally) → IsGate gate → CanPass old piece → IsPlace old.phase
+-- its tag counts the same after its handle was assigned
+pub string_counts : (old mid : Seen) (before after : Tally) → AssignsText true old mid → CountsNext mid 0x74 before after → CountsNext old 0x74 before after
+unfolding AssignsText tag_from
+string_counts old mid before after assigns h = subst (λ r. CountsNext r 0x74 before after) assigns.1 h
+
+pub string_tells : (gate : Gate) (len : ℕ) (piece text : List ℕ) (old mid far new : Seen) (before after : Tally) → IsGate gate → CanPass old piece → IsPlace old.phase
     → 0x74 ≡ get_or piece 0 0 → HasText piece len → HasPlace old → AssignsText true old mid
-    → far ≡ placed mid (len + 3) → Comes far new (after_value far) → m1 ≡ mark_of old → m2 ≡ mark_of far → CountsMarks m1 m2 before after
+    → far ≡ placed mid (len + 3) → Comes far new (after_value far) → CountsNext old 0x74 before after
     → text ≡ take len (drop 3 piece) → TellsString gate piece text old before new after
 unfolding AssignsText
-string_tells gate len piece text old mid far new m1 m2 before after g can i first h p assigns ef end e1 e2 counted is =
+string_tells gate len piece text old mid far new before after g can i first h p assigns ef end counted is =
     let comes : Comes (placed mid (len + 3)) new (after_value (placed mid (len + 3))) = subst (λ r. Comes r new (after_value r)) ef end in
-    let counts = of_marks m1 m2 (mark_of old) (mark_of (placed mid (len + 3))) before after e1 (e2 ∙ ap mark_of ef) counted in
     let enough = h.within in
     let m : Seen = begun_string old in
     let k : Seen = added old text_entry in
@@ -186,7 +179,6 @@ string_tells gate len piece text old mid far new m1 m2 before after g can i firs
     subst (λ b. Comes (placed k b) new (after_value (placed k b))) (sym e) (subst (λ r. Comes (placed r (len + 3)) new (after_value (placed r (len + 3)))) assigns.1 comes) in
     let ends : Comes (farther m (2 + len)) new (after_value (farther m (2 + len))) =
     same_end (placed k (2 + len + 1)) (farther m (2 + len)) new come (same_meter old (2 + len)) refl refl refl refl in
-    let count : CountsToken old m before after = subst (λ r. CountsMarks (mark_of old) (mark_of (placed r (len + 3))) before after) assigns.1 counts in
     let body : Takes gate (take (2 + len) rest) flow.On m new =
     short_text_taken gate m (farther m (2 + len)) new (take (2 + len) rest) h.units
     (λ inside. value_ends gate flow.On (farther m (2 + len)) new ends refl refl h.units (record { inside = inside; kept = λ checked. absurd (cc) }))
@@ -195,14 +187,14 @@ string_tells gate len piece text old mid far new m1 m2 before after g can i firs
     record {
       within = omega arith;
       between = m;
-      tag = tag_tells gate value.String piece old m before after g can i (omega arith) first (string_begins old p assigns.0) count;
+      tag = tag_tells gate value.String piece old m before after g can i (omega arith) first (string_begins old p assigns.0) counted;
       assigned = are_assigned gate (suc (length old.table.entries)) m after (omega arith);
       body =
           text_tells gate text rest m new after (subst (λ j. Takes gate (take (2 + j) rest) flow.On m new) (sym long) body) (omega arith)
           (is ∙ text_bytes piece len (omega arith) ∙ ap (λ j. drop 2 (take (2 + j) rest)) (sym long)) refl (rest_can piece old m can (omega arith) refl refl);
       tells =
           subst (λ j. PassTells gate piece (Some (j + 3)) old before new after) (sym long)
-          (string_passes gate len piece old mid far new m1 m2 before after g can i first h p assigns ef end e1 e2 counted).tells;
+          (string_passes gate len piece old mid far new before after g can i first h p assigns ef end counted).tells;
     }
 
 -- ---- the beginning of what has a class
@@ -215,14 +207,13 @@ makes_class_handle : (piece : List ℕ) (n : ℕ) → n < 2 ^ 32 → big_bytes 4
 unfolding MakesItem
 makes_class_handle piece n small spelled = λ _. ap item.Handle (sym (number_4 n small) ∙ ap number_of spelled)
 
-pub owner_told : (gate : Gate) (o : Owner) (n : ℕ) (found : Flow) (piece : List ℕ) (old mid new : Seen) (m1 m2 : Mark) (before after : Tally) → IsGate gate → CanPass old piece
+pub owner_told : (gate : Gate) (o : Owner) (n : ℕ) (found : Flow) (piece : List ℕ) (old mid new : Seen) (before after : Tally) → IsGate gate → CanPass old piece
     → IsPlace old.phase → tag_byte (view_tag (tag_of_owner o)) ≡ get_or piece 0 0 → HasReference piece n → n < 2 ^ 32 → HasPlace old
-    → mid ≡ with_class o old → TellsClass n found mid new → m1 ≡ mark_of old → m2 ≡ mark_of mid → CountsMarks m1 m2 before after
+    → mid ≡ with_class o old → TellsClass n found mid new → CountsNext old (tag_byte (view_tag (tag_of_owner o))) before after
     → OwnerCases gate piece (get_or piece 0 0) n found old before new after
-owner_told gate o n flow.Stopped piece old mid new m1 m2 before after g can i first h small p em told e1 e2 count =
-    owner_passes gate o n flow.Stopped piece old mid new m1 m2 before after g can i first h small p em told e1 e2 count
-owner_told gate o n flow.On piece old mid new m1 m2 before after g can i first h small p em told e1 e2 count =
-    let counts = of_marks m1 m2 (mark_of old) (mark_of (with_class o old)) before after e1 (e2 ∙ ap mark_of em) count in
+owner_told gate o n flow.Stopped piece old mid new before after g can i first h small p em told count =
+    owner_passes gate o n flow.Stopped piece old mid new before after g can i first h small p em told count
+owner_told gate o n flow.On piece old mid new before after g can i first h small p em told count =
     let enough = h.within in
     let m : Seen = begun_owner o old in
     let k : Seen = at_class m in
@@ -240,7 +231,7 @@ owner_told gate o n flow.On piece old mid new m1 m2 before after g can i first h
       second = k;
       own =
           subst (λ b. TellsItems gate piece (Ok (step.Item (item.Tag b) 1)) old before m after) first
-          (tag_tells gate (tag_of_owner o) piece old m before after g can i (omega arith) first (owner_begins o old p) counts);
+          (tag_tells gate (tag_of_owner o) piece old m before after g can i (omega arith) first (owner_begins o old p) count);
       assigned = are_assigned gate (length old.table.entries) m after refl;
       place =
           quiet_tells gate (item.Tag 0x71) 1 rest m k after
@@ -253,7 +244,7 @@ owner_told gate o n flow.On piece old mid new m1 m2 before after g can i first h
           (takes_class_handle n 4 flow.On k (farther k 4) new class refl refl (omega arith) small)
           refl tt spelled refl (omega arith) gate)
           tt can_k (makes_class_handle last n small spelled);
-      tells = (owner_passes gate o n flow.On piece old mid new m1 m2 before after g can i first h small p em told e1 e2 count).tells;
+      tells = (owner_passes gate o n flow.On piece old mid new before after g can i first h small p em told count).tells;
     }
 
 -- ---- the machine stops within it

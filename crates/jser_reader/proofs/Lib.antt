@@ -43,9 +43,10 @@ pub mod MemoryLemmas
 pub mod LengthLemmas
 pub mod SkipLemmas
 pub mod GoalCounts
-pub mod MarkLemmas
+pub mod LabelLemmas
 pub mod DepthLemmas
 pub mod CountLemmas
+pub mod CountSteps
 pub mod TotalLemmas
 pub mod ItemLemmas
 pub mod ItemStands

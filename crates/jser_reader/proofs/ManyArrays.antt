@@ -10,6 +10,7 @@ use Rattle.jser_table.specs.Codes.{PrimCode, size_of}
 use Rattle.jser_table.specs.Entries.{other_entry}
 use Rattle.jser_table.specs.Fits.{fit_of}
 use Rattle.jser_table.specs.Tables.{IsClass}
+use Rattle.jser_reading.specs.Labels.{array_tag}
 use Rattle.jser_verdict.specs.Gates.{Gate, IsGate}
 use Rattle.jser_verdict.specs.Verdicts.{array_reason}
 use Rattle.jser_reader.specs.declared.machine.flow.Flow.TheVariants as flow
@@ -28,7 +29,6 @@ use Rattle.jser_reader.specs.Passes.{Passes}
 use Rattle.jser_reader.specs.Readers.{Seen, Ready}
 use Rattle.jser_reader.specs.Steps.{after_value}
 use Rattle.jser_reader.specs.Takes.{farther}
-use Rattle.jser_reader.specs.Tallies.{mark_of}
 use Rattle.jser_reader.specs.Wholes.{HasPlace, HasReference}
 use Rattle.jser_reader.proofs.ArrayLemmas.{raw_elements, value_state, no_elements, some_raw, some_values}
 use Rattle.jser_reader.proofs.ClassLemmas.{right_class}
@@ -83,9 +83,9 @@ length_passes gate piece n chain count old k before next b full g told =
     let at : m.meter.at ≡ r.meter.at + 6 = omega arith in
     let is : IsArrayClass r n chain = record { low = b.is.low; is_class = b.is.is_class; fits = b.is.fits } in
     then_passes gate rest last 6 4 r m next (tally_at old.meter.at before k) (tally_at old.meter.at before (with_place k 10)) (tally_at old.meter.at before (with_place k 10))
-    (owner_passes gate owner.Array n flow.On rest r mid m (mark_of r) (mark_of mid) (tally_at old.meter.at before k) (tally_at old.meter.at before (with_place k 10)) g
-    can (place_on old.frames) (tag_there piece k.used 0x75 b.tag) b.class b.small b.place refl (class_told r n chain is full) refl refl
-    (λ _ _. place_counted piece before old mid k 10 b.holds refl (λ none. none)))
+    (owner_passes gate owner.Array n flow.On rest r mid m (tally_at old.meter.at before k) (tally_at old.meter.at before (with_place k 10)) g
+    can (place_on old.frames) (tag_there piece k.used 0x75 b.tag) b.class b.small b.place refl (class_told r n chain is full)
+    (λ _ _. place_counted piece before old k 10 array_tag b.holds))
     (quiet_end gate 4 (taken.Ended 4) last m next (tally_at old.meter.at before (with_place k 10))
     (four_taken count flow.On (taken.Ended 4) last (take 4 last) m next
     (takes_array_length count 4 flow.On m (farther m 4) next told refl refl (omega arith) (omega arith))

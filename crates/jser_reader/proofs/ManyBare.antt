@@ -9,6 +9,7 @@ use Rattle.jser_table.specs.Entries.{other_entry}
 use Rattle.jser_table.specs.Fits.{fit_of}
 use Rattle.jser_table.specs.Sections.{AreSections}
 use Rattle.jser_table.specs.Tables.{IsClass}
+use Rattle.jser_reading.specs.Labels.{object_tag}
 use Rattle.jser_reader.specs.declared.machine.flow.Flow.TheVariants as flow
 use Rattle.jser_reader.specs.declared.frame.Frame.TheVariants as frame
 use Rattle.jser_reader.specs.declared.frame.Owner.TheVariants as owner
@@ -22,7 +23,6 @@ use Rattle.jser_reader.specs.Passes.{Passes}
 use Rattle.jser_reader.specs.Readers.{Seen}
 use Rattle.jser_reader.specs.Steps.{after_value}
 use Rattle.jser_reader.specs.Takes.{counted_on}
-use Rattle.jser_reader.specs.Tallies.{mark_of}
 use Rattle.jser_reader.specs.Wholes.{HasPlace, HasReference}
 use Rattle.jser_reader.proofs.ClassLemmas.{right_class}
 use Rattle.jser_reader.proofs.WholeLemmas.{assigned_other}
@@ -85,12 +85,12 @@ bare_leads piece n chain old k b full plain none =
       can = rest_can piece old k b.holds.holds more;
       meter = refl;
       to = λ gate g before next comes kept.
-          owner_passes gate owner.Object n flow.On (drop k.used piece) r mid next (mark_of r) (mark_of mid) (tally_at old.meter.at before k) (tally_at old.meter.at before (with_place k 6)) g
+          owner_passes gate owner.Object n flow.On (drop k.used piece) r mid next (tally_at old.meter.at before k) (tally_at old.meter.at before (with_place k 6)) g
           (rest_can piece old k b.holds.holds more) (place_on old.frames) (tag_there piece k.used 0x73 b.tag) b.class b.small b.place refl
           (class_told r next n chain is full
           (bare_object old.table.chains (chain_in old.table.chains chain) flow.On (begins r) next none refl plain comes.ready (comes.meter ∙ same_meter old k)
           (record { table = kept.table; layers = kept.layers; refs = kept.refs })))
-          refl refl (λ _ _. place_counted piece before old mid k 6 b.holds refl (λ none. none));
+          (λ _ _. place_counted piece before old k 6 object_tag b.holds);
     }
 
 pub bare_turn : (piece : List ℕ) (n chain : ℕ) (old new : Seen) (k j : Counts) → ObjectBegins piece n chain old k → is_external (chain_in old.table.chains chain) ≡ false
@@ -148,12 +148,12 @@ external_turn piece n chain old new k i j b external assigns ei ej =
         passes = λ gate g before.
             subst (λ t. Passes gate (drop k.used piece) (Some 6) (seen_at old k) (tally_at old.meter.at before k) (seen_at new j) t)
             (ap₂ (tally_with old.meter.at before) (sym items) (sym deepest))
-            (owner_passes gate owner.Object n flow.On (drop k.used piece) r mid (seen_at new j) (mark_of r) (mark_of mid) (tally_at old.meter.at before k) (tally_at old.meter.at before (with_place k 6)) g
+            (owner_passes gate owner.Object n flow.On (drop k.used piece) r mid (seen_at new j) (tally_at old.meter.at before k) (tally_at old.meter.at before (with_place k 6)) g
             (rest_can piece old k b.holds.holds more) (place_on old.frames) (tag_there piece k.used 0x73 b.tag) b.class b.small b.place refl
             (class_told r (seen_at new j) n chain is assigns.0
             (external_object (chain_in old.table.chains chain) flow.On flow.On (begins r) (pushed (begins r) frame.ExternalNotes) (seen_at new j) (pushed_frame (begins r)) refl refl external
             (ap phase_on (ap (λ r. r.frames) en)) (ap (λ r. r.frames) en) (ap (λ r. r.layers) en) (ap (λ r. r.table) en) (ap (λ x. x.refs) e) meter))
-            refl refl (λ _ _. place_counted piece before old mid k 6 b.holds refl (λ none. none)));
+            (λ _ _. place_counted piece before old k 6 object_tag b.holds));
         nothing = λ none. absurd (omega arith);
       },
       record {

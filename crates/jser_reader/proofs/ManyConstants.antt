@@ -10,6 +10,7 @@ use Rattle.jser_table.specs.Chains.{chain_in}
 use Rattle.jser_table.specs.Entries.{TableEntry, is_text, other_entry}
 use Rattle.jser_table.specs.Fits.{fit_of}
 use Rattle.jser_table.specs.Tables.{IsClass}
+use Rattle.jser_reading.specs.Labels.{enum_tag}
 use Rattle.jser_reader.specs.declared.machine.flow.Flow.TheVariants as flow
 use Rattle.jser_reader.specs.declared.frame.Owner.TheVariants as owner
 use Rattle.jser_reader.specs.declared.machine.many.counts.Counts.{Counts}
@@ -24,7 +25,6 @@ use Rattle.jser_reader.specs.Many.{seen_at, tally_at, HoldsNext, with_place, Lea
 use Rattle.jser_reader.specs.Readers.{Seen}
 use Rattle.jser_reader.specs.Steps.{after_value}
 use Rattle.jser_reader.specs.Takes.{counted_on, farther}
-use Rattle.jser_reader.specs.Tallies.{mark_of}
 use Rattle.jser_reader.specs.Wholes.{HasPlace, HasReference}
 use Rattle.jser_reader.proofs.ClassLemmas.{right_class}
 use Rattle.jser_reader.proofs.CutLemmas.{four_taken}
@@ -129,8 +129,8 @@ constant_leads piece n name old k b full =
           same_end (seen_at (added old other_entry) (with_place k 11)) far next comes
           (ap (λ x. record { at = x; from = x; limits = old.meter.limits; stop = old.meter.stop; cut_phase = old.meter.cut_phase; kept = old.meter.kept }) (sym at)) refl refl refl refl in
           then_passes gate rest last 6 5 r m next (tally_at old.meter.at before k) told told
-          (owner_passes gate owner.EnumConst n flow.On rest r mid m (mark_of r) (mark_of mid) (tally_at old.meter.at before k) told g can (place_on old.frames) (tag_there piece k.used 0x7E b.tag) b.class b.small b.place
-          refl (class_told r n is full) refl refl (λ _ _. place_counted piece before old mid k 11 b.holds refl (λ none. none)))
+          (owner_passes gate owner.EnumConst n flow.On rest r mid m (tally_at old.meter.at before k) told g can (place_on old.frames) (tag_there piece k.used 0x7E b.tag) b.class b.small b.place
+          refl (class_told r n is full) (λ _ _. place_counted piece before old k 11 enum_tag b.holds))
           (then_passes gate last (drop 1 last) 1 4 m q next told told told
           (quiet_end gate 1 (taken.Ended 1) last m q told
           (one_taken 0x71 flow.On (taken.Ended 1) last m q

@@ -1,10 +1,13 @@
 -- The loop over whole values: from one place in the piece to another.
-use Rattle.std.proofs.Common.{◌≡◌, ℕ, zero, suc, ◌+◌, ◌-◌, ◌^◌, ◌<◌, ◌≤◌, ◌==◌, Bool, true, false, nat_lt, max, ◌&&◌, if◌then◌else◌, List, [], ◌∷◌, length, drop, Some, refl, sym, ◌∙◌, ap, subst, arith}
+use Rattle.std.proofs.Common.{◌≡◌, ℕ, suc, ◌+◌, ◌-◌, ◌^◌, ◌<◌, ◌≤◌, ◌==◌, Bool, true, false, max, if◌then◌else◌, List, [], ◌∷◌, length, drop, Some, refl, sym, ◌∙◌, ap, ap₂, subst, arith}
 use Rattle.std.proofs.lemmas.Bool.{eqb-true}
 use Rattle.std.proofs.lemmas.Bool.Decides.{nat_tests}
 use Rattle.std.proofs.lemmas.List.{drop-drop}
 use Rattle.jser_reading.specs.Goals.{State}
-use Rattle.jser_reading.specs.Totals.{one_more_if, number_if}
+use Rattle.jser_reading.specs.Labels.{Tag}
+use Rattle.jser_reading.specs.TokenBytes.{tag_byte}
+use Rattle.jser_reading.specs.TokensFromBytes.{tag_from}
+use Rattle.jser_reading.specs.Totals.{number_if}
 use Rattle.jser_reader.specs.declared.frame.Frame.{Frame}
 use Rattle.jser_reader.specs.declared.frame.Frame.TheVariants as frame
 use Rattle.jser_reader.specs.declared.machine.many.counts.Begun.{Begun}
@@ -12,12 +15,13 @@ use Rattle.jser_reader.specs.declared.machine.many.counts.Counts.{Counts}
 use Rattle.jser_reader.specs.declared.phase.Phase.TheVariants as phase
 use Rattle.jser_reader.specs.declared.tally.Tally.{Tally}
 use Rattle.jser_reader.specs.Handlers.{moved}
-use Rattle.jser_reader.specs.Many.{phase_on, seen_at, begun_at, tally_at, Holds, HoldsNext, with_content, with_place, content_ended, LeadsTo, Goes}
+use Rattle.jser_reader.specs.Many.{phase_on, seen_at, begun_at, tally_at, tally_with, Holds, HoldsNext, with_content, with_place, with_block, content_ended, LeadsTo, Goes}
 use Rattle.jser_reader.specs.Passes.{Passes, CanPass}
 use Rattle.jser_reader.specs.Readers.{Seen, Ready}
 use Rattle.jser_reader.specs.Takes.{counted_on}
-use Rattle.jser_reader.specs.Tallies.{is_top, mark_of, tally_after}
+use Rattle.jser_reader.specs.Tallies.{is_top, may_count, content_begun, with_token, with_tag, tally_next}
 use Rattle.jser_reader.specs.Wholes.{IsPlace, HasPlace}
+use Rattle.jser_reader.proofs.CountSteps.{tag_found, block_found, end_found}
 use Rattle.jser_reader.proofs.PassLemmas.{then_passes, passes_at_top}
 use Rattle.jser_reader.proofs.RawLemmas.{can_after}
 
@@ -57,15 +61,6 @@ meter_there r k size used e =
 
 -- ---- the counts
 
-pub one_more : (b : Bool) (n items : ℕ) → n + (items + number_if b 1) ≡ one_more_if b (n + items)
-one_more true n items = omega arith
-one_more false n items = omega arith
-
-pub none_new : (b : Bool) (n k : ℕ) → (k ≡ 0 → n ≡ 0) → number_if (b && k == 0) n ≡ 0
-none_new false n k none = refl
-none_new true n zero none = none refl
-none_new true n (suc k) none = let some : (suc k == 0) ≡ false = grind (arith, nat_tests) in ap (λ b. number_if (true && b) n) some
-
 pub tally_is : (c e d b c' e' d' b' : ℕ) → c ≡ c' → e ≡ e' → d ≡ d' → b ≡ b'
     → (let x : Tally = record { contents = c; earlier = e; depth = d; begun = b } in let y : Tally = record { contents = c'; earlier = e'; depth = d'; begun = b' } in x ≡ y)
 tally_is c e d b c' e' d' b' ec ee ed eb =
@@ -79,27 +74,52 @@ begun_here true at before used items h =
     let some : (items.count + 1 == 0) ≡ false = grind (arith, nat_tests) in ap (λ x. if x then before else at + items.last) some ∙ ap (λ n. at + n) (h refl)
 begun_here false at before used items h = let none : items.count + 0 ≡ items.count = omega arith in ap (λ n. if n == 0 then before else at + items.last) none
 
-pub last_begun : (old : Seen) (k : Counts) (before : ℕ) → (k.depth ≡ 0 → k.items.last ≡ k.used) → is_top (phase_on old.frames) ≡ (k.depth == 0)
-    → begun_at old.meter.at before (with_content k.items (k.depth == 0)) ≡ (if is_top (phase_on old.frames) then old.meter.at + k.used else begun_at old.meter.at before k.items)
-last_begun old k before here top =
-    begun_here (k.depth == 0) old.meter.at before k.used k.items (λ e. here (eqb-true k.depth 0 e))
-    ∙ ap (λ b. if b then old.meter.at + k.used else begun_at old.meter.at before k.items) (sym top)
+-- a content or a value comes next, of which counts are made
+counts_on : (fs : List Frame) → may_count (phase_on fs) ≡ true
+counts_on [] = refl
+counts_on (frame.Elements left ∷ fs) = refl
+counts_on (frame.Fields last section pos prims values ∷ fs) = refl
+counts_on (frame.Notes last section ∷ fs) = refl
+counts_on (frame.ExternalNotes ∷ fs) = refl
+counts_on (frame.Descriptor number role ∷ fs) = refl
+
+-- a content begins, if the loop is at the top
+content_counted : (at used deepest : ℕ) (before : Tally) (items : Begun) (b : Bool) → (b ≡ true → items.last ≡ used)
+    → tally_with at before (with_content items b) deepest ≡ (if b then content_begun (tally_with at before items deepest) (at + used) else tally_with at before items deepest)
+content_counted at used deepest before items true h =
+    tally_is _ _ _ _ _ _ _ _ (let more : before.contents + (items.count + 1) ≡ suc (before.contents + items.count) = omega arith in more) refl refl (begun_here true at before.begun used items h)
+content_counted at used deepest before items false h =
+    ap (λ n. tally_with at before (record { count = n; last = items.last }) deepest) (let none : items.count + 0 ≡ items.count = omega arith in none)
+
+-- what a tag counts there
+tag_counted : (piece : List ℕ) (before : Tally) (old : Seen) (k : Counts) (tag deepest : ℕ) → HoldsNext piece old k
+    → tally_with old.meter.at before k.items deepest ≡ with_token (seen_at old k) (tag_from tag) (tally_at old.meter.at before k)
+    → tally_with old.meter.at before (with_content k.items (k.depth == 0)) deepest ≡ tally_next (seen_at old k) tag (tally_at old.meter.at before k)
+tag_counted piece before old k tag deepest h is =
+    let top : is_top (phase_on old.frames) ≡ (k.depth == 0) = top_on old.frames ∙ ap (λ n. n == 0) (sym h.holds.depth) in
+    content_counted old.meter.at k.used deepest before k.items (k.depth == 0) (λ e. h.top (eqb-true k.depth 0 e))
+    ∙ ap₂ (λ b t. if b then content_begun t (old.meter.at + k.used) else t) (sym top) is
+    ∙ ap (λ b. if b then with_tag (seen_at old k) (tag_from tag) (tally_at old.meter.at before k) else tally_at old.meter.at before k) (sym (counts_on old.frames))
 
 -- those of a place
-pub place_counted : (piece : List ℕ) (before : Tally) (old far : Seen) (k : Counts) (size : ℕ) → HoldsNext piece old k → far.refs ≡ suc k.refs
-    → (length far.table.entries ≡ 0 → length old.table.entries ≡ 0)
-    → tally_at old.meter.at before (with_place k size) ≡ tally_after (mark_of (seen_at old k)) (mark_of far) (tally_at old.meter.at before k)
-place_counted piece before old far k size h er none =
-    let ed = h.holds.depth in
-    let top : is_top (phase_on old.frames) ≡ (k.depth == 0) = top_on old.frames ∙ ap (λ n. n == 0) (sym ed) in
-    let zero_more = none_new (is_top (phase_on old.frames)) (length old.table.entries) (length far.table.entries) none in
-    let same : before.earlier ≡ before.earlier + 0 = omega arith in
-    let one : nat_lt k.refs far.refs ≡ true = grind (arith, nat_tests) in
-    tally_is _ _ _ _ _ _ _ _
-    (one_more (k.depth == 0) before.contents k.items.count ∙ ap (λ b. one_more_if b (before.contents + k.items.count)) (sym top))
-    (same ∙ ap (λ n. before.earlier + n) (sym zero_more))
-    (ap (λ n. max k.deepest (suc n)) ed ∙ ap (λ b. max k.deepest (number_if b (suc (length old.frames)))) (sym one))
-    (last_begun old k before.begun h.top top)
+pub place_counted : (piece : List ℕ) (before : Tally) (old : Seen) (k : Counts) (size : ℕ) (t : Tag) → HoldsNext piece old k
+    → tally_at old.meter.at before (with_place k size) ≡ tally_next (seen_at old k) (tag_byte t) (tally_at old.meter.at before k)
+place_counted piece before old k size t h =
+    tag_counted piece before old k (tag_byte t) (max k.deepest (suc k.depth)) h
+    (ap (λ n. tally_with old.meter.at before k.items (max k.deepest (suc n))) h.holds.depth
+    ∙ ap (λ found. with_token (seen_at old k) found (tally_at old.meter.at before k)) (sym (tag_found t)))
+
+-- those of a block, and of the end of an annotation
+
+pub block_counted : (piece : List ℕ) (before : Tally) (old : Seen) (k : Counts) (size : ℕ) → HoldsNext piece old k
+    → tally_at old.meter.at before (with_block k size) ≡ tally_next (seen_at old k) 0x77 (tally_at old.meter.at before k)
+block_counted piece before old k size h =
+    tag_counted piece before old k 0x77 k.deepest h (ap (λ found. with_token (seen_at old k) found (tally_at old.meter.at before k)) (sym (block_found false)))
+
+pub end_counted : (piece : List ℕ) (before : Tally) (old : Seen) (k : Counts) (size : ℕ) → HoldsNext piece old k
+    → tally_at old.meter.at before (with_block k size) ≡ tally_next (seen_at old k) 0x78 (tally_at old.meter.at before k)
+end_counted piece before old k size h =
+    tag_counted piece before old k 0x78 k.deepest h (ap (λ found. with_token (seen_at old k) found (tally_at old.meter.at before k)) (sym end_found))
 
 pub items_within : (b : Bool) (items used size : ℕ) → items ≤ used → 0 < size → items + number_if b 1 ≤ used + size
 items_within true items used size le some = omega arith

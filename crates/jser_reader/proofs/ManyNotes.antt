@@ -1,10 +1,9 @@
 -- The loop over whole values: blocks, and the ends of annotations.
-use Rattle.std.proofs.Common.{◌≡◌, ℕ, suc, ◌+◌, ◌-◌, ◌<◌, ◌≤◌, ◌==◌, false, nat_lt, max, List, [], ◌∷◌, length, get_or, drop, refl, sym, ◌∙◌, ap, subst, arith}
+use Rattle.std.proofs.Common.{◌≡◌, ℕ, suc, ◌+◌, ◌-◌, ◌<◌, ◌≤◌, ◌==◌, false, List, [], ◌∷◌, length, get_or, drop, refl, sym, ◌∙◌, ap, subst, arith}
 use Rattle.std.proofs.Common.{get_or-drop}
 use Rattle.std.proofs.lemmas.Bool.Decides.{nat_tests}
 use Rattle.std.proofs.lemmas.List.{length-drop}
 use Rattle.jser_reading.specs.Goals.{Part, section_parts, settle}
-use Rattle.jser_reading.specs.Totals.{one_more_if, number_if}
 use Rattle.jser_table.specs.Sections.{under}
 use Rattle.jser_reader.specs.declared.machine.flow.Flow.TheVariants as flow
 use Rattle.jser_reader.specs.declared.frame.Frame.{Frame}
@@ -21,37 +20,16 @@ use Rattle.jser_reader.specs.Readers.{Seen, Ready, moment_of}
 use Rattle.jser_reader.specs.Stacks.{tail_of}
 use Rattle.jser_reader.specs.Steps.{before_parts, after_value}
 use Rattle.jser_reader.specs.Takes.{farther, IsOne}
-use Rattle.jser_reader.specs.Tallies.{is_top, mark_of, tally_after}
+use Rattle.jser_reader.specs.Tallies.{tally_next}
 use Rattle.jser_reader.specs.Many.{without_top}
 use Rattle.jser_reader.proofs.ManyEnds.{leads_same, leads_raws, stands_there, used_holds}
-use Rattle.jser_reader.proofs.ManyLemmas.{last_begun, place_on, top_on, rest_can, tally_is, one_more, none_new, items_within, leads_there, holds_inside}
+use Rattle.jser_reader.proofs.ManyLemmas.{place_on, rest_can, items_within, leads_there, holds_inside, block_counted, end_counted}
 use Rattle.jser_reader.proofs.ManyPlain.{tag_there, ends_there}
 use Rattle.jser_reader.proofs.ManySections.{no_raws}
 use Rattle.jser_reader.proofs.PassLemmas.{passes_end}
 use Rattle.jser_reader.proofs.TagLemmas.{note_end}
 use Rattle.jser_reader.proofs.TakeLemmas.{takes_note, one_taken}
 use Rattle.jser_reader.proofs.WholeLemmas.{block_passes}
-
--- ---- no place begins
-
-not_less : (n m : ℕ) → m ≡ n → nat_lt n m ≡ false
-not_less n m e = grind (arith, nat_tests)
-
--- the counts of a token where no place begins
-pub no_place_counted : (piece : List ℕ) (before : Tally) (old far : Seen) (k : Counts) (size : ℕ) → HoldsNext piece old k → far.refs ≡ k.refs → far.table.entries ≡ old.table.entries
-    → tally_at old.meter.at before (with_block k size) ≡ tally_after (mark_of (seen_at old k)) (mark_of far) (tally_at old.meter.at before k)
-no_place_counted piece before old far k size h er et =
-    let ed = h.holds.depth in
-    let top : is_top (phase_on old.frames) ≡ (k.depth == 0) = top_on old.frames ∙ ap (λ n. n == 0) (sym ed) in
-    let zero_more = none_new (is_top (phase_on old.frames)) (length old.table.entries) (length far.table.entries) (λ none. ap length (sym et) ∙ none) in
-    let same : before.earlier ≡ before.earlier + 0 = omega arith in
-    let none = not_less k.refs far.refs er in
-    let deep : k.deepest ≡ max k.deepest 0 = omega arith in
-    tally_is _ _ _ _ _ _ _ _
-    (one_more (k.depth == 0) before.contents k.items.count ∙ ap (λ b. one_more_if b (before.contents + k.items.count)) (sym top))
-    (same ∙ ap (λ n. before.earlier + n) (sym zero_more))
-    (deep ∙ ap (λ b. max k.deepest (number_if b (suc (length old.frames)))) (sym none))
-    (last_begun old k before.begun h.top top)
 
 -- ---- a block
 
@@ -69,10 +47,10 @@ block_ends piece len old k j h room tag second enough other ej =
       can = rest_can piece old k h.holds more;
       meter = refl;
       to = λ gate g before next comes kept.
-          block_passes gate len (drop k.used piece) r (farther r (len + 2)) next (mark_of r) (mark_of (farther r (len + 2))) (tally_at old.meter.at before k) (tally_at old.meter.at before (with_block k (len + 2))) g
+          block_passes gate len (drop k.used piece) r (farther r (len + 2)) next (tally_at old.meter.at before k) (tally_at old.meter.at before (with_block k (len + 2))) g
           (rest_can piece old k h.holds more) (place_on old.frames) other (tag_there piece k.used 0x77 tag) (second ∙ sym (get_or-drop k.used piece 1 0)) (omega arith) refl
-          (ends_there old (farther r (len + 2)) old next k (with_block k (len + 2)) (len + 2) refl refl refl refl refl refl refl comes) refl refl
-          (λ _ _. no_place_counted piece before old (farther r (len + 2)) k (len + 2) h refl refl);
+          (ends_there old (farther r (len + 2)) old next k (with_block k (len + 2)) (len + 2) refl refl refl refl refl refl refl comes)
+          (λ _ _. block_counted piece before old k (len + 2) h);
     })
 
 pub block_turn : (piece : List ℕ) (len : ℕ) (old : Seen) (k j : Counts) → HoldsNext piece old k → k.used + 6 ≤ length piece → 0x77 ≡ get_or piece k.used 0 → len ≡ get_or piece (k.used + 1) 0
@@ -118,14 +96,14 @@ one_byte old next k parts left comes =
 inside_depth : (fs : List Frame) (f : Frame) → fs ≡ f ∷ tail_of fs → (length fs == 0) ≡ false
 inside_depth fs f e = let n : length fs ≡ suc (length (tail_of fs)) = ap length e in grind (arith, nat_tests)
 
-notes_counted : (piece : List ℕ) (before : Tally) (old next : Seen) (k : Counts) (f : Frame) → HoldsNext piece old k → old.frames ≡ f ∷ tail_of old.frames → next.refs ≡ k.refs → next.table ≡ old.table
-    → tally_at old.meter.at before (with_used k 1) ≡ tally_after (mark_of (seen_at old k)) (mark_of next) (tally_at old.meter.at before k)
-notes_counted piece before old next k f h e er et =
+notes_counted : (piece : List ℕ) (before : Tally) (old : Seen) (k : Counts) (f : Frame) → HoldsNext piece old k → old.frames ≡ f ∷ tail_of old.frames
+    → tally_at old.meter.at before (with_used k 1) ≡ tally_next (seen_at old k) 0x78 (tally_at old.meter.at before k)
+notes_counted piece before old k f h e =
     let inside : (k.depth == 0) ≡ false = ap (λ n. n == 0) h.holds.depth ∙ inside_depth old.frames f e in
     let none : k.items.count ≡ k.items.count + 0 = omega arith in
     ap (λ n. tally_with old.meter.at before (record { count = n; last = k.items.last }) k.deepest) none
     ∙ ap (λ b. tally_with old.meter.at before (with_content k.items b) k.deepest) (sym inside)
-    ∙ no_place_counted piece before old next k 1 h er (ap (λ t. t.entries) et)
+    ∙ end_counted piece before old k 1 h
 
 notes_lead : (piece : List ℕ) (old : Seen) (k : Counts) (f : Frame) (parts : List Part) → HoldsNext piece old k → k.used + 6 ≤ length piece → 0x78 ≡ get_or piece k.used 0
     → old.frames ≡ f ∷ tail_of old.frames → phase_on old.frames ≡ phase.Note → IsLeft (farther (seen_at old k) 1) parts
@@ -145,7 +123,7 @@ notes_lead piece old k f parts h room tag e ep left =
           (one_taken 0x78 flow.On (taken.Ended 1) (drop k.used piece) r next
           (takes_note 0x78 flow.On r (farther r 1) next (λ _. note_end 0x78 flow.On (farther r 1) next refl (one_byte old next k parts left comes) refl) refl ep)
           refl (tag_there piece k.used 0x78 tag) (omega arith) (subst IsOne (sym ep) tt) gate)
-          refl (λ _ _. notes_counted piece before old next k f h e kept.refs kept.table) g (rest_can piece old k h.holds more);
+          refl (λ _ _. notes_counted piece before old k f h e ∙ ap (λ b. tally_next r b (tally_at old.meter.at before k)) (tag_there piece k.used 0x78 tag)) g (rest_can piece old k h.holds more);
     }
 
 none_state : (old new : Seen) (i j : Counts) → new ≡ without_top old → j.refs ≡ i.refs → before_parts (seen_at old i) (tail_of old.frames) [] ≡ after_value (seen_at new j)

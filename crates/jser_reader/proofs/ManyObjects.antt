@@ -9,6 +9,7 @@ use Rattle.jser_table.specs.Chains.{chain_in}
 use Rattle.jser_table.specs.Entries.{other_entry}
 use Rattle.jser_table.specs.Sections.{layer_of, under}
 use Rattle.jser_reading.specs.Goals.{Part, section_parts, settle}
+use Rattle.jser_reading.specs.Labels.{object_tag}
 use Rattle.jser_reader.specs.declared.machine.flow.Flow.TheVariants as flow
 use Rattle.jser_reader.specs.declared.frame.Frame.{Frame}
 use Rattle.jser_reader.specs.declared.frame.Frame.TheVariants as frame
@@ -25,7 +26,6 @@ use Rattle.jser_reader.specs.Many.{seen_at, tally_at, HoldsNext, with_place, wit
 use Rattle.jser_reader.specs.Readers.{Seen, Ready}
 use Rattle.jser_reader.specs.Steps.{Kept, before_parts, after_value, PartGives}
 use Rattle.jser_reader.specs.Takes.{counted_on}
-use Rattle.jser_reader.specs.Tallies.{mark_of}
 use Rattle.jser_reader.specs.Many.{without_top}
 use Rattle.jser_reader.specs.Wholes.{HasPlace, HasReference}
 use Rattle.jser_reader.proofs.ClassLemmas.{right_class}
@@ -147,12 +147,12 @@ object_leads piece n old k sections h p room tag class small c full =
       can = rest_can piece old k h.holds more;
       meter = refl;
       to = λ gate g before next comes kept.
-          owner_passes gate owner.Object n flow.On (drop k.used piece) r mid next (mark_of r) (mark_of mid) (tally_at old.meter.at before k) (tally_at old.meter.at before (with_place k 6)) g
+          owner_passes gate owner.Object n flow.On (drop k.used piece) r mid next (tally_at old.meter.at before k) (tally_at old.meter.at before (with_place k 6)) g
           (rest_can piece old k h.holds more) (place_on old.frames) (tag_there piece k.used 0x73 tag) class small p refl
           (class_told r next n 0 sections
           (record { chain = c.chain; low = c.low; is_class = c.is_class; fits = c.fits; plain = c.plain; are = c.are }) full comes.ready
           (record { table = kept.table; layers = kept.layers; refs = kept.refs }) (comes.meter ∙ same))
-          refl refl (λ _ _. place_counted piece before old mid k 6 h refl (λ none. none));
+          (λ _ _. place_counted piece before old k 6 object_tag h);
     }
 
 -- ---- all of it, as far as its first value

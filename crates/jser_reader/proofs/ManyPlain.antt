@@ -1,10 +1,10 @@
 -- The loop over whole values: values without a class.
-use Rattle.std.proofs.Common.{◌≡◌, ℕ, ◌+◌, ◌-◌, ◌^◌, ◌<◌, ◌≤◌, true, List, [], ◌∷◌, length, get_or, take, drop, refl, sym, ◌∙◌, ap, subst, arith}
+use Rattle.std.proofs.Common.{◌≡◌, ℕ, ◌+◌, ◌-◌, ◌^◌, ◌<◌, ◌≤◌, true, List, length, get_or, take, drop, refl, sym, ◌∙◌, ap, subst, arith}
 use Rattle.std.proofs.Common.{get_or-drop}
-use Rattle.std.proofs.lemmas.List.{length-drop, length-append, drop-drop}
+use Rattle.std.proofs.lemmas.List.{length-drop, drop-drop}
 use Rattle.jser_prim.specs.Bytes.{big_bytes}
 use Rattle.jser_table.specs.Entries.{text_entry}
-use Rattle.jser_reading.specs.Labels.{null_tag}
+use Rattle.jser_reading.specs.Labels.{null_tag, reference_tag, string_tag}
 use Rattle.jser_reader.specs.declared.machine.flow.Flow.TheVariants as flow
 use Rattle.jser_reader.specs.declared.machine.many.counts.Counts.{Counts}
 use Rattle.jser_reader.specs.declared.machine.many.counts.Turn.TheVariants as turn
@@ -14,7 +14,6 @@ use Rattle.jser_reader.specs.Many.{seen_at, tally_at, HoldsNext, with_place, Lea
 use Rattle.jser_reader.specs.Readers.{Seen}
 use Rattle.jser_reader.specs.Steps.{after_value}
 use Rattle.jser_reader.specs.Takes.{counted_on, farther}
-use Rattle.jser_reader.specs.Tallies.{mark_of}
 use Rattle.jser_reader.specs.Wholes.{HasPlace, HasNumber, HasText, AssignsText, placed}
 use Rattle.jser_reader.proofs.ManyLemmas.{place_on, rest_can, meter_there, place_counted, place_holds}
 use Rattle.jser_reader.proofs.ValueLemmas.{null_begun, counted_tag}
@@ -71,7 +70,7 @@ null_ends piece old k j h p more tag ej = subst (λ j. LeadsTo piece old k old j
       (omega arith) (tag_there piece k.used 0x70 tag)
       (counted_tag null_tag flow.On (farther r 1) far next
       (null_begun flow.On far next (ends_there old far old next k (with_place k 1) 1 refl refl refl refl refl refl refl comes) refl) refl (λ over. absurd (omega arith)) (λ over. absurd (omega arith)))
-      (λ _ _. place_counted piece before old next k 1 h kept.refs (λ none. sym (ap (λ t. length t.entries) kept.table) ∙ none));
+      (λ _ _. place_counted piece before old k 1 null_tag h);
 })
 
 pub back_ends : (piece : List ℕ) (n : ℕ) (old : Seen) (k j : Counts) → HoldsNext piece old k → HasPlace (seen_at old k) → k.used < length piece → 0x71 ≡ get_or piece k.used 0
@@ -85,16 +84,11 @@ back_ends piece n old k j h p more tag is small low high ej = subst (λ j. Leads
   meter = refl;
   to = λ gate g before next comes kept.
       let r : Seen = seen_at old k in
-      reference_passes gate n (drop k.used piece) r (placed r 5) next (mark_of r) (mark_of (placed r 5)) (tally_at old.meter.at before k) (tally_at old.meter.at before (with_place k 5)) g
+      reference_passes gate n (drop k.used piece) r (placed r 5) next (tally_at old.meter.at before k) (tally_at old.meter.at before (with_place k 5)) g
       (rest_can piece old k h.holds more) (place_on old.frames) (tag_there piece k.used 0x71 tag) is small p low high refl
-      (ends_there old (placed r 5) old next k (with_place k 5) 5 refl refl refl refl refl refl refl comes) refl refl
-      (λ _ _. place_counted piece before old (placed r 5) k 5 h refl (λ none. none));
+      (ends_there old (placed r 5) old next k (with_place k 5) 5 refl refl refl refl refl refl refl comes)
+      (λ _ _. place_counted piece before old k 5 reference_tag h);
 })
-
-no_entry_lost : (r : Seen) → length (added r text_entry).table.entries ≡ 0 → length r.table.entries ≡ 0
-no_entry_lost r none =
-    let b = length-append r.table.entries (text_entry ∷ []) in
-    omega arith
 
 pub string_ends : (piece rest : List ℕ) (len : ℕ) (old new : Seen) (k j : Counts) → HoldsNext piece old k → HasPlace (seen_at old k) → k.used < length piece → 0x74 ≡ get_or piece k.used 0
     → rest ≡ drop k.used piece → HasText rest len → AssignsText true old new → j ≡ with_place k (len + 3) → Ends piece old k new j
@@ -112,10 +106,10 @@ string_ends piece rest len old new k j h p more tag er is assigns ej =
       can = rest_can piece old k h.holds more;
       meter = refl;
       to = λ gate g before next comes kept.
-          string_passes gate len (drop k.used piece) r mid far next (mark_of r) (mark_of far) (tally_at old.meter.at before k) (tally_at old.meter.at before (with_place k (len + 3))) g
+          string_passes gate len (drop k.used piece) r mid far next (tally_at old.meter.at before k) (tally_at old.meter.at before (with_place k (len + 3))) g
           (rest_can piece old k h.holds more) (place_on old.frames) (tag_there piece k.used 0x74 tag) (subst (λ xs. HasText xs len) er is) p (assigns.0, refl) refl
-          (ends_there old far (added old text_entry) next k (with_place k (len + 3)) (len + 3) refl refl refl refl refl refl refl comes) refl refl
-          (λ _ _. place_counted piece before old far k (len + 3) h refl (no_entry_lost r));
+          (ends_there old far (added old text_entry) next k (with_place k (len + 3)) (len + 3) refl refl refl refl refl refl refl comes)
+          (λ _ _. place_counted piece before old k (len + 3) string_tag h);
     }))
 
 -- ---- the turns

@@ -1,5 +1,5 @@
 -- What a reader answers to a piece, and at the end.
-use Rattle.std.proofs.Common.{◌≡◌, ℕ, suc, ◌+◌, ◌<◌, ◌≤◌, ◌^◌, List, [], ◌∷◌, ◌++◌, length, take, Result, Ok, Err, refl, sym, ◌∙◌, ap, subst, arith, append-nil, length-append, length-take-le}
+use Rattle.std.proofs.Common.{◌≡◌, ℕ, suc, ◌+◌, ◌<◌, ◌≤◌, ◌^◌, List, [], ◌∷◌, ◌++◌, length, take, get_or, false, Result, Ok, Err, refl, sym, ◌∙◌, ap, subst, arith, append-nil, length-append, length-take-le}
 use Rattle.jser_grammar.specs.Parts.{IsBytes}
 use Rattle.jser_reading.specs.Machine.{left, begin_state}
 use Rattle.jser_reading.specs.Goals.{settled}
@@ -8,6 +8,7 @@ use Rattle.jser_reader.specs.declared.machine.flow.Flow.TheVariants as flow
 use Rattle.jser_reader.specs.declared.item.Step.{Step}
 use Rattle.jser_reader.specs.declared.item.Totals.{Totals}
 use Rattle.jser_reader.specs.declared.item.Step.TheVariants as step
+use Rattle.jser_reader.specs.declared.phase.Phase.{Phase}
 use Rattle.jser_reader.specs.declared.phase.Phase.TheVariants as phase
 use Rattle.jser_reader.specs.declared.refusal.Reason.TheVariants as reason
 use Rattle.jser_reader.specs.declared.refusal.Refusal.{Refusal}
@@ -17,10 +18,10 @@ use Rattle.jser_reader.specs.Readers.{Seen}
 use Rattle.jser_reader.specs.Handlers.{StopsWith, refusal}
 use Rattle.jser_reader.specs.declared.gate.Limits.{Limits}
 use Rattle.jser_reader.specs.Gates.{AreLimitsOf}
-use Rattle.jser_reader.specs.Walks.{IsNew, gate_with, Takes, Keeps, StandsAt}
+use Rattle.jser_reader.specs.Walks.{size_of_phase, IsNew, gate_with, Takes, Keeps, StandsAt, open_in, cut_of}
 use Rattle.jser_reader.specs.declared.tally.Tally.{Tally}
-use Rattle.jser_reader.specs.Tallies.{no_tally, mark_of, tally_after, tally_stopped, whole_of, HasCounted, totals_of, AreTotals}
-use Rattle.jser_reader.specs.Takes.{TakenCases, TakesFromFor}
+use Rattle.jser_reader.specs.Tallies.{no_tally, may_count, begun_next, tally_next, CountsNext, tally_stopped, whole_of, HasCounted, totals_of, AreTotals}
+use Rattle.jser_reader.specs.Takes.{IsPart, TakenCases, TakesFromFor}
 use Rattle.jser_reader.specs.declared.machine.take.taken.Taken.{Taken}
 use Rattle.jser_reader.specs.declared.machine.take.taken.Taken.TheVariants as taken
 use Rattle.jser_reader.specs.States.{HasLimits, IsWithin, AnswersStop, stop_after, exceeded}
@@ -29,8 +30,8 @@ use Rattle.jser_reader.specs.WholeContents.{IsWhole, StaysWhole}
 use Rattle.jser_reader.proofs.JoinLemmas.{kept_none}
 use Rattle.jser_reader.proofs.StreamWalks.{ends_only_at_top}
 use Rattle.jser_reader.proofs.AnswerLemmas.{truncates}
-use Rattle.jser_reader.proofs.CountLemmas.{new_counts, counts_within}
-use Rattle.jser_reader.proofs.TotalLemmas.{token_counts, goes_on_counts, finish_totals}
+use Rattle.jser_reader.proofs.CountLemmas.{new_counts, counts_within, counts_fit}
+use Rattle.jser_reader.proofs.TotalLemmas.{first_taken, token_counts, goes_on_counts, finish_totals}
 use Rattle.jser_reader.proofs.ReaderLemmas.{token_stops, never_spent, has_stopped, over, over_whole, limit_is, take_whole, bytes_front, front_of_front}
 use Rattle.jser_reader.proofs.WholeContentLemmas.{stopped_whole, whole_stopped, whole_below}
 
@@ -44,25 +45,17 @@ pub is_part : (gate : Gate) (used : ℕ) (took : Taken) (front : List ℕ) (old 
 unfolding TakesFromFor
 is_part gate used took front old new h e = (subst (λ x. TakenCases gate x front old new) e h).1
 
--- the tally, where a token has ended
-abbrev pub CountsToken : (old new : Seen) (before after : Tally) → Type 0
-CountsToken old new before after =
-    before.contents + 1 < 2 ^ 64 → before.earlier + (mark_of old).entries < 2 ^ 64 → after ≡ tally_after (mark_of old) (mark_of new) before
-
 pub next_item : (result : Step) (used : ℕ) (piece front : List ℕ) (gate : Gate) (old new : Seen) (before after : Tally) → IsWithin old piece front → IsBytes piece → 0 < used
-    → used ≤ length front → Takes gate (take used front) flow.On old new → CountsToken old new before after → IsGate gate → IsItem used result
+    → used ≤ length front → Takes gate (take used front) flow.On old new → CountsNext old (get_or front 0 0) before after → IsGate gate → IsItem used result
     → NextTells gate piece (Ok result) old before new after
 unfolding NextTells StandsFor
 next_item step.More used piece front gate old new before after w h some le t k g i = absurd i
 next_item (step.Item item count) used piece front gate old new before after w h some le t k g i = λ bytes st.
     let x = token_counts gate bytes piece front used old new before w le h t st.0 st.1 in
     let s = w.short in
-    let n = counts_within gate bytes old before st.0 in
-    let c = n.0 in
-    let e = n.1 in
-    let l = st.1 in
-    let cap = g.0 in
-    let same : after ≡ tally_after (mark_of old) (mark_of new) before = k (omega arith) (omega arith) in (
+    let fit = counts_fit gate bytes old before st.0 st.1 g in
+    let same : after ≡ tally_next old (get_or (take used piece) 0 0) before =
+    k fit.0 (fit.1 _) ∙ ap (λ b. tally_next old b before) (sym (first_taken old piece front used w le some)) in (
       omega arith,
       omega arith,
       subst (λ n. HasCounted gate (bytes ++ take n piece) new after × (length (bytes ++ take n piece) ≤ gate.bytes)) (sym i)
@@ -100,7 +93,7 @@ spent_after : (r : Seen) (why : Stop) → r.phase ≡ phase.Stopped → r.meter.
 spent_after r why ep es e = (ep, es ∙ ap stop_after e)
 
 pub next_stops : (why : Stop) (used : ℕ) (piece front : List ℕ) (gate : Gate) (old mid new : Seen) (before after : Tally) → IsWithin old piece front → IsBytes piece → 0 < used → used ≤ length front
-    → Takes gate (take used front) flow.Stopped old mid → AnswersStop why mid new → after ≡ tally_stopped (mark_of old) before → NextTells gate piece (Err why) old before new after
+    → Takes gate (take used front) flow.Stopped old mid → AnswersStop why mid new → after.begun ≡ begun_next old before → NextTells gate piece (Err why) old before new after
 unfolding NextTells StandsFor HasRefused IsSpent
 next_stops why used piece front gate old mid new before after w h some le t a ea = λ bytes st. go bytes st.0 st.1 why refl
   where
@@ -112,7 +105,7 @@ next_stops why used piece front gate old mid new before after w h some le t a ea
         let s = w.short in
         let whole : StaysWhole gate (bytes ++ take used piece) after.begun =
         stopped_whole gate old mid bytes (take used piece) refusal after.begun (subst (λ xs. Takes gate xs flow.Stopped old mid) (front_of_front old piece front used w le) t) es
-        (bytes_front used piece h) st.taken (subst (λ x. IsWhole gate bytes x.begun) (sym ea) (st.whole room)) in (
+        (bytes_front used piece h) st.taken (subst (IsWhole gate bytes) (sym ea) (st.whole room)) in (
           used,
           omega arith,
           x,
@@ -130,7 +123,7 @@ next_stops why used piece front gate old mid new before after w h some le t a ea
 pub next_over : (why : Stop) (piece front : List ℕ) (gate : Gate) (old mid new : Seen) (before after : Tally) → IsWithin old piece front → IsBytes piece → length front < length piece
     → Keeps gate front old mid
     → (mid.meter.at + 1 < 2 ^ 64 → (why ≡ exceeded mid.meter) × StopsWith (exceeded mid.meter) mid new)
-    → IsGate gate → after ≡ tally_stopped (mark_of mid) before → NextTells gate piece (Err why) old before new after
+    → IsGate gate → after ≡ tally_stopped mid before → NextTells gate piece (Err why) old before new after
 unfolding NextTells StandsFor HasRefused
 next_over why piece front gate old mid new before after w h more k x g ea = λ bytes st.
     let t : take (length front) front ≡ front = take_whole front in
@@ -158,7 +151,7 @@ next_over why piece front gate old mid new before after w h more k x g ea = λ b
 
 pub next_full : (why : Stop) (piece front : List ℕ) (gate : Gate) (old new : Seen) (before after : Tally) → IsWithin old piece front → IsBytes piece → length front ≡ 0 → 0 < length piece
     → (old.meter.at + 1 < 2 ^ 64 → (why ≡ exceeded old.meter) × StopsWith (exceeded old.meter) old new)
-    → IsGate gate → after ≡ tally_stopped (mark_of old) before → NextTells gate piece (Err why) old before new after
+    → IsGate gate → after ≡ tally_stopped old before → NextTells gate piece (Err why) old before new after
 next_full why piece front gate old new before after w h none some x g ea =
     next_over why piece front gate old old new before after w h (omega arith) (no_bytes_kept front none) x g ea
   where
@@ -169,37 +162,70 @@ next_full why piece front gate old new before after w h none some x g ea =
 -- ---- the same of what came of a piece
 
 pub step_item : (result : Step) (used : ℕ) (took : Taken) (piece front : List ℕ) (gate : Gate) (old new : Seen) (before after : Tally) → TakesFromFor gate took front old new
-    → took ≡ taken.Ended used → CountsToken old new before after → IsGate gate → IsWithin old piece front → IsBytes piece → IsItem used result
+    → took ≡ taken.Ended used → CountsNext old (get_or front 0 0) before after → IsGate gate → IsWithin old piece front → IsBytes piece → IsItem used result
     → NextTells gate piece (Ok result) old before new after
 unfolding TakesFromFor
 step_item result used took piece front gate old new before after k e c g w h i =
     let t = subst (λ x. TakenCases gate x front old new) e k in next_item result used piece front gate old new before after w h t.0 t.1 t.2 c g i
 
-pub step_part : (result : Step) (used : ℕ) (took : Taken) (piece front : List ℕ) (gate : Gate) (old new : Seen) (tally : Tally) → TakesFromFor gate took front old new
-    → took ≡ taken.Part used → IsWithin old piece front → IsBytes piece → IsItem used result → NextTells gate piece (Ok result) old tally new tally
-unfolding TakesFromFor
-step_part result used took piece front gate old new tally k e w h i =
-    let t = subst (λ x. TakenCases gate x front old new) e k in next_part result used piece front gate old new tally w h t.0 t.1 t.2 i
+-- a tag with which counts may change does not stay open
 
-pub step_more : (took : Taken) (piece front : List ℕ) (gate : Gate) (old new : Seen) (tally : Tally) → TakesFromFor gate took front old new → took ≡ taken.Open → IsWithin old piece front → IsBytes piece
-    → (length front < length piece → ⊥) → NextTells gate piece (Ok step.More) old tally new tally
+part_quiet : (p cut_phase : Phase) (kept piece : List ℕ) (count : ℕ) → IsPart (open_in p cut_phase) kept piece count → may_count p ≡ false
+part_quiet phase.Top cut_phase kept piece count h = absurd h
+part_quiet phase.Note cut_phase kept piece count h = absurd h
+part_quiet phase.Value cut_phase kept piece count h = absurd h
+part_quiet phase.SuperTag cut_phase kept piece count h = absurd h
+part_quiet phase.Stopped cut_phase kept piece count h = absurd h
+part_quiet _ cut_phase kept piece count h = refl
+
+open_quiet : (p cut_phase : Phase) → 1 < size_of_phase (open_in p cut_phase) → may_count p ≡ false
+open_quiet phase.Top cut_phase h = absurd (omega arith)
+open_quiet phase.Note cut_phase h = absurd (omega arith)
+open_quiet phase.Value cut_phase h = absurd (omega arith)
+open_quiet phase.SuperTag cut_phase h = absurd (omega arith)
+open_quiet phase.Stopped cut_phase h = absurd (omega arith)
+open_quiet _ cut_phase h = refl
+
+pub kept_open : (took : Taken) (front : List ℕ) (gate : Gate) (old new : Seen) (before after : Tally) → TakesFromFor gate took front old new → took ≡ taken.Open
+    → (may_count old.phase ≡ false → after ≡ before) → after ≡ before
 unfolding TakesFromFor
-step_more took piece front gate old new tally k e w h long = next_more piece front gate old new tally w h long (subst (λ x. TakenCases gate x front old new) e k).0
+kept_open took front gate old new before after k e q = q (open_quiet old.phase old.meter.cut_phase (subst (λ x. TakenCases gate x front old new) e k).1.some)
+
+pub kept_part : (used : ℕ) (took : Taken) (front : List ℕ) (gate : Gate) (old new : Seen) (before after : Tally) → TakesFromFor gate took front old new → took ≡ taken.Part used
+    → (may_count old.phase ≡ false → after ≡ before) → after ≡ before
+unfolding TakesFromFor
+kept_part used took front gate old new before after k e q =
+    q (part_quiet old.phase old.meter.cut_phase (cut_of old) front used (subst (λ x. TakenCases gate x front old new) e k).3)
+
+pub step_part : (result : Step) (used : ℕ) (took : Taken) (piece front : List ℕ) (gate : Gate) (old new : Seen) (before after : Tally) → TakesFromFor gate took front old new
+    → took ≡ taken.Part used → (may_count old.phase ≡ false → after ≡ before) → IsWithin old piece front → IsBytes piece → IsItem used result → NextTells gate piece (Ok result) old before new after
+unfolding TakesFromFor
+step_part result used took piece front gate old new before after k e q w h i =
+    let t = subst (λ x. TakenCases gate x front old new) e k in
+    subst (NextTells gate piece (Ok result) old before new) (sym (kept_part used took front gate old new before after k e q)) (next_part result used piece front gate old new before w h t.0 t.1 t.2 i)
+
+pub step_more : (took : Taken) (piece front : List ℕ) (gate : Gate) (old new : Seen) (before after : Tally) → TakesFromFor gate took front old new → took ≡ taken.Open
+    → (may_count old.phase ≡ false → after ≡ before) → IsWithin old piece front → IsBytes piece → (length front < length piece → ⊥) → NextTells gate piece (Ok step.More) old before new after
+unfolding TakesFromFor
+step_more took piece front gate old new before after k e q w h long =
+    subst (NextTells gate piece (Ok step.More) old before new) (sym (kept_open took front gate old new before after k e q))
+    (next_more piece front gate old new before w h long (subst (λ x. TakenCases gate x front old new) e k).0)
 
 pub step_stops : (why : Stop) (used : ℕ) (took : Taken) (piece front : List ℕ) (gate : Gate) (old mid new : Seen) (before after : Tally) → TakesFromFor gate took front old mid
-    → took ≡ taken.Stopped used → AnswersStop why mid new → IsWithin old piece front → IsBytes piece → after ≡ tally_stopped (mark_of old) before
+    → took ≡ taken.Stopped used → AnswersStop why mid new → IsWithin old piece front → IsBytes piece → after.begun ≡ begun_next old before
     → NextTells gate piece (Err why) old before new after
 unfolding TakesFromFor
 step_stops why used took piece front gate old mid new before after k e a w h ea =
     let t = subst (λ x. TakenCases gate x front old mid) e k in next_stops why used piece front gate old mid new before after w h t.0 t.1 t.2 a ea
 
-pub step_over : (why : Stop) (took : Taken) (piece front : List ℕ) (gate : Gate) (old mid new : Seen) (before after : Tally) → TakesFromFor gate took front old mid
-    → took ≡ taken.Open → (mid.meter.at + 1 < 2 ^ 64 → (why ≡ exceeded mid.meter) × StopsWith (exceeded mid.meter) mid new)
-    → IsWithin old piece front → IsBytes piece → length front < length piece → IsGate gate → after ≡ tally_stopped (mark_of mid) before
+pub step_over : (why : Stop) (took : Taken) (piece front : List ℕ) (gate : Gate) (old mid new : Seen) (before between after : Tally) → TakesFromFor gate took front old mid
+    → took ≡ taken.Open → (may_count old.phase ≡ false → between ≡ before) → (mid.meter.at + 1 < 2 ^ 64 → (why ≡ exceeded mid.meter) × StopsWith (exceeded mid.meter) mid new)
+    → IsWithin old piece front → IsBytes piece → length front < length piece → IsGate gate → after ≡ tally_stopped mid between
     → NextTells gate piece (Err why) old before new after
 unfolding TakesFromFor
-step_over why took piece front gate old mid new before after k e x w h more g ea =
-    next_over why piece front gate old mid new before after w h more (subst (λ x. TakenCases gate x front old mid) e k).0 x g ea
+step_over why took piece front gate old mid new before between after k e q x w h more g ea =
+    subst (λ t. NextTells gate piece (Err why) old t new after) (kept_open took front gate old mid before between k e q)
+    (next_over why piece front gate old mid new between after w h more (subst (λ x. TakenCases gate x front old mid) e k).0 x g ea)
 
 pub item_progress : (result : Step) (used : ℕ) (took : Taken) (piece front : List ℕ) (gate : Gate) (old new : Seen) → TakesFromFor gate took front old new
     → took ≡ taken.Ended used → IsWithin old piece front → IsItem used result → HasProgress piece result
@@ -260,7 +286,7 @@ pub whole_known : (gate : Gate) (n : ℕ) (r : Seen) (tally : Tally) → n ≡ w
 unfolding WholeTold StandsFor
 whole_known gate n r tally e = λ bytes st. subst (IsWhole gate bytes) (sym e) (st.0.whole st.1)
 
-pub whole_at_end : (gate : Gate) (why : Stop) (old new : Seen) (before after : Tally) → StopsWith why old new → after ≡ tally_stopped (mark_of old) before → WholeAtEnd gate old before new after
+pub whole_at_end : (gate : Gate) (why : Stop) (old new : Seen) (before after : Tally) → StopsWith why old new → after ≡ tally_stopped old before → WholeAtEnd gate old before new after
 unfolding WholeAtEnd StandsFor
 whole_at_end gate why old new before after h ea = λ bytes st.
     subst (IsWhole gate bytes) (sym (ap (λ t. t.begun) ea) ∙ sym (whole_stopped new after h.phase)) (st.0.whole st.1)

@@ -1,43 +1,32 @@
 -- A step of `skip`: what was taken of a piece, token after token.
-use Rattle.std.proofs.Common.{◌≡◌, ℕ, zero, suc, ◌+◌, ◌-◌, ◌^◌, ◌<◌, ◌≤◌, ◌==◌, Bool, true, false, nat_lt, max, ◌&&◌, if◌then◌else◌, List, [], ◌∷◌, ◌++◌, length, take, drop, Option, Some, None, Result, Ok, Err, refl, sym, ◌∙◌, ap, subst, arith, append_assoc, append-nil, length-append}
+use Rattle.std.proofs.Common.{◌≡◌, ℕ, ◌+◌, ◌-◌, ◌^◌, ◌<◌, ◌≤◌, Bool, true, false, nat_lt, if◌then◌else◌, List, ◌++◌, length, take, drop, get_or, Option, Some, None, Result, Ok, Err, refl, sym, ◌∙◌, ap, subst, arith, append_assoc, append-nil, length-append}
 use Rattle.std.proofs.lemmas.Bool.Decides.{nat_tests}
 use Rattle.std.proofs.lemmas.List.{length-take-le, take-append-drop}
-use Rattle.jser_table.specs.declared.layer.Layer.{Layer}
 use Rattle.jser_grammar.specs.Parts.{IsBytes}
-use Rattle.jser_reading.specs.Labels.{StreamToken, Position, Label, Piece}
+use Rattle.jser_reading.specs.Labels.{Position, Label, Piece}
 use Rattle.jser_reading.specs.TokenBytes.{joined}
-use Rattle.jser_reading.specs.TokensFromBytes.{size_in}
-use Rattle.jser_reading.specs.Goals.{State, Goal, interfaces_goal, settled}
-use Rattle.jser_reading.specs.Roles.{Role as GoalRole}
-use Rattle.jser_reading.specs.Moments.{Moment}
-use Rattle.jser_reading.specs.Accepts.{label_of}
+use Rattle.jser_reading.specs.TokensFromBytes.{tag_from, size_in}
+use Rattle.jser_reading.specs.Goals.{State}
 use Rattle.jser_reading.specs.Machine.{begin_state, left}
 use Rattle.jser_reading.specs.ComesNext.{ComesNext}
-use Rattle.jser_reading.specs.GateLimits.{begins_place}
-use Rattle.jser_reading.specs.Totals.{one_more_if, count_of, number_if}
-use Rattle.jser_verdict.specs.Gates.{Gate, IsGate, pass}
+use Rattle.jser_verdict.specs.Gates.{Gate, IsGate}
+use Rattle.jser_reader.specs.declared.machine.flow.Flow.{Flow}
 use Rattle.jser_reader.specs.declared.machine.flow.Flow.TheVariants as flow
 use Rattle.jser_reader.specs.declared.item.Item.TheVariants as item
 use Rattle.jser_reader.specs.declared.item.Step.TheVariants as step
 use Rattle.jser_reader.specs.declared.machine.pass.passed.Passed.{Passed}
 use Rattle.jser_reader.specs.declared.machine.take.taken.Taken.{Taken}
 use Rattle.jser_reader.specs.declared.machine.take.taken.Taken.TheVariants as taken
-use Rattle.jser_reader.specs.declared.frame.Frame.{Frame}
-use Rattle.jser_reader.specs.declared.frame.Frame.TheVariants as frame
 use Rattle.jser_reader.specs.declared.phase.Phase.{Phase}
 use Rattle.jser_reader.specs.declared.phase.Phase.TheVariants as phase
-use Rattle.jser_reader.specs.declared.phase.TextFor.{TextFor}
-use Rattle.jser_reader.specs.declared.phase.TextFor.TheVariants as text
 use Rattle.jser_reader.specs.declared.refusal.Stop.{Stop}
 use Rattle.jser_reader.specs.declared.refusal.Stop.TheVariants as stop
 use Rattle.jser_reader.specs.declared.tally.Tally.{Tally}
-use Rattle.jser_reader.specs.declared.tally.Mark.{Mark}
 use Rattle.jser_reader.specs.Memory.{IsCheckedName, EndsInside, MayRunOut}
-use Rattle.jser_reader.specs.Fitting.{HasDescriptor}
-use Rattle.jser_reader.specs.Readers.{Seen, moment_of, top_role, top_number, fields_goals, text_goal, text_rest, superclass_handle_goals, ReadyAt}
-use Rattle.jser_reader.specs.Walks.{size_of_phase, StandsAt, HasTaken, StopTold, Takes, Keeps}
-use Rattle.jser_reader.specs.Takes.{TakenCases, TakesFromFor}
-use Rattle.jser_reader.specs.Tallies.{is_top, mark_of, tally_after, tally_stopped, CountsTaken, HasCounted}
+use Rattle.jser_reader.specs.Readers.{Seen}
+use Rattle.jser_reader.specs.Walks.{StopTold, Takes, Keeps}
+use Rattle.jser_reader.specs.Takes.{IsOne, TakenCases, TakesFromFor, TakesByte}
+use Rattle.jser_reader.specs.Tallies.{may_count, begun_next, with_tag, tally_next, CountsNext, tally_stopped, HasCounted}
 use Rattle.jser_reader.specs.Handlers.{StopsWith}
 use Rattle.jser_reader.specs.States.{IsWithin, AnswersStop, stop_after, exceeded}
 use Rattle.jser_reader.specs.Bounds.{SkipMemoryFree}
@@ -46,15 +35,15 @@ use Rattle.jser_reader.specs.ItemsTold.{StandsIn}
 use Rattle.jser_reader.specs.Streams.{AreRefused}
 use Rattle.jser_reader.specs.Passes.{bytes_passed, HaltCases, PassCases, PassTells, InsideCases, PassInside, Passes, passed_of, HasPassed, IsQuiet, CanPass}
 use Rattle.jser_reader.specs.WholeContents.{IsWhole, StaysWhole}
-use Rattle.jser_reader.proofs.StandLemmas.{took_stands}
-use Rattle.jser_reader.proofs.CountLemmas.{counts_at_top, count_one_more, places_are}
+use Rattle.jser_reader.proofs.CountLemmas.{counts_at_top, begun_is}
+use Rattle.jser_reader.proofs.TakeLemmas.{one_taken}
 use Rattle.jser_reader.proofs.TotalLemmas.{token_counts, goes_on_counts}
 use Rattle.jser_reader.proofs.ReaderLemmas.{take_whole, front_of_front, bytes_front, token_stops, never_spent, has_stopped}
 use Rattle.jser_reader.proofs.MemoryLemmas.{stands_in, label_next, not_inside}
 use Rattle.jser_reader.proofs.SkipMemory.{size_after}
 use Rattle.jser_reader.proofs.SkipLemmas.{take_more}
 use Rattle.jser_reader.proofs.ItemCalls.{token_open}
-use Rattle.jser_reader.proofs.NextLemmas.{CountsToken, next_item, next_full, no_bytes}
+use Rattle.jser_reader.proofs.NextLemmas.{next_item, next_full, no_bytes}
 use Rattle.jser_reader.proofs.WholeContentLemmas.{stopped_whole, whole_stopped}
 
 -- ---- one step after another
@@ -161,7 +150,7 @@ ended_inside gate piece used old new tally front cut label t st comes inside =
     omega arith
 
 pub passes_end : (gate : Gate) (used : ℕ) (took : Taken) (piece : List ℕ) (old new : Seen) (before after : Tally) → TakesFromFor gate took piece old new
-    → took ≡ taken.Ended used → CountsToken old new before after → IsGate gate → CanPass old piece → Passes gate piece (Some used) old before new after
+    → took ≡ taken.Ended used → CountsNext old (get_or piece 0 0) before after → IsGate gate → CanPass old piece → Passes gate piece (Some used) old before new after
 unfolding TakesFromFor PassTells PassInside NextTells
 passes_end gate used took piece old new before after k e c g can =
     let t = subst (λ x. TakenCases gate x piece old new) e k in
@@ -173,92 +162,6 @@ passes_end gate used took piece old new before after k e c g can =
     }
 
 -- ---- quiet tokens
-
-quiet_interfaces : (m : Moment) (goals : List Goal) (role : GoalRole) (d number count : ℕ) (token : StreamToken)
-    → begins_place (label_of (m, interfaces_goal role d number count ∷ goals)).position token ≡ false
-quiet_interfaces m goals role d number zero token = refl
-quiet_interfaces m goals role d number (suc n) token = refl
-
-quiet_fields : (r : Seen) (count : ℕ) (token : StreamToken) → begins_place (label_of (moment_of r, fields_goals r count)).position token ≡ false
-quiet_fields r zero token = refl
-quiet_fields r (suc n) token = refl
-
-quiet_text : (r : Seen) (t : TextFor) (long : Bool) (goals : List Goal) (token : StreamToken)
-    → begins_place (label_of (moment_of r, text_goal r t long ∷ goals)).position token ≡ false
-quiet_text r text.Value long goals token = refl
-quiet_text r text.FieldType long goals token = refl
-quiet_text r (text.FieldName is_object) long goals token = refl
-quiet_text r text.ClassName long goals token = refl
-quiet_text r text.InterfaceName long goals token = quiet_interfaces (moment_of r) goals (top_role r.frames) (length r.frames) (top_number r.frames) r.header.interfaces token
-
-abbrev BeginsNone : State → StreamToken → Type 0
-BeginsNone s token = begins_place (label_of s).position token ≡ false
-
-of_state : (s t : State) (token : StreamToken) → s ≡ t → BeginsNone t token → BeginsNone s token
-of_state s t token e h = subst (λ s. BeginsNone s token) (sym e) h
-
-quiet_super : (C : List (List Layer)) (L : List Layer) (m : Moment) (frames : List Frame) (token : StreamToken) → HasDescriptor frames → BeginsNone (m, superclass_handle_goals C L frames) token
-quiet_super C L m (frame.Descriptor number role ∷ fs) token h = refl
-quiet_super C L m (frame.Elements left ∷ fs) token h = absurd h
-quiet_super C L m (frame.Fields last section pos prims values ∷ fs) token h = absurd h
-quiet_super C L m (frame.Notes last section ∷ fs) token h = absurd h
-quiet_super C L m (frame.ExternalNotes ∷ fs) token h = absurd h
-quiet_super C L m [] token h = absurd h
-
-quiet_ready : (p : Phase) (r : Seen) (s : State) (token : StreamToken) → IsQuiet p → ReadyAt p r s → BeginsNone s token
-quiet_ready phase.Header r s token q h = of_state s _ token h.1 refl
-quiet_ready phase.ClassTag r s token q h = of_state s _ token h refl
-quiet_ready phase.TextTag r s token q h = of_state s _ token h.2 refl
-quiet_ready phase.BackHandle r s token q h = of_state s _ token h refl
-quiet_ready phase.ClassHandle r s token q h = of_state s _ token h refl
-quiet_ready phase.SuperHandle r s token q h = of_state s _ token h.1 (quiet_super r.table.chains r.layers (moment_of r) r.frames token h.0)
-quiet_ready phase.TextHandle r s token q h = of_state s _ token h.2 refl
-quiet_ready phase.Length2 r s token q h = of_state s _ token h.1 (quiet_text r r.text false (text_rest r r.text) token)
-quiet_ready phase.Length8 r s token q h = of_state s _ token h.2 (quiet_text r r.text true (text_rest r r.text) token)
-quiet_ready phase.Suid r s token q h = of_state s _ token h refl
-quiet_ready phase.Flags r s token q h = of_state s _ token h.1 refl
-quiet_ready phase.FieldCount r s token q h = of_state s _ token h.1 refl
-quiet_ready phase.TypeCode r s token q h = of_state s _ token h.2 (quiet_fields r r.header.fields token)
-quiet_ready phase.InterfaceCount r s token q h = of_state s _ token h.1 refl
-quiet_ready phase.ArrayLength r s token q h = of_state s _ token h.is refl
-quiet_ready phase.BlockLength1 r s token q h = of_state s _ token h refl
-quiet_ready phase.BlockLength4 r s token q h = of_state s _ token h refl
-quiet_ready phase.Prims r s token q h = of_state s _ token h.is refl
-quiet_ready phase.Bytes r s token q h = of_state s _ token h.is refl
-quiet_ready phase.Text r s token q h = absurd h
-quiet_ready phase.Cut r s token q h = absurd h
-quiet_ready _ r s token q h = absurd q
-
--- the tags with which counts change have one byte each, so that none of them is cut
-long_is_quiet : (p : Phase) → 1 < size_of_phase p → IsQuiet p
-long_is_quiet phase.Top h = absurd (omega arith)
-long_is_quiet phase.Note h = absurd (omega arith)
-long_is_quiet phase.Value h = absurd (omega arith)
-long_is_quiet phase.SuperTag h = absurd (omega arith)
-long_is_quiet phase.Stopped h = absurd (omega arith)
-long_is_quiet _ h = tt
-
-quiet_place : (p : Phase) (r : Seen) (s : State) (cut : List ℕ) (token : StreamToken) → IsQuiet p → StandsAt p r s cut → BeginsNone s token
-quiet_place phase.Text r s cut token q h = of_state s _ token h.is (quiet_text r r.text h.long (text_rest r r.text) token)
-quiet_place phase.Prims r s cut token q h = of_state s _ token h.is refl
-quiet_place phase.Bytes r s cut token q h = of_state s _ token h.is refl
-quiet_place phase.Cut r s cut token q h =
-    let some = h.some in
-    let short = h.short in
-    quiet_ready r.meter.cut_phase r s token (long_is_quiet r.meter.cut_phase (omega arith)) h.ready
-quiet_place phase.Stopped r s cut token q h = absurd q
-quiet_place p r s cut token q h = quiet_ready p r s token q h.0
-
-pub quiet_refs : (gate : Gate) (old new : Seen) (bytes taken : List ℕ) → Takes gate taken flow.On old new → IsBytes taken → HasTaken gate bytes old → IsQuiet old.phase
-    → new.refs ≡ old.refs
-unfolding Takes took_stands
-quiet_refs gate old new bytes taken t hb st q =
-    let x = t (left begin_state st.tokens) st.cut st.stands in
-    let s = settled (left begin_state st.tokens) in
-    places_are gate (bytes ++ taken) new (took_stands gate old new bytes taken t hb st)
-    ∙ count_one_more begins_place st.tokens (label_of s) x.token
-    ∙ ap (λ b. one_more_if b (count_of begins_place st.tokens)) (quiet_place old.phase old s st.cut x.token q st.stands.stands)
-    ∙ sym (places_are gate bytes old st)
 
 -- where the last content began is not asked at the top
 pub passes_at_top : (gate : Gate) (piece : List ℕ) (used : ℕ) (old new : Seen) (before after : Tally) (begun : ℕ) → new.phase ≡ phase.Top → Passes gate piece (Some used) old before new after
@@ -276,30 +179,20 @@ passes_at_top gate piece used old new before after begun top h = record {
       };
 }
 
-pub quiet_top : (p : Phase) → IsQuiet p → is_top p ≡ false
-quiet_top phase.Top q = absurd q
-quiet_top _ q = refl
+quiet_counts : (p : Phase) → IsQuiet p → may_count p ≡ false
+quiet_counts phase.Top q = absurd q
+quiet_counts phase.Note q = absurd q
+quiet_counts phase.Value q = absurd q
+quiet_counts phase.SuperTag q = absurd q
+quiet_counts phase.Stopped q = absurd q
+quiet_counts _ q = refl
 
-abbrev tally_of : (contents earlier depth begun : ℕ) → Tally
-tally_of contents earlier depth begun = record { contents = contents; earlier = earlier; depth = depth; begun = begun }
-
-same_tally : (tally : Tally) (contents earlier depth begun : ℕ) → contents ≡ tally.contents → earlier ≡ tally.earlier → depth ≡ tally.depth → begun ≡ tally.begun
-    → tally_of contents earlier depth begun ≡ tally
-same_tally tally contents earlier depth begun ec ee ed eb = rw ec (rw ee (rw ed (rw eb refl)))
-
-pub quiet_tally : (old new : Mark) (tally : Tally) → old.at_top ≡ false → new.refs ≡ old.refs → tally_after old new tally ≡ tally
-quiet_tally old new tally et er =
-    let none : nat_lt old.refs new.refs ≡ false = grind (arith, nat_tests) in
-    let n : tally.earlier + 0 ≡ tally.earlier = omega arith in
-    let d : max tally.depth 0 ≡ tally.depth = omega arith in
-    same_tally tally _ _ _ _ (ap (λ b. one_more_if b tally.contents) et)
-    (ap (λ b. tally.earlier + number_if (b && new.entries == 0) old.entries) et ∙ n)
-    (ap (λ b. max tally.depth (number_if b old.depth)) none ∙ d)
-    (ap (λ b. if b then old.at else tally.begun) et)
+pub quiet_next : (r : Seen) (byte : ℕ) (tally : Tally) → IsQuiet r.phase → tally_next r byte tally ≡ tally
+quiet_next r byte tally q = ap (λ b. if b then with_tag r (tag_from byte) tally else tally) (quiet_counts r.phase q)
 
 -- nor where the machine stops
-pub quiet_stopped : (old : Seen) (tally : Tally) → IsQuiet old.phase → tally ≡ tally_stopped (mark_of old) tally
-quiet_stopped old tally q = ap (λ n. record tally { begun = n }) (sym (ap (λ b. if b then old.meter.at else tally.begun) (quiet_top old.phase q)))
+pub quiet_stopped : (r : Seen) (tally : Tally) → IsQuiet r.phase → tally.begun ≡ begun_next r tally
+quiet_stopped r tally q = ap (λ t. t.begun) (sym (quiet_next r 0 tally q)) ∙ begun_is r 0 tally
 
 pub quiet_takes : (gate : Gate) (used : ℕ) (piece : List ℕ) (old new : Seen) (tally : Tally) → used ≤ length piece → Takes gate (take used piece) flow.On old new
     → IsQuiet old.phase → CanPass old piece → Passes gate piece (Some used) old tally new tally
@@ -307,8 +200,7 @@ unfolding PassTells PassInside StandsFor
 quiet_takes gate used piece old new tally le t q can = record {
   tells = λ bytes st.
       let x = token_counts gate bytes piece piece used old new tally can.within le can.all_bytes t st.0 st.1 in
-      let refs = quiet_refs gate old new bytes (take used piece) t (bytes_front used piece can.all_bytes) st.0.taken q in
-      let same = quiet_tally (mark_of old) (mark_of new) tally (quiet_top old.phase q) refs in
+      let same = quiet_next old (get_or (take used piece) 0 0) tally q in
       (le, (subst (λ a. HasCounted gate (bytes ++ take used piece) new a) same x.0, x.1));
   inside = λ front cut label st comes inside. absurd (ended_inside gate piece used old new tally front cut label t st comes inside);
 }
@@ -345,7 +237,7 @@ passes_open gate took piece old new tally k e can =
 -- ---- the machine stops
 
 pub passes_stop : (gate : Gate) (used : ℕ) (took : Taken) (piece : List ℕ) (old new : Seen) (before after : Tally) → TakesFromFor gate took piece old new
-    → took ≡ taken.Stopped used → CanPass old piece → after ≡ tally_stopped (mark_of old) before → Passes gate piece None old before new after
+    → took ≡ taken.Stopped used → CanPass old piece → after.begun ≡ begun_next old before → Passes gate piece None old before new after
 unfolding Takes TakesFromFor PassTells PassInside StandsFor
 passes_stop gate used took piece old new before after k e can ea =
     let t = subst (λ x. TakenCases gate x piece old new) e k in
@@ -362,7 +254,7 @@ passes_stop gate used took piece old new before after k e can ea =
       token_stops gate bytes piece piece used refusal old new can.within le can.all_bytes t st.taken room es,
       some,
       stopped_whole gate old new bytes (take used piece) refusal after.begun t es (bytes_front used piece can.all_bytes) st.taken
-          (subst (λ x. IsWhole gate bytes x.begun) (sym ea) (st.whole room)),
+          (subst (IsWhole gate bytes) (sym ea) (st.whole room)),
     )
     halts some le t bytes st room stop.OutOfMemory es = tt
     halts some le t bytes st room stop.Spent es = never_spent gate bytes (take used piece) old new t st.taken es
@@ -448,7 +340,7 @@ passes_front gate piece front result old new before after h w = record {
 -- not a byte of it is within the limit
 pub passes_full : (why : Stop) (piece front : List ℕ) (gate : Gate) (old new : Seen) (before after : Tally) → IsWithin old piece front → IsBytes piece → length front ≡ 0 → 0 < length piece
     → (old.meter.at + 1 < 2 ^ 64 → (why ≡ exceeded old.meter) × StopsWith (exceeded old.meter) old new)
-    → IsGate gate → after ≡ tally_stopped (mark_of old) before → Passes gate piece None old before new after
+    → IsGate gate → after ≡ tally_stopped old before → Passes gate piece None old before new after
 unfolding PassTells PassInside NextTells StandsFor
 passes_full why piece front gate old new before after w h none some x g ea = record {
   tells = λ bytes st.
@@ -541,29 +433,22 @@ pub some_step : (gate : Gate) (took : Taken) (result : Passed) (piece : List ℕ
     → result ≡ passed_of took (length piece) → 0 < length piece → HasPassed piece (bytes_passed result)
 some_step gate took result piece old new k e some = rw e (some_passed gate took piece old new k some)
 
--- and counts
+-- a tag, which is counted
 
-counted_passes : (gate : Gate) (took : Taken) (piece : List ℕ) (old new : Seen) (before after : Tally) → TakesFromFor gate took piece old new → CountsTaken took (mark_of old) (mark_of new) before after
-    → IsGate gate → CanPass old piece → Passes gate piece (bytes_passed (passed_of took (length piece))) old before new after
-counted_passes gate (taken.Ended used) piece old new before after k c g can = passes_end gate used (taken.Ended used) piece old new before after k refl c g can
-counted_passes gate (taken.Stopped used) piece old new before after k c g can = passes_stop gate used (taken.Stopped used) piece old new before after k refl can c
-counted_passes gate (taken.Part used) piece old new before after k c g can =
-    subst (λ t. Passes gate piece (Some used) old before new t) (sym c) (passes_part gate used (taken.Part used) piece old new before k refl can)
-counted_passes gate taken.Open piece old new before after k c g can =
-    subst (λ t. Passes gate piece (Some (length piece)) old before new t) (sym c) (passes_open gate taken.Open piece old new before k refl can)
+pub tag_ends : (gate : Gate) (found : Flow) (piece : List ℕ) (old new : Seen) (before after : Tally) → TakesByte (get_or piece 0 0) found old new → found ≡ flow.On → IsOne old.phase
+    → 0 < length piece → CountsNext old (get_or piece 0 0) before after → IsGate gate → CanPass old piece → Passes gate piece (Some 1) old before new after
+tag_ends gate found piece old new before after h e one some c g can =
+    passes_end gate 1 (taken.Ended 1) piece old new before after
+    (one_taken (get_or piece 0 0) flow.On (taken.Ended 1) piece old new (subst (λ b. TakesByte (get_or piece 0 0) b old new) e h) refl refl some one gate) refl c g can
 
-pub counted_step : (gate : Gate) (took : Taken) (result : Passed) (piece : List ℕ) (old new : Seen) (before after : Tally) (m n : Mark) → TakesFromFor gate took piece old new
-    → m ≡ mark_of old → n ≡ mark_of new → CountsTaken took m n before after → result ≡ passed_of took (length piece) → IsGate gate → CanPass old piece
-    → Passes gate piece (bytes_passed result) old before new after
-counted_step gate took result piece old new before after m n k em en c e g can =
-    rw e (counted_passes gate took piece old new before after k (subst (λ x. CountsTaken took x (mark_of new) before after) em (subst (λ x. CountsTaken took m x before after) en c)) g can)
+pub tag_stops : (gate : Gate) (found : Flow) (piece : List ℕ) (old new : Seen) (before after : Tally) → TakesByte (get_or piece 0 0) found old new → found ≡ flow.Stopped → IsOne old.phase
+    → 0 < length piece → after.begun ≡ begun_next old before → CanPass old piece → Passes gate piece None old before new after
+tag_stops gate found piece old new before after h e one some eb can =
+    passes_stop gate 1 (taken.Stopped 1) piece old new before after
+    (one_taken (get_or piece 0 0) flow.Stopped (taken.Stopped 1) piece old new (subst (λ b. TakesByte (get_or piece 0 0) b old new) e h) refl refl some one gate) refl can eb
 
 pub quiet_in : (p : Phase) (r : Seen) → r.phase ≡ p → IsQuiet p → IsQuiet r.phase
 quiet_in p r e q = subst IsQuiet (sym e) q
-
--- some gate
-pub any_gate : Gate
-any_gate = record { bytes = 0; depth = 0; refs = 0; array = 0; handles = 0; answer = λ name. pass }
 
 -- a step on what is left of a piece after the bytes that were taken
 

@@ -1,5 +1,5 @@
 -- Raw values that are taken in one step, and lent none of: their tokens, one after another.
-use Rattle.std.proofs.Common.{◌≡◌, ℕ, suc, ◌+◌, ◌<◌, ◌≤◌, List, [], ◌∷◌, ◌++◌, length, take, drop, refl, sym, ◌∙◌, ap, ap₂, subst, arith, append_assoc, append-nil}
+use Rattle.std.proofs.Common.{◌≡◌, ℕ, suc, ◌+◌, ◌<◌, ◌≤◌, List, [], ◌∷◌, ◌++◌, length, take, drop, get_or, refl, sym, ◌∙◌, ap, ap₂, subst, arith, append_assoc, append-nil}
 use Rattle.std.proofs.lemmas.List.{take-append-drop}
 use Rattle.jser_table.specs.Codes.{PrimCode}
 use Rattle.jser_reading.specs.Moments.{Moment}
@@ -23,9 +23,8 @@ use Rattle.jser_reader.specs.Steps.{after_value}
 use Rattle.jser_reader.specs.Takes.{farther, TakesFromFor}
 use Rattle.jser_reader.specs.Walks.{PrimsStands, StandsAt}
 use Rattle.jser_reader.proofs.ItemCalls.{machine_stands, comes_next, token_ended}
-use Rattle.jser_reader.proofs.LentLemmas.{same_tally}
 use Rattle.jser_reader.proofs.MemoryLemmas.{are_assigned}
-use Rattle.jser_reader.proofs.PassLemmas.{joined_takes}
+use Rattle.jser_reader.proofs.PassLemmas.{joined_takes, quiet_next}
 use Rattle.jser_reader.proofs.TakeRawLemmas.{takes_prims}
 use Rattle.jser_reader.proofs.WholeLemmas.{raw_is_whole}
 
@@ -52,7 +51,7 @@ one_raw gate n given old far new tally can ep el some enough ef end = λ front c
     let x : PrimsStands old s cut = subst (λ p. StandsAt p old s cut) ep (machine_stands gate front cut old tally st).stands in
     let e : TokenEnds gate front (label_of s) (cut ++ take n given) new tally =
     token_ended gate given given n old new tally tally front cut st can.within t.1 can.all_bytes t.2
-    (same_tally gate n given old new tally front cut st t.2 (rw ep tt) can) in
+    (sym (quiet_next old (get_or (take n given) 0 0) tally (rw ep tt))) in
     let handles = are_assigned gate (length old.table.entries) old tally refl front cut (label_of s) st (comes_next gate front cut old tally st) in
     record {
       raws = piece (label_of s) e.token ∷ [];

@@ -1,5 +1,5 @@
 -- What a reader that keeps a tally knows after a piece, and at the end.
-use Rattle.std.proofs.Common.{◌≡◌, ℕ, ◌≤◌, List, ◌++◌, length, take, ◌∙◌, ap, subst}
+use Rattle.std.proofs.Common.{◌≡◌, ℕ, zero, suc, ◌<◌, ◌≤◌, List, [], ◌∷◌, ◌++◌, length, take, get_or, refl, sym, arith, ◌∙◌, ap, subst}
 use Rattle.jser_grammar.specs.Trees.{ContentTrees}
 use Rattle.jser_grammar.specs.Parts.{IsBytes}
 use Rattle.jser_reading.specs.Goals.{settled}
@@ -13,16 +13,25 @@ use Rattle.jser_reader.specs.declared.tally.Tally.{Tally}
 use Rattle.jser_reader.specs.Readers.{Seen}
 use Rattle.jser_reader.specs.States.{IsWithin}
 use Rattle.jser_reader.specs.Walks.{Takes, Keeps}
-use Rattle.jser_reader.specs.Tallies.{mark_of, tally_after, HasCounted, totals_of, AreTotals}
+use Rattle.jser_reader.specs.Tallies.{tally_next, HasCounted, totals_of, AreTotals}
 use Rattle.jser_reader.proofs.AnswerLemmas.{passes}
 use Rattle.jser_reader.proofs.CountLemmas.{took_counts, kept_counts, counts_are_totals}
 use Rattle.jser_reader.proofs.ReaderLemmas.{token_ends, token_goes_on, bytes_front, front_of_front}
 use Rattle.jser_reader.proofs.StreamWalks.{ends_at_top}
 
+-- the first byte that is taken of a piece
+first_of : (n : ℕ) (xs : List ℕ) → 0 < n → get_or (take n xs) 0 0 ≡ get_or xs 0 0
+first_of zero xs some = absurd (omega arith)
+first_of (suc n) [] some = refl
+first_of (suc n) (x ∷ xs) some = refl
+
+pub first_taken : (old : Seen) (piece front : List ℕ) (n : ℕ) → IsWithin old piece front → n ≤ length front → 0 < n → get_or (take n piece) 0 0 ≡ get_or front 0 0
+first_taken old piece front n w le some = ap (λ xs. get_or xs 0 0) (sym (front_of_front old piece front n w le)) ∙ first_of n front some
+
 -- a token has ended within the piece
 pub token_counts : (gate : Gate) (bytes piece front : List ℕ) (n : ℕ) (old new : Seen) (tally : Tally) → IsWithin old piece front → n ≤ length front
     → IsBytes piece → Takes gate (take n front) flow.On old new → HasCounted gate bytes old tally → length bytes ≤ gate.bytes
-    → HasCounted gate (bytes ++ take n piece) new (tally_after (mark_of old) (mark_of new) tally)
+    → HasCounted gate (bytes ++ take n piece) new (tally_next old (get_or (take n piece) 0 0) tally)
     × (length (bytes ++ take n piece) ≤ gate.bytes)
 token_counts gate bytes piece front n old new tally w le h t c room = (
   took_counts gate old new bytes (take n piece) tally (subst (λ xs. Takes gate xs flow.On old new) (front_of_front old piece front n w le) t)

@@ -31,7 +31,7 @@ use Rattle.jser_reader.specs.declared.refusal.Refusal.{Refusal}
 use Rattle.jser_reader.specs.declared.refusal.Stop.TheVariants as stop
 use Rattle.jser_reader.specs.declared.tally.Tally.{Tally}
 use Rattle.jser_reader.specs.Readers.{Seen}
-use Rattle.jser_reader.specs.Tallies.{is_top, mark_of, tally_after, whole_of}
+use Rattle.jser_reader.specs.Tallies.{is_top, begun_next, whole_of}
 use Rattle.jser_reader.specs.Walks.{HasTaken, Takes, Keeps, StopTold}
 use Rattle.jser_reader.specs.WholeContents.{IsWhole, StaysWhole, OneIsWhole}
 use Rattle.jser_reader.proofs.AnswerLemmas.{passes}
@@ -356,17 +356,14 @@ front_of_token gate bytes cut front s c rest hb hf w u =
     ∙ open_scanned (scanning_verdict gate) s cut front c rest u
 
 -- the open token has ended
-pub took_whole : (gate : Gate) (old new : Seen) (bytes came : List ℕ) (tally : Tally) → Takes gate came flow.On old new → IsBytes came → HasTaken gate bytes old → length (bytes ++ came) ≤ gate.bytes
-    → IsWhole gate bytes (whole_of old tally) → IsWhole gate (bytes ++ came) (whole_of new (tally_after (mark_of old) (mark_of new) tally))
+pub took_whole : (gate : Gate) (old new : Seen) (bytes came : List ℕ) (tally told : Tally) → told.begun ≡ begun_next old tally → Takes gate came flow.On old new → IsBytes came → HasTaken gate bytes old
+    → length (bytes ++ came) ≤ gate.bytes → IsWhole gate bytes (whole_of old tally) → IsWhole gate (bytes ++ came) (whole_of new told)
 unfolding Takes
-took_whole gate old new bytes came tally h bt st room i = elim (top_or_not new.phase) [
+took_whole gate old new bytes came tally told eb h bt st room i = elim (top_or_not new.phase) [
   | inl top ↦ top_whole gate (bytes ++ came) new told (took_stands gate old new bytes came h bt st) room top
-  | inr other ↦ subst (IsWhole gate (bytes ++ came)) (sym (whole_inside new told other.1)) (stays_whole gate bytes came (whole_of old tally) i (none other.0))
+  | inr other ↦ subst (IsWhole gate (bytes ++ came)) (sym (whole_inside new told other.1 ∙ eb)) (stays_whole gate bytes came (whole_of old tally) i (none other.0))
 ]
   where
-    told : Tally
-    told = tally_after (mark_of old) (mark_of new) tally
-
     none : (new.phase ≡ phase.Top → ⊥) → (k : ℕ) → 0 < k → k ≤ length came → (list : ContentTrees) → Passes gate (bytes ++ take k came) list → ⊥
     none inside k some le = elim (cases_lt k (length came)) [
       | inl lt ↦

@@ -24,13 +24,12 @@ use Rattle.jser_reader.specs.declared.phase.TextFor.TheVariants as text
 use Rattle.jser_reader.specs.declared.tag.ValueTag.{ValueTag}
 use Rattle.jser_reader.specs.declared.tag.ValueTag.TheVariants as value
 use Rattle.jser_reader.specs.declared.tally.Tally.{Tally}
-use Rattle.jser_reader.specs.declared.tally.Mark.{Mark}
 use Rattle.jser_reader.specs.Tags.{view_tag}
 use Rattle.jser_reader.specs.Readers.{Seen, Ready}
 use Rattle.jser_reader.specs.Steps.{after_value}
 use Rattle.jser_reader.specs.Handlers.{Comes, Tells, Assigns, moved, with_entry, added, counted, is_full, handle_reason, begun, place_reason, after_tag, plain_gate, label_at, owner_state}
 use Rattle.jser_reader.specs.Takes.{counted_on, farther, TakesByte, TakesFromFor, TakesRaw, IsOne, taken_by}
-use Rattle.jser_reader.specs.Tallies.{mark_of, tally_after}
+use Rattle.jser_reader.specs.Tallies.{CountsNext}
 use Rattle.jser_reader.specs.Passes.{Passes, CanPass}
 use Rattle.jser_reader.specs.Frames.{goal_owner}
 use Rattle.jser_reader.specs.Wholes.{IsPlace, HasPlace, HasNumber, HasText, HasReference, tag_of_owner, placed, AssignsText, AssignsOther, all_or_none}
@@ -46,7 +45,6 @@ use Rattle.jser_reader.proofs.TakeRawLemmas.{takes_prims, takes_block}
 use Rattle.jser_reader.proofs.TextLemmas.{value_ends}
 use Rattle.jser_reader.proofs.TextSteps.{short_text_taken}
 use Rattle.jser_reader.proofs.ReaderLemmas.{take_whole}
-use Rattle.jser_reader.proofs.NextLemmas.{CountsToken}
 use Rattle.jser_reader.proofs.PassLemmas.{quiet_stopped, joined_takes, then_passes, then_halts, passes_end, passes_stop, quiet_end, quiet_takes}
 
 -- ---- the tag of a value, at any place
@@ -71,11 +69,11 @@ tag_taken _ t r m i e h = absurd i
 pub tag_passes : (gate : Gate) (t : ValueTag) (piece : List ℕ) (r m : Seen) (before after : Tally) → IsGate gate → CanPass r piece → IsPlace r.phase
     → 0 < length piece → tag_byte (view_tag t) ≡ get_or piece 0 0
     → Tells (place_reason (farther r 1) (view_tag t)) (after_tag (farther r 1) (view_tag t)) flow.On (farther r 1) m
-    → CountsToken r m before after → Passes gate piece (Some 1) r before m after
+    → CountsNext r (tag_byte (view_tag t)) before after → Passes gate piece (Some 1) r before m after
 tag_passes gate t piece r m before after g can i some first h c =
     passes_end gate 1 (taken.Ended 1) piece r m before after
     (one_taken (tag_byte (view_tag t)) flow.On (taken.Ended 1) piece r m (tag_taken r.phase t r m i refl h) refl first some (place_is_one r.phase i) gate)
-    refl c g can
+    refl (subst (λ b. CountsNext r b before after) first c) g can
 
 -- what is left of the piece may be taken as well
 
@@ -133,13 +131,6 @@ pub farther_goes_on : (piece : List ℕ) (used : ℕ) (r far new : Seen) → Can
     → CanPass new (drop used piece)
 farther_goes_on piece used r far new can le ef h = can_go_on piece used r new can le (h.meter ∙ ap (λ m. moved m.meter) ef)
 
--- what was counted, with the marks that were taken
-abbrev pub CountsMarks : Mark → Mark → (before after : Tally) → Type 0
-CountsMarks m k before after = before.contents + 1 < 2 ^ 64 → before.earlier + m.entries < 2 ^ 64 → after ≡ tally_after m k before
-
-pub of_marks : (m k n l : Mark) (before after : Tally) → m ≡ n → k ≡ l → CountsMarks m k before after → CountsMarks n l before after
-of_marks m k n l before after em ek h = subst (λ x. CountsMarks x l before after) em (subst (λ x. CountsMarks m x before after) ek h)
-
 -- ---- a value ends
 
 -- the end of a value, said of a machine that was as far and has the same
@@ -188,13 +179,12 @@ reference_begins r h =
     refl)
     refl (λ over. absurd (omega arith)) (λ over. absurd (omega arith))
 
-pub reference_passes : (gate : Gate) (n : ℕ) (piece : List ℕ) (old far new : Seen) (m1 m2 : Mark) (before after : Tally) → IsGate gate → CanPass old piece → IsPlace old.phase
+pub reference_passes : (gate : Gate) (n : ℕ) (piece : List ℕ) (old far new : Seen) (before after : Tally) → IsGate gate → CanPass old piece → IsPlace old.phase
     → 0x71 ≡ get_or piece 0 0 → HasNumber piece n → n < 2 ^ 32 → HasPlace old → (n < 0x7E0000 → ⊥) → (length old.table.entries ≤ n - 0x7E0000 → ⊥)
-    → far ≡ placed old 5 → Comes far new (after_value far) → m1 ≡ mark_of old → m2 ≡ mark_of far → CountsMarks m1 m2 before after
+    → far ≡ placed old 5 → Comes far new (after_value far) → CountsNext old 0x71 before after
     → Passes gate piece (Some 5) old before new after
-reference_passes gate n piece old far new m1 m2 before after g can i first h small p low high ef end e1 e2 count =
+reference_passes gate n piece old far new before after g can i first h small p low high ef end count =
     let comes : Comes (placed old 5) new (after_value (placed old 5)) = subst (λ r. Comes r new (after_value r)) ef end in
-    let counts = of_marks m1 m2 (mark_of old) (mark_of (placed old 5)) before after e1 (e2 ∙ ap mark_of ef) count in
     let enough = h.within in
     let m : Seen = begun_reference old in
     let rest : List ℕ = drop 1 piece in
@@ -202,7 +192,7 @@ reference_passes gate n piece old far new m1 m2 before after g can i first h sma
     let ends : Comes (farther m 4) new (after_value (farther m 4)) =
     same_end (placed old 5) (farther m 4) new comes (same_meter old 4) refl refl refl refl in
     let tag : Passes gate piece (Some 1) old before m after =
-    tag_passes gate value.Reference piece old m before after g can i (omega arith) first (reference_begins old p) counts in
+    tag_passes gate value.Reference piece old m before after g can i (omega arith) first (reference_begins old p) count in
     let handle : Passes gate rest (Some 4) m after new after =
     quiet_end gate 4 (taken.Ended 4) rest m new after
     (four_taken n flow.On (taken.Ended 4) rest (take 4 rest) m new
@@ -357,12 +347,11 @@ two_on [] = refl
 two_on (x ∷ []) = refl
 two_on (x ∷ y ∷ piece) = refl
 
-pub owner_passes : (gate : Gate) (o : Owner) (n : ℕ) (found : Flow) (piece : List ℕ) (old mid new : Seen) (m1 m2 : Mark) (before after : Tally) → IsGate gate → CanPass old piece
+pub owner_passes : (gate : Gate) (o : Owner) (n : ℕ) (found : Flow) (piece : List ℕ) (old mid new : Seen) (before after : Tally) → IsGate gate → CanPass old piece
     → IsPlace old.phase → tag_byte (view_tag (tag_of_owner o)) ≡ get_or piece 0 0 → HasReference piece n → n < 2 ^ 32 → HasPlace old
-    → mid ≡ with_class o old → TellsClass n found mid new → m1 ≡ mark_of old → m2 ≡ mark_of mid → CountsMarks m1 m2 before after
+    → mid ≡ with_class o old → TellsClass n found mid new → CountsNext old (tag_byte (view_tag (tag_of_owner o))) before after
     → Passes gate piece (all_or_none found 6) old before new after
-owner_passes gate o n found piece old mid new m1 m2 before after g can i first h small p em told e1 e2 count =
-    let counts = of_marks m1 m2 (mark_of old) (mark_of (with_class o old)) before after e1 (e2 ∙ ap mark_of em) count in
+owner_passes gate o n found piece old mid new before after g can i first h small p em told count =
     let enough = h.within in
     let m : Seen = begun_owner o old in
     let k : Seen = at_class m in
@@ -373,7 +362,7 @@ owner_passes gate o n found piece old mid new m1 m2 before after g can i first h
     let can_m : CanPass m rest = rest_can piece old m can (omega arith) refl refl in
     let can_k : CanPass k last = rest_can rest m k can_m (omega arith) refl refl in
     let tag : Passes gate piece (Some 1) old before m after =
-    tag_passes gate (tag_of_owner o) piece old m before after g can i (omega arith) first (owner_begins o old p) counts in
+    tag_passes gate (tag_of_owner o) piece old m before after g can i (omega arith) first (owner_begins o old p) count in
     let class : Passes gate rest (Some 1) m after k after =
     quiet_end gate 1 (taken.Ended 1) rest m k after
     (one_taken 0x71 flow.On (taken.Ended 1) rest m k (class_tag_taken m refl) refl (second_is piece 0x71 h.tag) (omega arith) tt gate)
@@ -441,14 +430,13 @@ string_room piece len old mid h can t =
     let room = can.within.room (omega arith) in
     subst (λ r. r.meter.at + (len + 3) < 2 ^ 64) (sym h.1) (let k : old.meter.at + (len + 3) < 2 ^ 64 = omega arith in k)
 
-pub string_passes : (gate : Gate) (len : ℕ) (piece : List ℕ) (old mid far new : Seen) (m1 m2 : Mark) (before after : Tally) → IsGate gate → CanPass old piece → IsPlace old.phase
+pub string_passes : (gate : Gate) (len : ℕ) (piece : List ℕ) (old mid far new : Seen) (before after : Tally) → IsGate gate → CanPass old piece → IsPlace old.phase
     → 0x74 ≡ get_or piece 0 0 → HasText piece len → HasPlace old → AssignsText true old mid
-    → far ≡ placed mid (len + 3) → Comes far new (after_value far) → m1 ≡ mark_of old → m2 ≡ mark_of far → CountsMarks m1 m2 before after
+    → far ≡ placed mid (len + 3) → Comes far new (after_value far) → CountsNext old 0x74 before after
     → Passes gate piece (Some (len + 3)) old before new after
 unfolding AssignsText
-string_passes gate len piece old mid far new m1 m2 before after g can i first h p assigns ef end e1 e2 counted =
+string_passes gate len piece old mid far new before after g can i first h p assigns ef end counted =
     let comes : Comes (placed mid (len + 3)) new (after_value (placed mid (len + 3))) = subst (λ r. Comes r new (after_value r)) ef end in
-    let counts = of_marks m1 m2 (mark_of old) (mark_of (placed mid (len + 3))) before after e1 (e2 ∙ ap mark_of ef) counted in
     let enough = h.within in
     let m : Seen = begun_string old in
     let k : Seen = added old text_entry in
@@ -460,9 +448,8 @@ string_passes gate len piece old mid far new m1 m2 before after g can i first h 
     subst (λ b. Comes (placed k b) new (after_value (placed k b))) (sym e) (subst (λ r. Comes (placed r (len + 3)) new (after_value (placed r (len + 3)))) assigns.1 comes) in
     let ends : Comes (farther m (2 + len)) new (after_value (farther m (2 + len))) =
     same_end (placed k (2 + len + 1)) (farther m (2 + len)) new come (same_meter old (2 + len)) refl refl refl refl in
-    let count : CountsToken old m before after = subst (λ r. CountsMarks (mark_of old) (mark_of (placed r (len + 3))) before after) assigns.1 counts in
     let tag : Passes gate piece (Some 1) old before m after =
-    tag_passes gate value.String piece old m before after g can i (omega arith) first (string_begins old p assigns.0) count in
+    tag_passes gate value.String piece old m before after g can i (omega arith) first (string_begins old p assigns.0) counted in
     let body : Passes gate rest (Some (2 + len)) m after new after =
     quiet_takes gate (2 + len) rest m new after (omega arith)
     (short_text_taken gate m (farther m (2 + len)) new (take (2 + len) rest) h.units
@@ -563,18 +550,15 @@ same_meter_twice r n =
     let e : r.meter.at + 1 + 1 + n ≡ r.meter.at + (n + 2) = omega arith in
     ap (λ k. record { at = k; from = k; limits = r.meter.limits; stop = r.meter.stop; cut_phase = r.meter.cut_phase; kept = r.meter.kept }) e
 
-pub block_passes : (gate : Gate) (n : ℕ) (piece : List ℕ) (old far new : Seen) (m1 m2 : Mark) (before after : Tally) → IsGate gate → CanPass old piece → IsPlace old.phase
+pub block_passes : (gate : Gate) (n : ℕ) (piece : List ℕ) (old far new : Seen) (before after : Tally) → IsGate gate → CanPass old piece → IsPlace old.phase
     → (old.phase ≡ phase.Value → ⊥) → 0x77 ≡ get_or piece 0 0 → n ≡ get_or piece 1 0 → n + 2 ≤ length piece
-    → far ≡ farther old (n + 2) → Comes far new (after_value far) → m1 ≡ mark_of old → m2 ≡ mark_of far → CountsMarks m1 m2 before after
+    → far ≡ farther old (n + 2) → Comes far new (after_value far) → CountsNext old 0x77 before after
     → Passes gate piece (Some (n + 2)) old before new after
-block_passes gate n piece old far new m1 m2 before after g can i other first second enough ef end e1 e2 count =
+block_passes gate n piece old far new before after g can i other first second enough ef end count =
     then_all gate piece rest 1 (n + 1) (n + 2) flow.On old m new before after after tag (body n refl) refl (omega arith)
   where
     comes : Comes (farther old (n + 2)) new (after_value (farther old (n + 2)))
     comes = subst (λ r. Comes r new (after_value r)) ef end
-
-    counts : CountsMarks (mark_of old) (mark_of (farther old (n + 2))) before after
-    counts = of_marks m1 m2 (mark_of old) (mark_of (farther old (n + 2))) before after e1 (e2 ∙ ap mark_of ef) count
 
     m : Seen
     m = begun_block old
@@ -591,7 +575,7 @@ block_passes gate n piece old far new m1 m2 before after g can i other first sec
     tag : Passes gate piece (Some 1) old before m after
     tag =
         passes_end gate 1 (taken.Ended 1) piece old m before after
-        (one_taken 0x77 flow.On (taken.Ended 1) piece old m (block_begins old.phase old i other refl) refl first some (place_is_one old.phase i) gate) refl counts g can
+        (one_taken 0x77 flow.On (taken.Ended 1) piece old m (block_begins old.phase old i other refl) refl first some (place_is_one old.phase i) gate) refl (subst (λ b. CountsNext old b before after) first count) g can
 
     left : length rest + 1 ≡ length piece
     left = omega (arith, length-drop 1 piece)

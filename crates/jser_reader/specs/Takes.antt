@@ -71,7 +71,7 @@ IsPart _ kept piece count = ⊥
 -- the same number is open still, or the header
 pub record StillOpen (old new : Seen) : Type 0 where
   pub same : open_phase new ≡ open_phase old
-  pub some : 0 < size_of_phase (open_phase old)
+  pub some : 1 < size_of_phase (open_phase old)
 
 -- The first bytes of the piece, so many, end the open token, or the machine stops at the last of them; or they are
 -- lent of the token, which stays open; or the whole piece is of the header or a number, which stays open: as one gate

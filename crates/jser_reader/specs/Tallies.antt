@@ -1,19 +1,17 @@
 -- The counts of a stream, as they are kept while it is read: what is known of the machine before and after a token is
 -- enough to go on from one token to the next.
-use Rattle.std.specs.Prelude.{ℕ, ◌≡◌, suc, ◌+◌, ◌^◌, ◌<◌, max, ◌==◌, ◌&&◌, nat_lt, ◌≤◌, if◌then◌else◌, Bool, true, false, List, [], ◌∷◌, length}
+use Rattle.std.specs.Prelude.{ℕ, ◌≡◌, suc, ◌+◌, ◌^◌, ◌<◌, max, ◌≤◌, if◌then◌else◌, Bool, true, false, List, [], ◌∷◌, length, Option, Some}
 use Rattle.jser_grammar.specs.Trees.{ContentTrees}
 use Rattle.jser_grammar.specs.TableAfter.{Entries}
 use Rattle.jser_grammar.specs.Counts.{content_count, refs_of, depth_of, handle_count}
-use Rattle.jser_reading.specs.Labels.{StreamToken, reset_tag_token, Piece, piece}
-use Rattle.jser_reading.specs.Totals.{begins_content, one_more_if, count_of, number_if, deepest}
+use Rattle.jser_reading.specs.Labels.{StreamToken, tag_token, reset_tag_token, Piece, piece}
+use Rattle.jser_reading.specs.TokensFromBytes.{tag_from}
+use Rattle.jser_reading.specs.Totals.{begins_content, count_of, deepest}
 use Rattle.jser_verdict.specs.Gates.{Gate}
 use Rattle.jser_reader.specs.declared.item.Totals.{Totals}
-use Rattle.jser_reader.specs.declared.machine.take.taken.Taken.{Taken}
-use Rattle.jser_reader.specs.declared.machine.take.taken.Taken.TheVariants as taken
 use Rattle.jser_reader.specs.declared.phase.Phase.{Phase}
 use Rattle.jser_reader.specs.declared.phase.Phase.TheVariants as phase
 use Rattle.jser_reader.specs.declared.tally.Tally.{Tally}
-use Rattle.jser_reader.specs.declared.tally.Mark.{Mark}
 use Rattle.jser_reader.specs.Readers.{Seen}
 use Rattle.jser_reader.specs.Walks.{HasTaken}
 use Rattle.jser_reader.specs.WholeContents.{IsWhole}
@@ -45,36 +43,58 @@ pub record Tallied (tokens : List Piece) (tally : Tally) : Type 0 where
 
 -- ---- how it goes on
 
--- What a tally asks of a machine before and after a token: whether the token stands at the top, how many bytes were taken,
--- the depth of a place that begins there, how many places there were, and how many entries the table has.
 abbrev pub is_top : Phase → Bool
 is_top phase.Top = true
 is_top _ = false
 
-abbrev pub mark_of : Seen → Mark
-mark_of r = record { at_top = is_top r.phase; at = r.meter.at; depth = suc (length r.frames); refs = r.refs; entries = length r.table.entries }
+-- counts may change with a tag at the top, and with one that may begin a place; a machine that has stopped takes none
+abbrev pub may_count : Phase → Bool
+may_count phase.Top = true
+may_count phase.Note = true
+may_count phase.Value = true
+may_count phase.SuperTag = true
+may_count phase.Stopped = true
+may_count _ = false
 
--- A token has ended. At the top a content has begun; if the table is empty after it, an epoch may have ended, and if not,
--- the table was empty before it too. Where there is one place more, it has the depth of the token.
-abbrev pub tally_after : (old new : Mark) → Tally → Tally
-tally_after old new tally = record {
-  contents = one_more_if old.at_top tally.contents;
-  earlier = tally.earlier + number_if (old.at_top && new.entries == 0) old.entries;
-  depth = max tally.depth (number_if (nat_lt old.refs new.refs) old.depth);
-  begun = if old.at_top then old.at else tally.begun;
-}
+-- a content has begun there; a place at this depth; an epoch of so many handles has ended
+
+abbrev pub content_begun : Tally → (at : ℕ) → Tally
+content_begun tally at = record { contents = suc tally.contents; earlier = tally.earlier; depth = tally.depth; begun = at }
+
+abbrev pub place_begun : Tally → (depth : ℕ) → Tally
+place_begun tally depth = record { contents = tally.contents; earlier = tally.earlier; depth = max tally.depth depth; begun = tally.begun }
+
+abbrev pub epoch_ended : Tally → (handles : ℕ) → Tally
+epoch_ended tally handles = record { contents = tally.contents; earlier = tally.earlier + handles; depth = tally.depth; begun = tally.begun }
+
+-- what a tag counts, at the top beside a content: that of a value a place, a reset the handles of the epoch
+abbrev pub with_token : Seen → Option StreamToken → Tally → Tally
+with_token r (Some (tag_token tag)) tally = place_begun tally (suc (length r.frames))
+with_token r (Some reset_tag_token) tally = epoch_ended tally (length r.table.entries)
+with_token r _ tally = tally
+
+abbrev pub with_tag : Seen → Option StreamToken → Tally → Tally
+with_tag r found tally = if is_top r.phase then content_begun (with_token r found tally) r.meter.at else with_token r found tally
+
+-- a token comes next, of which this is the first byte that is taken
+abbrev pub tally_next : Seen → (byte : ℕ) → Tally → Tally
+tally_next r byte tally = if may_count r.phase then with_tag r (tag_from byte) tally else tally
+
+-- as long as the counts are small
+abbrev pub EpochFits : Seen → Option StreamToken → Tally → Type 0
+EpochFits r (Some reset_tag_token) tally = tally.earlier + length r.table.entries < 2 ^ 64
+EpochFits r _ tally = Unit {0}
+
+abbrev pub CountsNext : Seen → (byte : ℕ) → (before after : Tally) → Type 0
+CountsNext r byte before after = before.contents + 1 < 2 ^ 64 → EpochFits r (tag_from byte) before → after ≡ tally_next r byte before
+
+-- where the last content begins: at the top it is the one that comes next
+abbrev pub begun_next : Seen → Tally → ℕ
+begun_next r tally = if is_top r.phase then r.meter.at else tally.begun
 
 -- Nothing more is taken: at the top no content begins any more.
-abbrev pub tally_stopped : (last : Mark) → Tally → Tally
-tally_stopped last tally = record { contents = tally.contents; earlier = tally.earlier; depth = tally.depth; begun = if last.at_top then last.at else tally.begun }
-
--- Bytes of a token were taken: the token has ended, or the machine has stopped in it, or the token goes on.
-abbrev pub CountsTaken : Taken → (old new : Mark) → (before after : Tally) → Type 0
-CountsTaken (taken.Ended count) old new before after =
-    before.contents + 1 < 2 ^ 64 → before.earlier + old.entries < 2 ^ 64 → after ≡ tally_after old new before
-CountsTaken (taken.Stopped count) old new before after = after ≡ tally_stopped old before
-CountsTaken (taken.Part count) old new before after = after ≡ before
-CountsTaken taken.Open old new before after = after ≡ before
+abbrev pub tally_stopped : Seen → Tally → Tally
+tally_stopped r tally = record { contents = tally.contents; earlier = tally.earlier; depth = tally.depth; begun = begun_next r tally }
 
 -- So many contents have begun, no epoch has ended, this is the greatest depth, and there the last content begins.
 abbrev pub all_counted : Tally → (contents depth begun : ℕ) → Tally

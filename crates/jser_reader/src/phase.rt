@@ -1,7 +1,8 @@
 //! The token that comes next or is being read.
-ghost use Rattle.std.specs.Prelude.{◌≡◌, true, false};
+ghost use Rattle.std.specs.Prelude.{◌≡◌, true, false, not};
 ghost use Rattle.jser_reader.specs.Passes.{IsQuiet};
 ghost use Rattle.jser_reader.specs.Takes.{IsOne};
+ghost use Rattle.jser_reader.specs.Tallies.{may_count};
 ghost use Rattle.jser_reader.specs.Wholes.{IsPlace};
 ghost use Rattle.jser_reader.specs.Walks.{size_of_phase};
 
@@ -103,9 +104,10 @@ impl Phase {
         matches!(self, Phase::Top | Phase::Note | Phase::Value)
     }
 
-    /// Whether no count changes with the token: it is not at the top, and no place begins there.
+    /// Whether no count changes with the token: it is no tag at the top, and none that may begin a place.
     #[inline(always)]
     pub(crate) fn is_quiet(self) -> bool
+        ensures is { result ≡ not (may_count self) }
         ensures quiet { result ≡ true → IsQuiet self }
         ensures tag { result ≡ false → (self ≡ Phase.Stopped → ⊥) → IsOne self }
     {

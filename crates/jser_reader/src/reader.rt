@@ -100,20 +100,14 @@ impl<G: Gate> Reader<G> {
     {
         let token = self.machine.token();
         let kept = self.machine.kept();
-        let before = self.machine.mark();
+        self.machine.count(&mut self.tally, front[0]);
         match self.machine.take(&self.gate, front) {
-            Taken::Ended(used) => {
-                self.tally.count(before, self.machine.mark());
-                Ok(lend(token, kept, front, used))
-            }
+            Taken::Ended(used) => Ok(lend(token, kept, front, used)),
             Taken::Part(used) => Ok(lend(token, kept, front, used)),
-            Taken::Stopped(_) => {
-                self.tally.stop(before);
-                Err(self.machine.answer())
-            }
+            Taken::Stopped(_) => Err(self.machine.answer()),
             _ => {
                 if front.len() < piece.len() {
-                    self.tally.stop(self.machine.mark());
+                    self.machine.count_end(&mut self.tally);
                     return Err(self.machine.exceed());
                 }
                 Ok(Step::More)
@@ -146,7 +140,7 @@ impl<G: Gate> Reader<G> {
         }
         let front = self.machine.within(piece);
         if front.is_empty() {
-            self.tally.stop(self.machine.mark());
+            self.machine.count_end(&mut self.tally);
             return Err(self.machine.exceed());
         }
         self.step(piece, front)
@@ -235,7 +229,7 @@ impl<G: Gate> Reader<G> {
             return Err(self.machine.truncate());
         }
         let totals = self.machine.totals(self.tally);
-        self.tally.stop(self.machine.mark());
+        self.machine.count_end(&mut self.tally);
         self.machine.end();
         Ok(totals)
     }

@@ -8,6 +8,7 @@ ghost use Rattle.jser_verdict.specs.Gates.{Gate as ToldGate, IsGate};
 
 use crate::gate::Gate;
 use crate::machine::Machine;
+use crate::machine::flow::Flow;
 use crate::machine::pass::passed::Passed;
 use crate::phase::Phase;
 use crate::tally::Tally;
@@ -29,7 +30,7 @@ impl Machine {
     {
         let front = self.within(piece);
         if front.is_empty() {
-            tally.stop(self.mark());
+            self.count_end(tally);
             let _ = self.exceed();
             return Passed::Stopped;
         }
@@ -45,10 +46,11 @@ impl Machine {
         ensures passes { (gate : ToldGate) → IsGate gate → Passes gate piece.now (bytes_passed result) self.old tally.old self.new tally.new }
         ensures progress { HasPassed piece.now (bytes_passed result) }
     {
-        let before = self.mark();
-        let taken = self.take_one(piece);
-        tally.count_taken(taken, before, self.mark());
-        taken.passed(piece.len())
+        self.count(tally, piece[0]);
+        match self.end_one(piece[0]) {
+            Flow::On => Passed::Took(1),
+            Flow::Stopped => Passed::Stopped,
+        }
     }
 
     /// Takes contents and values, as many as are common and have all their bytes in the piece; and the tag of the one that comes

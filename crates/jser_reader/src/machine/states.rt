@@ -1,9 +1,9 @@
 //! The machine before its first token and after its last: made, stopped, at the limit of bytes, spent.
 ghost use Rattle.std.specs.Prelude.{◌≡◌, ◌+◌, ◌-◌, ◌<◌, ◌≤◌, ◌^◌, true, false, length};
+ghost use Rattle.jser_reading.specs.TokensFromBytes.{tag_from};
 ghost use Rattle.jser_reader.specs.Handlers.{StopsWith, refusal};
 ghost use Rattle.jser_reader.specs.Walks.{IsNew};
-ghost use Rattle.jser_reader.specs.Tallies.{totals_of, whole_of};
-ghost use Rattle.jser_reader.specs.Tallies.{mark_of};
+ghost use Rattle.jser_reader.specs.Tallies.{may_count, with_token, EpochFits, CountsNext, begun_next, tally_stopped, totals_of, whole_of};
 ghost use Rattle.jser_reader.specs.Passes.{CanPass};
 ghost use Rattle.jser_reader.specs.States.{HasLimits, AnswersStop, IsWithin, exceeded};
 
@@ -16,7 +16,8 @@ use crate::machine::Machine;
 use crate::phase::{Phase, TextFor};
 use crate::refusal::{Reason, Refusal, Stop};
 use crate::stack::Stack;
-use crate::tally::{Mark, Tally};
+use crate::tag::{Tag, tag_of};
+use crate::tally::Tally;
 use jser_prim::TextScan;
 use jser_table::{KeptLayer, LayerKind, Table};
 use std::alloc::Global;
@@ -128,18 +129,49 @@ impl Machine {
         self.stop
     }
 
-    /// What a tally asks of it.
+    /// Counts what this tag says beside a content.
+    #[tactic(auto, using(crate::proofs::CountSteps::counts_end, crate::proofs::CountSteps::counts_exception, crate::proofs::CountSteps::counts_other))]
     #[inline(always)]
-    pub(crate) fn mark(&self) -> Mark
-        ensures { result ≡ mark_of self.now }
+    fn count_tag(&self, tally: &mut Tally, tag: u8)
+        ensures next { EpochFits self.now (tag_from tag) tally.old → tally.new ≡ with_token self.now (tag_from tag) tally.old }
+        ensures begun { tally.new.begun ≡ tally.old.begun }
     {
-        Mark {
-            at_top: self.phase == Phase::Top,
-            at: self.at,
-            depth: self.frames.len() as u64 + 1,
-            refs: self.refs,
-            entries: u64::from(self.table.count()),
+        match tag_of(tag) {
+            Some(Tag::Value(_)) => tally.depth = tally.depth.max(self.frames.len() as u64 + 1),
+            Some(Tag::Reset) => {
+                tally.earlier = tally.earlier.wrapping_add(u64::from(self.table.count()));
+            }
+            Some(Tag::Block(_)) => {}
+            Some(Tag::EndBlockData) => {}
+            Some(Tag::Exception) => {}
+            None => {}
         }
+    }
+
+    /// Counts the token that comes next, of which this is the first byte that is taken.
+    #[inline(always)]
+    pub(crate) fn count(&self, tally: &mut Tally, byte: u8)
+        ensures next { CountsNext self.now byte tally.old tally.new }
+        ensures begun { tally.new.begun ≡ begun_next self.now tally.old }
+        ensures quiet { may_count self.now.phase ≡ false → tally.new ≡ tally.old }
+    {
+        if self.phase.is_quiet() {
+            return;
+        }
+        self.count_tag(tally, byte);
+        if self.phase != Phase::Top {
+            return;
+        }
+        tally.contents = tally.contents.wrapping_add(1);
+        tally.begun = self.at;
+    }
+
+    /// Nothing more is taken.
+    #[inline(always)]
+    pub(crate) fn count_end(&self, tally: &mut Tally)
+        ensures { tally.new ≡ tally_stopped self.now tally.old }
+    {
+        tally.begun = self.whole(*tally);
     }
 
     /// How many handles of the epoch are assigned.

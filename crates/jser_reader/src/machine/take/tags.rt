@@ -11,7 +11,7 @@ impl Machine {
     /// Takes the one byte of the token that comes next.
     #[tactic(auto, using(crate::proofs::TakeLemmas::no_other_one, crate::proofs::TakeLemmas::takes_top, crate::proofs::TakeLemmas::takes_note, crate::proofs::TakeLemmas::takes_value, crate::proofs::TakeLemmas::takes_class_tag, crate::proofs::TakeLemmas::takes_super_tag, crate::proofs::TakeLemmas::takes_text_tag, crate::proofs::TakeLemmas::takes_flags, crate::proofs::TakeLemmas::takes_type_code, crate::proofs::TakeLemmas::takes_block_length))]
     #[inline(always)]
-    fn end_one(&mut self, byte: u8) -> Flow
+    pub(crate) fn end_one(&mut self, byte: u8) -> Flow
         requires one { IsOne self.old.phase }
         requires room { self.old.meter.at + 1 < 2 ^ 64 }
         ensures { TakesByte byte result self.old self.new }

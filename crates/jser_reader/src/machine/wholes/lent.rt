@@ -38,9 +38,8 @@ impl Machine {
         if !self.has_place() {
             return Lent::Nothing;
         }
-        let before = self.mark();
+        self.count(tally, TC_REFERENCE);
         self.begin_place(5);
-        tally.count(before, self.mark());
         self.ended_in_line();
         Lent::Value(Whole::Reference(n))
     }
@@ -59,12 +58,11 @@ impl Machine {
         if !self.has_place() {
             return Lent::Nothing;
         }
-        let before = self.mark();
         if !self.assign_text() {
             return Lent::Nothing;
         }
+        self.count(tally, TC_STRING);
         self.begin_place(len as u64 + 3);
-        tally.count(before, self.mark());
         self.ended_in_line();
         Lent::Value(Whole::String(text_in(piece, len)))
     }
@@ -79,15 +77,13 @@ impl Machine {
         requires room { HasPlace self.old }
         ensures { (gate : ToldGate) → IsGate gate → OwnerCases gate piece.now (get_or piece.now 0 0) n result self.old tally.old self.new tally.new }
     {
-        let _ = piece;
-        let before = self.mark();
+        self.count(tally, piece[0]);
         self.refs += 1;
         self.owner = owner;
         self.at += 2;
         self.from = self.at;
         self.phase = Phase::ClassHandle;
         self.at += 4;
-        tally.count(before, self.mark());
         self.class_handle(n)
     }
 

@@ -1,6 +1,6 @@
 use Rattle.std.proofs.Common.{refl, rules}
 use Rattle.jser_reader.proofs.WholeLemmas.{string_few, string_room, no_text_assigned, text_assigned}
-use Rattle.jser_reader.proofs.LentLemmas.{string_tells}
+use Rattle.jser_reader.proofs.LentLemmas.{string_counts, string_tells}
 use Rattle.jser_reader.proofs.machine.Machine.lend_string.Goals as goal
 
 pub returns-then-not-assign_text : goal.returns-then-not-assign_text
@@ -15,6 +15,6 @@ begin_place-requires-clause-room c =
 
 pub returns : goal.returns
 returns c = λ gate is_gate.
-    string_tells gate c.in-Some.len c.args.piece.now c.text_in.result.now _ _ _ _ _ _ _ _ is_gate c.requires.can c.requires.place c.requires.tag c.in-Some.ensures (search rules)
-    (text_assigned c.assign_text.result _ _ c.assign_text.ensures (search rules)) c.begin_place.ensures c.ended_in_line.ensures.comes c.mark-before.ensures c.mark.ensures
-    c.count.ensures c.text_in.ensures
+    string_tells gate c.in-Some.len c.args.piece.now c.text_in.result.now _ _ _ _ _ _ is_gate c.requires.can c.requires.place c.requires.tag c.in-Some.ensures (search rules)
+    (text_assigned c.assign_text.result _ _ c.assign_text.ensures (search rules)) c.begin_place.ensures c.ended_in_line.ensures.comes
+    (string_counts _ _ _ _ (text_assigned c.assign_text.result _ _ c.assign_text.ensures (search rules)) c.count.ensures.next) c.text_in.ensures

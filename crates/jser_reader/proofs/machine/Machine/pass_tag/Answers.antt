@@ -1,10 +1,10 @@
-use Rattle.std.proofs.Common.{rules}
-use Rattle.jser_reader.proofs.PassLemmas.{counted_step, some_step, any_gate}
+use Rattle.jser_reader.proofs.PassLemmas.{tag_ends, tag_stops}
 use Rattle.jser_reader.proofs.machine.Machine.pass_tag.Goals as goal
 
-pub returns-clause-passes : goal.returns-clause-passes
-returns-clause-passes c = λ gate is_gate.
-    counted_step gate c.take_one-taken.result _ c.args.piece.now _ _ _ _ _ _ (c.take_one-taken.ensures gate) (search rules) (search rules) c.count_taken.ensures c.passed.ensures is_gate c.requires.can
+pub returns-in-On-clause-passes : goal.returns-in-On-clause-passes
+returns-in-On-clause-passes c = λ gate is_gate.
+    tag_ends gate c.end_one.result c.args.piece.now _ _ _ _ c.end_one.ensures c.in-On.is c.requires.one c.requires.some c.count.ensures.next is_gate c.requires.can
 
-pub returns-clause-progress : goal.returns-clause-progress
-returns-clause-progress c = some_step any_gate c.take_one-taken.result _ c.args.piece.now _ _ (c.take_one-taken.ensures any_gate) c.passed.ensures c.requires.some
+pub returns-in-Stopped-clause-passes : goal.returns-in-Stopped-clause-passes
+returns-in-Stopped-clause-passes c = λ gate is_gate.
+    tag_stops gate c.end_one.result c.args.piece.now _ _ _ _ c.end_one.ensures c.in-Stopped.is c.requires.one c.requires.some c.count.ensures.begun c.requires.can

@@ -24,7 +24,7 @@ returns-then-is_empty-clause-stays g c = not_stopped _ _ _ (search rules)
 
 pub returns-then-is_empty-2-clause-tells : goal.returns-then-is_empty-2-clause-tells
 returns-then-is_empty-2-clause-tells g c =
-    subst (λ r. NextTells (g.G.Gate.told r.gate) c.args.piece.now (Err c.exceed.result) r.machine r.tally c.exceed.new.self c.stop.new.self) c.self.view_is
+    subst (λ r. NextTells (g.G.Gate.told r.gate) c.args.piece.now (Err c.exceed.result) r.machine r.tally c.exceed.new.self c.count_end.new.tally) c.self.view_is
     (next_full c.exceed.result c.args.piece.now c.within-front.result.now _ _ _ _ _ c.within-front.ensures (all_bytes c.args.piece.now (λ k. omega (arith, c.type_inv.piece k)))
     (search rules) (search rules) c.exceed.ensures (search rules) (search rules))
 
