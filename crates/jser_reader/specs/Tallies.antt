@@ -96,10 +96,6 @@ begun_next r tally = if is_top r.phase then r.meter.at else tally.begun
 abbrev pub tally_stopped : Seen → Tally → Tally
 tally_stopped r tally = record { contents = tally.contents; earlier = tally.earlier; depth = tally.depth; begun = begun_next r tally }
 
--- So many contents have begun, no epoch has ended, this is the greatest depth, and there the last content begins.
-abbrev pub all_counted : Tally → (contents depth begun : ℕ) → Tally
-all_counted tally contents depth begun = record { contents = tally.contents + contents; earlier = tally.earlier; depth = depth; begun = begun }
-
 -- How many of the bytes that were taken are whole contents: all at the top, and else those before the last content.
 abbrev pub whole_of : Seen → Tally → ℕ
 whole_of r tally = if is_top r.phase then r.meter.at else tally.begun

@@ -1,6 +1,6 @@
 //! The counts of a stream that its tokens tell, kept while it is read.
-ghost use Rattle.std.specs.Prelude.{◌≡◌, ◌+◌, ◌<◌, ◌^◌};
-ghost use Rattle.jser_reader.specs.Tallies.{all_counted, no_tally};
+ghost use Rattle.std.specs.Prelude.{◌≡◌};
+ghost use Rattle.jser_reader.specs.Tallies.{no_tally};
 
 /// The contents that have begun, the handles of the epochs that have ended, the greatest depth of a place, and where the
 /// last content begins.
@@ -24,15 +24,5 @@ impl Tally {
             depth: 0,
             begun: 0,
         }
-    }
-
-    /// So many contents have begun, this is the greatest depth of a place, and there the last content begins.
-    #[inline(always)]
-    pub(crate) fn count_all(&mut self, contents: u64, depth: u64, begun: u64)
-        ensures { self.old.contents + contents < 2 ^ 64 → self.new ≡ all_counted self.old contents depth begun }
-    {
-        self.contents = self.contents.wrapping_add(contents);
-        self.depth = depth;
-        self.begun = begun;
     }
 }

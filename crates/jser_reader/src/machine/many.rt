@@ -106,12 +106,13 @@ impl Machine {
         ensures machine { self.new ≡ seen_at self.old counts }
         ensures tally { tally.old.contents + counts.items.count < 2 ^ 64 → tally.new ≡ tally_at self.old.meter.at tally.old counts }
     {
-        let begun = if counts.items.count == 0 {
+        tally.begun = if counts.items.count == 0 {
             tally.begun
         } else {
             self.at + counts.items.last as u64
         };
-        tally.count_all(counts.items.count, counts.deepest, begun);
+        tally.contents = tally.contents.wrapping_add(counts.items.count);
+        tally.depth = counts.deepest;
         self.at += counts.used as u64;
         self.from = self.at;
         self.refs = counts.refs;

@@ -111,14 +111,6 @@ impl Machine {
         piece.len() as u64 <= self.limits.bytes.saturating_sub(self.at)
     }
 
-    /// The token that comes next, or `Cut` within a number that was cut, or `Stopped`.
-    #[inline(always)]
-    pub(crate) fn phase(&self) -> Phase
-        ensures { result ≡ self.now.phase }
-    {
-        self.phase
-    }
-
     /// One byte more than the limit has come.
     #[inline(never)]
     pub(crate) fn exceed(&mut self) -> Stop
