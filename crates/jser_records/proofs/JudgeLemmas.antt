@@ -21,7 +21,7 @@ use Rattle.jser_scan.specs.Lines.{is_accepted}
 use Rattle.jser_scan.specs.NamePlaces.{NameStands}
 use Rattle.jser_records.specs.declared.judge.Check.{Check}
 use Rattle.jser_records.specs.declared.judge.Check.TheVariants as check
-use Rattle.jser_records.specs.Judged.{Ends, FaultIf, Feeds, HasJudged, IsDecided, IsSound, PlainFault, ReportsIf, Took, filter_in}
+use Rattle.jser_records.specs.Judged.{Ends, FaultIf, Feeds, HasJudged, IsDecided, IsRead, IsSound, PlainFault, ReportsIf, Took, filter_in}
 use Rattle.jser_records.proofs.SoonerLemmas.{fault_of}
 
 -- ---- under the filter alone
@@ -180,6 +180,22 @@ hidden_refuses rules from to (found.Hidden starts ends class) is = refl
 hidden_refuses rules from to found.NotOpened is = refl
 hidden_refuses rules from to (found.NotRead why) is = refl
 hidden_refuses rules from to found.OutOfMemory is = refl
+
+pub refusal_read : (rules : Rules) (refusal : Refusal) (result : Found) → IsRefusal rules refusal result → IsRead result
+refusal_read rules refusal (found.Accepted totals) is = tt
+refusal_read rules refusal (found.Refused same class) is = tt
+refusal_read rules refusal (found.Hidden from to class) is = tt
+refusal_read rules refusal found.NotOpened is = tt
+refusal_read rules refusal (found.NotRead why) is = is
+refusal_read rules refusal found.OutOfMemory is = tt
+
+pub hidden_read : (rules : Rules) (from to : ℕ) (result : Found) → IsHidden rules from to result → IsRead result
+hidden_read rules from to (found.Accepted totals) is = tt
+hidden_read rules from to (found.Refused refusal class) is = tt
+hidden_read rules from to (found.Hidden starts ends class) is = tt
+hidden_read rules from to found.NotOpened is = tt
+hidden_read rules from to (found.NotRead why) is = is
+hidden_read rules from to found.OutOfMemory is = tt
 
 pub judged_on : (rules : Rules) (old new : Check) (before after : LastSeen) (taken piece : List ℕ) → HasJudged (record { rules = rules; check = old; last = before }) taken
     → Took rules new (taken ++ piece) → ((bytes : List ℕ) → AreLast before bytes → AreLast after (bytes ++ piece))

@@ -1,5 +1,9 @@
+pub mod FrameLemmas
+pub mod InputLemmas
 pub mod JudgeLemmas
+pub mod LineLemmas
 pub mod ReadingLemmas
+pub mod RecordLemmas
 pub mod RoomLemmas
 pub mod SoonerLemmas
 pub mod SpareLemmas

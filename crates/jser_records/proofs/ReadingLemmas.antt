@@ -1,5 +1,5 @@
 -- What was found of the bytes of a record, and of the text that spells them.
-use Rattle.std.proofs.Common.{◌≡◌, ℕ, ◌+◌, ◌-◌, ◌≤◌, ◌<◌, ◌^◌, Bool, true, false, if◌then◌else◌, List, [], ◌∷◌, ◌++◌, length, take, drop, Option, Some, None, refl, sym, ap, subst, ◌∙◌, arith, append_assoc, append-nil, take-append-drop, length-append}
+use Rattle.std.proofs.Common.{◌≡◌, ℕ, ◌+◌, ◌-◌, ◌≤◌, ◌<◌, ◌^◌, Bool, true, false, if◌then◌else◌, List, [], ◌∷◌, ◌++◌, length, take, drop, Option, Some, None, inl, inr, refl, sym, ap, subst, ◌∙◌, arith, append_assoc, append-nil, take-append-drop, length-append}
 use Rattle.std.specs.Option.{is_some}
 use Rattle.std.specs.Prelude.{IfSome}
 use Rattle.jser_inputs.specs.declared.Form.{Form}
@@ -20,7 +20,7 @@ use Rattle.jser_records.specs.declared.answer.Answer.{Answer}
 use Rattle.jser_records.specs.declared.answer.Answer.TheVariants as answer
 use Rattle.jser_records.specs.Judged.{HasJudged, IsDecided, IsSound, Judging}
 use Rattle.jser_records.specs.declared.reading.Reading.{Reading}
-use Rattle.jser_records.specs.Readings.{Came, HasRead, HasSpelled, IsFor, IsForNull, IsOfDigits, IsRight, Spells, Stands, Value, none, plain, text_of}
+use Rattle.jser_records.specs.Readings.{Came, HasCome, HasRead, HasSpelled, IsFor, IsOf, IsOfBytes, IsOfDigits, IsRight, Spells, Stands, Value, none, plain, text_of, cut_at}
 use Rattle.jser_records.proofs.SpareLemmas.{IsDigitPlace, spare_within}
 
 -- ---- answers
@@ -246,15 +246,22 @@ found_spelled judge most room d new form text result had is right finds =
 
 -- ---- values
 
-pub finish_for : (r : Reading) (result : Answer) (value : Value) → ((bytes : List ℕ) → HasRead r bytes → IsRight r.judge.rules r.most bytes result)
+finish_of : (r : Reading) (result : Answer) (value : Value) → ((bytes : List ℕ) → HasRead r bytes → IsRight r.judge.rules r.most bytes result)
     → ((form : Form) (text : List ℕ) → HasSpelled r form text → IsRight r.judge.rules r.most (spelling_of form text) result)
-    → IfSome r.answer (λ a. result ≡ a) → Came r value → IsFor r.judge.rules r.most value result
-finish_for r result none right spelled kept came =
-    let same : result ≡ came.0 = subst (λ o. IfSome o (λ b. result ≡ b)) came.1 kept in subst (λ x. IsForNull x) (sym same) came.2
-finish_for r result (plain bytes) right spelled kept came = right bytes came
-finish_for r result (text_of form text) right spelled kept came = spelled form text came
+    → (r.decoder.spot.place ≡ place.Bytes → IfSome r.answer IsOfBytes → IsOfBytes result) → IfSome r.answer (λ a. result ≡ a) → HasCome r value
+    → IsOf r.judge.rules r.most value result
+finish_of r result none right spelled is_of kept came = subst (λ o. IfSome o (λ b. result ≡ b)) came kept
+finish_of r result (plain bytes) right spelled is_of kept came = (right bytes came.read, is_of came.place came.is_of)
+finish_of r result (text_of form text) right spelled is_of kept came = spelled form text came
+finish_of r result (cut_at at total) right spelled is_of kept came = subst (λ o. IfSome o (λ b. result ≡ b)) came kept
 
-pub undecided_for : (rules : Rules) (most : ℕ) (value : Value) → IsFor rules most value (answer.Checked found.OutOfMemory)
-undecided_for rules most none = tt
-undecided_for rules most (plain bytes) = undecided_right rules most bytes
-undecided_for rules most (text_of form text) = undecided_right rules most (spelling_of form text)
+pub finish_for : (r : Reading) (is_lost : Bool) (result : Answer) (value : Value) → ((bytes : List ℕ) → HasRead r bytes → IsRight r.judge.rules r.most bytes result)
+    → ((form : Form) (text : List ℕ) → HasSpelled r form text → IsRight r.judge.rules r.most (spelling_of form text) result)
+    → (r.decoder.spot.place ≡ place.Bytes → IfSome r.answer IsOfBytes → IsOfBytes result) → IfSome r.answer (λ a. result ≡ a) → is_lost ≡ r.key.is_lost → Came r value
+    → IsFor r.judge.rules r.most is_lost value result
+finish_for r is_lost result value right spelled is_of kept same (inl came) = inl (finish_of r result value right spelled is_of kept came)
+finish_for r is_lost result value right spelled is_of kept same (inr (inl out)) = inr (inl (subst (λ o. IfSome o (λ b. result ≡ b)) out kept))
+finish_for r is_lost result value right spelled is_of kept same (inr (inr long)) = inr (inr (subst (λ o. IfSome o (λ b. result ≡ b)) long.0 kept, same ∙ long.1))
+
+pub undecided_for : (rules : Rules) (most : ℕ) (is_lost : Bool) (value : Value) → IsFor rules most is_lost value (answer.Checked found.OutOfMemory)
+undecided_for rules most is_lost value = inr (inl refl)

@@ -1,12 +1,12 @@
 -- The room in which bytes wait.
-use Rattle.std.proofs.Common.{◌≡◌, ℕ, ◌+◌, ◌-◌, ◌≤◌, ◌<◌, Bool, true, List, ◌∷◌, ◌++◌, length, take, drop, get_or, Option, Some, None, inl, inr, refl, sym, ap, subst, ◌∙◌, arith}
+use Rattle.std.proofs.Common.{◌≡◌, ℕ, ◌+◌, ◌-◌, ◌≤◌, ◌<◌, Bool, true, false, List, [], ◌∷◌, ◌++◌, length, take, drop, get_or, Option, Some, None, inl, inr, refl, sym, ap, subst, ◌∙◌, arith}
 use Rattle.std.proofs.lemmas.Bool.{cases_lt, eqb-true, eq-eqb}
-use Rattle.std.proofs.lemmas.List.{take-append-drop, append_assoc, take_at, drop-take, drop-append-le, take-append-le, length-append, length-take-le, length-drop, drop_more, take_all, get_or-drop, get_or-take, get_or_default}
+use Rattle.std.proofs.lemmas.List.{take-append-drop, append_assoc, append-nil, take_at, drop-take, drop-append-le, take-append-le, length-append, length-take-le, length-drop, drop_all, drop_more, take_all, get_or-drop, get_or-take, get_or_default}
 use Rattle.std.specs.List.{copy_within}
-use Rattle.std.specs.Prelude.{slice_index}
+use Rattle.std.specs.Prelude.{slice_index, option_map}
 use Rattle.memchr.specs.Find.{IsFirstByte, is_byte}
-use Rattle.std.specs.Io.KnownBytes.{Consumes}
-use Rattle.jser_records.specs.Arriving.{ComesMore, view_of, Fits, HasNone, IsBefore, part_from}
+use Rattle.std.specs.Io.KnownBytes.{Consumes, IsAtEnd}
+use Rattle.jser_records.specs.Arriving.{Arriving, ComesMore, HasEnded, Holds, IsOver, Took, ahead, view_of, Fits, HasNone, IsBefore, part_from, room_size}
 
 part_is : (room : List ℕ) (s e : ℕ) → s ≤ e → part_from room s e ≡ take (e - s) (drop s room)
 part_is room s e le = let n : s + (e - s) ≡ e = omega (arith, le) in ap (λ k. drop s (take k room)) (sym n) ∙ drop-take s (e - s) room
@@ -69,15 +69,31 @@ filled_fits room new s e n sought searched front same few fits = record {
       (searched_more (part_from room s e) (take n (drop e new)) searched sought (subst (λ k. searched ≤ k) (sym (part_size room s e fits.inside)) fits.known) fits.none);
 }
 
-pub filled_comes : (room new : List ℕ) (had has : Option (List ℕ)) (s e n sought searched : ℕ) (over : Bool) → take e new ≡ take e room → length new ≡ length room
+pub filled_comes : (room new : List ℕ) (had has : Option (List ℕ)) (s e n sought searched : ℕ) (over over_now : Bool) → take e new ≡ take e room → length new ≡ length room
     → n ≤ length (drop e new) → Consumes had has (take n (drop e new)) → Fits room s e sought searched
-    → ComesMore (view_of had room s e sought over) (view_of has new s (e + n) sought over)
-filled_comes room new had has s e n sought searched over front same few off fits = record {
+    → ComesMore (view_of had room s e sought over) (view_of has new s (e + n) sought over_now)
+filled_comes room new had has s e n sought searched over over_now front same few off fits = record {
   bytes = take n (drop e new);
   waits = filled room new s e n front fits.inside same fits.ordered few;
   off = off;
   sought = refl;
 }
+
+pub room_empty : (to_come : Option (List ℕ)) (room : List ℕ) (sought : ℕ) → length room ≡ room_size → Holds to_come room 0 0 sought 0 false
+room_empty to_come room sought size = record {
+  fits = record { size = size; ordered = omega arith; inside = omega arith; known = omega arith; none = λ k d less. absurd (omega (arith, less)) };
+  over = λ on. absurd (cc);
+}
+
+pub filled_holds : (room new : List ℕ) (has : Option (List ℕ)) (s e n sought searched : ℕ) (over : Bool) → take e new ≡ take e room → length new ≡ length room
+    → n ≤ length (drop e new) → Fits room s e sought searched → (over ≡ true → IsAtEnd has) → Holds has new s (e + n) sought searched over
+filled_holds room new has s e n sought searched over front same few fits ends = record { fits = filled_fits room new s e n sought searched front same few fits; over = ends }
+
+-- nothing was read
+pub failed_holds : (room new : List ℕ) (had has : Option (List ℕ)) (s e sought searched : ℕ) (over : Bool) → take e new ≡ take e room → length new ≡ length room
+    → over ≡ false → Holds had room s e sought searched over → Holds has new s e sought searched over
+failed_holds room new had has s e sought searched over front same going h =
+    record { fits = same_fits room new s e sought searched front same h.fits; over = λ on. absurd (cc) }
 
 -- ---- the search
 
@@ -122,3 +138,70 @@ found_none xs rest sought searched is le front h =
     subst (λ zs. HasNone sought zs) (ap (λ n. take n xs) all ∙ take_all (length xs) xs (omega arith))
     (none_both xs sought searched (length rest) le (omega (arith, all)) front
     (λ k less passes. h k (omega arith) less (subst (λ r. is_byte sought (slice_index r k) ≡ true) (sym is) passes)))
+
+-- ---- what was taken
+
+consumes_none : (xs : Option (List ℕ)) → Consumes xs xs []
+consumes_none None = tt
+consumes_none (Some xs) = refl
+
+consumes_both : (a b c : Option (List ℕ)) (xs ys : List ℕ) → Consumes a b xs → Consumes b c ys → Consumes a c (xs ++ ys)
+consumes_both None b c xs ys f g = tt
+consumes_both (Some x) None c xs ys f g = absurd f
+consumes_both (Some x) (Some y) None xs ys f g = absurd g
+consumes_both (Some x) (Some y) (Some z) xs ys f g = f ∙ ap (λ w. xs ++ w) g ∙ sym (append_assoc xs ys z)
+
+pub comes_none : (a : Arriving) → ComesMore a a
+comes_none a = record { bytes = []; waits = sym (append-nil a.waiting); off = consumes_none a.to_come; sought = refl }
+
+pub took_none : (a : Arriving) → Took a a []
+took_none a = record { came = []; split = append-nil a.waiting; off = consumes_none a.to_come }
+
+pub took_first : (old new : Arriving) (count : ℕ) → new ≡ record old { waiting = drop count old.waiting } → Took old new (take count old.waiting)
+took_first old new count is = record {
+  came = [];
+  split = append-nil old.waiting ∙ sym (take-append-drop count old.waiting) ∙ ap (λ (a : Arriving). take count old.waiting ++ a.waiting) (sym is);
+  off = subst (λ (a : Arriving). Consumes old.to_come a.to_come []) (sym is) (consumes_none old.to_come);
+}
+
+pub took_more : (old new : Arriving) → ComesMore old new → Took old new []
+took_more old new comes = record { came = comes.bytes; split = sym comes.waits; off = comes.off }
+
+pub took_both : (a b c : Arriving) (xs ys : List ℕ) → Took a b xs → Took b c ys → Took a c (xs ++ ys)
+took_both a b c xs ys f g = record {
+  came = f.came ++ g.came;
+  split =
+      sym (append_assoc a.waiting f.came g.came) ∙ ap (λ w. w ++ g.came) f.split ∙ append_assoc xs b.waiting g.came ∙ ap (λ w. xs ++ w) g.split
+      ∙ sym (append_assoc xs ys c.waiting);
+  off = consumes_both a.to_come b.to_come c.to_come f.came g.came f.off g.off;
+}
+
+-- the bytes that were taken were ahead, and the rest of these still is
+ahead_known : (waiting left came bytes : List ℕ) (had has : Option (List ℕ)) (all : List ℕ) → waiting ++ came ≡ bytes ++ left → Consumes had has came
+    → option_map (λ xs. waiting ++ xs) had ≡ Some all → (rest : List ℕ) × (option_map (λ xs. left ++ xs) has ≡ Some rest) × (all ≡ bytes ++ rest)
+ahead_known waiting left came bytes None has all split off is = absurd (cc)
+ahead_known waiting left came bytes (Some xs) None all split off is = absurd off
+ahead_known waiting left came bytes (Some xs) (Some ys) all split off is =
+    let same : waiting ++ xs ≡ all = cc in
+    (left ++ ys, refl, sym same ∙ ap (λ w. waiting ++ w) off ∙ sym (append_assoc waiting came ys) ∙ ap (λ w. w ++ ys) split ∙ append_assoc bytes left ys)
+
+pub ahead_took : (old new : Arriving) (bytes all : List ℕ) → Took old new bytes → ahead old ≡ Some all → (rest : List ℕ) × (ahead new ≡ Some rest) × (all ≡ bytes ++ rest)
+ahead_took old new bytes all took is = ahead_known old.waiting new.waiting took.came bytes old.to_come new.to_come all took.split took.off is
+
+over_none : (waiting : List ℕ) (has : Option (List ℕ)) (rest : List ℕ) → waiting ≡ [] → IsAtEnd has → option_map (λ xs. waiting ++ xs) has ≡ Some rest → rest ≡ []
+over_none waiting None rest none ends is = absurd (cc)
+over_none waiting (Some xs) rest none ends is = let same : waiting ++ xs ≡ rest = cc in sym same ∙ ap (λ w. w ++ xs) none ∙ ends
+
+-- where nothing waits and nothing is to come, nothing is ahead
+pub ahead_over : (a : Arriving) (rest : List ℕ) → IsOver a → ahead a ≡ Some rest → rest ≡ []
+ahead_over a rest over is = over_none a.waiting a.to_come rest over.none over.ends is
+
+pub ended_over : (old new : Arriving) → HasEnded old new → old.waiting ≡ [] → IsOver new
+ended_over old new has none = record { none = has.waits ∙ none; ends = has.ends }
+
+-- all that waited was passed
+pub all_passed : (old new : Arriving) (count : ℕ) → new ≡ record old { waiting = drop count old.waiting } → length old.waiting ≤ count → IsAtEnd old.to_come → IsOver new
+all_passed old new count is all ends = record {
+  none = ap (λ (a : Arriving). a.waiting) is ∙ drop_all count old.waiting all;
+  ends = subst (λ (a : Arriving). IsAtEnd a.to_come) (sym is) ends;
+}

@@ -1,22 +1,18 @@
 -- What is said of records, one after another.
-use Rattle.std.proofs.Common.{◌≡◌, ℕ, Bool, true, false, List, [], ◌∷◌, ◌++◌, Result, Ok, Err, refl, sym, ap, subst, ◌∙◌, append-nil, inl, inr, ◌⊎◌, if◌then◌else◌}
-use Rattle.std.specs.Prelude.{IfOk, MatchResult}
-use Rattle.std.specs.Io.KnownBytes.{Appends}
-use Rattle.jser_prim.specs.Outgoing.{Outgoing, SinkState, Puts}
-use Rattle.jser_prim.proofs.OutgoingLemmas.{nothing, went_out}
-use Rattle.jser_prim.proofs.GiveLemmas.{appends_none}
+use Rattle.std.proofs.Common.{◌≡◌, ℕ, Bool, true, List, [], ◌∷◌, ◌++◌, refl, sym, ap, subst, ◌∙◌, if◌then◌else◌}
+use Rattle.jser_prim.specs.Outgoing.{SinkState, Puts}
 use Rattle.jser_printer.specs.Says.{Says}
 use Rattle.jser_printer.proofs.SaysLemmas.{says_both, says_bytes, says_nothing, says_same}
 use Rattle.jser_scan.specs.declared.How.{How}
 use Rattle.jser_scan.specs.declared.Tally.{Tally}
-use Rattle.jser_scan.specs.Tallies.{no_files, one_more, status_of}
+use Rattle.jser_scan.specs.Tallies.{one_more}
 use Rattle.jser_records.specs.declared.answer.Answer.{Answer}
 use Rattle.jser_records.specs.declared.clerk.Clerk.{Clerk}
 use Rattle.jser_records.specs.declared.key.Key.{Key}
 use Rattle.jser_records.specs.declared.current.Record.{Record}
-use Rattle.jser_records.specs.declared.run.Trouble.{Trouble}
-use Rattle.jser_records.specs.Readings.{Came, IsFor, Value}
-use Rattle.jser_records.specs.Told.{Closes, Event, Goes, SaysAll, Written, Wrote, all_counted, all_put, all_told, behind, counted, counted_event, ended, number_after, number_at_end, passes, put_event, put_of, told_event, told_of}
+use Rattle.jser_records.specs.Keys.{KeepsKey}
+use Rattle.jser_records.specs.Readings.{Came, IsFor, KeepsRules, Value}
+use Rattle.jser_records.specs.Told.{Closes, Event, Goes, Quiet, SaysAll, all_counted, all_put, all_told, behind, counted, counted_event, ended, number_after, number_at_end, passes, put_event, put_of, told_event, told_of}
 
 -- ---- one event after another
 
@@ -36,7 +32,7 @@ counted_both : (t : Tally) (xs ys : List Event) → all_counted t (xs ++ ys) ≡
 counted_both t [] ys = refl
 counted_both t (x ∷ xs) ys = counted_both (counted_event t x) xs ys
 
-says_all : (a b c : Clerk) (p q r s t u : SinkState) (xs ys : List Event) → SaysAll a b p q s t xs → SaysAll b c q r t u ys → SaysAll a c p r s u (xs ++ ys)
+pub says_all : (a b c : Clerk) (p q r s t u : SinkState) (xs ys : List Event) → SaysAll a b p q s t xs → SaysAll b c q r t u ys → SaysAll a c p r s u (xs ++ ys)
 says_all a b c p q r s t u xs ys f g = record {
   output =
       says_same a.output c.output p r (λ k. all_put a.how a.passes a.number xs (all_put b.how b.passes b.number ys k)) (λ k. all_put a.how a.passes a.number (xs ++ ys) k)
@@ -58,37 +54,67 @@ says_all a b c p q r s t u xs ys f g = record {
   passes = g.passes ∙ f.passes;
 }
 
+pub says_none : (a : Clerk) (p s : SinkState) → SaysAll a a p p s s []
+says_none a p s = record {
+  output = says_nothing a.output p (λ k. k) (λ k. refl);
+  faults = says_nothing a.faults s (λ k. k) (λ k. refl);
+  number = refl;
+  tally = refl;
+  how = refl;
+  passes = refl;
+}
+
+-- the record that is read changed
+pub says_changed : (b : Clerk) (x : Record) (q t : SinkState) → SaysAll b (record b { current = x }) q q t t []
+says_changed b x q t = record {
+  output = says_nothing b.output q (λ k. k) (λ k. refl);
+  faults = says_nothing b.faults t (λ k. k) (λ k. refl);
+  number = refl;
+  tally = refl;
+  how = refl;
+  passes = refl;
+}
+
+-- ---- calls in which no record ends
+
+pub quiet_none : (a : Clerk) (p s : SinkState) → Quiet a a p p s s
+quiet_none a p s = record { says = says_none a p s; keeps = record { rules = refl; most = refl } }
+
+pub quiet_both : (a b c : Clerk) (p q r s t u : SinkState) → Quiet a b p q s t → Quiet b c q r t u → Quiet a c p r s u
+quiet_both a b c p q r s t u f g = record {
+  says = says_all a b c p q r s t u [] [] f.says g.says;
+  keeps = record { rules = g.keeps.rules ∙ f.keeps.rules; most = g.keeps.most ∙ f.keeps.most };
+}
+
+-- the record that is read changed, not its rules
+pub quiet_changed : (b : Clerk) (x : Record) (q t : SinkState) → KeepsRules b.current.reading x.reading → Quiet b (record b { current = x }) q q t t
+quiet_changed b x q t keeps = record { says = says_changed b x q t; keeps = keeps }
+
+-- it changed before a call, or behind one
+pub quiet_from : (b other c : Clerk) (q r t u : SinkState) → other ≡ record b { current = other.current } → KeepsRules b.current.reading other.current.reading → Quiet other c q r t u
+    → Quiet b c q r t u
+quiet_from b other c q r t u same keeps g =
+    quiet_both b (record b { current = other.current }) c q q r t t u (quiet_changed b other.current q t keeps) (subst (λ z. Quiet z c q r t u) same g)
+
+pub quiet_then_changed : (a b other : Clerk) (p q s t : SinkState) → Quiet a b p q s t → other ≡ record b { current = other.current } → KeepsRules b.current.reading other.current.reading
+    → Quiet a other p q s t
+quiet_then_changed a b other p q s t f same keeps =
+    subst (λ z. Quiet a z p q s t) (sym same) (quiet_both a b (record b { current = other.current }) p q q s t t f (quiet_changed b other.current q t keeps))
+
+pub quiet_goes : (old new : Clerk) (p q s t : SinkState) → Quiet old new p q s t → Goes old new p q s t
+quiet_goes old new p q s t f = record { events = []; says = f.says }
+
 -- ---- calls
 
 pub goes_both : (a b c : Clerk) (p q r s t u : SinkState) → Goes a b p q s t → Goes b c q r t u → Goes a c p r s u
 goes_both a b c p q r s t u f g = record { events = f.events ++ g.events; says = says_all a b c p q r s t u f.events g.events f.says g.says }
 
 pub goes_none : (a : Clerk) (p s : SinkState) → Goes a a p p s s
-goes_none a p s = record {
-  events = [];
-  says = record {
-    output = says_nothing a.output p (λ k. k) (λ k. refl);
-    faults = says_nothing a.faults s (λ k. k) (λ k. refl);
-    number = refl;
-    tally = refl;
-    how = refl;
-    passes = refl;
-  };
-}
+goes_none a p s = record { events = []; says = says_none a p s }
 
 -- the record that is read changed
 goes_quiet : (b : Clerk) (x : Record) (q t : SinkState) → Goes b (record b { current = x }) q q t t
-goes_quiet b x q t = record {
-  events = [];
-  says = record {
-    output = says_nothing b.output q (λ k. k) (λ k. refl);
-    faults = says_nothing b.faults t (λ k. k) (λ k. refl);
-    number = refl;
-    tally = refl;
-    how = refl;
-    passes = refl;
-  };
-}
+goes_quiet b x q t = record { events = []; says = says_changed b x q t }
 
 pub goes_from : (b other c : Clerk) (q r t u : SinkState) → other ≡ record b { current = other.current } → Goes other c q r t u → Goes b c q r t u
 goes_from b other c q r t u same g =
@@ -120,14 +146,16 @@ pub closes : (old new : Clerk) (p q s t : SinkState) (passed : Bool) (key : Key)
     → Says old.faults new.faults s t (λ k. told_of old.how old.passes old.number key units result k)
     → new.number ≡ one_more old.number → new.tally ≡ counted old.tally result → new.how ≡ old.how → new.passes ≡ old.passes
     → held ≡ old.current.held.items → passed ≡ passes result
-    → ((value : Value) → Came old.current.reading value → IsFor old.current.reading.judge.rules old.current.reading.most value result)
-    → Closes old new p q s t passed
-closes old new p q s t passed key units result held put told number tally how on kept is right = record {
+    → ((value : Value) → Came old.current.reading value → IsFor old.current.reading.judge.rules old.current.reading.most key.is_lost value result)
+    → KeepsRules old.current.reading new.current.reading → KeepsKey old.current.reading.key key → Closes old new p q s t passed
+closes old new p q s t passed key units result held put told number tally how on kept is right keeps same = record {
   entry = record { key = key; units = units; answer = result; held = held };
   says = one_said old new p q s t key units result held put told number tally how on;
   held = kept;
   passed = is;
   right = right;
+  keeps = keeps;
+  key = same;
 }
 
 pub goes_closed : (old new : Clerk) (p q s t : SinkState) (key : Key) (units : List ℕ) (result : Answer) (held : List ℕ)
@@ -155,69 +183,24 @@ goes_behind old new p q s bytes on put kept number tally how same = record {
 }
 
 -- all that waited was handed to the devices
+flushed : (old new : Clerk) (p q s t : SinkState) → Puts old.output new.output p q [] → Puts old.faults new.faults s t [] → new.number ≡ old.number
+    → new.tally ≡ old.tally → new.how ≡ old.how → new.passes ≡ old.passes → SaysAll old new p q s t []
+flushed old new p q s t put told number tally how same = record {
+  output = says_bytes old.output new.output p q [] put;
+  faults = says_bytes old.faults new.faults s t [] told;
+  number = number;
+  tally = tally;
+  how = how;
+  passes = same;
+}
+
 pub goes_flushed : (old new : Clerk) (p q s t : SinkState) → Puts old.output new.output p q [] → Puts old.faults new.faults s t [] → new.number ≡ old.number
     → new.tally ≡ old.tally → new.how ≡ old.how → new.passes ≡ old.passes → Goes old new p q s t
-goes_flushed old new p q s t put told number tally how same = record {
-  events = [];
-  says = record {
-    output = says_bytes old.output new.output p q [] put;
-    faults = says_bytes old.faults new.faults s t [] told;
-    number = number;
-    tally = tally;
-    how = how;
-    passes = same;
-  };
+goes_flushed old new p q s t put told number tally how same = record { events = []; says = flushed old new p q s t put told number tally how same }
+
+pub quiet_flushed : (old new : Clerk) (p q s t : SinkState) → Puts old.output new.output p q [] → Puts old.faults new.faults s t [] → new.number ≡ old.number
+    → new.tally ≡ old.tally → new.how ≡ old.how → new.passes ≡ old.passes → new.current ≡ old.current → Quiet old new p q s t
+quiet_flushed old new p q s t put told number tally how same current = record {
+  says = flushed old new p q s t put told number tally how same;
+  keeps = record { rules = ap (λ (c : Record). c.reading.judge.rules) current; most = ap (λ (c : Record). c.reading.most) current };
 }
-
--- ---- all
-
--- a sink that has not failed has no fault that an outbox met
-unbroken : (old new : Outgoing) (p q : SinkState) (bytes : List ℕ) → old ≡ nothing → Puts old new p q bytes → q.failed ≡ false → (b : Bool) → new.failed ≡ b → b ≡ false
-unbroken old new p q bytes begins puts on false is = refl
-unbroken old new p q bytes begins puts on true is =
-    let off : q.failed ≡ true = (puts.going (ap (λ o. o.failed) begins)).fault is in absurd (cc)
-
-put_all : (old new : Outgoing) (p q : SinkState) (text : List ℕ → List ℕ) → old ≡ nothing → Says old new p q text → (new.failed ≡ false → new.waiting ≡ []) → q.failed ≡ false
-    → Appends p.gone_out q.gone_out (text [])
-put_all old new p q text begins says empty on =
-    let fine : new.failed ≡ false = unbroken old new p q says.bytes begins says.puts on new.failed refl in
-    subst (Appends p.gone_out q.gone_out) (sym (says.is [] ∙ append-nil says.bytes)) (went_out old new p q says.bytes begins says.puts fine empty).0
-
-tallies : (result : Result Tally Trouble) (now before : Tally) (events : List Event) → IfOk result (λ tally. tally ≡ now) → now ≡ all_counted before events → before ≡ no_files
-    → IfOk result (λ tally. tally ≡ all_counted no_files events)
-tallies (Ok tally) now before events is counts none = is ∙ counts ∙ ap (λ z. all_counted z events) none
-tallies (Err trouble) now before events is counts none = tt
-
-pub wrote : (how : How) (on : Bool) (old new : Clerk) (p q s t : SinkState) (result : Result Tally Trouble) → old.how ≡ how → old.passes ≡ on → old.number ≡ 0
-    → old.tally ≡ no_files → old.output ≡ nothing → Goes old new p q s t → (new.output.failed ≡ false → new.output.waiting ≡ [])
-    → IfOk result (λ tally. tally ≡ new.tally) → Wrote how on p q result
-wrote how on old new p q s t result is_how is_on zeroth none begins goes empty tally = record {
-  events = goes.events;
-  put =
-      λ fine.
-      subst (λ h. Appends p.gone_out q.gone_out (all_put h on 0 goes.events [])) is_how
-      (subst (λ o. Appends p.gone_out q.gone_out (all_put old.how o 0 goes.events [])) is_on
-      (subst (λ n. Appends p.gone_out q.gone_out (all_put old.how old.passes n goes.events [])) zeroth
-      (put_all old.output new.output p q (λ k. all_put old.how old.passes old.number goes.events k) begins goes.says.output empty fine)));
-  tally = tallies result new.tally old.tally goes.events tally goes.says.tally none;
-}
-
--- nothing was read
-pub wrote_none : (how : How) (on : Bool) (p : SinkState) (trouble : Trouble) → Wrote how on p p (Err trouble)
-wrote_none how on p trouble = record { events = []; put = λ fine. appends_none p.gone_out; tally = tt }
-
-pub written_failed : (how : How) (on : Bool) (p q : SinkState) (result : Result Tally Trouble) (status : ℕ) → Wrote how on p q result → status ≡ 3 → Written how on p q status
-written_failed how on p q result status w is = record { events = w.events; put = w.put; status = inl is }
-
-status_by : (result : Result Tally Trouble) (status : ℕ) (events : List Event) → IfOk result (λ tally. tally ≡ all_counted no_files events)
-    → MatchResult result (λ tally. status ≡ status_of tally) (λ trouble. status ≡ 3) → (status ≡ 3) ⊎ (status ≡ status_of (all_counted no_files events))
-status_by (Ok t) status events tally is = inr (is ∙ ap status_of tally)
-status_by (Err trouble) status events tally is = inl is
-
-pub written_by : (how : How) (on : Bool) (p q : SinkState) (result : Result Tally Trouble) (status : ℕ) → Wrote how on p q result
-    → MatchResult result (λ tally. status ≡ status_of tally) (λ trouble. status ≡ 3) → Written how on p q status
-written_by how on p q result status w is = record { events = w.events; put = w.put; status = status_by result status w.events w.tally is }
-
--- the output had failed before
-pub written_none : (how : How) (on : Bool) (p : SinkState) (status : ℕ) → p.failed ≡ true → status ≡ 3 → Written how on p p status
-written_none how on p status off is = record { events = []; put = λ fine. absurd (cc); status = inl is }

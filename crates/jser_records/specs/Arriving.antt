@@ -1,7 +1,7 @@
 -- What came and waits, as contracts see it: the bytes that wait, those that are to come where the source tells them, the byte
 -- that is looked for, and whether the source has ended.
-use Rattle.std.specs.Prelude.{ℕ, ◌≡◌, ◌≢◌, ◌≤◌, ◌<◌, ◌-◌, Bool, List, ◌∷◌, ◌++◌, All, length, take, drop, Option}
-use Rattle.std.specs.Io.KnownBytes.{Consumes}
+use Rattle.std.specs.Prelude.{ℕ, ◌≡◌, ◌≢◌, ◌≤◌, ◌<◌, ◌-◌, Bool, true, List, [], ◌∷◌, ◌++◌, All, length, take, drop, Option, option_map}
+use Rattle.std.specs.Io.KnownBytes.{Consumes, IsAtEnd}
 
 pub record Arriving : Type 0 where
   pub waiting : List ℕ
@@ -39,6 +39,11 @@ pub record Fits (room : List ℕ) (start end sought searched : ℕ) : Type 0 whe
   pub known : searched ≤ end - start
   pub none : HasNone sought (take searched (part_from room start end))
 
+-- what is true of an inbox: of its room, and that no known byte is to come where the source has ended
+pub record Holds (to_come : Option (List ℕ)) (room : List ℕ) (start end sought searched : ℕ) (is_over : Bool) : Type 0 where
+  pub fits : Fits room start end sought searched
+  pub over : is_over ≡ true → IsAtEnd to_come
+
 -- more came behind what waited; or nothing comes any more, or there is no room
 pub record ComesMore (old new : Arriving) : Type 0 where
   pub bytes : List ℕ
@@ -48,3 +53,23 @@ pub record ComesMore (old new : Arriving) : Type 0 where
 
 abbrev pub Stays : Arriving → Arriving → Type 0
 Stays old new = (new.waiting ≡ old.waiting) × (new.sought ≡ old.sought)
+
+-- nothing comes any more
+pub record HasEnded (old new : Arriving) : Type 0 where
+  pub waits : new.waiting ≡ old.waiting
+  pub ends : IsAtEnd new.to_come
+
+-- these bytes were taken off what waits and what came behind it
+pub record Took (old new : Arriving) (bytes : List ℕ) : Type 0 where
+  pub came : List ℕ
+  pub split : old.waiting ++ came ≡ bytes ++ new.waiting
+  pub off : Consumes old.to_come new.to_come came
+
+-- all that is not taken so far: what waits, and what is to come where the source tells it
+abbrev pub ahead : Arriving → Option (List ℕ)
+ahead a = option_map (λ xs. a.waiting ++ xs) a.to_come
+
+-- nothing waits, and no known byte is to come
+pub record IsOver (a : Arriving) : Type 0 where
+  pub none : a.waiting ≡ []
+  pub ends : IsAtEnd a.to_come

@@ -10,6 +10,7 @@ use Rattle.jser_check_anywhere.specs.SourceAnswers.{FaultOf}
 use Rattle.jser_check_anywhere.specs.declared.AnywhereFault.{AnywhereFault}
 use Rattle.jser_check_anywhere.specs.declared.AnywhereFault.TheVariants as fault
 use Rattle.jser_scan.specs.declared.Found.{Found}
+use Rattle.jser_scan.specs.declared.Found.TheVariants as found
 use Rattle.jser_scan.specs.declared.Rules.{Rules}
 use Rattle.jser_scan.specs.Founds.{IsFound, options_in}
 use Rattle.jser_scan.specs.LastSeen.{AreLast, LastSeen}
@@ -78,6 +79,15 @@ pub record HasName (bytes : List ℕ) (result : Found) : Type 0 where
   pub rest : List ℕ
   pub split : bytes ≡ first ++ rest
   pub stands : length first < 2 ^ 64 → NameStands first result
+
+-- it is what a check finds: not that a text is wrong
+abbrev pub IsRead : Found → Type 0
+IsRead (found.Accepted totals) = Unit {0}
+IsRead (found.Refused refusal class) = Unit {0}
+IsRead (found.Hidden from to class) = Unit {0}
+IsRead found.NotOpened = Unit {0}
+IsRead (found.NotRead why) = ⊥
+IsRead found.OutOfMemory = Unit {0}
 
 -- what is found is what the check of these bytes answers
 pub record IsSound (rules : Rules) (bytes : List ℕ) (result : Found) : Type 0 where

@@ -1,7 +1,12 @@
 pub mod Arriving
 pub mod Fields
+pub mod Frames
+pub mod Inputs
 pub mod Judged
+pub mod Keys
+pub mod Lines
 pub mod Readings
+pub mod Records
 pub mod Texts
 pub mod Told
 pub mod Words

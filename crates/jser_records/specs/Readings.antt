@@ -1,7 +1,8 @@
 -- What was found of the bytes of a record, and of the text that spells them.
-use Rattle.std.specs.Prelude.{ℕ, ◌≡◌, ◌+◌, ◌≤◌, ◌<◌, true, false, List, [], ◌++◌, length, Option, Some, None, IfSome}
+use Rattle.std.specs.Prelude.{ℕ, ◌≡◌, ◌⊎◌, ◌+◌, ◌≤◌, ◌<◌, Bool, true, false, List, [], ◌++◌, length, Option, Some, None, IfSome}
 use Rattle.jser_inputs.specs.declared.Form.{Form}
 use Rattle.jser_inputs.specs.declared.Form.TheVariants as form
+use Rattle.jser_inputs.specs.declared.place.Place.TheVariants as place
 use Rattle.jser_inputs.specs.declared.spot.Spot.{Spot}
 use Rattle.jser_inputs.specs.Places.{first_spot, is_wrong}
 use Rattle.jser_inputs.specs.Spelled.{Reads, spelled, spelling_of}
@@ -11,17 +12,26 @@ use Rattle.jser_scan.specs.Lines.{is_accepted}
 use Rattle.jser_records.specs.declared.answer.Answer.{Answer}
 use Rattle.jser_records.specs.declared.answer.Answer.TheVariants as answer
 use Rattle.jser_records.specs.declared.reading.Reading.{Reading}
-use Rattle.jser_records.specs.Judged.{HasJudged, IsSound, Judging}
+use Rattle.jser_records.specs.Judged.{HasJudged, IsRead, IsSound, Judging}
 
 -- What is answered of a record whose value is these bytes is right of them. Where a check answers, it is that of these bytes,
--- and none with more than `most` bytes is accepted, or said to be longer where it is not. A value is no null.
+-- and none with more than `most` bytes is accepted, or said to be longer where it is not.
 abbrev pub IsRight : Rules → (most : ℕ) → List ℕ → Answer → Type 0
 IsRight rules most bytes (answer.Checked result) = IsSound rules bytes result × (is_accepted result ≡ true → length bytes ≤ most)
 IsRight rules most bytes answer.Null = ⊥
 IsRight rules most bytes (answer.Longer limit) = (limit ≡ most) × (most < length bytes)
-IsRight rules most bytes answer.LongKey = Unit {0}
-IsRight rules most bytes (answer.Cut at total) = Unit {0}
-IsRight rules most bytes answer.NoLength = Unit {0}
+IsRight rules most bytes answer.LongKey = ⊥
+IsRight rules most bytes (answer.Cut at total) = ⊥
+IsRight rules most bytes answer.NoLength = ⊥
+
+-- no text is wrong where there is none
+abbrev pub IsOfBytes : Answer → Type 0
+IsOfBytes (answer.Checked result) = IsRead result
+IsOfBytes answer.Null = Unit {0}
+IsOfBytes (answer.Longer most) = Unit {0}
+IsOfBytes answer.LongKey = Unit {0}
+IsOfBytes (answer.Cut at total) = Unit {0}
+IsOfBytes answer.NoLength = Unit {0}
 
 -- ---- the bytes that came of a value
 
@@ -66,34 +76,47 @@ pub record KeepsRules (old new : Reading) : Type 0 where
 
 -- ---- a record that is read
 
--- what a null may be answered: that it is one, unless its KEY is too long or there is no memory
-abbrev pub IsForNull : Answer → Type 0
-IsForNull (answer.Checked (found.Accepted totals)) = ⊥
-IsForNull (answer.Checked (found.Refused refusal class)) = ⊥
-IsForNull (answer.Checked (found.Hidden from to class)) = ⊥
-IsForNull (answer.Checked found.NotOpened) = ⊥
-IsForNull (answer.Checked (found.NotRead why)) = ⊥
-IsForNull (answer.Checked found.OutOfMemory) = Unit {0}
-IsForNull answer.Null = Unit {0}
-IsForNull (answer.Longer most) = ⊥
-IsForNull answer.LongKey = Unit {0}
-IsForNull (answer.Cut at total) = ⊥
-IsForNull answer.NoLength = ⊥
-
--- The value of a record: none, or bytes as they are, or those that a text spells.
+-- The value of a record: none, or bytes as they are, or those that a text spells; or the input ends in it, behind so many bytes
+-- of all.
 pub data Value : Type 0 where
   none : Value
   plain : List ℕ → Value
   text_of : Form → List ℕ → Value
+  cut_at : (at total : ℕ) → Value
 
--- an answer is one of this value
-abbrev pub IsFor : Rules → (most : ℕ) → Value → Answer → Type 0
-IsFor rules most none a = IsForNull a
-IsFor rules most (plain bytes) a = IsRight rules most bytes a
-IsFor rules most (text_of form text) a = IsRight rules most (spelling_of form text) a
+-- what is answered of this value
+abbrev pub IsOf : Rules → (most : ℕ) → Value → Answer → Type 0
+IsOf rules most none a = a ≡ answer.Null
+IsOf rules most (plain bytes) a = IsRight rules most bytes a × IsOfBytes a
+IsOf rules most (text_of form text) a = IsRight rules most (spelling_of form text) a
+IsOf rules most (cut_at at total) a = a ≡ answer.Cut at total
+
+-- so it is, unless there is no memory, or the KEY is too long
+abbrev pub IsFor : Rules → (most : ℕ) → (is_lost : Bool) → Value → Answer → Type 0
+IsFor rules most is_lost value a = IsOf rules most value a ⊎ ((a ≡ answer.Checked found.OutOfMemory) ⊎ ((a ≡ answer.LongKey) × (is_lost ≡ true)))
+
+-- all bytes came of a value that is no text
+pub record HasPlain (r : Reading) (bytes : List ℕ) : Type 0 where
+  pub read : HasRead r bytes
+  pub place : r.decoder.spot.place ≡ place.Bytes
+  pub is_of : IfSome r.answer IsOfBytes
+
+-- it is known from the beginning that there are more bytes in all than are read
+pub record IsLonger (r : Reading) (total : ℕ) : Type 0 where
+  pub longer : r.answer ≡ Some (answer.Longer r.most)
+  pub more : r.most < total
+  pub place : r.decoder.spot.place ≡ place.Bytes
+
+-- they came so far
+abbrev pub Counts : Reading → (total : ℕ) → List ℕ → Type 0
+Counts r total bytes = HasPlain r bytes ⊎ IsLonger r total
 
 -- the value of the record that is read came
+abbrev pub HasCome : Reading → Value → Type 0
+HasCome r none = r.answer ≡ Some answer.Null
+HasCome r (plain bytes) = HasPlain r bytes
+HasCome r (text_of form text) = HasSpelled r form text
+HasCome r (cut_at at total) = r.answer ≡ Some (answer.Cut at total)
+
 abbrev pub Came : Reading → Value → Type 0
-Came r none = (a : Answer) × (r.answer ≡ Some a) × IsForNull a
-Came r (plain bytes) = HasRead r bytes
-Came r (text_of form text) = HasSpelled r form text
+Came r value = HasCome r value ⊎ ((r.answer ≡ Some (answer.Checked found.OutOfMemory)) ⊎ ((r.answer ≡ Some answer.LongKey) × (r.key.is_lost ≡ true)))

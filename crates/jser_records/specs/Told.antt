@@ -1,18 +1,17 @@
 -- What is told of records, one after another: on standard output, and on standard error.
-use Rattle.std.specs.Prelude.{ℕ, ◌≡◌, ◌⊎◌, Bool, true, false, ◌&&◌, not, if◌then◌else◌, List, [], ◌∷◌, ◌++◌, Option, Result, IfOk}
-use Rattle.std.specs.Io.KnownBytes.{Appends}
+use Rattle.std.specs.Prelude.{ℕ, ◌≡◌, Bool, true, false, ◌&&◌, not, if◌then◌else◌, List, [], ◌∷◌, ◌++◌, Option}
 use Rattle.jser_prim.specs.Outgoing.{SinkState, sink_state}
 use Rattle.jser_printer.specs.Says.{Says}
 use Rattle.jser_scan.specs.declared.How.{How}
 use Rattle.jser_scan.specs.declared.Tally.{Tally}
 use Rattle.jser_scan.specs.Lines.{is_accepted}
-use Rattle.jser_scan.specs.Tallies.{no_files, noted, one_accepted, one_unread, one_more, status_of}
+use Rattle.jser_scan.specs.Tallies.{noted, one_accepted, one_unread, one_more}
 use Rattle.jser_records.specs.declared.answer.Answer.{Answer}
 use Rattle.jser_records.specs.declared.answer.Answer.TheVariants as answer
 use Rattle.jser_records.specs.declared.clerk.Clerk.{Clerk}
 use Rattle.jser_records.specs.declared.key.Key.{Key}
-use Rattle.jser_records.specs.declared.run.Trouble.{Trouble}
-use Rattle.jser_records.specs.Readings.{Came, IsFor, Value}
+use Rattle.jser_records.specs.Keys.{KeepsKey}
+use Rattle.jser_records.specs.Readings.{Came, IsFor, KeepsRules, Value}
 use Rattle.jser_records.specs.Words.{line_words, object_words}
 
 -- it lets a record pass: it is accepted, or has no value
@@ -108,6 +107,16 @@ pub record Goes (old new : Clerk) (before after : SinkState) (told_before told_a
   pub events : List Event
   pub says : SaysAll old new before after told_before told_after events
 
+-- none came, and the record that is read stays under its rules
+pub record Quiet (old new : Clerk) (before after : SinkState) (told_before told_after : SinkState) : Type 0 where
+  pub says : SaysAll old new before after told_before told_after []
+  pub keeps : KeepsRules old.current.reading new.current.reading
+
+abbrev pub QuietTo : {S T : Type 0} → (S → Option (List ℕ)) → (S → Bool) → (T → Option (List ℕ)) → (T → Bool) → (old new : Clerk) → (before after : S) → (told_before told_after : T) → Type 0
+QuietTo gone_out has_failed told_out told_failed old new before after told_before told_after =
+    Quiet old new (sink_state (gone_out before) (has_failed before)) (sink_state (gone_out after) (has_failed after))
+    (sink_state (told_out told_before) (told_failed told_before)) (sink_state (told_out told_after) (told_failed told_after))
+
 -- the same of devices, by what they tell
 abbrev pub GoesTo : {S T : Type 0} → (S → Option (List ℕ)) → (S → Bool) → (T → Option (List ℕ)) → (T → Bool) → (old new : Clerk) → (before after : S) → (told_before told_after : T) → Type 0
 GoesTo gone_out has_failed told_out told_failed old new before after told_before told_after =
@@ -120,30 +129,11 @@ pub record Closes (old new : Clerk) (before after : SinkState) (told_before told
   pub says : SaysAll old new before after told_before told_after (ended entry ∷ [])
   pub held : entry.held ≡ old.current.held.items
   pub passed : result ≡ passes entry.answer
-  pub right : (value : Value) → Came old.current.reading value → IsFor old.current.reading.judge.rules old.current.reading.most value entry.answer
+  pub right : (value : Value) → Came old.current.reading value → IsFor old.current.reading.judge.rules old.current.reading.most entry.key.is_lost value entry.answer
+  pub keeps : KeepsRules old.current.reading new.current.reading
+  pub key : KeepsKey old.current.reading.key entry.key
 
 abbrev pub ClosesTo : {S T : Type 0} → (S → Option (List ℕ)) → (S → Bool) → (T → Option (List ℕ)) → (T → Bool) → (old new : Clerk) → (before after : S) → (told_before told_after : T) → (passed : Bool) → Type 0
 ClosesTo gone_out has_failed told_out told_failed old new before after told_before told_after passed =
     Closes old new (sink_state (gone_out before) (has_failed before)) (sink_state (gone_out after) (has_failed after))
     (sink_state (told_out told_before) (told_failed told_before)) (sink_state (told_out told_after) (told_failed told_after)) passed
-
--- What is written of all records of an input: as long as the output has not failed, what is put of the records in their order,
--- from number 0, and nothing else. The status is that of their counts, or 3.
-pub record Written (how : How) (hands_on : Bool) (before after : SinkState) (result : ℕ) : Type 0 where
-  pub events : List Event
-  pub put : after.failed ≡ false → Appends before.gone_out after.gone_out (all_put how hands_on 0 events [])
-  pub status : (result ≡ 3) ⊎ (result ≡ status_of (all_counted no_files events))
-
-abbrev pub WrittenTo : {S : Type 0} → (S → Option (List ℕ)) → (S → Bool) → How → Bool → (before after : S) → (status : ℕ) → Type 0
-WrittenTo gone_out has_failed how hands_on before after status =
-    Written how hands_on (sink_state (gone_out before) (has_failed before)) (sink_state (gone_out after) (has_failed after)) status
-
--- the same where the counts are known, unless there is a trouble
-pub record Wrote (how : How) (hands_on : Bool) (before after : SinkState) (result : Result Tally Trouble) : Type 0 where
-  pub events : List Event
-  pub put : after.failed ≡ false → Appends before.gone_out after.gone_out (all_put how hands_on 0 events [])
-  pub tally : IfOk result (λ tally. tally ≡ all_counted no_files events)
-
-abbrev pub WroteTo : {S : Type 0} → (S → Option (List ℕ)) → (S → Bool) → How → Bool → (before after : S) → Result Tally Trouble → Type 0
-WroteTo gone_out has_failed how hands_on before after result =
-    Wrote how hands_on (sink_state (gone_out before) (has_failed before)) (sink_state (gone_out after) (has_failed after)) result

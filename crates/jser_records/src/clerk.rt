@@ -2,7 +2,7 @@
 ghost use Rattle.std.specs.Prelude.{◌≡◌, [], false, IfOk, OnOk, OnErr, true};
 ghost use Rattle.jser_printer.specs.Says.{SaysTo};
 ghost use Rattle.jser_scan.specs.Tallies.{no_files};
-ghost use Rattle.jser_records.specs.Told.{ClosesTo, GoesTo, counted, entry_words, put_of, told_of};
+ghost use Rattle.jser_records.specs.Told.{ClosesTo, GoesTo, QuietTo, counted, entry_words, put_of, told_of};
 
 use crate::answer::Answer;
 use crate::current::{Ended, Record};
@@ -39,6 +39,8 @@ impl<'f> Clerk<'f> {
         ensures passes { IfOk result (λ clerk. clerk.passes ≡ passes) }
         ensures number { IfOk result (λ clerk. clerk.number ≡ 0) }
         ensures tally { IfOk result (λ clerk. clerk.tally ≡ no_files) }
+        ensures rules { IfOk result (λ clerk. clerk.current.reading.judge.rules ≡ rules.now) }
+        ensures most { IfOk result (λ clerk. clerk.current.reading.most ≡ most) }
         ensures output { IfOk result (λ clerk. clerk.output ≡ record { waiting = []; written = 0; failed = false }) }
     {
         match Record::new(alloc, rules, passes, most) {
@@ -96,13 +98,15 @@ impl<'f> Clerk<'f> {
     }
 
     /// Hands all that waits to the devices.
-    #[tactic(auto, using(crate::proofs::ToldLemmas::goes_flushed))]
+    #[tactic(auto, using(crate::proofs::ToldLemmas::goes_flushed, crate::proofs::ToldLemmas::quiet_flushed))]
     pub(crate) fn flush<W: Sink, E: Sink>(
         &mut self,
         output: &mut W,
         faults: &mut E,
     ) -> Result<(), Failed>
         ensures goes { GoesTo W.gone_out W.has_failed E.gone_out E.has_failed self.old self.new output.old output.new faults.old faults.new }
+        ensures quiet { QuietTo W.gone_out W.has_failed E.gone_out E.has_failed self.old self.new output.old output.new faults.old faults.new }
+        ensures current { self.new.current ≡ self.old.current }
         ensures empty { self.new.output.failed ≡ false → self.new.output.waiting ≡ [] }
         ensures ok { OnOk result (self.new.output.failed ≡ false) }
         ensures err { OnErr result (self.new.output.failed ≡ true) }

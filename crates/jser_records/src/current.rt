@@ -1,7 +1,9 @@
 //! The record that is read, and the bytes that came of it, where these may be handed on.
-ghost use Rattle.std.specs.Prelude.{◌≡◌, ◌⊎◌, ◌++◌, ◌<◌, ◌^◌, ℕ, List, [], length, Some, None, IfOk};
+ghost use Rattle.std.specs.Prelude.{◌≡◌, ◌⊎◌, ◌++◌, ◌<◌, ◌^◌, ℕ, List, [], length, Some, None, IfOk, IfSome};
 ghost use Rattle.jser_inputs.specs.declared.Form.{Form as ToldForm};
-ghost use Rattle.jser_records.specs.Readings.{Came, HasRead, HasSpelled, IsFor, IsOfDigits, KeepsRules};
+ghost use Rattle.jser_inputs.specs.Places.{first_place};
+ghost use Rattle.jser_records.specs.Keys.{HasNoKey, KeepsKey};
+ghost use Rattle.jser_records.specs.Readings.{Came, Counts, HasRead, HasSpelled, IsFor, IsOfDigits, KeepsRules};
 ghost use Rattle.jser_records.specs.Readings.{Value as ToldValue};
 ghost use Rattle.jser_records.specs.Texts.{blanked, characters_in};
 
@@ -73,6 +75,8 @@ impl<'f> Record<'f> {
         ensures has { HasRead self.new.reading [] }
         ensures spelled { HasSpelled self.new.reading form [] }
         ensures open { self.new.reading.answer ≡ None }
+        ensures place { self.new.reading.decoder.spot.place ≡ first_place form }
+        ensures key { HasNoKey self.new.reading.key }
         ensures rules { KeepsRules self.old.reading self.new.reading }
     {
         self.held.clear();
@@ -81,7 +85,8 @@ impl<'f> Record<'f> {
 
     /// Keeps bytes of the record, as they came, as long as it may be handed on.
     pub(crate) fn hold(&mut self, bytes: &[u8])
-        ensures { (self.new.reading ≡ self.old.reading) ⊎ (self.new.reading ≡ record self.old.reading { answer = Some (Answer.Checked Found.OutOfMemory) }) }
+        ensures answered { IfSome self.old.reading.answer (λ a. self.new.reading ≡ self.old.reading) }
+        ensures kept { (self.new.reading ≡ self.old.reading) ⊎ (self.new.reading ≡ record self.old.reading { answer = Some (Answer.Checked Found.OutOfMemory) }) }
     {
         if !self.passes {
             return;
@@ -92,6 +97,16 @@ impl<'f> Record<'f> {
             self.held.clear();
             self.reading.decide(Answer::Checked(Found::OutOfMemory));
         }
+    }
+
+    /// Takes more bytes of the value, as they are.
+    pub(crate) fn take(&mut self, bytes: &[u8])
+        ensures counts { (total : ℕ) (before : List ℕ) → Counts self.old.reading total before → Counts self.new.reading total (before ++ bytes.now) }
+        ensures rules { KeepsRules self.old.reading self.new.reading }
+        ensures key { self.new.reading.key ≡ self.old.reading.key }
+    {
+        self.hold(bytes);
+        self.reading.take(bytes);
     }
 
     /// Takes more characters of the value, which become the bytes that they spell.
@@ -119,9 +134,11 @@ impl<'f> Record<'f> {
     }
 
     /// The record has ended: its answer. Where there is no memory for the units of its KEY, that is the answer, and it has no KEY.
+    #[tactic(auto, using(crate::proofs::ReadingLemmas::finish_for))]
     pub(crate) fn finish(&mut self, json: bool) -> Ended
         ensures held { self.new.held.items ≡ self.old.held.items }
-        ensures right { (value : ToldValue) → Came self.old.reading value → IsFor self.old.reading.judge.rules self.old.reading.most value result.answer }
+        ensures right { (value : ToldValue) → Came self.old.reading value → IsFor self.old.reading.judge.rules self.old.reading.most self.new.reading.key.is_lost value result.answer }
+        ensures key { KeepsKey self.old.reading.key self.new.reading.key }
         ensures rules { KeepsRules self.old.reading self.new.reading }
     {
         let answer = self.reading.finish();

@@ -1,9 +1,17 @@
 //! Records that are frames: a length in 4 bytes, highest first, and so many bytes.
 
-ghost use Rattle.jser_records.specs.Told.{GoesTo};
+ghost use Rattle.std.specs.Prelude.{◌≡◌, ◌<◌, ◌≤◌, ℕ, List, [], length, IfOk, IfSome, OnOk, Ok, false};
+ghost use Rattle.std.specs.Io.KnownBytes.{IsAtEnd};
+ghost use Rattle.jser_records.specs.Arriving.{IsOver};
+ghost use Rattle.jser_records.specs.Frames.{Begun, PieceTakes, Takes, TakesSome, TakesValue};
+ghost use Rattle.jser_records.specs.Readings.{Counts, HasPlain, KeepsRules};
+ghost use Rattle.jser_records.specs.Records.{RecordsGoTo, RecordsTo};
+ghost use Rattle.jser_records.specs.Told.{QuietTo};
+ghost use Rattle.jser_records.specs.declared.layout.Shape.TheVariants as Shape;
 
 use crate::answer::Answer;
 use crate::clerk::Clerk;
+use crate::current::Record;
 use crate::inbox::Inbox;
 use crate::run::{Trouble, read_more};
 use jser_inputs::Form;
@@ -16,143 +24,196 @@ const HEAD: usize = 4;
 const NULL: u32 = u32::MAX;
 
 /// Reads frames, to the end of the input.
-#[tactic(auto, using(crate::proofs::ToldLemmas::goes_none, crate::proofs::ToldLemmas::goes_both, crate::proofs::ToldLemmas::goes_from, crate::proofs::ToldLemmas::goes_on, crate::proofs::ToldLemmas::goes_kept, crate::proofs::ToldLemmas::goes_changed))]
+#[tactic(auto, using(crate::proofs::RecordLemmas::records_both, crate::proofs::RecordLemmas::records_then, crate::proofs::RecordLemmas::records_front, crate::proofs::RecordLemmas::records_none))]
 pub(crate) fn read_frames<R: Source, W: Sink, E: Sink>(
     inbox: &mut Inbox<R>,
     clerk: &mut Clerk<'_>,
-    most: u64,
     output: &mut W,
     faults: &mut E,
 ) -> Result<(), Trouble>
-    ensures goes { GoesTo W.gone_out W.has_failed E.gone_out E.has_failed clerk.old clerk.new output.old output.new faults.old faults.new }
+    ensures frames { RecordsTo W.gone_out W.has_failed E.gone_out E.has_failed result Shape.Frames clerk.old clerk.new inbox.old inbox.new output.old output.new faults.old faults.new }
+    ensures over { OnOk result (IsOver inbox.new) }
 {
     'frames: for _ in 0..u64::MAX {
-        if !next_frame(inbox, clerk, most, output, faults)? {
-            return Ok(());
+        match next_frame(inbox, clerk, output, faults) {
+            Ok(true) => {}
+            Ok(false) => return Ok(()),
+            Err(trouble) => return Err(trouble),
         }
     }
-    Ok(())
+    // No input has so many frames.
+    Err(Trouble::Read)
 }
 
 /// Reads the next frame, or more of the input where its length is not whole. `false` at the end of the input.
-#[tactic(auto, using(crate::proofs::ToldLemmas::goes_none, crate::proofs::ToldLemmas::goes_both, crate::proofs::ToldLemmas::goes_from, crate::proofs::ToldLemmas::goes_on, crate::proofs::ToldLemmas::goes_kept, crate::proofs::ToldLemmas::goes_changed))]
+#[tactic(auto, using(crate::proofs::RecordLemmas::records_quiet, crate::proofs::RecordLemmas::records_both, crate::proofs::RecordLemmas::front_quiet, crate::proofs::RoomLemmas::took_more, crate::proofs::RoomLemmas::ended_over))]
 fn next_frame<R: Source, W: Sink, E: Sink>(
     inbox: &mut Inbox<R>,
     clerk: &mut Clerk<'_>,
-    most: u64,
     output: &mut W,
     faults: &mut E,
 ) -> Result<bool, Trouble>
-    ensures goes { GoesTo W.gone_out W.has_failed E.gone_out E.has_failed clerk.old clerk.new output.old output.new faults.old faults.new }
+    ensures frames { RecordsTo W.gone_out W.has_failed E.gone_out E.has_failed result Shape.Frames clerk.old clerk.new inbox.old inbox.new output.old output.new faults.old faults.new }
+    ensures over { result ≡ Ok false → IsOver inbox.new }
 {
-    match inbox.waiting() {
-        [a, b, c, d, ..] => {
-            let length = u32::from_be_bytes([*a, *b, *c, *d]);
-            read_frame(inbox, clerk, most, length, output, faults)?;
-            Ok(true)
-        }
-        head => {
-            let at = head.len() as u64;
-            if read_more(inbox, clerk, output, faults)? {
-                return Ok(true);
-            }
-            tell_cut_length(clerk, at, output, faults);
+    if inbox.waiting().len() >= HEAD {
+        return read_frame(inbox, clerk, output, faults);
+    }
+    match read_more(inbox, clerk, output, faults) {
+        Ok(true) => Ok(true),
+        Ok(false) => {
+            end_frames(inbox, clerk, output, faults);
             Ok(false)
         }
+        Err(trouble) => Err(trouble),
     }
 }
 
-/// Tells of a frame whose length has so many bytes, if it has any.
-#[tactic(auto, using(crate::proofs::ToldLemmas::goes_none, crate::proofs::ToldLemmas::goes_both, crate::proofs::ToldLemmas::goes_from, crate::proofs::ToldLemmas::goes_on, crate::proofs::ToldLemmas::goes_kept, crate::proofs::ToldLemmas::goes_changed))]
-fn tell_cut_length<W: Sink, E: Sink>(clerk: &mut Clerk<'_>, at: u64, output: &mut W, faults: &mut E)
-    ensures goes { GoesTo W.gone_out W.has_failed E.gone_out E.has_failed clerk.old clerk.new output.old output.new faults.old faults.new }
+/// The input has ended: what waits is a part of a length, if it has a byte.
+#[tactic(auto, using(crate::proofs::RecordLemmas::records_none))]
+fn end_frames<R: Source, W: Sink, E: Sink>(
+    inbox: &mut Inbox<R>,
+    clerk: &mut Clerk<'_>,
+    output: &mut W,
+    faults: &mut E,
+)
+    requires few { length inbox.old.waiting < 4 }
+    requires ends { IsAtEnd inbox.old.to_come }
+    ensures frames { RecordsGoTo W.gone_out W.has_failed E.gone_out E.has_failed Shape.Frames clerk.old clerk.new inbox.old inbox.new output.old output.new faults.old faults.new }
+    ensures over { IsOver inbox.new }
 {
+    let at = inbox.waiting().len();
     if at == 0 {
         return;
     }
     clerk.current.begin(Form::Binary);
     clerk.current.reading.decide(Answer::Cut {
-        at,
+        at: at as u64,
         of: HEAD as u64,
     });
+    inbox.pass(at);
     clerk.close(output, faults);
 }
 
-/// Reads a frame of this length.
-#[tactic(auto, using(crate::proofs::ToldLemmas::goes_none, crate::proofs::ToldLemmas::goes_both, crate::proofs::ToldLemmas::goes_from, crate::proofs::ToldLemmas::goes_on, crate::proofs::ToldLemmas::goes_kept, crate::proofs::ToldLemmas::goes_changed))]
+/// Reads a frame, whose length waits. Always `true`.
 fn read_frame<R: Source, W: Sink, E: Sink>(
     inbox: &mut Inbox<R>,
     clerk: &mut Clerk<'_>,
-    most: u64,
-    length: u32,
     output: &mut W,
     faults: &mut E,
-) -> Result<(), Trouble>
-    ensures goes { GoesTo W.gone_out W.has_failed E.gone_out E.has_failed clerk.old clerk.new output.old output.new faults.old faults.new }
+) -> Result<bool, Trouble>
+    requires { 4 ≤ length inbox.old.waiting }
+    ensures frames { RecordsTo W.gone_out W.has_failed E.gone_out E.has_failed result Shape.Frames clerk.old clerk.new inbox.old inbox.new output.old output.new faults.old faults.new }
+    ensures more { result ≡ Ok false → IsOver inbox.new }
 {
+    let length = read_u32(inbox.front(HEAD));
     clerk.current.begin(Form::Binary);
     clerk.current.hold(inbox.front(HEAD));
     inbox.pass(HEAD);
-    take_value(inbox, clerk, most, length, output, faults)?;
-    clerk.close(output, faults);
-    Ok(())
+    match take_value(inbox, clerk, length, output, faults) {
+        Ok(()) => {
+            clerk.close(output, faults);
+            Ok(true)
+        }
+        Err(trouble) => Err(trouble),
+    }
 }
 
 /// Takes the value of a frame of this length, which may be that of a null.
-#[tactic(auto, using(crate::proofs::ToldLemmas::goes_none, crate::proofs::ToldLemmas::goes_both, crate::proofs::ToldLemmas::goes_from, crate::proofs::ToldLemmas::goes_on, crate::proofs::ToldLemmas::goes_kept, crate::proofs::ToldLemmas::goes_changed))]
+#[tactic(auto, using(crate::proofs::FrameLemmas::null_taken, crate::proofs::FrameLemmas::value_taken, crate::proofs::ToldLemmas::quiet_changed))]
 fn take_value<R: Source, W: Sink, E: Sink>(
     inbox: &mut Inbox<R>,
     clerk: &mut Clerk<'_>,
-    most: u64,
     length: u32,
     output: &mut W,
     faults: &mut E,
 ) -> Result<(), Trouble>
-    ensures goes { GoesTo W.gone_out W.has_failed E.gone_out E.has_failed clerk.old clerk.new output.old output.new faults.old faults.new }
+    ensures quiet { QuietTo W.gone_out W.has_failed E.gone_out E.has_failed clerk.old clerk.new output.old output.new faults.old faults.new }
+    ensures key { clerk.new.current.reading.key ≡ clerk.old.current.reading.key }
+    ensures takes { Begun clerk.old.current.reading → OnOk result (TakesValue length inbox.old inbox.new clerk.new.current.reading) }
 {
     if length == NULL {
         clerk.current.reading.decide_null();
         return Ok(());
     }
-    take_bytes(inbox, clerk, most, u64::from(length), output, faults)
+    take_bytes(inbox, clerk, u64::from(length), output, faults)
 }
 
 /// Takes the bytes of a record, so many. Where there are more than are read at most, it goes over them.
-#[tactic(auto, using(crate::proofs::ToldLemmas::goes_none, crate::proofs::ToldLemmas::goes_both, crate::proofs::ToldLemmas::goes_from, crate::proofs::ToldLemmas::goes_on, crate::proofs::ToldLemmas::goes_kept, crate::proofs::ToldLemmas::goes_changed))]
+#[tactic(auto, using(crate::proofs::FrameLemmas::takes_all))]
 pub(crate) fn take_bytes<R: Source, W: Sink, E: Sink>(
     inbox: &mut Inbox<R>,
     clerk: &mut Clerk<'_>,
-    most: u64,
     count: u64,
     output: &mut W,
     faults: &mut E,
 ) -> Result<(), Trouble>
-    ensures goes { GoesTo W.gone_out W.has_failed E.gone_out E.has_failed clerk.old clerk.new output.old output.new faults.old faults.new }
+    ensures quiet { QuietTo W.gone_out W.has_failed E.gone_out E.has_failed clerk.old clerk.new output.old output.new faults.old faults.new }
+    ensures key { clerk.new.current.reading.key ≡ clerk.old.current.reading.key }
+    ensures takes { HasPlain clerk.old.current.reading [] → OnOk result (Takes count inbox.old inbox.new clerk.new.current.reading) }
 {
-    if count > most {
-        clerk.current.reading.decide(Answer::Longer { most });
-    }
+    clerk.current.reading.limit(count);
     let mut taken: u64 = 0;
     'pieces: for _ in 0..u64::MAX {
         if taken >= count {
             return Ok(());
         }
-        let piece = inbox.front((count - taken).min(u64::from(u32::MAX)) as usize);
-        let size = piece.len();
-        if size == 0 {
-            if !read_more(inbox, clerk, output, faults)? {
+        match next_piece(inbox, clerk, count - taken, output, faults) {
+            Ok(Some(size)) => taken += size,
+            Ok(None) => {
                 clerk.current.reading.decide(Answer::Cut {
                     at: taken,
                     of: count,
                 });
                 return Ok(());
             }
-            continue;
+            Err(trouble) => return Err(trouble),
         }
-        clerk.current.hold(piece);
-        clerk.current.reading.take(piece);
-        inbox.pass(size);
-        taken = taken.saturating_add(size as u64);
     }
-    Ok(())
+    // No record comes in so many pieces.
+    Err(Trouble::Read)
+}
+
+/// Takes what waits of the bytes of a record, of which so many are left, or reads more where nothing waits. How many it took, if the
+/// input has not ended.
+#[tactic(auto, using(crate::proofs::FrameLemmas::some_later, crate::proofs::ToldLemmas::quiet_both, crate::proofs::ToldLemmas::quiet_changed, crate::proofs::ToldLemmas::quiet_from, crate::proofs::RoomLemmas::took_more))]
+fn next_piece<R: Source, W: Sink, E: Sink>(
+    inbox: &mut Inbox<R>,
+    clerk: &mut Clerk<'_>,
+    left: u64,
+    output: &mut W,
+    faults: &mut E,
+) -> Result<Option<u64>, Trouble>
+    requires { 0 < left }
+    ensures quiet { QuietTo W.gone_out W.has_failed E.gone_out E.has_failed clerk.old clerk.new output.old output.new faults.old faults.new }
+    ensures key { clerk.new.current.reading.key ≡ clerk.old.current.reading.key }
+    ensures takes { (total : ℕ) (before : List ℕ) → Counts clerk.old.current.reading total before
+        → IfOk result (PieceTakes total before inbox.old inbox.new clerk.new.current.reading) }
+    ensures within { IfOk result (λ size. IfSome size (λ count. count ≤ left)) }
+{
+    let size = take_waiting(inbox, &mut clerk.current, left);
+    if size > 0 {
+        return Ok(Some(size));
+    }
+    match read_more(inbox, clerk, output, faults) {
+        Ok(true) => Ok(Some(0)),
+        Ok(false) => Ok(None),
+        Err(trouble) => Err(trouble),
+    }
+}
+
+/// Takes what waits of the bytes of a record, of which so many are left. How many that are.
+fn take_waiting<R: Source>(inbox: &mut Inbox<R>, current: &mut Record<'_>, left: u64) -> u64
+    ensures within { result ≤ left }
+    ensures none { result ≡ 0 → 0 < left → inbox.new.waiting ≡ [] }
+    ensures takes { (total : ℕ) (before : List ℕ) → Counts current.old.reading total before → TakesSome total before inbox.old inbox.new current.new.reading result }
+    ensures rules { KeepsRules current.old.reading current.new.reading }
+    ensures key { current.new.reading.key ≡ current.old.reading.key }
+{
+    let most = left.min(u64::from(u32::MAX)) as usize;
+    let piece = inbox.front(most);
+    let size = piece.len();
+    current.take(piece);
+    inbox.pass(most);
+    size as u64
 }

@@ -1,7 +1,7 @@
 //! What came from a source and waits to be taken, in room that does not grow.
 ghost use Rattle.std.specs.Prelude.{◌≡◌, ◌≤◌, ◌<◌, ◌+◌, ◌-◌, ◌++◌, [], length, min, take, drop, IfSome, IfOk, OnOk, OnErr, Ok, None, true, false};
-ghost use Rattle.std.specs.Io.KnownBytes.{ReadConsumes};
-ghost use Rattle.jser_records.specs.Arriving.{ComesMore, HasNone, IsBefore, Stays, room_size};
+ghost use Rattle.std.specs.Io.KnownBytes.{IsAtEnd, ReadConsumes};
+ghost use Rattle.jser_records.specs.Arriving.{ComesMore, HasEnded, HasNone, IsBefore, Stays, room_size};
 
 use jser_prim::{Failed, Source};
 use memchr::memchr;
@@ -26,17 +26,18 @@ pub(crate) struct Inbox<R: Source> {
 }
 
 impl<R: Source> Model for Inbox<R> {
-    ghost use Rattle.jser_records.specs.Arriving.{Arriving, Fits, view_of};
+    ghost use Rattle.jser_records.specs.Arriving.{Arriving, Holds, view_of};
 
     ghost Value = { Arriving };
 
     ghost view = { λ a. view_of (R.to_come a.source) a.room.items a.start a.end a.sought a.is_over };
 
-    ghost invariant = { λ a. Fits a.room.items a.start a.end a.sought a.searched };
+    ghost invariant = { λ a. Holds (R.to_come a.source) a.room.items a.start a.end a.sought a.searched a.is_over };
 }
 
 impl<R: Source> Inbox<R> {
     /// Nothing waits so far. This byte is looked for.
+    #[tactic(auto, using(crate::proofs::RoomLemmas::room_empty))]
     pub(crate) fn new(alloc: Global, source: R, sought: u8) -> Result<Inbox<R>, AllocError>
     where
         R: Drop,
@@ -85,6 +86,7 @@ impl<R: Source> Inbox<R> {
     pub(crate) fn find(&mut self) -> Option<usize>
         ensures kept { self.new ≡ self.old }
         ensures found { IfSome result (λ count. IsBefore self.old.sought self.old.waiting count) }
+        ensures within { IfSome result (λ count. count < room_size) }
         ensures none { result ≡ None → HasNone self.old.sought self.old.waiting }
     {
         let searched = self.searched;
@@ -107,44 +109,44 @@ impl<R: Source> Inbox<R> {
 
     /// Whether nothing comes any more.
     pub(crate) fn is_over(&self) -> bool
-        ensures { result ≡ self.now.is_over }
+        ensures is { result ≡ self.now.is_over }
+        ensures ends { result ≡ true → IsAtEnd self.now.to_come }
     {
         self.is_over
     }
 
-    /// Reads once, behind what waits. `false` where the source has ended; so too where there is no room.
+    /// Reads once, behind what waits, if there is room. `false` where the source has ended.
     pub(crate) fn read(&mut self) -> Result<bool, Failed>
         ensures comes { OnOk result (ComesMore self.old self.new) }
-        ensures over { result ≡ Ok false → self.new.is_over ≡ true }
+        ensures ends { result ≡ Ok false → HasEnded self.old self.new }
         ensures kept { OnErr result (Stays self.old self.new) }
     {
         if self.is_over {
             return Ok(false);
         }
         self.move_to_front();
-        match self.fill() {
-            Ok(count) => {
-                self.is_over = count == 0;
-                Ok(count > 0)
-            }
-            Err(failed) => Err(failed),
-        }
+        self.fill()
     }
 
-    /// Reads once, into the room behind what waits.
-    #[tactic(auto, using(crate::proofs::RoomLemmas::filled_comes, crate::proofs::RoomLemmas::filled_fits, crate::proofs::RoomLemmas::same_fits, crate::proofs::RoomLemmas::same_part))]
-    fn fill(&mut self) -> Result<usize, Failed>
+    /// Reads once, into the room behind what waits. `false` where the source has ended.
+    #[tactic(auto, using(crate::proofs::RoomLemmas::comes_none, crate::proofs::RoomLemmas::failed_holds, crate::proofs::RoomLemmas::same_part))]
+    fn fill(&mut self) -> Result<bool, Failed>
+        requires { self.old.is_over ≡ false }
         ensures comes { OnOk result (ComesMore self.old self.new) }
+        ensures ends { result ≡ Ok false → HasEnded self.old self.new }
         ensures kept { OnErr result (Stays self.old self.new) }
-        ensures over { self.new.is_over ≡ self.old.is_over }
     {
         let end = self.end;
+        if end >= self.room.len() {
+            return Ok(true);
+        }
         let count = match take_behind(&mut self.source, self.room.as_mut_slice(), end) {
             Ok(count) => count,
             Err(failed) => return Err(failed),
         };
+        self.is_over = count == 0;
         self.end += count;
-        Ok(count)
+        Ok(count > 0)
     }
 
     /// Moves what waits to the front of the room.

@@ -1,11 +1,11 @@
 //! The check of one record after another, which keeps its memory: under the filter alone, or with names at any place.
-ghost use Rattle.std.specs.Prelude.{◌≡◌, ◌++◌, ◌<◌, ◌^◌, ℕ, List, [], length, true, false};
+ghost use Rattle.std.specs.Prelude.{◌≡◌, ◌++◌, ◌<◌, ◌^◌, ℕ, List, [], length, true, false, IfSome};
 ghost use Rattle.jser_scan.specs.Founds.{IsFound};
 ghost use Rattle.jser_scan.specs.LastSeen.{AreLast};
 ghost use Rattle.jser_scan.specs.Lines.{is_accepted};
 ghost use Rattle.jser_scan.specs.NamePlaces.{NameStands};
 ghost use Rattle.jser_scan.specs.declared.Rules.{Rules as ToldRules};
-ghost use Rattle.jser_records.specs.Judged.{Ends, FaultIf, FeedFinds, Feeds, HasJudged, IsSound, IsUnder, Took};
+ghost use Rattle.jser_records.specs.Judged.{Ends, FaultIf, FeedFinds, Feeds, HasJudged, IsRead, IsSound, IsUnder, Took};
 
 use jser_check::{FilterGate, Options, Stop};
 use jser_check_anywhere::{AnywhereChecker, AnywhereFault};
@@ -67,6 +67,7 @@ impl<'f> Judge<'f> {
     #[tactic(auto, using(crate::proofs::JudgeLemmas::judged_on, crate::proofs::JudgeLemmas::decided))]
     pub(crate) fn feed(&mut self, bytes: &[u8]) -> Option<Found>
         ensures finds { (taken : List ℕ) → HasJudged self.old taken → FeedFinds self.new taken bytes.now result }
+        ensures read { IfSome result IsRead }
         ensures rules { self.new.rules ≡ self.old.rules }
     {
         self.last.keep(bytes);
@@ -80,6 +81,7 @@ impl<'f> Judge<'f> {
     #[tactic(auto, using(crate::proofs::JudgeLemmas::sound_yes, crate::proofs::JudgeLemmas::sound_fault))]
     pub(crate) fn finish(&mut self) -> Found
         ensures finds { (taken : List ℕ) → HasJudged self.old taken → IsSound self.old.rules taken result }
+        ensures read { IsRead result }
         ensures rules { self.new.rules ≡ self.old.rules }
     {
         match finish(&mut self.check) {
@@ -89,11 +91,12 @@ impl<'f> Judge<'f> {
     }
 
     /// What is found where the check stops.
-    #[tactic(auto, using(crate::proofs::JudgeLemmas::refused_is, crate::proofs::JudgeLemmas::hidden_is, crate::proofs::JudgeLemmas::undecided_is, crate::proofs::JudgeLemmas::refusal_refuses, crate::proofs::JudgeLemmas::hidden_refuses))]
+    #[tactic(auto, using(crate::proofs::JudgeLemmas::refused_is, crate::proofs::JudgeLemmas::hidden_is, crate::proofs::JudgeLemmas::undecided_is, crate::proofs::JudgeLemmas::refusal_refuses, crate::proofs::JudgeLemmas::hidden_refuses, crate::proofs::JudgeLemmas::refusal_read, crate::proofs::JudgeLemmas::hidden_read))]
     fn found(&self, fault: AnywhereFault) -> Found
         ensures is { (bytes : List ℕ) → FaultIf self.now.rules.anywhere self.now.rules bytes fault → IsFound self.now.rules bytes result }
         ensures name { (bytes : List ℕ) → AreLast self.now.last bytes → length bytes < 2 ^ 64 → NameStands bytes result }
         ensures refuses { is_accepted result ≡ false }
+        ensures read { IsRead result }
     {
         match fault {
             AnywhereFault::Stop(Stop::Refused(refusal)) => {

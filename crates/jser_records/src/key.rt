@@ -1,6 +1,7 @@
 //! The KEY of a record: what its line has beside the value.
 
-ghost use Rattle.std.specs.Prelude.{◌≡◌};
+ghost use Rattle.std.specs.Prelude.{◌≡◌, true, false};
+ghost use Rattle.jser_records.specs.Keys.{HasNoKey};
 
 use std::alloc::{AllocError, Global};
 use std::str;
@@ -28,14 +29,18 @@ impl Key {
     }
 
     /// Begins the next record, which has none so far.
-    pub(crate) fn clear(&mut self) {
+    pub(crate) fn clear(&mut self)
+        ensures { HasNoKey self.new }
+    {
         self.bytes.clear();
         self.is_there = false;
         self.is_lost = false;
     }
 
     /// Adds a front of the KEY, or what is behind it. `false` where it is too long: then it is lost.
-    pub(crate) fn add(&mut self, bytes: &[u8]) -> bool {
+    pub(crate) fn add(&mut self, bytes: &[u8]) -> bool
+        ensures lost { result ≡ false → self.new.is_lost ≡ true }
+    {
         let room = MOST.saturating_sub(self.bytes.len());
         if self.is_lost || bytes.len() > room || self.bytes.extend_from_slice(bytes).is_err() {
             self.lose();
@@ -46,7 +51,9 @@ impl Key {
     }
 
     /// Loses it, as it is too long: the record's number stands for it.
-    pub(crate) fn lose(&mut self) {
+    pub(crate) fn lose(&mut self)
+        ensures { self.new.is_lost ≡ true }
+    {
         self.clear();
         self.is_lost = true;
     }

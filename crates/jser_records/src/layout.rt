@@ -35,8 +35,13 @@ pub struct Lines {
 }
 
 impl Lines {
+    ghost use Rattle.std.specs.Prelude.{◌≡◌};
+    ghost use Rattle.jser_records.specs.Lines.{end_of};
+
     /// The byte that ends a line.
-    pub(crate) fn end(self) -> u8 {
+    pub(crate) fn end(self) -> u8
+        ensures { result ≡ end_of self }
+    {
         if self.zero { 0 } else { b'\n' }
     }
 }

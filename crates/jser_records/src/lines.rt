@@ -1,9 +1,13 @@
 //! Records that are lines of text. A line is taken whole where it fits the room for what waits, else piece after piece.
 
-ghost use Rattle.std.specs.Prelude.{◌≡◌, ◌≤◌, ◌<◌, ◌^◌, [], length, true, false, Some, None};
-ghost use Rattle.jser_records.specs.Readings.{HasSpelled, IsOfDigits};
+ghost use Rattle.std.specs.Prelude.{◌≡◌, ◌≤◌, ◌<◌, ◌+◌, ◌^◌, [], length, true, false, OnOk, Ok, Some, None};
+ghost use Rattle.std.specs.Io.KnownBytes.{IsAtEnd};
+ghost use Rattle.jser_records.specs.Arriving.{HasNone, IsBefore, IsOver, room_size};
+ghost use Rattle.jser_records.specs.Lines.{StretchTakes, TakesFirst, TakesLine, end_of};
+ghost use Rattle.jser_records.specs.Readings.{HasSpelled, IsOfDigits, KeepsRules};
+ghost use Rattle.jser_records.specs.Records.{RecordsGoTo, RecordsTo};
 ghost use Rattle.jser_records.specs.Texts.{behind_mark, characters_in, is_null, mark_size};
-ghost use Rattle.jser_records.specs.Told.{GoesTo};
+ghost use Rattle.jser_records.specs.declared.layout.Shape.TheVariants as Shape;
 
 use crate::answer::Answer;
 use crate::clerk::Clerk;
@@ -28,7 +32,6 @@ enum Stretch {
 }
 
 /// Reads records that are lines, to the end of the input.
-#[tactic(auto, using(crate::proofs::ToldLemmas::goes_none, crate::proofs::ToldLemmas::goes_both, crate::proofs::ToldLemmas::goes_from, crate::proofs::ToldLemmas::goes_on, crate::proofs::ToldLemmas::goes_kept, crate::proofs::ToldLemmas::goes_changed))]
 pub(crate) fn read_lines<R: Source, W: Sink, E: Sink>(
     inbox: &mut Inbox<R>,
     clerk: &mut Clerk<'_>,
@@ -36,18 +39,22 @@ pub(crate) fn read_lines<R: Source, W: Sink, E: Sink>(
     output: &mut W,
     faults: &mut E,
 ) -> Result<(), Trouble>
-    ensures goes { GoesTo W.gone_out W.has_failed E.gone_out E.has_failed clerk.old clerk.new output.old output.new faults.old faults.new }
+    requires sought { inbox.old.sought ≡ end_of lines }
+    ensures records { RecordsTo W.gone_out W.has_failed E.gone_out E.has_failed result (Shape.Lines lines) clerk.old clerk.new inbox.old inbox.new output.old output.new faults.old faults.new }
+    ensures over { OnOk result (IsOver inbox.new) }
 {
     'lines: for _ in 0..u64::MAX {
-        if !next_line(inbox, clerk, lines, output, faults)? {
-            return Ok(());
+        match next_line(inbox, clerk, lines, output, faults) {
+            Ok(true) => {}
+            Ok(false) => return Ok(()),
+            Err(trouble) => return Err(trouble),
         }
     }
-    Ok(())
+    // No input has so many lines.
+    Err(Trouble::Read)
 }
 
 /// Reads the next line, or more of the input where its end is not there. `false` at the end of the input.
-#[tactic(auto, using(crate::proofs::ToldLemmas::goes_none, crate::proofs::ToldLemmas::goes_both, crate::proofs::ToldLemmas::goes_from, crate::proofs::ToldLemmas::goes_on, crate::proofs::ToldLemmas::goes_kept, crate::proofs::ToldLemmas::goes_changed))]
 fn next_line<R: Source, W: Sink, E: Sink>(
     inbox: &mut Inbox<R>,
     clerk: &mut Clerk<'_>,
@@ -55,52 +62,67 @@ fn next_line<R: Source, W: Sink, E: Sink>(
     output: &mut W,
     faults: &mut E,
 ) -> Result<bool, Trouble>
-    ensures goes { GoesTo W.gone_out W.has_failed E.gone_out E.has_failed clerk.old clerk.new output.old output.new faults.old faults.new }
+    requires sought { inbox.old.sought ≡ end_of lines }
+    ensures records { RecordsTo W.gone_out W.has_failed E.gone_out E.has_failed result (Shape.Lines lines) clerk.old clerk.new inbox.old inbox.new output.old output.new faults.old faults.new }
+    ensures over { result ≡ Ok false → IsOver inbox.new }
+    ensures sought { OnOk result (inbox.new.sought ≡ inbox.old.sought) }
 {
     match inbox.find() {
         Some(count) => {
-            take_line(
-                &mut clerk.current,
-                lines,
-                inbox.front(count),
-                line_end(lines),
-            );
-            inbox.pass(count.saturating_add(1));
+            take_whole_line(inbox, &mut clerk.current, lines, count);
             clerk.close(output, faults);
             Ok(true)
         }
-        None if inbox.is_full() => {
-            read_long_line(inbox, clerk, lines, output, faults)?;
-            Ok(true)
-        }
-        None => {
-            if read_more(inbox, clerk, output, faults)? {
-                return Ok(true);
+        None if inbox.is_full() => read_long_line(inbox, clerk, lines, output, faults),
+        None => match read_more(inbox, clerk, output, faults) {
+            Ok(true) => Ok(true),
+            Ok(false) => {
+                take_last_line(inbox, clerk, lines, output, faults);
+                Ok(false)
             }
-            take_last_line(inbox, clerk, lines, output, faults)?;
-            Ok(false)
-        }
+            Err(trouble) => Err(trouble),
+        },
     }
 }
 
+/// Takes a line of so many bytes and its end, which wait.
+fn take_whole_line<R: Source>(
+    inbox: &mut Inbox<R>,
+    current: &mut Record<'_>,
+    lines: Lines,
+    count: usize,
+)
+    requires before { IsBefore (end_of lines) inbox.old.waiting count }
+    requires within { count < room_size }
+    ensures takes { TakesLine (end_of lines) inbox.old inbox.new }
+    ensures rules { KeepsRules current.old.reading current.new.reading }
+    ensures sought { inbox.new.sought ≡ inbox.old.sought }
+{
+    take_line(current, lines, inbox.front(count), line_end(lines));
+    inbox.pass(count + 1);
+}
+
 /// What is left at the end of the input is the last line, if it has a byte.
-#[tactic(auto, using(crate::proofs::ToldLemmas::goes_none, crate::proofs::ToldLemmas::goes_both, crate::proofs::ToldLemmas::goes_from, crate::proofs::ToldLemmas::goes_on, crate::proofs::ToldLemmas::goes_kept, crate::proofs::ToldLemmas::goes_changed))]
 fn take_last_line<R: Source, W: Sink, E: Sink>(
     inbox: &mut Inbox<R>,
     clerk: &mut Clerk<'_>,
     lines: Lines,
     output: &mut W,
     faults: &mut E,
-) -> Result<(), Trouble>
-    ensures goes { GoesTo W.gone_out W.has_failed E.gone_out E.has_failed clerk.old clerk.new output.old output.new faults.old faults.new }
+)
+    requires none { HasNone (end_of lines) inbox.old.waiting }
+    requires ends { IsAtEnd inbox.old.to_come }
+    ensures records { RecordsGoTo W.gone_out W.has_failed E.gone_out E.has_failed (Shape.Lines lines) clerk.old clerk.new inbox.old inbox.new output.old output.new faults.old faults.new }
+    ensures over { IsOver inbox.new }
+    ensures sought { inbox.new.sought ≡ inbox.old.sought }
 {
     let count = inbox.waiting().len();
-    if count > 0 {
-        take_line(&mut clerk.current, lines, inbox.front(count), &[]);
-        inbox.pass(count);
-        clerk.close(output, faults);
+    if count == 0 {
+        return;
     }
-    Ok(())
+    take_line(&mut clerk.current, lines, inbox.front(count), &[]);
+    inbox.pass(count);
+    clerk.close(output, faults);
 }
 
 /// The bytes that end a line.
@@ -109,7 +131,9 @@ fn line_end(lines: Lines) -> &'static [u8] {
 }
 
 /// Takes a whole line, without its end, which is told beside it.
-fn take_line(current: &mut Record<'_>, lines: Lines, line: &[u8], end: &[u8]) {
+fn take_line(current: &mut Record<'_>, lines: Lines, line: &[u8], end: &[u8])
+    ensures rules { KeepsRules current.old.reading current.new.reading }
+{
     current.begin(lines.form);
     current.hold(line);
     current.hold(end);
@@ -129,7 +153,9 @@ fn without_return(lines: Lines, line: &[u8]) -> usize
 }
 
 /// Takes the first bytes of a line, all of its KEY before the value among them.
-fn take_front(current: &mut Record<'_>, lines: Lines, line: &[u8]) -> Stretch {
+fn take_front(current: &mut Record<'_>, lines: Lines, line: &[u8]) -> Stretch
+    ensures rules { KeepsRules current.old.reading current.new.reading }
+{
     let parts = parts_of(line, lines.field);
     let (before, rest) = line.split_at(parts.from);
     if parts.from > 0 || parts.front > 0 {
@@ -149,7 +175,9 @@ fn take_front(current: &mut Record<'_>, lines: Lines, line: &[u8]) -> Stretch {
 }
 
 /// Takes what is behind a value, from the TAB on. It is the first of the KEY where nothing is before the value.
-fn take_behind(current: &mut Record<'_>, behind: &[u8], is_first: bool) {
+fn take_behind(current: &mut Record<'_>, behind: &[u8], is_first: bool)
+    ensures rules { KeepsRules current.old.reading current.new.reading }
+{
     let skipped = if is_first { 1 } else { 0 };
     if let Some(rest) = behind.get(skipped..) {
         current.reading.add_key(rest);
@@ -161,6 +189,7 @@ fn take_value_front(current: &mut Record<'_>, form: Form, value: &[u8])
     ensures null { is_null value.now ≡ true → current.old.reading.answer ≡ None → current.new.reading.answer ≡ Some Answer.Null }
     ensures text { is_null value.now ≡ false → IsOfDigits form → length value.now < 2 ^ 63 → HasSpelled current.old.reading form []
         → HasSpelled current.new.reading form (characters_in form (behind_mark form value.now)) }
+    ensures rules { KeepsRules current.old.reading current.new.reading }
 {
     if is_null(value) {
         current.reading.decide_null();
@@ -197,45 +226,92 @@ fn mark_len(value: &[u8]) -> usize
     }
 }
 
-/// Reads a line that does not fit the room, which is full of its first bytes.
-#[tactic(auto, using(crate::proofs::ToldLemmas::goes_none, crate::proofs::ToldLemmas::goes_both, crate::proofs::ToldLemmas::goes_from, crate::proofs::ToldLemmas::goes_on, crate::proofs::ToldLemmas::goes_kept, crate::proofs::ToldLemmas::goes_changed))]
+/// Reads a line that does not fit the room, which is full of its first bytes. Always `true`.
 fn read_long_line<R: Source, W: Sink, E: Sink>(
     inbox: &mut Inbox<R>,
     clerk: &mut Clerk<'_>,
     lines: Lines,
     output: &mut W,
     faults: &mut E,
-) -> Result<(), Trouble>
-    ensures goes { GoesTo W.gone_out W.has_failed E.gone_out E.has_failed clerk.old clerk.new output.old output.new faults.old faults.new }
+) -> Result<bool, Trouble>
+    requires sought { inbox.old.sought ≡ end_of lines }
+    requires none { HasNone (end_of lines) inbox.old.waiting }
+    requires long { 1 < length inbox.old.waiting }
+    ensures records { RecordsTo W.gone_out W.has_failed E.gone_out E.has_failed result (Shape.Lines lines) clerk.old clerk.new inbox.old inbox.new output.old output.new faults.old faults.new }
+    ensures over { result ≡ Ok false → IsOver inbox.new }
+    ensures sought { OnOk result (inbox.new.sought ≡ inbox.old.sought) }
+{
+    let mut stretch = first_stretch(inbox, &mut clerk.current, lines);
+    'stretches: for _ in 0..u64::MAX {
+        match next_stretch(inbox, &mut clerk.current, lines, stretch) {
+            Some(next) => stretch = next,
+            None => {
+                clerk.close(output, faults);
+                return Ok(true);
+            }
+        }
+        match read_more(inbox, clerk, output, faults) {
+            Ok(_) => {}
+            Err(trouble) => return Err(trouble),
+        }
+    }
+    // No line comes in so many pieces.
+    Err(Trouble::Read)
+}
+
+/// Takes the first bytes of a long line, all that wait but for a last one that belongs together with the next.
+fn first_stretch<R: Source>(inbox: &mut Inbox<R>, current: &mut Record<'_>, lines: Lines) -> Stretch
+    requires none { HasNone (end_of lines) inbox.old.waiting }
+    requires long { 1 < length inbox.old.waiting }
+    ensures takes { TakesFirst (end_of lines) inbox.old inbox.new }
+    ensures sought { inbox.new.sought ≡ inbox.old.sought }
+    ensures rules { KeepsRules current.old.reading current.new.reading }
 {
     let count = whole_count(inbox.waiting());
-    let mut stretch = begin_line(&mut clerk.current, lines, inbox.front(count));
+    let stretch = begin_line(current, lines, inbox.front(count));
     inbox.pass(count);
-    'pieces: for _ in 0..u64::MAX {
-        let found = inbox.find();
-        let ends = found.is_some() || inbox.is_over();
-        let count = match found {
-            Some(count) => count,
-            None if ends => inbox.waiting().len(),
-            None => whole_count(inbox.waiting()),
-        };
-        stretch = take_piece(&mut clerk.current, lines, stretch, inbox.front(count), ends);
-        inbox.pass(count);
-        if ends {
-            if found.is_some() {
-                clerk.current.hold(line_end(lines));
-                inbox.pass(1);
-            }
-            clerk.close(output, faults);
-            return Ok(());
+    stretch
+}
+
+/// Takes the next bytes of a long line that wait. `None` where these are the last ones.
+fn next_stretch<R: Source>(
+    inbox: &mut Inbox<R>,
+    current: &mut Record<'_>,
+    lines: Lines,
+    stretch: Stretch,
+) -> Option<Stretch>
+    requires sought { inbox.old.sought ≡ end_of lines }
+    ensures takes { StretchTakes (end_of lines) inbox.old inbox.new result }
+    ensures sought { inbox.new.sought ≡ inbox.old.sought }
+    ensures rules { KeepsRules current.old.reading current.new.reading }
+{
+    match inbox.find() {
+        Some(count) => {
+            take_piece(current, lines, stretch, inbox.front(count), true);
+            current.hold(line_end(lines));
+            inbox.pass(count + 1);
+            None
         }
-        let _ = read_more(inbox, clerk, output, faults)?;
+        None if inbox.is_over() => {
+            let count = inbox.waiting().len();
+            take_piece(current, lines, stretch, inbox.front(count), true);
+            inbox.pass(count);
+            None
+        }
+        None => {
+            let count = whole_count(inbox.waiting());
+            let next = take_piece(current, lines, stretch, inbox.front(count), false);
+            inbox.pass(count);
+            Some(next)
+        }
     }
-    Ok(())
 }
 
 /// How many of the bytes that wait may be taken before the next ones come: not a last one that belongs together with the next.
-fn whole_count(waiting: &[u8]) -> usize {
+fn whole_count(waiting: &[u8]) -> usize
+    ensures within { result ≤ length waiting.now }
+    ensures most { length waiting.now ≤ result + 1 }
+{
     match waiting {
         [front @ .., b'\r'] | [front @ .., b'\\'] => front.len(),
         _ => waiting.len(),
@@ -243,7 +319,9 @@ fn whole_count(waiting: &[u8]) -> usize {
 }
 
 /// Begins a long line by its first bytes.
-fn begin_line(current: &mut Record<'_>, lines: Lines, front: &[u8]) -> Stretch {
+fn begin_line(current: &mut Record<'_>, lines: Lines, front: &[u8]) -> Stretch
+    ensures rules { KeepsRules current.old.reading current.new.reading }
+{
     current.begin(lines.form);
     current.hold(front);
     take_front(current, lines, front)
@@ -256,7 +334,9 @@ fn take_piece(
     stretch: Stretch,
     piece: &[u8],
     is_last: bool,
-) -> Stretch {
+) -> Stretch
+    ensures rules { KeepsRules current.old.reading current.new.reading }
+{
     current.hold(piece);
     let count = if is_last {
         without_return(lines, piece)
@@ -268,7 +348,9 @@ fn take_piece(
 }
 
 /// Takes the text of a piece.
-fn take_text(current: &mut Record<'_>, form: Form, stretch: Stretch, text: &[u8]) -> Stretch {
+fn take_text(current: &mut Record<'_>, form: Form, stretch: Stretch, text: &[u8]) -> Stretch
+    ensures rules { KeepsRules current.old.reading current.new.reading }
+{
     match stretch {
         Stretch::Behind => {
             current.reading.add_key(text);

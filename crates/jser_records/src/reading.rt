@@ -2,10 +2,12 @@
 ghost use Rattle.std.specs.Prelude.{◌≡◌, ◌⊎◌, ◌++◌, ◌+◌, ◌<◌, ◌≤◌, ◌^◌, ℕ, List, [], length, take, true, false, Some, None, IfSome, IfOk};
 ghost use Rattle.std.specs.Option.{is_some};
 ghost use Rattle.jser_inputs.specs.declared.Form.{Form as ToldForm};
+ghost use Rattle.jser_inputs.specs.declared.place.Place.TheVariants as Place;
 ghost use Rattle.jser_scan.specs.declared.Rules.{Rules as ToldRules};
 ghost use Rattle.jser_inputs.specs.Places.{first_place, is_whole, is_wrong};
 ghost use Rattle.jser_inputs.specs.Spelled.{spelling_of};
-ghost use Rattle.jser_records.specs.Readings.{HasRead, HasSpelled, IsOfDigits, IsRight, KeepsRules};
+ghost use Rattle.jser_records.specs.Keys.{HasNoKey};
+ghost use Rattle.jser_records.specs.Readings.{Counts, HasPlain, HasRead, HasSpelled, IsOfBytes, IsOfDigits, IsRight, KeepsRules};
 
 use crate::answer::Answer;
 use crate::judge::Judge;
@@ -52,6 +54,8 @@ impl<'f> Reading<'f> {
         ensures has { HasRead self.new [] }
         ensures spelled { HasSpelled self.new form [] }
         ensures open { self.new.answer ≡ None }
+        ensures place { self.new.decoder.spot.place ≡ first_place form }
+        ensures key { HasNoKey self.new.key }
         ensures rules { KeepsRules self.old self.new }
     {
         self.judge.restart();
@@ -63,7 +67,7 @@ impl<'f> Reading<'f> {
 
     /// Adds to its KEY.
     pub(crate) fn add_key(&mut self, bytes: &[u8])
-        ensures { (self.new ≡ record self.old { key = self.new.key }) ⊎ (self.new ≡ record self.old { key = self.new.key; answer = Some Answer.LongKey }) }
+        ensures { (self.new ≡ record self.old { key = self.new.key }) ⊎ ((self.new ≡ record self.old { key = self.new.key; answer = Some Answer.LongKey }) × (self.new.key.is_lost ≡ true)) }
     {
         if !self.key.add(bytes) {
             self.decide(Answer::LongKey);
@@ -72,7 +76,8 @@ impl<'f> Reading<'f> {
 
     /// Its KEY is too long.
     pub(crate) fn lose_key(&mut self)
-        ensures { self.new ≡ record self.old { key = self.new.key; answer = Some Answer.LongKey } }
+        ensures rest { self.new ≡ record self.old { key = self.new.key; answer = Some Answer.LongKey } }
+        ensures lost { self.new.key.is_lost ≡ true }
     {
         self.key.lose();
         self.decide(Answer::LongKey);
@@ -100,6 +105,17 @@ impl<'f> Reading<'f> {
     {
         if !self.is_answered() {
             self.decide(Answer::Null);
+        }
+    }
+
+    /// Its value has so many bytes, none of which came so far: where that is more than are read, that is the answer.
+    #[tactic(auto, using(crate::proofs::FrameLemmas::counts_longer))]
+    pub(crate) fn limit(&mut self, count: u64)
+        ensures counts { (before : List ℕ) → HasPlain self.old before → Counts self.new count before }
+        ensures rest { self.new ≡ record self.old { answer = self.new.answer } }
+    {
+        if count > self.most {
+            self.decide(Answer::Longer { most: self.most });
         }
     }
 
@@ -131,6 +147,8 @@ impl<'f> Reading<'f> {
     #[tactic(auto, using(crate::proofs::ReadingLemmas::took_none))]
     pub(crate) fn take(&mut self, bytes: &[u8])
         ensures has { (taken : List ℕ) → HasRead self.old taken → HasRead self.new (taken ++ bytes.now) }
+        ensures answered { IfSome self.old.answer (λ a. self.new ≡ self.old) }
+        ensures bytes { IfSome self.old.answer IsOfBytes → IfSome self.new.answer IsOfBytes }
         ensures rules { KeepsRules self.old self.new }
         ensures key { self.new.key ≡ self.old.key }
         ensures decoder { self.new.decoder ≡ self.old.decoder }
@@ -150,6 +168,7 @@ impl<'f> Reading<'f> {
         requires open { self.old.answer ≡ None }
         requires fits { length bytes.now ≤ self.old.room }
         ensures has { (taken : List ℕ) → HasRead self.old taken → HasRead self.new (taken ++ bytes.now) }
+        ensures bytes { IfSome self.new.answer IsOfBytes }
         ensures rules { KeepsRules self.old self.new }
         ensures key { self.new.key ≡ self.old.key }
         ensures decoder { self.new.decoder ≡ self.old.decoder }
@@ -165,6 +184,7 @@ impl<'f> Reading<'f> {
         requires open { self.old.answer ≡ None }
         requires longer { self.old.room < length bytes.now }
         ensures has { (taken : List ℕ) → HasRead self.old taken → HasRead self.new (taken ++ bytes.now) }
+        ensures bytes { IfSome self.new.answer IsOfBytes }
         ensures rules { KeepsRules self.old self.new }
         ensures key { self.new.key ≡ self.old.key }
         ensures decoder { self.new.decoder ≡ self.old.decoder }
@@ -182,6 +202,7 @@ impl<'f> Reading<'f> {
         ensures has { (taken : List ℕ) → HasRead self.old taken → HasRead self.new taken }
         ensures rest { self.new ≡ record self.old { answer = self.new.answer } }
         ensures kept { IfSome self.old.answer (λ a. self.new.answer ≡ Some a) }
+        ensures bytes { self.old.decoder.spot.place ≡ Place.Bytes → self.new ≡ self.old }
         ensures unread { self.old.answer ≡ None → (rules : ToldRules) (most : ℕ) (bytes : List ℕ) → IfSome self.new.answer (λ a. IsRight rules most bytes a) }
         ensures open { self.new.answer ≡ None → (self.old.answer ≡ None) × (is_wrong self.old.decoder.spot.place ≡ false) }
     {
@@ -197,6 +218,7 @@ impl<'f> Reading<'f> {
     pub(crate) fn finish(&mut self) -> Answer
         ensures right { (bytes : List ℕ) → HasRead self.old bytes → IsRight self.old.judge.rules self.old.most bytes result }
         ensures spelled { (form : ToldForm) (text : List ℕ) → HasSpelled self.old form text → IsRight self.old.judge.rules self.old.most (spelling_of form text) result }
+        ensures bytes { self.old.decoder.spot.place ≡ Place.Bytes → IfSome self.old.answer IsOfBytes → IsOfBytes result }
         ensures kept { IfSome self.old.answer (λ a. result ≡ a) }
         ensures rules { KeepsRules self.old self.new }
         ensures key { self.new.key ≡ self.old.key }

@@ -1,7 +1,9 @@
 //! All records of an input, from the first to the counts.
-ghost use Rattle.std.specs.Prelude.{◌≡◌, ◌≢◌, ◌⊎◌, [], false, IfOk, MatchResult};
+ghost use Rattle.std.specs.Prelude.{◌≡◌, ◌≢◌, ◌⊎◌, [], false, IfOk, MatchResult, OnOk, Ok};
 ghost use Rattle.jser_scan.specs.Tallies.{status_of};
-ghost use Rattle.jser_records.specs.Told.{GoesTo, WrittenTo, WroteTo};
+ghost use Rattle.jser_records.specs.Arriving.{ComesMore, HasEnded, ahead};
+ghost use Rattle.jser_records.specs.Inputs.{ReadsTo, WrittenTo, WroteTo, sought_in};
+ghost use Rattle.jser_records.specs.Told.{GoesTo, QuietTo};
 
 use crate::clerk::Clerk;
 use crate::frames::read_frames;
@@ -41,7 +43,7 @@ pub(crate) enum Trouble {
 /// What it allocates is what a check does, and room that does not grow: 128 KB for what was read and a KEY of at most 65,535 bytes.
 /// With `pass` it also keeps one record. The status is that of `scan`: 3 where a record could not be read, or a device failed, else 1
 /// where one was refused, else 0.
-#[tactic(auto, using(crate::proofs::ToldLemmas::written_none, crate::proofs::ToldLemmas::written_failed, crate::proofs::ToldLemmas::written_by))]
+#[tactic(auto, using(crate::proofs::InputLemmas::written_none, crate::proofs::InputLemmas::written_failed, crate::proofs::InputLemmas::written_by))]
 pub fn run_records<R: Source + Drop, W: Sink, E: Sink>(
     alloc: Global,
     rules: &Rules,
@@ -52,7 +54,7 @@ pub fn run_records<R: Source + Drop, W: Sink, E: Sink>(
 ) -> u8
     ensures status { (result ≡ 0) ⊎ ((result ≡ 1) ⊎ (result ≡ 3)) }
     ensures unbroken { result ≢ 3 → W.has_failed output.new ≡ W.has_failed output.old }
-    ensures written { WrittenTo W.gone_out W.has_failed asked.how asked.pass output.old output.new result }
+    ensures written { WrittenTo W.gone_out W.has_failed asked rules.now (R.to_come source) output.old output.new result }
 {
     if output.failed() {
         return tell_failure(faults, "write failed\n");
@@ -82,7 +84,7 @@ fn status_of<E: Sink>(read: Result<Tally, Trouble>, faults: &mut E) -> u8
 }
 
 /// Reads all records, and writes their answers. The counts are returned.
-#[tactic(auto, using(crate::proofs::ToldLemmas::wrote_none))]
+#[tactic(auto, using(crate::proofs::InputLemmas::wrote_none))]
 fn read_all<R: Source + Drop, W: Sink, E: Sink>(
     alloc: Global,
     rules: &Rules,
@@ -91,7 +93,7 @@ fn read_all<R: Source + Drop, W: Sink, E: Sink>(
     output: &mut W,
     faults: &mut E,
 ) -> Result<Tally, Trouble>
-    ensures { WroteTo W.gone_out W.has_failed asked.how asked.pass output.old output.new result }
+    ensures { WroteTo W.gone_out W.has_failed asked rules.now (R.to_come source) output.old output.new result }
 {
     match Inbox::new(alloc, source, sought_in(asked.layout.shape)) {
         Ok(mut inbox) => read_from(alloc, rules, asked, &mut inbox, output, faults),
@@ -100,7 +102,9 @@ fn read_all<R: Source + Drop, W: Sink, E: Sink>(
 }
 
 /// The byte that ends a line of this shape.
-fn sought_in(shape: Shape) -> u8 {
+fn sought_in(shape: Shape) -> u8
+    ensures { result ≡ sought_in shape }
+{
     match shape {
         Shape::Lines(lines) => lines.end(),
         Shape::Frames | Shape::Sized => b'\n',
@@ -108,7 +112,7 @@ fn sought_in(shape: Shape) -> u8 {
 }
 
 /// Reads all records that come there.
-#[tactic(auto, using(crate::proofs::ToldLemmas::wrote, crate::proofs::ToldLemmas::wrote_none))]
+#[tactic(auto, using(crate::proofs::InputLemmas::wrote, crate::proofs::InputLemmas::wrote_none))]
 fn read_from<R: Source, W: Sink, E: Sink>(
     alloc: Global,
     rules: &Rules,
@@ -117,28 +121,30 @@ fn read_from<R: Source, W: Sink, E: Sink>(
     output: &mut W,
     faults: &mut E,
 ) -> Result<Tally, Trouble>
-    ensures { WroteTo W.gone_out W.has_failed asked.how asked.pass output.old output.new result }
+    requires { inbox.old.sought ≡ sought_in asked.layout.shape }
+    ensures { WroteTo W.gone_out W.has_failed asked rules.now (ahead inbox.old) output.old output.new result }
 {
     match Clerk::new(alloc, rules, asked.how, asked.pass, asked.layout.most) {
-        Ok(mut clerk) => read_by(inbox, &mut clerk, asked.layout, output, faults),
+        Ok(mut clerk) => read_by(inbox, &mut clerk, asked.layout.shape, output, faults),
         Err(_) => Err(Trouble::Memory),
     }
 }
 
 /// Reads all records by this clerk, and writes all that waits.
-#[tactic(auto, using(crate::proofs::ToldLemmas::goes_both))]
+#[tactic(auto, using(crate::proofs::InputLemmas::reads_flushed))]
 fn read_by<R: Source, W: Sink, E: Sink>(
     inbox: &mut Inbox<R>,
     clerk: &mut Clerk<'_>,
-    layout: Layout,
+    shape: Shape,
     output: &mut W,
     faults: &mut E,
 ) -> Result<Tally, Trouble>
-    ensures goes { GoesTo W.gone_out W.has_failed E.gone_out E.has_failed clerk.old clerk.new output.old output.new faults.old faults.new }
+    requires { inbox.old.sought ≡ sought_in shape }
+    ensures reads { ReadsTo W.gone_out W.has_failed E.gone_out E.has_failed result shape clerk.old clerk.new (ahead inbox.old) output.old output.new faults.old faults.new }
     ensures empty { clerk.new.output.failed ≡ false → clerk.new.output.waiting ≡ [] }
     ensures tally { IfOk result (λ tally. tally ≡ clerk.new.tally) }
 {
-    let read = read_shape(inbox, clerk, layout, output, faults);
+    let read = read_shape(inbox, clerk, shape, output, faults);
     if clerk.flush(output, faults).is_err() {
         return Err(Trouble::Write);
     }
@@ -148,20 +154,22 @@ fn read_by<R: Source, W: Sink, E: Sink>(
     }
 }
 
-/// Reads all records of this layout.
+/// Reads all records of this shape.
+#[tactic(auto, using(crate::proofs::InputLemmas::reads_lines, crate::proofs::InputLemmas::reads_frames, crate::proofs::InputLemmas::reads_sized))]
 fn read_shape<R: Source, W: Sink, E: Sink>(
     inbox: &mut Inbox<R>,
     clerk: &mut Clerk<'_>,
-    layout: Layout,
+    shape: Shape,
     output: &mut W,
     faults: &mut E,
 ) -> Result<(), Trouble>
-    ensures goes { GoesTo W.gone_out W.has_failed E.gone_out E.has_failed clerk.old clerk.new output.old output.new faults.old faults.new }
+    requires { inbox.old.sought ≡ sought_in shape }
+    ensures reads { ReadsTo W.gone_out W.has_failed E.gone_out E.has_failed result shape clerk.old clerk.new (ahead inbox.old) output.old output.new faults.old faults.new }
 {
-    match layout.shape {
+    match shape {
         Shape::Lines(lines) => read_lines(inbox, clerk, lines, output, faults),
-        Shape::Frames => read_frames(inbox, clerk, layout.most, output, faults),
-        Shape::Sized => read_sized(inbox, clerk, layout.most, output, faults),
+        Shape::Frames => read_frames(inbox, clerk, output, faults),
+        Shape::Sized => read_sized(inbox, clerk, output, faults),
     }
 }
 
@@ -173,6 +181,10 @@ pub(crate) fn read_more<R: Source, W: Sink, E: Sink>(
     faults: &mut E,
 ) -> Result<bool, Trouble>
     ensures goes { GoesTo W.gone_out W.has_failed E.gone_out E.has_failed clerk.old clerk.new output.old output.new faults.old faults.new }
+    ensures quiet { QuietTo W.gone_out W.has_failed E.gone_out E.has_failed clerk.old clerk.new output.old output.new faults.old faults.new }
+    ensures current { clerk.new.current ≡ clerk.old.current }
+    ensures comes { OnOk result (ComesMore inbox.old inbox.new) }
+    ensures ends { result ≡ Ok false → HasEnded inbox.old inbox.new }
 {
     if clerk.flush(output, faults).is_err() {
         return Err(Trouble::Write);

@@ -27,14 +27,13 @@ enum LineEnd {
 pub(crate) fn read_sized<R: Source, W: Sink, E: Sink>(
     inbox: &mut Inbox<R>,
     clerk: &mut Clerk<'_>,
-    most: u64,
     output: &mut W,
     faults: &mut E,
 ) -> Result<(), Trouble>
     ensures goes { GoesTo W.gone_out W.has_failed E.gone_out E.has_failed clerk.old clerk.new output.old output.new faults.old faults.new }
 {
     'records: for _ in 0..u64::MAX {
-        if !next_record(inbox, clerk, most, output, faults)? {
+        if !next_record(inbox, clerk, output, faults)? {
             return Ok(());
         }
     }
@@ -47,24 +46,23 @@ pub(crate) fn read_sized<R: Source, W: Sink, E: Sink>(
 fn next_record<R: Source, W: Sink, E: Sink>(
     inbox: &mut Inbox<R>,
     clerk: &mut Clerk<'_>,
-    most: u64,
     output: &mut W,
     faults: &mut E,
 ) -> Result<bool, Trouble>
     ensures goes { GoesTo W.gone_out W.has_failed E.gone_out E.has_failed clerk.old clerk.new output.old output.new faults.old faults.new }
 {
     match inbox.find() {
-        Some(count) => take_line(inbox, clerk, most, count, 1, output, faults),
+        Some(count) => take_line(inbox, clerk, count, 1, output, faults),
         None if inbox.is_full() => {
             let count = inbox.waiting().len();
-            take_line(inbox, clerk, most, count, 0, output, faults)
+            take_line(inbox, clerk, count, 0, output, faults)
         }
         None => {
             if read_more(inbox, clerk, output, faults)? {
                 return Ok(true);
             }
             let count = inbox.waiting().len();
-            take_line(inbox, clerk, most, count, 0, output, faults)
+            take_line(inbox, clerk, count, 0, output, faults)
         }
     }
 }
@@ -75,7 +73,6 @@ fn next_record<R: Source, W: Sink, E: Sink>(
 fn take_line<R: Source, W: Sink, E: Sink>(
     inbox: &mut Inbox<R>,
     clerk: &mut Clerk<'_>,
-    most: u64,
     count: usize,
     end: usize,
     output: &mut W,
@@ -95,7 +92,6 @@ fn take_line<R: Source, W: Sink, E: Sink>(
     take_record(
         inbox,
         clerk,
-        most,
         header,
         count.saturating_add(end),
         output,
@@ -116,7 +112,6 @@ fn without_return(line: &[u8]) -> &[u8] {
 fn take_record<R: Source, W: Sink, E: Sink>(
     inbox: &mut Inbox<R>,
     clerk: &mut Clerk<'_>,
-    most: u64,
     header: Header,
     size: usize,
     output: &mut W,
@@ -141,7 +136,7 @@ fn take_record<R: Source, W: Sink, E: Sink>(
         }
         Header::Bytes { key, count } => {
             begin_record(inbox, &mut clerk.current, key, size);
-            take_value(inbox, clerk, most, count, output, faults)
+            take_value(inbox, clerk, count, output, faults)
         }
     }
 }
@@ -151,14 +146,13 @@ fn take_record<R: Source, W: Sink, E: Sink>(
 fn take_value<R: Source, W: Sink, E: Sink>(
     inbox: &mut Inbox<R>,
     clerk: &mut Clerk<'_>,
-    most: u64,
     count: u64,
     output: &mut W,
     faults: &mut E,
 ) -> Result<bool, Trouble>
     ensures goes { GoesTo W.gone_out W.has_failed E.gone_out E.has_failed clerk.old clerk.new output.old output.new faults.old faults.new }
 {
-    take_bytes(inbox, clerk, most, count, output, faults)?;
+    take_bytes(inbox, clerk, count, output, faults)?;
     let passed = clerk.close(output, faults);
     take_line_end(inbox, clerk, passed, output, faults)
 }

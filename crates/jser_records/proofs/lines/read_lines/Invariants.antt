@@ -1,5 +1,11 @@
-use Rattle.jser_records.specs.Told.{GoesTo}
+use Rattle.std.proofs.Common.{◌≡◌}
+use Rattle.jser_records.specs.declared.layout.Shape.TheVariants as shape
+use Rattle.jser_records.specs.Lines.{end_of}
+use Rattle.jser_records.specs.Records.{RecordsGoTo}
 use Rattle.jser_records.proofs.lines.read_lines.Given as goal
 
 abbrev pub invariant-lines : goal.invariant-lines
-invariant-lines g l = GoesTo g.W.Sink.gone_out g.W.Sink.has_failed g.E.Sink.gone_out g.E.Sink.has_failed l.fn.clerk l.clerk l.fn.output l.output l.fn.faults l.faults
+invariant-lines g l = record {
+  records : RecordsGoTo g.W.Sink.gone_out g.W.Sink.has_failed g.E.Sink.gone_out g.E.Sink.has_failed (shape.Lines l.lines) l.fn.clerk l.clerk l.fn.inbox l.inbox l.fn.output l.output l.fn.faults l.faults;
+  sought : l.inbox.sought ≡ end_of l.lines;
+}

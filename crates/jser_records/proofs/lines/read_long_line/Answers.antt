@@ -1,0 +1,43 @@
+use Rattle.std.proofs.Common.{refl, ◌∙◌}
+use Rattle.jser_records.specs.declared.layout.Shape.TheVariants as shape
+use Rattle.jser_records.specs.Lines.{end_of}
+use Rattle.jser_records.proofs.LineLemmas.{first_later, first_more, line_ended, line_taken}
+use Rattle.jser_records.proofs.RecordLemmas.{front_quiet}
+use Rattle.jser_records.proofs.RoomLemmas.{took_more}
+use Rattle.jser_records.proofs.ToldLemmas.{quiet_both, quiet_then_changed}
+use Rattle.jser_records.proofs.lines.read_long_line.Goals as goal
+
+pub returns-in-None-clause-records : goal.returns-in-None-clause-records
+returns-in-None-clause-records g c =
+    let was = c.args.clerk.now in
+    let mid = c.stretches.clerk in
+    let last = record mid { current = c.next_stretch.new.current } in
+    line_ended c.args.lines was last c.close.new.self c.args.inbox.now c.next_stretch.new.inbox _ _ _ _ _ _ c.close.result
+    (quiet_then_changed was mid last _ _ _ _ c.stretches.invariant.quiet refl c.next_stretch.ensures.rules)
+    (line_taken (end_of c.args.lines) c.args.inbox.now c.stretches.inbox c.next_stretch.new.inbox c.stretches.invariant.takes c.in-None.ensures.takes) c.close.ensures.closes
+
+pub returns-in-Err-clause-records : goal.returns-in-Err-clause-records
+returns-in-Err-clause-records g c =
+    let was = c.args.clerk.now in
+    let mid = c.stretches.clerk in
+    let last = record mid { current = c.next_stretch.new.current } in
+    front_quiet (shape.Lines c.args.lines) was c.read_more.new.clerk c.args.inbox.now _ _ _ _
+    (quiet_both was last c.read_more.new.clerk _ _ _ _ _ _ (quiet_then_changed was mid last _ _ _ _ c.stretches.invariant.quiet refl c.next_stretch.ensures.rules) c.read_more.ensures.quiet)
+
+pub stretches-preserved : goal.stretches-preserved
+stretches-preserved g c =
+    let was = c.args.clerk.now in
+    let mid = c.stretches.clerk in
+    let last = record mid { current = c.next_stretch.new.current } in
+    let from = c.args.inbox.now in
+    let end = end_of c.args.lines in
+    record {
+      quiet =
+          quiet_both was last c.read_more.new.clerk _ _ _ _ _ _ (quiet_then_changed was mid last _ _ _ _ c.stretches.invariant.quiet refl c.next_stretch.ensures.rules)
+          c.read_more.ensures.quiet;
+      takes =
+          first_later end from c.next_stretch.new.inbox c.read_more.new.inbox
+          (first_more end from c.stretches.inbox c.next_stretch.new.inbox c.stretches.invariant.takes c.in-Some.ensures.takes)
+          (took_more c.next_stretch.new.inbox c.read_more.new.inbox c.in-Ok.ensures.comes);
+      sought = c.in-Ok.ensures.comes.sought ∙ c.next_stretch.ensures.sought ∙ c.stretches.invariant.sought;
+    }

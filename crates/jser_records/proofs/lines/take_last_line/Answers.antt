@@ -1,0 +1,21 @@
+use Rattle.std.proofs.Common.{rules, ◌<◌, length, ap, arith}
+use Rattle.jser_records.specs.declared.layout.Shape.TheVariants as shape
+use Rattle.jser_records.specs.Lines.{end_of}
+use Rattle.jser_records.proofs.LineLemmas.{last_line, line_ended}
+use Rattle.jser_records.proofs.RecordLemmas.{records_none}
+use Rattle.jser_records.proofs.ToldLemmas.{quiet_changed}
+use Rattle.jser_records.proofs.lines.take_last_line.Goals as goal
+
+pub returns-then-count-eq0-clause-records : goal.returns-then-count-eq0-clause-records
+returns-then-count-eq0-clause-records g c = records_none (shape.Lines c.args.lines) c.args.clerk.now c.args.inbox.now _ _
+
+pub returns-clause-records : goal.returns-clause-records
+returns-clause-records g c =
+    let was = c.args.clerk.now in
+    let from = c.args.inbox.now in
+    let size = ap length c.waiting-count.ensures in
+    let some : 0 < length from.waiting = search rules in
+    line_ended c.args.lines was (record was { current = c.take_line.new.current }) c.close.new.self from c.pass.new.self _ _ _ _ _ _ c.close.result
+    (quiet_changed was c.take_line.new.current _ _ c.take_line.ensures.rules)
+    (last_line (end_of c.args.lines) from c.pass.new.self (length c.waiting-count.result.now) c.requires.none some (omega (arith, size)) c.requires.ends c.pass.ensures)
+    c.close.ensures.closes

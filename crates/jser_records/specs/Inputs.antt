@@ -1,0 +1,73 @@
+-- What is written of all records of an input.
+use Rattle.std.specs.Prelude.{◌≡◌, ◌≢◌, ◌⊎◌, ℕ, Bool, false, List, [], Option, IfSome, Result, Ok, Err, IfOk}
+use Rattle.std.specs.Io.KnownBytes.{Appends}
+use Rattle.jser_prim.specs.Outgoing.{SinkState, sink_state}
+use Rattle.jser_scan.specs.declared.Rules.{Rules}
+use Rattle.jser_scan.specs.declared.Tally.{Tally}
+use Rattle.jser_scan.specs.Tallies.{no_files, status_of}
+use Rattle.jser_records.specs.declared.clerk.Clerk.{Clerk}
+use Rattle.jser_records.specs.declared.layout.Shape.{Shape}
+use Rattle.jser_records.specs.declared.layout.Shape.TheVariants as shape
+use Rattle.jser_records.specs.declared.run.Asked.{Asked}
+use Rattle.jser_records.specs.declared.run.Trouble.{Trouble}
+use Rattle.jser_records.specs.Lines.{end_of}
+use Rattle.jser_records.specs.Records.{AreRecords}
+use Rattle.jser_records.specs.Told.{Event, SaysAll, all_counted, all_put}
+
+-- These are the records of an input that tells its bytes, from the first on, each one and no other; and all of them, where it
+-- was read whole.
+abbrev pub AreAll : Shape → Rules → (most : ℕ) → (input : Option (List ℕ)) → List Event → (whole : Type 0) → Type 0
+AreAll layout rules most input events whole =
+    IfSome input (λ bytes. (rest : List ℕ) × AreRecords layout rules most bytes events rest × (whole → rest ≡ []))
+
+-- so they are of lines and of frames; which records sized values are is not said here
+abbrev pub AreOf : Shape → Rules → (most : ℕ) → (input : Option (List ℕ)) → List Event → (whole : Type 0) → Type 0
+AreOf (shape.Lines lines) rules most input events whole = AreAll (shape.Lines lines) rules most input events whole
+AreOf shape.Frames rules most input events whole = AreAll shape.Frames rules most input events whole
+AreOf shape.Sized rules most input events whole = Unit {0}
+
+-- the byte that is looked for
+abbrev pub sought_in : Shape → ℕ
+sought_in (shape.Lines lines) = end_of lines
+sought_in shape.Frames = 0x0A
+sought_in shape.Sized = 0x0A
+
+-- there was no trouble
+abbrev pub IsFine : {X : Type 0} → Result X Trouble → Type 0
+IsFine (Ok x) = Unit {0}
+IsFine (Err trouble) = ⊥
+
+-- records of an input came to a clerk, and it said all of them, and nothing else
+pub record Reads (layout : Shape) (old new : Clerk) (input : Option (List ℕ)) (before after told_before told_after : SinkState) (whole : Type 0) : Type 0 where
+  pub events : List Event
+  pub says : SaysAll old new before after told_before told_after events
+  pub are : AreOf layout old.current.reading.judge.rules old.current.reading.most input events whole
+
+abbrev pub ReadsTo : {S T X : Type 0} → (S → Option (List ℕ)) → (S → Bool) → (T → Option (List ℕ)) → (T → Bool) → Result X Trouble → Shape → (old new : Clerk)
+    → (input : Option (List ℕ)) → (before after : S) → (told_before told_after : T) → Type 0
+ReadsTo gone_out has_failed told_out told_failed result layout old new input before after told_before told_after =
+    Reads layout old new input (sink_state (gone_out before) (has_failed before)) (sink_state (gone_out after) (has_failed after))
+    (sink_state (told_out told_before) (told_failed told_before)) (sink_state (told_out told_after) (told_failed told_after)) (IsFine result)
+
+-- What is written of all records of an input: as long as the output has not failed, what is put of the records in their order,
+-- from number 0, and nothing else. The status is that of their counts, or 3.
+pub record Written (asked : Asked) (rules : Rules) (input : Option (List ℕ)) (before after : SinkState) (result : ℕ) : Type 0 where
+  pub events : List Event
+  pub put : after.failed ≡ false → Appends before.gone_out after.gone_out (all_put asked.how asked.pass 0 events [])
+  pub status : (result ≡ 3) ⊎ (result ≡ status_of (all_counted no_files events))
+  pub are : AreOf asked.layout.shape rules asked.layout.most input events (result ≢ 3)
+
+abbrev pub WrittenTo : {S : Type 0} → (S → Option (List ℕ)) → (S → Bool) → Asked → Rules → (input : Option (List ℕ)) → (before after : S) → (status : ℕ) → Type 0
+WrittenTo gone_out has_failed asked rules input before after status =
+    Written asked rules input (sink_state (gone_out before) (has_failed before)) (sink_state (gone_out after) (has_failed after)) status
+
+-- the same where the counts are known, unless there is a trouble
+pub record Wrote (asked : Asked) (rules : Rules) (input : Option (List ℕ)) (before after : SinkState) (result : Result Tally Trouble) : Type 0 where
+  pub events : List Event
+  pub put : after.failed ≡ false → Appends before.gone_out after.gone_out (all_put asked.how asked.pass 0 events [])
+  pub tally : IfOk result (λ tally. tally ≡ all_counted no_files events)
+  pub are : AreOf asked.layout.shape rules asked.layout.most input events (IsFine result)
+
+abbrev pub WroteTo : {S : Type 0} → (S → Option (List ℕ)) → (S → Bool) → Asked → Rules → (input : Option (List ℕ)) → (before after : S) → Result Tally Trouble → Type 0
+WroteTo gone_out has_failed asked rules input before after result =
+    Wrote asked rules input (sink_state (gone_out before) (has_failed before)) (sink_state (gone_out after) (has_failed after)) result
